@@ -82,17 +82,20 @@ pub record InFrame (film block : List ℕ) (p : Packet) (o : ℕ) : Type 0 where
 
 frame-rest : {film block : List ℕ} {p : Packet} {o : ℕ} → InFrame film block p o
     → take (FRAME_HEAD_BYTES - min o FRAME_HEAD_BYTES) (drop (min o FRAME_HEAD_BYTES) block)
-    ++ take (p.to - (p.from + (max o FRAME_HEAD_BYTES - FRAME_HEAD_BYTES))) (drop (p.from + (max o FRAME_HEAD_BYTES - FRAME_HEAD_BYTES)) film)
+    ++ take (p.to - (p.from + (max o FRAME_HEAD_BYTES - FRAME_HEAD_BYTES)))
+    (drop (p.from + (max o FRAME_HEAD_BYTES - FRAME_HEAD_BYTES)) film)
     ≡ drop o (take FRAME_HEAD_BYTES block ++ payload film p)
 frame-rest {film} {block} {p} {o} lies =
-    let heads : length (take FRAME_HEAD_BYTES block) ≡ FRAME_HEAD_BYTES = length-take-le FRAME_HEAD_BYTES block (omega (arith, lies.long)) in
+    let heads : length (take FRAME_HEAD_BYTES block) ≡ FRAME_HEAD_BYTES =
+    length-take-le FRAME_HEAD_BYTES block (omega (arith, lies.long)) in
     elim (cases_lt FRAME_HEAD_BYTES o) [
       | inr g ↦
           let least : min o FRAME_HEAD_BYTES ≡ o = omega (arith, g) in
           let none : p.from + (max o FRAME_HEAD_BYTES - FRAME_HEAD_BYTES) ≡ p.from = omega (arith, g) in
           let twenty : FRAME_HEAD_BYTES ≡ o + (FRAME_HEAD_BYTES - o) = omega (arith, g) in
           ap (λ n. take (FRAME_HEAD_BYTES - n) (drop n block)
-          ++ take (p.to - (p.from + (max o FRAME_HEAD_BYTES - FRAME_HEAD_BYTES))) (drop (p.from + (max o FRAME_HEAD_BYTES - FRAME_HEAD_BYTES)) film)) least
+          ++ take (p.to - (p.from + (max o FRAME_HEAD_BYTES - FRAME_HEAD_BYTES)))
+          (drop (p.from + (max o FRAME_HEAD_BYTES - FRAME_HEAD_BYTES)) film)) least
           ∙ ap (λ n. take (FRAME_HEAD_BYTES - o) (drop o block) ++ take (p.to - n) (drop n film)) none
           ∙ ap (λ (l : List ℕ). l ++ payload film p)
           (sym (drop-take o (FRAME_HEAD_BYTES - o) block) ∙ ap (λ n. drop o (take n block)) (sym twenty))
@@ -104,7 +107,8 @@ frame-rest {film} {block} {p} {o} lies =
           let left : p.to - p.from ≡ m + (p.to - (p.from + m)) = omega (arith, l, lies.inside, lies.order) in
           let at : o ≡ length (take FRAME_HEAD_BYTES block) + m = omega (arith, heads, l) in
           ap (λ n. take (FRAME_HEAD_BYTES - n) (drop n block)
-          ++ take (p.to - (p.from + (max o FRAME_HEAD_BYTES - FRAME_HEAD_BYTES))) (drop (p.from + (max o FRAME_HEAD_BYTES - FRAME_HEAD_BYTES)) film)) least
+          ++ take (p.to - (p.from + (max o FRAME_HEAD_BYTES - FRAME_HEAD_BYTES)))
+          (drop (p.from + (max o FRAME_HEAD_BYTES - FRAME_HEAD_BYTES)) film)) least
           ∙ ap (λ n. take (p.to - n) (drop n film)) past
           ∙ ap (λ (l : List ℕ). take (p.to - (p.from + m)) l) (sym (drop-drop m p.from film))
           ∙ sym (drop-take m (p.to - (p.from + m)) (drop p.from film))

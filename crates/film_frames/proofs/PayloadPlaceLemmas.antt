@@ -83,7 +83,8 @@ record StandsAfter (pieces : List Piece) (k : ℕ) (piece : Piece) (reports : �
 
 from-at : {pieces : List Piece} {k : ℕ} {piece : Piece} {reports : ℕ} (from to : ℕ)
     → AreFollowing from pieces to → StandsAfter pieces k piece reports
-    → from_of piece + FRAME_HEAD_BYTES * frames_in (take k pieces) + REPORT_BYTES * reports ≡ from + wire_in (take k pieces)
+    → from_of piece + FRAME_HEAD_BYTES * frames_in (take k pieces) + REPORT_BYTES * reports
+    ≡ from + wire_in (take k pieces)
 from-at {pieces = []} from to are stands = absurd (let none = stands.at in cc)
 from-at {pieces = first ∷ pieces} {k = zero} {piece} from to are stands =
     let same : first ≡ piece = (let at = stands.at in cc) in

@@ -94,7 +94,8 @@ frames-wire unit (p ∷ packets) =
     sum_by-cons wire_of (Frame unit p) (map (λ q. Frame unit q) packets)
     ∙ ap (λ n. FRAME_HEAD_BYTES + (p.to - p.from) + n) (frames-wire unit packets)
 
-reports-wire : (unit : PictureUnit) (starts : Bool) → wire_in (cond starts (Report unit ∷ []) []) ≡ cond starts REPORT_BYTES 0
+reports-wire : (unit : PictureUnit) (starts : Bool) → wire_in (cond starts (Report unit ∷ []) [])
+    ≡ cond starts REPORT_BYTES 0
 reports-wire unit true = refl
 reports-wire unit false = refl
 

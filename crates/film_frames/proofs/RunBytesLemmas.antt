@@ -83,7 +83,8 @@ blocks_from-at {piece} run frames octets (first ∷ pieces) (suc k) at =
 -- ---- octets, by the bytes, the frames and the reports
 
 pub octets-are : (pieces : List Piece)
-    → wire_in pieces + REPORT_BYTES * frames_in pieces ≡ octets_in pieces + 16 * frames_in pieces + REPORT_BYTES * length pieces
+    → wire_in pieces + REPORT_BYTES * frames_in pieces
+    ≡ octets_in pieces + 16 * frames_in pieces + REPORT_BYTES * length pieces
 octets-are [] = refl
 octets-are (Report unit ∷ pieces) =
     omega (

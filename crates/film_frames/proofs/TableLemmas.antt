@@ -213,7 +213,8 @@ kept-within (KeptFrame begin end) film (Report unit) same frame sound = cc
 kept-within (KeptFrame begin end) film (Frame unit its) same frame sound = omega (arith, sound.some, sound.within)
 
 pub row-within : (film : Film) (row : Row) (piece : Piece) → IsRow film.units.items row piece
-    → IsSound film.bytes.items piece → IsFrameRow row → from_of piece + wire_of piece ≤ length film.bytes.items + FRAME_HEAD_BYTES
+    → IsSound film.bytes.items piece → IsFrameRow row
+    → from_of piece + wire_of piece ≤ length film.bytes.items + FRAME_HEAD_BYTES
 row-within film row piece is sound frame = kept-within row.kept film.bytes.items piece is.piece_is frame sound
 
 pub film-short : (film : Film) → length film.bytes.items ≤ 2 ^ 40

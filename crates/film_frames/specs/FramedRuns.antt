@@ -40,7 +40,8 @@ pieces_in run = pieces_of run.slice_starts run.units
 
 -- bytes in an interleaved block: `$`, the channel, the length in two bytes, and the bytes
 abbrev pub interleaved_block : ℕ → List ℕ → List ℕ
-interleaved_block channel block = BLOCK_START ∷ channel ∷ (length block / 256) ∷ (length block % 256) ∷ block
+interleaved_block channel block =
+    BLOCK_START ∷ channel ∷ (length block / 256) ∷ (length block % 256) ∷ block
 
 -- the bytes of a film that a packet carries
 abbrev pub payload : List ℕ → Packet → List ℕ

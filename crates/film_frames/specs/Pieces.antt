@@ -75,4 +75,5 @@ octets_in pieces = sum_by octets_of pieces
 -- the bytes of a unit on the wire: those of its frames, and 52 of the report before it if it starts
 -- a group
 abbrev pub wire_size : List ℕ → PictureUnit → ℕ
-wire_size slice_starts unit = (if unit.starts_group then REPORT_BYTES else 0) + unit_size slice_starts unit
+wire_size slice_starts unit =
+    (if unit.starts_group then REPORT_BYTES else 0) + unit_size slice_starts unit

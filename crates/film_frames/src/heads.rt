@@ -29,7 +29,8 @@ pub(crate) fn put_frame_heads(
 )
     requires { length ≤ MAX_PAYLOAD_BYTES }
     ensures { take FRAME_HEAD_BYTES block.new ≡
-        BLOCK_START ∷ channel ∷ ((16 + length) / 256) ∷ ((16 + length) % 256) ∷ head_bytes head.now }
+        BLOCK_START ∷ channel ∷ ((16 + length) / 256) ∷ ((16 + length) % 256) ∷
+        head_bytes head.now }
 {
     block[..4].copy_from_slice(&frame_head(channel, 16 + length as u16));
     block[4..FRAME_HEAD_BYTES as usize].copy_from_slice(&write_head(head));

@@ -41,7 +41,8 @@ pub no_line : (head : List ℕ) → ((k : ℕ) → k < length head → ¬ IsLeng
 no_line head none k = λ h. none k (omega (arith, name_within head k h)) h
 
 -- a request with a head and a body has their length
-pub whole_length : {w : List ℕ} {head body : ℕ} → IsHead w head → head ≤ MAX_HEAD_BYTES → IsBodyLength (take head w) body
+pub whole_length : {w : List ℕ} {head body : ℕ} → IsHead w head → head ≤ MAX_HEAD_BYTES
+    → IsBodyLength (take head w) body
     → body ≤ MAX_BODY_BYTES → IsMessageLength w (head + body)
 whole_length {w} {head} {body} is_head fits is_body small = record {
   head = head;
@@ -53,7 +54,8 @@ whole_length {w} {head} {body} is_head fits is_body small = record {
   total_is = refl;
 }
 
-pub long_body : (w : List ℕ) (head : ℕ) → IsHead w head → head ≤ MAX_HEAD_BYTES → IsLongBody (take head w) → IsBodyTooLong w
+pub long_body : (w : List ℕ) (head : ℕ) → IsHead w head → head ≤ MAX_HEAD_BYTES → IsLongBody (take head w)
+    → IsBodyTooLong w
 long_body w head is_head fits long = record { head = head; is_head = is_head; fits = fits; long = long }
 
 pub ruleset request_steps = (whole_length, long_body)

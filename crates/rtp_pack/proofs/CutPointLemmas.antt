@@ -12,7 +12,8 @@ use Rattle.rtp_pack.specs.Packets.{before_slice, full_packets, packets_from}
 
 -- ---- one list
 
-pub full-once : {a b : ℕ} (start end : ℕ) → start + MAX_PAYLOAD_BYTES * a < end → end ≤ start + MAX_PAYLOAD_BYTES * a + MAX_PAYLOAD_BYTES
+pub full-once : {a b : ℕ} (start end : ℕ) → start + MAX_PAYLOAD_BYTES * a < end
+    → end ≤ start + MAX_PAYLOAD_BYTES * a + MAX_PAYLOAD_BYTES
     → start + MAX_PAYLOAD_BYTES * b < end → end ≤ start + MAX_PAYLOAD_BYTES * b + MAX_PAYLOAD_BYTES → a ≡ b
 full-once {a} start end p q r s = omega arith
 
@@ -20,7 +21,8 @@ pub one-fill : {G : ℕ → List ℕ → Type 0} → ((last : ℕ) (a b : List �
     → {start end : ℕ} {a b : List ℕ} → Fills G start end a → Fills G start end b → a ≡ b
 one-fill {G} same {start} {end} {a} x y =
     let full : x.full ≡ y.full = full-once start end x.before x.within y.before y.within in
-    let there : G (start + MAX_PAYLOAD_BYTES * y.full) x.rest = subst (λ k. G (start + MAX_PAYLOAD_BYTES * k) x.rest) full x.goes_on in
+    let there : G (start + MAX_PAYLOAD_BYTES * y.full) x.rest =
+    subst (λ k. G (start + MAX_PAYLOAD_BYTES * k) x.rest) full x.goes_on in
     let rest : x.rest ≡ y.rest = same (start + MAX_PAYLOAD_BYTES * y.full) x.rest y.rest there y.goes_on in
     x.filled ∙ ap (λ k. full_ends start k ++ x.rest) full ∙ ap (λ (r : List ℕ). full_ends start y.full ++ r) rest
     ∙ sym y.filled
@@ -60,7 +62,8 @@ ends-full unit begin start (suc count) =
 pub full_before-less : (start end : ℕ) → start < end → start + MAX_PAYLOAD_BYTES * full_before start end < end
 full_before-less start end less = omega arith
 
-pub full_before-within : (start end : ℕ) → start < end → end ≤ start + MAX_PAYLOAD_BYTES * full_before start end + MAX_PAYLOAD_BYTES
+pub full_before-within : (start end : ℕ) → start < end
+    → end ≤ start + MAX_PAYLOAD_BYTES * full_before start end + MAX_PAYLOAD_BYTES
 full_before-within start end less = omega arith
 
 slice-fills : {G : ℕ → List ℕ → Type 0} {start end : ℕ} (unit : PictureUnit) (rest : List Packet) → start < end

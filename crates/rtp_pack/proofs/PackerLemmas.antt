@@ -15,7 +15,8 @@ use Rattle.rtp_pack.specs.Packets.{packet, packets_from, slice_packets}
 -- one more full portion of those that are left
 pub put-full_packet : {count i : ℕ} (unit : PictureUnit) (begin : Bool) (start : ℕ) (out : List Packet) → i < count
     → (out ++ packet unit start (start + MAX_PAYLOAD_BYTES) begin false ∷ [])
-    ++ full_packets unit false (start + MAX_PAYLOAD_BYTES) (count - (i + 1)) ≡ out ++ full_packets unit begin start (count - i)
+    ++ full_packets unit false (start + MAX_PAYLOAD_BYTES) (count - (i + 1))
+    ≡ out ++ full_packets unit begin start (count - i)
 put-full_packet {count} {i} unit begin start out less =
     let left : count - i ≡ suc (count - (i + 1)) = omega arith in
     append_assoc out (packet unit start (start + MAX_PAYLOAD_BYTES) begin false ∷ [])

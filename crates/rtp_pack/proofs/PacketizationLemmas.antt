@@ -2,7 +2,7 @@
 use Rattle.std.proofs.Common.{◌≡◌, ℕ, zero, suc, ◌+◌, ◌*◌, ◌<◌, ◌≤◌, Bool, true, false, cond, eqb}
 use Rattle.std.proofs.Common.{leb, List, [], ◌∷◌, ◌++◌, sum, refl, sym, ap, subst, ◌∙◌, arith, inl}
 use Rattle.std.proofs.Common.{inr}
-use Rattle.std.proofs.lemmas.Bool.{both_ways, cases_Bool, eq-eqb, le-leb, leb-true, or_left, or_right}
+use Rattle.std.proofs.lemmas.Bool.{both_ways, eq-eqb, le-leb, lt-leb, or_left, or_right}
 use Rattle.std.proofs.lemmas.List.Sums.{sum_by-cons}
 use Rattle.rtp_pack.specs.declared.open_packet.TheConstants.{MAX_PAYLOAD_BYTES}
 use Rattle.rtp_pack.specs.declared.open_packet.OpenPacket.{OpenPacket}
@@ -45,7 +45,8 @@ portions-cover (n ∷ slices) f cuts fit (inl x) =
     let P : List ℕ → Type 0 = λ l. ArePortions f.from l (f.at + sum (n ∷ slices)) in
     subst P (sym x.1.filled)
     (full-cover f.from x.1.full x.1.rest (f.at + sum (n ∷ slices))
-    (subst (λ t. ArePortions (f.from + MAX_PAYLOAD_BYTES * x.1.full) x.1.rest t) (omega (arith, sum-cons n slices)) rest))
+    (subst (λ t. ArePortions (f.from + MAX_PAYLOAD_BYTES * x.1.full) x.1.rest t)
+    (omega (arith, sum-cons n slices)) rest))
 portions-cover (n ∷ slices) f cuts fit (inr x) =
     let fills = x.1.1.1 in
     let rest = portions-cover slices (filling_after f n (f.at + MAX_PAYLOAD_BYTES * fills.full)) fills.rest
@@ -58,7 +59,8 @@ portions-cover (n ∷ slices) f cuts fit (inr x) =
         fit.1,
         subst Q (sym fills.filled)
             (full-cover f.at fills.full fills.rest (f.at + sum (n ∷ slices))
-            (subst (λ t. ArePortions (f.at + MAX_PAYLOAD_BYTES * fills.full) fills.rest t) (omega (arith, sum-cons n slices)) rest)),
+            (subst (λ t. ArePortions (f.at + MAX_PAYLOAD_BYTES * fills.full) fills.rest t)
+            (omega (arith, sum-cons n slices)) rest)),
       ),
     )
 
@@ -73,11 +75,15 @@ from-more : (a b : ℕ) (cuts : List ℕ) → a ≤ b → AreFrom b cuts → Are
 from-more a b [] less after = tt
 from-more a b (cut ∷ cuts) less after = (omega (arith, less, after.0), from-more a b cuts less after.1)
 
-from-full : (place start count : ℕ) (rest : List ℕ) → (0 < count → place ≤ start + MAX_PAYLOAD_BYTES) → AreFrom place rest
+from-full : (place start count : ℕ) (rest : List ℕ) → (0 < count → place ≤ start + MAX_PAYLOAD_BYTES)
+    → AreFrom place rest
     → AreFrom place (full_ends start count ++ rest)
 from-full place start zero rest less after = after
-from-full place start (suc count) rest less after =
-    (less (omega arith), from-full place (start + MAX_PAYLOAD_BYTES) count rest (λ some. omega (arith, less (omega arith))) after)
+from-full place start (suc count) rest less after = (
+  less (omega arith),
+  from-full place (start + MAX_PAYLOAD_BYTES) count rest
+      (λ some. omega (arith, less (omega arith))) after,
+)
 
 uncut-from : (from to : ℕ) (cuts : List ℕ) → AreFrom to cuts → IsUncut from to cuts
 uncut-from from to [] after = tt
@@ -88,7 +94,8 @@ pub cuts-from : (slices : List ℕ) (f : OpenPacket) (cuts : List ℕ) → f.fro
 cuts-from [] f cuts order e = let P : List ℕ → Type 0 = λ l. AreFrom f.at l in subst P (sym e) (omega arith, tt)
 cuts-from (n ∷ slices) f cuts order (inl x) =
     let rest =
-    cuts-from slices (filling_after f n (f.from + MAX_PAYLOAD_BYTES * x.1.full)) x.1.rest (omega (arith, x.1.before)) x.1.goes_on in
+    cuts-from slices (filling_after f n (f.from + MAX_PAYLOAD_BYTES * x.1.full)) x.1.rest
+    (omega (arith, x.1.before)) x.1.goes_on in
     let full : FullBefore true f n x.1.full = record { goes_is = x.0; before = x.1.before } in
     let P : List ℕ → Type 0 = λ l. AreFrom f.at l in
     subst P (sym x.1.filled)
@@ -120,12 +127,14 @@ short-full : {at : ℕ} (slices : List ℕ) (start count : ℕ) (cuts : List ℕ
     → AreShortUncut at slices cuts → AreShortUncut at slices (full_ends start count ++ cuts)
 short-full {at} slices start zero cuts less uncut = uncut
 short-full {at} slices start (suc count) cuts less uncut =
-    short-more slices at (start + MAX_PAYLOAD_BYTES) (full_ends (start + MAX_PAYLOAD_BYTES) count ++ cuts) (omega (arith, less))
+    short-more slices at (start + MAX_PAYLOAD_BYTES) (full_ends (start + MAX_PAYLOAD_BYTES) count ++ cuts)
+    (omega (arith, less))
     (short-full slices (start + MAX_PAYLOAD_BYTES) count cuts (omega (arith, less)) uncut)
 
 -- a short slice ends in the portion in which it begins
 short-rest : {goes : Bool} {f : OpenPacket} {n count : ℕ} (rest : List ℕ) → FullBefore goes f n count
-    → AreFrom (f.at + n) rest → n ≤ MAX_PAYLOAD_BYTES → IsUncut f.at (f.at + n) (full_ends (start_of goes f) count ++ rest)
+    → AreFrom (f.at + n) rest → n ≤ MAX_PAYLOAD_BYTES → IsUncut f.at (f.at + n)
+    (full_ends (start_of goes f) count ++ rest)
 short-rest {goes} {f} {n} {count} rest full after short =
     let none : count ≡ 0 = none-full (le-leb n MAX_PAYLOAD_BYTES short) full in
     let P : ℕ → Type 0 = λ k. IsUncut f.at (f.at + n) (full_ends (start_of goes f) k ++ rest) in
@@ -190,7 +199,8 @@ none-after from at n false = refl
 
 goes-not : (f : OpenPacket) (n : ℕ) → f.holds ≡ LastFragment → goes_in f n ≡ false
 goes-not f n last =
-    ap (λ (h : PacketContents). cond (leb n MAX_PAYLOAD_BYTES) (goes_in_whole f.from f.at h n) (goes_in_cut f.from f.at h)) last
+    ap (λ (h : PacketContents). cond (leb n MAX_PAYLOAD_BYTES) (goes_in_whole f.from f.at h n)
+    (goes_in_cut f.from f.at h)) last
     ∙ none-after f.from f.at n (leb n MAX_PAYLOAD_BYTES)
 
 fragment-ends : (slices : List ℕ) (f : OpenPacket) (cuts : List ℕ) → f.holds ≡ LastFragment → Cuts f slices cuts
@@ -202,7 +212,7 @@ fragment-ends (n ∷ slices) f cuts last (inr x) =
     ap (λ (l : List ℕ). is_among f.at l) x.1.1.0 ∙ or_left (eqb f.at f.at) (is_among f.at x.1.0) (eq-eqb f.at f.at refl)
 
 leb-not : (n : ℕ) → MAX_PAYLOAD_BYTES < n → leb n MAX_PAYLOAD_BYTES ≡ false
-leb-not n long = elim (cases_Bool (leb n MAX_PAYLOAD_BYTES)) [ inl e ↦ absurd (omega (arith, leb-true n MAX_PAYLOAD_BYTES e, long)) | inr e ↦ e ]
+leb-not n long = lt-leb n MAX_PAYLOAD_BYTES long
 
 held-last : (n : ℕ) → MAX_PAYLOAD_BYTES < n → holds_after n ≡ LastFragment
 held-last n long = ap (λ b. cond b Slices LastFragment) (leb-not n long)

@@ -33,7 +33,8 @@ record Rest (Must : ℕ → Type 0) (Fits : ℕ → ℕ → Type 0) (May : ℕ �
 abbrev Reasons : (ℕ → Type 0) → (ℕ → ℕ → Type 0) → (ℕ → ℕ → Type 0) → Type 0
 Reasons Must Fits May =
     (start cut : ℕ) → May start cut
-    → (cut ≡ start + MAX_PAYLOAD_BYTES) ⊎ (Must cut ⊎ ((length : ℕ) × (Fits cut length × (start + MAX_PAYLOAD_BYTES < cut + length))))
+    → (cut ≡ start + MAX_PAYLOAD_BYTES)
+    ⊎ (Must cut ⊎ ((length : ℕ) × (Fits cut length × (start + MAX_PAYLOAD_BYTES < cut + length))))
 
 portions-rise : {start : ℕ} (end first : ℕ) (cuts : List ℕ) → ArePortions start cuts end → first < start
     → is_among first cuts ≡ true → ⊥
@@ -74,7 +75,8 @@ cut-inside c d length (inr high) less inside = omega (arith, high, inside)
 -- a cut of one list is no place that the other passes over
 passed-by : {Must : ℕ → Type 0} {Fits May : ℕ → ℕ → Type 0} {start end c d : ℕ} {bs : List ℕ}
     → Rest Must Fits May start end (d ∷ bs) → start < c → c < d
-    → (c ≡ start + MAX_PAYLOAD_BYTES) ⊎ (Must c ⊎ ((length : ℕ) × (Fits c length × (start + MAX_PAYLOAD_BYTES < c + length)))) → ⊥
+    → (c ≡ start + MAX_PAYLOAD_BYTES)
+    ⊎ (Must c ⊎ ((length : ℕ) × (Fits c length × (start + MAX_PAYLOAD_BYTES < c + length)))) → ⊥
 passed-by {Fits} {May} {start} {end} {c} b some less (inl full) = omega (arith, full, less, b.portions.1.0)
 passed-by {Fits} {May} {start} {end} {c} {d} {bs} b some less (inr (inl must)) =
     let there = b.must c some must in
@@ -146,7 +148,8 @@ slice-after (n ∷ slices) at place length (inr later) = omega (arith, slice-aft
 -- the same, of each of them
 abbrev AreUncutWhereShort : ℕ → List ℕ → List ℕ → Type 0
 AreUncutWhereShort at slices cuts =
-    (place length : ℕ) → SliceAt at slices place length → length ≤ MAX_PAYLOAD_BYTES → IsUncut place (place + length) cuts
+    (place length : ℕ) → SliceAt at slices place length → length ≤ MAX_PAYLOAD_BYTES
+    → IsUncut place (place + length) cuts
 
 short-at : (slices : List ℕ) (at : ℕ) (cuts : List ℕ) → AreShortUncut at slices cuts → AreUncutWhereShort at slices cuts
 short-at [] at cuts uncut place length is short = absurd is
@@ -161,7 +164,8 @@ leb-not : (n : ℕ) → MAX_PAYLOAD_BYTES < n → leb n MAX_PAYLOAD_BYTES ≡ fa
 leb-not n long = lt-leb n MAX_PAYLOAD_BYTES long
 
 -- a long slice that isn't first in a unit doesn't go in
-long-not : (f : OpenPacket) (n : ℕ) → MAX_PAYLOAD_BYTES < n → f.holds ≡ Slices ⊎ f.holds ≡ LastFragment → goes_in f n ≡ false
+long-not : (f : OpenPacket) (n : ℕ) → MAX_PAYLOAD_BYTES < n → f.holds ≡ Slices ⊎ f.holds ≡ LastFragment
+    → goes_in f n ≡ false
 long-not f n long (inl e) =
     ap (λ b. cond b (goes_in_whole f.from f.at f.holds n) (goes_in_cut f.from f.at f.holds)) (leb-not n long)
     ∙ ap (λ (h : PacketContents). goes_in_cut f.from f.at h) e
@@ -208,7 +212,8 @@ begin-cut (n ∷ slices) f cuts (inr x) place length (inr later) long goes =
 -- a long slice ends with a portion
 abbrev DoLongEnd : ℕ → List ℕ → List ℕ → Type 0
 DoLongEnd at slices cuts =
-    (start length : ℕ) → SliceAt at slices start length → MAX_PAYLOAD_BYTES < length → is_among (start + length) cuts ≡ true
+    (start length : ℕ) → SliceAt at slices start length → MAX_PAYLOAD_BYTES < length
+    → is_among (start + length) cuts ≡ true
 
 end-by : (slices : List ℕ) (at : ℕ) (cuts : List ℕ) → DoLongEndPortions at slices cuts → DoLongEnd at slices cuts
 end-by [] at cuts ends_ start length is long = absurd is
@@ -231,7 +236,8 @@ record Reads (Must : ℕ → Type 0) (Begins : ℕ → ℕ → Type 0) (f : Open
 abbrev MayBy : (ℕ → Type 0) → (ℕ → ℕ → Type 0) → ℕ → ℕ → Type 0
 MayBy Must Begins start cut =
     (cut ≡ start + MAX_PAYLOAD_BYTES)
-    ⊎ (Must cut ⊎ ((length : ℕ) × (Begins cut length × ((length ≤ MAX_PAYLOAD_BYTES) × (start + MAX_PAYLOAD_BYTES < cut + length)))))
+    ⊎ (Must cut ⊎ ((length : ℕ) × (Begins cut length ×
+    ((length ≤ MAX_PAYLOAD_BYTES) × (start + MAX_PAYLOAD_BYTES < cut + length)))))
 
 may-cons : (May : ℕ → ℕ → Type 0) (start cut : ℕ) (cuts : List ℕ) → May start cut → MayAllEnd May cut cuts
     → MayAllEnd May start (cut ∷ cuts)
@@ -243,7 +249,8 @@ full-may : (Must : ℕ → Type 0) (Begins : ℕ → ℕ → Type 0) (start coun
     → MayAllEnd (MayBy Must Begins) start (full_ends start count ++ rest)
 full-may Must Begins start zero rest may = subst (λ s. MayAllEnd (MayBy Must Begins) s rest) (omega arith) may
 full-may Must Begins start (suc count) rest may =
-    may-cons (MayBy Must Begins) start (start + MAX_PAYLOAD_BYTES) (full_ends (start + MAX_PAYLOAD_BYTES) count ++ rest) (inl refl)
+    may-cons (MayBy Must Begins) start (start + MAX_PAYLOAD_BYTES) (full_ends (start + MAX_PAYLOAD_BYTES) count ++ rest)
+    (inl refl)
     (full-may Must Begins (start + MAX_PAYLOAD_BYTES) count rest
     (subst (λ s. MayAllEnd (MayBy Must Begins) s rest) (omega arith) may))
 
@@ -272,7 +279,8 @@ why {Must} {Begins} {f} {n} reads goes = elim (cases_lt MAX_PAYLOAD_BYTES n) [
       (le-leb n MAX_PAYLOAD_BYTES short)) ∙ goes)
 ]
 
-last-by : (b : Bool) (n : ℕ) → leb n MAX_PAYLOAD_BYTES ≡ b → cond b Slices LastFragment ≡ LastFragment → MAX_PAYLOAD_BYTES < n
+last-by : (b : Bool) (n : ℕ) → leb n MAX_PAYLOAD_BYTES ≡ b → cond b Slices LastFragment ≡ LastFragment
+    → MAX_PAYLOAD_BYTES < n
 last-by true n e is = cc
 last-by false n e is = leb-false n MAX_PAYLOAD_BYTES e
 

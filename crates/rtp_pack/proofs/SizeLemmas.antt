@@ -38,7 +38,8 @@ short-here {portions} {from} {at} n full kept fits before =
       last = λ e. cc;
     }
 
-short-next : {portions from at : ℕ} {holds : PacketContents} (n full : ℕ) → Kept portions from at holds → n ≤ MAX_PAYLOAD_BYTES
+short-next : {portions from at : ℕ} {holds : PacketContents} (n full : ℕ) → Kept portions from at holds
+    → n ≤ MAX_PAYLOAD_BYTES
     → FRAME_HEAD_BYTES * portions ≤ at + n → at + MAX_PAYLOAD_BYTES * full < at + n
     → Kept (portions + (1 + full)) (at + MAX_PAYLOAD_BYTES * full) (at + n) Slices
 short-next {portions} {from} {at} n full kept short room before =
@@ -52,7 +53,8 @@ short-next {portions} {from} {at} n full kept short room before =
     }
 
 -- a longer slice in the portion, or in the next
-long-here : {portions from at : ℕ} {holds : PacketContents} (n full : ℕ) → Kept portions from at holds → MAX_PAYLOAD_BYTES < n
+long-here : {portions from at : ℕ} {holds : PacketContents} (n full : ℕ) → Kept portions from at holds
+    → MAX_PAYLOAD_BYTES < n
     → from + MAX_PAYLOAD_BYTES * full < at + n → at + n ≤ from + MAX_PAYLOAD_BYTES * full + MAX_PAYLOAD_BYTES
     → Kept (portions + (0 + full)) (from + MAX_PAYLOAD_BYTES * full) (at + n) LastFragment
 long-here {portions} {from} {at} n full kept long before within =
@@ -65,7 +67,8 @@ long-here {portions} {from} {at} n full kept long before within =
       last = λ e. omega (arith, some, kept.ended);
     }
 
-long-next : {portions from at : ℕ} {holds : PacketContents} (n full : ℕ) → Kept portions from at holds → MAX_PAYLOAD_BYTES < n
+long-next : {portions from at : ℕ} {holds : PacketContents} (n full : ℕ) → Kept portions from at holds
+    → MAX_PAYLOAD_BYTES < n
     → at + MAX_PAYLOAD_BYTES * full < at + n → at + n ≤ at + MAX_PAYLOAD_BYTES * full + MAX_PAYLOAD_BYTES
     → Kept (portions + (1 + full)) (at + MAX_PAYLOAD_BYTES * full) (at + n) LastFragment
 long-next {portions} {from} {at} n full kept long before within =
@@ -78,7 +81,8 @@ long-next {portions} {from} {at} n full kept long before within =
       last = λ e. omega (arith, some, kept.whole);
     }
 
-pub whole-fits : (from at n : ℕ) (holds : PacketContents) → goes_in_whole from at holds n ≡ true → at + n ≤ from + MAX_PAYLOAD_BYTES
+pub whole-fits : (from at n : ℕ) (holds : PacketContents) → goes_in_whole from at holds n ≡ true
+    → at + n ≤ from + MAX_PAYLOAD_BYTES
 whole-fits from at n HeadersAlone e = leb-true (at + n) (from + MAX_PAYLOAD_BYTES) e
 whole-fits from at n Slices e = leb-true (at + n) (from + MAX_PAYLOAD_BYTES) e
 whole-fits from at n LastFragment e = absurd (true≢false (sym e))
@@ -88,7 +92,8 @@ whole-room : {portions from at : ℕ} {holds : PacketContents} (n : ℕ) → Kep
     → goes_in_whole from at holds n ≡ false → FRAME_HEAD_BYTES * portions ≤ at + n
 whole-room {from} {at} {holds = HeadersAlone} n kept least e =
     omega (arith, leb-false (at + n) (from + MAX_PAYLOAD_BYTES) e, kept.ended)
-whole-room {from} {at} {holds = Slices} n kept least e = omega (arith, leb-false (at + n) (from + MAX_PAYLOAD_BYTES) e, kept.ended)
+whole-room {from} {at} {holds = Slices} n kept least e =
+    omega (arith, leb-false (at + n) (from + MAX_PAYLOAD_BYTES) e, kept.ended)
 whole-room {from} {at} {holds = LastFragment} n kept least e = omega (arith, kept.last refl)
 
 -- a slice of n bytes after so many full portions: whether it is short, and goes in
@@ -106,7 +111,8 @@ kept-slice : {portions from at n full : ℕ} {holds : PacketContents} {short goe
 kept-slice {from} {at} {n} {full} {holds} {short = true} {goes = true} kept least fills =
     short-here n full kept (whole-fits from at n holds fills.goes_is) fills.before
 kept-slice {n} {full} {short = true} {goes = false} kept least fills =
-    short-next n full kept (leb-true n MAX_PAYLOAD_BYTES fills.short_is) (whole-room n kept least fills.goes_is) fills.before
+    short-next n full kept (leb-true n MAX_PAYLOAD_BYTES fills.short_is)
+    (whole-room n kept least fills.goes_is) fills.before
 kept-slice {n} {full} {short = false} {goes = true} kept least fills =
     long-here n full kept (leb-false n MAX_PAYLOAD_BYTES fills.short_is) fills.before fills.within
 kept-slice {n} {full} {short = false} {goes = false} kept least fills =
@@ -120,7 +126,8 @@ keeps-slice m n kept least =
     let f = m.filling in
     let less = start-less f n (goes_in f n) (omega (arith, kept.some)) (omega arith) in
     let start = start_of (goes_in f n) f in
-    let fills : SliceFills f.from f.at f.holds n (full_before start (f.at + n)) (leb n MAX_PAYLOAD_BYTES) (goes_in f n) = record {
+    let fills : SliceFills f.from f.at f.holds n (full_before start (f.at + n)) (leb n MAX_PAYLOAD_BYTES)
+    (goes_in f n) = record {
       short_is = refl;
       goes_is = refl;
       before = full_before-less start (f.at + n) less;
@@ -207,25 +214,30 @@ whole-moved n LastFragment is = refl
 
 goes-moved : (base n : ℕ) (f g : OpenPacket) → IsMoved base f g → goes_in g n ≡ goes_in f n
 goes-moved base n f g is =
-    ap (λ (h : PacketContents). cond (leb n MAX_PAYLOAD_BYTES) (goes_in_whole g.from g.at h n) (goes_in_cut g.from g.at h)) is.holds
+    ap (λ (h : PacketContents). cond (leb n MAX_PAYLOAD_BYTES) (goes_in_whole g.from g.at h n)
+    (goes_in_cut g.from g.at h)) is.holds
     ∙ ap (λ b. cond (leb n MAX_PAYLOAD_BYTES) b (goes_in_cut g.from g.at f.holds)) (whole-moved n f.holds is)
     ∙ ap (λ b. cond (leb n MAX_PAYLOAD_BYTES) (goes_in_whole f.from f.at f.holds n) b)
     (cut-moved base f.from f.at f.holds is.from is.at)
 
 size-full : (start full : ℕ) (rest : List ℕ)
-    → cuts_size start (full_ends start full ++ rest) ≡ MAX_FRAME_BYTES * full + cuts_size (start + MAX_PAYLOAD_BYTES * full) rest
+    → cuts_size start (full_ends start full ++ rest) ≡ MAX_FRAME_BYTES * full
+    + cuts_size (start + MAX_PAYLOAD_BYTES * full) rest
 size-full start zero rest = let place : cuts_size (start + MAX_PAYLOAD_BYTES * 0) rest ≡ cuts_size start rest =
     ap (λ s. cuts_size s rest) (omega arith) in omega (arith, place)
 size-full start (suc full) rest =
     let more = size-full (start + MAX_PAYLOAD_BYTES) full rest in
-    let place : start + MAX_PAYLOAD_BYTES + MAX_PAYLOAD_BYTES * full ≡ start + MAX_PAYLOAD_BYTES * suc full = omega arith in
-    let rest-size : cuts_size (start + MAX_PAYLOAD_BYTES + MAX_PAYLOAD_BYTES * full) rest ≡ cuts_size (start + MAX_PAYLOAD_BYTES * suc full) rest =
+    let place : start + MAX_PAYLOAD_BYTES + MAX_PAYLOAD_BYTES * full ≡ start + MAX_PAYLOAD_BYTES * suc full =
+    omega arith in
+    let rest-size : cuts_size (start + MAX_PAYLOAD_BYTES + MAX_PAYLOAD_BYTES * full) rest
+    ≡ cuts_size (start + MAX_PAYLOAD_BYTES * suc full) rest =
     ap (λ s. cuts_size s rest) place in
     omega (arith, more, rest-size)
 
 -- the rest of the frames, after those of the portions that ended
 abbrev pub Rest : Measure → OpenPacket → List ℕ → List ℕ → Type 0
-Rest m g slices cuts = cuts_size g.from cuts + FRAME_HEAD_BYTES * m.portions + m.filling.from ≡ frames_of (with_slices m slices)
+Rest m g slices cuts = cuts_size g.from cuts + FRAME_HEAD_BYTES * m.portions + m.filling.from
+    ≡ frames_of (with_slices m slices)
 
 -- a slice begins at `start`: what is moved, and whether it goes in
 record StartsAt (m : Measure) (g : OpenPacket) (n base start place : ℕ) (goes : Bool) : Type 0 where
@@ -240,7 +252,8 @@ next-size : {m : Measure} {g : OpenPacket} {n base start place : ℕ} {goes : Bo
     → ((m' : Measure) (g' : OpenPacket) (rest : List ℕ) → IsMoved base m'.filling g'
     → m'.filling.from ≤ m'.filling.at → Cuts g' slices rest → Rest m' g' slices rest)
     → Fills (λ last rest. Cuts (filling_after g n last) slices rest) place (g.at + n) cuts
-    → cuts_size place cuts + FRAME_HEAD_BYTES * (m.portions + cond goes 0 1) + start ≡ frames_of (with_slices (with_slice m n) slices)
+    → cuts_size place cuts + FRAME_HEAD_BYTES * (m.portions + cond goes 0 1) + start
+    ≡ frames_of (with_slices (with_slice m n) slices)
 next-size {m} {g} {n} {start} {place} {goes} {cuts} slices starts more fills =
     let f = m.filling in
     let all : start_of (goes_in f n) f ≡ start = ap (λ b. start_of b f) at_goes ∙ at_start in
@@ -257,7 +270,8 @@ next-size {m} {g} {n} {start} {place} {goes} {cuts} slices starts more fills =
     let rest = more (with_slice m n) (filling_after g n (place + MAX_PAYLOAD_BYTES * fills.full)) fills.rest
     (record { from = omega (arith, at_place, last); at = omega (arith, is.at); holds = refl })
     (omega (arith, last, fills.before, is.at, at_place)) fills.goes_on in
-    let first : cuts_size place cuts ≡ MAX_FRAME_BYTES * fills.full + cuts_size (place + MAX_PAYLOAD_BYTES * fills.full) fills.rest =
+    let first : cuts_size place cuts ≡ MAX_FRAME_BYTES * fills.full
+    + cuts_size (place + MAX_PAYLOAD_BYTES * fills.full) fills.rest =
     ap (λ (l : List ℕ). cuts_size place l) fills.filled ∙ size-full place fills.full fills.rest in
     omega (arith, first, rest, last, portions)
   where
@@ -266,7 +280,8 @@ next-size {m} {g} {n} {start} {place} {goes} {cuts} slices starts more fills =
 pub size-from : {base : ℕ} {g : OpenPacket} (slices : List ℕ) (m : Measure) (cuts : List ℕ)
     → IsMoved base m.filling g → m.filling.from ≤ m.filling.at → Cuts g slices cuts → Rest m g slices cuts
 size-from {base} {g} [] m cuts is order e =
-    let size : cuts_size g.from cuts ≡ FRAME_HEAD_BYTES + (g.at - g.from) = ap (λ (l : List ℕ). cuts_size g.from l) e ∙ omega arith in
+    let size : cuts_size g.from cuts ≡ FRAME_HEAD_BYTES + (g.at - g.from) = ap (λ (l : List ℕ). cuts_size g.from l) e
+    ∙ omega arith in
     omega (arith, size, is.from, is.at, order)
 size-from {base} {g} (n ∷ slices) m cuts is order (inl x) =
     let starts : StartsAt m g n base m.filling.from g.from true =

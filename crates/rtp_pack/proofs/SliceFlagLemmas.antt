@@ -134,7 +134,8 @@ full-portions {unit} {all} {at} {next} {begin} start (suc count) its first insid
     let some : 0 < suc count = omega arith in
     let next_inside : start + MAX_PAYLOAD_BYTES < next = omega (arith, inside.below) in
     let after : at < start + MAX_PAYLOAD_BYTES = inside.above some in
-    let one : packet unit start (start + MAX_PAYLOAD_BYTES) begin false ≡ portion_packet unit all start (start + MAX_PAYLOAD_BYTES) =
+    let one : packet unit start (start + MAX_PAYLOAD_BYTES) begin false
+    ≡ portion_packet unit all start (start + MAX_PAYLOAD_BYTES) =
     ap (λ b. packet unit start (start + MAX_PAYLOAD_BYTES) b false) (sym (first some))
     ∙ ap (λ b. packet unit start (start + MAX_PAYLOAD_BYTES) (begins unit all start (start + MAX_PAYLOAD_BYTES)) b)
     (sym (its.slice.no_end (start + MAX_PAYLOAD_BYTES) after next_inside)) in
@@ -143,7 +144,8 @@ full-portions {unit} {all} {at} {next} {begin} start (suc count) its first insid
     ap (λ (p : Packet). p ∷ full_packets unit false (start + MAX_PAYLOAD_BYTES) count) one
     ∙ ap (λ (l : List Packet). portion_packet unit all start (start + MAX_PAYLOAD_BYTES) ∷ l)
     (full-portions (start + MAX_PAYLOAD_BYTES) count its
-    (λ _. no-begin (start + MAX_PAYLOAD_BYTES) (start + MAX_PAYLOAD_BYTES + MAX_PAYLOAD_BYTES) its after next_inside) rest)
+    (λ _. no-begin (start + MAX_PAYLOAD_BYTES)
+    (start + MAX_PAYLOAD_BYTES + MAX_PAYLOAD_BYTES) its after next_inside) rest)
 
 abbrev pub last_cut : ℕ → List ℕ → ℕ
 last_cut from [] = from
@@ -227,7 +229,8 @@ room-whole : {at count : ℕ} (from n : ℕ) (holds : PacketContents) → goes_i
     → from + MAX_PAYLOAD_BYTES * count < at + n → 0 < count → at < from + MAX_PAYLOAD_BYTES
 room-whole {at} from n HeadersAlone e before some =
     absurd (omega (arith, leb-true (at + n) (from + MAX_PAYLOAD_BYTES) e, before, some))
-room-whole {at} from n Slices e before some = absurd (omega (arith, leb-true (at + n) (from + MAX_PAYLOAD_BYTES) e, before, some))
+room-whole {at} from n Slices e before some =
+    absurd (omega (arith, leb-true (at + n) (from + MAX_PAYLOAD_BYTES) e, before, some))
 room-whole from n LastFragment e before some = absurd (true≢false (sym e))
 
 room-cut : (from at : ℕ) (holds : PacketContents) → goes_in_cut from at holds ≡ true → at < from + MAX_PAYLOAD_BYTES
@@ -256,7 +259,8 @@ start-room {goes = false} full some = omega arith
 -- ---- one slice, and all
 
 -- a short slice fills no portion, a longer one some
-pub none-full : {goes : Bool} {f : OpenPacket} {n count : ℕ} → leb n MAX_PAYLOAD_BYTES ≡ true → FullBefore goes f n count → count ≡ 0
+pub none-full : {goes : Bool} {f : OpenPacket} {n count : ℕ} → leb n MAX_PAYLOAD_BYTES ≡ true
+    → FullBefore goes f n count → count ≡ 0
 none-full {goes = true} {f} {n} short full =
     let fits = whole-fits f.from f.at n f.holds
     (sym (ap (λ b. cond b (goes_in_whole f.from f.at f.holds n) (goes_in_cut f.from f.at f.holds)) short)
@@ -270,9 +274,11 @@ some-full f n true order long within = omega (arith, order, leb-false n MAX_PAYL
 some-full f n false order long within = omega (arith, leb-false n MAX_PAYLOAD_BYTES long, within)
 
 next-begin : {unit : PictureUnit} {all : List ℕ} {f : OpenPacket} {goes short : Bool} {n count : ℕ}
-    → Right unit all f → Slice unit.to all f.at (f.at + n) → 0 < n → leb n MAX_PAYLOAD_BYTES ≡ short → FullBefore goes f n count
+    → Right unit all f → Slice unit.to all f.at (f.at + n) → 0 < n → leb n MAX_PAYLOAD_BYTES ≡ short
+    → FullBefore goes f n count
     → f.at + n ≤ start_of goes f + MAX_PAYLOAD_BYTES * count + MAX_PAYLOAD_BYTES
-    → begins unit all (start_of goes f + MAX_PAYLOAD_BYTES * count) (f.at + n) ≡ begins_slice (cond short Slices LastFragment)
+    → begins unit all (start_of goes f + MAX_PAYLOAD_BYTES * count) (f.at + n)
+    ≡ begins_slice (cond short Slices LastFragment)
 next-begin {unit} {all} {f} {goes} {short = true} {n} {count} right slice some is full within =
     let none : count ≡ 0 = none-full is full in
     let start : start_of goes f + MAX_PAYLOAD_BYTES * count ≡ start_of goes f = omega (arith, none) in

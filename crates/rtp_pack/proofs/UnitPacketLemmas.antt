@@ -36,7 +36,8 @@ lengths-bytes (s ∷ starts) at to m order =
 frames-portions : (unit : PictureUnit) (starts : List ℕ) (cuts : List ℕ) (from : ℕ)
     → frames_size (portion_packets unit starts from cuts) ≡ cuts_size from cuts
 frames-portions unit starts [] from = refl
-frames-portions unit starts (cut ∷ cuts) from = ap (λ n. FRAME_HEAD_BYTES + (cut - from) + n) (frames-portions unit starts cuts cut)
+frames-portions unit starts (cut ∷ cuts) from = ap (λ n. FRAME_HEAD_BYTES + (cut - from) + n)
+    (frames-portions unit starts cuts cut)
 
 pub packets-are : (starts : List ℕ) (unit : PictureUnit) → IsLaid starts unit
     → ArePackets starts unit (unit_packets starts unit)

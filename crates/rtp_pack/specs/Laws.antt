@@ -10,14 +10,16 @@ use Rattle.rtp_pack.specs.Packets.{is_among}
 -- lengths of its slices, and its cut points
 abbrev pub ForAllCutPoints : (ℕ → ℕ → List ℕ → List ℕ → Type 0) → Type 0
 ForAllCutPoints Fact =
-    (from headers_end : ℕ) (slices cuts : List ℕ) → from < headers_end → headers_end ≤ from + MAX_PAYLOAD_BYTES
+    (from headers_end : ℕ) (slices cuts : List ℕ) → from < headers_end
+    → headers_end ≤ from + MAX_PAYLOAD_BYTES
     → AreCutPoints from headers_end slices cuts → Fact from headers_end slices cuts
 
 -- portions of 1 to 1,380 bytes cover the bytes from a place to another in order, without gap or
 -- overlap
 abbrev pub ArePortions : ℕ → List ℕ → ℕ → Type 0
 ArePortions from [] to = from ≡ to
-ArePortions from (cut ∷ cuts) to = (from < cut) × ((cut ≤ from + MAX_PAYLOAD_BYTES) × ArePortions cut cuts to)
+ArePortions from (cut ∷ cuts) to = (from < cut)
+    × ((cut ≤ from + MAX_PAYLOAD_BYTES) × ArePortions cut cuts to)
 
 -- no cut lies strictly between these places
 abbrev pub IsUncut : ℕ → ℕ → List ℕ → Type 0
@@ -28,7 +30,8 @@ IsUncut from to (cut ∷ cuts) = ((cut ≤ from) ⊎ (to ≤ cut)) × IsUncut fr
 abbrev pub AreShortUncut : ℕ → List ℕ → List ℕ → Type 0
 AreShortUncut at [] cuts = Unit {0}
 AreShortUncut at (length ∷ slices) cuts =
-    (length ≤ MAX_PAYLOAD_BYTES → IsUncut at (at + length) cuts) × AreShortUncut (at + length) slices cuts
+    (length ≤ MAX_PAYLOAD_BYTES → IsUncut at (at + length) cuts)
+    × AreShortUncut (at + length) slices cuts
 
 -- each slice of more than 1,380 bytes ends with a portion, of slices of these lengths from a place
 -- on

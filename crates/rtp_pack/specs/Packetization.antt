@@ -51,7 +51,8 @@ filling_after f length start =
 -- the ends of so many full portions of 1,380 bytes
 abbrev pub full_ends : ℕ → ℕ → List ℕ
 full_ends start zero = []
-full_ends start (suc count) = (start + MAX_PAYLOAD_BYTES) ∷ full_ends (start + MAX_PAYLOAD_BYTES) count
+full_ends start (suc count) =
+    (start + MAX_PAYLOAD_BYTES) ∷ full_ends (start + MAX_PAYLOAD_BYTES) count
 
 -- a slice that ends at `end`, in a portion from `start` on: where it doesn't end in that portion it
 -- fills it, and each further one, to 1,380 bytes; the rest of the unit goes on from the portion in

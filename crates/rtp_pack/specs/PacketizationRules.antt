@@ -65,8 +65,8 @@ pub record MeetsRules (from headers_end : ℕ) (slices cuts : List ℕ) : Type 0
   pub portions : ArePortions from cuts (headers_end + sum slices)
   pub headers : IsUncut from headers_end cuts
   -- a slice of at most 1,380 bytes is never cut
-  pub short : (place length : ℕ) → SliceAt headers_end slices place length → length ≤ MAX_PAYLOAD_BYTES →
-      IsUncut place (place + length) cuts
+  pub short : (place length : ℕ) → SliceAt headers_end slices place length
+      → length ≤ MAX_PAYLOAD_BYTES → IsUncut place (place + length) cuts
   -- a longer slice begins and ends with a portion, but for one that begins after the headers where
   -- they leave room
   pub long : (place : ℕ) → IsCutPlace from headers_end slices place → is_among place cuts ≡ true

@@ -42,7 +42,8 @@ packet unit from to begin end = record {
 abbrev pub full_packets : PictureUnit → Bool → ℕ → ℕ → List Packet
 full_packets unit begin start zero = []
 full_packets unit begin start (suc count) =
-    packet unit start (start + MAX_PAYLOAD_BYTES) begin false ∷ full_packets unit false (start + MAX_PAYLOAD_BYTES) count
+    packet unit start (start + MAX_PAYLOAD_BYTES) begin false
+    ∷ full_packets unit false (start + MAX_PAYLOAD_BYTES) count
 
 abbrev pub begins_slice : PacketContents → Bool
 begins_slice HeadersAlone = false

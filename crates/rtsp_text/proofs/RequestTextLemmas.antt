@@ -252,7 +252,8 @@ head_of parts front =
     (spelled empty bodiless).split.is_head
 
 -- a head that is too long is refused
-pub head_refused : (parts : RequestPieces) (later : List ℕ) → AreFront parts → MAX_HEAD_BYTES < length (request_head parts)
+pub head_refused : (parts : RequestPieces) (later : List ℕ) → AreFront parts
+    → MAX_HEAD_BYTES < length (request_head parts)
     → IsFirst (request_head parts ++ later) (Err HeadTooLong)
 head_refused parts later front long =
     let head = head_of parts front in (

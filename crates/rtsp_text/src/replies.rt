@@ -131,7 +131,8 @@ impl Reply {
     /// Appends the line `NAME: VALUE`. The value has no LF.
     pub fn field(&mut self, name: &[u8], value: &[u8])
         requires one_line { is_one_line value.now ≡ true }
-        requires fits { length self.old + (length name.now + length value.now + 4) ≤ MAX_REPLY_BYTES }
+        requires fits { length self.old + (length name.now + length value.now + 4)
+            ≤ MAX_REPLY_BYTES }
         ensures text { self.new ≡
             self.old ++ field_line (record { name = name.now; value = value.now }) }
         ensures long { length self.new ≡

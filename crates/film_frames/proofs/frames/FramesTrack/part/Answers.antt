@@ -131,7 +131,8 @@ returns-in-Frame-clause-heads c =
     let k = c.count_ended-number.result in
     let lies = in-frame (goal.at.returns-in-Frame-clause-heads c).After-put_heads in
     let part = taken (goal.at.returns-in-Frame-clause-heads c).After-payload in
-    let its : IsPart (run_pieces run) k c.args.at (FRAME_HEAD_BYTES - c.min.result + length c.payload.result.now) = record {
+    let its : IsPart (run_pieces run) k c.args.at (FRAME_HEAD_BYTES - c.min.result + length c.payload.result.now) =
+    record {
       among = lies.number;
       begins = lies.begins;
       ends = omega (arith, part.1, lies.inside, lies.ends, lies.begins, c.begin_of.ensures.begin);
