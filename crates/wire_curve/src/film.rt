@@ -186,17 +186,17 @@ fn picture_curves(
     let mut low = Vec::with_capacity(alloc, slots)?;
     let mut up = Vec::with_capacity(alloc, slots)?;
     for _ in 0..timing.delay {
-        low.push(timing.sent)?;
-        up.push(total.min(timing.played + timing.buffer))?;
+        low.push_reserved(timing.sent);
+        up.push_reserved(total.min(timing.played + timing.buffer));
     }
     let mut used = timing.played;
     for size in sizes {
         if *size > timing.buffer {
             return Ok(None);
         }
-        up.push(total.min(used + timing.buffer))?;
+        up.push_reserved(total.min(used + timing.buffer));
         used += *size;
-        low.push(timing.sent.max(used))?;
+        low.push_reserved(timing.sent.max(used));
     }
     Ok(Some(Curves {
         from: timing.sent,
@@ -291,7 +291,7 @@ fn upper_curve(alloc: Global, timing: &Timing, uses: &SlotUses) -> Result<Vec<u6
     let mut up = Vec::with_capacity(alloc, uses.in_slot.len())?;
     let mut used = timing.played;
     for in_slot in &uses.in_slot {
-        up.push(uses.total.min(used + timing.buffer))?;
+        up.push_reserved(uses.total.min(used + timing.buffer));
         used += *in_slot;
     }
     Ok(up)
