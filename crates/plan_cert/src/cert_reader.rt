@@ -179,10 +179,8 @@ fn read_body(alloc: Global, text: &[u8]) -> Result<Vec<Segment>, CertRead>
 {
     let mut segments = Vec::new(alloc);
     let mut rest = text;
-    for count in 0..=MAX_SEGMENTS {
-        let Some((line, after)) = split_at_first(rest, b'\n') else {
-            return Err(CertRead::BadCert { line: count + 4 });
-        };
+    let mut count = 0;
+    while let Some((line, after)) = split_at_first(rest, b'\n') {
         if is_text(line, b"end") {
             if after.is_empty() {
                 return Ok(segments);
@@ -197,8 +195,9 @@ fn read_body(alloc: Global, text: &[u8]) -> Result<Vec<Segment>, CertRead>
         }
         segments.push(segment)?;
         rest = after;
+        count += 1;
     }
-    unreachable!()
+    Err(CertRead::BadCert { line: count + 4 })
 }
 
 /// Reads the head and the body, and compares the sums.
