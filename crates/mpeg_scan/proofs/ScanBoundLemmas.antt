@@ -17,8 +17,7 @@ use Rattle.mpeg_scan.specs.CodeFacts.{is_head, is_slice}
 use Rattle.mpeg_scan.specs.FilmFaults.{last_fault, open_fault, code_fault}
 use Rattle.mpeg_scan.specs.ScanBounds.{AwaitsSlice, AwaitsSliceAfter, HasRoom, HasRoomWith, IsAhead}
 use Rattle.mpeg_scan.specs.ScanBounds.{prefix_length}
-use Rattle.mpeg_scan.specs.ScannerState.{note_all, scan_with_code, scan_with_byte}
-use Rattle.mpeg_scan.proofs.ByteReadLemmas.{HasSkipped, scan_with_run, skipped-is}
+use Rattle.mpeg_scan.specs.ScannerState.{HasSkipped, scan_with_code, scan_with_byte, scan_with_run}
 use Rattle.mpeg_scan.specs.CodeSteps.{end_judgement, code_judgement, latest_header_fault, next}
 use Rattle.mpeg_scan.specs.CodeSteps.{next_begins, tally_now, tally_with}
 use Rattle.mpeg_scan.proofs.NextCodeLemmas.{code-begun, counts-more, counts-next, picture-next}
@@ -240,20 +239,21 @@ run-ahead {s} (x ∷ xs) room = run-ahead {s = scan_with_byte s x} xs (noted-ahe
 pub skipped-ahead : {old new : Progress} {rest : List ℕ} {count : ℕ} → HasSkipped old new rest count → IsAhead old
     → IsAhead new
 skipped-ahead {rest} {count} skipped room =
-    subst (λ (s : Progress). IsAhead s) (sym (skipped-is skipped)) (run-ahead (take count rest) room)
+    subst (λ (s : Progress). IsAhead s) (sym skipped.is) (run-ahead (take count rest) room)
 
 -- a longer header changes no count and no place of slices
-header-places : (latest : Option Code) (t : Tally) (xs : List ℕ)
-    → let more = tally_with (option_map (λ c. note_all c xs) latest) t in
-    (more.slices ≡ (tally_with latest t).slices) × (more.slice ≡ (tally_with latest t).slice)
-unfolding next
-header-places None t xs = (refl, refl)
-header-places (Some c) t xs = (refl, refl)
+run-places : (s : Progress) (xs : List ℕ)
+    → ((tally_now (scan_with_run s xs)).slices ≡ (tally_now s).slices)
+    × ((tally_now (scan_with_run s xs)).slice ≡ (tally_now s).slice)
+run-places s [] = (refl, refl)
+run-places s (x ∷ xs) =
+    let rest = run-places (scan_with_byte s x) xs in
+    let same = same-noted s.latest s.tally x in (rest.0 ∙ sym same.slices, rest.1 ∙ sym same.slice)
 
 pub skipped-places : {old new : Progress} {rest : List ℕ} {count : ℕ} → HasSkipped old new rest count
     → ((tally_now new).slices ≡ (tally_now old).slices) × ((tally_now new).slice ≡ (tally_now old).slice)
 skipped-places {old} {rest} {count} skipped =
-    let places = header-places old.latest old.tally (take count rest) in (
+    let places = run-places old (take count rest) in (
       ap (λ (s : Progress). (tally_now s).slices) skipped.is ∙ places.0,
       ap (λ (s : Progress). (tally_now s).slice) skipped.is ∙ places.1,
     )

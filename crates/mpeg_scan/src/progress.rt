@@ -12,8 +12,8 @@ ghost use Rattle.mpeg_scan.specs.ScanBounds.{IsAhead};
 ghost use Rattle.mpeg_scan.specs.CodeSteps.{judgement, last_judgement, latest_header_fault};
 ghost use Rattle.mpeg_scan.specs.CodeSteps.{tally_now};
 ghost use Rattle.mpeg_scan.specs.CodeFacts.{tally_of};
-ghost use Rattle.mpeg_scan.specs.ScannerState.{HasReadBytes, IsRefusedInChunk, scan_with_code};
-ghost use Rattle.mpeg_scan.specs.ScannerState.{scan_with_byte, with_header_bytes};
+ghost use Rattle.mpeg_scan.specs.ScannerState.{HasReadBytes, HasSkipped, IsRefusedInChunk};
+ghost use Rattle.mpeg_scan.specs.ScannerState.{scan_with_byte, scan_with_code, with_header_bytes};
 
 use crate::codes::{Code, Prefix};
 use crate::faults::{FilmFault, ScanRefused, code_fault, header_fault, last_fault};
@@ -190,29 +190,41 @@ impl Progress {
         }
     }
 
-    /// Reads the first bytes of `rest`, up to its first zero byte, and returns how many:
-    /// none where a part of a prefix stands at the end. No code ends in them, so they are of the
-    /// latest header or are passed over.
+    /// Reads the prefix 00 00 01, if `rest` begins with it. Returns how many bytes were read: 3 or
+    /// none.
+    fn take_prefix(&mut self, rest: &[u8]) -> usize
+        requires few { self.old.fed + length rest.now < 2 ^ 41 }
+        requires none { self.old.prefix ≡ Prefix.Nothing }
+        ensures bound { result ≤ length rest.now }
+        ensures skipped { HasSkipped self.old self.new rest.now result }
+        ensures fed { self.new.fed ≡ self.old.fed + result }
+    {
+        if rest.len() < 3 || rest[0] != 0 || rest[1] != 0 || rest[2] != 1 {
+            return 0;
+        }
+        self.note_header(&rest[..3]);
+        self.prefix = Prefix::Whole;
+        self.fed += 3;
+        3
+    }
+
+    /// Reads the first bytes of `rest`: those before its first zero byte, and a prefix that begins
+    /// there. Returns how many: none where a part of a prefix stands at the end. No code ends in
+    /// them, so they are of the latest header or are passed over.
     fn skip(&mut self, rest: &[u8]) -> usize
         requires { self.old.fed + length rest.now < 2 ^ 41 }
         ensures bound { result ≤ length rest.now }
-        ensures kept { (r : List ℕ) → HasReadBytes self.old r →
-            HasReadBytes self.new (read_after r (take result rest.now)) }
-        ensures quiet { (r : List ℕ) → HasReadBytes self.old r →
-            calls_of (codes_of (read_after r (take result rest.now))) ≡ calls_of (codes_of r) }
+        ensures skipped { HasSkipped self.old self.new rest.now result }
         ensures fed { self.new.fed ≡ self.old.fed + result }
-        ensures room { IsAhead self.old → IsAhead self.new }
-        ensures slices { (tally_now self.new).slices ≡ (tally_now self.old).slices }
-        ensures slice { (tally_now self.new).slice ≡ (tally_now self.old).slice }
     {
-        if !self.prefix.is_nothing() {
+        let Prefix::Nothing = self.prefix else {
             return 0;
-        }
+        };
         // A code's prefix begins with a zero byte, so no code can begin before one.
         let count = run_before_zero(rest);
         self.note_header(&rest[..count]);
         self.fed += count as u64;
-        count
+        count + self.take_prefix(&rest[count..])
     }
 
     /// Takes bytes, until one is refused.
