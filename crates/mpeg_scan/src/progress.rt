@@ -18,7 +18,7 @@ ghost use Rattle.mpeg_scan.specs.ScannerState.{scan_with_byte, scan_with_code, w
 use crate::codes::{Code, Prefix};
 use crate::faults::{FilmFault, ScanRefused, code_fault, header_fault, last_fault};
 use crate::header_bytes::HeaderBytes;
-use crate::tallies::Tally;
+use crate::tallies::{Tally, is_slice};
 use crate::units::MAX_FILM_BYTES;
 use crate::visitor::{Found, tell};
 use memchr::memchr;
@@ -99,7 +99,7 @@ impl Progress {
     #[tactic(auto, unfolding(crate::specs::CodeSteps::code_judgement))]
     fn judge(&mut self, place: u64, value: u8) -> Result<(), FilmFault>
         requires room { HasRoomWith self.old.latest self.old.tally place }
-        requires within { place ≤ 2 ^ 40 }
+        requires within { place ≤ MAX_FILM_BYTES }
         ensures judged { MatchResult result
             (λ _. (judgement self.old place value ≡ None)
             × (self.new.tally ≡ tally_now self.old))
@@ -107,7 +107,14 @@ impl Progress {
         ensures fed { self.new.fed ≡ self.old.fed }
         ensures prefix { self.new.prefix ≡ self.old.prefix }
     {
-        // only the next code shows whether the header before it is complete
+        // Most codes are slices that follow a slice. None of them is refused.
+        if let Some(code) = &self.latest {
+            if is_slice(code.value) && is_slice(value) {
+                self.tally.add(code);
+                return Ok(());
+            }
+        }
+        // Only the next code shows whether the header before it is complete.
         if let Some(fault) = self.header_fault(place) {
             return Err(fault);
         }
@@ -126,7 +133,7 @@ impl Progress {
         found: &mut F,
     ) -> Result<(), ScanRefused>
         requires room { HasRoomWith self.old.latest self.old.tally place }
-        requires within { place ≤ 2 ^ 40 }
+        requires within { place ≤ MAX_FILM_BYTES }
         requires ready { AwaitsSlice (F.ready_at found.old) (tally_now self.old) }
         ensures taken { OnOk result ((judgement self.old place value ≡ None)
             × (self.new ≡ scan_with_code self.old place value)) }
@@ -152,7 +159,7 @@ impl Progress {
 
     /// Takes a byte.
     fn take_byte<F: Found>(&mut self, byte: u8, found: &mut F) -> Result<(), ScanRefused>
-        requires short { self.old.fed < 2 ^ 40 }
+        requires short { self.old.fed < MAX_FILM_BYTES }
         requires room { IsAhead self.old }
         requires ready { AwaitsSlice (F.ready_at found.old) (tally_now self.old) }
         ensures kept { OnOk result ((r : List ℕ) → HasReadBytes self.old r →
@@ -233,7 +240,7 @@ impl Progress {
         chunk: &[u8],
         found: &mut F,
     ) -> Result<(), ScanRefused>
-        requires short { self.old.fed + length chunk.now ≤ 2 ^ 40 }
+        requires short { self.old.fed + length chunk.now ≤ MAX_FILM_BYTES }
         requires room { IsAhead self.old }
         requires ready { AwaitsSlice (F.ready_at found.old) (tally_now self.old) }
         ensures kept { OnOk result ((r : List ℕ) → HasReadBytes self.old r →
@@ -269,7 +276,7 @@ impl Progress {
     #[tactic(auto, unfolding(crate::specs::CodeSteps::end_judgement))]
     fn judge_end(&self) -> Result<Tally, FilmFault>
         requires room { HasRoomWith self.now.latest self.now.tally self.now.fed }
-        requires within { self.now.fed ≤ 2 ^ 40 }
+        requires within { self.now.fed ≤ MAX_FILM_BYTES }
         ensures { MatchResult result
             (λ t. (last_judgement self.now ≡ None) × (t ≡ tally_now self.now))
             (λ f. last_judgement self.now ≡ Some f) }
@@ -290,7 +297,7 @@ impl Progress {
         ensures tally { IfOk result (λ t. t ≡ tally_now self.now) }
         ensures sliced { IfOk result (λ t. 0 < t.slices) }
         ensures rated { IfOk result (λ t. IsSome t.rate) }
-        ensures short { OnOk result (self.now.fed ≤ 2 ^ 40) }
+        ensures short { OnOk result (self.now.fed ≤ MAX_FILM_BYTES) }
         ensures accepted { IfOk result (λ t. (r : List ℕ) → HasReadBytes self.now r →
             (refusal_of r ≡ None) × (t ≡ tally_of (codes_of r))) }
         ensures fault { IfErr result (λ f. (r : List ℕ) → HasReadBytes self.now r →
