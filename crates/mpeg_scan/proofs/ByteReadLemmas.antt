@@ -24,7 +24,7 @@ pub read-append : (r xs ys : List ℕ) → read_after r (xs ++ ys) ≡ read_afte
 read-append r [] ys = refl
 read-append r (x ∷ xs) ys = read-append (x ∷ r) xs ys
 
--- a run of a chunk after its front, and one byte after it
+-- a run of a chunk after its first bytes, and one byte after it
 pub read-run : (r chunk : List ℕ) (a n : ℕ)
     → read_after (read_after r (take a chunk)) (take n (take (length chunk - a) (drop a chunk))) ≡ read_after r
     (take (a + n) chunk)
@@ -165,7 +165,7 @@ skipped-more {old} {mid} {new} {rest} {left} {count} {more} one left_is other =
 pub skipped-none : (s : Progress) (rest : List ℕ) → HasSkipped s s rest 0
 skipped-none s rest = record { quiet = tt; is = refl }
 
--- ---- the run in front of a chunk
+-- ---- the run before the first zero byte of a chunk
 
 -- the bytes before the first zero byte, where nothing of a prefix stood
 pub skipped-run : {old new : Progress} {rest : List ℕ} {count : ℕ} → old.prefix ≡ Nothing → count ≤ length rest

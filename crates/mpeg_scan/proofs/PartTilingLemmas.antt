@@ -76,7 +76,7 @@ takes-unit {u} {unit} {head_end} {place} m ends some =
   where
     open ends use {from, head, to, slices}
 
--- what the calls at a code tell of: the latest unit and its latest slice, the code's place, and the unit that
+-- what the calls at a code report: the latest unit and its latest slice, the code's place, and the unit that
 -- would end there
 pub record CodeEnds : Type 0 where
   pub unit : ℕ
