@@ -50,10 +50,10 @@ impl<T: Drop> From<AllocFailed<T>> for CertRead {
 }
 
 /// The most segments of a certificate: as many as a plan has slots, since none of its is empty.
-const MAX_SEGMENTS: u64 = MAX_SLOTS;
+pub(crate) const MAX_SEGMENTS: u64 = MAX_SLOTS;
 
 /// The greatest number of a certificate.
-const MAX_NUMBER: u64 = MAX_BYTES;
+pub(crate) const MAX_NUMBER: u64 = MAX_BYTES;
 
 /// Reads a certificate: the text that [`crate::write_cert`] gives of a plan, and of any segments
 /// with numbers up to 2^42, at most 1,000,000 of them. Such a text is read as its own segments, or
@@ -84,8 +84,8 @@ fn has_leading_zero(digits: &[u8]) -> bool
 
 /// A number up to 2^42, without leading zeros.
 fn cert_number(digits: &[u8]) -> Option<u64>
-    ensures { MatchOption result ((n : ℕ) → n ≤ 2 ^ 42 → digits.now ≢ decimal n)
-        (λ n. (n ≤ 2 ^ 42) × (digits.now ≡ decimal n)) }
+    ensures { MatchOption result ((n : ℕ) → n ≤ MAX_NUMBER → digits.now ≢ decimal n)
+        (λ n. (n ≤ MAX_NUMBER) × (digits.now ≡ decimal n)) }
 {
     if has_leading_zero(digits) {
         return None;
