@@ -1,4 +1,4 @@
--- What a link in memory hands out, by the front that it keeps.
+-- What a link in memory hands out, by its cursor.
 use Rattle.std.proofs.Common.{◌≡◌, ℕ, ◌+◌, ◌-◌, ◌<◌, ◌≤◌, min, List, [], ◌∷◌, length, take, drop, get_or, map, refl}
 use Rattle.std.proofs.Common.{sym, ap, ◌∙◌, Vec, Global}
 use Rattle.std.proofs.lemmas.List.{drop_more, drop_all, drop-drop, length-drop, length-map, get_or-map, take_min}
@@ -83,7 +83,7 @@ end_out {events} room at passed =
     let here = in_front at in
     (sym (ap (first_out room) here), left_passed events passed ∙ sym (ap (rest_left room) here))
 
--- a front of some of which so many bytes were handed out
+-- a first event of which so many bytes were handed out
 pub record IsFrontOut (bytes into : List ℕ) (offset count : ℕ) : Type 0 where
   pub some : offset < length bytes
   pub most : count ≡ min (length into) (length bytes - offset)

@@ -1,4 +1,4 @@
--- Where a line stands that is written as its text and its end, and which file a name stands for.
+-- Where a line stands that is written as its text and its end, and which file a name represents.
 use Rattle.std.proofs.Common.{◌≡◌, ◌≢◌, ◌<◌, ◌≤◌, ◌+◌, ◌-◌, ◌&&◌, ◌==◌, if◌then◌else◌, ℕ, zero, suc, true}
 use Rattle.std.proofs.Common.{List, [], ◌∷◌, ◌++◌, length, get_or, All, Contains, codes, Some, None, nat_lt, arith, inl}
 use Rattle.std.proofs.Common.{inr}

@@ -58,7 +58,7 @@ read_decimal ds n read lead =
           )
     ]
 
--- a zero in front of a byte changes nothing
+-- a zero before a byte changes nothing
 zero_in_front : (d : ℕ) (ds : List ℕ) → number_of (48 ∷ d ∷ ds) ≡ number_of (d ∷ ds)
 zero_in_front d ds =
     let one : nat_lt 0 (length (48 ∷ d ∷ ds)) ≡ true = lt-ltb 0 (length (48 ∷ d ∷ ds)) (omega arith) in
@@ -130,7 +130,7 @@ good_is_plain name good =
 
 -- ---- blanks
 
--- a text is the blanks in front of it and the rest, which begins with no blank
+-- a text is its first blanks and the rest, which begins with no blank
 record FrontCut (text rest : List ℕ) : Type 0 where
   front : List ℕ
   parts : text ≡ front ++ rest
