@@ -44,7 +44,7 @@ pub then_appended : {before next mid after : List ℕ} {r : Answer} → (text : 
     → IsAppended mid next after r → IsAppended before (text ++ next) after r
 then_appended text whole more = after_first text whole more
 
--- a text that was cut stays so, whatever was to follow
+-- an incomplete text stays so, whatever was to follow
 pub cut_before : {before text after : List ℕ} {e : NoMemory} → (next : List ℕ)
     → IsAppended before text after (Err e) → IsAppended before (text ++ next) after (Err e)
 cut_before next cut = record { whole = tt; cut = front_of_first _ _ next _ cut.cut }

@@ -26,7 +26,7 @@ past_text front text rest k =
     let at : length front + length text + k ≡ length (front ++ text) + k = omega (arith, length-append front text) in
     ap (λ (n : ℕ). get_or (front ++ text ++ rest) n 0) at ∙ get_or-append-add (front ++ text) rest k 0
 
--- a place in a text that stands after a front
+-- a place in a text that stands after a prefix
 record IsInText (front text : List ℕ) (k : ℕ) : Type 0 where
   from : length front ≤ k
   below : k < length front + length text
