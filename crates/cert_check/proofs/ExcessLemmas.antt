@@ -1,4 +1,4 @@
--- How much a list of numbers goes over a whole threshold, and over a rate.
+-- How much a list of numbers goes over an integer threshold, and over a rate.
 use Rattle.std.proofs.Common.{◌≡◌, ◌≤◌, ◌+◌, ◌-◌, ◌*◌, ℕ, List, [], ◌∷◌, All, length, sum, sum_by, arith, refl, ap}
 use Rattle.std.proofs.Common.{◌∙◌, inl, inr}
 use Rattle.std.proofs.Math.Nat.{le_antisymm, mul-le-mul_left}
@@ -44,11 +44,11 @@ peak_from_over p (y ∷ ys) none =
     let rest : over p ys ≡ 0 = omega (arith, above, none) in
     All-cons (λ b. b ≤ p) y ys first (peak_from_over p ys rest)
 
--- the excess at a whole rate
+-- the excess at an integer rate
 pub excess-one : (p : ℕ) (ys : List ℕ) → excess ys p 1 ≡ over p ys
 excess-one p ys = sum_by-agree (λ b. 1 * b - p) (λ b. b - p) ys (λ b. omega arith)
 
--- one number over the rate ((e + r) * a + r) / (e + r), by the two whole thresholds beside it
+-- one number over the rate ((e + r) * a + r) / (e + r), by the two integer thresholds next to it
 between_above : {b : ℕ} (a e r d : ℕ) → 1 ≤ e → b ≡ a + 1 + d
     → (e + r) * b - ((e + r) * a + r) ≡ e * (b - a) + r * (b - (a + 1))
 between_above {b} a e r d some is =
@@ -69,7 +69,7 @@ between_thresholds a e r b some =
           )
     ]
 
--- the excess above any rate is put together from that above the two whole rates beside it
+-- the excess above any rate follows from that above the two integer rates next to it
 pub excess-between : (a e r : ℕ) (ys : List ℕ) → 1 ≤ e → excess ys ((e + r) * a + r) (e + r)
     ≡ e * over a ys + r * over (a + 1) ys
 excess-between a e r [] some = omega arith

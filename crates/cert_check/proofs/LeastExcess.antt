@@ -1,4 +1,4 @@
--- A taut line goes over each whole threshold by no more than any list of numbers that keeps between the same curves.
+-- A taut line goes over each integer threshold by no more than any list of numbers that stays between the same curves.
 -- One induction over the segments. A segment is hot where its slope is above the threshold p, else cold. A change from
 -- hot to cold stands on the lower curve, one from cold to hot on the upper one.
 use Rattle.std.proofs.Common.{◌≡◌, ◌<◌, ◌≤◌, ◌+◌, ◌-◌, ◌*◌, ℕ, List, [], ◌∷◌, ◌++◌, inl, inr, length, take, drop, sum}
@@ -33,7 +33,7 @@ sum-take-drop n j ys fits =
     ap (λ c. take (c + j) ys) (sym first) ∙ ap (λ zs. take (length (take n ys) + j) zs) (sym joined) ∙ seam in
     sym (ap sum seam' ∙ sum_by-append (λ b. b) (take n ys) (take j (drop n ys)))
 
--- what is left after n numbers keeps between the curves from there
+-- what is left after n numbers stays between the curves from there
 pub keeps_on : {m : ℕ} {lo hi : ℕ → ℕ} {k held : ℕ} {ys : List ℕ} (n : ℕ) → n ≤ length ys
     → KeepsBetween m lo hi k held ys →
     KeepsBetween m lo hi (k + n) (held + sum (take n ys)) (drop n ys)
@@ -65,7 +65,7 @@ abbrev pub IsCold : ℕ → List Segment → Type 0
 IsCold p [] = Unit {0}
 IsCold p (s ∷ rest) = s.bytes ≤ s.slots * p
 
--- what the induction carries: from place k, where the line is at height v and the running sum is `held`
+-- the hypothesis of the induction: from place k, where the line is at height v and the running sum is `held`
 pub record Bounds (m p v held : ℕ) (segments : List Segment) (ys : List ℕ) : Type 0 where
   pub hot : IsHot p segments → m * line_over p segments + m * v ≤ over (m * p) ys + held
   pub cold : IsCold p segments → m * line_over p segments ≤ over (m * p) ys

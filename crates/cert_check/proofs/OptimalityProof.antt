@@ -51,7 +51,7 @@ feasible from low up segments slots runs = record {
       omega (arith, keeps.below, at);
 }
 
--- a feasible list in m-ths keeps between the curves by places
+-- a feasible list in m-ths stays between the curves, by places
 keeps_from_feasible : (m from : ℕ) (low up y : List ℕ) → IsFeasibleIn m from low up y
     → KeepsBetween m (bound_at from low) (bound_at from up) 0 (m * from) y
 keeps_from_feasible m from low up y fine = record {
@@ -97,7 +97,7 @@ whole_bytes from low up y fine = record {
   below = λ t inside. omega (arith, fine.below t inside);
 }
 
--- in m-ths, above a whole threshold
+-- in m-ths, above an integer threshold
 over_in_parts : {from : ℕ} {low up : List ℕ} {segments : List Segment} → AreClosed low up
     → IsTaut from low up segments →
     {m : ℕ} {y : List ℕ} → IsFeasibleIn m from low up y → (p : ℕ) → m * over p (plan_slots segments) ≤ over (m * p) y

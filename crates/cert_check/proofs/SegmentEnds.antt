@@ -7,7 +7,7 @@ use Rattle.wire_curve.specs.SoundCurves.{bound_at}
 use Rattle.cert_check.specs.ExactLine.{segment_at, end_place, end_height}
 use Rattle.cert_check.proofs.TautFormLemmas.{bound_end}
 
--- segment i ends within the slots of the whole list
+-- segment i ends within the slots of the complete list
 pub ends_within : (segments : List Segment) (i : ℕ) → i < length segments
     → total_slots (take i segments) + (segment_at segments i).slots ≤ total_slots segments
 ends_within segments i inside = sum_by_more_le (λ s. s.slots) segments i (record { slots = 0; bytes = 0 }) inside

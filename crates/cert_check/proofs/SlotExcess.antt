@@ -1,4 +1,4 @@
--- The slots of a segment go over a whole threshold by as much as its exact line does.
+-- The slots of a segment go over an integer threshold by as much as its exact line does.
 use Rattle.std.proofs.Common.{◌≡◌, ◌<◌, ◌≤◌, ◌+◌, ◌-◌, ◌*◌, ◌/◌, ℕ, zero, suc, List, [], ◌∷◌, ◌++◌, All, map, sum}
 use Rattle.std.proofs.Common.{sum_by, arith, refl, ap, subst, ◌∙◌, inl, inr, add-one}
 use Rattle.std.specs.List.{range_with_len}

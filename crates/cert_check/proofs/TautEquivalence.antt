@@ -178,7 +178,7 @@ runs_from_faultless lo hi k v (s ∷ rest) clean =
     let stays = first_stays clean in
     (stays, first_bends clean, runs_from_faultless lo hi (k + s.slots) (v + s.bytes) rest (rest_faultless clean stays))
 
--- and back, one segment put in front
+-- and back, with one segment put before it
 front_faultless : {lo hi : ℕ → ℕ} {k v : ℕ} {s : Segment} {rest : List Segment} → StaysBetween lo hi k v s →
     Bends lo hi (k + s.slots) (v + s.bytes) s rest →
     Faultless lo hi (k + s.slots) (v + s.bytes) rest → Faultless lo hi k v (s ∷ rest)

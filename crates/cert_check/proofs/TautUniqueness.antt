@@ -37,7 +37,7 @@ level_first split = omega (arith, parts_cross split)
 level_last : (split : SplitSegment) → split.whole.bytes * split.last.slots ≡ split.last.bytes * split.whole.slots
 level_last split = rw (split.slots, split.bytes) (omega (arith, parts_cross split))
 
--- the line of the last part is the whole segment's
+-- the line of the last part is that of the entire segment
 cut_below : (split : SplitSegment) (v j h : ℕ) → 0 < split.whole.slots
     → h * split.whole.slots ≤ v * split.whole.slots + (split.first.slots + j) * split.whole.bytes
     → h * split.last.slots ≤ (v + split.first.bytes) * split.last.slots + j * split.last.bytes
@@ -201,7 +201,7 @@ same_segment s t slots some level =
     le_antisymm (le_of_mul-le-mul_right (le_of_eq cross) pos) (le_of_mul-le-mul_right (le_of_eq (sym cross)) pos) in
     ap (λ n. segment n s.bytes) slots ∙ ap (λ b. segment t.slots b) bytes
 
--- the whole list
+-- the complete list
 pub one_list : {lo hi : ℕ → ℕ} {k v : ℕ} {xs ys : List Segment} →
     IsTautLine lo hi k v xs → IsTautLine lo hi k v ys → total_slots xs ≡ total_slots ys → xs ≡ ys
 one_list {lo} {xs = []} {ys = []} line other same = refl

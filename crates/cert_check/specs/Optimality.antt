@@ -14,7 +14,7 @@ pub record IsBestPlan (from : ℕ) (low up : List ℕ) (segments : List Segment)
   -- no feasible list of whole bytes sends less above any rate p/q
   pub least_excess : (y : List ℕ) → IsFeasible from low up y →
       (p q : ℕ) → 1 ≤ q → excess (plan_slots segments) p q ≤ excess y p q
-  -- nor does one that counts m-ths of a byte, above any whole rate
+  -- nor does one that counts m-ths of a byte, above any integer rate
   pub least_excess_in_parts : (m : ℕ) (y : List ℕ) → IsFeasibleIn m from low up y →
       (p : ℕ) → m * excess (plan_slots segments) p 1 ≤ excess y (m * p) 1
   -- no feasible list of whole bytes has a smaller greatest slot

@@ -28,7 +28,7 @@ RunsTaut lo hi k v (s ∷ rest) =
     × RunsTaut lo hi (k + s.slots) (v + s.bytes) rest
 
 -- The ray of a segment from place k and height v comes to stand on or below the lower curve, and
--- isn't above the upper one until then: no flatter line can keep between the curves from there.
+-- isn't above the upper one until then: no flatter line can stay between the curves from there.
 pub record MeetsLower (lo hi : ℕ → ℕ) (k v : ℕ) (s : Segment) : Type 0 where
   pub far : ℕ
   pub later : 1 ≤ far

@@ -9,20 +9,22 @@ use Rattle.std.proofs.lemmas.List.{take_more, take_rest, get_or-take, length-tak
 use Rattle.std.proofs.lemmas.List.{take-append-drop}
 use Rattle.std.proofs.Math.Seq.{take-add}
 use Rattle.mpeg_scan.specs.declared.codes.Code.{Code}
-use Rattle.mpeg_scan.specs.declared.codes.Prefix.TheVariants.{Nothing, Zero}
+use Rattle.mpeg_scan.specs.declared.codes.Prefix.{Prefix}
+use Rattle.mpeg_scan.specs.declared.codes.Prefix.TheVariants.{Nothing, Zero, Whole}
 use Rattle.mpeg_scan.specs.declared.faults.FilmFault.{FilmFault}
 use Rattle.mpeg_scan.specs.declared.progress.Progress.{Progress}
 use Rattle.mpeg_scan.specs.StartCodes.{read_after, latest_prefix, next_prefix, is_whole, note, note_latest, codes_of}
 use Rattle.mpeg_scan.specs.FilmFaults.{first_refusal, fault_at, first_fault}
 use Rattle.mpeg_scan.specs.Calls.{Call, calls_of}
-use Rattle.mpeg_scan.specs.ScannerState.{HasReadBytes, note_all, scan_with_byte, with_header_bytes}
+use Rattle.mpeg_scan.specs.ScannerState.{HasReadBytes, HasSkipped, IsQuiet, note_all, scan_with_byte}
+use Rattle.mpeg_scan.specs.ScannerState.{scan_with_run, with_header_bytes}
 use Rattle.mpeg_scan.proofs.ScanStepLemmas.{codes-plain, codes-code, first_fault-note, taken-none, taken-plain}
 
 pub read-append : (r xs ys : List ℕ) → read_after r (xs ++ ys) ≡ read_after (read_after r xs) ys
 read-append r [] ys = refl
 read-append r (x ∷ xs) ys = read-append (x ∷ r) xs ys
 
--- a run of a chunk after its front, and one byte after it
+-- a run of a chunk after its first bytes, and one byte after it
 pub read-run : (r chunk : List ℕ) (a n : ℕ)
     → read_after (read_after r (take a chunk)) (take n (take (length chunk - a) (drop a chunk))) ≡ read_after r
     (take (a + n) chunk)
@@ -45,11 +47,6 @@ next-other : (b : Bool) (x : ℕ) → (x ≡ 0 → ⊥) → eqb x 1 ≡ b → ne
 next-other true x other is = ap (λ t. cond t Nothing (cond (eqb x 0) Zero Nothing)) is
 next-other false x other is =
     ap (λ t. cond t Nothing (cond (eqb x 0) Zero Nothing)) is ∙ ap (λ t. cond t Zero Nothing) (ne_eqb x 0 other)
-
--- bytes that aren't the value of a code, one after another
-abbrev pub scan_with_run : Progress → List ℕ → Progress
-scan_with_run s [] = s
-scan_with_run s (x ∷ xs) = scan_with_run (scan_with_byte s x) xs
 
 -- none of the first n bytes is 0
 abbrev AreNonzero : List ℕ → ℕ → Type 0
@@ -103,51 +100,130 @@ run-is {s} (x ∷ xs) run =
     ∙ (ap (λ p. record s { fed = s.fed + length (x ∷ xs); prefix = p; latest = headers }) still
     ∙ ap (λ (o : Option Code). record s { fed = s.fed + length (x ∷ xs); latest = o }) (header-run s.latest x xs)))
 
-run-kept : {s : Progress} {r : List ℕ} (xs : List ℕ) → IsRun s xs → HasReadBytes s r
+-- none of a run's bytes is the value of a code
+run-quiet : {s : Progress} (xs : List ℕ) → IsRun s xs → IsQuiet s xs
+run-quiet [] run = tt
+run-quiet {s} (x ∷ xs) run = (ap is_whole run.none, run-quiet {s = scan_with_byte s x} xs (next-run run))
+
+-- ---- bytes of which none is the value of a code
+
+quiet-kept : {s : Progress} {r : List ℕ} (xs : List ℕ) → IsQuiet s xs → HasReadBytes s r
     → HasReadBytes (scan_with_run s xs) (read_after r xs)
-run-kept [] run kept = kept
-run-kept {s} {r} (x ∷ xs) run kept =
-    run-kept {s = scan_with_byte s x} {r = x ∷ r} xs (next-run run) (taken-plain (ap is_whole run.none) refl kept)
+quiet-kept [] quiet kept = kept
+quiet-kept {s} {r} (x ∷ xs) quiet kept =
+    quiet-kept {s = scan_with_byte s x} {r = x ∷ r} xs quiet.1 (taken-plain quiet.0 refl kept)
 
-run-calls : {s : Progress} {r : List ℕ} (xs : List ℕ) → IsRun s xs → HasReadBytes s r
+quiet-calls : {s : Progress} {r : List ℕ} (xs : List ℕ) → IsQuiet s xs → HasReadBytes s r
     → calls_of (codes_of (read_after r xs)) ≡ calls_of (codes_of r)
-run-calls [] run kept = refl
-run-calls {s} {r} (x ∷ xs) run kept =
-    run-calls {s = scan_with_byte s x} {r = x ∷ r} xs (next-run run) (taken-plain (ap is_whole run.none) refl kept)
-    ∙ sym (taken-none x (ap is_whole run.none) kept [])
-
--- ---- the run in front of a chunk
-
--- the bytes before the first zero byte were read, where nothing of a prefix stood
-pub record HasSkipped (old new : Progress) (rest : List ℕ) (count : ℕ) : Type 0 where
-  pub none : old.prefix ≡ Nothing
-  pub bound : count ≤ length rest
-  pub nonzero : (k : ℕ) → k < count → get_or rest k 0 ≡ 0 → ⊥
-  pub is : new ≡ record (with_header_bytes old (take count rest)) { fed = old.fed + count }
-
-run-of : {old new : Progress} {rest : List ℕ} {count : ℕ} → HasSkipped old new rest count → IsRun old (take count rest)
-run-of {rest} {count} skipped = record {
-  none = skipped.none;
-  nonzero = front-nonzero rest count skipped.bound skipped.nonzero;
-}
-
-pub skipped-is : {old new : Progress} {rest : List ℕ} {count : ℕ} → HasSkipped old new rest count
-    → new ≡ scan_with_run old (take count rest)
-skipped-is {old} {rest} {count} skipped =
-    let headers = option_map (λ c. note_all c (take count rest)) old.latest in
-    skipped.is
-    ∙ (ap (λ n. record old { fed = old.fed + n; latest = headers }) (sym (length-take-le count rest skipped.bound))
-    ∙ sym (run-is (take count rest) (run-of skipped)))
+quiet-calls [] quiet kept = refl
+quiet-calls {s} {r} (x ∷ xs) quiet kept =
+    quiet-calls {s = scan_with_byte s x} {r = x ∷ r} xs quiet.1 (taken-plain quiet.0 refl kept)
+    ∙ sym (taken-none x quiet.0 kept [])
 
 pub skipped-kept : {old new : Progress} {rest : List ℕ} {count : ℕ} {r : List ℕ} → HasSkipped old new rest count
     → HasReadBytes old r → HasReadBytes new (read_after r (take count rest))
 skipped-kept {rest} {count} {r} skipped kept =
-    subst (λ (s : Progress). HasReadBytes s (read_after r (take count rest))) (sym (skipped-is skipped))
-    (run-kept (take count rest) (run-of skipped) kept)
+    subst (λ (s : Progress). HasReadBytes s (read_after r (take count rest))) (sym skipped.is)
+    (quiet-kept (take count rest) skipped.quiet kept)
 
 pub skipped-calls : {old new : Progress} {rest : List ℕ} {count : ℕ} {r : List ℕ} → HasSkipped old new rest count
     → HasReadBytes old r → calls_of (codes_of (read_after r (take count rest))) ≡ calls_of (codes_of r)
-skipped-calls {rest} {count} skipped kept = run-calls (take count rest) (run-of skipped) kept
+skipped-calls {rest} {count} skipped kept = quiet-calls (take count rest) skipped.quiet kept
+
+run-fed : (s : Progress) (xs : List ℕ) → (scan_with_run s xs).fed ≡ s.fed + length xs
+run-fed s [] = omega arith
+run-fed s (x ∷ xs) = omega (arith, run-fed (scan_with_byte s x) xs)
+
+pub skipped-fed : {old new : Progress} {rest : List ℕ} {count : ℕ} → HasSkipped old new rest count
+    → count ≤ length rest → new.fed ≡ old.fed + count
+skipped-fed {old} {rest} {count} skipped bound =
+    ap (λ (s : Progress). s.fed) skipped.is
+    ∙ (run-fed old (take count rest) ∙ ap (λ n. old.fed + n) (length-take-le count rest bound))
+
+-- one such part after another
+quiet-append : (s : Progress) (xs ys : List ℕ) → IsQuiet s xs → IsQuiet (scan_with_run s xs) ys → IsQuiet s (xs ++ ys)
+quiet-append s [] ys one other = other
+quiet-append s (x ∷ xs) ys one other = (one.0, quiet-append (scan_with_byte s x) xs ys one.1 other)
+
+run-append : (s : Progress) (xs ys : List ℕ) → scan_with_run s (xs ++ ys) ≡ scan_with_run (scan_with_run s xs) ys
+run-append s [] ys = refl
+run-append s (x ∷ xs) ys = run-append (scan_with_byte s x) xs ys
+
+pub skipped-more : {old mid new : Progress} {rest left : List ℕ} {count more : ℕ} → HasSkipped old mid rest count
+    → left ≡ drop count rest → HasSkipped mid new left more → HasSkipped old new rest (count + more)
+skipped-more {old} {mid} {new} {rest} {left} {count} {more} one left_is other =
+    let xs = take count rest in
+    let ys = take more left in
+    let all : take (count + more) rest ≡ xs ++ ys =
+    take-add count more rest ∙ ap (λ (l : List ℕ). xs ++ take more l) (sym left_is) in record {
+      quiet = subst (λ (l : List ℕ). IsQuiet old l) (sym all)
+          (quiet-append old xs ys one.quiet (subst (λ (s : Progress). IsQuiet s ys) one.is other.quiet));
+      is = other.is ∙ (ap (λ (s : Progress). scan_with_run s ys) one.is
+          ∙ (sym (run-append old xs ys) ∙ ap (scan_with_run old) (sym all)));
+    }
+
+pub skipped-none : (s : Progress) (rest : List ℕ) → HasSkipped s s rest 0
+skipped-none s rest = record { quiet = tt; is = refl }
+
+-- ---- the run before the first zero byte of a chunk
+
+-- the bytes before the first zero byte, where nothing of a prefix stood
+pub skipped-run : {old new : Progress} {rest : List ℕ} {count : ℕ} → old.prefix ≡ Nothing → count ≤ length rest
+    → ((k : ℕ) → k < count → get_or rest k 0 ≡ 0 → ⊥)
+    → new ≡ record (with_header_bytes old (take count rest)) { fed = old.fed + count }
+    → HasSkipped old new rest count
+skipped-run {old} {rest} {count} none bound nonzero is =
+    let xs = take count rest in
+    let run : IsRun old xs = record { none = none; nonzero = front-nonzero rest count bound nonzero } in
+    let headers = option_map (λ c. note_all c xs) old.latest in record {
+      quiet = run-quiet xs run;
+      is = is
+          ∙ (ap (λ n. record old { fed = old.fed + n; latest = headers }) (sym (length-take-le count rest bound))
+          ∙ sym (run-is xs run));
+    }
+
+-- ---- a prefix that stands there
+
+three-first : (rest : List ℕ) → 3 ≤ length rest → get_or rest 0 0 ≡ 0 → get_or rest 1 0 ≡ 0 → get_or rest 2 0 ≡ 1
+    → take 3 rest ≡ 0 ∷ 0 ∷ 1 ∷ []
+three-first [] some a b c = absurd (omega arith)
+three-first (x ∷ []) some a b c = absurd (omega arith)
+three-first (x ∷ y ∷ []) some a b c = absurd (omega arith)
+three-first (x ∷ y ∷ z ∷ rest) some a b c = cc
+
+header-three : (latest : Option Code)
+    → option_map (λ c. note_all c (0 ∷ 0 ∷ 1 ∷ [])) latest
+    ≡ option_map (λ c. note c 1) (option_map (λ c. note c 0) (option_map (λ c. note c 0) latest))
+header-three None = refl
+header-three (Some c) = refl
+
+abbrev prefix_three : Prefix → Prefix
+prefix_three p = next_prefix (next_prefix (next_prefix p 0) 0) 1
+
+pub skipped-prefix : {old new : Progress} (rest : List ℕ) → old.prefix ≡ Nothing → 3 ≤ length rest
+    → get_or rest 0 0 ≡ 0 → get_or rest 1 0 ≡ 0 → get_or rest 2 0 ≡ 1
+    → new ≡ record (with_header_bytes old (take 3 rest)) { fed = old.fed + 3; prefix = Whole }
+    → HasSkipped old new rest 3
+skipped-prefix {old} {new} rest none some a b c is =
+    let three = three-first rest some a b c in
+    let whole : Whole ≡ prefix_three old.prefix = sym (ap prefix_three none) in
+    let fed : old.fed + 3 ≡ old.fed + 1 + 1 + 1 = omega arith in
+    let noted = option_map (λ c. note_all c (0 ∷ 0 ∷ 1 ∷ [])) old.latest in record {
+      quiet = subst (λ (l : List ℕ). IsQuiet old l) (sym three) (
+        ap is_whole none,
+        (ap (λ p. is_whole (next_prefix p 0)) none, (ap (λ p. is_whole (next_prefix (next_prefix p 0) 0)) none, tt)),
+      );
+      is = is
+          ∙ (ap (λ (l : List ℕ). record (with_header_bytes old l) { fed = old.fed + 3; prefix = Whole }) three
+          ∙ (ap (λ n. record old { fed = n; prefix = Whole; latest = noted }) fed
+          ∙ (ap (λ p. record old { fed = old.fed + 1 + 1 + 1; prefix = p; latest = noted }) whole
+          ∙ (ap (λ (o : Option Code). record old {
+            fed = old.fed + 1 + 1 + 1;
+            prefix = prefix_three old.prefix;
+            latest = o;
+          }) (header-three old.latest)
+          ∙ ap (scan_with_run old) (sym three)))));
+    }
 
 -- ---- what is refused stays refused
 

@@ -62,7 +62,7 @@ pub where-is : {Has : ℕ → ℕ → Type 0} {c : Code} {past : List Code} {at 
 where-is {Has} {c} {past} {at} k spaced {place} {value} has before =
     where-by past spaced (k.back place value has before)
 
--- none in front of the latest code, and that one isn't such: none
+-- none before the latest code, and that one isn't such: none
 pub none-with : {Has : ℕ → ℕ → Type 0} {c : Code} {past : List Code} {at from : ℕ} {OfValue : ℕ → Type 0} →
     Knows Has (c ∷ past) at → Spaced (c ∷ past) → (OfValue c.value → ⊥) →
     NoneIn Has from c.place OfValue → NoneIn Has from at OfValue
@@ -191,7 +191,7 @@ not-open Has unit at s o = elim (cases_lt s.place unit) [
   | inr near ↦ o.no_slice s.place s.code.0 s.code.1.0 near s.before s.code.1.1
 ]
 
--- no slice stands in front of a head that is open, after the head before it
+-- no slice stands before an open head, after the head before it
 not-between : {Has : ℕ → ℕ → Type 0} {u v s : ℕ} → u < v → s < u → NoneIn Has s v IsHeadValue →
     StandsThere Has s IsSliceValue → BeginsUnit Has u → ⊥
 not-between {Has} {s} less far none slice (inl first) =
@@ -230,7 +230,7 @@ none-left true s n e is = absurd (true≢false is)
 none-left false true n e is = absurd (omega (arith, e))
 none-left false false n e is = (refl, e)
 
--- a code that isn't a slice keeps a head open
+-- a code that isn't a slice leaves a head open
 open-with : {Has : ℕ → ℕ → Type 0} {c : Code} {past : List Code} {at unit : ℕ} →
     Knows Has (c ∷ past) at → Spaced (c ∷ past) → (IsSliceValue c.value → ⊥) →
     IsOpenHead Has unit c.place → IsOpenHead Has unit at

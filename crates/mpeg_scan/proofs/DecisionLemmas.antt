@@ -1,4 +1,4 @@
--- What an answer decides: it is a refusal exactly where a relation holds of it.
+-- What an answer decides: it is a refusal exactly where a relation is true of it.
 use Rattle.std.proofs.Common.{Bool, true, false, cond, ◌≡◌, ◌↔◌, Option, Some, None, sym, ap, refl}
 use Rattle.std.proofs.Common.{subst, inl, inr, ◌∙◌}
 use Rattle.std.proofs.lemmas.Bool.{false≢true}

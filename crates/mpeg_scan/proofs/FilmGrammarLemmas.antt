@@ -16,7 +16,7 @@ use Rattle.mpeg_scan.proofs.ScanStepLemmas.{accepted-whole}
 use Rattle.mpeg_scan.proofs.PartTilingLemmas.{first-is, ended-none}
 use Rattle.mpeg_scan.proofs.UnitNumberingLemmas.{CodeFits, code-fits, some-cond}
 
--- the phase that the words on codes tell: q: there are slices, has: there is a picture
+-- the phase by the words on codes. q: there are slices, has: there is a picture
 abbrev pub phase_by : Bool → Bool → Phase
 phase_by q has = cond q in_slices (cond has after_picture in_head)
 

@@ -1,4 +1,4 @@
--- A whole film fed at once.
+-- A complete film fed at once.
 use Rattle.std.proofs.Common.{ℕ, ◌+◌, ◌^◌, ◌<◌, ◌≤◌, ◌≡◌, List, [], ◌∷◌, ◌++◌, Option}
 use Rattle.std.proofs.Common.{Some, None, Result, Err, length, ◌∙◌, ap, refl, arith}
 use Rattle.mpeg_scan.specs.declared.faults.FilmFault.{FilmFault}
@@ -33,7 +33,7 @@ slices_in-append (head_call from to ∷ a) b = slices_in-append a b
 slices_in-append (slice_call from to ∷ a) b = ap (λ (l : List ℕ). from ∷ l) (slices_in-append a b)
 slices_in-append (unit_call unit ∷ a) b = slices_in-append a b
 
--- nothing is told of no bytes
+-- no bytes give no calls
 pub calls-none : calls_of (codes_of []) ≡ []
 unfolding calls_of
 calls-none = ap calls_of codes-none

@@ -24,3 +24,14 @@ pub none-left : {header : List ℕ} {whole : List ℕ} (rest : List ℕ) → not
     → whole ≡ header_with_all header rest → header ≡ whole
 none-left {header} rest full is =
     sym (is ∙ all-full header rest (ltb-false (length header) 5 (not-true (nat_lt (length header) 5) full)))
+
+-- the first five bytes fill an empty header
+pub first-five : (xs : List ℕ) → 5 ≤ length xs
+    → header_with_all [] xs ≡ get_or xs 0 0 ∷ get_or xs 1 0 ∷ get_or xs 2 0 ∷ get_or xs 3 0 ∷ get_or xs 4 0 ∷ []
+unfolding header_with
+first-five [] some = absurd (omega arith)
+first-five (a ∷ []) some = absurd (omega arith)
+first-five (a ∷ b ∷ []) some = absurd (omega arith)
+first-five (a ∷ b ∷ c ∷ []) some = absurd (omega arith)
+first-five (a ∷ b ∷ c ∷ d ∷ []) some = absurd (omega arith)
+first-five (a ∷ b ∷ c ∷ d ∷ e ∷ rest) some = all-full (a ∷ b ∷ c ∷ d ∷ e ∷ []) rest (omega arith)

@@ -47,7 +47,7 @@ abbrev pub PictureIs : List Code → ℕ → ℕ → ℕ → Option Header → T
 PictureIs past from head_end n None = NoneFrom past from Zero
 PictureIs past from head_end n (Some h) = Pictured past from head_end n h
 
--- what is said of the latest unit: where it begins, where its head ends if it has slices, how many it has, its
+-- facts about the latest unit: where it begins, where its head ends if it has slices, how many it has, its
 -- picture, whether it has a sequence header, and whether it starts a group
 pub record Latest : Type 0 where
   pub from : ℕ

@@ -1,4 +1,4 @@
--- The parts that are told of lie one after another.
+-- The reported parts lie one after another.
 use Rattle.std.proofs.Common.{ℕ, suc, zero, Bool, true, false, not, cond, eqb, ltb, leb, ◌&&◌, ◌||◌}
 use Rattle.std.proofs.Common.{◌+◌, ◌-◌, ◌<◌, ◌≤◌, ◌≡◌, ◌⊎◌, List, [], ◌∷◌, ◌++◌, Option, Some}
 use Rattle.std.proofs.Common.{None, length, sym, ◌∙◌, ap, refl, subst, inl, inr, arith}
@@ -28,7 +28,7 @@ use Rattle.mpeg_scan.proofs.CodeSpacingLemmas.{unit-before}
 
 -- ---- one code
 
--- where the parts told of codes end
+-- where the reported parts of codes end
 pub part_by : ℕ → ℕ → ℕ → ℕ → Part
 part_by n unit head_end slice = cond (eqb n 0) (between unit) (within unit head_end slice (n - 1))
 
@@ -76,7 +76,7 @@ takes-unit {u} {unit} {head_end} {place} m ends some =
   where
     open ends use {from, head, to, slices}
 
--- what the calls at a code tell of: the latest unit and its latest slice, the code's place, and the unit that
+-- what the calls at a code report: the latest unit and its latest slice, the code's place, and the unit that
 -- would end there
 pub record CodeEnds : Type 0 where
   pub unit : ℕ
@@ -193,7 +193,7 @@ first_slice-head t place value e slice none =
     (sym (cond-true (is_slice value && eqb t.slices 0) (head_fault t place t.picture) None
     (and_from (is_slice value) (eqb t.slices 0) slice (eq-eqb t.slices 0 none))) ∙ e)
 
--- what a code that isn't refused tells
+-- what is reported at a code that isn't refused
 pub first_slice-accepted : (t : Tally) (place value : ℕ) → code_fault t place value ≡ None
     → first_slice_fault t place value ≡ None
 first_slice-accepted t place value e =

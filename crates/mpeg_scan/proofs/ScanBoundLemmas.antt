@@ -1,24 +1,26 @@
 -- The scanner's latest unit and slice begin well before the next code.
-use Rattle.std.proofs.Common.{Result, Ok, Err, OnOk, ℕ, Bool, true, false, not, cond, eqb, ltb}
+use Rattle.std.proofs.Common.{Result, Ok, Err, OnOk, ℕ, Bool, true, false, not, cond, eqb, leb, ltb}
 use Rattle.std.proofs.Common.{◌&&◌, ◌||◌, ◌+◌, ◌-◌, ◌<◌, ◌≤◌, ◌≡◌, List, [], ◌∷◌, Option, Some, None, sym, ◌∙◌, take}
 use Rattle.std.proofs.Common.{ap, refl, subst, arith}
 use Rattle.std.specs.Option.{IsSome, option_map}
 use Rattle.std.proofs.lemmas.Option.{same_Some}
-use Rattle.std.proofs.lemmas.Bool.{true≢false, false≢true, ne_eqb}
+use Rattle.std.proofs.lemmas.Bool.{true≢false, false≢true, ne_eqb, lt-leb, cond-false}
 use Rattle.mpeg_scan.specs.declared.codes.Code.{Code}
 use Rattle.mpeg_scan.specs.declared.codes.Prefix.{Prefix}
 use Rattle.mpeg_scan.specs.declared.codes.Prefix.TheVariants.{Nothing, Zero, Zeros, Whole}
 use Rattle.mpeg_scan.specs.declared.faults.FilmFault.{FilmFault}
-use Rattle.mpeg_scan.specs.declared.faults.FilmFault.TheVariants.{NoSequence}
+use Rattle.mpeg_scan.specs.declared.faults.FilmFault.TheVariants.{GroupTooLong, Mpeg2, NoSequence, SystemCode}
+use Rattle.mpeg_scan.specs.declared.faults.FilmFault.TheVariants.{TooLong}
 use Rattle.mpeg_scan.specs.declared.progress.Progress.{Progress}
 use Rattle.mpeg_scan.specs.Tallies.{Tally}
 use Rattle.mpeg_scan.specs.StartCodes.{after_one, after_zero, is_whole, next_prefix, note}
 use Rattle.mpeg_scan.specs.CodeFacts.{is_head, is_slice}
-use Rattle.mpeg_scan.specs.FilmFaults.{last_fault, open_fault, code_fault}
+use Rattle.mpeg_scan.specs.FilmFaults.{code_fault, count_fault, first_refusal, first_slice_fault, head_fault}
+use Rattle.mpeg_scan.specs.FilmFaults.{header_fault, last_fault, left_without_slices, open_fault, second_fault}
+use Rattle.mpeg_scan.specs.FilmFaults.{value_fault}
 use Rattle.mpeg_scan.specs.ScanBounds.{AwaitsSlice, AwaitsSliceAfter, HasRoom, HasRoomWith, IsAhead}
 use Rattle.mpeg_scan.specs.ScanBounds.{prefix_length}
-use Rattle.mpeg_scan.specs.ScannerState.{note_all, scan_with_code, scan_with_byte}
-use Rattle.mpeg_scan.proofs.ByteReadLemmas.{HasSkipped, scan_with_run, skipped-is}
+use Rattle.mpeg_scan.specs.ScannerState.{HasSkipped, scan_with_code, scan_with_byte, scan_with_run}
 use Rattle.mpeg_scan.specs.CodeSteps.{end_judgement, code_judgement, latest_header_fault, next}
 use Rattle.mpeg_scan.specs.CodeSteps.{next_begins, tally_now, tally_with}
 use Rattle.mpeg_scan.proofs.NextCodeLemmas.{code-begun, counts-more, counts-next, picture-next}
@@ -240,20 +242,21 @@ run-ahead {s} (x ∷ xs) room = run-ahead {s = scan_with_byte s x} xs (noted-ahe
 pub skipped-ahead : {old new : Progress} {rest : List ℕ} {count : ℕ} → HasSkipped old new rest count → IsAhead old
     → IsAhead new
 skipped-ahead {rest} {count} skipped room =
-    subst (λ (s : Progress). IsAhead s) (sym (skipped-is skipped)) (run-ahead (take count rest) room)
+    subst (λ (s : Progress). IsAhead s) (sym skipped.is) (run-ahead (take count rest) room)
 
 -- a longer header changes no count and no place of slices
-header-places : (latest : Option Code) (t : Tally) (xs : List ℕ)
-    → let more = tally_with (option_map (λ c. note_all c xs) latest) t in
-    (more.slices ≡ (tally_with latest t).slices) × (more.slice ≡ (tally_with latest t).slice)
-unfolding next
-header-places None t xs = (refl, refl)
-header-places (Some c) t xs = (refl, refl)
+run-places : (s : Progress) (xs : List ℕ)
+    → ((tally_now (scan_with_run s xs)).slices ≡ (tally_now s).slices)
+    × ((tally_now (scan_with_run s xs)).slice ≡ (tally_now s).slice)
+run-places s [] = (refl, refl)
+run-places s (x ∷ xs) =
+    let rest = run-places (scan_with_byte s x) xs in
+    let same = same-noted s.latest s.tally x in (rest.0 ∙ sym same.slices, rest.1 ∙ sym same.slice)
 
 pub skipped-places : {old new : Progress} {rest : List ℕ} {count : ℕ} → HasSkipped old new rest count
     → ((tally_now new).slices ≡ (tally_now old).slices) × ((tally_now new).slice ≡ (tally_now old).slice)
 skipped-places {old} {rest} {count} skipped =
-    let places = header-places old.latest old.tally (take count rest) in (
+    let places = run-places old (take count rest) in (
       ap (λ (s : Progress). (tally_now s).slices) skipped.is ∙ places.0,
       ap (λ (s : Progress). (tally_now s).slice) skipped.is ∙ places.1,
     )
@@ -306,3 +309,78 @@ end-ready Ready s t is some awaits =
     let slices : t.slices ≡ (tally_now s).slices = ap (λ (v : Tally). v.slices) is in
     let slice : t.slice ≡ (tally_now s).slice = ap (λ (v : Tally). v.slice) is in
     subst (λ p. Ready p) (sym slice) (awaits (omega (arith, slices, some)))
+
+-- ---- a slice after a slice
+
+slice-not_head : (value : ℕ) → is_slice value ≡ true → is_head value ≡ false
+slice-not_head value slice =
+    let range = slice-value value slice in
+    let picture : eqb value 0 ≡ false = ne_eqb value 0 (λ is. absurd (omega (arith, range.0))) in
+    let sequence : eqb value 0xb3 ≡ false = ne_eqb value 0xb3 (λ is. absurd (omega (arith, range.1))) in
+    let group : eqb value 0xb8 ≡ false = ne_eqb value 0xb8 (λ is. absurd (omega (arith, range.1))) in
+    ap (λ b. b || (eqb value 0xb3 || eqb value 0xb8)) picture ∙ (ap (λ b. b || eqb value 0xb8) sequence ∙ group)
+
+value-accepted : (t : Tally) (place value : ℕ) → t.begun ≡ true → is_slice value ≡ true
+    → value_fault t place value ≡ None
+value-accepted t place value begun slice =
+    let range = slice-value value slice in
+    let system : leb 0xb9 value ≡ false = lt-leb 0xb9 value (omega (arith, range.1)) in
+    let extension : eqb value 0xb5 ≡ false = ne_eqb value 0xb5 (λ is. absurd (omega (arith, range.1))) in
+    let first = cond (not t.begun && not (eqb value 0xb3)) (Some NoSequence) None in
+    cond-false (leb 0xb9 value) (Some (SystemCode place)) (cond (eqb value 0xb5) (Some (Mpeg2 place)) first) system
+    ∙ (cond-false (eqb value 0xb5) (Some (Mpeg2 place)) first extension
+    ∙ ap (λ b. cond (not b && not (eqb value 0xb3)) (Some NoSequence) None) begun)
+
+second-accepted : (t : Tally) (value : ℕ) → is_slice value ≡ true → second_fault t value ≡ None
+second-accepted t value slice =
+    ap (λ b. cond (b && eqb t.slices 0) (option_map left_without_slices t.picture) None) (slice-not_head value slice)
+
+and-false : (a b : Bool) → b ≡ false → (a && b) ≡ false
+and-false true b e = e
+and-false false b e = refl
+
+first-accepted : (t : Tally) (place value : ℕ) → 0 < t.slices → first_slice_fault t place value ≡ None
+first-accepted t place value some =
+    let none : eqb t.slices 0 ≡ false = ne_eqb t.slices 0 (λ is. absurd (omega (arith, some))) in
+    cond-false (is_slice value && eqb t.slices 0) (head_fault t place t.picture) None
+    (and-false (is_slice value) (eqb t.slices 0) none)
+
+count-none : (t : Tally) (place value : ℕ) → is_slice value ≡ true → count_fault t place value ≡ None
+count-none t place value slice =
+    let range = slice-value value slice in
+    let picture : eqb value 0 ≡ false = ne_eqb value 0 (λ is. absurd (omega (arith, range.0))) in
+    ap (λ b. cond b (cond (leb 1024 (t.pictures - t.before_group)) (Some (GroupTooLong place))
+    (cond (leb 4194304 t.pictures) (Some TooLong) None)) None) picture
+
+slice-accepted : (t : Tally) (place value : ℕ) → t.begun ≡ true → 0 < t.slices → is_slice value ≡ true
+    → code_fault t place value ≡ None
+slice-accepted t place value begun some slice =
+    let first = first_slice_fault t place value in
+    let count = count_fault t place value in
+    ap (λ o. first_refusal o (first_refusal (second_fault t value) (first_refusal first count)))
+    (value-accepted t place value begun slice)
+    ∙ (ap (λ o. first_refusal o (first_refusal first count)) (second-accepted t value slice)
+    ∙ (ap (λ o. first_refusal o count) (first-accepted t place value some) ∙ count-none t place value slice))
+
+header-accepted : (rate : Option ℕ) (c : Code) (end : ℕ) → is_slice c.value ≡ true → header_fault rate c end ≡ None
+header-accepted rate c end slice =
+    let range = slice-value c.value slice in
+    let picture : eqb c.value 0 ≡ false = ne_eqb c.value 0 (λ is. absurd (omega (arith, range.0))) in
+    let sequence : eqb c.value 0xb3 ≡ false = ne_eqb c.value 0xb3 (λ is. absurd (omega (arith, range.1))) in
+    let group : eqb c.value 0xb8 ≡ false = ne_eqb c.value 0xb8 (λ is. absurd (omega (arith, range.1))) in
+    cond-false (eqb c.value 0xb3) _ _ sequence
+    ∙ (cond-false (eqb c.value 0xb8) _ _ group ∙ cond-false (eqb c.value 0) _ _ picture)
+
+slices-more : (h s : Bool) (n : ℕ) → h ≡ false → s ≡ true → 0 < cond h 0 (cond s (n + 1) n)
+slices-more true s n head slice = absurd (true≢false head)
+slices-more false true n head slice = omega arith
+slices-more false false n head slice = absurd (false≢true slice)
+
+-- it is judged without fault
+pub slices-judged : (c : Code) (t : Tally) (place value : ℕ) → is_slice c.value ≡ true → is_slice value ≡ true
+    → code_judgement (Some c) t place value ≡ None
+unfolding code_judgement next
+slices-judged c t place value latest slice =
+    let some = slices-more (is_head c.value) (is_slice c.value) t.slices (slice-not_head c.value latest) latest in
+    ap (λ o. first_refusal o (code_fault (next t c) place value)) (header-accepted t.rate c place latest)
+    ∙ slice-accepted (next t c) place value refl some slice

@@ -1,4 +1,4 @@
--- A byte more, and a code more: what the scanner keeps stays what the bytes say.
+-- After one more byte, and one more code, the scanner's state still matches the bytes.
 use Rattle.std.proofs.Common.{ℕ, Bool, true, false, cond, eqb, ltb, leb, ◌+◌, ◌-◌, ◌^◌, ◌<◌, ◌≤◌}
 use Rattle.std.proofs.Common.{◌≡◌, List, [], ◌∷◌, ◌++◌, Option, Some, None, length, sym, ◌∙◌, ap}
 use Rattle.std.proofs.Common.{refl, subst, arith}
@@ -216,7 +216,7 @@ pub calls-cons : (c : Code) (past : List Code)
 unfolding calls_of
 calls-cons c past = refl
 
--- what is told at a byte
+-- what is reported at a byte
 pub calls-plain : (x : ℕ) (r : List ℕ) → is_whole (latest_prefix r) ≡ false
     → calls_of (codes_of (x ∷ r)) ≡ calls_of (codes_of r)
 calls-plain x r plain = ap calls_of (codes-plain x r plain) ∙ calls-note (codes_of r) x

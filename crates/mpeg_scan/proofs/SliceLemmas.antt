@@ -21,7 +21,7 @@ use Rattle.mpeg_scan.proofs.PartTilingLemmas.{calls-nil, ends_at}
 use Rattle.mpeg_scan.proofs.FilmLemmas.{slices_in-append}
 use Rattle.mpeg_scan.proofs.CodePlaceLemmas.{codes-stand}
 
--- the slice that no call has told of yet, where the latest unit has so many
+-- the slice that no call has reported yet, where the latest unit has so many
 abbrev pending : ℕ → ℕ → List ℕ
 pending n place = cond (eqb n 0) [] (place ∷ [])
 

@@ -65,7 +65,7 @@ part-fits true p calls to e = (refl, e)
 part-fits false p [] to e = cc
 part-fits false p (call ∷ calls) to e = cc
 
--- the parts come to their end from the front
+-- the parts end, from the first on
 place_of : Part → ℕ
 place_of (between at) = at
 place_of (within from head_end at n) = at

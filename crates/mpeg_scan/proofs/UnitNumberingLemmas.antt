@@ -1,4 +1,4 @@
--- The units that are told of are numbered as they come.
+-- The reported units are numbered in their order.
 use Rattle.std.proofs.Common.{ℕ, suc, zero, Bool, true, false, not, cond, eqb, ltb, ◌&&◌, ◌||◌, ◌+◌}
 use Rattle.std.proofs.Common.{◌-◌, ◌<◌, ◌≤◌, ◌≡◌, List, [], ◌∷◌, ◌++◌, Option, Some, None, length}
 use Rattle.std.proofs.Common.{sym, ◌∙◌, ap, refl, subst, arith}
@@ -412,7 +412,7 @@ calls-counted c (d ∷ past) accepted =
       agrees = more.agrees;
     }
 
--- the count after all that is told of a film has a unit for each picture
+-- after all reports of a film the count has a unit for each picture
 pub record WholeCount (past : List Code) (end : ℕ) : Type 0 where
   pub last : Count
   pub counted : counts_after (Some no_count) (calls_of past ++ unit_end (tally_of past) end) ≡ Some last

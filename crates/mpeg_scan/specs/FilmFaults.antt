@@ -1,8 +1,11 @@
 -- The twelve refusals of a film, in their order: each start code is judged in turn, and the end
 -- last.
-use Rattle.std.specs.Prelude.{ℕ, ◌-◌, ◌^◌, ◌==◌, ◌&&◌, ◌||◌, Bool, false, not, List, [], ◌∷◌}
+use Rattle.std.specs.Prelude.{ℕ, ◌-◌, ◌==◌, ◌&&◌, ◌||◌, Bool, false, not, List, [], ◌∷◌}
 use Rattle.std.specs.Prelude.{Option, Some, None}
 use Rattle.std.specs.Prelude.{if◌then◌else◌, length, nat_lt, nat_le, option_map}
+use Rattle.mpeg_scan.specs.declared.units.TheConstants.{MAX_FILM_BYTES, MAX_GROUP_PICTURES}
+use Rattle.mpeg_scan.specs.declared.units.TheConstants.{MAX_UNIT_HEAD_BYTES}
+use Rattle.vod_base.specs.declared.limits.TheConstants.{MAX_FILM_PICTURES}
 use Rattle.mpeg_scan.specs.declared.codes.Code.{Code}
 use Rattle.mpeg_scan.specs.declared.faults.FilmFault.{FilmFault}
 use Rattle.mpeg_scan.specs.declared.faults.FilmFault.TheVariants.{Empty, NoSequence, SystemCode}
@@ -72,7 +75,7 @@ second_fault t value =
 abbrev pub head_fault : Tally → ℕ → Option Header → Option FilmFault
 head_fault t place None = Some (HeadWithoutPicture t.unit)
 head_fault t place (Some p) =
-    if nat_lt 1380 (place - t.unit) then Some (HeadTooLong t.unit) else None
+    if nat_lt MAX_UNIT_HEAD_BYTES (place - t.unit) then Some (HeadTooLong t.unit) else None
 
 abbrev pub first_slice_fault : Tally → ℕ → ℕ → Option FilmFault
 first_slice_fault t place value =
@@ -81,8 +84,9 @@ first_slice_fault t place value =
 -- a picture: at most 1,024 in a group, and 4,194,304 in the film
 abbrev pub count_fault : Tally → ℕ → ℕ → Option FilmFault
 count_fault t place value =
-    if value == 0 then (if nat_le 1024 (t.pictures - t.before_group) then Some (GroupTooLong place)
-    else (if nat_le 4194304 t.pictures then Some TooLong else None))
+    if value == 0
+    then (if nat_le MAX_GROUP_PICTURES (t.pictures - t.before_group) then Some (GroupTooLong place)
+    else (if nat_le MAX_FILM_PICTURES t.pictures then Some TooLong else None))
     else None
 
 -- these four at a code after the codes of a tally
@@ -120,5 +124,5 @@ end_fault past end = first_refusal (latest_fault past end) (last_fault (tally_of
 unfoldable pub refusal_of : List ℕ → Option FilmFault
 refusal_of r =
     if length r == 0 then Some Empty
-    else (if nat_lt (2 ^ 40) (length r) then Some TooLong
+    else (if nat_lt MAX_FILM_BYTES (length r) then Some TooLong
     else first_refusal (first_fault (codes_of r)) (end_fault (codes_of r) (length r)))

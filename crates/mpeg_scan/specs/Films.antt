@@ -1,4 +1,4 @@
--- A film as a whole: its units and the places of its slices.
+-- A complete film: its units and the places of its slices.
 use Rattle.std.specs.Prelude.{ℕ, ◌≡◌, List, [], ◌∷◌, Option, None}
 use Rattle.mpeg_scan.specs.declared.faults.FilmFault.{FilmFault}
 use Rattle.mpeg_scan.specs.declared.units.Unit.{Unit as PictureUnit}

@@ -1,6 +1,7 @@
 -- How the units and slices of a film lie in its bytes.
 use Rattle.std.specs.Prelude.{ℕ, ◌+◌, ◌%◌, ◌<◌, ◌≤◌, ◌≡◌, List, [], ◌∷◌, length, take, drop}
 use Rattle.std.specs.Prelude.{slice_get, slice_index, Some}
+use Rattle.mpeg_scan.specs.declared.units.TheConstants.{MAX_UNIT_HEAD_BYTES}
 use Rattle.mpeg_scan.specs.declared.units.Unit.{Unit as PictureUnit}
 use Rattle.mpeg_scan.specs.CodePlaces.{IsCodeAt}
 
@@ -28,7 +29,7 @@ AreInOrder at (start ∷ starts) to =
 pub record IsLaid (slice_starts : List ℕ) (unit : PictureUnit) : Type 0 where
   pub fits : unit.first_slice + unit.slices ≤ length slice_starts
   pub head : unit.from < unit.head_end
-  pub short : unit.head_end ≤ unit.from + 1380
+  pub short : unit.head_end ≤ unit.from + MAX_UNIT_HEAD_BYTES
   pub some : 0 < unit.slices
   pub in_order : AreInOrder unit.head_end (unit_starts slice_starts unit) unit.to
 

@@ -2,6 +2,7 @@
 -- and each unit begins where the one before it ends.
 use Rattle.std.specs.Prelude.{ℕ, ◌≡◌, ◌+◌, ◌-◌, ◌==◌, ◌&&◌, List, [], ◌∷◌, Option, Some, None}
 use Rattle.std.specs.Prelude.{if◌then◌else◌, length, nat_le, nat_lt}
+use Rattle.mpeg_scan.specs.declared.units.TheConstants.{MAX_UNIT_HEAD_BYTES}
 use Rattle.mpeg_scan.specs.declared.codes.Code.{Code}
 use Rattle.mpeg_scan.specs.StartCodes.{codes_of}
 use Rattle.mpeg_scan.specs.Calls.{Call, head_call, slice_call, unit_call}
@@ -16,7 +17,7 @@ pub data Part : Type 0 where
 -- slices, which are at least one
 abbrev pub next_part : Part → Call → Option Part
 next_part (between at) (head_call from to) =
-    if from == at && (nat_lt from to && nat_le (to - from) 1380)
+    if from == at && (nat_lt from to && nat_le (to - from) MAX_UNIT_HEAD_BYTES)
     then Some (within from to to 0) else None
 next_part (between at) (slice_call from to) = None
 next_part (between at) (unit_call unit) = None

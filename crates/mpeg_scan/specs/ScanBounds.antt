@@ -3,6 +3,7 @@
 -- have room for that code.
 use Rattle.std.specs.Prelude.{ℕ, ◌+◌, ◌-◌, ◌<◌, ◌≤◌, ◌≡◌, true, if◌then◌else◌, IsSome, Option}
 use Rattle.std.specs.Option.{ForSome}
+use Rattle.vod_base.specs.declared.limits.TheConstants.{MAX_FILM_PICTURES}
 use Rattle.mpeg_scan.specs.declared.codes.Code.{Code}
 use Rattle.mpeg_scan.specs.declared.codes.Prefix.{Prefix}
 use Rattle.mpeg_scan.specs.declared.codes.Prefix.TheVariants.{Nothing, Zero, Zeros, Whole}
@@ -20,7 +21,7 @@ prefix_length Whole = 3
 
 -- the counts of codes that aren't refused, before a place
 pub record HasCounts (t : Tally) (place : ℕ) : Type 0 where
-  pub pictures : t.pictures ≤ 4194304
+  pub pictures : t.pictures ≤ MAX_FILM_PICTURES
   pub group : t.before_group ≤ t.pictures
   pub slices : t.slices ≤ t.all_slices
   pub all : t.all_slices ≤ place

@@ -1,5 +1,5 @@
 -- A scanner that was fed some bytes, which are given the latest first.
-use Rattle.std.specs.Prelude.{ℕ, ◌+◌, ◌<◌, ◌≡◌, List, [], ◌++◌, Option, Some, None}
+use Rattle.std.specs.Prelude.{ℕ, ◌+◌, ◌<◌, ◌≡◌, List, [], ◌∷◌, ◌++◌, Option, Some, None, false}
 use Rattle.std.specs.Prelude.{length, option_map, take}
 use Rattle.mpeg_scan.specs.declared.codes.Code.{Code}
 use Rattle.mpeg_scan.specs.declared.faults.FilmFault.{FilmFault}
@@ -8,7 +8,8 @@ use Rattle.mpeg_scan.specs.declared.progress.Progress.{Progress}
 use Rattle.mpeg_scan.specs.declared.scanner.Scanner.{Scanner}
 use Rattle.mpeg_scan.specs.Calls.{Call, calls_of}
 use Rattle.mpeg_scan.specs.HeaderBytes.{header_with_all}
-use Rattle.mpeg_scan.specs.StartCodes.{latest_prefix, next_prefix, note, codes_of, read_after}
+use Rattle.mpeg_scan.specs.StartCodes.{latest_prefix, next_prefix, is_whole, note, codes_of}
+use Rattle.mpeg_scan.specs.StartCodes.{read_after}
 use Rattle.mpeg_scan.specs.CodeFacts.{tally_of}
 use Rattle.mpeg_scan.specs.FilmFaults.{first_fault}
 use Rattle.mpeg_scan.specs.CodeSteps.{latest_of, older_of, tally_with}
@@ -78,3 +79,18 @@ note_all c bytes = record c { header = header_with_all c.header bytes }
 -- those of the latest code
 abbrev pub with_header_bytes : Progress → List ℕ → Progress
 with_header_bytes s bytes = record s { latest = option_map (λ c. note_all c bytes) s.latest }
+
+-- bytes that aren't the value of a code, one after another
+abbrev pub scan_with_run : Progress → List ℕ → Progress
+scan_with_run s [] = s
+scan_with_run s (x ∷ xs) = scan_with_run (scan_with_byte s x) xs
+
+-- before none of these bytes the prefix is complete, so that none of them is the value of a code
+abbrev pub IsQuiet : Progress → List ℕ → Type 0
+IsQuiet s [] = Unit {0}
+IsQuiet s (x ∷ xs) = (is_whole s.prefix ≡ false) × IsQuiet (scan_with_byte s x) xs
+
+-- the first bytes of `rest` were read, and none of them is the value of a code
+pub record HasSkipped (old new : Progress) (rest : List ℕ) (count : ℕ) : Type 0 where
+  pub quiet : IsQuiet old (take count rest)
+  pub is : new ≡ scan_with_run old (take count rest)

@@ -1,10 +1,13 @@
 -- The refusals of a film in the terms of ISO/IEC 11172-2, over the start codes that stand in its
--- bytes, and these bytes. Each start code is judged in its turn, and the film's end last: a refusal
+-- bytes, and these bytes. Each start code is judged in order, and the film's end last: a refusal
 -- speaks of the codes before a place `at`, where the code stands that is judged, or the film ends.
 -- A word takes `Has`: that a code of a value stands at a place.
-use Rattle.std.specs.Prelude.{ℕ, ◌+◌, ◌%◌, ◌^◌, ◌==◌, ◌<◌, ◌≤◌, ◌≡◌, ◌⊎◌, ◌||◌, Bool, List}
+use Rattle.std.specs.Prelude.{ℕ, ◌+◌, ◌%◌, ◌==◌, ◌<◌, ◌≤◌, ◌≡◌, ◌⊎◌, ◌||◌, Bool, List}
 use Rattle.std.specs.Prelude.{length, if◌then◌else◌}
 use Rattle.std.specs.Prelude.{slice_index}
+use Rattle.mpeg_scan.specs.declared.units.TheConstants.{MAX_FILM_BYTES, MAX_GROUP_PICTURES}
+use Rattle.mpeg_scan.specs.declared.units.TheConstants.{MAX_UNIT_HEAD_BYTES}
+use Rattle.vod_base.specs.declared.limits.TheConstants.{MAX_FILM_PICTURES}
 use Rattle.mpeg_scan.specs.declared.faults.FilmFault.{FilmFault}
 use Rattle.mpeg_scan.specs.declared.faults.FilmFault.TheVariants.{Empty, NoSequence, SystemCode}
 use Rattle.mpeg_scan.specs.declared.faults.FilmFault.TheVariants.{Mpeg2, ShortHeader, BadRate}
@@ -165,7 +168,7 @@ pub record LacksPicture (Has : ℕ → ℕ → Type 0) (at : ℕ) (f : FilmFault
 pub record IsLongHead (Has : ℕ → ℕ → Type 0) (at : ℕ) (f : FilmFault) : Type 0 where
   pub unit : ℕ
   pub open_head : IsOpenHead Has unit at
-  pub long : unit + 1380 < at
+  pub long : unit + MAX_UNIT_HEAD_BYTES < at
   pub is : f ≡ HeadTooLong unit
 
 abbrev pub SliceRefusal : (ℕ → ℕ → Type 0) → ℕ → FilmFault → Type 0
@@ -177,13 +180,13 @@ SliceRefusal Has at f =
 -- 1,024 pictures stand before, and no group header after the first of them
 pub record IsLongGroup (Has : ℕ → ℕ → Type 0) (at : ℕ) (f : FilmFault) : Type 0 where
   pub from : ℕ
-  pub pictures : HasPictures Has from at 1024
+  pub pictures : HasPictures Has from at MAX_GROUP_PICTURES
   pub none : NoneIn Has from at IsGroup
   pub is : f ≡ GroupTooLong at
 
 -- 4,194,304 pictures stand before
 abbrev pub IsLongFilm : (ℕ → ℕ → Type 0) → ℕ → FilmFault → Type 0
-IsLongFilm Has at f = HasPictures Has 0 at 4194304 × (f ≡ TooLong)
+IsLongFilm Has at f = HasPictures Has 0 at MAX_FILM_PICTURES × (f ≡ TooLong)
 
 abbrev pub CountRefusal : (ℕ → ℕ → Type 0) → ℕ → FilmFault → Type 0
 CountRefusal Has at f = Has at 0 × Otherwise (IsLongGroup Has at) (IsLongFilm Has at) f
@@ -218,7 +221,7 @@ abbrev pub IsEmptyFilm : List ℕ → FilmFault → Type 0
 IsEmptyFilm bytes f = (length bytes ≡ 0) × (f ≡ Empty)
 
 abbrev pub IsLargeFilm : List ℕ → FilmFault → Type 0
-IsLargeFilm bytes f = (2 ^ 40 < length bytes) × (f ≡ TooLong)
+IsLargeFilm bytes f = (MAX_FILM_BYTES < length bytes) × (f ≡ TooLong)
 
 -- the refusal of a film: that of its size, else that of its first code which is refused, else that
 -- of its end

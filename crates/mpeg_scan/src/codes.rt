@@ -1,6 +1,6 @@
 //! Start codes, found byte by byte.
 
-ghost use Rattle.std.specs.Prelude.{◌≡◌, ◌↔◌, IsTrue};
+ghost use Rattle.std.specs.Prelude.{◌≡◌};
 ghost use Rattle.mpeg_scan.specs.StartCodes.{is_whole, next_prefix};
 
 use crate::header_bytes::HeaderBytes;
@@ -41,13 +41,6 @@ impl Prefix {
         ensures { result ≡ is_whole self }
     {
         matches!(self, Prefix::Whole)
-    }
-
-    /// Whether nothing of the prefix stands there.
-    pub fn is_nothing(self) -> bool
-        ensures { IsTrue result ↔ self ≡ Prefix.Nothing }
-    {
-        matches!(self, Prefix::Nothing)
     }
 }
 

@@ -57,6 +57,11 @@ impl HeaderBytes {
     pub(crate) fn note_all(&mut self, bytes: &[u8])
         ensures { self.new ≡ header_with_all self.old bytes.now }
     {
+        if self.len == 0 && bytes.len() >= usize::from(LONGEST) {
+            self.bytes = [bytes[0], bytes[1], bytes[2], bytes[3], bytes[4]];
+            self.len = LONGEST;
+            return;
+        }
         let mut at = 0;
         while at < bytes.len() && !self.is_full() {
             self.note(bytes[at]);

@@ -20,6 +20,8 @@ ghost use Rattle.mpeg_scan.specs.CodeFacts.{picture_count};
 
 use crate::faults::FilmFault;
 use crate::films::Film;
+use crate::units::MAX_FILM_BYTES;
+use vod_base::MAX_FILM_PICTURES;
 
 /// What is true of every film: its rate code is one of the eight of ISO/IEC 11172-2, 2.4.3.2; it
 /// has at most 2^40 bytes and 4,194,304 units, one for each of its pictures; its start codes stand
@@ -27,8 +29,8 @@ use crate::films::Film;
 pub fn law_film_is_well_formed(film: &Film)
     ensures slowest { 1 ≤ film.now.rate }
     ensures fastest { film.now.rate ≤ 8 }
-    ensures bytes { length film.now.bytes.items ≤ 2 ^ 40 }
-    ensures units { length film.now.units.items ≤ 4194304 }
+    ensures bytes { length film.now.bytes.items ≤ MAX_FILM_BYTES }
+    ensures units { length film.now.units.items ≤ MAX_FILM_PICTURES }
     ensures pictures { length film.now.units.items ≡
         picture_count (codes_of (read_after [] film.now.bytes.items)) }
     ensures grammatical { IsGrammatical (read_after [] film.now.bytes.items) }
@@ -59,9 +61,9 @@ pub fn law_units_tile_the_film(film: &Film)
 /// What is refused stays refused: a refusal at a start code of the bytes so far is that of the
 /// film, whatever comes later; and so is that of bytes which are too many.
 pub fn law_early_refusal_is_final()
-    ensures code { (front rest : List ℕ) (f : FilmFault) → length (front ++ rest) ≤ 2 ^ 40
+    ensures code { (front rest : List ℕ) (f : FilmFault) → length (front ++ rest) ≤ MAX_FILM_BYTES
         → first_fault (codes_of (read_after [] front)) ≡ Some f → refusal (front ++ rest) ≡ Some f }
-    ensures long { (bytes : List ℕ) → 2 ^ 40 < length bytes
+    ensures long { (bytes : List ℕ) → MAX_FILM_BYTES < length bytes
         → refusal bytes ≡ Some FilmFault.TooLong }
 {}
 

@@ -12,13 +12,13 @@ ghost use Rattle.mpeg_scan.specs.ScanBounds.{IsAhead};
 ghost use Rattle.mpeg_scan.specs.CodeSteps.{judgement, last_judgement, latest_header_fault};
 ghost use Rattle.mpeg_scan.specs.CodeSteps.{tally_now};
 ghost use Rattle.mpeg_scan.specs.CodeFacts.{tally_of};
-ghost use Rattle.mpeg_scan.specs.ScannerState.{HasReadBytes, IsRefusedInChunk, scan_with_code};
-ghost use Rattle.mpeg_scan.specs.ScannerState.{scan_with_byte, with_header_bytes};
+ghost use Rattle.mpeg_scan.specs.ScannerState.{HasReadBytes, HasSkipped, IsRefusedInChunk};
+ghost use Rattle.mpeg_scan.specs.ScannerState.{scan_with_byte, scan_with_code, with_header_bytes};
 
 use crate::codes::{Code, Prefix};
 use crate::faults::{FilmFault, ScanRefused, code_fault, header_fault, last_fault};
 use crate::header_bytes::HeaderBytes;
-use crate::tallies::Tally;
+use crate::tallies::{Tally, is_slice};
 use crate::units::MAX_FILM_BYTES;
 use crate::visitor::{Found, tell};
 use memchr::memchr;
@@ -99,7 +99,7 @@ impl Progress {
     #[tactic(auto, unfolding(crate::specs::CodeSteps::code_judgement))]
     fn judge(&mut self, place: u64, value: u8) -> Result<(), FilmFault>
         requires room { HasRoomWith self.old.latest self.old.tally place }
-        requires within { place ≤ 2 ^ 40 }
+        requires within { place ≤ MAX_FILM_BYTES }
         ensures judged { MatchResult result
             (λ _. (judgement self.old place value ≡ None)
             × (self.new.tally ≡ tally_now self.old))
@@ -107,7 +107,14 @@ impl Progress {
         ensures fed { self.new.fed ≡ self.old.fed }
         ensures prefix { self.new.prefix ≡ self.old.prefix }
     {
-        // only the next code shows whether the header before it is complete
+        // Most codes are slices that follow a slice. None of them is refused.
+        if let Some(code) = &self.latest {
+            if is_slice(code.value) && is_slice(value) {
+                self.tally.add(code);
+                return Ok(());
+            }
+        }
+        // Only the next code shows whether the header before it is complete.
         if let Some(fault) = self.header_fault(place) {
             return Err(fault);
         }
@@ -126,7 +133,7 @@ impl Progress {
         found: &mut F,
     ) -> Result<(), ScanRefused>
         requires room { HasRoomWith self.old.latest self.old.tally place }
-        requires within { place ≤ 2 ^ 40 }
+        requires within { place ≤ MAX_FILM_BYTES }
         requires ready { AwaitsSlice (F.ready_at found.old) (tally_now self.old) }
         ensures taken { OnOk result ((judgement self.old place value ≡ None)
             × (self.new ≡ scan_with_code self.old place value)) }
@@ -152,7 +159,7 @@ impl Progress {
 
     /// Takes a byte.
     fn take_byte<F: Found>(&mut self, byte: u8, found: &mut F) -> Result<(), ScanRefused>
-        requires short { self.old.fed < 2 ^ 40 }
+        requires short { self.old.fed < MAX_FILM_BYTES }
         requires room { IsAhead self.old }
         requires ready { AwaitsSlice (F.ready_at found.old) (tally_now self.old) }
         ensures kept { OnOk result ((r : List ℕ) → HasReadBytes self.old r →
@@ -190,29 +197,41 @@ impl Progress {
         }
     }
 
-    /// Reads the first bytes of `rest`, up to its first zero byte, and returns how many:
-    /// none where a part of a prefix stands at the end. No code ends in them, so they are of the
-    /// latest header or are passed over.
+    /// Reads the prefix 00 00 01, if `rest` begins with it. Returns how many bytes were read: 3 or
+    /// none.
+    fn take_prefix(&mut self, rest: &[u8]) -> usize
+        requires few { self.old.fed + length rest.now < 2 ^ 41 }
+        requires none { self.old.prefix ≡ Prefix.Nothing }
+        ensures bound { result ≤ length rest.now }
+        ensures skipped { HasSkipped self.old self.new rest.now result }
+        ensures fed { self.new.fed ≡ self.old.fed + result }
+    {
+        if rest.len() < 3 || rest[0] != 0 || rest[1] != 0 || rest[2] != 1 {
+            return 0;
+        }
+        self.note_header(&rest[..3]);
+        self.prefix = Prefix::Whole;
+        self.fed += 3;
+        3
+    }
+
+    /// Reads the first bytes of `rest`: those before its first zero byte, and a prefix that begins
+    /// there. Returns how many: none where a part of a prefix stands at the end. No code ends in
+    /// them, so they are of the latest header or are passed over.
     fn skip(&mut self, rest: &[u8]) -> usize
         requires { self.old.fed + length rest.now < 2 ^ 41 }
         ensures bound { result ≤ length rest.now }
-        ensures kept { (r : List ℕ) → HasReadBytes self.old r →
-            HasReadBytes self.new (read_after r (take result rest.now)) }
-        ensures quiet { (r : List ℕ) → HasReadBytes self.old r →
-            calls_of (codes_of (read_after r (take result rest.now))) ≡ calls_of (codes_of r) }
+        ensures skipped { HasSkipped self.old self.new rest.now result }
         ensures fed { self.new.fed ≡ self.old.fed + result }
-        ensures room { IsAhead self.old → IsAhead self.new }
-        ensures slices { (tally_now self.new).slices ≡ (tally_now self.old).slices }
-        ensures slice { (tally_now self.new).slice ≡ (tally_now self.old).slice }
     {
-        if !self.prefix.is_nothing() {
+        let Prefix::Nothing = self.prefix else {
             return 0;
-        }
+        };
         // A code's prefix begins with a zero byte, so no code can begin before one.
         let count = run_before_zero(rest);
         self.note_header(&rest[..count]);
         self.fed += count as u64;
-        count
+        count + self.take_prefix(&rest[count..])
     }
 
     /// Takes bytes, until one is refused.
@@ -221,7 +240,7 @@ impl Progress {
         chunk: &[u8],
         found: &mut F,
     ) -> Result<(), ScanRefused>
-        requires short { self.old.fed + length chunk.now ≤ 2 ^ 40 }
+        requires short { self.old.fed + length chunk.now ≤ MAX_FILM_BYTES }
         requires room { IsAhead self.old }
         requires ready { AwaitsSlice (F.ready_at found.old) (tally_now self.old) }
         ensures kept { OnOk result ((r : List ℕ) → HasReadBytes self.old r →
@@ -257,7 +276,7 @@ impl Progress {
     #[tactic(auto, unfolding(crate::specs::CodeSteps::end_judgement))]
     fn judge_end(&self) -> Result<Tally, FilmFault>
         requires room { HasRoomWith self.now.latest self.now.tally self.now.fed }
-        requires within { self.now.fed ≤ 2 ^ 40 }
+        requires within { self.now.fed ≤ MAX_FILM_BYTES }
         ensures { MatchResult result
             (λ t. (last_judgement self.now ≡ None) × (t ≡ tally_now self.now))
             (λ f. last_judgement self.now ≡ Some f) }
@@ -278,7 +297,7 @@ impl Progress {
         ensures tally { IfOk result (λ t. t ≡ tally_now self.now) }
         ensures sliced { IfOk result (λ t. 0 < t.slices) }
         ensures rated { IfOk result (λ t. IsSome t.rate) }
-        ensures short { OnOk result (self.now.fed ≤ 2 ^ 40) }
+        ensures short { OnOk result (self.now.fed ≤ MAX_FILM_BYTES) }
         ensures accepted { IfOk result (λ t. (r : List ℕ) → HasReadBytes self.now r →
             (refusal_of r ≡ None) × (t ≡ tally_of (codes_of r))) }
         ensures fault { IfErr result (λ f. (r : List ℕ) → HasReadBytes self.now r →

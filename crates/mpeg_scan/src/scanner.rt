@@ -6,6 +6,7 @@ ghost use Rattle.mpeg_scan.specs.ScanBounds.{IsAhead};
 
 use crate::faults::ScanRefused;
 use crate::progress::Progress;
+use crate::units::MAX_FILM_BYTES;
 use crate::visitor::{Found, tell_unit};
 
 /// Reads a film once from its first byte, in chunks, and keeps none of it: it reports each part to
@@ -18,7 +19,7 @@ pub struct Scanner {
 }
 
 impl Scanner {
-    ghost use Rattle.std.specs.Prelude.{◌+◌, ◌^◌, ◌≤◌, ◌++◌, ℕ, List, [], Some, Err, IfOk, OnOk};
+    ghost use Rattle.std.specs.Prelude.{◌+◌, ◌≤◌, ◌++◌, ℕ, List, [], Some, Err, IfOk, OnOk};
     ghost use Rattle.std.specs.Prelude.{length};
     ghost use Rattle.mpeg_scan.specs.Calls.{Call, all_calls, calls_of};
     ghost use Rattle.mpeg_scan.specs.StartCodes.{codes_of, read_after};
@@ -51,7 +52,7 @@ impl Scanner {
     /// reported; [`ScanRefused::NoMemory`] where `found` runs out of memory. Once it has answered
     /// either, it returns the same again.
     pub fn feed<F: Found>(&mut self, chunk: &[u8], found: &mut F) -> Result<(), ScanRefused>
-        requires short { bytes_fed self.old + length chunk.now ≤ 2 ^ 40 }
+        requires short { bytes_fed self.old + length chunk.now ≤ MAX_FILM_BYTES }
         requires ready { IsSliceReady (F.ready_at found.old) self.old }
         ensures kept { OnOk result ((r : List ℕ) → HasScannedBytes self.old r →
             HasScannedBytes self.new (read_after r chunk.now)) }

@@ -4,9 +4,7 @@ ghost use Rattle.std.specs.Prelude.{◌≡◌, ◌^◌, ◌≤◌, ℕ, List, []
 ghost use Rattle.mpeg_scan.specs.ScanBounds.{HasCounts};
 ghost use Rattle.mpeg_scan.specs.CodeFacts.{header_of, is_head, is_slice, rate_code, tally_of};
 ghost use Rattle.mpeg_scan.specs.CodeFacts.{type_of};
-ghost use Rattle.mpeg_scan.specs.CodeSteps.{next, next_all_slices, next_before_group};
-ghost use Rattle.mpeg_scan.specs.CodeSteps.{next_pictures};
-ghost use Rattle.mpeg_scan.specs.CodeSteps.{next_rate};
+ghost use Rattle.mpeg_scan.specs.CodeSteps.{next, next_rate};
 ghost use Rattle.mpeg_scan.specs.TallyFields.{count_of, ends_unit, new_unit, slices_with};
 ghost use Rattle.mpeg_scan.specs.TallyFields.{unit_after, unit_or_none, unit_with};
 
@@ -251,9 +249,21 @@ impl Tally {
     {
         Tally {
             rate: self.next_rate(code),
-            pictures: self.next_pictures(code),
-            before_group: self.next_before_group(code),
-            all_slices: self.next_all_slices(code),
+            pictures: if code.value == PICTURE {
+                self.pictures + 1
+            } else {
+                self.pictures
+            },
+            before_group: if code.value == GROUP {
+                self.pictures
+            } else {
+                self.before_group
+            },
+            all_slices: if is_slice(code.value) {
+                self.all_slices + 1
+            } else {
+                self.all_slices
+            },
             unit: Some(UnitTally::after(self.unit, code)),
         }
     }
@@ -281,41 +291,6 @@ impl Tally {
         match self.rate {
             None if code.value == SEQUENCE => Some(rate_code(code)),
             rate => rate,
-        }
-    }
-
-    /// The pictures of the film with one code more.
-    fn next_pictures(&self, code: &Code) -> u32
-        requires { self.now.pictures ≤ 4194304 }
-        ensures { result ≡ next_pictures self.now code.now }
-    {
-        if code.value == PICTURE {
-            self.pictures + 1
-        } else {
-            self.pictures
-        }
-    }
-
-    /// The pictures before the latest group with one code more.
-    fn next_before_group(&self, code: &Code) -> u32
-        ensures { result ≡ next_before_group self.now code.now }
-    {
-        if code.value == GROUP {
-            self.pictures
-        } else {
-            self.before_group
-        }
-    }
-
-    /// The slices of the film with one code more.
-    fn next_all_slices(&self, code: &Code) -> u64
-        requires { self.now.all_slices ≤ 2 ^ 41 }
-        ensures { result ≡ next_all_slices self.now code.now }
-    {
-        if is_slice(code.value) {
-            self.all_slices + 1
-        } else {
-            self.all_slices
         }
     }
 }

@@ -1,6 +1,6 @@
 //! Reports a film's heads, slices and units as they end.
 
-ghost use Rattle.std.specs.Prelude.{◌≡◌, ◌+◌, ◌^◌, ◌<◌, ◌≤◌, ◌++◌, ◌∷◌, ℕ, [], List, IsSome};
+ghost use Rattle.std.specs.Prelude.{◌≡◌, ◌+◌, ◌<◌, ◌≤◌, ◌++◌, ◌∷◌, ℕ, [], List, IsSome};
 ghost use Rattle.std.specs.Prelude.{OnOk, true};
 ghost use Rattle.mpeg_scan.specs.ScanBounds.{AwaitsSlice, AwaitsSliceAfter, HasRoom};
 ghost use Rattle.mpeg_scan.specs.CodeFacts.{is_slice};
@@ -8,7 +8,7 @@ ghost use Rattle.mpeg_scan.specs.Calls.{Call, calls_at, head_call, slice_call, u
 ghost use Rattle.mpeg_scan.specs.Calls.{unit_end};
 
 use crate::tallies::{Tally, is_head, is_slice};
-use crate::units::Unit;
+use crate::units::{MAX_FILM_BYTES, MAX_UNIT_HEAD_BYTES, Unit};
 use vod_base::NoMemory;
 
 /// Receives a film's parts while the film is scanned: of each unit its head, its slices in order,
@@ -26,8 +26,8 @@ pub trait Found {
     /// A head, from its unit's first start code to its first slice: 1 to 1,380 bytes.
     fn head(&mut self, from: u64, to: u64) -> Result<(), NoMemory>
         requires some { from < to }
-        requires most { to ≤ from + 1380 }
-        requires within { to ≤ 2 ^ 40 }
+        requires most { to ≤ from + MAX_UNIT_HEAD_BYTES }
+        requires within { to ≤ MAX_FILM_BYTES }
         ensures heard { OnOk result ((calls : List Call) → heard self.old calls →
             heard self.new (calls ++ head_call from to ∷ [])) }
         ensures ready { OnOk result (ready_at self.new to) };
@@ -36,7 +36,7 @@ pub trait Found {
     /// bytes, from where the head or the slice before it ended.
     fn slice(&mut self, from: u64, to: u64) -> Result<(), NoMemory>
         requires least { from + 4 ≤ to }
-        requires within { to ≤ 2 ^ 40 }
+        requires within { to ≤ MAX_FILM_BYTES }
         requires ready { ready_at self.old from }
         ensures heard { OnOk result ((calls : List Call) → heard self.old calls →
             heard self.new (calls ++ slice_call from to ∷ [])) }
@@ -54,7 +54,7 @@ pub trait Found {
 pub(crate) fn tell_unit<F: Found>(tally: &Tally, to: u64, found: &mut F) -> Result<(), NoMemory>
     requires some { 0 < tally.now.slices }
     requires room { HasRoom tally.now to }
-    requires within { to ≤ 2 ^ 40 }
+    requires within { to ≤ MAX_FILM_BYTES }
     requires ready { F.ready_at found.old tally.now.slice }
     ensures { OnOk result ((calls : List Call) → F.heard found.old calls →
         F.heard found.new (calls ++ unit_end tally.now to)) }
@@ -75,9 +75,10 @@ pub(crate) fn tell<F: Found>(
 ) -> Result<(), NoMemory>
     requires begun { is_slice value ≡ true → tally.now.begun ≡ true }
     requires head { is_slice value ≡ true → tally.now.slices ≡ 0 → tally.now.unit < place }
-    requires short { is_slice value ≡ true → tally.now.slices ≡ 0 → place ≤ tally.now.unit + 1380 }
+    requires short { is_slice value ≡ true → tally.now.slices ≡ 0 →
+        place ≤ tally.now.unit + MAX_UNIT_HEAD_BYTES }
     requires room { HasRoom tally.now place }
-    requires within { place ≤ 2 ^ 40 }
+    requires within { place ≤ MAX_FILM_BYTES }
     requires ready { AwaitsSlice (F.ready_at found.old) tally.now }
     ensures ready { OnOk result (AwaitsSliceAfter (F.ready_at found.new) tally.now place value) }
     ensures heard { OnOk result ((calls : List Call) → F.heard found.old calls →

@@ -135,7 +135,7 @@ same_list (x ∷ xs) (y ∷ ys) few few' e =
     let rest : xs ≡ ys = same_list xs ys (All-tail IsFew x xs few) (All-tail IsFew y ys few') others in
     cc
 
--- what a certificate tells: the two numbers at its head and its segments
+-- what a certificate contains: the two numbers at its head and its segments
 pub record Contents : Type 0 where
   pub slots : ℕ
   pub bytes : ℕ

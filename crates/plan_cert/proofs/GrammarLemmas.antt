@@ -1,4 +1,4 @@
--- Reading a text line by line, against its lines as a whole.
+-- Reading a text line by line, against all its lines.
 use Rattle.std.proofs.Common.{◌≡◌, ◌≢◌, ◌<◌, ◌+◌, ◌⊎◌, ℕ, true, false, not, ◌==◌, List, [], ◌∷◌, ◌++◌, All, length}
 use Rattle.std.proofs.Common.{get_or, drop, decimal, codes, flat_map, inl, inr, arith, refl, sym, ap, subst, ◌∙◌}
 use Rattle.std.proofs.Common.{ne_eqb, below_more, add-zero}
@@ -15,7 +15,7 @@ use Rattle.plan_cert.specs.CertGrammar.{Lines, with_front, lines_of, line_at, Is
 use Rattle.plan_cert.specs.CertGrammar.{MayEnd, BreaksAt, IsAfterEnd, HasReadLines}
 use Rattle.plan_cert.specs.CertGrammar.MayStand.{Title, Slots, Bytes, SegmentLine}
 
--- a text that begins with a whole line
+-- a text that begins with a complete line
 pub lines-cut : (front after : List ℕ) → All (λ b. b ≢ 10) front →
     lines_of (front ++ 10 ∷ after) ≡ record { whole = front ∷ (lines_of after).whole; rest = (lines_of after).rest }
 lines-cut [] after none = refl
@@ -29,7 +29,7 @@ lines-cut (x ∷ front) after none =
     (with_front x (lines_of (front ++ 10 ∷ after)).whole (lines_of (front ++ 10 ∷ after)).rest) other
     ∙ ap (λ ls. with_front x ls.whole ls.rest) rest
 
--- a text without LF has no whole line
+-- a text without LF has no complete line
 pub lines-none : (text : List ℕ) → All (λ b. b ≢ 10) text → lines_of text ≡ record { whole = []; rest = text }
 lines-none [] none = refl
 lines-none (x ∷ text) none =
@@ -38,7 +38,7 @@ lines-none (x ∷ text) none =
     (with_front x (lines_of text).whole (lines_of text).rest) other
     ∙ ap (λ ls. with_front x ls.whole ls.rest) (lines-none text (All-tail (λ b. b ≢ 10) x text none))
 
--- a text that isn't empty has a whole line or something after its lines
+-- a text that isn't empty has a complete line, or bytes after its lines
 pub something : (text : List ℕ) → text ≢ [] → (0 < length (lines_of text).whole) ⊎ ((lines_of text).rest ≢ [])
 something [] some = absurd (some refl)
 something (x ∷ text) some =

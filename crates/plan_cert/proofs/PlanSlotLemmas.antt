@@ -1,4 +1,4 @@
--- What is said of a plan's slots in its own words.
+-- Facts about a plan's slots.
 use Rattle.std.proofs.Common.{slice_index, ◌≡◌, ◌<◌, ◌≤◌, ◌+◌, ◌-◌, ◌*◌, ◌/◌, ◌⊎◌, inl, inr, ℕ, zero, suc, List, []}
 use Rattle.std.proofs.Common.{◌∷◌, ◌++◌, length, take, sum, arith, sym, ap, ◌∙◌, subst, zero-add}
 use Rattle.std.proofs.Math.Nat.{div-mul-le_self, lt-div-mul-add}

@@ -3,6 +3,7 @@ use Rattle.std.specs.Prelude.{ℕ, ◌≡◌, ◌≢◌, ◌+◌, ◌<◌, ◌�
 use Rattle.std.specs.Prelude.{decimal, length, All, drop, flat_map, slice_index_or, if◌then◌else◌}
 use Rattle.std.specs.Prelude.{◌==◌, true, not}
 use Rattle.std.specs.List.{list_all}
+use Rattle.plan_cert.specs.declared.cert_reader.TheConstants.{MAX_NUMBER, MAX_SEGMENTS}
 use Rattle.plan_cert.specs.declared.Segment.{Segment}
 use Rattle.plan_cert.specs.declared.cert_reader.CertRead.{CertRead}
 use Rattle.plan_cert.specs.declared.cert_reader.CertRead.TheVariants.{BadCert, NoMemory}
@@ -26,19 +27,19 @@ lines_of (byte ∷ text) =
 
 -- the word and a number up to 2^42, without leading zeros
 pub record IsNumberLine (word line : List ℕ) (n : ℕ) : Type 0 where
-  pub small : n ≤ 2 ^ 42
+  pub small : n ≤ MAX_NUMBER
   pub words : line ≡ word ++ decimal n
 
 -- a segment whose numbers are up to 2^42
 pub record IsSegmentLine (line : List ℕ) (s : Segment) : Type 0 where
-  pub few_slots : s.slots ≤ 2 ^ 42
-  pub few_bytes : s.bytes ≤ 2 ^ 42
+  pub few_slots : s.slots ≤ MAX_NUMBER
+  pub few_bytes : s.bytes ≤ MAX_NUMBER
   pub words : line ≡ segment_words s
 
 -- the two numbers of a segment, with a space between them
 pub record AreNumbers (text : List ℕ) (s : Segment) : Type 0 where
-  pub few_slots : s.slots ≤ 2 ^ 42
-  pub few_bytes : s.bytes ≤ 2 ^ 42
+  pub few_slots : s.slots ≤ MAX_NUMBER
+  pub few_bytes : s.bytes ≤ MAX_NUMBER
   pub words : text ≡ decimal s.slots ++ codes " " ++ decimal s.bytes
 
 -- what may stand in line i, counted from 0, where more lines follow
@@ -75,14 +76,14 @@ pub record IsAfterEnd (lines : Lines) (i : ℕ) : Type 0 where
 
 -- segments that a certificate can name
 pub record AreSmall (segments : List Segment) : Type 0 where
-  pub few : length segments ≤ 1000000
-  pub small : All (λ s. (s.slots ≤ 2 ^ 42) × (s.bytes ≤ 2 ^ 42)) segments
+  pub few : length segments ≤ MAX_SEGMENTS
+  pub small : All (λ s. (s.slots ≤ MAX_NUMBER) × (s.bytes ≤ MAX_NUMBER)) segments
 
 -- so are their sums
 pub record FitCertLimits (segments : List Segment) : Type 0 where
   pub small : AreSmall segments
-  pub few_slots : total_slots segments ≤ 2 ^ 42
-  pub few_bytes : total_bytes segments ≤ 2 ^ 42
+  pub few_slots : total_slots segments ≤ MAX_NUMBER
+  pub few_bytes : total_bytes segments ≤ MAX_NUMBER
 
 -- All lines are well formed, but the sums at the head aren't those of the segments: line i, from 0,
 -- is the first of the two that is wrong.
@@ -90,8 +91,8 @@ pub record HasWrongSum (text : List ℕ) (i : ℕ) : Type 0 where
   pub slots : ℕ
   pub bytes : ℕ
   pub segments : List Segment
-  pub small_slots : slots ≤ 2 ^ 42
-  pub small_bytes : bytes ≤ 2 ^ 42
+  pub small_slots : slots ≤ MAX_NUMBER
+  pub small_bytes : bytes ≤ MAX_NUMBER
   pub small : AreSmall segments
   pub text_is : text ≡ cert_head slots bytes ++ flat_map segment_line segments ++ codes "end\n"
   pub wrong : ((i ≡ 1) × (total_slots segments ≢ slots))
@@ -102,8 +103,8 @@ pub record IsCertificate (text : List ℕ) (slots bytes : ℕ) (segments : List 
   pub text_is : text ≡ cert_text segments
   pub slots_are : slots ≡ total_slots segments
   pub bytes_are : bytes ≡ total_bytes segments
-  pub small_slots : slots ≤ 2 ^ 42
-  pub small_bytes : bytes ≤ 2 ^ 42
+  pub small_slots : slots ≤ MAX_NUMBER
+  pub small_bytes : bytes ≤ MAX_NUMBER
   pub small : AreSmall segments
 
 -- line `line`, from 1, is the bad one
@@ -129,7 +130,7 @@ begun_text slots bytes segments rest =
 -- a fact of such lines: a head of two numbers and segments
 abbrev pub OfBegunTexts : (ℕ → ℕ → List Segment → Type 0) → Type 0
 OfBegunTexts Fact =
-    (slots bytes : ℕ) (segments : List Segment) → slots ≤ 2 ^ 42 → bytes ≤ 2 ^ 42
+    (slots bytes : ℕ) (segments : List Segment) → slots ≤ MAX_NUMBER → bytes ≤ MAX_NUMBER
     → AreSmall segments → Fact slots bytes segments
 
 -- k lines of the text are read and may stand there, and `rest` is left of it
@@ -141,8 +142,8 @@ pub record HasReadLines (text : List ℕ) (k : ℕ) (rest : List ℕ) : Type 0 w
 
 -- the three lines of the head are read
 pub record IsHead (text : List ℕ) (slots bytes : ℕ) (rest : List ℕ) : Type 0 where
-  pub small_slots : slots ≤ 2 ^ 42
-  pub small_bytes : bytes ≤ 2 ^ 42
+  pub small_slots : slots ≤ MAX_NUMBER
+  pub small_bytes : bytes ≤ MAX_NUMBER
   pub text_is : text ≡ cert_head slots bytes ++ rest
   pub read : HasReadLines text 3 rest
 

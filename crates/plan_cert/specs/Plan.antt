@@ -1,13 +1,14 @@
 -- What the segments of a plan keep.
-use Rattle.std.specs.Prelude.{ℕ, ◌≡◌, ◌+◌, ◌^◌, ◌<◌, ◌≤◌, List, All, take, length, slice_index_or}
+use Rattle.std.specs.Prelude.{ℕ, ◌≡◌, ◌+◌, ◌<◌, ◌≤◌, List, All, take, length, slice_index_or}
+use Rattle.vod_base.specs.declared.limits.TheConstants.{MAX_BYTES, MAX_SLOTS}
 use Rattle.plan_cert.specs.PlanSlots.{total_slots, total_bytes}
 use Rattle.plan_cert.specs.declared.Segment.{Segment}
 
 -- The segments of a plan: none is empty, and all together are small.
 pub record IsPlan (segments : List Segment) : Type 0 where
   pub no_empty : All (λ s. 1 ≤ s.slots) segments
-  pub few_slots : total_slots segments ≤ 1000000
-  pub few_bytes : total_bytes segments ≤ 2 ^ 42
+  pub few_slots : total_slots segments ≤ MAX_SLOTS
+  pub few_bytes : total_bytes segments ≤ MAX_BYTES
 
 -- Slot `slot` is slot `passed` of this segment of the list, and the segments before it have
 -- `before` bytes.

@@ -50,10 +50,10 @@ impl<T: Drop> From<AllocFailed<T>> for CertRead {
 }
 
 /// The most segments of a certificate: as many as a plan has slots, since none of its is empty.
-const MAX_SEGMENTS: u64 = MAX_SLOTS;
+pub(crate) const MAX_SEGMENTS: u64 = MAX_SLOTS;
 
 /// The greatest number of a certificate.
-const MAX_NUMBER: u64 = MAX_BYTES;
+pub(crate) const MAX_NUMBER: u64 = MAX_BYTES;
 
 /// Reads a certificate: the text that [`crate::write_cert`] gives of a plan, and of any segments
 /// with numbers up to 2^42, at most 1,000,000 of them. Such a text is read as its own segments, or
@@ -84,8 +84,8 @@ fn has_leading_zero(digits: &[u8]) -> bool
 
 /// A number up to 2^42, without leading zeros.
 fn cert_number(digits: &[u8]) -> Option<u64>
-    ensures { MatchOption result ((n : ℕ) → n ≤ 2 ^ 42 → digits.now ≢ decimal n)
-        (λ n. (n ≤ 2 ^ 42) × (digits.now ≡ decimal n)) }
+    ensures { MatchOption result ((n : ℕ) → n ≤ MAX_NUMBER → digits.now ≢ decimal n)
+        (λ n. (n ≤ MAX_NUMBER) × (digits.now ≡ decimal n)) }
 {
     if has_leading_zero(digits) {
         return None;
@@ -179,10 +179,8 @@ fn read_body(alloc: Global, text: &[u8]) -> Result<Vec<Segment>, CertRead>
 {
     let mut segments = Vec::new(alloc);
     let mut rest = text;
-    for count in 0..=MAX_SEGMENTS {
-        let Some((line, after)) = split_at_first(rest, b'\n') else {
-            return Err(CertRead::BadCert { line: count + 4 });
-        };
+    let mut count = 0;
+    while let Some((line, after)) = split_at_first(rest, b'\n') {
         if is_text(line, b"end") {
             if after.is_empty() {
                 return Ok(segments);
@@ -197,8 +195,9 @@ fn read_body(alloc: Global, text: &[u8]) -> Result<Vec<Segment>, CertRead>
         }
         segments.push(segment)?;
         rest = after;
+        count += 1;
     }
-    unreachable!()
+    Err(CertRead::BadCert { line: count + 4 })
 }
 
 /// Reads the head and the body, and compares the sums.

@@ -1,7 +1,7 @@
 //! Laws of slots, sums and texts.
 
 ghost use Rattle.std.specs.Prelude.{◌≡◌, ◌+◌, ◌-◌, ◌*◌, ◌/◌, ◌<◌, ◌≤◌, ◌⊎◌, ◌↔◌, ◌∷◌, ◌++◌, [], ℕ};
-ghost use Rattle.std.specs.Prelude.{◌≢◌, ◌^◌};
+ghost use Rattle.std.specs.Prelude.{◌≢◌};
 ghost use Rattle.std.specs.Prelude.{All, List, codes, decimal, flat_map, length, map, min, take};
 ghost use Rattle.std.specs.Prelude.{sum, sum_by, slice_index, slice_index_or};
 ghost use Rattle.plan_cert.specs.declared.Segment.{Segment};
@@ -14,6 +14,8 @@ ghost use Rattle.plan_cert.specs.CertGrammar.{FitCertLimits, IsBadLine, IsCertif
 ghost use Rattle.plan_cert.specs.CertGrammar.{OfBegunTexts, begun_text};
 ghost use Rattle.plan_cert.specs.CertFormat.{segment_words};
 ghost use Rattle.plan_cert.specs.Feasibility.{excess};
+
+use crate::cert_reader::{MAX_NUMBER, MAX_SEGMENTS};
 
 /// A plan's slots are those of its segments and add up to its bytes. A slot of a segment sends the
 /// segment's bytes over its slots, rounded down or up; what its first slots have sent is the height
@@ -78,16 +80,16 @@ pub fn law_bad_line_is_the_first()
     ensures title { (line rest : List ℕ) → IsOneLine line → line ≢ codes "smooth 1" →
         IsBadLine (line ++ 10 ∷ rest) 1 }
     ensures slots { (line rest : List ℕ) → IsOneLine line →
-        ((n : ℕ) → n ≤ 2 ^ 42 → line ≢ codes "slots " ++ decimal n) →
+        ((n : ℕ) → n ≤ MAX_NUMBER → line ≢ codes "slots " ++ decimal n) →
         IsBadLine (codes "smooth 1" ++ 10 ∷ (line ++ 10 ∷ rest)) 2 }
-    ensures bytes { (slots : ℕ) (line rest : List ℕ) → slots ≤ 2 ^ 42 → IsOneLine line →
-        ((n : ℕ) → n ≤ 2 ^ 42 → line ≢ codes "bytes " ++ decimal n) →
+    ensures bytes { (slots : ℕ) (line rest : List ℕ) → slots ≤ MAX_NUMBER → IsOneLine line →
+        ((n : ℕ) → n ≤ MAX_NUMBER → line ≢ codes "bytes " ++ decimal n) →
         IsBadLine
         (codes "smooth 1" ++ 10 ∷ ((codes "slots " ++ decimal slots) ++ 10 ∷ (line ++ 10 ∷ rest)))
         3 }
     ensures segment { OfBegunTexts (λ slots bytes segments. (line rest : List ℕ) →
-        IsOneLine line → line ≢ codes "end" → (length segments ≡ 1000000)
-        ⊎ ((s : Segment) → s.slots ≤ 2 ^ 42 → s.bytes ≤ 2 ^ 42 → line ≢ segment_words s) →
+        IsOneLine line → line ≢ codes "end" → (length segments ≡ MAX_SEGMENTS)
+        ⊎ ((s : Segment) → s.slots ≤ MAX_NUMBER → s.bytes ≤ MAX_NUMBER → line ≢ segment_words s) →
         IsBadLine (begun_text slots bytes segments (line ++ 10 ∷ rest)) (length segments + 4)) }
     ensures short { OfBegunTexts (λ slots bytes segments. (line : List ℕ) → IsOneLine line →
         IsBadLine (begun_text slots bytes segments line) (length segments + 4)) }

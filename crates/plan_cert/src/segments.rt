@@ -1,18 +1,19 @@
 //! What one segment sends, and where a slot stands among segments.
 
-ghost use Rattle.std.specs.Prelude.{◌≡◌, ◌+◌, ◌*◌, ◌/◌, ◌^◌, ◌<◌, ◌≤◌, slice_index, MatchOption};
+ghost use Rattle.std.specs.Prelude.{◌≡◌, ◌+◌, ◌*◌, ◌/◌, ◌<◌, ◌≤◌, slice_index, MatchOption};
 ghost use Rattle.plan_cert.specs.PlanSlots.{plan_slots, total_slots, total_bytes, sum_through};
 ghost use Rattle.plan_cert.specs.Plan.{IsPlan, IsSlotPosition, HasPrefix};
 
 use crate::Segment;
+use vod_base::{MAX_BYTES, MAX_SLOTS};
 
 impl Segment {
     /// The bytes of its first `count` slots: floor(count * bytes / slots).
     pub fn first_bytes(self, count: u64) -> u64
         requires some { 1 ≤ self.slots }
         requires within { count ≤ self.slots }
-        requires few { self.slots ≤ 1000000 }
-        requires small { self.bytes ≤ 2 ^ 42 }
+        requires few { self.slots ≤ MAX_SLOTS }
+        requires small { self.bytes ≤ MAX_BYTES }
         ensures { result ≡ count * self.bytes / self.slots }
     {
         count * self.bytes / self.slots

@@ -11,7 +11,7 @@ use Rattle.taut_plan.specs.Funnel.{FunnelReach, funnel_reach, KeepsApart, IsCros
 use Rattle.taut_plan.proofs.SlopeLemmas.{Seen, SeenCorner, within_within, inside_within, within_itself, inside_weaker}
 use Rattle.taut_plan.proofs.SlopeLemmas.{inside_not_within, turns_apart}
 
--- on the other side the order is turned
+-- on the other side the order is reversed
 pub other_within : (side : Side) (o a b : Point) → IsWithin (other_side side) o a b → IsWithin side o b a
 other_within Lower o a b h = h
 other_within Upper o a b h = h
@@ -39,7 +39,7 @@ ordered_within Upper o a b same le =
     let up : (a.place - o.place) * b.height ≤ (a.place - o.place) * a.height = mul-le-mul_left (a.place - o.place) le in
     rw e (omega (arith, up))
 
--- What a crossing says of the corner b, the front of the other chain.
+-- What a crossing says about the corner b, the first point of the other chain.
 pub record IsCorner (side : Side) (curve other : ℕ → ℕ) (sight : FunnelReach) (b : Point) : Type 0 where
   pub later : sight.apex.place < b.place
   pub near : b.place ≤ sight.other_reach

@@ -1,4 +1,4 @@
--- How a chain takes in the next place: points leave at its end until it turns the right way; then the new one joins.
+-- How the next place joins a chain: points leave at its end until it turns the right way; then the new one joins.
 use Rattle.std.proofs.Common.{◌≡◌, ℕ, ◌+◌, ◌<◌, ◌≤◌, List, [], ◌∷◌, ◌++◌, arith, sym, refl, subst, inl, inr}
 use Rattle.std.proofs.lemmas.Bool.{cases_lt}
 use Rattle.taut_plan.specs.declared.points.Point.{Point}
@@ -48,7 +48,7 @@ open_pops read o [] q open_ out =
     open read use {side, curve, last as s}
 open_pops read o (p ∷ front) q open_ out = (open_.0, open_pops read p front q open_.1 out)
 
--- where nothing is left, place s + 1 is the whole chain
+-- where no point is left, the chain is place s + 1 alone
 pub open_joins_alone : (side : Side) (curve : ℕ → ℕ) (s : ℕ) (o : Point) → IsOpen side curve s o []
     → IsChain side curve (s + 1) o (on_curve curve (s + 1) ∷ [])
 open_joins_alone side curve s o open_ =

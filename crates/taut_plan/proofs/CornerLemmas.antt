@@ -96,7 +96,7 @@ starts_below curve k ray i none le =
   where
     open ray use {height as v, slots as n, bytes as b}
 
--- the line goes from a point between the curves to one that is no lower, and each curve keeps on its side of the line
+-- the line goes from a point between the curves to one that is no lower, and each curve stays on its side of the line
 record LeadsBetween (lo hi : ℕ → ℕ) (o b : Point) : Type 0 where
   pub later : o.place < b.place
   pub rises : o.height ≤ b.height

@@ -1,4 +1,4 @@
--- One step of the funnel: the point joins, the other chain gives way, and the curves stand apart again.
+-- One step of the funnel: the point joins, corners leave the other chain, and the curves are apart again.
 use Rattle.std.proofs.Common.{◌≡◌, ℕ, ◌+◌, ◌<◌, ◌≤◌, length, List, [], ◌∷◌, ◌++◌, drop, arith, sym, subst, ap, ◌∙◌}
 use Rattle.plan_cert.specs.declared.Segment.{Segment}
 use Rattle.taut_plan.specs.declared.points.Point.{Point}
@@ -46,7 +46,7 @@ ordered_on : (side : Side) (lo hi : ℕ → ℕ) (t : ℕ) → lo t ≤ hi t
 ordered_on Lower lo hi t le = le
 ordered_on Upper lo hi t le = le
 
--- what a bend keeps and gives
+-- what a bend leaves unchanged, and what it adds
 pub record IsBent (side : Side) (lo hi : ℕ → ℕ) (from t s : ℕ) (o corner : Point) (segments : List Segment)
     (own others : List Point) : Type 0 where
   pub later : o.place ≤ corner.place

@@ -1,4 +1,4 @@
--- The whole list of segments: it is a plan, and taut.
+-- The list of all segments is a plan, and it is taut.
 use Rattle.std.proofs.Common.{◌≡◌, ℕ, ◌<◌, ◌≤◌, List, [], ◌∷◌, ◌++◌, length, arith, sym, subst, ◌∙◌}
 use Rattle.wire_curve.specs.SoundCurves.{AreSound, bound_at}
 use Rattle.plan_cert.specs.declared.Segment.{Segment}

@@ -41,7 +41,7 @@ without_first points passed some =
     let left = length-drop passed points in
     sym (ap (drop 1) (drop_more points passed (record { place = 0; height = 0 }) (omega (arith, left, some))))
 
--- The same of links, of which each keeps the edge from the one before.
+-- The same for links. Each holds the edge from the link before.
 
 point_at_place : (links : List Link) (place : ℕ) (link : Link) → place < length links → link ≡ get_or links place link
     → (p : Point) → get_or (points_of links) place p ≡ link.point

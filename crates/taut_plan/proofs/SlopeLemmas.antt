@@ -117,7 +117,7 @@ pub record Seen : Type 0 where
   pub second : Point
   pub third : Point
 
--- they ascend on the lower curve, and are turned on the upper one
+-- their order ascends on the lower curve and descends on the upper one
 abbrev ahead : Seen → Ahead
 ahead seen = record {
   height = seen.from.height;
@@ -191,7 +191,7 @@ other_offset : (seen : SeenCorner)
     ≡ (seen.corner.place - seen.from.place) + (seen.other.place - seen.corner.place)
 other_offset seen = omega (arith, seen.ahead, seen.other_beyond)
 
--- a chain that turns at the corner and again at the one point keeps what is beyond inside
+-- a chain that turns at the corner and again at the one point has all that is beyond inside
 pub turns_on : (side : Side) (seen : SeenCorner) → seen.corner.place < seen.other.place
     → IsInside side seen.from seen.one seen.corner → IsInside side seen.corner seen.other seen.one
     → IsInside side seen.from seen.other seen.corner

@@ -33,7 +33,7 @@ further Upper o a b =
       | inr not_less ↦ inr (omega (arith, not_less))
     ]
 
--- ---- a chain takes in the next place
+-- ---- the next place joins a chain
 record HasEnd (points : List Point) : Type 0 where
   front : List Point
   last : Point
@@ -68,7 +68,7 @@ joins {side} {curve} {s} {o} (suc n) (p ∷ rest) few open_ =
           (open_pops (record { side = side; curve = curve; last = s }) o e.front e.last same out)
     ]
 
--- ---- one side takes in the next slot's end
+-- ---- the next slot's end joins on one side
 record IsExtended (side : Side) (lo hi : ℕ → ℕ) (from t s : ℕ) : Type 0 where
   apex : Point
   segments : List Segment

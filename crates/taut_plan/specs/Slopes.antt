@@ -1,5 +1,6 @@
 -- The slopes at which a point sees later points, compared without division.
 use Rattle.std.specs.Prelude.{ℕ, ◌+◌, ◌-◌, ◌*◌, ◌^◌, ◌<◌, ◌≤◌}
+use Rattle.vod_base.specs.declared.limits.TheConstants.{MAX_BYTES}
 use Rattle.taut_plan.specs.declared.points.Point.{Point}
 use Rattle.taut_plan.specs.declared.points.Side.{Side}
 use Rattle.taut_plan.specs.declared.points.Side.TheVariants.{Lower, Upper}
@@ -27,7 +28,7 @@ IsInside Upper o a b = slope_lt o.height (b.place - o.place) b.height (a.place -
 -- places and a height is at most 2 ^ 62.
 pub record Fits (p : Point) : Type 0 where
   pub place : p.place ≤ 2 ^ 20
-  pub height : p.height ≤ 2 ^ 42
+  pub height : p.height ≤ MAX_BYTES
 
 pub record AllFit (first middle last : Point) : Type 0 where
   pub begins : Fits first

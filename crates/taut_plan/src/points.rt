@@ -10,6 +10,7 @@ ghost use Rattle.taut_plan.specs.Links.{IsEdge, IsPassed, IsKept};
 ghost use Rattle.taut_plan.specs.Chain.{on_curve};
 ghost use Rattle.taut_plan.specs.CurveSides.{side_of};
 
+use vod_base::MAX_BYTES;
 use wire_curve::Curves;
 
 /// A point in the plane of slots and bytes. Place k is the end of slot k - 1, and place 0 the
@@ -109,7 +110,7 @@ pub(crate) fn is_passed(side: Side, link: Link, point: Point) -> bool
     requires later { link.point.place ≤ point.place }
     requires higher { link.point.height ≤ point.height }
     requires slots { link.slots ≤ 2 ^ 20 }
-    requires bytes { link.bytes ≤ 2 ^ 42 }
+    requires bytes { link.bytes ≤ MAX_BYTES }
     requires fits { Fits point }
     ensures { MatchBool result (IsPassed side link point) (IsKept side link point) }
 {

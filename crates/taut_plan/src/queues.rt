@@ -1,7 +1,7 @@
 //! Points in a row that join at the back and leave at both ends.
 
-ghost use Rattle.std.specs.Prelude.{◌≡◌, ◌-◌, ◌<◌, ◌≤◌, [], ◌∷◌, ◌++◌, length, take, drop, MatchOption};
-ghost use Rattle.std.specs.Prelude.{OnOk, IsTrue, ◌↔◌};
+ghost use Rattle.std.specs.Prelude.{◌≡◌, ◌-◌, ◌<◌, ◌≤◌, [], ◌∷◌, ◌++◌, length, take, drop};
+ghost use Rattle.std.specs.Prelude.{MatchOption, OnOk, IsTrue, ◌↔◌};
 ghost use Rattle.taut_plan.specs.Chain.{IsFirstPoint};
 ghost use Rattle.taut_plan.specs.declared.points.Point.{Point};
 ghost use Rattle.taut_plan.specs.Links.{IsLastLink, EndsBefore, IsLinkedTo};
@@ -10,8 +10,8 @@ use crate::points::{Link, Point};
 use std::alloc::{AllocError, Global};
 use std::marker::Model;
 
-/// The points of a chain. A ring would cost a test at each look at a point, so those that left at
-/// the front stay in the list until the chain is empty.
+/// The points of a chain. A ring would cost a test at each look at a point, so the first ones that
+/// left stay in the list until the chain is empty.
 ///
 /// Each point but the first has with it the edge from the point before, so that a test of the last
 /// one reads one entry. The first one's edge begins at the apex, which moves: it's computed at each
@@ -19,7 +19,7 @@ use std::marker::Model;
 #[derive(Drop)]
 pub(crate) struct Queue {
     links: Vec<Link>,
-    /// How many have left at the front.
+    /// How many points have left, from the first on.
     passed: usize,
 }
 

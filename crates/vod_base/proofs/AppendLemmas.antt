@@ -8,7 +8,7 @@ use Rattle.vod_base.specs.Appends.{HasPrefixOf, IsAppended}
 abbrev Answer : Type 0
 Answer = Result (Unit {0}) NoMemory
 
--- a front of the first text is a front of both
+-- a prefix of the first text is a prefix of both
 front_of_first : (before text next after : List ℕ) → HasPrefixOf before text after → HasPrefixOf before (text ++ next)
     after
 front_of_first before text next after cut = record {
@@ -18,7 +18,7 @@ front_of_first before text next after cut = record {
   after_is = cut.after_is;
 }
 
--- after the whole first text, a front of the second one
+-- after the complete first text, a prefix of the second one
 front_of_second : {before next mid after : List ℕ} (text : List ℕ) → mid ≡ before ++ text
     → HasPrefixOf mid next after → HasPrefixOf before (text ++ next) after
 front_of_second {before} {next} text whole cut = record {
@@ -39,12 +39,12 @@ after_first {before} {next} {mid} {after} {r = Ok done} text whole more =
     record { whole = both before text next whole more.whole; cut = tt }
 after_first {next} {r = Err e} text whole more = record { whole = tt; cut = front_of_second text whole more.cut }
 
--- after the whole first text, the second one is appended
+-- after the complete first text, the second one is appended
 pub then_appended : {before next mid after : List ℕ} {r : Answer} → (text : List ℕ) → mid ≡ before ++ text
     → IsAppended mid next after r → IsAppended before (text ++ next) after r
 then_appended text whole more = after_first text whole more
 
--- a text that was cut stays so, whatever was to follow
+-- an incomplete text stays so, whatever was to follow
 pub cut_before : {before text after : List ℕ} {e : NoMemory} → (next : List ℕ)
     → IsAppended before text after (Err e) → IsAppended before (text ++ next) after (Err e)
 cut_before next cut = record { whole = tt; cut = front_of_first _ _ next _ cut.cut }
@@ -54,7 +54,7 @@ handed : {before text after : List ℕ} {e : NoMemory} {r : Answer} → IsErr r
 handed {text} {r = Ok done} none cut = absurd (false≢true none)
 handed {text} {r = Err other} none cut = record { whole = tt; cut = cut.cut }
 
--- want of memory is handed on
+-- an error of memory is passed on
 pub handed_on : {before text after : List ℕ} {e : NoMemory} (r : Answer) → IsErr r
     → IsAppended before text after (Err e) → IsAppended before text after r
 handed_on r none cut = handed none cut

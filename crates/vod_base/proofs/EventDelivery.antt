@@ -1,4 +1,4 @@
--- What a link in memory hands out, by the front that it keeps.
+-- What a link in memory hands out, by its cursor.
 use Rattle.std.proofs.Common.{◌≡◌, ℕ, ◌+◌, ◌-◌, ◌<◌, ◌≤◌, min, List, [], ◌∷◌, length, take, drop, get_or, map, refl}
 use Rattle.std.proofs.Common.{sym, ap, ◌∙◌, Vec, Global}
 use Rattle.std.proofs.lemmas.List.{drop_more, drop_all, drop-drop, length-drop, length-map, get_or-map, take_min}
@@ -17,7 +17,7 @@ whole (HeardSlot slot ∷ events) = refl
 whole (HeardEnd ∷ events) = refl
 whole (Sent byte ∷ events) = refl
 
--- the events after the one in front
+-- the events after the first
 abbrev pub rest_from : List Event → EventCursor → List IoEvent
 rest_from events front = drop (front.event + 1) (map heard_whole events)
 
@@ -26,7 +26,7 @@ pub record IsAt (events : List Event) (place : ℕ) (event : Event) : Type 0 whe
   pub inside : place < length events
   pub is : event ≡ get_or events place event
 
--- the event in front, and the rest
+-- the first event, and the rest
 left_here : (events : List Event) (front : EventCursor) (event : Event) → IsAt events front.event event →
     left_from events front ≡ without_first_bytes front.offset (heard_whole event ∷ rest_from events front)
 left_here events front event at =
@@ -36,7 +36,7 @@ left_here events front event at =
     ∙ ap (λ d. d ∷ rest_from events front)
     (get_or-map heard_whole events front.event event (heard_whole event) at.inside ∙ ap heard_whole (sym at.is)))
 
--- a front that was passed
+-- a first event that was passed
 pub record IsPassed (front new : EventCursor) : Type 0 where
   pub event : new.event ≡ front.event + 1
   pub offset : new.offset ≡ 0
@@ -57,7 +57,7 @@ empty_passed {events} {front} {bytes} is none passed =
     ∙ ap (λ (bs : List ℕ). without_empty_front (HeardBytes bs ∷ rest_from events front))
     (drop_all front.offset bytes.items none))
 
--- what stands in front once events of no bytes were passed over
+-- what comes first once events of no bytes were passed over
 pub record IsInFront (events : List Event) (first front : EventCursor) (event : Event) : Type 0 where
   pub passed : without_empty_front (left_from events front) ≡ without_empty_front (left_from events first)
   pub is : IsAt events front.event event
@@ -83,7 +83,7 @@ end_out {events} room at passed =
     let here = in_front at in
     (sym (ap (first_out room) here), left_passed events passed ∙ sym (ap (rest_left room) here))
 
--- a front of some of which so many bytes were handed out
+-- a first event of which so many bytes were handed out
 pub record IsFrontOut (bytes into : List ℕ) (offset count : ℕ) : Type 0 where
   pub some : offset < length bytes
   pub most : count ≡ min (length into) (length bytes - offset)

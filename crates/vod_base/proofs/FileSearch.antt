@@ -1,4 +1,4 @@
--- Looking for a file by its name, from the front on.
+-- Looking for a file by its name, from the first on.
 use Rattle.std.proofs.Common.{◌≡◌, ℕ, suc, ◌+◌, ◌<◌, ◌≤◌, List, length, map, drop, get_or, Some, None, if◌then◌else◌}
 use Rattle.std.proofs.Common.{true, false, refl, subst, sym, ap, ◌∙◌, add-one, drop-cons, String, Vec, Global}
 use Rattle.std.proofs.Common.{string_bytes}

@@ -1,4 +1,4 @@
--- What was told, with more after it, and more after that.
+-- A history with more events after it, and more after those.
 use Rattle.std.proofs.Common.{◌≡◌, List, [], ◌++◌, Option, Some, None, refl, ap}
 use Rattle.std.proofs.lemmas.List.{append_assoc, append-nil}
 use Rattle.vod_base.specs.IoState.{told_more}

@@ -1,4 +1,4 @@
--- Where a line stands that is written as its text and its end, and which file a name stands for.
+-- Where a line stands that is written as its text and its end, and which file a name represents.
 use Rattle.std.proofs.Common.{◌≡◌, ◌≢◌, ◌<◌, ◌≤◌, ◌+◌, ◌-◌, ◌&&◌, ◌==◌, if◌then◌else◌, ℕ, zero, suc, true}
 use Rattle.std.proofs.Common.{List, [], ◌∷◌, ◌++◌, length, get_or, All, Contains, codes, Some, None, nat_lt, arith, inl}
 use Rattle.std.proofs.Common.{inr}
@@ -26,7 +26,7 @@ past_text front text rest k =
     let at : length front + length text + k ≡ length (front ++ text) + k = omega (arith, length-append front text) in
     ap (λ (n : ℕ). get_or (front ++ text ++ rest) n 0) at ∙ get_or-append-add (front ++ text) rest k 0
 
--- a place in a text that stands after a front
+-- a place in a text that stands after a prefix
 record IsInText (front text : List ℕ) (k : ℕ) : Type 0 where
   from : length front ≤ k
   below : k < length front + length text

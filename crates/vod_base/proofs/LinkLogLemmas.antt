@@ -29,7 +29,7 @@ noted_bytes : (events : List Event) (bytes : List ℕ) → map (io_event_logged 
 noted_bytes events [] = refl
 noted_bytes events (byte ∷ bytes) = ap (λ doings. Sent byte ∷ doings) (noted_bytes events bytes)
 
--- one event more is noted: it is told, and the sent bytes stay
+-- one event more is noted: the history has it, and the sent bytes stay
 pub heard_more : (events : List Event) (notes : List LinkLogEntry) (noted : LinkLogEntry) (heard : Heard) (into : List
     ℕ) →
     io_event_logged events noted ≡ io_event_of heard into →
@@ -46,7 +46,7 @@ heard_more events notes noted heard into is =
           ∙ append-nil (sent_of (map (io_event_logged events) notes))),
     )
 
--- bytes more are noted: they are told as sent, and stand at the end of the sent bytes
+-- more bytes are noted: the history has them as sent, and they stand at the end of the sent bytes
 pub sent_more : (events : List Event) (old new : List LinkLogEntry) (bytes : List ℕ) → new ≡ old ++ map Gone bytes →
     (map (io_event_logged events) new ≡ map (io_event_logged events) old ++ sends bytes)
     × (sent_of (map (io_event_logged events) new) ≡ sent_of (map (io_event_logged events) old) ++ bytes)

@@ -36,7 +36,7 @@ decimal_read n small =
     (and_from (nat_lt 0 (length (decimal n))) (list_all is_ascii_digit (decimal n)) some all) below in
     cond-true (fits (decimal n)) (Some (digits_value 10 (decimal n))) None test ∙ ap (λ v. Some v) value
 
--- digits without a zero in front are the decimal text of the number that is read
+-- digits without a leading zero are the decimal text of the number that is read
 pub read_decimal : (ds : List ℕ) (n : ℕ) → number_of ds ≡ Some n → (slice_index ds 0 ≡ 48 → length ds ≡ 1)
     → ds ≡ decimal n
 read_decimal ds n read lead =
@@ -58,7 +58,7 @@ read_decimal ds n read lead =
           )
     ]
 
--- a zero in front of a byte changes nothing
+-- a zero before a byte changes nothing
 zero_in_front : (d : ℕ) (ds : List ℕ) → number_of (48 ∷ d ∷ ds) ≡ number_of (d ∷ ds)
 zero_in_front d ds =
     let one : nat_lt 0 (length (48 ∷ d ∷ ds)) ≡ true = lt-ltb 0 (length (48 ∷ d ∷ ds)) (omega arith) in
@@ -130,7 +130,7 @@ good_is_plain name good =
 
 -- ---- blanks
 
--- a text is the blanks in front of it and the rest, which begins with no blank
+-- a text is its first blanks and the rest, which begins with no blank
 record FrontCut (text rest : List ℕ) : Type 0 where
   front : List ℕ
   parts : text ≡ front ++ rest
@@ -164,7 +164,7 @@ all-reverse p (x ∷ text) all =
     ∙ and_from (list_all p (reverse text)) (list_all p (x ∷ [])) (all-reverse p text parts.1)
     (and_from (p x) true parts.0 refl)
 
--- a text with these blanks cut at its front, and then, from its end, those of the rest
+-- a text without these blanks at its beginning, and then, from its end, without those of the rest
 both_cut : (text middle back_first : List ℕ) → FrontCut text middle → FrontCut (reverse middle) back_first
     → IsTrimmed text (reverse back_first)
 both_cut text middle back_first one two =

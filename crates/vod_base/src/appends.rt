@@ -1,5 +1,6 @@
 //! Appending texts and numbers.
 
+ghost use Rattle.std.specs.Prelude.{◌≡◌, ◌+◌, ◌≤◌, ◌++◌, length, vec_len, vec_capacity};
 ghost use Rattle.vod_base.specs.Appends.{IsAppended};
 ghost use Rattle.vod_base.specs.Fields.{field};
 
@@ -28,4 +29,16 @@ pub fn push_field(out: &mut Vec<u8>, label: &[u8], number: u64) -> Result<(), No
 {
     push(out, label)?;
     push_number(out, number)
+}
+
+/// Appends bytes for which there is room.
+pub(crate) fn append_reserved(to: &mut Vec<u8>, bytes: &[u8])
+    requires { vec_len to.old + length bytes.now ≤ vec_capacity to.old }
+    ensures items { to.new.items ≡ to.old.items ++ bytes.now }
+    ensures len { vec_len to.new ≡ vec_len to.old + length bytes.now }
+    ensures capacity { vec_capacity to.new ≡ vec_capacity to.old }
+{
+    for byte in bytes {
+        to.push_reserved(*byte);
+    }
 }

@@ -221,10 +221,7 @@ impl Gate for MemoryGate {
             return Err(GateFault);
         }
         let number = self.parts.len();
-        match self.parts.push(None) {
-            Ok(()) => {}
-            Err(_) => unreachable!(),
-        }
+        self.parts.push_reserved(None);
         let script = next_script(self.alloc, &mut self.scripts);
         Ok(MemoryGate::part(self.alloc, number, script))
     }
@@ -267,10 +264,7 @@ impl Gate for MemoryGate {
         ensures { self.new ≡
             record self.old { content = after_return (returned_conn_of conn) self.old.content } }
     {
-        match self.own.links.push(conn) {
-            Ok(()) => {}
-            Err(_) => unreachable!(),
-        }
+        self.own.links.push_reserved(conn);
     }
 
     fn rejoin(&mut self, part: MemoryGate)

@@ -9,6 +9,7 @@ ghost use Rattle.vod_base.specs.declared.memory_links.LinkLogEntry.TheVariants.{
 ghost use Rattle.vod_base.specs.MemoryLinks.{sent_of, io_event_logged, next_fails, heard_whole};
 ghost use Rattle.vod_base.specs.MemoryLinks.{left_from, next_doing, left_after, link_begun};
 
+use crate::appends::append_reserved;
 use crate::errors::{LinkFault, NoMemory};
 use crate::fault_injection::counted_call;
 use crate::links::{Heard, Link};
@@ -190,10 +191,8 @@ impl Link for MemoryLink {
         }
         let (noted, heard) = next_event(&self.events, &mut self.front, into);
         self.handed_out += 1;
-        match self.notes.push(noted) {
-            Ok(()) => Ok(heard),
-            Err(_) => unreachable!(),
-        }
+        self.notes.push_reserved(noted);
+        Ok(heard)
     }
 
     fn send(&mut self, bytes: &[u8]) -> Result<(), LinkFault>
@@ -217,10 +216,8 @@ impl Link for MemoryLink {
             return Err(LinkFault);
         }
         log_sent(&mut self.notes, bytes);
-        match self.sent.extend_from_slice(bytes) {
-            Ok(()) => Ok(()),
-            Err(_) => unreachable!(),
-        }
+        append_reserved(&mut self.sent, bytes);
+        Ok(())
     }
 }
 
@@ -257,10 +254,7 @@ fn log_sent(notes: &mut Vec<LinkLogEntry>, bytes: &[u8])
     ensures capacity { vec_capacity notes.old ≤ vec_capacity notes.new }
 {
     for byte in bytes {
-        match notes.push(LinkLogEntry::Gone(*byte)) {
-            Ok(()) => {}
-            Err(_) => unreachable!(),
-        }
+        notes.push_reserved(LinkLogEntry::Gone(*byte));
     }
 }
 

@@ -5,6 +5,7 @@ ghost use Rattle.std.specs.Prelude.{IfOk, is_err};
 ghost use Rattle.vod_base.specs.Memory.{SinkState, call_fails};
 ghost use Rattle.vod_base.specs.IoState.{one_more};
 
+use crate::appends::append_reserved;
 use crate::errors::{NoMemory, SinkFault};
 use crate::fault_injection::counted_call;
 use crate::output::Sink;
@@ -95,9 +96,7 @@ impl Sink for MemorySink {
             self.faults = self.faults.saturating_add(1);
             return Err(SinkFault);
         }
-        match self.kept.extend_from_slice(bytes) {
-            Ok(()) => Ok(()),
-            Err(_) => unreachable!(),
-        }
+        append_reserved(&mut self.kept, bytes);
+        Ok(())
     }
 }

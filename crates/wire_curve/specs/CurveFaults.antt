@@ -1,5 +1,6 @@
 -- When pictures have no curves: the three faults, each with the numbers that it names.
 use Rattle.std.specs.Prelude.{◌≡◌, ℕ, ◌<◌, ◌≤◌, List, length}
+use Rattle.vod_base.specs.declared.limits.TheConstants.{MAX_SLOTS}
 use Rattle.wire_curve.specs.declared.film.Timing.{Timing}
 use Rattle.wire_curve.specs.declared.film.CurveFault.{CurveFault}
 use Rattle.wire_curve.specs.declared.film.CurveFault.TheVariants.{NoPictures, TooManySlots}
@@ -11,7 +12,7 @@ use Rattle.wire_curve.specs.FilmCurves.{slot_count, bytes_used_in}
 -- none of the three faults holds
 pub record IsAccepted (sizes : List ℕ) (timing : Timing) : Type 0 where
   pub some_picture : 0 < length sizes
-  pub few_slots : slot_count sizes timing ≤ 1000000
+  pub few_slots : slot_count sizes timing ≤ MAX_SLOTS
   pub buffer_holds : (t : ℕ) → t < slot_count sizes timing →
       bytes_used_in sizes timing t ≤ timing.buffer
 
@@ -29,9 +30,9 @@ pub record IsBufferTooSmall (sizes : List ℕ) (timing : Timing) (slot used leas
 abbrev pub HasCurveFault : List ℕ → Timing → CurveFault → Type 0
 HasCurveFault sizes timing NoPictures = length sizes ≡ 0
 HasCurveFault sizes timing (TooManySlots slots) =
-    (0 < length sizes) × (slots ≡ slot_count sizes timing) × (1000000 < slots)
+    (0 < length sizes) × (slots ≡ slot_count sizes timing) × (MAX_SLOTS < slots)
 HasCurveFault sizes timing (BufferTooSmall slot used least) =
-    (0 < length sizes) × (slot_count sizes timing ≤ 1000000)
+    (0 < length sizes) × (slot_count sizes timing ≤ MAX_SLOTS)
     × IsBufferTooSmall sizes timing slot used least
 
 -- out of memory is the one answer that nothing decides

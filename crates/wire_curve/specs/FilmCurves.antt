@@ -1,9 +1,11 @@
 -- What a client's player has used by the end of each slot, and the two curves that follow (Salehi,
 -- Zhang, Kurose and Towsley 1998): the bytes sent must have reached what is used, and the rest must
 -- fit in the client's buffer.
-use Rattle.std.specs.Prelude.{◌≡◌, ℕ, ◌+◌, ◌-◌, ◌*◌, ◌/◌, ◌^◌, ◌<◌, ◌≤◌, List, length, sum, sum_by}
+use Rattle.std.specs.Prelude.{◌≡◌, ℕ, ◌+◌, ◌-◌, ◌*◌, ◌/◌, ◌<◌, ◌≤◌, List, length, sum, sum_by}
 use Rattle.std.specs.Prelude.{slice_index, nat_lt, ◌==◌, if◌then◌else◌, max, min}
 use Rattle.std.specs.List.{range_with_len}
+use Rattle.vod_base.specs.declared.limits.TheConstants.{MAX_BYTES, MAX_DELAY, MAX_FILM_PICTURES}
+use Rattle.wire_curve.specs.declared.film.TheConstants.{MAX_UNITS}
 use Rattle.wire_curve.specs.declared.film.Timing.{Timing}
 use Rattle.wire_curve.specs.declared.curves.Curves.{Curves}
 
@@ -40,17 +42,17 @@ low_at sizes timing t = max timing.sent (used_before sizes timing (t + 1))
 abbrev pub up_at : List ℕ → Timing → ℕ → ℕ
 up_at sizes timing t = min (total_of sizes timing) (used_before sizes timing t + timing.buffer)
 
--- what a caller of `film_curves` keeps to
+-- the limits that a caller of `film_curves` satisfies
 pub record IsWithinLimits (sizes : List ℕ) (timing : Timing) : Type 0 where
   pub some_picture_units : 1 ≤ timing.picture_units
-  pub picture_units_fit : timing.picture_units ≤ 360000
+  pub picture_units_fit : timing.picture_units ≤ MAX_UNITS
   pub some_slot_units : 1 ≤ timing.slot_units
-  pub slot_units_fit : timing.slot_units ≤ 360000
-  pub few_pictures : length sizes ≤ 4194304
-  pub delay_fits : timing.delay ≤ 10000
+  pub slot_units_fit : timing.slot_units ≤ MAX_UNITS
+  pub few_pictures : length sizes ≤ MAX_FILM_PICTURES
+  pub delay_fits : timing.delay ≤ MAX_DELAY
   pub some_buffer : 1 ≤ timing.buffer
-  pub buffer_fits : timing.buffer ≤ 2 ^ 42
-  pub total_fits : total_of sizes timing ≤ 2 ^ 42
+  pub buffer_fits : timing.buffer ≤ MAX_BYTES
+  pub total_fits : total_of sizes timing ≤ MAX_BYTES
   pub played_was_sent : timing.played ≤ timing.sent
   pub sent_of_total : timing.sent ≤ total_of sizes timing
   pub sent_fits_buffer : timing.sent ≤ timing.played + timing.buffer

@@ -45,9 +45,9 @@ impl Timing {
     /// The slot in which a picture is used, one of at most 4,194,304, from 0.
     pub fn due_slot(&self, picture: u64) -> u64
         requires some_slot_units { 1 ≤ self.now.slot_units }
-        requires picture_units { self.now.picture_units ≤ 360000 }
-        requires picture { picture < 4194304 }
-        requires delay { self.now.delay ≤ 10000 }
+        requires picture_units { self.now.picture_units ≤ MAX_UNITS }
+        requires picture { picture < MAX_FILM_PICTURES }
+        requires delay { self.now.delay ≤ MAX_DELAY }
         ensures { result ≡ due_slot self.now picture }
     {
         if self.picture_units == self.slot_units {
@@ -84,8 +84,8 @@ impl Timing {
 
 /// The bytes used before slot 0 and those of the pictures, or None where they are more than 2^42.
 fn total_bytes(played: u64, sizes: &[u64]) -> Option<u64>
-    ensures { MatchOption result (2 ^ 42 < played + sum sizes.now)
-        (λ total. (total ≡ played + sum sizes.now) × (total ≤ 2 ^ 42)) }
+    ensures { MatchOption result (MAX_BYTES < played + sum sizes.now)
+        (λ total. (total ≡ played + sum sizes.now) × (total ≤ MAX_BYTES)) }
 {
     let mut left = MAX_BYTES.checked_sub(played)?;
     for size in sizes {
@@ -186,17 +186,17 @@ fn picture_curves(
     let mut low = Vec::with_capacity(alloc, slots)?;
     let mut up = Vec::with_capacity(alloc, slots)?;
     for _ in 0..timing.delay {
-        low.push(timing.sent)?;
-        up.push(total.min(timing.played + timing.buffer))?;
+        low.push_reserved(timing.sent);
+        up.push_reserved(total.min(timing.played + timing.buffer));
     }
     let mut used = timing.played;
     for size in sizes {
         if *size > timing.buffer {
             return Ok(None);
         }
-        up.push(total.min(used + timing.buffer))?;
+        up.push_reserved(total.min(used + timing.buffer));
         used += *size;
-        low.push(timing.sent.max(used))?;
+        low.push_reserved(timing.sent.max(used));
     }
     Ok(Some(Curves {
         from: timing.sent,
@@ -207,7 +207,7 @@ fn picture_curves(
 
 /// The bytes used before slot 0 and those of the pictures.
 fn sum_sizes(played: u64, sizes: &[u64]) -> u64
-    requires { played + sum sizes.now ≤ 2 ^ 42 }
+    requires { played + sum sizes.now ≤ MAX_BYTES }
     ensures { result ≡ played + sum sizes.now }
 {
     let mut total = played;
@@ -267,8 +267,8 @@ fn buffer_fault(in_slot: &[u64], buffer: u64) -> Option<CurveFault>
 /// The curves of pictures that use so much in each slot. The list of the uses becomes the lower
 /// one.
 fn curves_of_uses(alloc: Global, timing: &Timing, uses: SlotUses) -> Result<Curves, AllocError>
-    requires total { timing.now.played + sum uses.in_slot.items ≤ 2 ^ 42 }
-    requires buffer { timing.now.buffer ≤ 2 ^ 42 }
+    requires total { timing.now.played + sum uses.in_slot.items ≤ MAX_BYTES }
+    requires buffer { timing.now.buffer ≤ MAX_BYTES }
     ensures { IfOk result (AreCurvesOfUses timing.now uses.in_slot.items uses.total) }
 {
     let up = upper_curve(alloc, timing, &uses)?;
@@ -283,15 +283,15 @@ fn curves_of_uses(alloc: Global, timing: &Timing, uses: SlotUses) -> Result<Curv
 
 /// What may have been sent by the end of each slot: all, or what the buffer still holds.
 fn upper_curve(alloc: Global, timing: &Timing, uses: &SlotUses) -> Result<Vec<u64>, AllocError>
-    requires total { timing.now.played + sum uses.now.in_slot.items ≤ 2 ^ 42 }
-    requires buffer { timing.now.buffer ≤ 2 ^ 42 }
+    requires total { timing.now.played + sum uses.now.in_slot.items ≤ MAX_BYTES }
+    requires buffer { timing.now.buffer ≤ MAX_BYTES }
     ensures { IfOk result (λ up.
         IsUpperOfUses timing.now uses.now.in_slot.items uses.now.total up.items) }
 {
     let mut up = Vec::with_capacity(alloc, uses.in_slot.len())?;
     let mut used = timing.played;
     for in_slot in &uses.in_slot {
-        up.push(uses.total.min(used + timing.buffer))?;
+        up.push_reserved(uses.total.min(used + timing.buffer));
         used += *in_slot;
     }
     Ok(up)
@@ -299,7 +299,7 @@ fn upper_curve(alloc: Global, timing: &Timing, uses: &SlotUses) -> Result<Vec<u6
 
 /// Makes of the bytes used in each slot what must have been sent by its end.
 fn lower_curve(timing: &Timing, uses: &mut [u64])
-    requires { timing.now.played + sum uses.old ≤ 2 ^ 42 }
+    requires { timing.now.played + sum uses.old ≤ MAX_BYTES }
     ensures { IsLowerOfUses timing.now uses.old uses.new }
 {
     let mut used = timing.played;

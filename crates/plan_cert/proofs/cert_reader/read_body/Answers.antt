@@ -10,17 +10,17 @@ use Rattle.plan_cert.proofs.GrammarLemmas.{read_more, breaks_missing, breaks_her
 use Rattle.plan_cert.proofs.GrammarLemmas.{not_one_more, segment_text}
 use Rattle.plan_cert.proofs.cert_reader.read_body.Goals as goal
 
-pub returns-in_default-clause-refused : goal.returns-in_default-clause-refused
-returns-in_default-clause-refused c = λ whole read.
-    let k = 3 + c.loop-count.count in (
+pub returns-clause-refused : goal.returns-clause-refused
+returns-clause-refused c = λ whole read.
+    let k = 3 + c.loop-line.count in (
       k,
       omega arith,
-      inl (breaks_missing whole k c.loop-count.rest.now (c.loop-count.invariant.read whole read) c.in_default.ensures),
+      inl (breaks_missing whole k c.loop-line.rest.now (c.loop-line.invariant.read whole read) c.in_default.ensures),
     )
 
 pub returns-then-is_text-clause-refused : goal.returns-then-is_text-clause-refused
 returns-then-is_text-clause-refused c = λ whole read.
-    let k = 3 + c.loop-count.count in
+    let k = 3 + c.loop-line.count in
     let ends : MayEnd k c.in-Some.line.now =
     record { after_head = omega arith; words = c.is_text.ensures.0 c.if-is_text.true } in
     let some : c.in-Some.after.now ≢ [] =
@@ -28,47 +28,47 @@ returns-then-is_text-clause-refused c = λ whole read.
     (c.is_empty.ensures ∙ eq-eqb (length c.in-Some.after.now) 0 (ap length e)) in (
       k + 1,
       omega arith,
-      inr (inl (goes_after_end (c.loop-count.invariant.read whole read) c.in-Some.ensures ends some)),
+      inr (inl (goes_after_end (c.loop-line.invariant.read whole read) c.in-Some.ensures ends some)),
     )
 
 pub returns-in_default-segment_in-clause-refused : goal.returns-in_default-segment_in-clause-refused
 returns-in_default-segment_in-clause-refused c = λ whole read.
-    let k = 3 + c.loop-count.count in (
+    let k = 3 + c.loop-line.count in (
       k,
       omega arith,
-      inl (breaks_here (c.loop-count.invariant.read whole read) c.in-Some.ensures
-          (not_segment c.loop-count.count c.in-Some.line.now c.in_default-segment_in.ensures)
+      inl (breaks_here (c.loop-line.invariant.read whole read) c.in-Some.ensures
+          (not_segment c.loop-line.count c.in-Some.line.now c.in_default-segment_in.ensures)
           (λ ends. both_ways c.is_text.result c.if-is_text.false (c.is_text.ensures.1 ends.words))),
     )
 
 pub returns-then-count-eq-MAX_SEGMENTS-clause-refused : goal.returns-then-count-eq-MAX_SEGMENTS-clause-refused
 returns-then-count-eq-MAX_SEGMENTS-clause-refused c = λ whole read.
-    let k = 3 + c.loop-count.count in (
+    let k = 3 + c.loop-line.count in (
       k,
       omega arith,
-      inl (breaks_here (c.loop-count.invariant.read whole read) c.in-Some.ensures
-          (not_one_more c.loop-count.count c.in-Some.line.now c.if-count-eq-MAX_SEGMENTS.true)
+      inl (breaks_here (c.loop-line.invariant.read whole read) c.in-Some.ensures
+          (not_one_more c.loop-line.count c.in-Some.line.now c.if-count-eq-MAX_SEGMENTS.true)
           (λ ends. both_ways c.is_text.result c.if-is_text.false (c.is_text.ensures.1 ends.words))),
     )
 
-pub loop-count-preserved : goal.loop-count-preserved
-loop-count-preserved c =
-    let inv = c.loop-count.invariant in
+pub loop-line-preserved : goal.loop-line-preserved
+loop-line-preserved c =
+    let inv = c.loop-line.invariant in
     let s = c.in-Some-segment_in.segment in
-    let more : c.loop-count.count < 1000000 = omega (arith, inv.few) in
-    let items : c.push.new.self.items ≡ c.loop-count.segments.items ++ s ∷ [] = c.in_ok-push.ensures.items in
+    let more : c.loop-line.count < 1000000 = omega (arith, inv.few) in
+    let items : c.push.new.self.items ≡ c.loop-line.segments.items ++ s ∷ [] = c.in_ok-push.ensures.items in
     record {
       few = omega arith;
-      counted = ap length items ∙ length_push c.loop-count.segments.items s ∙ ap (λ n. n + 1) inv.counted;
-      small = rw items (All-push (λ x. (x.slots ≤ 2 ^ 42) × (x.bytes ≤ 2 ^ 42)) c.loop-count.segments.items s inv.small
+      counted = ap length items ∙ length_push c.loop-line.segments.items s ∙ ap (λ n. n + 1) inv.counted;
+      small = rw items (All-push (λ x. (x.slots ≤ 2 ^ 42) × (x.bytes ≤ 2 ^ 42)) c.loop-line.segments.items s inv.small
           (c.in-Some-segment_in.ensures.few_slots, c.in-Some-segment_in.ensures.few_bytes));
-      text_is = rw items (segment_text c.in-Some.after.now c.loop-count.segments.items s
+      text_is = rw items (segment_text c.in-Some.after.now c.loop-line.segments.items s
           inv.text_is c.in-Some.ensures.parts c.in-Some-segment_in.ensures.words);
       read = λ whole read.
-          let next : HasReadLines whole (3 + c.loop-count.count + 1) c.in-Some.after.now =
+          let next : HasReadLines whole (3 + c.loop-line.count + 1) c.in-Some.after.now =
           read_more (inv.read whole read) c.in-Some.ensures
           (SegmentLine s (omega arith) (omega arith) c.in-Some-segment_in.ensures) in
-          let place : 3 + c.loop-count.count + 1 ≡ 3 + (c.loop-count.count + 1) = omega arith in
+          let place : 3 + c.loop-line.count + 1 ≡ 3 + (c.loop-line.count + 1) = omega arith in
           subst (λ n. HasReadLines whole n c.in-Some.after.now) place next;
     }
 

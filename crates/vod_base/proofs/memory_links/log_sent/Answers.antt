@@ -5,7 +5,7 @@ use Rattle.vod_base.proofs.memory_links.log_sent.Goals as goal
 pub loop-byte-preserved : goal.loop-byte-preserved
 loop-byte-preserved c = (
   noted_more c.args.notes.now.items c.args.bytes.now c.loop-byte.byte-index
-      c.loop-byte-test.true c.loop-byte.invariant.0 c.in-Ok.ensures.items,
-  omega (arith, c.in-Ok.ensures.len, c.loop-byte.invariant.1),
-  omega (arith, c.in-Ok.ensures.capacity, c.loop-byte.invariant.2),
+      c.loop-byte-test.true c.loop-byte.invariant.0 c.push_reserved.ensures.items,
+  omega (arith, c.push_reserved.ensures.len, c.loop-byte.invariant.1),
+  omega (arith, c.push_reserved.ensures.capacity, c.loop-byte.invariant.2),
 )

@@ -12,13 +12,15 @@ loop-preserved c =
     let t = c.loop.counter in
     let own : HasOwnSlots timing = record { some = c.requires.limits.some_slot_units; same = c.requires.own_slots } in
     let so_far = c.loop.invariant in
-    let low : c.push.new.self.items ≡ c.loop.low.items ++ timing.sent ∷ [] = search rules in
-    let up : c.push-in-loop.new.self.items ≡ c.loop.up.items ++ c.min.result ∷ [] = search rules in
+    let low : c.push_reserved.new.self.items ≡ c.loop.low.items ++ timing.sent ∷ [] = search rules in
+    let up : c.push_reserved-in-loop.new.self.items ≡ c.loop.up.items ++ c.min.result ∷ [] = search rules in
     let before = used_before-delay sizes own t (omega (arith, c.loop-test.true)) in
     let after = used_before-delay sizes own (t + 1) (omega (arith, c.loop-test.true)) in
     let low_here : timing.sent ≡ low_at sizes timing t = omega (arith, after, c.requires.limits.played_was_sent) in
     let up_here : c.min.result ≡ up_at sizes timing t = omega (arith, before, c.min.ensures, c.sum_sizes-total.ensures) in
     record {
+      low_room = omega (arith, so_far.low_room);
+      up_room = omega (arith, so_far.up_room);
       low_slots = length_pushed _ _ _ _ low so_far.low_slots;
       up_slots = length_pushed _ _ _ _ up so_far.up_slots;
       low = each_pushed (low_at sizes timing) _ _ _ _ low so_far.low_slots so_far.low low_here;
@@ -34,6 +36,8 @@ loop-size-init c =
     let at_end : c.loop.counter ≡ timing.delay = omega (arith, c.loop-test.false, c.loop.auto.counter-end) in
     let before = used_before-delay sizes own (timing.delay + 0) (omega arith) in
     record {
+      low_room = so_far.low_room;
+      up_room = so_far.up_room;
       used = sym before;
       small = omega arith;
       fit = λ k lt. absurd (omega (arith, lt));
@@ -51,8 +55,8 @@ loop-size-preserved c =
     let own : HasOwnSlots timing = record { some = c.requires.limits.some_slot_units; same = c.requires.own_slots } in
     let so_far = c.loop-size.invariant in
     let inside = c.loop-size-test.true in
-    let low : c.push-in-loop-size-2.new.self.items ≡ c.loop-size.low.items ++ c.max.result ∷ [] = search rules in
-    let up : c.push-in-loop-size.new.self.items ≡ c.loop-size.up.items ++ c.min-in-loop-size.result ∷ [] = search rules in
+    let low : c.push_reserved-in-loop-size-2.new.self.items ≡ c.loop-size.low.items ++ c.max.result ∷ [] = search rules in
+    let up : c.push_reserved-in-loop-size.new.self.items ≡ c.loop-size.up.items ++ c.min-in-loop-size.result ∷ [] = search rules in
     let grown = used_before-own sizes own k inside in
     let next : used_before sizes timing (timing.delay + (k + 1))
     ≡ used_before sizes timing (timing.delay + k) + get_or sizes k 0 =
@@ -64,6 +68,8 @@ loop-size-preserved c =
     let up_here : c.min-in-loop-size.result ≡ up_at sizes timing (timing.delay + k) =
     omega (arith, c.min-in-loop-size.ensures, so_far.used, c.sum_sizes-total.ensures) in
     record {
+      low_room = omega (arith, so_far.low_room);
+      up_room = omega (arith, so_far.up_room);
       used = omega (arith, so_far.used, next);
       small = omega (arith, so_far.small, more);
       fit = fit_more sizes timing.buffer k so_far.fit (omega (arith, c.if-size-timing.false));

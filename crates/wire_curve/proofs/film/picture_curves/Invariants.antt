@@ -1,9 +1,11 @@
-use Rattle.std.proofs.Common.{◌≡◌, ℕ, ◌+◌, ◌<◌, ◌≤◌, length, take, slice_index, sum}
+use Rattle.std.proofs.Common.{◌≡◌, ℕ, ◌+◌, ◌<◌, ◌≤◌, length, take, slice_index, sum, vec_capacity}
 use Rattle.wire_curve.specs.FilmCurves.{low_at, up_at, used_before}
 use Rattle.wire_curve.proofs.film.picture_curves.Given as goal
 
 abbrev pub invariant-loop : goal.invariant-loop
 invariant-loop l = record {
+  low_room : l.timing.delay + length l.sizes ≤ vec_capacity l.low;
+  up_room : l.timing.delay + length l.sizes ≤ vec_capacity l.up;
   low_slots : length l.low.items ≡ l.counter;
   up_slots : length l.up.items ≡ l.counter;
   low : (t : ℕ) → t < l.counter → slice_index l.low.items t ≡ low_at l.sizes l.timing t;
@@ -12,6 +14,8 @@ invariant-loop l = record {
 
 abbrev pub invariant-loop-size : goal.invariant-loop-size
 invariant-loop-size l = record {
+  low_room : l.timing.delay + length l.sizes ≤ vec_capacity l.low;
+  up_room : l.timing.delay + length l.sizes ≤ vec_capacity l.up;
   used : l.used ≡ used_before l.sizes l.timing (l.timing.delay + l.size-index);
   small : l.used ≡ l.timing.played + sum (take l.size-index l.sizes);
   fit : (k : ℕ) → k < l.size-index → slice_index l.sizes k ≤ l.timing.buffer;

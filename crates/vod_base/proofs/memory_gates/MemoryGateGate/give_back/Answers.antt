@@ -7,7 +7,7 @@ pub returns : goal.returns
 returns c =
     let low : c.self.inside.own.waiting ≤ length c.self.inside.own.links.items = search (rules, c.self.invariant.2) in
     let back = back_grows returned_conn_of c.self.inside.own.links.items c.self.inside.own.waiting
-    c.args.conn c.in-Ok.ensures.items low in
+    c.args.conn c.push_reserved.ensures.items low in
     let stay = waiting_stay c.self.inside.own.links.items c.self.inside.own.waiting
-    c.args.conn c.in-Ok.ensures.items low in
+    c.args.conn c.push_reserved.ensures.items low in
     search (rules, back, stay)
