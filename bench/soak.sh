@@ -11,6 +11,9 @@
 # journal, its notes and its offers account for, to 5 % (soak/memory.py says how that is
 # reckoned).
 #
+# The server starts in the environment of the service (Environment= of tools/vodserve.service, which
+# says how the C library divides memory). A variable that the caller sets counts instead.
+#
 # Prints figures, and one line for each fault. Ends by itself, up to four minutes after MINUTES:
 # with status 1 where there was a fault, and 2 where nothing could be tried. The server listens at
 # 127.0.0.1 alone. All files are made in a folder that is removed again, and the server is stopped

@@ -24,7 +24,8 @@ from clients import LOOKED, PATIENCE, Client, Soak
 from films import Film
 from rtsp import Ended, TooLate, Wrong
 from samples import generated_film, plain_film
-from serving import Journal, NotServed, Server, descriptors
+from serving import (
+    Journal, NotServed, Server, descriptors, service_environment, told_environment)
 from viewer import OK, Wire, want
 
 CLIENTS = 60
@@ -209,8 +210,9 @@ def main():
     connections = MORE_OF_WORKER + math.ceil(MINUTE_OF_WORKER * minutes)
     words = {
         "capacity": CAPACITY, "journal": JOURNAL, "workers": WORKERS, "connections": connections}
+    print(f"environment: {told_environment()}", flush=True)
     begun = time.monotonic()
-    with Server(program, folder, films, **words) as server:
+    with Server(program, folder, films, environment=service_environment(), **words) as server:
         soak = Soak(server, films)
         clients = [Client(soak, number, seed) for number in range(CLIENTS)]
         try:
