@@ -58,10 +58,10 @@ def segments_of(program, folder, buffer):
 def parts(segments):
     """The bytes of each part that a connection with one play leaves."""
     return {
-        "journal": 2 * memory.ENTRY, "plan in the journal": memory.piece(memory.SEGMENT * segments),
+        "journal": 2 * memory.ENTRY, "plan in the journal": memory.planned(segments),
         "report": REPORT, "receipts": memory.piece(2 * memory.RECEIPT),
         "note of the play": memory.piece(memory.PLAY),
-        "plan in the note": memory.piece(memory.SEGMENT * segments)}
+        "plan in the note": memory.copied_plan(segments)}
 
 
 def play_at_once(server, clients, buffer, count):
