@@ -116,7 +116,7 @@ def is_empty(soak):
             reply = wire.ask("GET_PARAMETER", "rtsp://h/short.mpg", body="x-Booked")
             found = LOOKED.search(reply)
             if not found or int(found[3]):
-                soak.fault(f"wanted nothing booked, came {' '.join(reply.split())}")
+                soak.fault(f"expected nothing booked, got {' '.join(reply.split())}")
                 return looks
             looks += 1
             time.sleep(0.02)
@@ -145,7 +145,7 @@ def judge_journal(soak, clients, looks):
         text, knocks = soak.server.finish(LAST_CONNECTIONS)
         journal = Journal(text)
     except NotServed as error:
-        soak.fault(f"wanted the server's journal: {error}")
+        soak.fault(f"expected the server's journal: {error}")
         return
     counts, _ = memory.sum_of([client.account for client in clients])
     reckoned = memory.entries(counts) + looks
