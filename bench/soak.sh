@@ -1,7 +1,7 @@
 #!/bin/sh
 # An hour of 60 clients that do whatever clients do: bench/soak.sh [MINUTES] [PROGRAM]
 #
-# MINUTES is how long they go on (default: 60; 3 for a try), PROGRAM the built vodserve (default:
+# MINUTES is how long they go on (default: 60; 4 for a try), PROGRAM the built vodserve (default:
 # ../crates/vodserve/out/vodserve). Needs python3 of at least 3.10, and no other program.
 #
 # Each client draws one session after another: films played to the end, parts, pauses, offers,
