@@ -170,7 +170,7 @@ def main():
             parts["peak"]) <= capacity
         if not good:
             differing += 1
-            print(f"differs: {' '.join(words[1:])}\n  told   {told}  wanted {wanted}")
+            print(f"differs: {' '.join(words[1:])}\n  told   {told}  expected {wanted}")
     print(f"{len(cases)} days, {differing} differ")
     sys.exit(1 if differing else 0)
 

@@ -19,6 +19,7 @@ from pathlib import Path
 TICKS = os.sysconf("SC_CLK_TCK")
 ENTRY = re.compile(r"(\d+) seat=(\d+) (play|halt|look) (.*)")
 LISTENS, ESTABLISHED = "0A", "01"
+SERVICE = Path(__file__).resolve().parent.parent / "tools" / "vodserve.service"
 
 
 class NotServed(Exception):
@@ -88,22 +89,35 @@ def status_of(pid, name):
     raise KeyError(name)
 
 
-class Server:
-    """A running `vodserve serve`."""
+def service_environment():
+    """The variables that the service sets for the server; what the caller has set counts instead."""
+    text = SERVICE.read_text(encoding="utf-8")
+    found = re.findall(r"^Environment=(\w+)=(\S+)$", text, re.MULTILINE)
+    return {name: os.environ.get(name, value) for name, value in found}
 
-    def __init__(self, program, folder, films, patience=60, **words):
+
+def told_environment():
+    """The same in a line of text."""
+    return " ".join(f"{name}={value}" for name, value in service_environment().items())
+
+
+class Server:
+    """A running `vodserve serve`, with the variables of `environment` beside this process's own."""
+
+    def __init__(self, program, folder, films, patience=60, environment=None, **words):
         self.port = words.setdefault("port", free_port())
         self.command = [program, "serve", *(f"film={film}" for film in films), *(f"{k}={v}" for k, v in words.items())]
         self.folder = Path(folder)
         self.patience = patience
+        self.environment = {**os.environ, **(environment or {})}
         self.child = None
 
     def __enter__(self):
         self.out = open(self.folder / "serve.out", "w+b")
         self.err = open(self.folder / "serve.err", "w+b")
         self.child = subprocess.Popen(
-            self.command, cwd=self.folder, stdin=subprocess.DEVNULL, stdout=self.out, stderr=self.err
-        )
+            self.command, cwd=self.folder, env=self.environment, stdin=subprocess.DEVNULL,
+            stdout=self.out, stderr=self.err)
         try:
             self.await_port()
         except BaseException:

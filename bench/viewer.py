@@ -26,9 +26,9 @@ def shown(value):
 
 
 def want(what, wanted, came):
-    """Raises Wrong where what came isn't what was wanted."""
+    """Raises Wrong where what came isn't what was expected."""
     if wanted != came:
-        raise Wrong(f"{what}: wanted {shown(wanted)}, came {shown(came)}")
+        raise Wrong(f"{what}: expected {shown(wanted)}, got {shown(came)}")
 
 
 class Wire:
@@ -119,7 +119,7 @@ class Wire:
                 self.receive(seconds)
         except TooLate:
             return
-        raise Wrong(f"wanted nothing for {seconds} s, came {shown(bytes(self.came))}")
+        raise Wrong(f"expected nothing for {seconds} s, got {shown(bytes(self.came))}")
 
     def end(self):
         """Waits for the server to end the connection."""
@@ -128,8 +128,8 @@ class Wire:
         except Ended:
             return
         except TooLate:
-            raise Wrong(f"wanted the connection's end, it is open for {self.patience} s") from None
-        raise Wrong(f"wanted the connection's end, came {shown(bytes(self.came))}")
+            raise Wrong(f"expected the connection's end, it is open {self.patience} s") from None
+        raise Wrong(f"expected the connection's end, got {shown(bytes(self.came))}")
 
     def send(self, method, url, *fields, body=""):
         """Sends a request with the next number."""
@@ -159,7 +159,7 @@ class Viewer(Wire):
             f"{OK}CSeq: 1\r\n{re.escape(transport)};ssrc=([0-9a-f]{{8}})\r\n"
             "Session: ([0-9a-f]{16})\r\n\r\n", reply)
         if not found:
-            raise Wrong(f"wanted a reply to SETUP, came {shown(reply)}")
+            raise Wrong(f"expected a reply to SETUP, got {shown(reply)}")
         self.source, self.identity = int(found[1], 16), found[2]
         self.session = f"Session: {self.identity}"
 
@@ -170,15 +170,15 @@ class Viewer(Wire):
         if wanted != block:
             name, units = self.film.name, self.run and (self.run.first, self.run.end)
             raise Wrong(
-                f"media of {name}, units {units}, from byte {self.place} on: wanted"
-                f" {shown(wanted)}, came {shown(block)}")
+                f"media of {name}, units {units}, from byte {self.place} on: expected"
+                f" {shown(wanted)}, got {shown(block)}")
         self.place = after
 
     def start(self, *fields, units=None):
         """PLAY, which must be granted; `units` are those of a new run, else one is resumed."""
         reply = self.ask("PLAY", self.url, self.session, *fields)
         if not self.started(reply, units):
-            raise Wrong(f"wanted PLAY granted, came {shown(reply)}")
+            raise Wrong(f"expected PLAY granted, got {shown(reply)}")
 
     def started(self, reply, units=None):
         """Whether the reply grants PLAY, as it should be worded."""
@@ -189,7 +189,7 @@ class Viewer(Wire):
             f"RTP-Info: url={re.escape(self.url)}/video;seq=([0-9]+);rtptime=([0-9]+)\r\n"
             "x-Start: ([0-9]+)\r\n\r\n", reply)
         if not found:
-            raise Wrong(f"wanted a reply to PLAY, came {shown(reply)}")
+            raise Wrong(f"expected a reply to PLAY, got {shown(reply)}")
         self.range, self.begin = found[1], int(found[4])
         sequence, stamp = int(found[2]), int(found[3])
         if units:
@@ -224,7 +224,7 @@ class Viewer(Wire):
         while self.place < size:
             item = self.next(end)
             if item[:1] != b"$":
-                raise Wrong(f"wanted media, came {shown(item)}")
+                raise Wrong(f"expected media, got {shown(item)}")
             self.put(item)
 
     def pause(self):
@@ -235,7 +235,7 @@ class Viewer(Wire):
             return False
         want("PAUSE", f"{OK}CSeq: {self.number}\r\n{self.session}\r\n\r\n", reply)
         if self.place not in self.run.ends:
-            raise Wrong(f"wanted a pause at the end of a frame or report, came byte {self.place}")
+            raise Wrong(f"expected a pause at the end of a frame or report, got byte {self.place}")
         return True
 
     def tear_down(self):

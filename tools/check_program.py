@@ -7,14 +7,14 @@ PROGRAM is the built vodserve (default: crates/vodserve/out/vodserve of the repo
 script stands). The proofs hold for the logic above files and sockets. Here the program itself is
 run: each exit status with its line, the commands' texts, `serve` and `watch` over loopback byte for
 byte, peers that are silent, vanish or take nothing, a moment without file descriptors, and 250
-sessions at once. What is wanted was worked out by hand, or is computed by the plain programs of
+sessions at once. What is expected was worked out by hand, or is computed by the plain programs of
 bench/. It is never taken from the program's own output.
 
 Needs Python 3.10 and Linux, no other package and no superuser; uses 127.0.0.1 and 127.0.0.2. Takes
 about a minute and a half, and under three minutes on a busy machine: the checks that have to wait
 run side by side. `--only WORD` runs the checks that have WORD in their names, `--list` prints the
-names. Prints one line for each check that fails, with what was wanted and what came, and at the end
-`N passed, M failed`. Ends with status 1 where M isn't 0, and with 2 where there is no program.
+names. Prints one line for each check that fails, with what was expected and what came, and at the
+end `N passed, M failed`. Ends with status 1 where M isn't 0, and with 2 where there is no program.
 """
 
 import argparse
@@ -97,7 +97,7 @@ def outcome(check, lab):
         while place.tb_next:
             place = place.tb_next
         where = f"{Path(place.tb_frame.f_code.co_filename).name}:{place.tb_lineno}"
-        return f"wanted an answer, came {type(error).__name__} {shown(str(error))} ({where})"
+        return f"expected an answer, got {type(error).__name__} {shown(str(error))} ({where})"
     return None
 
 
@@ -138,7 +138,7 @@ def run(slow, quick, lab, results):
     for thread in threads:
         thread.join(max(end - time.monotonic(), 0))
     for check in list(results.running):
-        results.add(check, f"wanted an end, it still runs after {LONGEST} s")
+        results.add(check, f"expected an end, it still runs after {LONGEST} s")
 
 
 def allow_many_files():

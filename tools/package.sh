@@ -105,7 +105,7 @@ CHANGELOG
     chmod 644 "$doc"/*.gz "$doc/copyright"
 }
 
-# write_overrides: tells lintian why the program keeps its symbols.
+# write_overrides: explains to lintian why the program has its symbols.
 write_overrides() {
     install -d -m 755 "$root/usr/share/lintian/overrides"
     cat >"$root/usr/share/lintian/overrides/vodserve" <<'OVERRIDES'

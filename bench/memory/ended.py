@@ -22,7 +22,7 @@ BENCH = Path(__file__).resolve().parent.parent
 sys.path[:0] = [str(BENCH), str(BENCH / "transcript"), str(BENCH / "soak")]
 
 import memory
-from serving import Server
+from serving import Server, service_environment, told_environment
 from viewer import OK, Wire, want
 
 FIRST, MORE = 4_200, 3_800
@@ -58,10 +58,10 @@ def segments_of(program, folder, buffer):
 def parts(segments):
     """The bytes of each part that a connection with one play leaves."""
     return {
-        "journal": 2 * memory.ENTRY, "plan in the journal": memory.piece(memory.SEGMENT * segments),
+        "journal": 2 * memory.ENTRY, "plan in the journal": memory.planned(segments),
         "report": REPORT, "receipts": memory.piece(2 * memory.RECEIPT),
         "note of the play": memory.piece(memory.PLAY),
-        "plan in the note": memory.piece(memory.SEGMENT * segments)}
+        "plan in the note": memory.copied_plan(segments)}
 
 
 def play_at_once(server, clients, buffer, count):
@@ -75,7 +75,7 @@ def play_at_once(server, clients, buffer, count):
 def grown(program, folder, workers, clients, buffer):
     """The bytes by which a connection makes the server's memory grow."""
     words = {"capacity": 10 ** 9, "workers": workers}
-    with Server(program, folder, [FILM], **words) as server:
+    with Server(program, folder, [FILM], environment=service_environment(), **words) as server:
         play_at_once(server, clients, buffer, FIRST)
         time.sleep(0.5)
         before = memory.resident(server.child.pid)
@@ -86,6 +86,7 @@ def grown(program, folder, workers, clients, buffer):
 
 def main():
     program, folder = sys.argv[1], Path(sys.argv[2])
+    print(f"environment: {told_environment()}", flush=True)
     for workers, clients, buffer in SCENES:
         left = grown(program, folder, workers, clients, buffer)
         held = parts(segments_of(program, folder, buffer))

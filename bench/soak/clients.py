@@ -124,7 +124,7 @@ class Client:
         if reply.startswith("RTSP/1.0 451 ") and lines is None:
             return False
         if not REFUSED.fullmatch(reply):
-            raise Wrong(f"wanted PLAY granted or refused for bandwidth, came {shown(reply)}")
+            raise Wrong(f"expected PLAY granted or refused for bandwidth, got {shown(reply)}")
         self.account.refuse(lines or 1)
         return False
 
@@ -195,7 +195,7 @@ class Client:
         found = LOOKED.search(reply)
         want("a look", OK[:-2], reply.split("\r\n")[0])
         if not found:
-            raise Wrong(f"wanted a look, came {shown(reply)}")
+            raise Wrong(f"expected a look, got {shown(reply)}")
         self.account.look()
         return int(found[3])
 
@@ -208,7 +208,7 @@ class Client:
             return
         head, _, body = reply.partition("\r\n\r\n")
         if not head.startswith(OK) or not OFFERED.fullmatch(body):
-            raise Wrong(f"wanted an offer, came {shown(reply)}")
+            raise Wrong(f"expected an offer, got {shown(reply)}")
         self.account.offer(wait, lines or 1)
 
     def breaks(self):
@@ -254,5 +254,5 @@ class Client:
         end = time.monotonic() + TAKES_NOTHING
         while is_established(port, own) and not self.soak.stopping.is_set():
             if time.monotonic() > end:
-                raise Wrong(f"wanted a client that takes nothing given up in {TAKES_NOTHING} s")
+                raise Wrong(f"expected a client that takes nothing given up in {TAKES_NOTHING} s")
             time.sleep(1)

@@ -2,14 +2,15 @@
 
 The server keeps all of this until it ends, in bytes:
 
-- for each entry of the journal ENTRY, and for that of a play its plan besides;
+- for each entry of the journal ENTRY, and for that of a play also its plan;
 - for each answer of the shared calendar a client's receipt, RECEIPT;
-- for each play that was admitted PLAY, and its plan a second time;
+- for each play that was admitted PLAY, and a copy of its plan;
 - for each offer OFFER, TRIED for each start in its wait (and one more), and its plan;
 - for each connection a report, CONNECTION.
 
-A plan has SEGMENT for each of its segments. The sizes are those of the types in the crates
-(`admission::Entry`, `session::Receipt`, `session::PlayNote`, `session::OfferNote`,
+A plan has SEGMENT for each of its segments. The planner's list of them grows by doubling, so it has
+room for 4, 8, 16 and so on; a copy has room for just its segments. The sizes are those of the types
+in the crates (`admission::Entry`, `session::Receipt`, `session::PlayNote`, `session::OfferNote`,
 `early_start::Tried`, `conn::ConnReport`, `plan_cert::Segment`). Whatever is taken in a piece of its
 own takes PIECE more of the C library, and a multiple of 16 bytes, at least 32. A list of reports
 grows by doubling, and so is half as long again on average.
@@ -28,6 +29,19 @@ PIECE = 8
 def piece(size):
     """What a piece of memory of so many bytes takes."""
     return max((size + PIECE + 15) // 16 * 16, 32) if size else 0
+
+
+def copied_plan(segments):
+    """What a copy of a plan takes."""
+    return piece(SEGMENT * segments)
+
+
+def planned(segments):
+    """What a plan takes as the planner made it."""
+    room = 4
+    while room < segments:
+        room *= 2
+    return piece(SEGMENT * room)
 
 
 class Account:
@@ -53,14 +67,14 @@ class Account:
         self.count("segments", segments)
         self.receipts += 2
         self.plays += 1
-        self.kept += 2 * ENTRY + 2 * piece(SEGMENT * segments)
+        self.kept += 2 * ENTRY + planned(segments) + copied_plan(segments)
 
     def refuse(self, segments):
         """A play without room: its entry with its plan, and a receipt."""
         self.count("refused")
         self.count("segments", segments)
         self.receipts += 1
-        self.kept += ENTRY + piece(SEGMENT * segments)
+        self.kept += ENTRY + planned(segments)
 
     def look(self):
         self.count("looks")
@@ -71,7 +85,7 @@ class Account:
         self.count("offers")
         self.count("segments", segments)
         self.notes += 1
-        self.kept += piece(TRIED * (wait + 1)) + piece(SEGMENT * segments)
+        self.kept += piece(TRIED * (wait + 1)) + planned(segments)
 
     def close_connection(self):
         """The lists of a report are cut to their length, each in a piece of its own."""

@@ -1,11 +1,12 @@
 #!/usr/bin/env python3
 """Many clients that do whatever clients do, for long: soak.py PROGRAM FOLDER MINUTES [SEED]
 
-A first part of the time, a fifth but at least half a minute, is for the server to come to its usual
-size. Then all clients leave, and its memory is taken. The same clients go on for the rest. What the
-memory has grown by is compared with what they asked (memory.py). At last the connections that the
-server has left are used up, so that it ends and prints its journal. The sessions are drawn from
-SEED (default 1), so the same ones come again, though not at the same times.
+A first part of the time, a fifth but at least five minutes or half of it, is for the server to come
+to its usual size: in the first minutes it grows by more than its records. Then all clients leave,
+and its memory is taken. The same clients go on for the rest. What the memory has grown by is
+compared with what they asked (memory.py). At last the connections that the server has left are used
+up, so that it ends and prints its journal. The sessions are drawn from SEED (default 1), so the
+same ones come again, though not at the same times.
 """
 
 import math
@@ -24,7 +25,8 @@ from clients import LOOKED, PATIENCE, Client, Soak
 from films import Film
 from rtsp import Ended, TooLate, Wrong
 from samples import generated_film, plain_film
-from serving import Journal, NotServed, Server, descriptors
+from serving import (
+    Journal, NotServed, Server, descriptors, service_environment, told_environment)
 from viewer import OK, Wire, want
 
 CLIENTS = 60
@@ -35,6 +37,8 @@ CAPACITY = 180_000
 JOURNAL = 1_048_576
 # Each so many seconds the server is short of file descriptors for a moment.
 SHORT_EACH, SHORT_FOR = 40, 3
+# Minutes in which the server comes to its usual size.
+FIRST_PART = 5
 # Seconds for all sessions to end: a film of 10 s with pauses, or a peer that is waited for.
 LAST_SESSIONS = 200
 # Seconds in which nothing may be booked at the end, longer than any film and its start delay.
@@ -112,7 +116,7 @@ def is_empty(soak):
             reply = wire.ask("GET_PARAMETER", "rtsp://h/short.mpg", body="x-Booked")
             found = LOOKED.search(reply)
             if not found or int(found[3]):
-                soak.fault(f"wanted nothing booked, came {' '.join(reply.split())}")
+                soak.fault(f"expected nothing booked, got {' '.join(reply.split())}")
                 return looks
             looks += 1
             time.sleep(0.02)
@@ -141,7 +145,7 @@ def judge_journal(soak, clients, looks):
         text, knocks = soak.server.finish(LAST_CONNECTIONS)
         journal = Journal(text)
     except NotServed as error:
-        soak.fault(f"wanted the server's journal: {error}")
+        soak.fault(f"expected the server's journal: {error}")
         return
     counts, _ = memory.sum_of([client.account for client in clients])
     reckoned = memory.entries(counts) + looks
@@ -183,7 +187,7 @@ def soak_for(soak, clients, minutes):
     answer_all(soak)
     time.sleep(2)
     idle = len(descriptors(soak.server.child.pid))
-    first = max(60 * minutes / 5, 30)
+    first = max(60 * minutes / 5, min(60 * FIRST_PART, 60 * minutes / 2))
     go_on(soak, clients, first)
     resident = settle(soak, idle)
     before = memory.sum_of([client.account for client in clients]), resident
@@ -209,8 +213,9 @@ def main():
     connections = MORE_OF_WORKER + math.ceil(MINUTE_OF_WORKER * minutes)
     words = {
         "capacity": CAPACITY, "journal": JOURNAL, "workers": WORKERS, "connections": connections}
+    print(f"environment: {told_environment()}", flush=True)
     begun = time.monotonic()
-    with Server(program, folder, films, **words) as server:
+    with Server(program, folder, films, environment=service_environment(), **words) as server:
         soak = Soak(server, films)
         clients = [Client(soak, number, seed) for number in range(CLIENTS)]
         try:

@@ -105,3 +105,5 @@ else
 fi
 files=$(sed -n 's/^LimitNOFILE=//p' "$tools/vodserve.service")
 try "vodserve.service: descriptors for 256 workers" [ "$files" -ge $((256 * 3 + 32)) ]
+heaps=$(sed -n 's/^Environment=MALLOC_ARENA_MAX=//p' "$tools/vodserve.service")
+try "vodserve.service: a heap for each of 256 workers" [ "$heaps" -gt 256 ]

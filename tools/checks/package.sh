@@ -25,10 +25,11 @@ cp /mnt/colours.mpg /var/lib/vodserve/
 sed -i "s/^port = .*/port = $port/" /etc/vodserve.conf
 unit=/lib/systemd/system/vodserve.service
 [ -f $unit ] || unit=/usr/lib/systemd/system/vodserve.service
-# starts what the unit file starts, as its user, in its folder
+# starts what the unit file starts, as its user, in its folder and environment
 start() {
     cd "$(sed -n 's/^WorkingDirectory=//p' $unit)"
-    setpriv --reuid vodserve --regid vodserve --clear-groups --inh-caps=-all \
+    env $(sed -n 's/^Environment=//p' $unit) \
+        setpriv --reuid vodserve --regid vodserve --clear-groups --inh-caps=-all \
         $(sed -n 's/^ExecStart=//p' $unit) >>/mnt/server.txt 2>&1 &
     server=$!
     cd /
@@ -44,6 +45,8 @@ play() {
 start
 play && say "the film is served"
 [ "$(ps -o user= -p $server)" = vodserve ] && say "by the user vodserve"
+[ "$(tr '\0' '\n' </proc/$server/environ | grep -c '^MALLOC_.*=[0-9]*$')" = 2 ] &&
+    [ "$(readlink /proc/$server/exe)" = /usr/bin/vodserve ] && say "in the unit's environment"
 dpkg -i "/mnt/$second" >/mnt/upgrade.txt 2>&1
 [ "$(dpkg-query -W -f '${Version}' vodserve)" = "$version-2" ] && say "upgraded"
 grep -q "^port = $port" /etc/vodserve.conf && say "the settings are kept"
@@ -89,8 +92,9 @@ else
         rmdir room
         in_copy scene.sh >said.txt 2>scene_error.txt
         for line in "no film, so it isn't started" "the user is there" "the film is served" \
-            "by the user vodserve" "upgraded" "the settings are kept" "served after the upgrade" \
-            "stopped" "removed, and the film is kept" "nothing is left"; do
+            "by the user vodserve" "in the unit's environment" "upgraded" "the settings are kept" \
+            "served after the upgrade" "stopped" "removed, and the film is kept" \
+            "nothing is left"; do
             if grep -qx "scene: $line" said.txt; then
                 pass "package: $line"
             else

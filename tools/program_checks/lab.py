@@ -32,7 +32,7 @@ class Failed(Wrong):
 def must(what, holds, came):
     """Raises Failed where it doesn't hold."""
     if not holds:
-        raise Failed(f"wanted {what}, came {shown(came)}")
+        raise Failed(f"expected {what}, got {shown(came)}")
 
 
 def want_bytes(what, wanted, came):
@@ -42,8 +42,8 @@ def want_bytes(what, wanted, came):
     shorter = min(len(wanted), len(came))
     place = next((k for k in range(shorter) if wanted[k] != came[k]), shorter)
     raise Failed(
-        f"{what}: wanted {len(wanted)} bytes, came {len(came)}, other ones from byte {place} on:"
-        f" wanted {shown(wanted[place:place + 16])}, came {shown(came[place:place + 16])}")
+        f"{what}: expected {len(wanted)} bytes, got {len(came)}, other ones from byte {place} on:"
+        f" expected {shown(wanted[place:place + 16])}, got {shown(came[place:place + 16])}")
 
 
 def until(what, holds, patience=PATIENCE):
@@ -51,7 +51,7 @@ def until(what, holds, patience=PATIENCE):
     end = time.monotonic() + patience
     while not (answer := holds()):
         if time.monotonic() > end:
-            raise Failed(f"wanted {what} within {patience} seconds, it didn't come")
+            raise Failed(f"expected {what} within {patience} seconds, it didn't come")
         time.sleep(0.1)
     return answer
 
@@ -134,7 +134,7 @@ class Lab:
             except serving.NotServed as error:
                 if "GateFault" not in str(error):
                     raise Failed(str(error)) from None
-        raise Failed("wanted a server that listens, none of five ports could be opened")
+        raise Failed("expected a server that listens, none of five ports could be opened")
 
 
     def stop_servers(self):
@@ -146,5 +146,5 @@ class Lab:
 def ended(server):
     """What is said of a server that ended where it should run."""
     return (
-        f"wanted a server that runs, it ended with status {server.child.returncode}:"
+        f"expected a server that runs, it ended with status {server.child.returncode}:"
         f" {shown(server.errors())}")

@@ -49,7 +49,7 @@ def all_answer(port, count):
                 reply = wires[-1].ask("OPTIONS", "*")
             except (TooLate, Ended, OSError) as error:
                 raise Failed(
-                    f"wanted {count} workers that answer, number {number + 1} doesn't"
+                    f"expected {count} workers that answer, number {number + 1} doesn't"
                     f" ({type(error).__name__})") from None
             want("OPTIONS", "RTSP/1.0 200 OK", reply[:15])
     finally:
@@ -69,9 +69,9 @@ def until_ended(wire, begun, each_second=b""):
             continue
         except (Ended, ConnectionError):
             return time.monotonic() - begun
-        raise Failed(f"wanted nothing from the server, came {bytes(wire.came)!r}")
+        raise Failed(f"expected nothing from the server, got {bytes(wire.came)!r}")
     raise Failed(
-        f"wanted the connection given up {FIRST_REPLY} s after its accept,"
+        f"expected the connection given up {FIRST_REPLY} s after its accept,"
         f" it is open after {PATIENCE} s")
 
 
@@ -121,7 +121,7 @@ def vanished(lab):
                 want("the next client is answered", True, answered(server.port))
             except TooLate:
                 raise Failed(
-                    f"wanted the worker of a peer that vanished free after {FIRST_REPLY} s,"
+                    f"expected the worker of a peer that vanished free after {FIRST_REPLY} s,"
                     f" another client isn't answered in {PATIENCE} s") from None
 
 
@@ -133,7 +133,7 @@ def four_silent(lab):
             want("a fifth client is answered", True, answered(server.port))
         except TooLate:
             raise Failed(
-                f"wanted a fifth client answered after {FIRST_REPLY} s, it isn't in {PATIENCE} s"
+                f"expected a fifth client answered after {FIRST_REPLY} s, it isn't in {PATIENCE} s"
             ) from None
         finally:
             for wire in wires:
@@ -168,7 +168,7 @@ def quiet_after(lab, *steps):
                 viewer.start(units=None if "PLAY" in steps else (0, 250))
             except Ended:
                 raise Failed(
-                    f"wanted a client that was answered still served after {SILENCE} s of silence,"
+                    f"expected an answered client still served after {SILENCE} s of silence,"
                     " its connection was ended") from None
             viewer.play()
 
@@ -303,7 +303,7 @@ def outcome(wire):
     except Ended:
         return False
     except TooLate:
-        raise Failed(f"wanted each client answered or ended, one waits {PATIENCE} s") from None
+        raise Failed(f"expected each client answered or ended, one waits {PATIENCE} s") from None
     finally:
         wire.socket.close()
 

@@ -40,7 +40,7 @@ def answers_words(lab):
         found = re.fullmatch(
             f"{OK}CSeq: 4\r\n{TCP};ssrc=[0-9a-f]{{8}}\r\nSession: ([0-9a-f]{{16}})\r\n\r\n", taken)
         if not found:
-            raise Failed(f"SETUP over TCP: came {shown(taken)}")
+            raise Failed(f"SETUP over TCP: got {shown(taken)}")
         session = f"Session: {found[1]}"
         played = wire.ask("PLAY", NEWS, session, "Range: npt=0.000-")
         must("a reply to PLAY", re.fullmatch(
@@ -253,7 +253,7 @@ def listens(lab):
         except ConnectionRefusedError:
             pass
         else:
-            raise Failed("wanted 127.0.0.2 refused without bind=all, it was accepted")
+            raise Failed("expected 127.0.0.2 refused without bind=all, it was accepted")
         with Wire(server.port) as wire:
             want("OPTIONS at 127.0.0.1", OPTIONS, wire.ask("OPTIONS", "*"))
     with lab.serving(["small.mpg"], workers=1, bind="all") as server:

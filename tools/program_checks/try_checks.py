@@ -2,10 +2,12 @@
 """Sees that the checks of check_program.py can fail: try_checks.py [PROGRAM]
 
 For each fault, a program that has it (wrong_program.py) is given to the checks that must notice.
-Prints a line for each fault, and at the end `N noticed, M missed`. Ends with status 1 if M isn't 0.
-PROGRAM is the right program (default: that of this repository). Takes about six minutes.
+Prints a line for each fault, and at the end `N noticed, M missed`. Ends with status 1 if M isn't 0,
+and with 2 if there is no program. PROGRAM is the right program (default: that of this repository).
+Takes about six minutes.
 """
 
+import argparse
 import os
 import re
 import subprocess
@@ -58,8 +60,20 @@ def tried(program, fault, word):
     return passed, failed, ran.returncode, ran.stdout.split("\n")[0][:160]
 
 
+def find_program():
+    """Returns the right program, as the arguments name it."""
+    parser = argparse.ArgumentParser(
+        description=__doc__, formatter_class=argparse.RawDescriptionHelpFormatter)
+    own = TOP / "crates/vodserve/out/vodserve"
+    parser.add_argument("program", nargs="?", default=own, type=Path)
+    program = parser.parse_args().program.resolve()
+    if not os.access(program, os.X_OK):
+        parser.error(f"there is no program {program}")
+    return str(program)
+
+
 def main():
-    program = str(Path(sys.argv[1] if sys.argv[1:] else TOP / "crates/vodserve/out/vodserve").resolve())
+    program = find_program()
     missed = 0
     with ThreadPoolExecutor(4) as pool:
         jobs = [(row, pool.submit(tried, program, *row[:2])) for row in FAULTS]
