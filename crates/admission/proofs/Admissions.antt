@@ -93,7 +93,7 @@ admission-of (Play slot plan) (Looked now at booked) start segments is = let bad
 admission-of (Halt number keep) answer start segments is = let bad : ⊥ = cc in absurd bad
 admission-of (Look slot) answer start segments is = let bad : ⊥ = cc in absurd bad
 
--- the play that can be halted stands whole in the state, and this entry admitted it
+-- the play that can be halted is in the state with all its bytes, and this entry admitted it
 pub record IsOpenEntry (entries : List Entry) (number keep : ℕ) (e : Entry) : Type 0 where
   pub held : AdmittedPlay
   pub is : play_numbered number (state_after entries).held ≡ Some held

@@ -6,6 +6,8 @@ use Rattle.std.proofs.lemmas.List.{map-append}
 use Rattle.std.proofs.lemmas.List.Sums.{fold_more}
 use Rattle.plan_cert.specs.declared.Segment.{Segment}
 use Rattle.slot_calendar.specs.declared.profiles.CapStep.{CapStep}
+use Rattle.slot_calendar.specs.Calendars.{IsFirstOverflow}
+use Rattle.slot_calendar.specs.Profiles.{capacity_at}
 use Rattle.slot_calendar.specs.Plays.{Play as Booked, asked_at, released_at, truncated_play, booked_by}
 use Rattle.slot_calendar.proofs.PlayShares.{booked-cut, booked-push}
 use Rattle.admission.specs.declared.entries.Entry.{Entry}
@@ -14,7 +16,7 @@ use Rattle.admission.specs.declared.entries.Command.TheVariants.{Play, Halt, Loo
 use Rattle.admission.specs.declared.entries.Answer.{Answer}
 use Rattle.admission.specs.declared.entries.Answer.TheVariants.{Admitted, Overflow, Halted, Looked}
 use Rattle.admission.specs.Machine.{State, CanHalt, IsAnswer, admitted_play, booked_in, halted_play, play_numbered}
-use Rattle.admission.specs.Machine.{next_state, plays_of, with_halted}
+use Rattle.admission.specs.Machine.{next_state, plays_of, start_after, with_halted}
 use Rattle.admission.specs.Histories.{IsLegal, asked_in, booked_after, is_admission, is_halt, latest_asked, state_after}
 use Rattle.admission.proofs.Admissions.{admission-of}
 use Rattle.admission.proofs.Calendars.{plays-around}
@@ -106,7 +108,7 @@ start-is {steps} {xs} {number} {start} {segments} admitted =
     fold_more (λ latest (x : Entry). max latest (asked_in x.command)) 0 xs number no_entry admission.inside in
     omega (arith, answered.0, now_is, slot_is, latest)
 
--- ---- what a look tells
+-- ---- what a look reports
 pub look-is : {steps : List CapStep} {xs : List Entry} {slot now at booked : ℕ} (place : ℕ) (none : Entry) →
     IsLegal steps xs → place < length xs → (get_or xs place none).command ≡ Look slot →
     (get_or xs place none).answer ≡ Looked now at booked
@@ -118,3 +120,26 @@ look-is {steps} {xs} {slot} {at} place none legal inside command_is answer_is =
     let told = subst A answer_is (subst C command_is (legal.each place none inside)) in
     let now_is = (tally steps (take place xs) (legal-take steps xs place legal)).1 in
     (told.0 ∙ now_is, omega (arith, told.0, told.1), told.2)
+
+-- ---- what the entry of a refused play reports
+pub refusal-is : {steps : List CapStep} {xs : List Entry} {slot over booked asked : ℕ} {segments : List Segment}
+    (place : ℕ) (none : Entry) → IsLegal steps xs → place < length xs →
+    (get_or xs place none).command ≡ Play slot segments → (get_or xs place none).answer ≡ Overflow over booked asked →
+    IsFirstOverflow 0 (booked_after (take place xs)) (capacity_at steps)
+    (latest_asked (take (place + 1) xs) + 1) segments (record { slot = over; booked = booked; asked = asked })
+refusal-is {steps} {xs} {slot} {over} {booked} {asked} {segments} place none legal inside command_is answer_is =
+    let state = state_after (take place xs) in
+    let C : Command → Type 0 = λ c. IsAnswer steps state c (get_or xs place none).answer in
+    let A : Answer → Type 0 = λ a. IsAnswer steps state (Play slot segments) a in
+    let told = subst A answer_is (subst C command_is (legal.each place none inside)) in
+    let now_is = (tally steps (take place xs) (legal-take steps xs place legal)).1 in
+    let slot_is : asked_in (get_or xs place none).command ≡ slot = ap asked_in command_is in
+    let latest : latest_asked (take (place + 1) xs)
+    ≡ max (latest_asked (take place xs)) (asked_in (get_or xs place none).command) =
+    fold_more (λ latest (x : Entry). max latest (asked_in x.command)) 0 xs place none inside in
+    let begins : start_after state slot ≡ latest_asked (take (place + 1) xs) + 1 =
+    omega (arith, now_is, slot_is, latest) in
+    let F : ℕ → Type 0 =
+    λ b. IsFirstOverflow 0 (booked_after (take place xs)) (capacity_at steps) b segments
+    (record { slot = over; booked = booked; asked = asked }) in
+    subst F begins told

@@ -19,7 +19,7 @@ pub stands-opened : (calendar : CalendarState) (held : List AdmittedPlay) (numbe
 stands-opened calendar held number start segments stands =
     subst (Represents calendar) (sym (map_push play_of held (admitted_play number start segments))) stands
 
--- the plays around one that stands whole
+-- the plays around one that has all its bytes
 pub plays-around : {h : AdmittedPlay} (state : State) (number start : ℕ) (segments : List Segment)
     (is : play_numbered number state.held ≡ Some h) → h.play ≡ whole_play start segments →
     plays_of state
@@ -30,7 +30,7 @@ plays-around {h} state number start segments is play_is =
     ap (map play_of) parts.was ∙ plays-split parts.before parts.after h
     ∙ ap (λ p. map play_of parts.before ++ p ∷ map play_of parts.after) play_is
 
--- the state holds a play whole
+-- the state has a play with all its bytes
 pub record HoldsWhole (state : State) (number start : ℕ) (segments : List Segment) : Type 0 where
   pub held : AdmittedPlay
   pub is : play_numbered number state.held ≡ Some held
@@ -52,7 +52,7 @@ cut-allowed {calendar} {state} {number} {start} {segments} keep whole stands law
     law (map play_of parts.before) (map play_of parts.after)
     (subst (Represents calendar) (plays-around state number start segments whole.is whole.play_is) stands)
 
--- once it is cut, the calendar stands for the plays with that one halted
+-- once it is stopped early, the calendar represents the plays with that one halted
 pub stands-halted : {old new : CalendarState} {state : State} {number start : ℕ} {segments : List Segment} (keep : ℕ)
     → HoldsWhole state number start segments → Represents old (plays_of state)
     → ((before after : List Booked) → Represents old (before ++ whole_play start segments ∷ after)
@@ -70,7 +70,7 @@ stands-halted {old} {new} {state} {number} {start} {segments} keep whole stands 
     subst (Represents new) (sym becomes)
     (cut front back (subst (Represents old) (plays-around state number start segments whole.is whole.play_is) stands))
 
--- what a look tells
+-- what a look reports
 pub look-answer : {calendar : CalendarState} {state : State} {now at booked : ℕ} (steps : List CapStep) (slot : ℕ) →
     MatchesState calendar state → now ≡ calendar.first → at ≡ max now slot →
     booked ≡ booked_at calendar at → IsAnswer steps state (Look slot) (Looked now at booked)

@@ -23,7 +23,7 @@ use Rattle.admission.specs.Histories.{IsLegal, state_after}
 use Rattle.admission.proofs.HistoryPrefixes.{Machine, machine_after, no_entry, state-next, legal-at}
 use Rattle.admission.proofs.Halts.{halting, split, holds-of, all-halted, play_of, plays-split}
 
--- ---- open plays are whole
+-- ---- open plays have all their bytes
 pub record IsWhole (h : AdmittedPlay) : Type 0 where
   pub whole : h.is_open ≡ true → h.play.keep ≡ total_bytes h.play.segments
 
@@ -51,7 +51,7 @@ whole-next m place (Look slot) Halted is all = absurd is
 min-parts : (a b k m : ℕ) → a ≤ b → k ≤ m → min b k - min a k ≤ min b m - min a m
 min-parts a b k m rises less = omega arith
 
--- a play that is cut sends no more in a slot
+-- a play that is stopped early sends no more in a slot
 pub share-less : (segments : List Segment) (start keep more t : ℕ) → keep ≤ more
     → share_at t (truncated_play start segments keep) ≤ share_at t (truncated_play start segments more)
 share-less segments start keep more t less =

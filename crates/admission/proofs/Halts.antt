@@ -68,7 +68,7 @@ split number (x ∷ rest) h is =
           )
     ]
 
--- what holds of all plays holds of that one
+-- what is true of all plays is true of that one
 pub holds-of : (P : AdmittedPlay → Type 0) (number : ℕ) (held : List AdmittedPlay) (h : AdmittedPlay) → All P held
     → play_numbered number held ≡ Some h → P h
 holds-of P number held h all is =
@@ -78,7 +78,7 @@ holds-of P number held h all is =
     subst P (get_or_at parts.before h parts.after h (length parts.before) refl)
     (all' (length parts.before) h (omega (arith, length-append parts.before (h ∷ parts.after))))
 
--- and of all plays after the halt, if it holds of that one
+-- and of all plays after the halt, if it is true of that one
 pub all-halted : {state : State} {number keep : ℕ} (P : AdmittedPlay → Type 0) (halt : Halting state number keep)
     → P (halted_play keep halt.held) → All P state.held → All P (with_halted number keep state.held)
 all-halted {state} {number} {keep} P halt here all =

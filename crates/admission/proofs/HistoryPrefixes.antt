@@ -1,4 +1,4 @@
--- The state after one entry more, and legal histories that grow or are cut.
+-- The state after one entry more, and legal histories that grow, with their prefixes.
 use Rattle.std.proofs.Common.{◌≡◌, ◌<◌, ◌+◌, ℕ, suc, List, [], ◌∷◌, ◌++◌, length, get_or, take, arith, sym, ap}
 use Rattle.std.proofs.Common.{subst, ◌∙◌, inl, inr}
 use Rattle.std.proofs.lemmas.Bool.{cases_order}

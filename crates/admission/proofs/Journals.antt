@@ -66,7 +66,7 @@ pub record AreCounted (xs : List Entry) (e : Entry) (limit more : ℕ) : Type 0 
   pub more_is : more ≡ live (next_of (state_after xs) (length xs) e)
   pub fits : length xs + 1 + more ≤ limit
 
--- what a book tells of its counts, by its fields
+-- what a book reports of its counts, by its fields
 pub counts-kept : {calendar : CalendarState} {xs : List Entry} {journal : Journal} {full : Full} {limit count room : ℕ}
     → IsBookKept calendar xs limit count room → xs ≡ journal.entries → IsFull journal full
     → (full.entries ≡ length xs) × (full.live ≡ count)
@@ -94,7 +94,7 @@ kept-push {calendar} {new} {xs} {ys} {e} {more} kept grown counted wide_is =
       reserved = omega (arith, wide_is, kept.reserved);
     }
 
--- an answer that is noted after some entries, and what the caller is told of it
+-- an answer that is noted after some entries, and what the call returns of it
 pub record IsNotedAfter (xs ys : List Entry) (e : Entry) (noted : Noted) : Type 0 where
   pub place_is : noted.place ≡ length xs
   pub answer_is : noted.answer ≡ e.answer

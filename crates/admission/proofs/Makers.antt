@@ -1,4 +1,4 @@
--- The entries of a maker, and what they tell of the whole history.
+-- The entries of a maker, and what follows from them for the entire history.
 use Rattle.std.proofs.Common.{◌≡◌, ◌<◌, ◌+◌, ℕ, zero, suc, eqb, List, [], ◌∷◌, length, get_or, All, Some, map}
 use Rattle.std.proofs.Common.{filter, arith, refl, sym, ap, subst, ◌∙◌, inl}
 use Rattle.std.proofs.Common.{inr, eq-eqb}

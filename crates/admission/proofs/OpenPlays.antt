@@ -231,7 +231,7 @@ can-still steps xs number keep legal can =
     }
 
 -- ---- a play that was halted
--- the play that a halt may close is the one that was admitted, whole
+-- the play that a halt may close is the one that was admitted, with all its bytes
 halted-whole : {steps : List CapStep} {xs : List Entry} {number start : ℕ} {segments : List Segment} {h : AdmittedPlay}
     (n : ℕ) → PlayAdmitted steps xs number start segments → n ≤ length xs →
     play_numbered number (state_after (take n xs)).held ≡ Some h → h.is_open ≡ true → h ≡ admitted_play number start

@@ -1,4 +1,4 @@
--- What a history comes to, told by its entries: the number of open plays, and now.
+-- What follows from the entries of a history: the number of open plays, and now.
 use Rattle.std.proofs.Common.{◌≡◌, ◌≤◌, ◌<◌, ◌+◌, ℕ, zero, suc, cond, max, List, length, get_or, take, count_by}
 use Rattle.std.proofs.Common.{arith, refl, sym, ap, subst, ◌∙◌}
 use Rattle.std.proofs.lemmas.List.{take_all}

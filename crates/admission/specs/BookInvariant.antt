@@ -2,6 +2,7 @@
 -- number of open plays.
 use Rattle.std.specs.Prelude.{ℕ, ◌≡◌, ◌≤◌, List}
 use Rattle.slot_calendar.specs.Calendars.{CalendarState, Represents}
+use Rattle.admission.specs.declared.book.TheConstants.{MAX_ENTRIES}
 use Rattle.admission.specs.declared.entries.Entry.{Entry}
 use Rattle.admission.specs.Machine.{State, plays_of}
 use Rattle.admission.specs.Histories.{IsLegal, open_count, state_after}
@@ -19,5 +20,5 @@ pub record IsBookKept (calendar : CalendarState) (entries : List Entry) (limit c
   pub follows : MatchesState calendar (state_after entries)
   pub count_is : count ≡ open_count entries
   pub within : places_taken entries ≤ limit
-  pub few : limit ≤ 1048576
+  pub few : limit ≤ MAX_ENTRIES
   pub reserved : limit ≤ room

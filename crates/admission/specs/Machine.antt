@@ -1,5 +1,5 @@
--- The machine that admits plays on a link. Its answers are said as a relation, and each answer
--- gives the next state.
+-- The machine that admits plays on a link. Its answers are a relation, and each answer gives the
+-- next state.
 use Rattle.std.specs.Prelude.{ℕ, ◌≡◌, ◌+◌, ◌≤◌, ◌==◌, max, Bool, true, false, IsTrue, IsSomeAnd}
 use Rattle.std.specs.Prelude.{List, [], ◌∷◌, ◌++◌, map, count_by, Option, find, if◌then◌else◌}
 use Rattle.plan_cert.specs.declared.Segment.{Segment}

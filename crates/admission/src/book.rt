@@ -59,7 +59,7 @@ impl Book {
     /// [`NoMemory`] where there is none for the calendar or for the entire journal.
     pub fn new(alloc: Global, profile: Profile, limit: u64) -> Result<Book, NoMemory>
         requires some { 2 ≤ limit }
-        requires few { limit ≤ 1048576 }
+        requires few { limit ≤ MAX_ENTRIES }
         ensures { IfOk result (λ book.
             book ≡ record { steps = profile; limit = limit; entries = [] }) }
     {
@@ -76,7 +76,7 @@ impl Book {
     fn counts(&self) -> Full
         ensures full { IsFull self.now result }
         ensures within { result.entries + result.live ≤ self.now.limit }
-        ensures few { self.now.limit ≤ 1048576 }
+        ensures few { self.now.limit ≤ MAX_ENTRIES }
     {
         Full {
             entries: self.entries.len() as u64,
@@ -95,7 +95,7 @@ impl Book {
     /// halt's, are more than the limit. It hands the plan back and leaves the book as it was.
     pub fn play(&mut self, maker: u32, slot: u64, plan: Plan) -> Result<Noted, PlayFull>
         ensures noted { IfOk result (λ noted.
-            IsNoted self.old maker (Command.Play (min slot (2 ^ 62)) plan) noted self.new) }
+            IsNoted self.old maker (Command.Play (min slot LATEST_SLOT) plan) noted self.new) }
         ensures room { OnOk result (places_taken self.old.entries + 2 ≤ self.old.limit) }
         ensures full { OnErr result (self.old.limit < places_taken self.old.entries + 2) }
         ensures counts { IfErr result (λ refused. IsFull self.old refused.full) }
@@ -149,7 +149,7 @@ impl Book {
     /// the book as it was.
     pub fn look(&mut self, maker: u32, slot: u64) -> Result<Noted, Full>
         ensures noted { IfOk result (λ noted.
-            IsNoted self.old maker (Command.Look (min slot (2 ^ 62))) noted self.new) }
+            IsNoted self.old maker (Command.Look (min slot LATEST_SLOT)) noted self.new) }
         ensures room { OnOk result (places_taken self.old.entries + 1 ≤ self.old.limit) }
         ensures full { OnErr result (self.old.limit < places_taken self.old.entries + 1) }
         ensures counts { IfErr result (λ full. IsFull self.old full) }
@@ -176,7 +176,7 @@ impl Book {
         ensures value { result.now ≡ self.now.entries }
         ensures legal { IsLegal self.now.steps self.now.entries }
         ensures within { places_taken self.now.entries ≤ self.now.limit }
-        ensures few { self.now.limit ≤ 1048576 }
+        ensures few { self.now.limit ≤ MAX_ENTRIES }
     {
         self.entries.as_slice()
     }
@@ -196,7 +196,7 @@ impl Book {
         ensures value { result.items ≡ self.entries }
         ensures legal { IsLegal self.steps self.entries }
         ensures within { places_taken self.entries ≤ self.limit }
-        ensures few { self.limit ≤ 1048576 }
+        ensures few { self.limit ≤ MAX_ENTRIES }
     {
         let Book {
             calendar: _,

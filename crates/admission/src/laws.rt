@@ -179,6 +179,39 @@ pub fn law_look_reports_booked_bytes()
         booked ≡ booked_after (take place entries) at }
 {}
 
+/// What a refused play's entry reports: the first slot without room, the bytes that the entries
+/// before it book there, and the bytes that its plan sends there, if it begins in the slot after the
+/// latest one in which a play was asked for, up to its own entry. Together they are above the
+/// capacity. Each slot before it has room for the plan.
+pub fn law_refusal_reports_first_slot_without_room()
+    ensures booked { (steps : List CapStep) (entries : List Entry)
+        (place slot over booked asked : ℕ) (segments : List Segment) (none : Entry) →
+        IsLegal steps entries → place < length entries →
+        (slice_index_or entries place none).command ≡ Command.Play slot segments →
+        (slice_index_or entries place none).answer ≡ Answer.Overflow over booked asked →
+        booked ≡ booked_after (take place entries) over }
+    ensures asked { (steps : List CapStep) (entries : List Entry)
+        (place slot over booked asked : ℕ) (segments : List Segment) (none : Entry) →
+        IsLegal steps entries → place < length entries →
+        (slice_index_or entries place none).command ≡ Command.Play slot segments →
+        (slice_index_or entries place none).answer ≡ Answer.Overflow over booked asked →
+        asked ≡ asked_at segments (latest_asked (take (place + 1) entries) + 1) over }
+    ensures over { (steps : List CapStep) (entries : List Entry)
+        (place slot over booked asked : ℕ) (segments : List Segment) (none : Entry) →
+        IsLegal steps entries → place < length entries →
+        (slice_index_or entries place none).command ≡ Command.Play slot segments →
+        (slice_index_or entries place none).answer ≡ Answer.Overflow over booked asked →
+        capacity_at steps over < booked + asked }
+    ensures before { (steps : List CapStep) (entries : List Entry)
+        (place slot over booked asked t : ℕ) (segments : List Segment) (none : Entry) →
+        IsLegal steps entries → place < length entries →
+        (slice_index_or entries place none).command ≡ Command.Play slot segments →
+        (slice_index_or entries place none).answer ≡ Answer.Overflow over booked asked →
+        t < over → booked_after (take place entries) t
+        + asked_at segments (latest_asked (take (place + 1) entries) + 1) t
+        ≤ capacity_at steps t }
+{}
+
 /// A journal keeps a place for the halt of each open play: where no more than the limit are taken,
 /// halts alone never pass it, however many more there are.
 pub fn law_journal_has_room_for_halts()

@@ -6,14 +6,16 @@ ghost use Rattle.admission.specs.Machine.{State, CanHalt, IsAnswer, IsNeverOverb
 ghost use Rattle.admission.specs.Histories.{IsLegal, is_admission, state_after};
 ghost use Rattle.admission.specs.BookInvariant.{MatchesState};
 
+use crate::book::MAX_ENTRIES;
 use crate::entries::{Answer, Command, Entry, Noted};
 use plan_cert::Plan;
 use slot_calendar::Calendar;
 use slot_calendar::laws::law_booked_plan_can_be_released;
+use vod_base::LATEST_SLOT;
 
 /// Moves now up to a slot, and books a plan from the slot after now on, if it fits everywhere.
 pub(crate) fn admit(calendar: &mut Calendar, slot: u64, plan: &Plan) -> Answer
-    requires { slot ≤ 2 ^ 62 }
+    requires { slot ≤ LATEST_SLOT }
     ensures steps { calendar.new.steps ≡ calendar.old.steps }
     ensures answer { (state : State) → MatchesState calendar.old state →
         IsNeverOverbooked calendar.old.steps state →
@@ -53,7 +55,7 @@ pub(crate) fn opened_count(answer: Answer) -> u64
 /// Gives back what an open play has after its first `keep` bytes in the slots from now on. Its plan
 /// stands in the entry that admitted it.
 pub(crate) fn release_play(calendar: &mut Calendar, entries: &[Entry], number: u64, keep: u64)
-    requires few { length entries.now ≤ 1048576 }
+    requires few { length entries.now ≤ MAX_ENTRIES }
     requires legal { IsLegal calendar.old.steps entries.now }
     requires follows { MatchesState calendar.old (state_after entries.now) }
     requires can { CanHalt (state_after entries.now) number keep }

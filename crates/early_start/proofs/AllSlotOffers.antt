@@ -1,4 +1,4 @@
--- What is found in a calendar is found among the plays that it stands for, in all slots.
+-- What is found in a calendar is found among the plays that it represents, in all slots.
 use Rattle.std.proofs.Common.{ℕ, ◌<◌, List, Option, Some, None, length, arith}
 use Rattle.plan_cert.specs.declared.Segment.{Segment}
 use Rattle.slot_calendar.specs.Calendars.{CalendarState}

@@ -123,3 +123,18 @@ same_tried {a} {b} wait x y =
     let below' : k < length b.tried = omega (arith, many, below) in
     refusal_once (x.refusals.refused k none below) (y.refusals.refused k none below')
     (x.refusals.starts k none below ∙ sym (y.refusals.starts k none below')))
+
+-- a start that was tried, with its first slot without room
+pub refusal-at : {from : ℕ} {booked capacity : ℕ → ℕ} {segments : List Segment} {first : ℕ} {found : Offers}
+    (i : ℕ) (none : Tried) → IsOffer from booked capacity segments first found → i < length found.tried →
+    IsFirstOverflow from booked capacity (first + i) segments (get_or found.tried i none).over
+refusal-at {from} {booked} {capacity} {segments} {found = found} i none offer inside =
+    let P : ℕ → Type 0 = λ n. IsFirstOverflow from booked capacity n segments (get_or found.tried i none).over in
+    subst P (offer.refusals.starts i none inside) (offer.refusals.refused i none inside)
+
+-- the start that was found, by its value
+pub start_as : {from : ℕ} {booked capacity : ℕ → ℕ} {segments : List Segment} {first : ℕ} {found : Offers}
+    {start : Option ℕ} → IsOffer from booked capacity segments first found → found.start ≡ start →
+    IsStart (CanStart from booked capacity segments) first found.wait (length found.tried) start
+start_as {from} {booked} {capacity} {segments} {first} {found} {start} is same =
+    subst (IsStart (CanStart from booked capacity segments) first found.wait (length found.tried)) same is.start

@@ -1,6 +1,7 @@
 -- How an answer is kept: with room for all starts.
 use Rattle.std.specs.Prelude.{◌+◌, ◌≤◌, length, vec_capacity}
 use Rattle.early_start.specs.StartSearch.{Offers}
+use Rattle.early_start.specs.declared.TheConstants.{MAX_WAIT}
 use Rattle.early_start.specs.declared.Offers.TheInside.{Inside}
 
 abbrev pub offers_state : Inside → Offers
@@ -11,6 +12,6 @@ offers_state offers = record {
 }
 
 pub record AreOffersKept (offers : Inside) : Type 0 where
-  pub few : offers.wait ≤ 255
+  pub few : offers.wait ≤ MAX_WAIT
   pub few_tried : length offers.tried.items ≤ offers.wait + 1
   pub room : offers.wait + 1 ≤ vec_capacity offers.tried

@@ -1,11 +1,13 @@
 //! Laws of offers: there is one, what it says of plays, and that its start is the least.
 
-ghost use Rattle.std.specs.Prelude.{ℕ, ◌≡◌, ◌+◌, ◌<◌, ◌≤◌, List, None, Some};
+ghost use Rattle.std.specs.Prelude.{ℕ, ◌≡◌, ◌+◌, ◌<◌, ◌≤◌, List, None, Some, length};
+ghost use Rattle.std.specs.Prelude.{slice_index_or};
 ghost use Rattle.plan_cert.specs.declared.Segment.{Segment};
 ghost use Rattle.slot_calendar.specs.Calendars.{CalendarState, HasRoom, Represents};
-ghost use Rattle.slot_calendar.specs.Plays.{Play, booked_by};
+ghost use Rattle.slot_calendar.specs.Plays.{Play, asked_at, booked_by};
 ghost use Rattle.slot_calendar.specs.Profiles.{capacity_at};
 ghost use Rattle.early_start.specs.StartSearch.{IsOffer, IsOfferIn, Offers};
+ghost use Rattle.early_start.specs.declared.Tried.{Tried};
 
 /// A plan and its first start have one answer within a wait, whatever is booked.
 pub fn law_offer_is_unique()
@@ -50,4 +52,37 @@ pub fn law_offered_start_is_earliest()
         (found : Offers) → IsOffer from booked capacity segments first found →
         found.start ≡ None → first ≤ start → start ≤ first + found.wait →
         ¬ HasRoom from booked capacity start segments }
+{}
+
+/// What is found says of the starts that don't fit: they are all starts from the first one up to the
+/// one that was found, in order, or all within the wait where none was found. Each comes with its
+/// first slot without room, the bytes booked there, and the bytes that the plan sends there from
+/// this start on, which are together above the capacity.
+pub fn law_each_earlier_start_has_its_overflow()
+    ensures starts { (from first i : ℕ) (booked capacity : ℕ → ℕ) (segments : List Segment)
+        (found : Offers) (none : Tried) → IsOffer from booked capacity segments first found →
+        i < length found.tried → (slice_index_or found.tried i none).start ≡ first + i }
+    ensures until { (from first start : ℕ) (booked capacity : ℕ → ℕ) (segments : List Segment)
+        (found : Offers) → IsOffer from booked capacity segments first found →
+        found.start ≡ Some start → first + length found.tried ≡ start }
+    ensures all { (from first : ℕ) (booked capacity : ℕ → ℕ) (segments : List Segment)
+        (found : Offers) → IsOffer from booked capacity segments first found →
+        found.start ≡ None → length found.tried ≡ found.wait + 1 }
+    ensures booked { (from first i : ℕ) (booked capacity : ℕ → ℕ) (segments : List Segment)
+        (found : Offers) (none : Tried) → IsOffer from booked capacity segments first found →
+        i < length found.tried → (slice_index_or found.tried i none).over.booked
+        ≡ booked (slice_index_or found.tried i none).over.slot }
+    ensures asked { (from first i : ℕ) (booked capacity : ℕ → ℕ) (segments : List Segment)
+        (found : Offers) (none : Tried) → IsOffer from booked capacity segments first found →
+        i < length found.tried → (slice_index_or found.tried i none).over.asked
+        ≡ asked_at segments (first + i) (slice_index_or found.tried i none).over.slot }
+    ensures over { (from first i : ℕ) (booked capacity : ℕ → ℕ) (segments : List Segment)
+        (found : Offers) (none : Tried) → IsOffer from booked capacity segments first found →
+        i < length found.tried → capacity (slice_index_or found.tried i none).over.slot
+        < (slice_index_or found.tried i none).over.booked
+        + (slice_index_or found.tried i none).over.asked }
+    ensures before { (from first i t : ℕ) (booked capacity : ℕ → ℕ) (segments : List Segment)
+        (found : Offers) (none : Tried) → IsOffer from booked capacity segments first found →
+        i < length found.tried → from ≤ t → t < (slice_index_or found.tried i none).over.slot →
+        booked t + asked_at segments (first + i) t ≤ capacity t }
 {}

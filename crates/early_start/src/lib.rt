@@ -12,7 +12,7 @@ use plan_cert::Plan;
 use slot_calendar::{Calendar, Overflow};
 use std::alloc::Global;
 use std::marker::Model;
-use vod_base::NoMemory;
+use vod_base::{LATEST_SLOT, NoMemory};
 
 /// A start at which the plan doesn't fit.
 #[derive(Clone, Copy, Debug, PartialEq, Eq)]
@@ -55,7 +55,7 @@ impl Offers {
     ///
     /// [`NoMemory`] where there is none for them.
     pub fn new(alloc: Global, wait: u64) -> Result<Offers, NoMemory>
-        requires { wait ≤ 255 }
+        requires { wait ≤ MAX_WAIT }
         ensures wait { IfOk result (λ offers. offers.wait ≡ wait) }
         ensures start { IfOk result (λ offers. offers.start ≡ None) }
         ensures tried { IfOk result (λ offers. offers.tried ≡ []) }
@@ -71,7 +71,7 @@ impl Offers {
     /// How many slots later than the first one the plan may start.
     pub fn wait(&self) -> u64
         ensures value { result ≡ self.now.wait }
-        ensures most { result ≤ 255 }
+        ensures most { result ≤ MAX_WAIT }
     {
         self.wait
     }
@@ -98,7 +98,7 @@ impl Offers {
     /// `first` is after the calendar's now, and at most 2^62 + 1.
     pub fn find(&mut self, calendar: &Calendar, plan: &Plan, first: u64)
         requires after { calendar.now.first < first }
-        requires small { first ≤ 2 ^ 62 + 1 }
+        requires small { first ≤ LATEST_SLOT + 1 }
         ensures wait { self.new.wait ≡ self.old.wait }
         ensures offer { IsOfferIn calendar.now plan.now first self.new }
     {
@@ -116,8 +116,8 @@ fn search(
     tried: &mut Vec<Tried>,
 ) -> Option<u64>
     requires after { calendar.now.first < first }
-    requires small { first ≤ 2 ^ 62 + 1 }
-    requires wait { wait ≤ 255 }
+    requires small { first ≤ LATEST_SLOT + 1 }
+    requires wait { wait ≤ MAX_WAIT }
     requires empty { tried.old.items ≡ [] }
     requires room { wait + 1 ≤ vec_capacity tried.old }
     ensures refusals { AreRefusalsIn calendar.now plan.now first tried.new.items }

@@ -1,2 +1,3 @@
 pub mod Noting
 pub mod Tries
+mod WaitTimes

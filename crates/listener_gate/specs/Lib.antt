@@ -3,3 +3,4 @@ pub mod Codes
 pub mod Histories
 pub mod Listeners
 pub mod Openings
+pub mod Waits

@@ -5,6 +5,7 @@
 mod codes;
 mod gates;
 mod histories;
+pub mod laws;
 mod listeners;
 mod memory_listeners;
 

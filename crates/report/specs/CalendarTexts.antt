@@ -1,16 +1,18 @@
 -- The text of the bytes that are booked in the slots from one on. Numbers are decimal, and each
 -- line ends with LF.
-use Rattle.std.specs.Prelude.{ℕ, ◌≡◌, ◌+◌, ◌^◌, ◌≤◌, nat_lt, List, ◌++◌, filter, flat_map, codes}
+use Rattle.std.specs.Prelude.{ℕ, ◌≡◌, ◌+◌, ◌≤◌, nat_lt, List, ◌++◌, filter, flat_map, codes}
 use Rattle.std.specs.List.{range_with_len}
 use Rattle.plan_cert.specs.CertGrammar.{lines_of}
 use Rattle.slot_calendar.specs.Totals.{ring_slots}
+use Rattle.slot_calendar.specs.declared.profiles.TheConstants.{MAX_CAPACITY}
+use Rattle.vod_base.specs.declared.links.TheConstants.{LATEST_SLOT}
 use Rattle.vod_base.specs.Fields.{field}
 
 -- What is true for the bytes booked on a link in the slots from one on: a ring's slots alone have
 -- some, and none has more than a capacity can be.
 pub record AreBookings (from : ℕ) (booked : ℕ → ℕ) : Type 0 where
-  pub first_small : from ≤ 2 ^ 62
-  pub few : (t : ℕ) → from ≤ t → booked t ≤ 2 ^ 42
+  pub first_small : from ≤ LATEST_SLOT
+  pub few : (t : ℕ) → from ≤ t → booked t ≤ MAX_CAPACITY
   pub past : (t : ℕ) → from + ring_slots ≤ t → booked t ≡ 0
 
 -- the slots among these in which bytes are booked

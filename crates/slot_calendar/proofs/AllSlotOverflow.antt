@@ -1,4 +1,4 @@
--- What is found in a calendar from its now on is found among the plays that it stands for, in all slots.
+-- What is found in a calendar from its now on is found among the plays that it represents, in all slots.
 use Rattle.std.proofs.Common.{ℕ, ◌<◌, ◌≤◌, List, arith, ◌∙◌, inl, inr}
 use Rattle.std.proofs.lemmas.Bool.{cases_lt}
 use Rattle.plan_cert.specs.declared.Segment.{Segment}
@@ -7,7 +7,7 @@ use Rattle.slot_calendar.specs.Plays.{Play, booked_by}
 use Rattle.slot_calendar.specs.declared.calendar.Overflow.{Overflow}
 use Rattle.slot_calendar.proofs.PlanSlots.{asked-before}
 
--- a calendar stands for plays that book no slot above its capacity
+-- a calendar represents plays that book no slot above its capacity
 pub record StandsWithin (capacity : ℕ → ℕ) (calendar : CalendarState) (plays : List Play) : Type 0 where
   pub stands : Represents calendar plays
   pub within : (t : ℕ) → booked_by plays t ≤ capacity t

@@ -19,7 +19,7 @@ use Rattle.plan_cert.proofs.SlotSums.{length-plan_slots, sum-plan_slots, sum-tak
 use Rattle.plan_cert.proofs.FloorLemmas.{floor_rises}
 use Rattle.slot_calendar.specs.Plays.{sent_before, asked_at, released_at}
 
--- ---- sums of fronts
+-- ---- sums of prefixes
 pub sum-take-append : (xs ys : List ℕ) (k : ℕ)
     → sum (take k (xs ++ ys)) ≡ sum (take k xs) + sum (take (k - length xs) ys)
 sum-take-append xs ys k =

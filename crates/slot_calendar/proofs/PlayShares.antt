@@ -70,7 +70,7 @@ booked-around before after play t =
     sum_by-append (share_at t) before (play ∷ after)
     ∙ ap (λ n. booked_by before t + n) (sum_by-cons (share_at t) play after)
 
--- a play that is cut
+-- a play that is stopped early
 pub booked-cut : (before after : List Play) (play : Play) (t : ℕ)
     → booked_by (before ++ play ∷ after) t + released_at play.segments play.start play.keep t
     ≡ booked_by (before ++ whole_play play.start play.segments ∷ after) t
@@ -85,7 +85,7 @@ booked-cut before after play t =
   where
     open play use {start, segments, keep}
 
--- ---- calendars and the lists that they stand for
+-- ---- calendars and the lists of plays that they represent
 pub stands-push : {old new : CalendarState} {plays : List Play} {segments : List Segment} (start : ℕ) →
     IsPlan segments → new.first ≡ old.first →
     ((t : ℕ) → old.first ≤ t → booked_at new t ≡ booked_at old t + asked_at segments start t) → Represents old plays →
@@ -98,7 +98,7 @@ stands-push {old} {new} {plays} {segments} start plan first totals stands = reco
       );
 }
 
--- a calendar after a play was cut
+-- a calendar after a play was stopped early
 pub record HasCut (old new : CalendarState) (play : Play) : Type 0 where
   pub first_is : new.first ≡ old.first
   pub totals : (t : ℕ) → old.first ≤ t → booked_at new t + released_at play.segments play.start play.keep t ≡ booked_at
@@ -113,7 +113,7 @@ stands-cut {old} {new} before after play cut stands = record {
       );
 }
 
--- what a play that stands whole may give back
+-- what a play that books all its bytes may give back
 pub cut-booked : {calendar : CalendarState} {t : ℕ} (before after : List Play) (play : Play) →
     Represents calendar (before ++ whole_play play.start play.segments ∷ after) → calendar.first ≤ t
     → released_at play.segments play.start play.keep t ≤ booked_at calendar t

@@ -23,7 +23,7 @@ pub record HasPlaces (n : ℕ) (xs : List ℕ) : Type 0 where
   pub some : 0 < n
   pub length_is : length xs ≡ n
 
--- a slot of the turn of n slots that begins at slot `first`
+-- a slot of the round of n slots that begins at slot `first`
 pub record IsInTurn (n first t : ℕ) : Type 0 where
   pub from : first ≤ t
   pub inside : t < first + n
@@ -136,7 +136,7 @@ total-next {n} {xs} first t places none since =
     more : (a b u : ℕ) → a + b ≤ u → u ≢ a + b → a + 1 + b ≤ u
     more a b u least other = omega arith
 
--- all places are 0 where no slot of the turn holds anything
+-- all places are 0 where no slot of the round has bytes
 pub empty-places : {n : ℕ} {xs : List ℕ} (first : ℕ) → HasPlaces n xs
     → ((t : ℕ) → first ≤ t → total_at first (rotation (first % n) xs) t ≡ 0) → (i : ℕ) → get_or xs i 0 ≡ 0
 empty-places {n} {xs} first places empty i =

@@ -1,5 +1,6 @@
 -- What a calendar exposes, and how it represents the plays that are booked in it.
-use Rattle.std.specs.Prelude.{ℕ, ◌≡◌, ◌+◌, ◌^◌, ◌<◌, ◌≤◌, List}
+use Rattle.std.specs.Prelude.{ℕ, ◌≡◌, ◌+◌, ◌<◌, ◌≤◌, List}
+use Rattle.vod_base.specs.declared.links.TheConstants.{LATEST_SLOT}
 use Rattle.plan_cert.specs.declared.Segment.{Segment}
 use Rattle.slot_calendar.specs.declared.profiles.CapStep.{CapStep}
 use Rattle.slot_calendar.specs.declared.calendar.Overflow.{Overflow}
@@ -25,7 +26,7 @@ pub record Represents (calendar : CalendarState) (plays : List Play) : Type 0 wh
 -- what is true for each calendar; no slot from now on is booked above its capacity
 pub record IsCalendar (calendar : CalendarState) : Type 0 where
   pub profile : IsProfile calendar.steps
-  pub small : calendar.first ≤ 2 ^ 62
+  pub small : calendar.first ≤ LATEST_SLOT
   pub within : (t : ℕ) → calendar.first ≤ t → booked_at calendar t ≤ capacity_at calendar.steps t
 
 -- a plan that begins at `start` asks for more in slot u than the booked bytes leave of the capacity

@@ -1,8 +1,9 @@
 -- The capacity of a link over its slots: a list of steps.
-use Rattle.std.specs.Prelude.{ℕ, ◌≡◌, ◌+◌, ◌^◌, ◌<◌, ◌≤◌, nat_le, List, length, slice_index_or}
+use Rattle.std.specs.Prelude.{ℕ, ◌≡◌, ◌+◌, ◌<◌, ◌≤◌, nat_le, List, length, slice_index_or}
 use Rattle.std.specs.Prelude.{if◌then◌else◌}
 use Rattle.std.specs.List.{fold}
 use Rattle.slot_calendar.specs.declared.profiles.CapStep.{CapStep}
+use Rattle.slot_calendar.specs.declared.profiles.TheConstants.{MAX_CAPACITY, MAX_STEPS}
 
 -- a list that has no step i
 abbrev pub no_step : CapStep
@@ -19,12 +20,12 @@ AreAscending steps = (i : ℕ) → i + 1 < length steps →
 
 -- no step is above 2^42 bytes a slot
 abbrev pub AreSmall : List CapStep → Type 0
-AreSmall steps = (i : ℕ) → i < length steps → (step_at steps i).bytes ≤ 2 ^ 42
+AreSmall steps = (i : ℕ) → i < length steps → (step_at steps i).bytes ≤ MAX_CAPACITY
 
 -- 1 to 64 steps, the first from slot 0, each one after the one before, none above 2^42 bytes a slot
 pub record IsProfile (steps : List CapStep) : Type 0 where
   pub some : 1 ≤ length steps
-  pub few : length steps ≤ 64
+  pub few : length steps ≤ MAX_STEPS
   pub first : (step_at steps 0).from ≡ 0
   pub ascend : AreAscending steps
   pub small : AreSmall steps

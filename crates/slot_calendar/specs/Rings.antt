@@ -3,6 +3,7 @@
 use Rattle.std.specs.Prelude.{ℕ, ◌≡◌, ◌≢◌, ◌+◌, ◌/◌, ◌%◌, ◌<◌, ◌≤◌, ◌++◌, List, Option, Some}
 use Rattle.std.specs.Prelude.{length, take, drop, slice_index}
 use Rattle.slot_calendar.specs.Totals.{ring_slots, total_at}
+use Rattle.slot_calendar.specs.declared.ring.TheConstants.{BLOCK, BLOCKS}
 use Rattle.slot_calendar.specs.declared.ring.Ring.TheInside.{Inside}
 
 -- the list that begins at place `from` and comes round to it
@@ -24,17 +25,17 @@ total_of ring t = total_at ring.first ring.totals t
 pub record IsReached (places : List ℕ) (b top : ℕ) : Type 0 where
   pub place : ℕ
   pub inside : place < ring_slots
-  pub of_block : place / 1024 ≡ b
+  pub of_block : place / BLOCK ≡ b
   pub holds : slice_index places place ≡ top
 
 -- each block has its greatest total, but for the stale one, which has a number that is at least as
 -- great
 pub record AreBlockMaxima (places tops : List ℕ) (stale : Option ℕ) : Type 0 where
   pub places_are : length places ≡ ring_slots
-  pub tops_are : length tops ≡ 1024
-  pub bounded : (i : ℕ) → i < ring_slots → slice_index places i ≤ slice_index tops (i / 1024)
-  pub reached : (b : ℕ) → b < 1024 → stale ≢ Some b → IsReached places b (slice_index tops b)
-  pub stale_in : (b : ℕ) → stale ≡ Some b → b < 1024
+  pub tops_are : length tops ≡ BLOCKS
+  pub bounded : (i : ℕ) → i < ring_slots → slice_index places i ≤ slice_index tops (i / BLOCK)
+  pub reached : (b : ℕ) → b < BLOCKS → stale ≢ Some b → IsReached places b (slice_index tops b)
+  pub stale_in : (b : ℕ) → stale ≡ Some b → b < BLOCKS
 
 abbrev pub slots_of_ring : Inside → Slots
 slots_of_ring ring =

@@ -11,18 +11,19 @@ ghost use Rattle.slot_calendar.specs.Totals.{ring_slots};
 ghost use Rattle.slot_calendar.specs.Calendars.{FitsIn, IsOverflowIn};
 
 use crate::calendar::Overflow;
-use crate::profiles::Profile;
-use crate::ring::{BLOCK, Ring};
+use crate::profiles::{MAX_CAPACITY, Profile};
+use crate::ring::{BLOCK, RING_SLOTS, Ring};
 use plan_cert::Segment;
+use vod_base::LATEST_SLOT;
 
 /// Adds segments, one after the other, from slot `start` on.
 pub(crate) fn book_segments(ring: &mut Ring, start: u64, segments: &[Segment])
     requires plan { IsPlan segments.now }
-    requires small { start ≤ 2 ^ 62 + 2 ^ 20 }
+    requires small { start ≤ LATEST_SLOT + RING_SLOTS }
     requires from_now { ring.old.first ≤ start }
     requires within { start + total_slots segments.now ≤ ring.old.first + ring_slots }
     requires fits { (t : ℕ) → ring.old.first ≤ t →
-        total_of ring.old t + asked_at segments.now start t ≤ 2 ^ 42 }
+        total_of ring.old t + asked_at segments.now start t ≤ MAX_CAPACITY }
     ensures now { ring.new.first ≡ ring.old.first }
     ensures stale { ring.new.stale ≡ ring.old.stale }
     ensures totals { (t : ℕ) → ring.old.first ≤ t →
@@ -39,7 +40,7 @@ pub(crate) fn book_segments(ring: &mut Ring, start: u64, segments: &[Segment])
 /// `keep` bytes, in the slots of the ring.
 pub(crate) fn release_segments(ring: &mut Ring, start: u64, segments: &[Segment], keep: u64)
     requires plan { IsPlan segments.now }
-    requires small { start ≤ 2 ^ 62 + 2 ^ 20 }
+    requires small { start ≤ LATEST_SLOT + RING_SLOTS }
     requires booked { (t : ℕ) → ring.old.first ≤ t →
         released_at segments.now start keep t ≤ total_of ring.old t }
     ensures now { ring.new.first ≡ ring.old.first }
@@ -112,7 +113,7 @@ fn book_segment(ring: &mut Ring, from: u64, segment: Segment)
     requires from_now { ring.old.first ≤ from }
     requires within { from + segment.slots ≤ ring.old.first + ring_slots }
     requires fits { (t : ℕ) → ring.old.first ≤ t →
-        total_of ring.old t + asked_at (segment ∷ []) from t ≤ 2 ^ 42 }
+        total_of ring.old t + asked_at (segment ∷ []) from t ≤ MAX_CAPACITY }
     ensures now { ring.new.first ≡ ring.old.first }
     ensures stale { ring.new.stale ≡ ring.old.stale }
     ensures totals { (t : ℕ) → ring.old.first ≤ t →
@@ -171,7 +172,7 @@ fn overflow_among(
 ) -> Option<Overflow>
     requires plan { IsPlan (segment ∷ []) }
     requires small { from ≤ 2 ^ 63 }
-    requires capacity { capacity ≤ 2 ^ 42 }
+    requires capacity { capacity ≤ MAX_CAPACITY }
     requires from_now { ring.now.first ≤ from }
     requires order { first ≤ end }
     requires within { end ≤ segment.slots }

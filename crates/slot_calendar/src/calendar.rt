@@ -14,7 +14,7 @@ use crate::ring::{RING_SLOTS, Ring};
 use plan_cert::Plan;
 use std::alloc::Global;
 use std::marker::Model;
-use vod_base::NoMemory;
+use vod_base::{LATEST_SLOT, NoMemory};
 
 /// A slot that has no room for a plan.
 #[derive(Clone, Copy, Debug, PartialEq, Eq)]
@@ -110,7 +110,7 @@ impl Calendar {
     /// greatest slot of a segment without reading them.
     pub fn first_overflow(&self, start: u64, plan: &Plan) -> Option<Overflow>
         requires after { self.now.first < start }
-        requires small { start ≤ 2 ^ 62 + 256 }
+        requires small { start ≤ LATEST_SLOT + 256 }
         ensures { MatchOption result (HasRoomIn self.now start plan.now)
             (IsFirstOverflowIn self.now start plan.now) }
     {
@@ -165,7 +165,7 @@ impl Calendar {
     /// Forgets the slots before `now`.
     pub fn advance(&mut self, now: u64)
         requires from_now { self.old.first ≤ now }
-        requires small { now ≤ 2 ^ 62 }
+        requires small { now ≤ LATEST_SLOT }
         ensures now { self.new.first ≡ now }
         ensures profile { self.new.steps ≡ self.old.steps }
         ensures totals { (t : ℕ) → now ≤ t → booked_at self.new t ≡ booked_at self.old t }

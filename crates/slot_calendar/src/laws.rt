@@ -71,6 +71,24 @@ pub fn law_room_means_within_capacity()
         capacity over.slot < over.booked + over.asked }
 {}
 
+/// What an overflow says: it names a slot, the bytes that are booked there without the plan, and the
+/// bytes that the plan sends there. Together they are above the capacity. Each slot before it has
+/// room for what the plan sends there.
+pub fn law_overflow_names_first_slot_without_room()
+    ensures booked { (from start : ℕ) (booked capacity : ℕ → ℕ) (segments : List Segment)
+        (over : Overflow) → IsFirstOverflow from booked capacity start segments over →
+        over.booked ≡ booked over.slot }
+    ensures asked { (from start : ℕ) (booked capacity : ℕ → ℕ) (segments : List Segment)
+        (over : Overflow) → IsFirstOverflow from booked capacity start segments over →
+        over.asked ≡ asked_at segments start over.slot }
+    ensures over { (from start : ℕ) (booked capacity : ℕ → ℕ) (segments : List Segment)
+        (over : Overflow) → IsFirstOverflow from booked capacity start segments over →
+        capacity over.slot < booked over.slot + asked_at segments start over.slot }
+    ensures before { (from start t : ℕ) (booked capacity : ℕ → ℕ) (segments : List Segment)
+        (over : Overflow) → IsFirstOverflow from booked capacity start segments over →
+        from ≤ t → t < over.slot → booked t + asked_at segments start t ≤ capacity t }
+{}
+
 /// A plan has one first slot without room.
 pub fn law_first_overflow_is_unique()
     ensures { (from start : ℕ) (booked capacity : ℕ → ℕ) (segments : List Segment)

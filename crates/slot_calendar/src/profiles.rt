@@ -81,7 +81,7 @@ impl Profile {
     ///
     /// [`NoMemory`] where there is none for its one step.
     pub fn flat(alloc: Global, bytes: u64) -> Result<Profile, NoMemory>
-        requires { bytes ≤ 2 ^ 42 }
+        requires { bytes ≤ MAX_CAPACITY }
         ensures { IfOk result (λ profile. profile ≡ record { from = 0; bytes = bytes } ∷ []) }
     {
         let step = CapStep { from: 0, bytes };
@@ -109,7 +109,7 @@ impl Profile {
     pub(crate) fn span(&self, slot: u64) -> Span
         requires { slot < 2 ^ 64 - 1 }
         ensures span { IsSpan self.now slot result.bytes result.until }
-        ensures small { result.bytes ≤ 2 ^ 42 }
+        ensures small { result.bytes ≤ MAX_CAPACITY }
     {
         span_at(self.steps.as_slice(), slot)
     }

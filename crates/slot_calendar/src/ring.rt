@@ -98,7 +98,7 @@ impl Ring {
     /// A number that no total is above, from this slot up to the next multiple of 1,024.
     pub(crate) fn top(&self, slot: u64) -> u64
         requires { self.now.first ≤ slot }
-        ensures { (t : ℕ) → slot ≤ t → t / 1024 ≡ slot / 1024 → total_of self.now t ≤ result }
+        ensures { (t : ℕ) → slot ≤ t → t / BLOCK ≡ slot / BLOCK → total_of self.now t ≤ result }
     {
         if slot - self.first >= RING_SLOTS {
             return 0;
@@ -216,10 +216,7 @@ fn greatest_of(numbers: &[u64]) -> u64
     requires { 0 < length numbers.now }
     ensures { IsGreatest numbers.now result }
 {
-    match numbers.iter().max() {
-        Some(top) => *top,
-        None => unreachable!(),
-    }
+    *numbers.iter().max().unwrap_or(&0)
 }
 
 /// Reads the stale block again, if there is one.
@@ -236,7 +233,7 @@ fn settle_block(places: &[u64], tops: &mut [u64], stale: Option<usize>)
 /// Reads the stale block again, unless it is this one, which becomes the stale one.
 fn settle_other(places: &[u64], tops: &mut [u64], stale: Option<usize>, block: usize)
     requires topped { AreBlockMaxima places.now tops.old stale }
-    requires within { block < 1024 }
+    requires within { block < BLOCKS }
     ensures { AreBlockMaxima places.now tops.new (Some block) }
 {
     if let Some(other) = stale

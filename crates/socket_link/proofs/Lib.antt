@@ -5,3 +5,5 @@ pub mod Parts
 pub mod Steps
 mod Walks
 mod SlotLengths
+mod LimitTimes
+mod SlotOrder

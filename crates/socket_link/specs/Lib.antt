@@ -10,3 +10,4 @@ pub mod Slots
 pub mod Steps
 pub mod Waits
 pub mod Writes
+pub mod QuietCalls

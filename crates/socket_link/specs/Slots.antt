@@ -1,6 +1,6 @@
 -- The slot of a clock reading. A slot's length is given in 1/360,000 second, so that a slot of so
 -- many units lasts 25,000 / 9 times as many nanoseconds.
-use Rattle.std.specs.Prelude.{◌≡◌, ℕ, ◌+◌, ◌-◌, ◌*◌, ◌/◌, ◌^◌, ◌<◌, Bool, true, false}
+use Rattle.std.specs.Prelude.{◌≡◌, ℕ, ◌+◌, ◌-◌, ◌*◌, ◌/◌, ◌^◌, ◌<◌, All, Bool, true, false}
 use Rattle.std.specs.Prelude.{if◌then◌else◌, nat_lt, min}
 use Rattle.std.specs.Prelude.{List, [], ◌∷◌, Option, Some, None, slice_get}
 use Rattle.socket_link.specs.declared.sockets.Purpose.{Purpose}
@@ -42,3 +42,8 @@ slots_due units slots (call ∷ calls) = slots_due units (slots_after units slot
 abbrev pub is_for_slots : Purpose → Bool
 is_for_slots Slot = true
 is_for_slots _ = false
+
+-- the newest first: each slot is later than all that follow it
+abbrev pub AreFalling : List ℕ → Type 0
+AreFalling [] = Unit {0}
+AreFalling (slot ∷ earlier) = All (λ s. s < slot) earlier × AreFalling earlier

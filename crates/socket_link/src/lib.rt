@@ -6,13 +6,12 @@
 mod buffers;
 mod clocks;
 mod histories;
-mod laws;
+pub mod laws;
 mod limits;
 mod links;
 mod memory_sockets;
 mod sockets;
 
-pub use laws::law_slots_have_their_length;
 pub use limits::{FIRST_SEND_LIMIT, IDLE_LIMIT, LINGER, STUCK_LIMIT};
 pub use links::{LinkBuffer, SocketLink};
 pub use memory_sockets::{MemorySocket, ScriptedRead, ScriptedWrite};

@@ -1,4 +1,4 @@
--- What an offer tells of a play that is asked for in its place.
+-- What an offer says of a play that is asked for in its place.
 use Rattle.std.proofs.Common.{◌≡◌, ℕ, zero, suc, ◌<◌, List, Option, Some, None, length, get_or, arith, ap, subst, ◌∙◌}
 use Rattle.plan_cert.specs.declared.Segment.{Segment}
 use Rattle.slot_calendar.specs.Calendars.{IsFirstOverflow}

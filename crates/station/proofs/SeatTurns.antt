@@ -1,4 +1,4 @@
--- A seat that took the turn and gave it back.
+-- A seat that took the lock and gave it back.
 use Rattle.std.proofs.Common.{◌≡◌, ◌≤◌, ℕ, List, [], ◌∷◌, refl, sym, ap, subst, ◌∙◌, Result, Ok, Err, IfOk, IfErr}
 use mathlib.Core.List.{IsPrefix}
 use Rattle.plan_cert.specs.declared.Segment.{Segment}
@@ -91,20 +91,20 @@ pub look_longer : (r : Result Seen Full) (call : BookCall) (slot : ℕ)
 look_longer (Ok l) call slot is not = entered_longer is
 look_longer (Err f) call slot is not = full_longer call.old call.new 1 f.entries f.live not
 
--- ---- a whole call: the seat took the turn, was lent the book, and gave it back
+-- ---- an entire call: the seat took the lock, was lent the book, and gave it back
 pub record IsVisit (seat : SeatState) (back : PassState) (lent new : Journal) (maker : ℕ) : Type 0 where
   pub at : IsAt seat lent
   pub back_is : seat_of back ≡ seat_after seat new
   pub maker_is : maker ≡ seat.number
 
--- a pass took the turn, and `old` is the book as it was then
+-- a pass took the lock, and `old` is the book as it was then
 pub record HasTakenTurn (p taken : PassState) (old : Journal) : Type 0 where
   pub pass : taken ≡ record p { seen = old.entries }
   pub longer : IsPrefix p.seen old.entries
   pub own : p.mine ≡ entries_by p.number old.entries
   pub terms : (let t : Terms = record { steps = old.steps; limit = old.limit } in t) ≡ p.terms
 
--- it was lent the book and gave the turn back, with the book as it is now
+-- it was lent the book and gave the lock back, with the book as it is now
 pub record HasGivenBack (taken back : PassState) (old lent last new : Journal) : Type 0 where
   pub left : back ≡ record taken { seen = last.entries; mine = entries_by taken.number last.entries }
   pub last_is : last ≡ new

@@ -1,5 +1,6 @@
 -- What a call at the book leaves of it.
-use Rattle.std.specs.Prelude.{◌≡◌, ℕ, ◌+◌, ◌<◌, ◌≤◌, ◌^◌, min, List, length}
+use Rattle.std.specs.Prelude.{◌≡◌, ℕ, ◌+◌, ◌<◌, ◌≤◌, min, List, length}
+use Rattle.vod_base.specs.declared.links.TheConstants.{LATEST_SLOT}
 use Rattle.plan_cert.specs.declared.Segment.{Segment}
 use Rattle.admission.specs.declared.entries.Answer.{Answer}
 use Rattle.admission.specs.declared.entries.Answer.TheVariants.{Overflow}
@@ -19,11 +20,11 @@ use Rattle.station.specs.declared.answers.PlayRefused.TheVariants.{Overflow as P
 
 -- the command of a play that was asked for in a slot that was received
 abbrev pub play_of : ℕ → List Segment → Command
-play_of heard plan = Play (min heard (2 ^ 62)) plan
+play_of heard plan = Play (min heard LATEST_SLOT) plan
 
 -- the command of a look at a slot
 abbrev pub look_at : ℕ → Command
-look_at slot = Look (min slot (2 ^ 62))
+look_at slot = Look (min slot LATEST_SLOT)
 
 -- an entry was made, while the journal had room for `more` entries beside those for the halts of
 -- its open plays
@@ -52,5 +53,5 @@ IsPlayRefused old new maker heard asked (PlayOverflow place slot booked bytes) =
 pub record IsOffered (steps : List CapStep) (entries : List Entry) (heard : ℕ)
     (plan : List Segment) (told : Offered) (found : Offers) : Type 0 where
   pub seen_is : told.seen ≡ length entries
-  pub first_is : told.first ≡ start_after (state_after entries) (min heard (2 ^ 62))
+  pub first_is : told.first ≡ start_after (state_after entries) (min heard LATEST_SLOT)
   pub offer : IsOffer 0 (booked_after entries) (capacity_at steps) plan told.first found

@@ -15,8 +15,8 @@ ghost use Rattle.plan_cert.specs.declared.Segment.{Segment};
 ghost use Rattle.slot_calendar.specs.declared.profiles.CapStep.{CapStep};
 ghost use Rattle.station.specs.declared.answers.Offered.{Offered};
 ghost use Rattle.station.specs.Answers.{HasMadeEntry};
-ghost use Rattle.station.specs.Ledgers.{IsOffered, play_of};
-ghost use Rattle.station.specs.Seats.{SeatState};
+ghost use Rattle.station.specs.Ledgers.{IsOffered, look_at, play_of};
+ghost use Rattle.station.specs.Seats.{SeatState, StationState, after_split, first_seat, new_seat};
 
 use early_start::laws::law_offered_start_is_earliest;
 
@@ -56,7 +56,8 @@ pub fn law_play_stays_open_until_halted()
 /// What an offer says of a play that is asked for in its place, with the same plan: admitted, it
 /// would begin in the offer's first slot; from the start that was found it would be admitted, where
 /// it is asked for so that it begins there; and where another start than the first was found, or
-/// none, it would be refused for the slot that the first start tried names.
+/// none, it would be refused for the slot that the first start tried names. Its entry would stand at
+/// the place that the offer gives as the number of entries seen.
 pub fn law_offer_predicts_play_answer()
     ensures first { (steps : List CapStep) (entries : List Entry) (heard start : ℕ)
         (plan : List Segment) (told : Offered) (found : Offers) →
@@ -75,6 +76,33 @@ pub fn law_offer_predicts_play_answer()
         (Answer.Overflow (slice_index_or found.tried 0 none).over.slot
         (slice_index_or found.tried 0 none).over.booked
         (slice_index_or found.tried 0 none).over.asked) }
+    ensures place { (steps : List CapStep) (entries : List Entry) (heard more place : ℕ)
+        (old new : SeatState) (plan : List Segment) (answer : Answer) (told : Offered)
+        (found : Offers) → IsOffered steps entries heard plan told found →
+        (made : HasMadeEntry old new more (play_of heard plan) place answer) →
+        made.before ≡ entries → place ≡ told.seen }
 {
     law_offered_start_is_earliest();
 }
+
+/// The slot of a play or a look is the one that was asked for, up to the latest slot, 2^62. A later
+/// one is taken as that slot.
+pub fn law_slot_is_the_one_asked_for()
+    ensures play { (heard : ℕ) (plan : List Segment) → heard ≤ 2 ^ 62 →
+        play_of heard plan ≡ Command.Play heard plan }
+    ensures late_play { (heard : ℕ) (plan : List Segment) → 2 ^ 62 ≤ heard →
+        play_of heard plan ≡ Command.Play (2 ^ 62) plan }
+    ensures look { (slot : ℕ) → slot ≤ 2 ^ 62 → look_at slot ≡ Command.Look slot }
+    ensures late_look { (slot : ℕ) → 2 ^ 62 ≤ slot → look_at slot ≡ Command.Look (2 ^ 62) }
+{}
+
+/// A seat that is split off has seen what the seat that it was split from had seen, has made no
+/// entry, and has a number of its own: the first seat has 0, and the k-th that is split off has k.
+pub fn law_new_seat_has_seen_as_much()
+    ensures seen { (seat : SeatState) → (new_seat seat).seen ≡ seat.seen }
+    ensures none { (seat : SeatState) → (new_seat seat).mine ≡ [] }
+    ensures number { (seat : SeatState) → (new_seat seat).number ≡ (after_split seat).splits }
+    ensures first { (station : StationState) → (first_seat station).number ≡ 0 }
+    ensures counted { (seat : SeatState) → (after_split seat).splits ≡ seat.splits + 1 }
+    ensures unsplit { (station : StationState) → (first_seat station).splits ≡ 0 }
+{}

@@ -15,7 +15,7 @@ ghost use Rattle.turnstile.specs.Passes.{AllJoined};
 use crate::answers::{Booking, Looked, Offered, PlayRefused};
 use crate::ledger::Ledger;
 use crate::seat::Seat;
-use admission::{Book, Full};
+use admission::{Book, Full, MAX_ENTRIES};
 use early_start::Offers;
 use plan_cert::Plan;
 use slot_calendar::Profile;
@@ -54,7 +54,7 @@ impl Station {
     /// [`NoMemory`] where there is none for the calendar, the journal and the table.
     pub fn new(alloc: Global, profile: Profile, limit: u64) -> Result<(Station, Seat), NoMemory>
         requires some { 2 ≤ limit }
-        requires few { limit ≤ 1048576 }
+        requires few { limit ≤ MAX_ENTRIES }
         ensures steps { IfOk result (λ made. made.0.steps ≡ profile) }
         ensures limit { IfOk result (λ made. made.0.limit ≡ limit) }
         ensures seat { IfOk result (λ made. made.1 ≡ first_seat made.0) }

@@ -1,4 +1,4 @@
--- What a live pass is to the turn, and the facts that all live passes share.
+-- What a live pass is to the lock, and the facts that all live passes share.
 use Rattle.std.proofs.Common.{◌≡◌, ◌≢◌, ℕ, zero, suc, ◌+◌, ◌<◌, ◌≤◌, List, [], ◌∷◌, ◌++◌, length, set, Option, Bool}
 use Rattle.std.proofs.Common.{false, ap, sym, ◌∙◌, subst, ⊎_elim, arith}
 use Rattle.std.proofs.Common.{cond}
@@ -131,7 +131,7 @@ apart_both numbers tickets past past_other = (
   record { numbers = λ e. numbers (sym e); tickets = λ t there here. tickets t here there; past = past_other },
 )
 
--- a pass changes that has the turn neither before nor after
+-- a pass changes that has the lock neither before nor after
 pub record FreeChange (views : List View) : Type 0 where
   pub id : ℕ
   pub old : View
@@ -140,7 +140,7 @@ pub record FreeChange (views : List View) : Type 0 where
   pub old_free : Free old.stage
   pub new_free : Free new.stage
 
--- a live pass that waits for the turn of its ticket
+-- a live pass that waits until its ticket is served
 pub record Waiter (views : List View) : Type 0 where
   pub id : ℕ
   pub view : View
@@ -148,7 +148,7 @@ pub record Waiter (views : List View) : Type 0 where
   pub ticket : ℕ
   pub waits : view.stage ≡ Waits ticket
 
--- a live pass that has the turn of its ticket
+-- a live pass that has the lock with its ticket
 pub record Holder (views : List View) : Type 0 where
   pub id : ℕ
   pub view : View
@@ -163,7 +163,7 @@ pub record EmptyWaiter {B : Type 0} (me : Me (Option B) View) : Type 0 where
   pub waits : me.0.stage ≡ Waits ticket
   pub empty : me.1 ≡ []
 
--- a pass that has the turn, and in its slot a list with one entry more, of its own
+-- a pass that has the lock, and in its slot a list with one entry more, of its own
 pub record GrownHolder {B : Type 0} (entries : B → List Entry) (me : Me (Option B) View) : Type 0 where
   pub ticket : ℕ
   pub entry : Entry

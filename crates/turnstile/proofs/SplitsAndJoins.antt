@@ -1,4 +1,4 @@
--- Passes that are split and joined keep the rule; the first state has it, and what the last one tells.
+-- Passes that are split and joined keep the invariant; the first state has it; what follows from the last.
 use Rattle.std.proofs.Common.{◌≡◌, ◌≢◌, ◌⊎◌, ℕ, zero, suc, ◌+◌, ◌^◌, ◌<◌, ◌≤◌, List, [], ◌∷◌, ◌++◌, length, set}
 use Rattle.std.proofs.Common.{Option, Some, Bool, true, false, refl, ap, sym}
 use Rattle.std.proofs.Common.{◌∙◌, subst, ⊎_elim, inl, inr, arith, cond, length-set, true≢false}

@@ -1,4 +1,4 @@
--- Each kind of step keeps the rule.
+-- Each kind of step keeps the invariant.
 use Rattle.std.proofs.Common.{◌≡◌, ◌≢◌, ◌⊎◌, ℕ, ◌+◌, ◌%◌, ◌^◌, ◌<◌, ◌≤◌, List, [], ◌∷◌, ◌++◌, length, set, get_or}
 use Rattle.std.proofs.Common.{Option, Some, false, refl, ap, sym, ◌∙◌}
 use Rattle.std.proofs.Common.{subst, ⊎_elim, inl, inr, arith, length-append}
@@ -181,7 +181,7 @@ module _ {B : Type 0} (entries : B → List Entry) (terms_of : B → Terms) (ter
     where
       open it use {left, idle, empty as free}
 
-  -- who holds a ticket that is served finds the value at home, while nobody has the turn
+  -- who holds a ticket that is served finds the value at home, while nobody has the lock
   at_home : (s : St) (r : Rule s) (waiter : Waiter s.views) → waiter.ticket ≡ r.served
       → IsHome entries terms_of terms r.log s
   at_home s r waiter now = ⊎_elim (λ (h : IsHome entries terms_of terms r.log s). h)
@@ -307,7 +307,7 @@ module _ {B : Type 0} (entries : B → List Entry) (terms_of : B → Terms) (ter
     where
       open it use {ticket as t, left, waits as is, empty as free}
 
-  -- who has the turn is the holder of the value that is away
+  -- who has the lock is the holder of the value that is away
   pub holder_here : (s : St) (r : Rule s) (holder : Holder s.views)
       → (s.homes ≡ none ∷ []) × (holder.view.seen ≡ r.log) × (holder.ticket ≡ r.served) × (holder.ticket < r.drawn)
   holder_here s r holder =

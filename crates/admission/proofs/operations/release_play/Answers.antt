@@ -7,7 +7,7 @@ use Rattle.admission.proofs.Calendars.{HoldsWhole, cut-allowed, stands-halted}
 use Rattle.admission.proofs.operations.release_play.Goals as goal
 use Rattle.admission.proofs.operations.release_play.Goals.{After-law_booked_plan_can_be_released}
 
--- the play stands whole, as its entry tells it
+-- the play has all its bytes, as its entry admitted it
 whole : (c : After-law_booked_plan_can_be_released)
     → HoldsWhole (state_after c.args.entries.now) c.args.number c.in-Admitted.start c.in-Play.plan
 whole c =

@@ -1,14 +1,6 @@
-use Rattle.std.proofs.Common.{◌≡◌, ℕ, List, Option, length, subst, arith}
-use Rattle.plan_cert.specs.declared.Segment.{Segment}
-use Rattle.early_start.specs.StartSearch.{CanStart, IsOffer, IsStart, Offers}
-use Rattle.early_start.proofs.RefusedStarts.{no_room_tried}
+use Rattle.std.proofs.Common.{arith}
+use Rattle.early_start.proofs.RefusedStarts.{no_room_tried, start_as}
 use Rattle.early_start.proofs.laws.law_offered_start_is_earliest.Goals as goal
-
-start_as : {from : ℕ} {booked capacity : ℕ → ℕ} {segments : List Segment} {first : ℕ} {found : Offers}
-    {start : Option ℕ} → IsOffer from booked capacity segments first found → found.start ≡ start →
-    IsStart (CanStart from booked capacity segments) first found.wait (length found.tried) start
-start_as {from} {booked} {capacity} {segments} {first} {found} {start} is same =
-    subst (IsStart (CanStart from booked capacity segments) first found.wait (length found.tried)) same is.start
 
 pub returns-clause-fits : goal.returns-clause-fits
 returns-clause-fits c = λ from first start booked capacity segments found is same.

@@ -1,7 +1,8 @@
-use Rattle.std.proofs.Common.{ℕ, get_or, subst, sym, ◌∙◌}
+use Rattle.std.proofs.Common.{ℕ, List, ap, get_or, length, subst, sym, ◌∙◌}
 use Rattle.slot_calendar.specs.Calendars.{IsFirstOverflow}
 use Rattle.slot_calendar.specs.Profiles.{capacity_at}
 use Rattle.admission.specs.Histories.{booked_after}
+use Rattle.admission.specs.declared.entries.Entry.{Entry}
 use Rattle.station.proofs.Offers.{first_refusal}
 use Rattle.station.proofs.laws.law_offer_predicts_play_answer.Goals as goal
 
@@ -20,3 +21,7 @@ returns-clause-refused c = λ steps entries heard plan told found none is other.
     subst (λ (b : ℕ). IsFirstOverflow 0 (booked_after entries) (capacity_at steps) b plan
     (get_or found.tried 0 none).over) is.first_is
     (first_refusal none is.offer other)
+
+pub returns-clause-place : goal.returns-clause-place
+returns-clause-place c = λ steps entries heard more place old new plan answer told found is made same.
+    made.place_is ∙ ap (λ (l : List Entry). length l) same ∙ sym is.seen_is

@@ -4,7 +4,7 @@ use Rattle.turnstile.specs.declared.view.View.{View}
 use Rattle.turnstile.specs.Steps.{IsTurn}
 use Rattle.turnstile.proofs.turn.Turn.end.Goals as goal
 
--- the pass has the turn still once the value is back in the slot
+-- the pass has the lock still once the value is back in the slot
 put_back : {B : Type 0} {me next : Me (Option B) View} (value : B) → next ≡ (me.0, (0, Some value) ∷ rest me.1)
     → IsTurn me None → IsTurn next (Some value)
 put_back {B} value put turn = record {

@@ -1,0 +1,215 @@
+-- The times that limits count from, after calls of which some move no byte.
+use Rattle.std.proofs.Common.{◌≡◌, ℕ, ◌-◌, ◌^◌, ◌*◌, ◌<◌, ◌≤◌, List, [], ◌∷◌, ◌++◌, All, Option, Some, None, Bool, true}
+use Rattle.std.proofs.Common.{false, ◌||◌, nat_le, unwrap_or, refl, sym, ap, ◌∙◌, arith}
+use Rattle.std.proofs.lemmas.Bool.{false_from_ne_true, le-leb, leb-true, or_from, or_left}
+use Rattle.std.proofs.lemmas.List.Elements.{All-head, All-tail}
+use Rattle.socket_link.specs.declared.sockets.Purpose.{Purpose}
+use Rattle.socket_link.specs.declared.sockets.Purpose.TheVariants.{Accept, Slot, Idle, Patience, End}
+use Rattle.socket_link.specs.declared.limits.Watch.{Watch}
+use Rattle.socket_link.specs.Calls.{SocketCall, GaveBytes, GaveNothing, GaveEnd, TookBytes, TookNothing, WasInterrupted}
+use Rattle.socket_link.specs.Calls.{ReadClock, Waited, ShutDown}
+use Rattle.socket_link.specs.Limits.{clocked, has_passed, is_overdue, no_watch, watched, watch_of}
+use Rattle.socket_link.specs.QuietCalls.{IsBeforePatience, IsQuiet, TakesNothing}
+use Rattle.socket_link.proofs.Appends.{watch_of-append}
+
+-- ---- one call
+
+-- a quiet call changes neither time that idle readings look at
+record SameIdle (w v : Watch) : Type 0 where
+  active : v.active ≡ w.active
+  unanswered : v.unanswered ≡ w.unanswered
+
+quiet_call : (w : Watch) (call : SocketCall) → IsQuiet call → SameIdle w (watched w call)
+quiet_call w (GaveBytes bytes) quiet = absurd quiet
+quiet_call w GaveNothing quiet = record { active = refl; unanswered = refl }
+quiet_call w GaveEnd quiet = record { active = refl; unanswered = refl }
+quiet_call w (TookBytes bytes) quiet = absurd quiet
+quiet_call w TookNothing quiet = record { active = refl; unanswered = refl }
+quiet_call w WasInterrupted quiet = record { active = refl; unanswered = refl }
+quiet_call w (ReadClock Accept time) quiet = absurd quiet
+quiet_call w (ReadClock Slot time) quiet = record { active = refl; unanswered = refl }
+quiet_call w (ReadClock Idle time) quiet = record { active = refl; unanswered = refl }
+quiet_call w (ReadClock Patience time) quiet = record { active = refl; unanswered = refl }
+quiet_call w (ReadClock End time) quiet = record { active = refl; unanswered = refl }
+quiet_call w (Waited most) quiet = record { active = refl; unanswered = refl }
+quiet_call w ShutDown quiet = record { active = refl; unanswered = refl }
+
+-- a call that takes nothing leaves the accept that waits for an answer
+same_unanswered : (w : Watch) (call : SocketCall) → TakesNothing call → (watched w call).unanswered ≡ w.unanswered
+same_unanswered w (GaveBytes bytes) none = refl
+same_unanswered w GaveNothing none = refl
+same_unanswered w GaveEnd none = refl
+same_unanswered w (TookBytes bytes) none = absurd none
+same_unanswered w TookNothing none = refl
+same_unanswered w WasInterrupted none = refl
+same_unanswered w (ReadClock Accept time) none = absurd none
+same_unanswered w (ReadClock Slot time) none = refl
+same_unanswered w (ReadClock Idle time) none = refl
+same_unanswered w (ReadClock Patience time) none = refl
+same_unanswered w (ReadClock End time) none = refl
+same_unanswered w (Waited most) none = refl
+same_unanswered w ShutDown none = refl
+
+-- and the time since which writes take nothing, once there is one
+same_stuck : (w : Watch) (call : SocketCall) (first : ℕ) → TakesNothing call → w.stuck ≡ Some first →
+    (watched w call).stuck ≡ Some first
+same_stuck w (GaveBytes bytes) first none is = is
+same_stuck w GaveNothing first none is = is
+same_stuck w GaveEnd first none is = is
+same_stuck w (TookBytes bytes) first none is = absurd none
+same_stuck w TookNothing first none is = is
+same_stuck w WasInterrupted first none is = is
+same_stuck w (ReadClock Accept time) first none is = absurd none
+same_stuck w (ReadClock Slot time) first none is = is
+same_stuck w (ReadClock Idle time) first none is = is
+same_stuck w (ReadClock Patience time) first none is = ap (λ (o : Option ℕ). Some (unwrap_or o time)) is
+same_stuck w (ReadClock End time) first none is = is
+same_stuck w (Waited most) first none is = is
+same_stuck w ShutDown first none is = is
+
+-- before a patience reading there is none
+not_stuck : (w : Watch) (call : SocketCall) → IsBeforePatience call → w.stuck ≡ None → (watched w call).stuck ≡ None
+not_stuck w (GaveBytes bytes) none is = is
+not_stuck w GaveNothing none is = is
+not_stuck w GaveEnd none is = is
+not_stuck w (TookBytes bytes) none is = absurd none
+not_stuck w TookNothing none is = is
+not_stuck w WasInterrupted none is = is
+not_stuck w (ReadClock Accept time) none is = absurd none
+not_stuck w (ReadClock Slot time) none is = is
+not_stuck w (ReadClock Idle time) none is = is
+not_stuck w (ReadClock Patience time) none is = absurd none
+not_stuck w (ReadClock End time) none is = is
+not_stuck w (Waited most) none is = is
+not_stuck w ShutDown none is = is
+
+-- ---- several calls
+
+quiet_calls : (w : Watch) (calls : List SocketCall) → All IsQuiet calls → SameIdle w (watch_of w calls)
+quiet_calls w [] quiet = record { active = refl; unanswered = refl }
+quiet_calls w (call ∷ calls) quiet =
+    let first = quiet_call w call (All-head IsQuiet call calls quiet) in
+    let rest = quiet_calls (watched w call) calls (All-tail IsQuiet call calls quiet) in
+    record { active = rest.active ∙ first.active; unanswered = rest.unanswered ∙ first.unanswered }
+
+unanswered_after : (w : Watch) (calls : List SocketCall) → All TakesNothing calls →
+    (watch_of w calls).unanswered ≡ w.unanswered
+unanswered_after w [] none = refl
+unanswered_after w (call ∷ calls) none =
+    unanswered_after (watched w call) calls (All-tail TakesNothing call calls none)
+    ∙ same_unanswered w call (All-head TakesNothing call calls none)
+
+stuck_after : (w : Watch) (calls : List SocketCall) (first : ℕ) → All TakesNothing calls → w.stuck ≡ Some first →
+    (watch_of w calls).stuck ≡ Some first
+stuck_after w [] first none is = is
+stuck_after w (call ∷ calls) first none is =
+    stuck_after (watched w call) calls first (All-tail TakesNothing call calls none)
+    (same_stuck w call first (All-head TakesNothing call calls none) is)
+
+not_stuck_after : (w : Watch) (calls : List SocketCall) → All IsBeforePatience calls → w.stuck ≡ None →
+    (watch_of w calls).stuck ≡ None
+not_stuck_after w [] none is = is
+not_stuck_after w (call ∷ calls) none is =
+    not_stuck_after (watched w call) calls (All-tail IsBeforePatience call calls none)
+    (not_stuck w call (All-head IsBeforePatience call calls none) is)
+
+-- ---- what an idle reading finds
+
+-- whether it ends a connection with these times
+abbrev idle_of : Option ℕ → ℕ → ℕ → Bool
+idle_of unanswered active time =
+    has_passed (15 * 10 ^ 9) unanswered time || has_passed (3600 * 10 ^ 9) (Some active) time
+
+idle_is : (w : Watch) (unanswered : Option ℕ) (active time : ℕ) → w.unanswered ≡ unanswered → w.active ≡ active →
+    is_overdue w Idle time ≡ idle_of unanswered active time
+idle_is w unanswered active time one other =
+    ap (λ (u : Option ℕ). idle_of u w.active time) one ∙ ap (λ (a : ℕ). idle_of unanswered a time) other
+
+latest_is : (v : Watch) (purpose : Purpose) (time : ℕ) → (clocked v purpose time).latest ≡ time
+latest_is v Accept time = refl
+latest_is v Slot time = refl
+latest_is v Idle time = refl
+latest_is v Patience time = refl
+latest_is v End time = refl
+
+pub idle-taken : (before quiet : List SocketCall) (purpose : Purpose) (bytes : List ℕ) (last time : ℕ) →
+    All IsQuiet quiet →
+    is_overdue (watch_of no_watch (before ++ (ReadClock purpose last ∷ (TookBytes bytes ∷ quiet)))) Idle time
+    ≡ nat_le (3600 * 10 ^ 9) (time - last)
+idle-taken before quiet purpose bytes last time all =
+    let was = watch_of no_watch before in
+    let w = watched (clocked was purpose last) (TookBytes bytes) in
+    let same = quiet_calls w quiet all in
+    let latest : w.active ≡ last = latest_is was purpose last in
+    ap (λ (v : Watch). is_overdue v Idle time)
+    (watch_of-append no_watch before (ReadClock purpose last ∷ (TookBytes bytes ∷ quiet)))
+    ∙ idle_is (watch_of w quiet) None last time same.unanswered (same.active ∙ latest)
+
+pub idle-came : (before between quiet : List SocketCall) (purpose : Purpose) (taken bytes : List ℕ) (last time : ℕ) →
+    All TakesNothing (between ++ ReadClock purpose last ∷ []) → All IsQuiet quiet →
+    is_overdue (watch_of no_watch (before ++ ((TookBytes taken ∷ between)
+    ++ (ReadClock purpose last ∷ (GaveBytes bytes ∷ quiet))))) Idle time
+    ≡ nat_le (3600 * 10 ^ 9) (time - last)
+idle-came before between quiet purpose taken bytes last time none all =
+    let was = watch_of no_watch before in
+    let took = watched was (TookBytes taken) in
+    let mid = watch_of took between in
+    let read = clocked mid purpose last in
+    let w = watched read (GaveBytes bytes) in
+    let rest = ReadClock purpose last ∷ (GaveBytes bytes ∷ quiet) in
+    let same = quiet_calls w quiet all in
+    let silent : read.unanswered ≡ None =
+    ap (λ (v : Watch). v.unanswered) (sym (watch_of-append took between (ReadClock purpose last ∷ [])))
+    ∙ unanswered_after took (between ++ ReadClock purpose last ∷ []) none in
+    ap (λ (v : Watch). is_overdue v Idle time)
+    (watch_of-append no_watch before ((TookBytes taken ∷ between) ++ rest)
+    ∙ watch_of-append took between rest)
+    ∙ idle_is (watch_of w quiet) None last time (same.unanswered ∙ silent)
+    (same.active ∙ latest_is mid purpose last)
+
+pub idle-first-send : (before after : List SocketCall) (accept time : ℕ) → All TakesNothing after →
+    15 * 10 ^ 9 ≤ time - accept →
+    is_overdue (watch_of no_watch (before ++ ReadClock Accept accept ∷ after)) Idle time ≡ true
+idle-first-send before after accept time none late =
+    let was = clocked (watch_of no_watch before) Accept accept in
+    let now = watch_of was after in
+    ap (λ (v : Watch). is_overdue v Idle time) (watch_of-append no_watch before (ReadClock Accept accept ∷ after))
+    ∙ idle_is now (Some accept) now.active time (unanswered_after was after none) refl
+    ∙ or_left (nat_le (15 * 10 ^ 9) (time - accept)) (nat_le (3600 * 10 ^ 9) (time - now.active))
+    (le-leb (15 * 10 ^ 9) (time - accept) late)
+
+not_yet : (limit passed : ℕ) → passed < limit → nat_le limit passed ≡ false
+not_yet limit passed early =
+    false_from_ne_true (nat_le limit passed) (λ yes_. omega (arith, early, leb-true limit passed yes_))
+
+pub idle-early : (before quiet : List SocketCall) (accept time : ℕ) → All IsQuiet quiet →
+    time - accept < 15 * 10 ^ 9 →
+    is_overdue (watch_of no_watch (before ++ ReadClock Accept accept ∷ quiet)) Idle time ≡ false
+idle-early before quiet accept time all early =
+    let was = clocked (watch_of no_watch before) Accept accept in
+    let same = quiet_calls was quiet all in
+    ap (λ (v : Watch). is_overdue v Idle time) (watch_of-append no_watch before (ReadClock Accept accept ∷ quiet))
+    ∙ idle_is (watch_of was quiet) (Some accept) accept time same.unanswered same.active
+    ∙ or_from (nat_le (15 * 10 ^ 9) (time - accept)) (nat_le (3600 * 10 ^ 9) (time - accept))
+    (not_yet (15 * 10 ^ 9) (time - accept) early) (not_yet (3600 * 10 ^ 9) (time - accept) (omega (arith, early)))
+
+-- ---- what a patience reading finds
+abbrev patience_of : Option ℕ → ℕ → Bool
+patience_of stuck time = has_passed (60 * 10 ^ 9) stuck time
+
+pub patience-is : (before between after : List SocketCall) (taken : List ℕ) (first time : ℕ) →
+    All IsBeforePatience between → All TakesNothing after →
+    is_overdue (watch_of no_watch (before ++ ((TookBytes taken ∷ between)
+    ++ (ReadClock Patience first ∷ after)))) Patience time ≡ nat_le (60 * 10 ^ 9) (time - first)
+patience-is before between after taken first time none all =
+    let was = watch_of no_watch before in
+    let took = watched was (TookBytes taken) in
+    let mid = watch_of took between in
+    let read = clocked mid Patience first in
+    let rest = ReadClock Patience first ∷ after in
+    let begun : read.stuck ≡ Some first =
+    ap (λ (o : Option ℕ). Some (unwrap_or o first)) (not_stuck_after took between none refl) in
+    ap (λ (v : Watch). is_overdue v Patience time)
+    (watch_of-append no_watch before ((TookBytes taken ∷ between) ++ rest)
+    ∙ watch_of-append took between rest)
+    ∙ ap (λ (o : Option ℕ). patience_of o time) (stuck_after read after first all begun)
