@@ -15,14 +15,15 @@ use Rattle.rtsp_text.specs.declared.requests.Request.{Request}
 use Rattle.rtsp_text.proofs.MessageUniqueness.{fault_once, no_fault, request_once}
 use Rattle.session.specs.declared.commands.Ask.{Ask}
 use Rattle.session.specs.declared.commands.Ask.TheVariants.{Halt as AskHalt, Offer as AskOffer}
-use Rattle.session.specs.declared.methods.Method.{Method}
-use Rattle.session.specs.declared.methods.Method.TheVariants.{Options, Describe, Setup as SetupMethod}
-use Rattle.session.specs.declared.methods.Method.TheVariants.{Play as PlayMethod, Pause, Teardown, GetParameter}
-use Rattle.session.specs.declared.methods.Topic.{Topic}
-use Rattle.session.specs.declared.methods.Topic.TheVariants.{Nothing as NoTopic, Booked, Offer as OfferTopic, Unknown}
+use Rattle.rtsp_replies.specs.declared.methods.Method.{Method}
+use Rattle.rtsp_replies.specs.declared.methods.Method.TheVariants.{Options, Describe, Setup as SetupMethod}
+use Rattle.rtsp_replies.specs.declared.methods.Method.TheVariants.{Play as PlayMethod, Pause, Teardown, GetParameter}
+use Rattle.rtsp_replies.specs.declared.methods.Topic.{Topic}
+use Rattle.rtsp_replies.specs.declared.methods.Topic.TheVariants.{Nothing as NoTopic, Booked, Offer as OfferTopic}
+use Rattle.rtsp_replies.specs.declared.methods.Topic.TheVariants.{Unknown}
 use Rattle.session.specs.declared.plans.Planned.{Planned}
-use Rattle.session.specs.declared.refusals.Refusal.{Refusal}
-use Rattle.session.specs.declared.refusals.Refusal.TheVariants.{Session, State as NotNow, Parameter, Memory}
+use Rattle.rtsp_replies.specs.declared.refusals.Refusal.{Refusal}
+use Rattle.rtsp_replies.specs.declared.refusals.Refusal.TheVariants.{Session, State as NotNow, Parameter, Memory}
 use Rattle.session.specs.declared.refusals.Task.{Task}
 use Rattle.session.specs.declared.refusals.Task.TheVariants.{Options as ToOptions}
 use Rattle.session.specs.declared.refusals.Task.TheVariants.{Describe as ToDescribe}
@@ -39,7 +40,9 @@ use Rattle.session.specs.declared.states.State.{State}
 use Rattle.session.specs.declared.states.State.TheVariants.{Init, Ready, Playing, Stopping}
 use Rattle.session.specs.Films.{Names, length_ms}
 use Rattle.session.specs.RequestSteps.{AnswersGoodRequest, Hears}
-use Rattle.session.specs.RefusalOrder.{IsJudged, IsTaskOf, IsTopic, fault_refusal, method_of, option_of}
+use Rattle.session.specs.RefusalOrder.{IsJudged, IsTaskOf, method_of, option_of}
+use Rattle.rtsp_replies.specs.Methods.{IsTopic}
+use Rattle.rtsp_replies.specs.Refusals.{fault_refusal}
 use Rattle.session.specs.Laws.{IsOneAnswer}
 use Rattle.session.specs.Methods.{AsksHalt, AsksOffer, AsksOfferOr, AsksPlay, AsksPlayOr, Describes, play_call}
 use Rattle.session.specs.Methods.{Gets, GetsOffer, GetsParameter, HasWait, IsRefused, IsReplied}
@@ -48,7 +51,7 @@ use Rattle.session.specs.Methods.{Takes, TearsDown, prepared_of, play_front}
 use Rattle.session.specs.RequestedPlans.{IsPlanned}
 use Rattle.session.specs.RunRequests.{playback_of}
 use Rattle.session.specs.SettingRanges.{AreFilms}
-use Rattle.session.specs.Replies.{describe_text, plain_text, public_text, refusal_text, session_text}
+use Rattle.rtsp_replies.specs.Replies.{describe_text, plain_text, public_text, refusal_text, session_text}
 use Rattle.session.specs.Setups.{IsSetupRead}
 use Rattle.session.specs.SessionStates.{SessionState, with_reply}
 use Rattle.session.proofs.InitialStateLemmas.{TwoHearings, TakenRequest}

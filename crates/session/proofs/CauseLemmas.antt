@@ -8,19 +8,20 @@ use Rattle.rtsp_text.specs.Replies.{Field, reply_text}
 use Rattle.rtsp_text.specs.declared.requests.Request.{Request}
 use Rattle.rtsp_text.proofs.MessageUniqueness.{no_fault}
 use Rattle.session.specs.declared.commands.Ask.TheVariants.{Reply}
-use Rattle.session.specs.declared.methods.Method.{Method}
-use Rattle.session.specs.declared.methods.Method.TheVariants.{Options, Describe, Play as PlayMethod, Pause, Teardown}
-use Rattle.session.specs.declared.methods.Method.TheVariants.{Setup as SetupMethod, GetParameter}
-use Rattle.session.specs.declared.methods.Topic.{Topic}
-use Rattle.session.specs.declared.methods.Topic.TheVariants.{Nothing, Booked, Offer as OfferTopic}
-use Rattle.session.specs.declared.methods.Topic.TheVariants.{Unknown as OtherTopic}
+use Rattle.rtsp_replies.specs.declared.methods.Method.{Method}
+use Rattle.rtsp_replies.specs.declared.methods.Method.TheVariants.{Options, Describe, Play as PlayMethod, Pause}
+use Rattle.rtsp_replies.specs.declared.methods.Method.TheVariants.{Teardown}
+use Rattle.rtsp_replies.specs.declared.methods.Method.TheVariants.{Setup as SetupMethod, GetParameter}
+use Rattle.rtsp_replies.specs.declared.methods.Topic.{Topic}
+use Rattle.rtsp_replies.specs.declared.methods.Topic.TheVariants.{Nothing, Booked, Offer as OfferTopic}
+use Rattle.rtsp_replies.specs.declared.methods.Topic.TheVariants.{Unknown as OtherTopic}
 use Rattle.session.specs.declared.plans.Planned.{Planned}
-use Rattle.session.specs.declared.refusals.Refusal.{Refusal}
-use Rattle.session.specs.declared.refusals.Refusal.TheVariants.{BadRequest, Version}
-use Rattle.session.specs.declared.refusals.Refusal.TheVariants.{Method as Unknown}
-use Rattle.session.specs.declared.refusals.Refusal.TheVariants.{Option as Required, Session, Film}
-use Rattle.session.specs.declared.refusals.Refusal.TheVariants.{State as NotNow, Transport, Parameter, Buffer}
-use Rattle.session.specs.declared.refusals.Refusal.TheVariants.{Range, Memory}
+use Rattle.rtsp_replies.specs.declared.refusals.Refusal.{Refusal}
+use Rattle.rtsp_replies.specs.declared.refusals.Refusal.TheVariants.{BadRequest, Version}
+use Rattle.rtsp_replies.specs.declared.refusals.Refusal.TheVariants.{Method as Unknown}
+use Rattle.rtsp_replies.specs.declared.refusals.Refusal.TheVariants.{Option as Required, Session, Film}
+use Rattle.rtsp_replies.specs.declared.refusals.Refusal.TheVariants.{State as NotNow, Transport, Parameter, Buffer}
+use Rattle.rtsp_replies.specs.declared.refusals.Refusal.TheVariants.{Range, Memory}
 use Rattle.session.specs.declared.refusals.Task.{Task}
 use Rattle.session.specs.declared.refusals.Task.TheVariants.{Options as ToOptions}
 use Rattle.session.specs.declared.refusals.Task.TheVariants.{Describe as ToDescribe}
@@ -37,7 +38,7 @@ use Rattle.session.specs.Methods.{AsksOfferOr, AsksPlayOr, Gets, GetsOffer, IsRe
 use Rattle.session.specs.Methods.{PlayCall, Plays, Takes, TearsDown}
 use Rattle.session.specs.RefusalLaws.{IsKnownMethod, RequiresSomeOption}
 use Rattle.session.specs.RefusalOrder.{FitsFilm, FitsSession, IsJudged, IsOwnFilm, IsReadAs, first_of, option_of}
-use Rattle.session.specs.Replies.{code_of}
+use Rattle.rtsp_replies.specs.Replies.{code_of}
 use Rattle.session.specs.RequestEffects.{HasCode}
 use Rattle.session.specs.RequestedPlans.{IsPlanned}
 use Rattle.session.specs.RequestSteps.{Hears}

@@ -32,9 +32,7 @@ pub mod PauseTeardownLemmas
 pub mod PlayInReadyLemmas
 pub mod SetupLemmas
 pub mod WholeFilmLemmas
-mod ReplyTextLemmas
 pub mod CompleteReplyLemmas
-mod WordLemmas
 mod RefusalLawLemmas
 mod ReplyNumberLemmas
 mod SoundStateLemmas

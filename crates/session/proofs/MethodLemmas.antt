@@ -14,20 +14,21 @@ use Rattle.rtsp_text.specs.declared.requests.Request.{Request}
 use Rattle.rtsp_text.proofs.MessageUniqueness.{no_fault}
 use Rattle.rtsp_fields.specs.declared.transports.Channels.{Channels}
 use Rattle.session.specs.declared.commands.Ask.{Ask}
-use Rattle.session.specs.declared.methods.Method.{Method}
-use Rattle.session.specs.declared.methods.Method.TheVariants.{Options, Describe, Play as PlayMethod, Pause, Teardown}
-use Rattle.session.specs.declared.methods.Method.TheVariants.{Setup as SetupMethod, GetParameter}
-use Rattle.session.specs.declared.methods.Topic.{Topic}
-use Rattle.session.specs.declared.methods.Topic.TheVariants.{Nothing, Booked, Offer as OfferTopic}
-use Rattle.session.specs.declared.methods.Topic.TheVariants.{Unknown as OtherTopic}
+use Rattle.rtsp_replies.specs.declared.methods.Method.{Method}
+use Rattle.rtsp_replies.specs.declared.methods.Method.TheVariants.{Options, Describe, Play as PlayMethod, Pause}
+use Rattle.rtsp_replies.specs.declared.methods.Method.TheVariants.{Teardown}
+use Rattle.rtsp_replies.specs.declared.methods.Method.TheVariants.{Setup as SetupMethod, GetParameter}
+use Rattle.rtsp_replies.specs.declared.methods.Topic.{Topic}
+use Rattle.rtsp_replies.specs.declared.methods.Topic.TheVariants.{Nothing, Booked, Offer as OfferTopic}
+use Rattle.rtsp_replies.specs.declared.methods.Topic.TheVariants.{Unknown as OtherTopic}
 use Rattle.session.specs.declared.plans.Planned.{Planned}
 use Rattle.session.specs.declared.refusals.Asked.{Asked}
-use Rattle.session.specs.declared.refusals.Refusal.{Refusal}
-use Rattle.session.specs.declared.refusals.Refusal.TheVariants.{BadRequest, Version}
-use Rattle.session.specs.declared.refusals.Refusal.TheVariants.{Method as Unknown}
-use Rattle.session.specs.declared.refusals.Refusal.TheVariants.{Option as Required, Session, Film}
-use Rattle.session.specs.declared.refusals.Refusal.TheVariants.{State as NotNow, Transport, Parameter, Buffer}
-use Rattle.session.specs.declared.refusals.Refusal.TheVariants.{Range, Memory}
+use Rattle.rtsp_replies.specs.declared.refusals.Refusal.{Refusal}
+use Rattle.rtsp_replies.specs.declared.refusals.Refusal.TheVariants.{BadRequest, Version}
+use Rattle.rtsp_replies.specs.declared.refusals.Refusal.TheVariants.{Method as Unknown}
+use Rattle.rtsp_replies.specs.declared.refusals.Refusal.TheVariants.{Option as Required, Session, Film}
+use Rattle.rtsp_replies.specs.declared.refusals.Refusal.TheVariants.{State as NotNow, Transport, Parameter, Buffer}
+use Rattle.rtsp_replies.specs.declared.refusals.Refusal.TheVariants.{Range, Memory}
 use Rattle.session.specs.declared.refusals.Task.{Task}
 use Rattle.session.specs.declared.refusals.Task.TheVariants.{Options as ToOptions}
 use Rattle.session.specs.declared.refusals.Task.TheVariants.{Describe as ToDescribe}
@@ -53,16 +54,19 @@ use Rattle.session.specs.Methods.{AsksOfferOr, AsksPlayOr, Describes, GetsOffer,
 use Rattle.session.specs.Methods.{IsReplied, IsSetUp, IsWaitOf, Looks, Plays, PlaysReady, SetsUp, Takes, play_call}
 use Rattle.session.specs.Methods.{play_front, prepared_of}
 use Rattle.session.specs.OfferLaws.{IsLeastBufferReply, IsWaitIn}
-use Rattle.session.specs.PublicLaws.{IsPublicTold}
+use Rattle.rtsp_replies.specs.PublicLaws.{IsPublicTold}
 use Rattle.session.specs.RefusalLaws.{IsRefusedBy}
 use Rattle.session.specs.ReplyContents.{IsDescribeReply, IsSetupReply}
 use Rattle.session.specs.RefusalOrder.{FitsFilm, FitsSession, FitsState, HasFilm, IsJudged, IsOnFilm, IsOwnFilm, IsOwnSession}
-use Rattle.session.specs.RefusalOrder.{IsReadAs, IsSpoken, IsTaken, IsTimely, IsTopic, IsWord, first_of, method_of}
-use Rattle.session.specs.RefusalOrder.{name_of, required_of}
-use Rattle.session.specs.Replies.{code_of, field, plain_text, public_text, refusal_fields, refusal_text, session_text}
+use Rattle.session.specs.RefusalOrder.{IsReadAs, IsSpoken, IsTaken, IsTimely, first_of, method_of}
+use Rattle.rtsp_replies.specs.Methods.{IsTopic, IsWord}
+use Rattle.session.specs.RefusalOrder.{required_of}
+use Rattle.rtsp_replies.specs.Methods.{name_of}
+use Rattle.rtsp_replies.specs.Replies.{code_of, field, plain_text, public_text, refusal_fields, refusal_text}
+use Rattle.rtsp_replies.specs.Replies.{session_text}
 use Rattle.session.specs.RequestedPlans.{HasNoPlan, IsPlanned, IsPlannedRun}
 use Rattle.session.specs.RequestSteps.{Hears}
-use Rattle.session.specs.RunRequests.{curve_refusal}
+use Rattle.rtsp_replies.specs.Refusals.{curve_refusal}
 use Rattle.session.specs.SettingRanges.{AreFilms}
 use Rattle.session.specs.Setups.{AreChannelsOf, HasChannels, IsChosen, IsSetupRead}
 use Rattle.session.specs.SessionStates.{SessionState, has_session_in, with_reply}
@@ -71,7 +75,8 @@ use Rattle.session.proofs.OfferLemmas.{least_told, offer_asked}
 use Rattle.session.proofs.PlanUniqueness.{film_at_once, planned_once}
 use Rattle.session.proofs.RangeInPlayingLemmas.{same_request}
 use Rattle.session.proofs.RefusalLawLemmas.{refused_by}
-use Rattle.session.proofs.ReplyContentLemmas.{film_told, public_told, setup_told}
+use Rattle.session.proofs.ReplyContentLemmas.{film_told, setup_told}
+use Rattle.rtsp_replies.proofs.ReplyPhrases.{public_told}
 use Rattle.session.proofs.RequestUniqueness.{names_once, read_once, topic_once}
 use Rattle.session.proofs.VerdictUniqueness.{AreAlike, method_once}
 

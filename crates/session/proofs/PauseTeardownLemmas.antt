@@ -7,7 +7,7 @@ use Rattle.rtsp_text.specs.declared.requests.Request.{Request}
 use Rattle.rtsp_text.proofs.MessageUniqueness.{no_fault}
 use Rattle.session.specs.declared.commands.Ask.{Ask}
 use Rattle.session.specs.declared.commands.Ask.TheVariants.{Reply, Halt as AskHalt}
-use Rattle.session.specs.declared.refusals.Refusal.{Refusal}
+use Rattle.rtsp_replies.specs.declared.refusals.Refusal.{Refusal}
 use Rattle.session.specs.declared.refusals.Task.{Task}
 use Rattle.session.specs.declared.refusals.Task.TheVariants.{Options as ToOptions}
 use Rattle.session.specs.declared.refusals.Task.TheVariants.{Describe as ToDescribe}
@@ -26,15 +26,16 @@ use Rattle.session.specs.EndLaws.{CanBePaused, CanBeTornDown, EndsSession, Halts
 use Rattle.session.specs.EndLaws.{IsPausedPlay, IsPause, HasSessionInReply, IsTeardown, IsTeardownHeard}
 use Rattle.session.specs.EndLaws.{IsTornDown}
 use Rattle.session.specs.RequestSteps.{Hears, after_halt, is_torn, new_session_state}
-use Rattle.session.specs.declared.methods.Method.{Method}
-use Rattle.session.specs.declared.methods.Method.TheVariants.{Pause, Teardown}
-use Rattle.session.specs.RefusalOrder.{IsJudged, IsReadAs, method_of, name_of, option_of}
+use Rattle.rtsp_replies.specs.declared.methods.Method.{Method}
+use Rattle.rtsp_replies.specs.declared.methods.Method.TheVariants.{Pause, Teardown}
+use Rattle.session.specs.RefusalOrder.{IsJudged, IsReadAs, method_of, option_of}
+use Rattle.rtsp_replies.specs.Methods.{name_of}
 use Rattle.session.specs.Laws.{IsOfMethod, stage_of}
 use Rattle.session.specs.LookLaws.{SessionEvent, Message, Admission, Overflow, Full, Halt, Look, Offer, Slot, Sending}
 use Rattle.session.specs.LookLaws.{AreAfter, IsAfter}
 use Rattle.session.specs.Methods.{AsksHalt, Ends, Pauses, PausesPlay, Takes, TearsDown}
 use Rattle.session.specs.PlayLaws.{IsDeclined}
-use Rattle.session.specs.Replies.{field, session_text}
+use Rattle.rtsp_replies.specs.Replies.{field, session_text}
 use Rattle.session.specs.SlotSteps.{after_play, is_between, is_done_in, is_sending, is_taken, next_of, sent_due}
 use Rattle.session.specs.SlotSteps.{sent_in}
 use Rattle.session.specs.SlotSteps.{sent_reply, sent_slot, stepped_in}

@@ -29,49 +29,32 @@ use Rattle.vod_base.proofs.DigitLemmas.{decimal_numerals}
 use Rattle.rtsp_fields.proofs.FilmPaths.{film_path}
 use Rattle.rtsp_fields.proofs.SecondsTexts.{seconds_read}
 use Rattle.rtsp_text.specs.Grammar.{is_url_byte}
-use Rattle.rtsp_text.specs.Replies.{Field, field_line, phrase, reply_front, value_named}
+use Rattle.rtsp_text.specs.Replies.{Field, field_line, reply_front, value_named}
 use Rattle.rtsp_text.proofs.CutUniqueness.{all_other}
 use Rattle.rtsp_text.proofs.LineBounds.{all-drop, all-take}
 use Rattle.rtsp_text.proofs.ReplyTexts.{front_field, whole_reply}
 use Rattle.rtsp_text.proofs.UrlBytes.{name_in_url}
 use Rattle.session.specs.declared.commands.Ask.{Ask}
 use Rattle.session.specs.declared.plans.Planned.{Planned}
-use Rattle.session.specs.declared.refusals.Refusal.{Refusal}
-use Rattle.session.specs.declared.refusals.Refusal.TheVariants.{BadRequest, Version, Method}
-use Rattle.session.specs.declared.refusals.Refusal.TheVariants.{Option as Required, Session}
-use Rattle.session.specs.declared.refusals.Refusal.TheVariants.{Film as NoFilm, State, Transport}
-use Rattle.session.specs.declared.refusals.Refusal.TheVariants.{Parameter, Buffer, Range, Memory}
+use Rattle.rtsp_replies.specs.declared.refusals.Refusal.TheVariants.{Session}
+use Rattle.rtsp_replies.specs.declared.refusals.Refusal.TheVariants.{Transport}
 use Rattle.session.specs.declared.states.Setup.{Setup}
-use Rattle.session.specs.Films.{begins_at, identity_of, length_ms, milliseconds_at, sending_of, timestamp_at}
+use Rattle.session.specs.Films.{begins_at, identity_of, length_ms, milliseconds_at, sending_of}
+use Rattle.session.specs.Films.{timestamp_at}
 use Rattle.session.specs.RequestSteps.{after_admission, after_full, after_look, after_overflow}
 use Rattle.session.specs.Methods.{Describes, IsSetUp, first_number, play_front}
-use Rattle.session.specs.PublicLaws.{IsPublicTold}
 use Rattle.session.specs.declared.states.State.TheVariants.{Ready}
-use Rattle.session.specs.Replies.{code_of, describe_text, field, joined_parts, look_body, play_fields, public_text}
-use Rattle.session.specs.Replies.{transport_value}
+use Rattle.rtsp_replies.specs.Replies.{describe_text, field, joined_parts, look_body, play_fields}
+use Rattle.rtsp_replies.specs.Replies.{transport_value}
 use Rattle.session.specs.SessionStates.{SessionState, sequence_of}
 use Rattle.std.specs.Int.{w32, to_be_bytes}
 use Rattle.hex.specs.Hex.{encode_lower}
 use Rattle.session.specs.declared.states.Counts.{Counts}
 use Rattle.session.specs.ReplyContents.{AreTicks, IsDescribeReply, IsFullReply, IsLookReply, IsOverflowReply}
 use Rattle.session.specs.ReplyContents.{IsPlayReply, IsSetupReply, IsShort, HasStartInReply, IsPrintable}
-use Rattle.session.specs.ReplyContents.{HasRtpInfo, HasRangeOf, phrase_of}
+use Rattle.session.specs.ReplyContents.{HasRtpInfo, HasRangeOf}
 use Rattle.session.proofs.RtpNumberLemmas.{number_goes_on}
 use Rattle.session.proofs.ModularSums.{sum_mod}
-
-pub phrases : (refusal : Refusal) → phrase (code_of refusal) ≡ phrase_of refusal
-phrases BadRequest = refl
-phrases Version = refl
-phrases Method = refl
-phrases Required = refl
-phrases Session = refl
-phrases NoFilm = refl
-phrases State = refl
-phrases Transport = refl
-phrases Parameter = refl
-phrases (Buffer least) = refl
-phrases Range = refl
-phrases Memory = refl
 
 ticks_360 : (units : ℕ) → AreTicks (units / 360) 360 units
 ticks_360 units = record { passed = div-mul-le_self units 360; no_more = omega arith }
@@ -474,17 +457,6 @@ look_told old place now at booked = record {
   kind = refl;
   size = refl;
   body_is = look_lines (decimal now) (decimal at) (decimal booked);
-}
-
--- the reply to an OPTIONS
-pub public_told : (sequence : ℕ) → IsPublicTold sequence (public_text sequence)
-unfolding value_named
-public_told sequence = record {
-  fields = field (codes "Public") (codes "OPTIONS, DESCRIBE, SETUP, PLAY, PAUSE, TEARDOWN, GET_PARAMETER") ∷ [];
-  public = codes "OPTIONS, DESCRIBE, SETUP, PLAY, PAUSE, TEARDOWN, GET_PARAMETER";
-  text_is = refl;
-  public_is = refl;
-  names = refl;
 }
 
 -- the state after a SETUP

@@ -8,12 +8,13 @@ use Rattle.rtsp_text.proofs.ReplyTexts.{front_field, whole_reply}
 use Rattle.rtsp_fields.specs.Sdp.{description_text}
 use Rattle.session.specs.declared.commands.Ask.{Ask}
 use Rattle.session.specs.declared.commands.Ask.TheVariants.{Reply}
-use Rattle.session.specs.declared.methods.Topic.{Topic}
-use Rattle.session.specs.declared.methods.Topic.TheVariants.{Nothing as NoTopic, Booked, Offer as OfferTopic, Unknown}
+use Rattle.rtsp_replies.specs.declared.methods.Topic.{Topic}
+use Rattle.rtsp_replies.specs.declared.methods.Topic.TheVariants.{Nothing as NoTopic, Booked, Offer as OfferTopic}
+use Rattle.rtsp_replies.specs.declared.methods.Topic.TheVariants.{Unknown}
 use Rattle.session.specs.declared.plans.Planned.{Planned}
-use Rattle.session.specs.declared.refusals.Refusal.{Refusal}
-use Rattle.session.specs.declared.refusals.Refusal.TheVariants.{Memory, Parameter, Session as NoSession}
-use Rattle.session.specs.declared.refusals.Refusal.TheVariants.{State as NotNow}
+use Rattle.rtsp_replies.specs.declared.refusals.Refusal.{Refusal}
+use Rattle.rtsp_replies.specs.declared.refusals.Refusal.TheVariants.{Memory, Parameter, Session as NoSession}
+use Rattle.rtsp_replies.specs.declared.refusals.Refusal.TheVariants.{State as NotNow}
 use Rattle.session.specs.declared.refusals.Task.{Task}
 use Rattle.session.specs.declared.refusals.Task.TheVariants.{Options as ToOptions}
 use Rattle.session.specs.declared.refusals.Task.TheVariants.{Describe as ToDescribe}
@@ -32,11 +33,13 @@ use Rattle.session.specs.Methods.{AsksHalt, AsksOffer, AsksOfferOr, AsksPlay, As
 use Rattle.session.specs.Methods.{IsRefused, IsReplied, IsSetUp, Looks, Pauses, Plays, Takes, TearsDown, first_number}
 use Rattle.session.specs.Methods.{play_call}
 use Rattle.session.specs.RefusalOrder.{IsReadAs, option_of}
-use Rattle.session.specs.Replies.{code_of, describe_text, field, full_text, joined_parts, look_body, offer_body}
-use Rattle.session.specs.Replies.{overflow_text, parameters_text, plain_text, play_fields, public_text, refusal_fields}
-use Rattle.session.specs.Replies.{refusal_text, session_text, setup_text, transport_value}
+use Rattle.rtsp_replies.specs.Replies.{code_of, describe_text, field, full_text, joined_parts, look_body, offer_body}
+use Rattle.rtsp_replies.specs.Replies.{overflow_text, parameters_text, plain_text, play_fields, public_text}
+use Rattle.rtsp_replies.specs.Replies.{refusal_fields}
+use Rattle.rtsp_replies.specs.Replies.{refusal_text, session_text, setup_text, transport_value}
 use Rattle.session.specs.ReplyNumbers.{HasNumber, RepliesHaveNumber}
-use Rattle.session.specs.RequestSteps.{Hears, started_text}
+use Rattle.session.specs.RequestSteps.{Hears}
+use Rattle.rtsp_replies.specs.Replies.{started_text}
 use Rattle.session.specs.SessionStates.{SessionState, sequence_of}
 use Rattle.session.proofs.InitialStateLemmas.{HeardMessage}
 use Rattle.session.proofs.RangeInPlayingLemmas.{same_request}

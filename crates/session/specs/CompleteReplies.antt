@@ -1,11 +1,9 @@
 -- Each reply as a complete message (RFC 2326 sections 4.4 and 7).
-use Rattle.std.specs.Prelude.{ℕ, ◌≡◌, ◌<◌, ◌≤◌, ◌^◌, List, All, IfSome, length}
+use Rattle.std.specs.Prelude.{ℕ, ◌≡◌, ◌<◌, ◌≤◌, ◌^◌, List}
 use Rattle.std.specs.Int.{w64, to_be_bytes}
 use Rattle.hex.specs.Hex.{encode_lower}
-use Rattle.interleave.specs.Elements.{IsMessageLength, StartsMessage}
 use Rattle.interleave.specs.Heads.{IsHead}
-use Rattle.early_start.specs.StartSearch.{Offers}
-use Rattle.early_start.specs.declared.Tried.{Tried}
+use Rattle.rtsp_replies.specs.Messages.{AreOffersInWords, IsMessage}
 use Rattle.session.specs.declared.commands.Ask.{Ask}
 use Rattle.session.specs.declared.commands.Ask.TheVariants.{Reply, Play as AskPlay, Halt as AskHalt}
 use Rattle.session.specs.declared.commands.Ask.TheVariants.{Look as AskLook, Offer as AskOffer}
@@ -14,11 +12,6 @@ use Rattle.session.specs.RequestSteps.{after_admission, after_full, after_look, 
 use Rattle.session.specs.RequestSteps.{after_overflow}
 use Rattle.session.specs.SettingRanges.{AreFilms}
 use Rattle.session.specs.SessionStates.{SessionState}
-
--- a message whose own bytes show its end
-pub record IsMessage (message : List ℕ) : Type 0 where
-  pub starts : StartsMessage message
-  pub size : IsMessageLength message (length message)
 
 -- what a session keeps from its beginning: films of good names, and an id of 64 bits in hexadecimal
 -- digits
@@ -31,18 +24,6 @@ pub record HasValidIds (standing : SessionState) : Type 0 where
 -- authority, or the option that it requires
 abbrev pub LeavesRoom : List ℕ → Type 0
 LeavesRoom message = (head : ℕ) → IsHead message head → head ≤ 15872
-
--- a start that was tried, and offers, in numbers of 64 bits
-pub record IsTriedInWords (tried : Tried) : Type 0 where
-  pub start : tried.start < 2 ^ 64
-  pub slot : tried.over.slot < 2 ^ 64
-  pub booked : tried.over.booked < 2 ^ 64
-  pub asked : tried.over.asked < 2 ^ 64
-
-pub record AreOffersInWords (offers : Offers) : Type 0 where
-  pub few : length offers.tried ≤ 256
-  pub start : IfSome offers.start (λ slot. slot < 2 ^ 64)
-  pub tried : All IsTriedInWords offers.tried
 
 -- the reply to a PLAY, whether the station admits it, has no room on its link, or none in its
 -- journal

@@ -1,5 +1,4 @@
 pub mod RecordLists
-pub mod Replies
 pub mod SettingRanges
 pub mod Films
 pub mod RunRequests
@@ -23,7 +22,6 @@ pub mod OfferLaws
 pub mod PlayLaws
 pub mod LookLaws
 pub mod EndLaws
-pub mod PublicLaws
 pub mod CompleteReplies
 pub mod RefusalLaws
 pub mod ReplyNumbers

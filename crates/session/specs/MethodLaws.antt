@@ -16,7 +16,7 @@ use Rattle.session.specs.declared.commands.Ask.{Ask}
 use Rattle.session.specs.declared.commands.Ask.TheVariants.{Reply, Play as AskPlay, Look as AskLook}
 use Rattle.session.specs.declared.commands.Ask.TheVariants.{Offer as AskOffer}
 use Rattle.session.specs.declared.plans.Planned.{Planned}
-use Rattle.session.specs.declared.refusals.Refusal.TheVariants.{Buffer, Range}
+use Rattle.rtsp_replies.specs.declared.refusals.Refusal.TheVariants.{Buffer, Range}
 use Rattle.session.specs.declared.settings.Settings.{Settings}
 use Rattle.session.specs.declared.states.Awaited.TheVariants.{Play, Look}
 use Rattle.session.specs.declared.states.Setup.{Setup}
@@ -26,9 +26,10 @@ use Rattle.session.specs.EndLaws.{HasSessionInReply}
 use Rattle.session.specs.Films.{IsFilmAt, Names, identity_of}
 use Rattle.session.specs.Methods.{play_front, prepared_of}
 use Rattle.session.specs.OfferLaws.{IsLeastBufferReply, IsOfferAsked}
-use Rattle.session.specs.PublicLaws.{IsPublicTold}
+use Rattle.rtsp_replies.specs.PublicLaws.{IsPublicTold}
 use Rattle.session.specs.RefusalLaws.{IsRefusedBy}
-use Rattle.session.specs.RefusalOrder.{IsReadAs, IsWord}
+use Rattle.session.specs.RefusalOrder.{IsReadAs}
+use Rattle.rtsp_replies.specs.Methods.{IsWord}
 use Rattle.session.specs.ReplyContents.{IsDescribeReply, IsSetupReply, IsShort}
 use Rattle.session.specs.RequestedPlans.{HasNoPlan, IsPlannedRun}
 use Rattle.session.specs.RunRequests.{IsNoRange}

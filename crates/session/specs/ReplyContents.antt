@@ -17,32 +17,15 @@ use Rattle.rtsp_text.specs.Replies.{Field, reply_front, reply_text, value_named}
 use Rattle.film_run.specs.declared.runs.Run.{Run}
 use Rattle.session.specs.declared.commands.Ask.{Ask}
 use Rattle.session.specs.declared.plans.Planned.{Planned}
-use Rattle.session.specs.declared.refusals.Refusal.{Refusal}
-use Rattle.session.specs.declared.refusals.Refusal.TheVariants.{BadRequest, Version, Method}
-use Rattle.session.specs.declared.refusals.Refusal.TheVariants.{Option as Required, Session}
-use Rattle.session.specs.declared.refusals.Refusal.TheVariants.{Film as NoFilm, State, Transport}
-use Rattle.session.specs.declared.refusals.Refusal.TheVariants.{Parameter, Buffer, Range, Memory}
+use Rattle.rtsp_replies.specs.declared.refusals.Refusal.TheVariants.{Session}
+use Rattle.rtsp_replies.specs.declared.refusals.Refusal.TheVariants.{Transport}
+use Rattle.rtsp_replies.specs.declared.refusals.Refusal.TheVariants.{Range}
 use Rattle.session.specs.declared.states.Setup.{Setup}
 use Rattle.session.specs.declared.states.StreamSource.{StreamSource}
 use Rattle.session.specs.Films.{sending_of}
 use Rattle.session.specs.Methods.{Describes}
 use Rattle.session.specs.RequestedPlans.{IsPlannedRun}
 use Rattle.session.specs.SessionStates.{SessionState}
-
--- the phrase for each cause, in this project's spelling of those of RFC 2326 section 7.1.1
-abbrev pub phrase_of : Refusal → List ℕ
-phrase_of BadRequest = codes "Bad Request"
-phrase_of Version = codes "RTSP Version Not Supported"
-phrase_of Method = codes "Not Implemented"
-phrase_of Required = codes "Option Not Supported"
-phrase_of Session = codes "Session Not Found"
-phrase_of NoFilm = codes "Not Found"
-phrase_of State = codes "Method Not Valid In This State"
-phrase_of Transport = codes "Unsupported Transport"
-phrase_of Parameter = codes "Parameter Not Understood"
-phrase_of (Buffer least) = codes "Parameter Not Understood"
-phrase_of Range = codes "Invalid Range"
-phrase_of Memory = codes "Internal Server Error"
 
 -- so many whole ticks, of `each` units, are in a time of so many units
 pub record AreTicks (ticks each units : ℕ) : Type 0 where

@@ -1,7 +1,7 @@
 //! Laws of a session, in the terms of RFC 2326.
 
 ghost use Rattle.std.specs.Prelude.{◌≡◌, ◌<◌, ℕ, List, Some, None, Ok, string_bytes};
-ghost use Rattle.rtsp_text.specs.Replies.{Field, phrase, reply_front};
+ghost use Rattle.rtsp_text.specs.Replies.{Field, reply_front};
 ghost use Rattle.film_frames.specs.declared.stored_films.Stored.{Stored};
 ghost use Rattle.film_frames.specs.FramedRuns.{FramedRun, frames_before, octets_before};
 ghost use Rattle.film_run.specs.declared.runs.Run.{Run};
@@ -9,7 +9,6 @@ ghost use Rattle.admission.specs.declared.entries.Answer.{Answer};
 ghost use Rattle.session.specs.declared.commands.Ask.{Ask};
 ghost use Rattle.session.specs.declared.notes.Receipt.{Receipt};
 ghost use Rattle.session.specs.declared.plans.Planned.{Planned};
-ghost use Rattle.session.specs.declared.refusals.Refusal.{Refusal};
 ghost use Rattle.session.specs.declared.settings.Settings.{Settings};
 ghost use Rattle.session.specs.declared.states.Counts.{Counts};
 ghost use Rattle.session.specs.declared.states.Play.{Play as Played};
@@ -29,14 +28,12 @@ ghost use Rattle.session.specs.Laws.{PlayingStage, PlaysOn, ReadyStage, Resumes,
 ghost use Rattle.session.specs.Methods.{IsSetUp, play_front};
 ghost use Rattle.session.specs.RequestedPlans.{IsPlannedRun};
 ghost use Rattle.session.specs.SettingRanges.{AreFilms};
-ghost use Rattle.session.specs.PublicLaws.{IsPublicTold};
-ghost use Rattle.session.specs.Replies.{code_of, public_text};
 ghost use Rattle.session.specs.SessionStates.{SessionState, sequence_of};
 ghost use Rattle.session.specs.ReplyContents.{IsDescribed, IsDescribeReply, IsFullReply};
 ghost use Rattle.session.specs.ReplyContents.{IsLookReply};
 ghost use Rattle.session.specs.ReplyContents.{IsOverflowReply, IsPlayReply, IsSetupReply};
 ghost use Rattle.session.specs.ReplyContents.{HasStartInReply};
-ghost use Rattle.session.specs.ReplyContents.{IsPrintable, phrase_of};
+ghost use Rattle.session.specs.ReplyContents.{IsPrintable};
 ghost use Rattle.session.specs.CompleteReplies.{HasValidIds, LeavesRoom, RepliesAreComplete};
 
 pub use crate::end_laws::{law_only_teardown_ends_the_session, law_pause_leaves_a_resumable_run};
@@ -158,12 +155,6 @@ pub fn law_one_answer_per_request()
         Hears old message ask new → NeverLacks ask new }
 {}
 
-/// Each refusal has the phrase for its cause, in this project's own spelling: RFC 2326 section
-/// 7.1.1 spells four of the twelve otherwise, and recommends its phrases only.
-pub fn law_refusals_have_their_phrases()
-    ensures { (refusal : Refusal) → phrase (code_of refusal) ≡ phrase_of refusal }
-{}
-
 /// The reply to a PLAY names, before its start, the session, the time of the film from the run's
 /// first unplayed picture to its end, and how the stream goes on: the URL of the film, the number
 /// of the next frame, and the first unplayed picture's time (RFC 2326 sections 12.29 and 12.33).
@@ -213,11 +204,6 @@ pub fn law_replies_have_the_station_numbers()
     ensures look { (old : SessionState) (place now at booked : ℕ)
         → IsLookReply (sequence_of old.awaited) now at booked
         (after_look old place now at booked).text }
-{}
-
-/// The reply to an OPTIONS names the methods by which requests are judged (RFC 2326 section 10.1).
-pub fn law_options_reply_lists_all_methods()
-    ensures { (sequence : ℕ) → IsPublicTold sequence (public_text sequence) }
 {}
 
 /// Each reply is a complete message, whose end follows from its own bytes (RFC 2326 sections 4.4

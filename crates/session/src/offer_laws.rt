@@ -8,14 +8,14 @@ ghost use Rattle.film_run.specs.Plans.{rest_sizes, timing_of};
 ghost use Rattle.film_run.specs.Units.{stored_sizes};
 ghost use Rattle.session.specs.declared.commands.Ask.{Ask};
 ghost use Rattle.session.specs.declared.notes.OfferNote.{OfferNote};
-ghost use Rattle.session.specs.declared.refusals.Refusal.TheVariants.{Buffer};
+ghost use Rattle.rtsp_replies.specs.declared.refusals.Refusal.TheVariants.{Buffer};
 ghost use Rattle.session.specs.declared.states.Setup.{Setup};
 ghost use Rattle.session.specs.RequestSteps.{Hears, after_offer};
 ghost use Rattle.session.specs.OfferLaws.{IsLeastBuffer, IsLeastBufferReply, IsOfferAsked};
 ghost use Rattle.session.specs.OfferLaws.{IsOfferReply};
 ghost use Rattle.session.specs.RequestedPlans.{HasNoPlan};
 ghost use Rattle.session.specs.RunRequests.{playback_of, run_of};
-ghost use Rattle.session.specs.Replies.{refusal_text};
+ghost use Rattle.rtsp_replies.specs.Replies.{refusal_text};
 ghost use Rattle.session.specs.SessionStates.{SessionState, sequence_of};
 
 /// An offer is asked of the station exactly as its request has it: in Ready, with the plan of a
