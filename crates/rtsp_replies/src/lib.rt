@@ -17,3 +17,6 @@ pub use replies::{
     put_public, put_refusal, put_session, put_setup, put_start,
 };
 pub use text_buffers::{MAX_TEXT_BYTES, Text};
+
+#[cfg(test)]
+mod tests;
