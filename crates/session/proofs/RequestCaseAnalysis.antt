@@ -37,7 +37,7 @@ use Rattle.session.specs.declared.states.Play.{Play as Played}
 use Rattle.session.specs.declared.states.Setup.{Setup}
 use Rattle.session.specs.declared.states.State.{State}
 use Rattle.session.specs.declared.states.State.TheVariants.{Init, Ready, Playing, Stopping}
-use Rattle.session.specs.EndLaws.{IsTeardown}
+use Rattle.session.specs.Laws.{IsTeardown}
 use Rattle.session.specs.RequestSteps.{Hears, is_answered, is_torn}
 use Rattle.session.specs.RefusalOrder.{IsJudged, IsReadAs, option_of}
 use Rattle.rtsp_replies.specs.Methods.{IsTopic, IsWord}

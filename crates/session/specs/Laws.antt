@@ -135,6 +135,9 @@ pub record IsOfMethod (method message : List ℕ) : Type 0 where
   pub is_request : IsReadAs message request
   pub method_is : request.method.now ≡ method
 
+abbrev pub IsTeardown : List ℕ → Type 0
+IsTeardown message = IsOfMethod (codes "TEARDOWN") message
+
 -- a PLAY in Ready, an offer in Ready, and a look once the room of the first looks is used up
 pub record IsPlayInReady (old : SessionState) (message : List ℕ) : Type 0 where
   pub setup : Setup

@@ -2,19 +2,13 @@
 #![tactic(auto)]
 
 mod commands;
-mod end_laws;
 mod films;
 pub mod laws;
-mod look_laws;
-mod method_laws;
 mod notes;
-mod offer_laws;
 mod plans;
 mod play_infos;
-mod play_laws;
 mod play_requests;
 mod records;
-mod refusal_laws;
 mod refusals;
 mod requests;
 mod sessions;
@@ -26,5 +20,8 @@ mod station_answers;
 
 pub use commands::{Ask, Slotted};
 pub use notes::{Notes, OfferNote, PlayNote, Receipt};
+pub use plans::Planned;
+pub use play_requests::PlayRequest;
+pub use refusals::{Asked, Task};
 pub use sessions::Session;
 pub use settings::Settings;

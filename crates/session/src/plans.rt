@@ -22,7 +22,7 @@ use rtsp_replies::Refusal;
 
 /// A run that is to be sent, what was sent before it, and the plan by which it is sent.
 #[derive(Drop)]
-pub(crate) struct Planned {
+pub struct Planned {
     /// The run.
     pub(crate) run: Run,
     /// The frames and octets that were sent before it.

@@ -22,7 +22,7 @@ use rtsp_text::{Request, header};
 
 /// The film that a request names, and how its URL names it.
 #[derive(Clone, Copy)]
-pub(crate) struct Asked<'m> {
+pub struct Asked<'m> {
     /// The number of the film.
     pub(crate) film: usize,
     /// The authority of the URL.
@@ -31,7 +31,7 @@ pub(crate) struct Asked<'m> {
 
 /// A request that is processed.
 #[derive(Clone, Copy)]
-pub(crate) enum Task<'m> {
+pub enum Task<'m> {
     /// Lists the methods.
     Options,
     /// This film is described.
