@@ -15,13 +15,14 @@ ghost use Rattle.rtsp_text.specs.Lines.{is_one_line};
 ghost use Rattle.rtsp_text.specs.Replies.{Field, is_code, reply_front};
 
 use crate::refusals::Refusal;
+use interleave::MAX_HEAD_BYTES;
 use itoa::Buffer;
 use rtsp_fields::{Channels, description, seconds_text};
 use rtsp_text::Reply;
 
 /// A refusal, of a request that requires this option.
 pub fn put_refusal(reply: &mut Reply, sequence: Option<u64>, refusal: Refusal, option: &[u8])
-    requires short { length option.now ≤ 16384 }
+    requires short { length option.now ≤ MAX_HEAD_BYTES }
     requires line { is_one_line option.now ≡ true }
     ensures { reply.new ≡ refusal_text sequence refusal option.now }
 {
@@ -46,7 +47,7 @@ pub fn put_public(reply: &mut Reply, sequence: u64)
 
 /// The 200 of a DESCRIBE of a film that takes so many milliseconds.
 pub fn put_description(reply: &mut Reply, sequence: u64, authority: &[u8], name: &str, end_ms: u64)
-    requires authority { length authority.now ≤ 16384 }
+    requires authority { length authority.now ≤ MAX_HEAD_BYTES }
     requires authority_line { is_one_line authority.now ≡ true }
     requires name { good_name name.now ≡ true }
     ensures { reply.new ≡ describe_text sequence authority.now name.now end_ms }
@@ -134,7 +135,7 @@ pub struct PlayInfo<'m> {
 /// The 200 of a PLAY up to its start.
 pub fn put_play(reply: &mut Reply, sequence: u64, id: &[u8; 16], info: &PlayInfo<'_>)
     requires id { is_one_line id.now ≡ true }
-    requires authority { length info.now.authority.now ≤ 16384 }
+    requires authority { length info.now.authority.now ≤ MAX_HEAD_BYTES }
     requires authority_line { is_one_line info.now.authority.now ≡ true }
     requires name { length info.now.name.now ≤ 64 }
     requires name_line { is_one_line info.now.name.now ≡ true }
@@ -242,7 +243,7 @@ fn code_of(refusal: Refusal) -> u16
 /// What a refusal says in addition.
 fn put_refusal_field(reply: &mut Reply, refusal: Refusal, option: &[u8])
     requires fits { length reply.old ≤ 75 }
-    requires short { length option.now ≤ 16384 }
+    requires short { length option.now ≤ MAX_HEAD_BYTES }
     requires line { is_one_line option.now ≡ true }
     ensures short { length reply.new ≤ 16500 }
     ensures front { (code : ℕ) (sequence : Option ℕ) → reply.old ≡ reply_front code sequence []
@@ -279,8 +280,7 @@ fn ssrc_text(ssrc: u32) -> [u8; 8]
     ensures line { is_one_line result ≡ true }
 {
     let mut text = [0u8; 8];
-    match hex::encode_to_slice(ssrc.to_be_bytes(), &mut text) {
-        Ok(()) => text,
-        Err(_) => unreachable!(),
-    }
+    // two digits for each of the four bytes: so they fit, and there is no error
+    hex::encode_to_slice(ssrc.to_be_bytes(), &mut text).ok();
+    text
 }

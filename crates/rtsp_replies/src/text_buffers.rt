@@ -62,10 +62,8 @@ impl Text {
         ensures text { self.new ≡ self.old ++ bytes.now }
         ensures long { length self.new ≡ length self.old + length bytes.now }
     {
-        match self.bytes.extend_from_slice(bytes) {
-            Ok(()) => {}
-            Err(_) => unreachable!(),
-        }
+        // the room is reserved, and so this takes no memory and never fails
+        self.bytes.extend_from_slice(bytes).ok();
     }
 
     /// Appends a number in decimal digits, of which there are at most 20.
