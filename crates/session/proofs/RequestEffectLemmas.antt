@@ -8,7 +8,7 @@ use Rattle.film_run.specs.declared.runs.Run.{Run}
 use Rattle.session.specs.declared.commands.Ask.{Ask}
 use Rattle.session.specs.declared.commands.Ask.TheVariants.{Play as AskPlay}
 use Rattle.session.specs.declared.plans.Planned.{Planned}
-use Rattle.session.specs.declared.refusals.Refusal.{Refusal}
+use Rattle.rtsp_replies.specs.declared.refusals.Refusal.{Refusal}
 use Rattle.session.specs.declared.refusals.Task.{Task}
 use Rattle.session.specs.declared.refusals.Task.TheVariants.{Options as ToOptions}
 use Rattle.session.specs.declared.refusals.Task.TheVariants.{Describe as ToDescribe}

@@ -10,18 +10,19 @@ use Rattle.rtsp_fields.proofs.PartLemmas.{within_once}
 use Rattle.rtsp_fields.proofs.PartPlaces.{end_once}
 use Rattle.rtsp_text.specs.Fields.{first_number, first_sequence, first_value, header_value, sequence_number, value_in}
 use Rattle.rtsp_text.specs.Lines.{header_lines}
-use Rattle.session.specs.declared.methods.Topic.{Topic}
-use Rattle.session.specs.declared.methods.Topic.TheVariants.{Nothing as NoTopic, Booked, Offer as OfferTopic, Unknown}
-use Rattle.session.specs.declared.refusals.Refusal.{Refusal}
-use Rattle.session.specs.declared.refusals.Refusal.TheVariants.{BadRequest, Version}
-use Rattle.session.specs.declared.refusals.Refusal.TheVariants.{Method as UnknownMethod}
-use Rattle.session.specs.declared.refusals.Refusal.TheVariants.{Option as Required, Session, Film}
-use Rattle.session.specs.declared.refusals.Refusal.TheVariants.{State as NotNow, Transport}
-use Rattle.session.specs.declared.refusals.Refusal.TheVariants.{Parameter, Buffer, Range, Memory}
+use Rattle.rtsp_replies.specs.declared.methods.Topic.{Topic}
+use Rattle.rtsp_replies.specs.declared.methods.Topic.TheVariants.{Nothing as NoTopic, Booked, Offer as OfferTopic}
+use Rattle.rtsp_replies.specs.declared.methods.Topic.TheVariants.{Unknown}
+use Rattle.rtsp_replies.specs.declared.refusals.Refusal.{Refusal}
+use Rattle.rtsp_replies.specs.declared.refusals.Refusal.TheVariants.{BadRequest, Version}
+use Rattle.rtsp_replies.specs.declared.refusals.Refusal.TheVariants.{Method as UnknownMethod}
+use Rattle.rtsp_replies.specs.declared.refusals.Refusal.TheVariants.{Option as Required, Session, Film}
+use Rattle.rtsp_replies.specs.declared.refusals.Refusal.TheVariants.{State as NotNow, Transport}
+use Rattle.rtsp_replies.specs.declared.refusals.Refusal.TheVariants.{Parameter, Buffer, Range, Memory}
 use Rattle.session.specs.declared.states.Setup.{Setup}
 use Rattle.session.specs.declared.settings.Settings.{Settings}
 use Rattle.session.specs.Films.{Names}
-use Rattle.session.specs.RefusalOrder.{IsTopic, IsWord}
+use Rattle.rtsp_replies.specs.Methods.{IsTopic, IsWord}
 use Rattle.session.specs.Methods.{IsWaitOf}
 use Rattle.session.specs.SettingRanges.{AreFilms}
 use Rattle.session.specs.Setups.{AreChannelsOf, AsksForSetup, HasChannels, IsChosen, HasNoMeaning, IsSetupRead}

@@ -17,7 +17,7 @@ use Rattle.session.specs.declared.play_requests.PlayRequest.TheVariants.{New}
 use Rattle.session.specs.declared.states.State.{State}
 use Rattle.session.specs.declared.states.State.TheVariants.{Init, Ready, Playing, Stopping}
 use Rattle.rtsp_text.specs.Fields.{first_sequence}
-use Rattle.session.specs.declared.refusals.Refusal.TheVariants.{Memory}
+use Rattle.rtsp_replies.specs.declared.refusals.Refusal.TheVariants.{Memory}
 use Rattle.session.specs.RequestEffects.{HasCode}
 use Rattle.session.specs.RefusalOrder.{IsReadAs}
 use Rattle.session.specs.LookLaws.{AsksBooked}
@@ -134,6 +134,9 @@ pub record IsOfMethod (method message : List ℕ) : Type 0 where
   pub request : Request
   pub is_request : IsReadAs message request
   pub method_is : request.method.now ≡ method
+
+abbrev pub IsTeardown : List ℕ → Type 0
+IsTeardown message = IsOfMethod (codes "TEARDOWN") message
 
 -- a PLAY in Ready, an offer in Ready, and a look once the room of the first looks is used up
 pub record IsPlayInReady (old : SessionState) (message : List ℕ) : Type 0 where

@@ -1,5 +1,4 @@
 pub mod RecordLists
-pub mod Replies
 pub mod SettingRanges
 pub mod Films
 pub mod RunRequests
@@ -18,13 +17,5 @@ pub mod Teardowns
 pub mod RequestSteps
 pub mod Laws
 pub mod RequestEffects
-pub mod ReplyContents
 pub mod OfferLaws
-pub mod PlayLaws
 pub mod LookLaws
-pub mod EndLaws
-pub mod PublicLaws
-pub mod CompleteReplies
-pub mod RefusalLaws
-pub mod ReplyNumbers
-pub mod MethodLaws

@@ -9,7 +9,8 @@ use Rattle.session.specs.declared.notes.OfferNote.{OfferNote}
 use Rattle.session.specs.declared.settings.Settings.{Settings}
 use Rattle.session.specs.RequestSteps.{Hears, after_admission, after_full, after_halt, after_look}
 use Rattle.session.specs.RequestSteps.{after_offer, after_overflow, new_session_state}
-use Rattle.session.specs.RefusalOrder.{IsReadAs, IsWord}
+use Rattle.session.specs.RefusalOrder.{IsReadAs}
+use Rattle.rtsp_replies.specs.Methods.{IsWord}
 use Rattle.session.specs.SlotSteps.{sent_reply, after_slot}
 use Rattle.session.specs.SessionStates.{SessionState}
 

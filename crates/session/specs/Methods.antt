@@ -18,12 +18,14 @@ use Rattle.session.specs.RunRequests.{playback_of}
 use Rattle.session.specs.declared.commands.Ask.{Ask}
 use Rattle.session.specs.declared.commands.Ask.TheVariants.{Reply, Play as AskPlay, Halt as AskHalt}
 use Rattle.session.specs.declared.commands.Ask.TheVariants.{Look as AskLook, Offer as AskOffer}
-use Rattle.session.specs.declared.methods.Topic.{Topic}
-use Rattle.session.specs.declared.methods.Topic.TheVariants.{Nothing, Booked, Offer as OfferTopic}
-use Rattle.session.specs.declared.methods.Topic.TheVariants.{Unknown}
-use Rattle.session.specs.declared.refusals.Refusal.{Refusal}
-use Rattle.session.specs.declared.refusals.Refusal.TheVariants.{Session as NoSession}
-use Rattle.session.specs.declared.refusals.Refusal.TheVariants.{State as NotNow, Parameter, Memory}
+use Rattle.rtsp_replies.specs.declared.methods.Topic.{Topic}
+use Rattle.rtsp_replies.specs.declared.methods.Topic.TheVariants.{Nothing, Booked}
+use Rattle.rtsp_replies.specs.declared.methods.Topic.TheVariants.{Offer as OfferTopic}
+use Rattle.rtsp_replies.specs.declared.methods.Topic.TheVariants.{Unknown}
+use Rattle.rtsp_replies.specs.declared.refusals.Refusal.{Refusal}
+use Rattle.rtsp_replies.specs.declared.refusals.Refusal.TheVariants.{Session as NoSession}
+use Rattle.rtsp_replies.specs.declared.refusals.Refusal.TheVariants.{State as NotNow, Parameter}
+use Rattle.rtsp_replies.specs.declared.refusals.Refusal.TheVariants.{Memory}
 use Rattle.session.specs.declared.refusals.Task.{Task}
 use Rattle.session.specs.declared.refusals.Task.TheVariants.{Options as ToOptions}
 use Rattle.session.specs.declared.refusals.Task.TheVariants.{Describe as ToDescribe}
@@ -40,9 +42,11 @@ use Rattle.session.specs.declared.states.State.{State}
 use Rattle.session.specs.declared.states.State.TheVariants.{Init, Ready, Playing, Stopping}
 use Rattle.session.specs.Films.{IsFilmAt, counts_after, identity_of, length_ms, milliseconds_at}
 use Rattle.session.specs.Films.{sending_of, timestamp_at}
-use Rattle.session.specs.RefusalOrder.{IsJudged, IsTopic, option_of}
-use Rattle.session.specs.Replies.{describe_text, plain_text, play_fields, public_text, refusal_text}
-use Rattle.session.specs.Replies.{session_text, setup_text}
+use Rattle.session.specs.RefusalOrder.{IsJudged, option_of}
+use Rattle.rtsp_replies.specs.Methods.{IsTopic}
+use Rattle.rtsp_replies.specs.Replies.{describe_text, plain_text, play_fields, public_text}
+use Rattle.rtsp_replies.specs.Replies.{refusal_text}
+use Rattle.rtsp_replies.specs.Replies.{session_text, setup_text}
 use Rattle.session.specs.Setups.{IsSetupRead}
 use Rattle.session.specs.SessionStates.{SessionState, with_reply}
 

@@ -17,7 +17,8 @@ use Rattle.session.specs.declared.plans.Planned.{Planned}
 use Rattle.session.specs.declared.states.Awaited.TheVariants.{Offer}
 use Rattle.session.specs.declared.states.Setup.{Setup}
 use Rattle.session.specs.declared.states.State.TheVariants.{Ready}
-use Rattle.session.specs.RefusalOrder.{IsReadAs, IsWord}
+use Rattle.session.specs.RefusalOrder.{IsReadAs}
+use Rattle.rtsp_replies.specs.Methods.{IsWord}
 use Rattle.session.specs.RequestedPlans.{IsPlannedRun}
 use Rattle.session.specs.SessionStates.{SessionState}
 

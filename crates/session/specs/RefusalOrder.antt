@@ -1,32 +1,29 @@
 -- The refusals that all methods share, in their order (RFC 2326 sections 7.1.1, 10 and 12).
-use Rattle.std.specs.Prelude.{ℕ, ◌≡◌, ◌≢◌, ◌⊎◌, ◌++◌, ⊤, true, false, Bool, List, [], Option, Some}
+use Rattle.std.specs.Prelude.{ℕ, ◌≡◌, ◌≢◌, ⊤, true, false, Bool, List, [], Option, Some}
 use Rattle.std.specs.Prelude.{None, is_some, codes, Result, Ok, Err}
 use Rattle.rtsp_text.specs.Fields.{header_value}
 use Rattle.rtsp_text.specs.Requests.{IsRequest}
 use Rattle.rtsp_text.specs.declared.requests.Request.{Request}
-use Rattle.rtsp_text.specs.declared.requests.RequestFault.{RequestFault}
-use Rattle.rtsp_text.specs.declared.requests.RequestFault.TheVariants.{BadLine, BadVersion}
-use Rattle.rtsp_text.specs.declared.requests.RequestFault.TheVariants.{BadHeader, NoSequenceNumber}
-use Rattle.rtsp_text.specs.declared.requests.RequestFault.TheVariants.{BadLength}
 use Rattle.rtsp_fields.specs.SessionIds.{IsSession}
 use Rattle.film_frames.specs.declared.stored_films.Stored.{Stored}
+use Rattle.rtsp_replies.specs.Methods.{name_of}
 use Rattle.session.specs.Films.{Names}
 use Rattle.session.specs.SessionStates.{has_session_in, is_playing_in}
-use Rattle.session.specs.declared.methods.Topic.{Topic}
-use Rattle.session.specs.declared.methods.Topic.TheVariants.{Nothing, Booked, Offer}
-use Rattle.session.specs.declared.methods.Topic.TheVariants.{Unknown as Other}
 use Rattle.session.specs.declared.states.State.{State as StateKind}
 use Rattle.session.specs.declared.states.State.TheVariants.{Init, Ready, Playing, Stopping}
-use Rattle.session.specs.declared.methods.Method.{Method}
-use Rattle.session.specs.declared.methods.Method.TheVariants.{Options, Describe, Setup, Play, Pause}
-use Rattle.session.specs.declared.methods.Method.TheVariants.{Teardown, GetParameter}
+use Rattle.rtsp_replies.specs.declared.methods.Method.{Method}
+use Rattle.rtsp_replies.specs.declared.methods.Method.TheVariants.{Options, Describe, Setup, Play}
+use Rattle.rtsp_replies.specs.declared.methods.Method.TheVariants.{Pause}
+use Rattle.rtsp_replies.specs.declared.methods.Method.TheVariants.{Teardown, GetParameter}
 use Rattle.session.specs.declared.refusals.Asked.{Asked}
-use Rattle.session.specs.declared.refusals.Refusal.{Refusal}
-use Rattle.session.specs.declared.refusals.Refusal.TheVariants.{BadRequest, Version}
-use Rattle.session.specs.declared.refusals.Refusal.TheVariants.{Method as Unknown}
-use Rattle.session.specs.declared.refusals.Refusal.TheVariants.{Option as Required, Session, Film}
-use Rattle.session.specs.declared.refusals.Refusal.TheVariants.{State, Transport, Parameter, Buffer}
-use Rattle.session.specs.declared.refusals.Refusal.TheVariants.{Range, Memory}
+use Rattle.rtsp_replies.specs.declared.refusals.Refusal.{Refusal}
+use Rattle.rtsp_replies.specs.declared.refusals.Refusal.TheVariants.{BadRequest, Version}
+use Rattle.rtsp_replies.specs.declared.refusals.Refusal.TheVariants.{Method as Unknown}
+use Rattle.rtsp_replies.specs.declared.refusals.Refusal.TheVariants.{Option as Required, Session}
+use Rattle.rtsp_replies.specs.declared.refusals.Refusal.TheVariants.{Film}
+use Rattle.rtsp_replies.specs.declared.refusals.Refusal.TheVariants.{State, Transport, Parameter}
+use Rattle.rtsp_replies.specs.declared.refusals.Refusal.TheVariants.{Buffer}
+use Rattle.rtsp_replies.specs.declared.refusals.Refusal.TheVariants.{Range, Memory}
 use Rattle.session.specs.declared.refusals.Task.{Task}
 use Rattle.session.specs.declared.refusals.Task.TheVariants.{Options as ToOptions}
 use Rattle.session.specs.declared.refusals.Task.TheVariants.{Describe as ToDescribe}
@@ -34,15 +31,6 @@ use Rattle.session.specs.declared.refusals.Task.TheVariants.{Setup as ToSetup, P
 use Rattle.session.specs.declared.refusals.Task.TheVariants.{Pause as ToPause}
 use Rattle.session.specs.declared.refusals.Task.TheVariants.{Teardown as ToTeardown}
 use Rattle.session.specs.declared.refusals.Task.TheVariants.{GetParameter as ToGetParameter}
-
-abbrev pub name_of : Method → List ℕ
-name_of Options = codes "OPTIONS"
-name_of Describe = codes "DESCRIBE"
-name_of Setup = codes "SETUP"
-name_of Play = codes "PLAY"
-name_of Pause = codes "PAUSE"
-name_of Teardown = codes "TEARDOWN"
-name_of GetParameter = codes "GET_PARAMETER"
 
 abbrev pub first_of : Option (List ℕ) → Option (List ℕ) → Option (List ℕ)
 first_of None other = other
@@ -219,27 +207,3 @@ IsJudged films id stage request (Err Parameter) = ⊥
 IsJudged films id stage request (Err (Buffer least)) = ⊥
 IsJudged films id stage request (Err Range) = ⊥
 IsJudged films id stage request (Err Memory) = ⊥
-
--- the refusal of a message that is no request
-abbrev pub fault_refusal : RequestFault → Refusal
-fault_refusal BadLine = BadRequest
-fault_refusal BadVersion = Version
-fault_refusal (BadHeader line) = BadRequest
-fault_refusal NoSequenceNumber = BadRequest
-fault_refusal BadLength = BadRequest
-
--- nothing, or one line end
-abbrev pub IsLineEnd : List ℕ → Type 0
-IsLineEnd bytes = (bytes ≡ []) ⊎ ((bytes ≡ codes "\n") ⊎ (bytes ≡ codes "\r\n"))
-
--- a body is this word, with or without one line end after it
-abbrev pub IsWord : List ℕ → List ℕ → Type 0
-IsWord word body = (body ≡ word) ⊎ ((body ≡ word ++ codes "\n") ⊎ (body ≡ word ++ codes "\r\n"))
-
--- what the body of a GET_PARAMETER asks for
-abbrev pub IsTopic : List ℕ → Topic → Type 0
-IsTopic body Nothing = body ≡ []
-IsTopic body Booked = IsWord (codes "x-Booked") body
-IsTopic body Offer = IsWord (codes "x-Offer") body
-IsTopic body Other = (body ≢ []) × (¬ IsWord (codes "x-Booked") body)
-    × (¬ IsWord (codes "x-Offer") body)

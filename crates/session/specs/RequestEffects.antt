@@ -12,16 +12,17 @@ use Rattle.session.specs.declared.commands.Ask.{Ask}
 use Rattle.session.specs.declared.commands.Ask.TheVariants.{Reply, Play as AskPlay, Halt as AskHalt}
 use Rattle.session.specs.declared.commands.Ask.TheVariants.{Look as AskLook, Offer as AskOffer}
 use Rattle.session.specs.declared.plans.Planned.{Planned}
-use Rattle.session.specs.declared.refusals.Refusal.{Refusal}
-use Rattle.session.specs.declared.refusals.Refusal.TheVariants.{Memory}
+use Rattle.rtsp_replies.specs.declared.refusals.Refusal.{Refusal}
+use Rattle.rtsp_replies.specs.declared.refusals.Refusal.TheVariants.{Memory}
 use Rattle.session.specs.declared.states.Awaited.TheVariants.{Play, Halt}
 use Rattle.session.specs.declared.states.AfterHalt.{AfterHalt}
 use Rattle.session.specs.declared.states.AfterHalt.TheVariants.{Done}
 use Rattle.session.specs.declared.states.Play.{Play as Played}
 use Rattle.session.specs.declared.states.Setup.{Setup}
 use Rattle.session.specs.declared.states.State.TheVariants.{Ready, Playing}
-use Rattle.session.specs.RefusalOrder.{IsJudged, name_of}
-use Rattle.session.specs.declared.methods.Method.TheVariants.{Play as PlayMethod}
+use Rattle.session.specs.RefusalOrder.{IsJudged}
+use Rattle.rtsp_replies.specs.Methods.{name_of}
+use Rattle.rtsp_replies.specs.declared.methods.Method.TheVariants.{Play as PlayMethod}
 use Rattle.session.specs.Methods.{IsRefused, play_front, prepared_of}
 use Rattle.session.specs.RequestedPlans.{IsPlanned, IsPlannedRun}
 use Rattle.session.specs.SettingRanges.{AreSettings, IsSetup}

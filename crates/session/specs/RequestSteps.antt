@@ -5,9 +5,8 @@ use Rattle.session.specs.declared.settings.Settings.{Settings}
 use Rattle.session.specs.declared.states.StreamSource.{StreamSource}
 use Rattle.std.specs.Prelude.{ℕ, ◌≡◌, ◌+◌, ◌-◌, ◌*◌, ◌%◌, ◌^◌, slice_index, ◌++◌, ◌⊎◌}
 use Rattle.std.specs.Prelude.{if◌then◌else◌, Bool, true, false, List, [], ◌∷◌, Option, Some, None}
-use Rattle.std.specs.Prelude.{codes, decimal, slice_get}
+use Rattle.std.specs.Prelude.{slice_get}
 use Rattle.rtsp_text.specs.Fields.{first_sequence}
-use Rattle.rtsp_text.specs.Replies.{field_line}
 use Rattle.rtsp_text.specs.Requests.{IsFault}
 use Rattle.rtsp_text.specs.declared.requests.Request.{Request}
 use Rattle.rtsp_text.specs.declared.requests.RequestFault.{RequestFault}
@@ -18,10 +17,11 @@ use Rattle.session.specs.declared.notes.Receipt.TheVariants.{Entry, Full}
 use Rattle.session.specs.declared.states.Awaited.{Awaited}
 use Rattle.session.specs.declared.states.Awaited.TheVariants.{Nothing, Play, Halt, Look, Offer}
 use Rattle.session.specs.declared.states.Counts.{Counts}
-use Rattle.session.specs.RefusalOrder.{IsReadAs, fault_refusal}
+use Rattle.session.specs.RefusalOrder.{IsReadAs}
+use Rattle.rtsp_replies.specs.Refusals.{fault_refusal}
 use Rattle.session.specs.Methods.{HearsRequest, IsRefused}
-use Rattle.session.specs.Replies.{field, full_text, look_body, offer_body, overflow_text}
-use Rattle.session.specs.Replies.{parameters_text}
+use Rattle.rtsp_replies.specs.Replies.{full_text, look_body, offer_body, overflow_text}
+use Rattle.rtsp_replies.specs.Replies.{parameters_text, started_text}
 use Rattle.session.specs.declared.states.AfterHalt.{AfterHalt}
 use Rattle.session.specs.declared.states.AfterHalt.TheVariants.{Done, Paused, Torn}
 use Rattle.film_run.specs.declared.runs.Run.{Run}
@@ -93,11 +93,6 @@ counts_of (Play prepared) counts = prepared.counts
 counts_of (Halt keep next) counts = counts
 counts_of (Look sequence) counts = counts
 counts_of (Offer sequence) counts = counts
-
--- a reply's first part, ended by the slots from the last one received to the play's start
-abbrev pub started_text : List ℕ → ℕ → List ℕ
-started_text front slots =
-    front ++ field_line (field (codes "x-Start") (decimal slots)) ++ codes "\r\n"
 
 -- the session once the play was admitted that it asked for
 abbrev pub after_admission : SessionState → ℕ → ℕ → SessionState

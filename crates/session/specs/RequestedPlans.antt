@@ -7,14 +7,15 @@ use Rattle.film_run.specs.declared.runs.Run.{Run}
 use Rattle.film_run.specs.Plans.{CanPlay, IsPlanOf, rest_sizes, timing_of}
 use Rattle.film_run.specs.Units.{stored_sizes}
 use Rattle.session.specs.declared.plans.Planned.{Planned}
-use Rattle.session.specs.declared.refusals.Refusal.{Refusal}
-use Rattle.session.specs.declared.refusals.Refusal.TheVariants.{Range}
+use Rattle.rtsp_replies.specs.declared.refusals.Refusal.{Refusal}
+use Rattle.rtsp_replies.specs.declared.refusals.Refusal.TheVariants.{Range}
 use Rattle.session.specs.declared.states.Counts.{Counts}
 use Rattle.session.specs.declared.states.Setup.{Setup}
 use Rattle.session.specs.declared.states.StreamSource.{StreamSource}
 use Rattle.session.specs.declared.play_requests.PlayRequest.{PlayRequest}
 use Rattle.session.specs.Films.{IsFilmAt, OfFilm}
-use Rattle.session.specs.RunRequests.{IsAskedRun, IsNoRange, IsRunOf, counts_for, curve_refusal}
+use Rattle.session.specs.RunRequests.{IsAskedRun, IsNoRange, IsRunOf, counts_for}
+use Rattle.rtsp_replies.specs.Refusals.{curve_refusal}
 use Rattle.session.specs.RunRequests.{playback_of, run_of}
 use Rattle.session.specs.SessionStates.{SessionState}
 

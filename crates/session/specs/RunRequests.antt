@@ -4,10 +4,6 @@ use Rattle.plan_cert.specs.declared.Segment.{Segment}
 use Rattle.plan_cert.specs.PlanSlots.{total_bytes}
 use Rattle.mpeg_scan.specs.PictureRates.{picture_time}
 use Rattle.mpeg_scan.specs.declared.films.Film.{Film}
-use Rattle.wire_curve.specs.declared.film.CurveFault.TheVariants.{NoPictures, TooManySlots}
-use Rattle.wire_curve.specs.declared.film.CurveFault.TheVariants.{BufferTooSmall}
-use Rattle.wire_curve.specs.declared.film.CurveRefused.{CurveRefused}
-use Rattle.wire_curve.specs.declared.film.CurveRefused.TheVariants.{Fault, NoMemory}
 use Rattle.film_frames.specs.declared.stored_films.Stored.{Stored}
 use Rattle.film_frames.specs.Tracks.{IsBoundary}
 use Rattle.film_frames.specs.FramedRuns.{run_pieces}
@@ -21,8 +17,6 @@ use Rattle.rtsp_fields.specs.Ranges.{IsSpan}
 use Rattle.rtsp_fields.specs.declared.ranges.Origin.{Origin}
 use Rattle.rtsp_fields.specs.declared.ranges.Origin.TheVariants.{Now, At}
 use Rattle.rtsp_fields.specs.declared.ranges.Span.{Span}
-use Rattle.session.specs.declared.refusals.Refusal.{Refusal}
-use Rattle.session.specs.declared.refusals.Refusal.TheVariants.{Buffer, Range, Memory}
 use Rattle.session.specs.declared.settings.Settings.{Settings}
 use Rattle.session.specs.declared.states.Counts.{Counts}
 use Rattle.session.specs.declared.states.Setup.{Setup}
@@ -108,10 +102,3 @@ pub record IsPlayable (stored : Stored) (source : StreamSource) (settings : Sett
   pub plan_is : IsPlanOf (stored_sizes stored) (playback_of stored.film settings setup) run plan
   pub bytes : run.sent + total_bytes plan ≡
       bytes_between (stored_sizes stored) run.first_unit run.end_unit
-
--- why a run has no plan
-abbrev pub curve_refusal : CurveRefused → Refusal
-curve_refusal (Fault NoPictures) = Range
-curve_refusal (Fault (TooManySlots slots)) = Range
-curve_refusal (Fault (BufferTooSmall slot used least)) = Buffer least
-curve_refusal NoMemory = Memory

@@ -7,8 +7,8 @@ use Rattle.vod_base.specs.Limits.{WritesNumber}
 use Rattle.rtsp_fields.specs.declared.transports.Channels.{Channels}
 use Rattle.session.specs.declared.settings.Settings.{Settings}
 use Rattle.session.specs.declared.states.Setup.{Setup}
-use Rattle.session.specs.declared.refusals.Refusal.{Refusal}
-use Rattle.session.specs.declared.refusals.Refusal.TheVariants.{Transport, Parameter}
+use Rattle.rtsp_replies.specs.declared.refusals.Refusal.{Refusal}
+use Rattle.rtsp_replies.specs.declared.refusals.Refusal.TheVariants.{Transport, Parameter}
 
 -- the channels of the first transport that can be taken
 abbrev pub AreChannelsOf : Option (List ℕ) → Channels → Type 0

@@ -11,9 +11,10 @@ use Rattle.session.specs.declared.refusals.Task.TheVariants.{Pause as ToPause}
 use Rattle.session.specs.declared.refusals.Task.TheVariants.{Teardown as ToTeardown}
 use Rattle.session.specs.declared.refusals.Task.TheVariants.{GetParameter as ToGetParameter}
 use Rattle.session.specs.declared.states.State.{State}
-use Rattle.session.specs.declared.methods.Method.{Method}
-use Rattle.session.specs.declared.methods.Method.TheVariants.{Options, Describe, Setup, Play, Pause}
-use Rattle.session.specs.declared.methods.Method.TheVariants.{Teardown, GetParameter}
+use Rattle.rtsp_replies.specs.declared.methods.Method.{Method}
+use Rattle.rtsp_replies.specs.declared.methods.Method.TheVariants.{Options, Describe, Setup, Play}
+use Rattle.rtsp_replies.specs.declared.methods.Method.TheVariants.{Pause}
+use Rattle.rtsp_replies.specs.declared.methods.Method.TheVariants.{Teardown, GetParameter}
 
 -- a film of the server, under an authority that a reply repeats
 pub record IsAsked (films : ℕ) (asked : Asked) : Type 0 where

@@ -2,22 +2,14 @@
 #![tactic(auto)]
 
 mod commands;
-mod end_laws;
 mod films;
 pub mod laws;
-mod look_laws;
-mod method_laws;
-mod methods;
 mod notes;
-mod offer_laws;
-mod parameter_bodies;
 mod plans;
-mod play_laws;
+mod play_infos;
 mod play_requests;
 mod records;
-mod refusal_laws;
 mod refusals;
-mod replies;
 mod requests;
 mod sessions;
 mod settings;
@@ -25,9 +17,11 @@ mod setups;
 mod slots;
 mod states;
 mod station_answers;
-mod text_buffers;
 
 pub use commands::{Ask, Slotted};
 pub use notes::{Notes, OfferNote, PlayNote, Receipt};
+pub use plans::Planned;
+pub use play_requests::PlayRequest;
+pub use refusals::{Asked, Task};
 pub use sessions::Session;
 pub use settings::Settings;

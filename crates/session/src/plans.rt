@@ -11,7 +11,6 @@ ghost use Rattle.session.specs.SettingRanges.{AreSettings, IsSetup};
 
 use crate::films::{counts_after, frames_of, stored_at};
 use crate::play_requests::{PlayRequest, requested_run};
-use crate::refusals::Refusal;
 use crate::sessions::Session;
 use crate::settings::Settings;
 use crate::states::{Counts, Setup, StreamSource};
@@ -19,10 +18,11 @@ use film_frames::Stored;
 use film_run::{Playback, Run, plan_of};
 use mpeg_scan::Film;
 use plan_cert::Plan;
+use rtsp_replies::Refusal;
 
 /// A run that is to be sent, what was sent before it, and the plan by which it is sent.
 #[derive(Drop)]
-pub(crate) struct Planned {
+pub struct Planned {
     /// The run.
     pub(crate) run: Run,
     /// The frames and octets that were sent before it.

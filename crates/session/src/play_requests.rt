@@ -13,7 +13,7 @@ use rtsp_fields::{Origin, Span, read_range};
 
 /// The run that a PLAY asks for.
 #[derive(Clone, Copy)]
-pub(crate) enum PlayRequest {
+pub enum PlayRequest {
     /// The paused one, on from where it was paused.
     Resumed(Run),
     /// A new one.

@@ -6,54 +6,23 @@ ghost use Rattle.std.specs.Prelude.{option_map, IfErr, Err};
 ghost use Rattle.film_frames.specs.declared.stored_films.Stored.{Stored};
 ghost use Rattle.session.specs.Films.{IsFilmNamed, Names};
 ghost use Rattle.session.specs.RefusalOrder.{FitsFilm, FitsSession, FitsState, HasFilm, IsJudged};
-ghost use Rattle.session.specs.RefusalOrder.{IsOnFilm, IsOwnTalk, fault_refusal, option_of};
+ghost use Rattle.session.specs.RefusalOrder.{IsOnFilm, IsOwnTalk, option_of};
 ghost use Rattle.session.specs.RefusalOrder.{required_of};
 ghost use Rattle.session.specs.RefusalOrder.{task_for};
-ghost use Rattle.session.specs.RunRequests.{curve_refusal};
 ghost use Rattle.session.specs.SettingRanges.{AreFilms};
 ghost use Rattle.session.specs.SessionStates.{has_session_in};
 ghost use Rattle.rtsp_text.specs.Lines.{is_one_line};
 ghost use Rattle.session.specs.Tasks.{IsAsked, IsTask, IsValid, NeedsSession};
 
-use crate::methods::{Method, read_method};
 use crate::states::State;
 use film_frames::Stored;
 use rtsp_fields::{read_url, session_matches};
-use rtsp_text::{Request, RequestFault, header};
-use wire_curve::{CurveFault, CurveRefused};
-
-/// Why a request is refused; none changes the state (RFC 2326 section 7.1.1).
-#[derive(Clone, Copy)]
-pub(crate) enum Refusal {
-    /// It is no request of RTSP.
-    BadRequest,
-    /// Its version isn't 1.0.
-    Version,
-    /// Its method isn't spoken.
-    Method,
-    /// It requires an option; none is known.
-    Option,
-    /// It needs a session that doesn't exist, or names another.
-    Session,
-    /// It names no film of the server, or another than the session's.
-    Film,
-    /// Its method isn't valid in this state.
-    State,
-    /// It asks for a transport that isn't offered.
-    Transport,
-    /// A parameter has no meaning.
-    Parameter,
-    /// The client's buffer is too small: it must hold at least so many bytes.
-    Buffer(u64),
-    /// Its range has no meaning for the film.
-    Range,
-    /// Memory ran out.
-    Memory,
-}
+use rtsp_replies::{Method, Refusal, read_method};
+use rtsp_text::{Request, header};
 
 /// The film that a request names, and how its URL names it.
 #[derive(Clone, Copy)]
-pub(crate) struct Asked<'m> {
+pub struct Asked<'m> {
     /// The number of the film.
     pub(crate) film: usize,
     /// The authority of the URL.
@@ -62,7 +31,7 @@ pub(crate) struct Asked<'m> {
 
 /// A request that is processed.
 #[derive(Clone, Copy)]
-pub(crate) enum Task<'m> {
+pub enum Task<'m> {
     /// Lists the methods.
     Options,
     /// This film is described.
@@ -77,36 +46,6 @@ pub(crate) enum Task<'m> {
     Teardown,
     /// Answers what the body asks for.
     GetParameter,
-}
-
-impl From<RequestFault> for Refusal {
-    ghost from_gives = { λ fault refusal. refusal ≡ fault_refusal fault };
-
-    /// The refusal of a request that isn't well formed.
-    fn from(fault: RequestFault) -> Refusal {
-        match fault {
-            RequestFault::BadVersion => Refusal::Version,
-            RequestFault::BadLine
-            | RequestFault::BadHeader(_)
-            | RequestFault::NoSequenceNumber
-            | RequestFault::BadLength => Refusal::BadRequest,
-        }
-    }
-}
-
-impl From<CurveRefused> for Refusal {
-    ghost from_gives = { λ refused refusal. refusal ≡ curve_refusal refused };
-
-    /// The refusal of a play whose units have no curves.
-    fn from(refused: CurveRefused) -> Refusal {
-        match refused {
-            CurveRefused::NoMemory => Refusal::Memory,
-            CurveRefused::Fault(fault) => match fault {
-                CurveFault::NoPictures | CurveFault::TooManySlots { .. } => Refusal::Range,
-                CurveFault::BufferTooSmall { least, .. } => Refusal::Buffer(least),
-            },
-        }
-    }
 }
 
 /// What a reply says of the options that a request requires.

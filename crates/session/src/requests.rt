@@ -15,7 +15,7 @@ ghost use Rattle.session.specs.Methods.{HearsRequest, Looks, GetsOffer, OffersRe
 ghost use Rattle.session.specs.Methods.{Pauses, Plays, SetsUp, Takes, TearsDown, play_call};
 ghost use Rattle.session.specs.RequestedPlans.{IsPausedIn};
 ghost use Rattle.session.specs.Tasks.{IsTask};
-ghost use Rattle.session.specs.Replies.{refusal_text};
+ghost use Rattle.rtsp_replies.specs.Replies.{refusal_text};
 ghost use Rattle.session.specs.SessionStates.{AsksFor, CanHandleRequest, AwaitsNoAnswer, IsReadyIn};
 ghost use Rattle.session.specs.SessionStates.{IsSameStationState};
 ghost use Rattle.session.specs.SessionStates.{has_session_in, is_playing_in, with_reply};
@@ -24,13 +24,10 @@ ghost use Rattle.session.specs.HaltSteps.{KeepsToBoundary};
 
 use crate::commands::Ask;
 use crate::films::{frames_of, length_ms, stored_at};
-use crate::methods::{Topic, read_topic};
 use crate::plans::{Planned, playback_of};
+use crate::play_infos::info_of;
 use crate::records::Records;
-use crate::refusals::{Refusal, Task, check_request, option_of};
-use crate::replies::{
-    info_of, put_description, put_plain, put_play, put_public, put_refusal, put_session, put_setup,
-};
+use crate::refusals::{Task, check_request, option_of};
 use crate::sessions::Session;
 use crate::setups::read_setup;
 use crate::states::{AfterHalt, Awaited, Prepared, Setup, State};
@@ -38,7 +35,11 @@ use early_start::Offers;
 use film_run::{Run, run_after};
 use mpeg_scan::laws::law_film_is_well_formed;
 use plan_cert::Plan;
-use rtsp_fields::read_wait;
+use rtsp_fields::{Channels, read_wait};
+use rtsp_replies::{
+    Refusal, Topic, put_description, put_plain, put_play, put_public, put_refusal, put_session,
+    put_setup, read_topic,
+};
 use rtsp_text::{Request, header, read_request, sequence_of};
 use std::alloc::Global;
 use std::mem;
@@ -178,7 +179,10 @@ impl<'a> Session<'a> {
                 put_setup(
                     &mut self.reply,
                     request.sequence,
-                    &setup,
+                    Channels {
+                        media: setup.media,
+                        control: setup.control,
+                    },
                     self.source.ssrc,
                     &self.id,
                 );

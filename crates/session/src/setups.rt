@@ -5,10 +5,10 @@ ghost use Rattle.session.specs.SettingRanges.{AreSettings, IsSetup};
 ghost use Rattle.session.specs.Setups.{HasChannels, IsBuffer, IsDelay, IsSetupRead};
 ghost use Rattle.rtsp_fields.specs.declared.transports.Channels.{Channels};
 
-use crate::refusals::Refusal;
 use crate::settings::Settings;
 use crate::states::Setup;
 use rtsp_fields::{Channels, read_buffer, read_delay, read_transport};
+use rtsp_replies::Refusal;
 use rtsp_text::{Request, header};
 
 /// What a SETUP asks for: the transport first, then the client's buffer and the start delay.

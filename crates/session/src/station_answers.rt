@@ -21,13 +21,11 @@ ghost use Rattle.session.specs.SessionStates.{awaited_answer, booking_of, open_o
 ghost use Rattle.session.specs.RequestSteps.{Halts, after_admission, after_full, after_look};
 ghost use Rattle.session.specs.RequestSteps.{after_offer, after_overflow, counts_done, counts_next};
 ghost use Rattle.session.specs.RequestSteps.{is_answered};
-ghost use Rattle.session.specs.Replies.{play_text};
+ghost use Rattle.rtsp_replies.specs.Replies.{play_text};
 ghost use Rattle.session.specs.SlotTransitions.{IsPlayIn};
 
 use crate::films::{counts_after, frames_of, stored_at};
 use crate::notes::{OfferNote, PlayNote, Receipt};
-use crate::parameter_bodies::{put_look, put_offer};
-use crate::replies::{put_full, put_overflow, put_parameters, put_start};
 use crate::sessions::Session;
 use crate::states::{AfterHalt, Awaited, Counts, Play, Prepared, Setup, State, Stop, StreamSource};
 use admission::Answer;
@@ -36,6 +34,7 @@ use film_frames::{Frames, Stored};
 use film_run::Run;
 use pacer::Pacer;
 use plan_cert::Plan;
+use rtsp_replies::{put_full, put_look, put_offer, put_overflow, put_parameters, put_start};
 use std::mem;
 
 impl<'a> Session<'a> {

@@ -1,7 +1,7 @@
 use Rattle.std.proofs.Common.{ℕ, List, ap, subst, ◌∙◌, string_bytes}
 use Rattle.session.specs.SessionInvariant.{session_state_of}
 use Rattle.session.specs.Methods.{Describes}
-use Rattle.session.specs.Replies.{describe_text}
+use Rattle.rtsp_replies.specs.Replies.{describe_text}
 use Rattle.session.specs.SessionStates.{SessionState, with_reply}
 use Rattle.session.proofs.sessions.Session.describe.Goals as goal
 

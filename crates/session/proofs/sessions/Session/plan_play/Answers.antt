@@ -7,9 +7,10 @@ use Rattle.film_run.specs.declared.runs.Run.{Run}
 use Rattle.film_run.specs.Plans.{IsPlanOf, IsPlayback, rest_sizes, timing_of}
 use Rattle.film_run.specs.Units.{stored_sizes}
 use Rattle.session.specs.RequestedPlans.{HasNoPlan, HasNoRun, IsPlanned}
-use Rattle.session.specs.RunRequests.{curve_refusal, playback_of}
+use Rattle.session.specs.RunRequests.{playback_of}
+use Rattle.rtsp_replies.specs.Refusals.{curve_refusal}
 use Rattle.session.specs.SessionStates.{SessionState}
-use Rattle.session.specs.declared.refusals.Refusal.TheVariants.{Range}
+use Rattle.rtsp_replies.specs.declared.refusals.Refusal.TheVariants.{Range}
 use Rattle.session.proofs.sessions.Session.plan_play.Goals as goal
 
 pub returns-in_default-clause-exact : goal.returns-in_default-clause-exact

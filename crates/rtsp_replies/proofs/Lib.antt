@@ -1,0 +1,4 @@
+mod WordLemmas
+pub mod ReplyTextLemmas
+pub mod ReplyMessages
+pub mod ReplyPhrases

@@ -1,0 +1,5 @@
+pub mod Replies
+pub mod Refusals
+pub mod Methods
+pub mod PublicLaws
+pub mod Messages

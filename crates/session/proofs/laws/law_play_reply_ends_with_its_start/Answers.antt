@@ -1,5 +1,0 @@
-use Rattle.session.proofs.ReplyContentLemmas.{start_told}
-use Rattle.session.proofs.laws.law_play_reply_ends_with_its_start.Goals as goal
-
-pub returns : goal.returns
-returns c = λ old place start sequence fields later front. start_told old place start later front

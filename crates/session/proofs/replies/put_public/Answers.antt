@@ -1,9 +1,0 @@
-use Rattle.std.proofs.Common.{[], ◌∷◌, Some, codes}
-use Rattle.session.specs.Replies.{field}
-use Rattle.session.proofs.replies.put_public.Goals as goal
-
-pub returns : goal.returns
-returns c =
-    c.finish.ensures.whole 200 (Some c.args.sequence)
-    (field (codes "Public") (codes "OPTIONS, DESCRIBE, SETUP, PLAY, PAUSE, TEARDOWN, GET_PARAMETER") ∷ [])
-    (c.field.ensures.front 200 (Some c.args.sequence) [] (c.start.ensures.front c.clear.ensures))

@@ -1,0 +1,23 @@
+mod RtpNumberLemmas
+mod StateMachineLemmas
+pub mod RequestShapes
+pub mod RunLemmas
+mod VerdictUniqueness
+mod PlanUniqueness
+pub mod AnswerUniqueness
+mod ReplyContentLemmas
+mod RangeInPlayingLemmas
+pub mod SlotCountLemmas
+mod PlayNoteLemmas
+mod OfferLemmas
+mod LookRoomLemmas
+pub mod PauseTeardownLemmas
+pub mod PlayInReadyLemmas
+pub mod SetupLemmas
+pub mod WholeFilmLemmas
+pub mod CompleteReplyLemmas
+mod RefusalLawLemmas
+mod ReplyNumberLemmas
+mod SoundStateLemmas
+mod MethodLemmas
+mod CauseLemmas

@@ -1,0 +1,281 @@
+-- A PLAY asks for one run and one plan.
+use Rattle.std.proofs.Common.{◌≡◌, ℕ, ◌≤◌, ◌⊎◌, List, Option, Some, None, Result, Ok, Err, refl, sym, ap, subst, ◌∙◌}
+use Rattle.std.proofs.Common.{inl, inr, arith}
+use Rattle.mpeg_scan.specs.declared.units.Unit.{Unit as PictureUnit}
+use Rattle.mpeg_scan.specs.declared.films.Film.{Film}
+use Rattle.plan_cert.specs.declared.Segment.{Segment}
+use Rattle.wire_curve.specs.declared.film.Timing.{Timing}
+use Rattle.wire_curve.specs.declared.film.CurveFault.TheVariants.{NoPictures, TooManySlots, BufferTooSmall}
+use Rattle.wire_curve.specs.declared.film.CurveRefused.{CurveRefused}
+use Rattle.wire_curve.specs.declared.film.CurveRefused.TheVariants.{Fault, NoMemory}
+use Rattle.wire_curve.specs.CurveFaults.{IsAccepted, IsBufferTooSmall, IsRefused}
+use Rattle.film_frames.specs.declared.stored_films.Stored.{Stored}
+use Rattle.film_run.specs.declared.runs.Run.{Run}
+use Rattle.film_run.specs.Plans.{IsPlanOf, rest_sizes, timing_of}
+use Rattle.film_run.specs.Runs.{IsNewRun}
+use Rattle.film_run.specs.Seeks.{IsRequestedRange, IsEnd, IsGroupBy, IsGroupFrom}
+use Rattle.film_run.specs.Units.{film_sizes, stored_sizes}
+use Rattle.film_run.proofs.PlanLemmas.{sending-one}
+use Rattle.mpeg_scan.specs.PictureRates.{picture_time}
+use Rattle.rtsp_fields.specs.declared.ranges.Origin.{Origin}
+use Rattle.rtsp_fields.specs.declared.ranges.Origin.TheVariants.{Now, At}
+use Rattle.rtsp_fields.specs.declared.ranges.Span.{Span}
+use Rattle.session.specs.declared.plans.Planned.{Planned}
+use Rattle.rtsp_replies.specs.declared.refusals.Refusal.{Refusal}
+use Rattle.rtsp_replies.specs.declared.refusals.Refusal.TheVariants.{Memory}
+use Rattle.session.specs.declared.states.Counts.{Counts}
+use Rattle.session.specs.declared.states.Setup.{Setup}
+use Rattle.session.specs.declared.play_requests.PlayRequest.{PlayRequest}
+use Rattle.session.specs.declared.play_requests.PlayRequest.TheVariants.{Resumed, New}
+use Rattle.session.specs.Films.{IsFilmAt}
+use Rattle.session.specs.RequestedPlans.{HasNoPlan, HasNoRun, IsPlanned, IsPlannedRun}
+use Rattle.session.specs.RunRequests.{IsAskedRun, IsNoRange, IsRequestFor, RequestsNothing, counts_for}
+use Rattle.rtsp_replies.specs.Refusals.{curve_refusal}
+use Rattle.session.specs.RunRequests.{playback_of}
+use Rattle.session.specs.RunRequests.{run_of}
+use Rattle.session.specs.SessionStates.{SessionState}
+use Rattle.session.proofs.ResumedPlayLemmas.{span_of_once}
+
+pub film_at_once : (films : List Stored) (number : ℕ) (one other : Stored) → IsFilmAt films number one
+    → IsFilmAt films number other
+    → other ≡ one
+film_at_once films number one other is its = cc
+
+-- the units at which a run begins and ends
+group_by_once : {units : List PictureUnit} {picture time k j : ℕ} → IsGroupBy units picture time k
+    → IsGroupBy units picture time j → j ≡ k
+group_by_once {k} {j} is its =
+    let below = is.last j its.group its.by_then in
+    let above = its.last k is.group is.by_then in
+    omega (arith, below, above)
+
+group_from_least : {units : List PictureUnit} {picture time after k j : ℕ} → IsGroupFrom units picture time after k
+    → IsGroupFrom units picture time after j → k ≤ j
+group_from_least {j} is its =
+    elim its.group [
+      | inl group ↦ is.first j its.later group (its.from_then group.within)
+      | inr end ↦ elim is.group [
+        | inl own ↦ let within = own.within in omega (arith, within, end)
+        | inr both ↦ omega (arith, both, end)
+      ]
+    ]
+
+end_once : {k j : ℕ} (units : List PictureUnit) (picture : ℕ) (to : Option ℕ) (after : ℕ)
+    → IsEnd units picture to after k
+    → IsEnd units picture to after j → j ≡ k
+end_once units picture None after is its = its ∙ sym is
+end_once units picture (Some time) after is its =
+    let below = group_from_least is its in
+    let above = group_from_least its is in
+    omega (arith, below, above)
+
+new_run_once : {sizes : List ℕ} {first end : ℕ} {one other : Run} → IsNewRun sizes first end one
+    → IsNewRun sizes first end other
+    → other ≡ one
+new_run_once {first} {end} {one} {other} is its =
+    let R : ℕ → ℕ → ℕ → ℕ → ℕ → Run =
+    λ f e u s p. record { first_unit = f; end_unit = e; from_unit = u; sent = s; played = p } in
+    let a = ap (λ n. R n other.end_unit other.from_unit other.sent other.played) (its.first_is ∙ sym is.first_is) in
+    let b = ap (λ n. R one.first_unit n other.from_unit other.sent other.played) (its.end_is ∙ sym is.end_is) in
+    let c = ap (λ n. R one.first_unit one.end_unit n other.sent other.played) (its.from_is ∙ sym is.from_is) in
+    let d = ap (λ n. R one.first_unit one.end_unit one.from_unit n other.played) (its.sent_is ∙ sym is.sent_is) in
+    let e = ap (λ n. R one.first_unit one.end_unit one.from_unit one.sent n) (its.played_is ∙ sym is.played_is) in
+    a ∙ b ∙ c ∙ d ∙ e
+
+asked_once : {film : Film} {from : ℕ} {to : Option ℕ} {one other : Run} → IsRequestedRange film from to one
+    → IsRequestedRange film from to other → other ≡ one
+asked_once {film} {from} {to} {one} {other} is its =
+    let units = film.units.items in
+    let time = picture_time film.rate in
+    let sizes = film_sizes film.slice_starts.items units in
+    let first = group_by_once is.begins its.begins in
+    let end = end_once units time to one.first_unit is.ends
+    (subst (λ n. IsEnd units time to n other.end_unit) first its.ends) in
+    new_run_once is.new
+    (subst (λ n. IsNewRun sizes one.first_unit n other) end
+    (subst (λ n. IsNewRun sizes n other.end_unit other) first its.new))
+
+wanted_once : {one other : PlayRequest} (film : Film) (paused : Option Run) (from : Origin) (to : Option ℕ)
+    → IsRequestFor film paused from to one
+    → IsRequestFor film paused from to other → other ≡ one
+wanted_once {one = Resumed run} {other} film None Now to is its = absurd is
+wanted_once {one = New run} {other = Resumed other} film None Now to is its = absurd its
+wanted_once {one = New run} {other = New other} film None Now to is its = ap (λ r. New r) (asked_once is its)
+wanted_once {one = Resumed run} {other = Resumed other} film (Some paused) Now to is its =
+    ap (λ r. Resumed r) (its ∙ sym is)
+wanted_once {one = Resumed run} {other = New other} film (Some paused) Now to is its = absurd its
+wanted_once {one = New run} {other} film (Some paused) Now to is its = absurd is
+wanted_once {one = Resumed run} {other} film None (At time) to is its = absurd is
+wanted_once {one = New run} {other = Resumed other} film None (At time) to is its = absurd its
+wanted_once {one = New run} {other = New other} film None (At time) to is its = ap (λ r. New r) (asked_once is its)
+wanted_once {one = Resumed run} {other} film (Some paused) (At time) to is its = absurd is
+wanted_once {one = New run} {other = Resumed other} film (Some paused) (At time) to is its = absurd its
+wanted_once {one = New run} {other = New other} film (Some paused) (At time) to is its =
+    ap (λ r. New r) (asked_once is its)
+
+asked_run_once : {film : Film} {paused : Option Run} {range : Option (List ℕ)} {one other : PlayRequest}
+    → IsAskedRun film paused range one
+    → IsAskedRun film paused range other → other ≡ one
+asked_run_once {film} {paused} {range} {one} {other} is its =
+    let same = span_of_once range its.span is.span its.is_span is.is_span in
+    wanted_once film paused is.span.from is.span.to is.is_wanted
+    (subst (λ (s : Span). IsRequestFor film paused s.from s.to other) same its.is_wanted)
+
+wants_some : (film : Film) (paused : Option Run) (from : Origin) (to : Option ℕ) (wanted : PlayRequest)
+    → IsRequestFor film paused from to wanted
+    → ¬ RequestsNothing film paused from to
+wants_some film None Now to (Resumed run) is none = is
+wants_some film None Now to (New run) is none = is.some none
+wants_some film (Some paused) Now to wanted is none = none
+wants_some film None (At time) to (Resumed run) is none = is
+wants_some film None (At time) to (New run) is none = is.some none
+wants_some film (Some paused) (At time) to (Resumed run) is none = is
+wants_some film (Some paused) (At time) to (New run) is none = is.some none
+
+asks_some : (film : Film) (paused : Option Run) (range : Option (List ℕ)) (wanted : PlayRequest)
+    → IsAskedRun film paused range wanted
+    → IsNoRange film paused range → ⊥
+asks_some film paused range wanted is none =
+    wants_some film paused is.span.from is.span.to wanted is.is_wanted (none is.span is.is_span)
+
+-- why a run has no plan: one cause, or want of memory
+least_once : {sizes : List ℕ} {timing : Timing} {slot used least slot' used' least' : ℕ}
+    → IsBufferTooSmall sizes timing slot used least
+    → IsBufferTooSmall sizes timing slot' used' least' → least' ≤ least
+least_once {slot} is its =
+    let most = is.greatest its.reached.0 its.reached.1 in
+    let reached = its.reached.2 in
+    omega (arith, most, reached)
+
+abbrev Refuses : CurveRefused → CurveRefused → Type 0
+Refuses one other =
+    (curve_refusal other ≡ curve_refusal one) ⊎ ((curve_refusal one ≡ Memory) ⊎ (curve_refusal other ≡ Memory))
+
+curves_once : (sizes : List ℕ) (timing : Timing) (one other : CurveRefused) → IsRefused sizes timing one
+    → IsRefused sizes timing other
+    → Refuses one other
+curves_once sizes timing NoMemory other is its = inr (inl refl)
+curves_once sizes timing (Fault fault) NoMemory is its = inr (inr refl)
+curves_once sizes timing (Fault NoPictures) (Fault NoPictures) is its = inl refl
+curves_once sizes timing (Fault NoPictures) (Fault (TooManySlots slots)) is its = inl refl
+curves_once sizes timing (Fault NoPictures) (Fault (BufferTooSmall slot used least)) is its =
+    absurd (let some = its.0 in omega (arith, is, some))
+curves_once sizes timing (Fault (TooManySlots slots)) (Fault NoPictures) is its = inl refl
+curves_once sizes timing (Fault (TooManySlots slots)) (Fault (TooManySlots n)) is its = inl refl
+curves_once sizes timing (Fault (TooManySlots slots)) (Fault (BufferTooSmall slot used least)) is its =
+    absurd (let many = is.2 in let same = is.1 in let few = its.1 in omega (arith, many, same, few))
+curves_once sizes timing (Fault (BufferTooSmall slot used least)) (Fault NoPictures) is its =
+    absurd (let some = is.0 in omega (arith, its, some))
+curves_once sizes timing (Fault (BufferTooSmall slot used least)) (Fault (TooManySlots slots)) is its =
+    absurd (let many = its.2 in let same = its.1 in let few = is.1 in omega (arith, many, same, few))
+curves_once sizes timing (Fault (BufferTooSmall slot used least)) (Fault (BufferTooSmall slot' used' least')) is its =
+    let below = least_once is.2 its.2 in
+    let above = least_once its.2 is.2 in
+    inl (ap (λ n. curve_refusal (Fault (BufferTooSmall 0 0 n)))
+    (let same : least' ≡ least = omega (arith, below, above) in same))
+
+accepted_once : (sizes : List ℕ) (timing : Timing) (refused : CurveRefused) → IsAccepted sizes timing
+    → IsRefused sizes timing refused
+    → curve_refusal refused ≡ Memory
+accepted_once sizes timing NoMemory is its = refl
+accepted_once sizes timing (Fault NoPictures) is its = absurd (let some = is.some_picture in omega (arith, some, its))
+accepted_once sizes timing (Fault (TooManySlots slots)) is its =
+    absurd (let few = is.few_slots in let same = its.1 in let many = its.2 in omega (arith, few, same, many))
+accepted_once sizes timing (Fault (BufferTooSmall slot used least)) is its =
+    let over = its.2 in
+    let holds = is.buffer_holds slot over.in_range in
+    let above = over.above_buffer in
+    let used_is = over.used_is in
+    absurd (omega (arith, holds, above, used_is))
+
+module _ (old : SessionState) (setup : Setup) (paused : Option Run) (range : Option (List ℕ)) where
+  planned_run_once : (stored stored' : Stored) (one other : Planned) → IsPlannedRun old stored setup paused range one
+      → IsPlannedRun old stored' setup paused range other → other ≡ one
+  planned_run_once stored stored' one other is that =
+      let film = film_at_once old.films setup.film stored stored' is.at that.at in
+      let its = subst (λ (s : Stored). IsPlannedRun old s setup paused range other) film that in
+      let sizes = stored_sizes stored in
+      let playback = playback_of stored.film old.settings setup in
+      let wanted = asked_run_once is.asked its.asked in
+      let run : other.run ≡ one.run = its.run_is ∙ ap run_of wanted ∙ sym is.run_is in
+      let counts : other.counts ≡ one.counts =
+      its.counts_is ∙ ap (λ w. counts_for stored.film old.source setup old.counts paused w) wanted ∙ sym is.counts_is in
+      let plan : other.plan ≡ one.plan =
+      sending-one sizes playback one.run one.plan (record { can_play = is.can_play; plan_is = is.plan_is })
+      other.plan (subst (λ (r : Run). IsPlanOf sizes playback r other.plan) run its.plan_is) in
+      let P : Run → Counts → List Segment → Planned = λ r c p. record { run = r; counts = c; plan = p } in
+      ap (λ r. P r other.counts other.plan) run ∙ ap (λ c. P one.run c other.plan) counts ∙ ap
+      (λ p. P one.run one.counts p) plan
+
+  -- a plan, and none
+  plan_or_none : (stored : Stored) (planned : Planned) (refusal : Refusal)
+      → IsPlannedRun old stored setup paused range planned
+      → HasNoRun old setup paused range refusal ⊎ HasNoPlan old setup paused range refusal → refusal ≡ Memory
+  plan_or_none stored planned refusal is (inl none) =
+      let film = film_at_once old.films setup.film stored none.stored is.at none.at in
+      absurd (asks_some stored.film paused range is.wanted is.asked
+      (subst (λ (s : Stored). IsNoRange s.film paused range) film none.none))
+  plan_or_none stored planned refusal is (inr that) =
+      let film = film_at_once old.films setup.film stored that.stored is.at that.at in
+      let asked = subst (λ (s : Stored). IsAskedRun s.film paused range that.wanted) film that.asked in
+      let wanted : run_of that.wanted ≡ planned.run =
+      ap run_of (asked_run_once is.asked asked) ∙ sym is.run_is in
+      let own = subst (λ (s : Stored). IsRefused (rest_sizes (stored_sizes s) (run_of that.wanted))
+      (timing_of (playback_of s.film old.settings setup) (run_of that.wanted)) that.refused) film that.no_curves in
+      let none = subst (λ (r : Run). IsRefused (rest_sizes (stored_sizes stored) r)
+      (timing_of (playback_of stored.film old.settings setup) r) that.refused) wanted own in
+      that.refusal_is ∙ accepted_once (rest_sizes (stored_sizes stored) planned.run)
+      (timing_of (playback_of stored.film old.settings setup) planned.run) that.refused is.plan_is.accepted none
+
+  no_plan_once : (one other : Refusal) → HasNoPlan old setup paused range one → HasNoPlan old setup paused range other
+      → (other ≡ one) ⊎ ((one ≡ Memory) ⊎ (other ≡ Memory))
+  no_plan_once one other is that =
+      let film = film_at_once old.films setup.film is.stored that.stored is.at that.at in
+      let asked = subst (λ (s : Stored). IsAskedRun s.film paused range that.wanted) film that.asked in
+      let wanted : run_of that.wanted ≡ run_of is.wanted =
+      ap run_of (asked_run_once is.asked asked) in
+      let own = subst (λ (s : Stored). IsRefused (rest_sizes (stored_sizes s) (run_of that.wanted))
+      (timing_of (playback_of s.film old.settings setup) (run_of that.wanted)) that.refused) film that.no_curves in
+      let none = subst (λ (r : Run). IsRefused (rest_sizes (stored_sizes is.stored) r)
+      (timing_of (playback_of is.stored.film old.settings setup) r) that.refused) wanted own in
+      elim (curves_once (rest_sizes (stored_sizes is.stored) (run_of is.wanted))
+      (timing_of (playback_of is.stored.film old.settings setup)
+      (run_of is.wanted)) is.refused that.refused is.no_curves none) [
+        | inl same ↦ inl (that.refusal_is ∙ same ∙ sym is.refusal_is)
+        | inr lacks ↦ elim lacks [
+          | inl first ↦ inr (inl (is.refusal_is ∙ first))
+          | inr second ↦ inr (inr (that.refusal_is ∙ second))
+        ]
+      ]
+
+  refused_once : (one other : Refusal) → HasNoRun old setup paused range one ⊎ HasNoPlan old setup paused range one
+      → HasNoRun old setup paused range other ⊎ HasNoPlan old setup paused range other
+      → (other ≡ one) ⊎ ((one ≡ Memory) ⊎ (other ≡ Memory))
+  refused_once one other (inl is) (inl its) = inl (its.refusal_is ∙ sym is.refusal_is)
+  refused_once one other (inl is) (inr its) =
+      let film = film_at_once old.films setup.film is.stored its.stored is.at its.at in
+      absurd (asks_some is.stored.film paused range its.wanted
+      (subst (λ (s : Stored). IsAskedRun s.film paused range its.wanted) film its.asked) is.none)
+  refused_once one other (inr is) (inl its) =
+      let film = film_at_once old.films setup.film is.stored its.stored is.at its.at in
+      absurd (asks_some is.stored.film paused range is.wanted is.asked
+      (subst (λ (s : Stored). IsNoRange s.film paused range) film its.none))
+  refused_once one other (inr is) (inr its) = no_plan_once one other is its
+
+  -- one run with one plan, or one refusal, or want of memory
+  pub planned_once : (one other : Result Planned Refusal) → IsPlanned old setup paused range one
+      → IsPlanned old setup paused range other
+      → (other ≡ one) ⊎ ((one ≡ Err Memory) ⊎ (other ≡ Err Memory))
+  planned_once (Ok one) (Ok other) is its = inl (ap (λ p. Ok p) (planned_run_once is.0 its.0 one other is.1 its.1))
+  planned_once (Ok one) (Err other) is its = inr (inr (ap (λ r. Err r) (plan_or_none is.0 one other is.1 its)))
+  planned_once (Err one) (Ok other) is its = inr (inl (ap (λ r. Err r) (plan_or_none its.0 other one its.1 is)))
+  planned_once (Err one) (Err other) is its =
+      elim (refused_once one other is its) [
+        | inl same ↦ inl (ap (λ r. Err r) same)
+        | inr lacks ↦
+            elim lacks [
+              | inl first ↦ inr (inl (ap (λ r. Err r) first))
+              | inr second ↦ inr
+                  (inr (ap (λ r. Err r) second))
+            ]
+      ]

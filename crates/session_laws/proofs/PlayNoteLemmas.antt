@@ -1,0 +1,205 @@
+-- Where a halt cuts, what is counted after a run, and its note.
+use Rattle.std.proofs.Common.{◌≡◌, ℕ, ◌+◌, ◌≤◌, false, List, ◌++◌, length, Option, slice_get, refl, sym, ap, subst}
+use Rattle.std.proofs.Common.{◌∙◌, arith}
+use Rattle.std.proofs.lemmas.List.{take_all}
+use Rattle.plan_cert.specs.PlanSlots.{total_bytes}
+use Rattle.film_frames.specs.declared.stored_films.Stored.{Stored}
+use Rattle.film_frames.specs.Pieces.{frames_in, octets_in}
+use Rattle.film_frames.specs.FramedRuns.{FramedRun, count_ended, frames_before, octets_before, pieces_in, run_pieces}
+use Rattle.film_frames.specs.FramedRuns.{sent_by}
+use Rattle.film_frames.specs.Tracks.{IsBoundaryAfter, framed_bytes}
+use Rattle.film_frames.proofs.RunBytesLemmas.{blocks_from-count, count_ended-is}
+use Rattle.film_frames.proofs.TrackLemmas.{begin-all}
+use Rattle.pacer.specs.Boundaries.{boundary_from}
+use Rattle.pacer.specs.PacerStates.{IsPacerState, next_boundary, new_pacer_state}
+use Rattle.pacer.proofs.PacerStateLemmas.{boundary-from}
+use Rattle.session.specs.declared.commands.Ask.TheVariants.{Halt as AskHalt}
+use Rattle.film_run.specs.declared.runs.Run.{Run}
+use Rattle.session.specs.declared.plans.Planned.{Planned}
+use Rattle.session.specs.declared.states.Awaited.{Awaited}
+use Rattle.session.specs.declared.states.Awaited.TheVariants.{Nothing, Play, Halt, Look, Offer}
+use Rattle.session.specs.declared.states.Counts.{Counts}
+use Rattle.session.specs.declared.states.AfterHalt.{AfterHalt}
+use Rattle.session.specs.declared.states.AfterHalt.TheVariants.{Done, Paused, Torn}
+use Rattle.session.specs.declared.states.Play.{Play as Played}
+use Rattle.session.specs.declared.states.Setup.{Setup}
+use Rattle.session.specs.declared.states.State.{State}
+use Rattle.session.specs.declared.states.State.TheVariants.{Init, Ready, Playing, Stopping}
+use Rattle.session.specs.Films.{IsFilmAt, counts_after, identity_of, sending_of}
+use Rattle.session.specs.RequestEffects.{IsPlayAsked}
+use Rattle.session.specs.RequestSteps.{after_admission, after_halt, counts_of, counts_done, counts_next, halted_counts}
+use Rattle.session.specs.RequestSteps.{is_answered}
+use Rattle.session.specs.Laws.{GoesOn}
+use Rattle.session.specs.Methods.{prepared_of}
+use Rattle.session_laws.specs.PlayLaws.{HasCountedAll, IsNoted, IsSentAsAsked, KeepsToBoundary}
+use Rattle.session.specs.RunRequests.{IsPlayable}
+use Rattle.session.specs.SlotSteps.{admitted_in, halted_notes, kept_of, next_of, note_of}
+use Rattle.session.specs.SessionStates.{HaltAnswer, SessionState, awaited_answer_of}
+use Rattle.session.proofs.StepInvariantLemmas.{nothing_of}
+use Rattle.session.proofs.InitialStateLemmas.{HeardMessage, PlayInHand}
+use Rattle.session_laws.proofs.RtpNumberLemmas.{identity_goes_on}
+use Rattle.session.proofs.RequestCaseAnalysis.{ComesTo, Lacks, Refuses, Says, SettlesSetup, AsksForPlay, AsksForHalt}
+use Rattle.session.proofs.RequestCaseAnalysis.{AsksForLook}
+use Rattle.session.proofs.RequestCaseAnalysis.{AsksForOffer, comes_to}
+
+-- ---- where a halt cuts
+
+kept_at : (play : Played) → IsPacerState play.pacer → KeepsToBoundary play (next_boundary play.pacer)
+kept_at play is =
+    let p = play.pacer in
+    let at = p.before + p.sent in
+    let within : at ≤ length (framed_bytes p.pieces) = omega (arith, is.sent, is.due, is.most, is.whole) in
+    let next = boundary-from p.pieces at within in
+    let same : boundary_from p.pieces at ≡ p.before + next_boundary p = omega (arith, next.after) in
+    subst (λ place. IsBoundaryAfter p.pieces at place) same next
+
+-- the play of a state in Playing
+abbrev play_in : State → Played → Played
+play_in Init other = other
+play_in (Ready setup paused) other = other
+play_in (Playing setup play) other = play
+play_in (Stopping setup stop) other = other
+
+same_play : {state : State} {setup its : Setup} {play other : Played} → state ≡ Playing setup play
+    → state ≡ Playing its other → play ≡ other
+same_play {play} {other} is is_too = ap (λ s. play_in s play) (sym is ∙ is_too)
+
+comes_halts : {old new : SessionState} {message : List ℕ} {keep : ℕ} {setup : Setup} {play : Played}
+    → ComesTo old message (AskHalt keep) new
+    → old.state ≡ Playing setup play → IsPacerState play.pacer → KeepsToBoundary play keep
+comes_halts {new} (Lacks may is) playing pacing = absurd (let no : ⊥ = cc (is.0) in no)
+comes_halts {new} (Refuses sequence refusal option other is) playing pacing =
+    absurd (let no : ⊥ = cc (is.0) in no)
+comes_halts {new} (Says sequence fields body tearing by command is) playing pacing =
+    absurd (let no : ⊥ = cc (command) in no)
+comes_halts {new} (SettlesSetup sequence own init ranges command is) playing pacing =
+    absurd (let no : ⊥ = cc (command) in no)
+comes_halts {new}
+    (AsksForPlay stored own paused range planned sequence authority ready planned_is command is) playing pacing =
+    absurd (let no : ⊥ = cc (command) in no)
+comes_halts {new} {keep} {play} (AsksForHalt sequence own other next was told by halts) playing pacing =
+    let same : play ≡ other = same_play playing was in
+    let asked : keep ≡ halts.keep = cc (halts.command) in
+    let kept : keep ≡ next_boundary play.pacer = asked ∙ halts.keep_is ∙ ap (λ (p : Played). next_boundary p.pacer)
+    (sym same) in
+    subst (λ n. KeepsToBoundary play n) (sym kept) (kept_at play pacing)
+comes_halts {new} (AsksForLook sequence look) playing pacing = absurd (let no : ⊥ = cc (look.command) in no)
+comes_halts {new} (AsksForOffer sequence wait planned asks) playing pacing =
+    absurd (let no : ⊥ = cc (asks.command) in no)
+
+pub halts_at_boundary : (heard : HeardMessage) (keep : ℕ) → heard.ask ≡ AskHalt keep → (hand : PlayInHand heard.old)
+    → IsPacerState hand.play.pacer → KeepsToBoundary hand.play keep
+halts_at_boundary heard keep halt hand pacing =
+    comes_halts (subst (λ a. ComesTo old message a new) halt (comes_to old message ask new hears)) hand.playing pacing
+  where
+    open heard use {old, new, message, ask, hears}
+
+-- ---- what is counted after a run
+
+-- all pieces of a run have ended at its end
+all_sent : (sending : FramedRun) → sent_by sending (length (framed_bytes (run_pieces sending))) ≡ pieces_in sending
+all_sent sending =
+    let blocks = run_pieces sending in
+    let count : length blocks ≡ length (pieces_in sending) = blocks_from-count sending 0 0 (pieces_in sending) in
+    let ended : count_ended (length (framed_bytes blocks)) blocks ≡ length blocks =
+    count_ended-is blocks (length (framed_bytes blocks)) (length blocks) (record {
+      among = omega arith;
+      last = omega (arith, begin-all blocks);
+      next = λ less. absurd (omega arith);
+    }) in
+    take_all (count_ended (length (framed_bytes blocks)) blocks) (pieces_in sending) (omega (arith, count, ended))
+
+counts_of_done : (counts done : Counts) (next : AfterHalt) → is_answered next ≡ false → counts_next counts done next ≡
+    done
+counts_of_done counts done Done none = refl
+counts_of_done counts done (Paused run) none = absurd (let no : ⊥ = cc in no)
+counts_of_done counts done Torn none = absurd (let no : ⊥ = cc in no)
+
+pub run_counted : {stored : Stored} (old : SessionState) (place : ℕ) (hand : PlayInHand old)
+    → is_answered (next_of old.awaited) ≡ false → IsFilmAt old.films hand.setup.film stored
+    → hand.play.run.sent + kept_of old.awaited hand.play.pacer.due
+    ≡ length (framed_bytes (run_pieces (sending_of stored.film old.source hand.setup old.counts hand.play.run)))
+    → HasCountedAll (identity_of old.source hand.setup old.counts)
+    (identity_of old.source hand.setup (after_halt old place).counts)
+    (sending_of stored.film old.source hand.setup old.counts hand.play.run)
+run_counted {stored} old place hand none at all =
+    let sending = sending_of stored.film old.source setup old.counts play.run in
+    let end = length (framed_bytes (run_pieces sending)) in
+    let done : Option Stored → Counts =
+    counts_done old.source old.counts setup play.run (kept_of old.awaited play.pacer.due) in
+    let counts : halted_counts old old.state ≡ counts_after old.counts sending end =
+    ap (halted_counts old) playing
+    ∙ counts_of_done old.counts (done (slice_get old.films setup.film)) (next_of old.awaited) none
+    ∙ ap done at ∙ ap (counts_after old.counts sending) all in
+    let its = identity_goes_on old.source setup old.counts sending end in
+    let goes = subst (λ (c : Counts). GoesOn (identity_of old.source setup old.counts) (identity_of old.source setup c)
+    (frames_before sending end) (octets_before sending end)) (sym counts) its in
+    subst (λ n. GoesOn (identity_of old.source setup old.counts)
+    (identity_of old.source setup (halted_counts old old.state))
+    n (octets_in (pieces_in sending))) (ap frames_in (all_sent sending))
+    (subst (λ n. GoesOn (identity_of old.source setup old.counts)
+    (identity_of old.source setup (halted_counts old old.state))
+    (frames_before sending end) n) (ap octets_in (all_sent sending)) goes)
+  where
+    open hand use {setup, play, playing}
+
+-- ---- the note of a play
+
+kept_asked : (awaited : Awaited) (due keep : ℕ) → awaited_answer_of awaited ≡ HaltAnswer keep
+    → kept_of awaited due ≡ keep
+kept_asked Nothing due keep is = absurd (let no : ⊥ = cc in no)
+kept_asked (Play prepared) due keep is = absurd (let no : ⊥ = cc in no)
+kept_asked (Halt other next) due keep is = cc
+kept_asked (Look sequence) due keep is = absurd (let no : ⊥ = cc in no)
+kept_asked (Offer sequence) due keep is = absurd (let no : ⊥ = cc in no)
+
+pub play_noted : (old : SessionState) (place : ℕ) (stored : Stored) (hand : PlayInHand old)
+    → IsPlayable stored old.source old.settings hand.setup old.counts hand.play.run hand.play.plan
+    → kept_of old.awaited hand.play.pacer.due ≤ total_bytes hand.play.plan
+    → IsNoted stored hand.play old (after_halt old place)
+play_noted old place stored hand playable within = record {
+  note = note_of hand.setup hand.play (kept_of old.awaited hand.play.pacer.due);
+  plays = ap (λ s. old.plays ++ halted_notes s old.awaited) hand.playing;
+  sound = record { run_is = playable.run_of.run_is; plan_is = playable.plan_is; keep = within };
+  asked = λ keep is. kept_asked old.awaited hand.play.pacer.due keep is;
+  due = λ rest. ap (λ (a : Awaited). kept_of a hand.play.pacer.due) (nothing_of old.awaited rest);
+}
+
+-- ---- what is admitted
+
+sent_as_asked : {old : SessionState} {stored : Stored} {setup : Setup} {paused : Option Run} {planned : Planned}
+    {place start : ℕ} {state : State} {awaited : Awaited} (asked : SessionState) (sequence : ℕ)
+    → asked.state ≡ state → asked.awaited ≡ awaited → state ≡ Ready setup paused
+    → awaited ≡ Play (prepared_of old stored setup planned sequence)
+    → IsSentAsAsked old stored setup planned place start (after_admission asked place start)
+sent_as_asked {old} {stored} {setup} {paused} {planned} {place} {start} {awaited} asked sequence s a ready is =
+    let prepared = prepared_of old stored setup planned sequence in
+    let counts : counts_of asked.awaited asked.counts ≡ planned.counts =
+    ap (λ (x : Awaited). counts_of x asked.counts) (a ∙ is) in
+    record {
+      play = record {
+        run = planned.run;
+        place = place;
+        start = start;
+        plan = planned.plan;
+        pacer = new_pacer_state (run_pieces prepared.frames) planned.run.sent planned.plan start;
+      };
+      playing = ap (λ (x : State). admitted_in x asked.awaited place start) (s ∙ ready)
+          ∙ ap (λ (x : Awaited). admitted_in (Ready setup paused) x place start) (a ∙ is);
+      run = refl;
+      plan = refl;
+      place_is = refl;
+      start_is = refl;
+      paced = refl;
+      begins = refl;
+      before = refl;
+      none = refl;
+      pieces = ap (λ (n : Counts). run_pieces (sending_of stored.film old.source setup n planned.run)) (sym counts);
+      counts = counts;
+    }
+
+pub play_sent : (old asked : SessionState) (is : IsPlayAsked old asked) (place start : ℕ) → asked.state ≡ old.state
+    → IsSentAsAsked old is.stored is.setup is.planned place start (after_admission asked place start)
+play_sent old asked is place start same =
+    sent_as_asked asked is.sequence refl refl
+    (same ∙ is.ready) is.awaited

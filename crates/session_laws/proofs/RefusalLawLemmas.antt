@@ -1,0 +1,261 @@
+-- The refusals that all methods share, by their codes; what a PLAY without a Range plays.
+use Rattle.std.proofs.Common.{◌≡◌, ℕ, ◌*◌, ◌≤◌, Bool, true, List, Option, Some, None, is_some, codes}
+use Rattle.std.proofs.Common.{Result, Ok, Err, refl, sym, ap, subst, ◌∙◌, inl, inr, arith}
+use Rattle.std.specs.Bool.{⊤}
+use Rattle.mpeg_scan.specs.declared.films.Film.{Film}
+use Rattle.mpeg_scan.specs.PictureRates.{picture_time}
+use Rattle.film_frames.specs.declared.stored_films.Stored.{Stored}
+use Rattle.film_run.specs.declared.runs.Run.{Run}
+use Rattle.film_run.specs.Seeks.{IsRequestedRange}
+use Rattle.rtsp_fields.specs.Ranges.{IsSpan}
+use Rattle.rtsp_fields.specs.declared.ranges.Origin.{Origin}
+use Rattle.rtsp_fields.specs.declared.ranges.Origin.TheVariants.{Now}
+use Rattle.rtsp_fields.specs.declared.ranges.Span.{Span}
+use Rattle.rtsp_text.specs.Fields.{header_value}
+use Rattle.rtsp_text.specs.declared.requests.Request.{Request}
+use Rattle.rtsp_text.proofs.MessageUniqueness.{no_fault}
+use Rattle.session.specs.declared.commands.Ask.{Ask}
+use Rattle.rtsp_replies.specs.declared.methods.Method.{Method}
+use Rattle.rtsp_replies.specs.declared.methods.Method.TheVariants.{Options, Describe, Setup, Play, Pause}
+use Rattle.rtsp_replies.specs.declared.methods.Method.TheVariants.{Teardown, GetParameter}
+use Rattle.session.specs.declared.plans.Planned.{Planned}
+use Rattle.session.specs.declared.play_requests.PlayRequest.{PlayRequest}
+use Rattle.session.specs.declared.play_requests.PlayRequest.TheVariants.{Resumed, New}
+use Rattle.rtsp_replies.specs.declared.refusals.Refusal.{Refusal}
+use Rattle.rtsp_replies.specs.declared.refusals.Refusal.TheVariants.{Method as Unknown, Option as Required}
+use Rattle.rtsp_replies.specs.declared.refusals.Refusal.TheVariants.{Session, Film as NoFilm, State as NotNow}
+use Rattle.session.specs.declared.refusals.Task.{Task}
+use Rattle.session.specs.declared.states.Setup.{Setup as SetupIs}
+use Rattle.session.specs.Laws.{Resumes}
+use Rattle.session.specs.Methods.{Takes}
+use Rattle.session_laws.specs.PlayLaws.{PassesEarlierChecks}
+use Rattle.session_laws.specs.RefusalLaws.{BeginsFilm, IsForeign, IsInvalidMethod, IsKnownMethod, IsOfNoFilm, IsOfNoSession}
+use Rattle.session_laws.specs.RefusalLaws.{IsRefusedBy, IsWholeFilm, LacksSession, RequiresSomeOption}
+use Rattle.session.specs.RefusalOrder.{FitsSession, IsJudged, IsOwnSession, IsReadAs, IsTimely, first_of, option_of}
+use Rattle.session.specs.RefusalOrder.{required_of}
+use Rattle.rtsp_replies.specs.Replies.{code_of, refusal_fields, refusal_text}
+use Rattle.session.specs.RequestSteps.{Hears}
+use Rattle.session.specs.RequestedPlans.{IsPlannedRun}
+use Rattle.session.specs.RunRequests.{IsAskedRun, IsRequestFor, counts_for, run_of}
+use Rattle.session.specs.SessionStates.{SessionState, with_reply}
+use Rattle.session.proofs.InitialStateLemmas.{HeardMessage}
+use Rattle.session_laws.proofs.RangeInPlayingLemmas.{same_request}
+use Rattle.session.proofs.ResumedPlayLemmas.{span_of_once}
+use Rattle.session_laws.proofs.VerdictUniqueness.{AreAlike, not_both, refusal_once, turned}
+
+-- a request that is judged so is refused so
+takes_refused : {old : SessionState} {request other : Request} (refusal : Refusal) (judgement : Result Task Refusal)
+    (ask : Ask) (new : SessionState)
+    → AreAlike request other → IsJudged old.films old.id old.state request (Err refusal)
+    → IsJudged old.films old.id old.state other judgement
+    → Takes old other judgement ask new → IsRefusedBy old (code_of refusal) request.sequence ask new
+takes_refused {request} {other} refusal (Ok task) ask new alike own judged takes =
+    absurd (not_both refusal (turned request other alike) judged own)
+takes_refused {old} {request} {other} refusal (Err given) ask new alike own judged takes =
+    let same : given ≡ refusal = refusal_once old.films old.id old.state alike own judged in
+    let option = option_of other.head.now in
+    let first : new.text ≡ refusal_text (Some other.sequence) given option =
+    ap (λ (s : SessionState). s.text) takes.1 in
+    record {
+      command = takes.0;
+      leaves = takes.1 ∙ ap (λ (t : List ℕ). with_reply old t) (sym first);
+      fields = refusal_fields refusal option;
+      text_is = first ∙ ap (λ r. refusal_text (Some other.sequence) r option) same
+          ∙ ap (λ n. refusal_text (Some n) refusal option) alike.sequence;
+    }
+
+hears_refused : {old : SessionState} {message : List ℕ} (request : Request) (refusal : Refusal)
+    (ask : Ask) (new : SessionState)
+    → IsReadAs message request → IsJudged old.films old.id old.state request (Err refusal)
+    → Hears old message ask new → IsRefusedBy old (code_of refusal) request.sequence ask new
+hears_refused request refusal ask new is own (inl fault) = absurd (no_fault fault.fault is fault.is_fault)
+hears_refused {message} request refusal ask new is own (inr whole) =
+    takes_refused refusal whole.hears.judgement ask new (same_request message request whole.request is whole.is_request)
+    own whole.hears.judged whole.hears.takes
+
+-- a heard request, read so
+pub record HeardRequest : Type 0 where
+  pub heard : HeardMessage
+  pub request : Request
+  pub is : IsReadAs heard.message request
+
+pub refused_by : (r : HeardRequest) (refusal : Refusal)
+    → IsJudged r.heard.old.films r.heard.old.id r.heard.old.state r.request (Err refusal)
+    → IsRefusedBy r.heard.old (code_of refusal) r.request.sequence r.heard.ask r.heard.new
+refused_by r refusal own =
+    hears_refused r.request refusal r.heard.ask r.heard.new r.is own r.heard.hears
+
+pub unknown_refused : (r : HeardRequest) → ¬ IsKnownMethod r.request
+    → IsRefusedBy r.heard.old 501 r.request.sequence r.heard.ask r.heard.new
+unknown_refused r unknown = refused_by r Unknown (record { none = λ method is. unknown (method, is) })
+
+-- ---- options
+
+some_first : (one other : Option (List ℕ)) (value : List ℕ) → (one ≡ Some value) → is_some (first_of one other) ≡ true
+some_first None other value is = absurd (let none : ⊥ = cc in none)
+some_first (Some own) other value is = refl
+
+some_second : (one other : Option (List ℕ)) (value : List ℕ) → (other ≡ Some value) → is_some (first_of one other) ≡
+    true
+some_second None other value is = ap is_some is
+some_second (Some own) other value is = refl
+
+requires : (request : Request) → RequiresSomeOption request → is_some (required_of request.head.now) ≡ true
+requires request some =
+    let one = header_value request.head.now (codes "Require") in
+    let other = header_value request.head.now (codes "Proxy-Require") in
+    elim some.1 [
+      | inl is ↦ some_first one other some.0 is
+      | inr is ↦ some_second one other some.0 is
+    ]
+
+pub option_refused : (r : HeardRequest) → IsKnownMethod r.request → RequiresSomeOption r.request
+    → IsRefusedBy r.heard.old 551 r.request.sequence r.heard.ask r.heard.new
+option_refused r known some =
+    refused_by r Required (record { method = known.0; named = known.1; required = requires r.request some })
+
+-- ---- sessions
+
+foreign : (exists : Bool) (id value : List ℕ) (otherwise : Type 0) → IsForeign exists id value
+    → ¬ IsOwnSession exists id (Some value) otherwise
+foreign exists id value otherwise (inl none) = λ own. let none : ⊥ = cc (none, own.0) in none
+foreign exists id value otherwise (inr other) = λ own. other own.1
+
+lacking : (method : Method) (exists : Bool) (id : List ℕ) (named : Option (List ℕ)) → LacksSession method exists id
+    named
+    → ¬ FitsSession method exists id named
+lacking Options exists id named lacks = absurd lacks
+lacking Describe exists id named lacks = absurd lacks
+lacking Setup exists id None lacks = absurd lacks
+lacking Setup exists id (Some value) lacks = foreign exists id value ⊤ lacks
+lacking Play exists id None lacks = λ own. own
+lacking Play exists id (Some value) lacks = foreign exists id value ⊥ lacks
+lacking Pause exists id None lacks = λ own. own
+lacking Pause exists id (Some value) lacks = foreign exists id value ⊥ lacks
+lacking Teardown exists id None lacks = λ own. own
+lacking Teardown exists id (Some value) lacks = foreign exists id value ⊥ lacks
+lacking GetParameter exists id None lacks = absurd lacks
+lacking GetParameter exists id (Some value) lacks = foreign exists id value ⊤ lacks
+
+pub session_refused : (r : HeardRequest) → IsOfNoSession r.heard.old r.request
+    → IsRefusedBy r.heard.old 454 r.request.sequence r.heard.ask r.heard.new
+session_refused r wrong =
+    refused_by r Session (record {
+      method = wrong.method;
+      spoken = record {
+        named = wrong.plain.method_is;
+        free = ap (λ (o : Option (List ℕ)). first_of o (header_value r.request.head.now (codes "Proxy-Require")))
+            wrong.plain.no_option ∙ wrong.plain.no_proxy_option;
+      };
+      session = lacking wrong.method _ _ _ wrong.lacks;
+    })
+
+-- ---- films and states
+
+pub film_refused : (r : HeardRequest) → IsOfNoFilm r.heard.old r.request
+    → IsRefusedBy r.heard.old 404 r.request.sequence r.heard.ask r.heard.new
+film_refused r wrong =
+    refused_by r NoFilm (record {
+      method = wrong.method;
+      talk = wrong.talk;
+      asked = wrong.asks_film;
+      none = λ has. wrong.none has.0 has.1.0 has.1.1.named;
+    })
+
+untimely : (method : Method) (old : SessionState) (request : Request) → IsInvalidMethod method old
+    → ¬ IsTimely old.state request method
+untimely Options old request wrong = absurd wrong
+untimely Describe old request wrong = absurd wrong
+untimely Setup old request wrong = λ timely. let none : ⊥ = cc (wrong, timely) in none
+untimely Play old request wrong = absurd wrong
+untimely Pause old request wrong = λ timely. let none : ⊥ = cc (wrong, timely) in none
+untimely Teardown old request wrong = absurd wrong
+untimely GetParameter old request wrong = absurd wrong
+
+pub state_refused : (r : HeardRequest) (method : Method) → PassesEarlierChecks method r.heard.old r.request
+    → IsInvalidMethod method r.heard.old → IsRefusedBy r.heard.old 455 r.request.sequence r.heard.ask r.heard.new
+state_refused r method good wrong =
+    refused_by r NotNow (record {
+      method = method;
+      talk = good.talk;
+      film = good.film;
+      state = untimely method r.heard.old r.request wrong;
+    })
+
+-- ---- a PLAY without a Range
+
+asked_whole : (film : Film) (wanted : PlayRequest) → IsRequestFor film None Now None wanted
+    → IsRequestedRange film 0 None (run_of wanted)
+asked_whole film (Resumed run) asked = absurd asked
+asked_whole film (New run) asked = asked
+
+whole_run : (film : Film) (run : Run) → IsRequestedRange film 0 None run → IsWholeFilm film run
+whole_run film run is = record {
+  begins = ap (λ n. n * picture_time film.rate) is.new.first_is ∙ zero_time _ is.begins.by_then;
+  ends = is.new.end_is ∙ is.ends;
+  unplayed = is.new.from_is ∙ sym is.new.first_is;
+  unsent = is.new.sent_is;
+}
+  where
+    zero_time : (time : ℕ) → time * 1000000000 ≤ 0 * 360000 → time ≡ 0
+    zero_time time by_then = omega (arith, by_then)
+
+pub whole_played : (old : SessionState) (stored : Stored) (setup : SetupIs) (planned : Planned)
+    → IsPlannedRun old stored setup None None planned → IsWholeFilm stored.film planned.run
+whole_played old stored setup planned is =
+    let asked = is.asked in
+    let now : IsRequestFor stored.film None Now None is.wanted =
+    subst (λ (s : Span). IsRequestFor stored.film None s.from s.to is.wanted) asked.is_span asked.is_wanted in
+    subst (λ (r : Run). IsWholeFilm stored.film r) (sym is.run_is)
+    (whole_run stored.film (run_of is.wanted) (asked_whole stored.film is.wanted now))
+
+-- ---- a PLAY from now on
+
+-- what a Range from now on asks for
+asked_now : {film : Film} {paused : Option Run} (value : List ℕ) (span : Span) (wanted : PlayRequest)
+    → IsSpan value span → span.from ≡ Now → IsAskedRun film paused (Some value) wanted
+    → IsRequestFor film paused Now span.to wanted
+asked_now {film} {paused} value span wanted is now asked =
+    let same : asked.span ≡ span = span_of_once (Some value) asked.span span asked.is_span is in
+    let own : IsRequestFor film paused span.from span.to wanted =
+    subst (λ (s : Span). IsRequestFor film paused s.from s.to wanted) same asked.is_wanted in
+    subst (λ (o : Origin). IsRequestFor film paused o span.to wanted) now own
+
+new_begins : {film : Film} {to : Option ℕ} {run : Run} → IsRequestedRange film 0 to run → BeginsFilm film run
+new_begins {film} {to} {run} is = record {
+  begins = ap (λ n. n * picture_time film.rate) is.new.first_is ∙ zero_time _ is.begins.by_then;
+  unplayed = is.new.from_is ∙ sym is.new.first_is;
+  unsent = is.new.sent_is;
+}
+  where
+    zero_time : (time : ℕ) → time * 1000000000 ≤ 0 * 360000 → time ≡ 0
+    zero_time time by_then = omega (arith, by_then)
+
+begun_by : (film : Film) (to : Option ℕ) (wanted : PlayRequest) → IsRequestFor film None Now to wanted
+    → BeginsFilm film (run_of wanted)
+begun_by film to (Resumed run) asked = absurd asked
+begun_by film to (New run) asked = new_begins asked
+
+pub now_begins : (old : SessionState) (stored : Stored) (setup : SetupIs) (value : List ℕ) (span : Span)
+    (planned : Planned) → IsSpan value span → span.from ≡ Now
+    → IsPlannedRun old stored setup None (Some value) planned → BeginsFilm stored.film planned.run
+now_begins old stored setup value span planned is now planned_is =
+    subst (λ (r : Run). BeginsFilm stored.film r) (sym planned_is.run_is)
+    (begun_by stored.film span.to planned_is.wanted (asked_now value span planned_is.wanted is now planned_is.asked))
+
+resumed_by : (film : Film) (paused : Run) (to : Option ℕ) (wanted : PlayRequest)
+    → IsRequestFor film (Some paused) Now to wanted → wanted ≡ Resumed paused
+resumed_by film paused to (Resumed run) asked = ap Resumed asked
+resumed_by film paused to (New run) asked = absurd asked
+
+pub now_resumes : (old : SessionState) (stored : Stored) (setup : SetupIs) (paused : Run) (value : List ℕ)
+    (span : Span) (planned : Planned) → IsSpan value span → span.from ≡ Now
+    → IsPlannedRun old stored setup (Some paused) (Some value) planned → Resumes old paused planned
+now_resumes old stored setup paused value span planned is now planned_is =
+    let same : planned_is.wanted ≡ Resumed paused = resumed_by stored.film paused span.to planned_is.wanted
+    (asked_now value span planned_is.wanted is now planned_is.asked) in
+    record {
+      run = planned_is.run_is ∙ ap run_of same;
+      counts = planned_is.counts_is
+          ∙ ap (counts_for stored.film old.source setup old.counts (Some paused)) same;
+    }

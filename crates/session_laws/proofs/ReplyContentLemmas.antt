@@ -1,0 +1,464 @@
+-- What replies tell is read in their fields.
+use Rattle.std.proofs.Common.{◌≡◌, ◌≢◌, ℕ, ◌+◌, ◌-◌, ◌*◌, ◌/◌, ◌%◌, ◌^◌, ◌<◌, ◌≤◌, ◌&&◌, ◌==◌, not}
+use Rattle.std.proofs.Common.{nat_lt, nat_le, true, false, List, [], ◌∷◌, ◌++◌, length, take, drop}
+use Rattle.std.proofs.Common.{get_or, slice_range, slice_index, codes, decimal, string_bytes}
+use Rattle.std.proofs.Common.{Option, Some, None, Ok, add_comm, refl, sym, ap, subst, ◌∙◌, inl, inr}
+use Rattle.std.proofs.Common.{arith}
+use Rattle.std.proofs.Math.Nat.{div-mul-le_self, mul-le-mul}
+use Rattle.std.specs.List.{list_all}
+use Rattle.std.specs.Char.{is_ascii_digit}
+use Rattle.std.proofs.lemmas.Bool.{and_from, and_parts}
+use Rattle.std.proofs.lemmas.Fmt.{digits_decimal}
+use Rattle.std.proofs.lemmas.List.{append-nil, append_assoc, drop_at, get_or-append_right}
+use Rattle.std.proofs.lemmas.List.{get_or-drop, get_or-take, get_or_append_left, length-append}
+use Rattle.std.proofs.lemmas.List.{length-drop, length-take, take_all, take_at}
+use Rattle.std.proofs.lemmas.List.Folds.{list_all-append, list_all_at}
+use Rattle.vod_base.specs.Names.{good_name, is_name_byte}
+use Rattle.mpeg_scan.specs.declared.films.Film.{Film}
+use Rattle.mpeg_scan.specs.PictureRates.{picture_time}
+use Rattle.film_frames.specs.declared.stored_films.Stored.{Stored}
+use Rattle.film_frames.specs.FramedRuns.{frames_before}
+use Rattle.rtsp_fields.specs.Sdp.{description_text, seconds_text}
+use Rattle.rtsp_fields.specs.Ranges.{IsSpan}
+use Rattle.rtsp_fields.specs.NptTimes.{IsTime}
+use Rattle.rtsp_fields.specs.Urls.{IsRead, IsTail, NamesFilm}
+use Rattle.rtsp_fields.specs.declared.ranges.Origin.TheVariants.{At}
+use Rattle.rtsp_fields.proofs.RequestUrls.{absolute_cut, absolute_url}
+use Rattle.rtsp_fields.proofs.DescriptionLines.{description_is}
+use Rattle.vod_base.proofs.DigitLemmas.{decimal_numerals}
+use Rattle.rtsp_fields.proofs.FilmPaths.{film_path}
+use Rattle.rtsp_fields.proofs.SecondsTexts.{seconds_read}
+use Rattle.rtsp_text.specs.Grammar.{is_url_byte}
+use Rattle.rtsp_text.specs.Replies.{Field, field_line, reply_front, value_named}
+use Rattle.rtsp_text.proofs.CutUniqueness.{all_other}
+use Rattle.rtsp_text.proofs.LineBounds.{all-drop, all-take}
+use Rattle.rtsp_text.proofs.ReplyTexts.{front_field, whole_reply}
+use Rattle.rtsp_text.proofs.UrlBytes.{name_in_url}
+use Rattle.session.specs.declared.commands.Ask.{Ask}
+use Rattle.session.specs.declared.plans.Planned.{Planned}
+use Rattle.session.specs.declared.states.Setup.{Setup}
+use Rattle.session.specs.Films.{begins_at, identity_of, length_ms, milliseconds_at, sending_of}
+use Rattle.session.specs.Films.{timestamp_at}
+use Rattle.session.specs.RequestSteps.{after_admission, after_full, after_look, after_overflow}
+use Rattle.session.specs.Methods.{Describes, IsSetUp, first_number, play_front}
+use Rattle.session.specs.declared.states.State.TheVariants.{Ready}
+use Rattle.rtsp_replies.specs.Replies.{describe_text, field, joined_parts, look_body, play_fields}
+use Rattle.rtsp_replies.specs.Replies.{transport_value}
+use Rattle.session.specs.SessionStates.{SessionState, sequence_of}
+use Rattle.std.specs.Int.{w32, to_be_bytes}
+use Rattle.hex.specs.Hex.{encode_lower}
+use Rattle.session.specs.declared.states.Counts.{Counts}
+use Rattle.session_laws.specs.ReplyContents.{AreTicks, IsDescribeReply, IsFullReply, IsLookReply, IsOverflowReply}
+use Rattle.session_laws.specs.ReplyContents.{IsPlayReply, IsSetupReply, IsShort, HasStartInReply, IsPrintable}
+use Rattle.session_laws.specs.ReplyContents.{HasRtpInfo, HasRangeOf}
+use Rattle.session_laws.proofs.RtpNumberLemmas.{number_goes_on}
+use Rattle.session.proofs.ModularSums.{sum_mod}
+
+ticks_360 : (units : ℕ) → AreTicks (units / 360) 360 units
+ticks_360 units = record { passed = div-mul-le_self units 360; no_more = omega arith }
+
+ticks_4 : (units : ℕ) → AreTicks (units / 4) 4 units
+ticks_4 units = record { passed = div-mul-le_self units 4; no_more = omega arith }
+
+-- texts without a byte
+no_dash-append : (a b : List ℕ) → list_all (λ x. not (x == 45)) a ≡ true → list_all (λ x. not (x == 45)) b ≡ true
+    → list_all (λ x. not (x == 45)) (a ++ b) ≡ true
+no_dash-append a b here there = list_all-append (λ x. not (x == 45)) a b
+    ∙ and_from (list_all (λ x. not (x == 45)) a) (list_all (λ x. not (x == 45)) b) here there
+
+no_dash-decimal : (n : ℕ) → n < 2 ^ 64 → list_all (λ x. not (x == 45)) (decimal n) ≡ true
+no_dash-decimal n small = all_other is_ascii_digit 45 refl (decimal n) (digits_decimal decimal_numerals n small)
+
+no_dash-seconds : (ms : ℕ) → ms < 10 ^ 12 → list_all (λ x. not (x == 45)) (seconds_text ms) ≡ true
+no_dash-seconds ms small =
+    no_dash-append (decimal (ms / 1000) ++ codes "." ++ decimal (ms / 100 % 10) ++ decimal (ms / 10 % 10))
+    (decimal (ms % 10))
+    (no_dash-append (decimal (ms / 1000) ++ codes "." ++ decimal (ms / 100 % 10)) (decimal (ms / 10 % 10))
+    (no_dash-append (decimal (ms / 1000) ++ codes ".") (decimal (ms / 100 % 10))
+    (no_dash-append (decimal (ms / 1000)) (codes ".") (no_dash-decimal (ms / 1000) (omega (arith, small))) refl)
+    (no_dash-decimal (ms / 100 % 10) (omega arith)))
+    (no_dash-decimal (ms / 10 % 10) (omega arith)))
+    (no_dash-decimal (ms % 10) (omega arith))
+
+dash_not : (text : List ℕ) (k : ℕ) → list_all (λ x. not (x == 45)) text ≡ true → k < length text → get_or text k 0 ≢ 45
+dash_not text k all inside = λ dash.
+    let P : ℕ → Type 0 = λ n. not (n == 45) ≡ false in
+    let other : not (get_or text k 0 == 45) ≡ false = subst P (sym dash) refl in
+    let wrong : true ≡ false = sym all ∙ list_all_at (λ x. not (x == 45)) text k 0 inside other in
+    cc
+
+-- a range from one time to another
+range_read : {s e : List ℕ} {from to : ℕ} → list_all (λ x. not (x == 45)) s ≡ true → IsTime s from → IsTime e to
+    → IsSpan (codes "npt=" ++ (s ++ 45 ∷ e)) (record { from = At from; to = Some to })
+range_read {s} {e} {from} {to} free first last =
+    let text = codes "npt=" ++ (s ++ 45 ∷ e) in
+    let size : length text ≡ 4 + (length s + (1 + length e)) =
+    omega (arith, length-append (codes "npt=") (s ++ 45 ∷ e), length-append s (45 ∷ e)) in
+    let at : ℕ = 4 + length s in
+    let front : slice_range text 4 (4 + length s) ≡ s = take_at s (45 ∷ e) (4 + length s - 4) (omega arith) in
+    let whole : text ≡ (codes "npt=" ++ s ++ codes "-") ++ e =
+    ap (λ l. codes "npt=" ++ l) (sym (append_assoc s (codes "-") e)) ∙ sym
+    (append_assoc (codes "npt=") (s ++ codes "-") e)
+    ∙ ap (λ l. l ++ e) (sym (append_assoc (codes "npt=") s (codes "-"))) in
+    let long : length (codes "npt=" ++ s ++ codes "-") ≡ 4 + length s + 1 =
+    omega (arith, length-append (codes "npt=" ++ s) (codes "-"), length-append (codes "npt=") s) in
+    let dropped : drop (4 + length s + 1) text ≡ e =
+    ap (drop (4 + length s + 1)) whole ∙ drop_at (codes "npt=" ++ s ++ codes "-") e (4 + length s + 1) long in
+    let rest : slice_range text (4 + length s + 1) (length text) ≡ e =
+    ap (λ l. take (length text - (4 + length s + 1)) l) dropped
+    ∙ take_all (length text - (4 + length s + 1)) e (omega (arith, size)) in
+    record {
+      unit = refl;
+      dash = 4 + length s;
+      is_dash = record {
+        after = omega arith;
+        within = omega (arith, size);
+        none = λ k after below dash.
+            let inside : k - 4 < length s = omega (arith, after, below) in
+            dash_not s (k - 4) free inside
+            (sym (get_or_append_left s (45 ∷ e) 0 (k - 4) inside)
+            ∙ sym (get_or-append_right (codes "npt=") (s ++ 45 ∷ e) 4 k 0 refl after) ∙ dash);
+        ends = λ inside.
+            get_or-append_right (codes "npt=") (s ++ 45 ∷ e) 4 (4 + length s) 0 refl (omega arith)
+            ∙ get_or-append_right s (45 ∷ e) (length s) (4 + length s - 4) 0 refl (omega arith)
+            ∙ ap (λ k. get_or (45 ∷ e) k 0) (let none : 4 + length s - 4 - length s ≡ 0 = omega arith in none);
+      };
+      inside = omega (arith, size);
+      from = subst (λ (t : List ℕ). IsTime t from) (sym front) first;
+      to = subst (λ (t : List ℕ). IsTime t to) (sym rest) last;
+    }
+
+pub span_told : (film : Film) (first end : ℕ) → milliseconds_at film first < 10 ^ 12
+    → milliseconds_at film end < 10 ^ 12
+    → HasRangeOf film first end
+    (joined_parts
+    (codes "npt=" ∷ seconds_text (milliseconds_at film first) ∷ codes "-" ∷ seconds_text
+    (milliseconds_at film end) ∷ []))
+span_told film first end small short =
+    let s = seconds_text (milliseconds_at film first) in
+    let e = seconds_text (milliseconds_at film end) in
+    let same : codes "npt=" ++ (s ++ 45 ∷ e) ≡ joined_parts (codes "npt=" ∷ s ∷ codes "-" ∷ e ∷ []) =
+    ap (λ l. codes "npt=" ++ (s ++ 45 ∷ l)) (sym (append-nil e)) in
+    record {
+      from = milliseconds_at film first;
+      to = milliseconds_at film end;
+      from_is = ticks_360 (first * picture_time film.rate);
+      to_is = ticks_360 (end * picture_time film.rate);
+      read = subst (λ (t : List ℕ). IsSpan t
+          (record {
+            from = At (milliseconds_at film first * 1000000);
+            to = Some
+                (milliseconds_at film end * 1000000);
+          })) same
+          (range_read (no_dash-seconds (milliseconds_at film first) small)
+          (seconds_read (milliseconds_at film first) small) (seconds_read (milliseconds_at film end) short));
+    }
+
+-- a URL of a film under the authority of another
+tail_prints : (tail : List ℕ) → IsTail tail → list_all is_url_byte tail ≡ true
+tail_prints tail (inl is) = rw is refl
+tail_prints tail (inr (inl is)) = rw is refl
+tail_prints tail (inr (inr (inl is))) = rw is refl
+tail_prints tail (inr (inr (inr is))) = rw is refl
+
+prints-append : (a b : List ℕ) → list_all is_url_byte a ≡ true → list_all is_url_byte b ≡ true
+    → list_all is_url_byte (a ++ b) ≡ true
+prints-append a b here there =
+    list_all-append is_url_byte a b ∙ and_from (list_all is_url_byte a) (list_all is_url_byte b) here there
+
+-- what is known of an authority
+pub record IsAuthority (authority : List ℕ) : Type 0 where
+  some : 0 < length authority
+  pub prints : list_all is_url_byte authority ≡ true
+  no_slash : (k : ℕ) → k < length authority → get_or authority k 0 ≢ 47
+
+pub authority_of : (url authority : List ℕ) (name : Option (List ℕ)) → IsRead url authority name → IsAuthority authority
+authority_of url authority name is =
+    let end = is.is_url.end in
+    let size : length (take (is.path - 7) (drop 7 url)) ≡ is.path - 7 =
+    omega (arith, length-take (is.path - 7) (drop 7 url), length-drop 7 url, end.within, end.after) in
+    let long : length authority ≡ is.path - 7 = ap length is.authority_is ∙ size in
+    record {
+      some = let more = (absolute_cut is.is_url).authority in omega (arith, long, more);
+      prints = ap (list_all is_url_byte) is.authority_is
+          ∙ all-take is_url_byte (is.path - 7) (drop 7 url) (all-drop is_url_byte 7 url is.is_url.bytes);
+      no_slash = λ k inside slash.
+          let below : k < is.path - 7 = omega (arith, inside, long) in
+          end.none (7 + k) (omega arith) (omega (arith, below))
+          (sym (get_or-drop 7 url k 0) ∙ sym (get_or-take (is.path - 7) (drop 7 url) k 0 below)
+          ∙ sym (ap (λ l. get_or l k 0) is.authority_is) ∙ slash);
+    }
+
+film_url : (authority name tail : List ℕ) → IsAuthority authority → good_name name ≡ true → IsTail tail
+    → IsRead (codes "rtsp://" ++ (authority ++ (47 ∷ name ++ tail))) authority (Some name)
+film_url authority name tail is good is_tail =
+    let path = 47 ∷ name ++ tail in
+    let url = codes "rtsp://" ++ (authority ++ path) in
+    let at : ℕ = 7 + length authority in
+    let size : length url ≡ 7 + (length authority + length path) =
+    omega (arith, length-append (codes "rtsp://") (authority ++ path), length-append authority path) in
+    let bytes = and_parts (nat_lt 0 (length name) && nat_le (length name) 64 && not (slice_index name 0 == 46))
+    (list_all is_name_byte name) good in
+    let whole : url ≡ (codes "rtsp://" ++ authority) ++ path = sym (append_assoc (codes "rtsp://") authority path) in
+    let dropped : drop (7 + length authority) url ≡ path =
+    ap (drop (7 + length authority)) whole
+    ∙ drop_at (codes "rtsp://" ++ authority) path (7 + length authority)
+    (omega (arith, length-append (codes "rtsp://") authority)) in
+    let rest : slice_range url (7 + length authority) (length url) ≡ path =
+    ap (λ l. take (length url - (7 + length authority)) l) dropped
+    ∙ take_all (length url - (7 + length authority)) path (omega (arith, size)) in
+    record {
+      path = 7 + length authority;
+      is_url = absolute_url (prints-append (codes "rtsp://") (authority ++ path) refl
+          (prints-append authority path is.prints
+          (prints-append (47 ∷ name) tail (all_print_after name bytes.1) (tail_prints tail is_tail)))) (record {
+            scheme = refl;
+            authority = let some = is.some in omega (arith, some);
+            end = record {
+              after = omega arith;
+              within = omega (arith, size);
+              none = λ k after below slash.
+                  let inside : k - 7 < length authority = omega (arith, after, below) in
+                  is.no_slash (k - 7) inside
+                  (sym (get_or_append_left authority path 0 (k - 7) inside)
+                  ∙ sym (get_or-append_right (codes "rtsp://") (authority ++ path) 7 k 0 refl after) ∙ slash);
+              ends = λ inside.
+                  get_or-append_right (codes "rtsp://") (authority ++ path) 7 (7 + length authority) 0 refl (omega arith)
+                  ∙ get_or-append_right authority path (length authority) (7 + length authority - 7) 0 refl (omega
+                  arith)
+                  ∙ ap (λ k. get_or path k 0) (let none : 7 + length authority - 7 - length authority ≡ 0 =
+                  omega arith in none);
+            };
+          });
+      authority_is = sym (take_at authority path (7 + length authority - 7) (omega arith));
+      name_is = subst (λ (p : List ℕ). NamesFilm p name) (sym rest) (film_path name tail good is_tail);
+    }
+  where
+    all_print_after : (n : List ℕ) → list_all is_name_byte n ≡ true → list_all is_url_byte (47 ∷ n) ≡ true
+    all_print_after n all = name_in_url n all
+
+-- a play's reply
+pub few_ms : (units unit time : ℕ) → unit ≤ units → units ≤ 4194304 → time ≤ 360000 → unit * time / 360 < 10 ^ 12
+few_ms units unit time within few brief =
+    let fits : unit ≤ 4194304 = omega (arith, within, few) in
+    let most : unit * time ≤ 4194304 * 360000 = mul-le-mul fits brief in
+    let small : unit * time / 360 * 360 ≤ unit * time = div-mul-le_self (unit * time) 360 in
+    omega (arith, most, small)
+
+info_told : {stored : Stored} {authority : List ℕ} (old : SessionState) (setup : Setup) (planned : Planned)
+    → IsAuthority authority
+    → good_name (string_bytes stored.name) ≡ true
+    → HasRtpInfo stored old.source authority
+    (planned.counts.frames + frames_before
+    (sending_of stored.film old.source setup planned.counts planned.run) planned.run.sent)
+    planned.run.from_unit
+    (joined_parts (codes "url=rtsp://" ∷ authority ∷ codes "/" ∷ string_bytes stored.name ∷ codes "/video;seq="
+    ∷ decimal (first_number old stored setup planned) ∷ codes ";rtptime="
+    ∷ decimal (timestamp_at stored.film old.source planned.run.from_unit) ∷ []))
+info_told {stored} {authority} old setup planned is good =
+    let name = string_bytes stored.name in
+    let number = first_number old stored setup planned in
+    let time = timestamp_at stored.film old.source planned.run.from_unit in
+    let sent = frames_before (sending_of stored.film old.source setup planned.counts planned.run) planned.run.sent in
+    record {
+      url = codes "rtsp://" ++ (authority ++ (47 ∷ name ++ codes "/video"));
+      number = number;
+      ticks = begins_at stored.film planned.run.from_unit / 4;
+      time = time;
+      names_film = film_url authority name (codes "/video") is good (inr (inr (inl refl)));
+      number_is = number_goes_on old.source.sequence planned.counts.frames sent
+          ∙ whole_sum old.source.sequence planned.counts.frames sent;
+      ticks_are = ticks_4 (planned.run.from_unit * picture_time stored.film.rate);
+      time_is = refl;
+      value_is = value authority name (decimal number) (decimal time);
+    }
+  where
+    whole_sum : (a b c : ℕ) → ((a + b) % 65536 + c) % 65536 ≡ (a + (b + c)) % 65536
+    whole_sum a b c =
+        ap (λ n. n % 65536) (add_comm ((a + b) % 65536) c) ∙ sum_mod c (a + b) 65536
+        ∙ ap (λ n. n % 65536) (let same : c + (a + b) ≡ a + (b + c) = omega arith in same)
+
+    value : (a n q t : List ℕ)
+        → joined_parts (codes "url=rtsp://" ∷ a ∷ codes "/" ∷ n ∷ codes "/video;seq=" ∷ q ∷ codes ";rtptime=" ∷ t ∷ [])
+        ≡ codes "url=" ++ (codes "rtsp://" ++
+        (a ++ (47 ∷ n ++ codes "/video"))) ++ codes ";seq=" ++ q ++ codes ";rtptime=" ++ t
+    value a n q t =
+        let x = codes ";rtptime=" ++ t in
+        let y = codes ";seq=" ++ (q ++ x) in
+        let u = codes "url=" ++ (codes "rtsp://" ++ (a ++ (47 ∷ n ++ codes "/video"))) in
+        let right : u ++ codes ";seq=" ++ q ++ codes ";rtptime=" ++ t ≡ u ++ y =
+        append_assoc (u ++ codes ";seq=" ++ q) (codes ";rtptime=") t ∙ append_assoc (u ++ codes ";seq=") q x
+        ∙ append_assoc u (codes ";seq=") (q ++ x) in
+        let inner : u ++ y ≡ codes "url=rtsp://" ++ (a ++ (47 ∷ (n ++ (codes "/video" ++ y)))) =
+        ap (λ l. codes "url=rtsp://" ++ l) (append_assoc a (47 ∷ n ++ codes "/video") y
+        ∙ ap (λ l. a ++ (47 ∷ l)) (append_assoc n (codes "/video") y)) in
+        ap (λ l. codes "url=rtsp://"
+        ++ (a ++ (47 ∷ (n ++ (codes "/video;seq=" ++ (q ++ (codes ";rtptime=" ++ l))))))) (append-nil t)
+        ∙ sym inner ∙ sym right
+
+pub play_told : (old : SessionState) (stored : Stored) (setup : Setup) (planned : Planned)
+    (sequence : ℕ) {authority : List ℕ}
+    → IsPrintable old stored setup planned authority
+    → IsPlayReply old stored setup planned sequence authority (play_front old stored setup planned sequence authority)
+unfolding value_named
+play_told old stored setup planned sequence {authority} is =
+    let run_is = is.planned_is.goes_on.run_is in
+    let can = is.planned_is.can_play in
+    let brief = can.playback_is.picture_units_fit in
+    let few = can.sizes_are.few in
+    record {
+      fields = play_fields old.id (milliseconds_at stored.film planned.run.from_unit)
+          (milliseconds_at stored.film planned.run.end_unit) authority
+          (string_bytes stored.name) (first_number old stored setup planned)
+          (timestamp_at stored.film old.source planned.run.from_unit);
+      text_is = refl;
+      told = record {
+        session = refl;
+        range = joined_parts (codes "npt=" ∷ seconds_text
+            (milliseconds_at stored.film planned.run.from_unit) ∷ codes "-"
+            ∷ seconds_text (milliseconds_at stored.film planned.run.end_unit) ∷ []);
+        range_is = refl;
+        span = span_told stored.film planned.run.from_unit planned.run.end_unit
+            (few_ms 4194304 planned.run.from_unit (picture_time stored.film.rate)
+            (let rest = run_is.rest in let within = run_is.within in omega (arith, rest, within, few))
+            (omega arith) brief)
+            (few_ms 4194304 planned.run.end_unit (picture_time stored.film.rate)
+            (let within = run_is.within in omega (arith, within, few)) (omega arith) brief);
+        info = joined_parts
+            (codes "url=rtsp://" ∷ authority ∷ codes "/" ∷ string_bytes stored.name ∷ codes "/video;seq="
+            ∷ decimal (first_number old stored setup planned) ∷ codes ";rtptime="
+            ∷ decimal (timestamp_at stored.film old.source planned.run.from_unit) ∷ []);
+        info_is = refl;
+        told = info_told old setup planned (authority_of is.url authority is.name is.read) is.good;
+      };
+    }
+
+-- the reply of a DESCRIBE
+film_text : {url authority : List ℕ} {asked : Option (List ℕ)} {film : Film} (sequence : ℕ) (name : List ℕ)
+    → IsRead url authority asked → good_name name ≡ true → IsShort film
+    → IsDescribeReply sequence authority name film (describe_text sequence authority name (length_ms film))
+unfolding value_named
+film_text {url} {authority} {asked} {film} sequence name read good short =
+    let base : codes "rtsp://" ++ (authority ++ (47 ∷ name ++ codes "/"))
+    ≡ joined_parts (codes "rtsp://" ∷ authority ∷ codes "/" ∷ name ∷ codes "/" ∷ []) =
+    base_is authority name in
+    record {
+      fields = _;
+      body = description_text name (length_ms film);
+      end = length_ms film;
+      base = joined_parts (codes "rtsp://" ∷ authority ∷ codes "/" ∷ name ∷ codes "/" ∷ []);
+      text_is = refl;
+      base_is = refl;
+      names_film = subst (λ (u : List ℕ). IsRead u authority (Some name)) base
+          (film_url authority name (codes "/") (authority_of url authority asked read) good (inr (inl refl)));
+      kind = refl;
+      size = refl;
+      end_is = ticks_360 (length film.units.items * picture_time film.rate);
+      described = description_is name (length_ms film) good
+          (few_ms 4194304 (length film.units.items) (picture_time film.rate) short.few (omega arith) short.brief);
+    }
+  where
+    base_is : (a n : List ℕ)
+        → codes "rtsp://" ++ (a ++ (47 ∷ n ++ codes "/")) ≡ joined_parts
+        (codes "rtsp://" ∷ a ∷ codes "/" ∷ n ∷ codes "/" ∷ [])
+    base_is a n = refl
+
+pub film_told : {old new : SessionState} {sequence number : ℕ} {url authority : List ℕ} {asked : Option (List ℕ)}
+    {ask : Ask}
+    → (is : Describes old sequence number authority ask new) → IsRead url authority asked
+    → good_name (string_bytes is.stored.name) ≡ true → IsShort is.stored.film
+    → IsDescribeReply sequence authority (string_bytes is.stored.name) is.stored.film new.text
+film_told {new} {sequence} {number} {url} {authority} {asked} {ask} is read good short =
+    subst (λ (t : List ℕ). IsDescribeReply sequence authority (string_bytes is.stored.name) is.stored.film t)
+    (sym (ap (λ (s : SessionState). s.text) is.reply.1))
+    (film_text sequence (string_bytes is.stored.name) read good short)
+
+-- the start of an admitted play
+pub start_told : {sequence : ℕ} {fields : List Field} (old : SessionState) (place start : ℕ) → old.heard < start
+    → old.text ≡ reply_front 200 (Some sequence) fields
+    → HasStartInReply old start sequence fields (after_admission old place start).text
+start_told {sequence} {fields} old place start later front =
+    let slots : ℕ = start - old.heard in
+    let own = field (codes "x-Start") (decimal (start - old.heard)) in
+    let more : old.text ++ field_line own ≡ reply_front 200 (Some sequence) (fields ++ own ∷ []) =
+    front_field {old = old.text} 200 (Some sequence) fields own refl front in
+    record {
+      slots = start - old.heard;
+      slots_are = omega (arith, later);
+      text_is = whole_reply {old = old.text ++ field_line own} 200 (Some sequence) (fields ++ own ∷ []) [] refl more;
+    }
+
+-- the reply of a SETUP
+pub setup_told : {ask : Ask} (old new : SessionState) (sequence : ℕ) (setup : Setup) (counts : Counts)
+    → IsSetUp old sequence (Ok setup) ask new
+    → IsSetupReply sequence (identity_of old.source setup counts) old.id new.text
+unfolding value_named
+setup_told old new sequence setup counts is = record {
+  fields = field (codes "Transport") (transport_value setup.media setup.control old.source.ssrc)
+      ∷ field (codes "Session") old.id ∷ [];
+  transport = transport_value setup.media setup.control old.source.ssrc;
+  text_is = ap (λ (s : SessionState). s.text) is.1;
+  session = refl;
+  transport_is = refl;
+  value_is =
+      ap (λ l. codes "RTP/AVP/TCP;unicast;interleaved=" ++ (decimal setup.media ++ (codes "-" ++ (decimal setup.control
+      ++ (codes ";ssrc=" ++ l))))) (append-nil (encode_lower (to_be_bytes w32 old.source.ssrc)));
+}
+
+-- the replies to what the station answered
+pub overflow_told : (old : SessionState) (place slot booked asked : ℕ)
+    → IsOverflowReply (sequence_of old.awaited) slot booked asked (after_overflow old place slot booked asked).text
+unfolding value_named
+overflow_told old place slot booked asked = record {
+  fields = field (codes "x-Slot") (decimal slot) ∷ field (codes "x-Booked") (decimal booked)
+      ∷ field (codes "x-Asked") (decimal asked) ∷ [];
+  text_is = refl;
+  slot_is = refl;
+  booked_is = refl;
+  asked_is = refl;
+}
+
+pub full_told : (old : SessionState) (entries live : ℕ)
+    → IsFullReply (sequence_of old.awaited) entries live (after_full old entries live).text
+unfolding value_named
+full_told old entries live = record {
+  fields = field (codes "x-Entries") (decimal entries) ∷ field (codes "x-Open") (decimal live) ∷ [];
+  text_is = refl;
+  entries_are = refl;
+  open_is = refl;
+}
+
+look_lines : (n a b : List ℕ)
+    → joined_parts (codes "x-Now: " ∷ n ∷ codes "\r\nx-Slot: " ∷ a ∷ codes "\r\nx-Booked: " ∷ b ∷ codes "\r\n" ∷ [])
+    ≡ (codes "x-Now" ++ (codes ": " ++ (n ++ codes "\r\n"))) ++ ((codes "x-Slot" ++ (codes ": " ++ (a ++ codes "\r\n")))
+    ++ (codes "x-Booked" ++ (codes ": " ++ (b ++ codes "\r\n"))))
+look_lines n a b =
+    let last = codes "x-Booked: " ++ (b ++ codes "\r\n") in
+    let slot : (codes "x-Slot" ++ (codes ": " ++ (a ++ codes "\r\n"))) ++ last
+    ≡ codes "x-Slot: " ++ (a ++ (codes "\r\n" ++ last)) =
+    ap (λ l. codes "x-Slot: " ++ l) (append_assoc a (codes "\r\n") last) in
+    let now : (codes "x-Now" ++ (codes ": " ++ (n ++ codes "\r\n"))) ++
+    (codes "x-Slot: " ++ (a ++ (codes "\r\n" ++ last)))
+    ≡ codes "x-Now: " ++ (n ++ (codes "\r\n" ++ (codes "x-Slot: " ++ (a ++ (codes "\r\n" ++ last))))) =
+    ap (λ l. codes "x-Now: " ++ l) (append_assoc n (codes "\r\n")
+    (codes "x-Slot: " ++ (a ++ (codes "\r\n" ++ last)))) in
+    sym (ap (λ l. (codes "x-Now" ++ (codes ": " ++ (n ++ codes "\r\n"))) ++ l) slot ∙ now)
+
+pub look_told : (old : SessionState) (place now at booked : ℕ)
+    → IsLookReply (sequence_of old.awaited) now at booked (after_look old place now at booked).text
+unfolding value_named
+look_told old place now at booked = record {
+  fields = field (codes "Content-Type") (codes "text/parameters")
+      ∷ field (codes "Content-Length") (decimal (length (look_body now at booked))) ∷ [];
+  body = look_body now at booked;
+  text_is = refl;
+  kind = refl;
+  size = refl;
+  body_is = look_lines (decimal now) (decimal at) (decimal booked);
+}
+
+-- the state after a SETUP
+pub setup_ready : (old new : SessionState) (sequence : ℕ) (setup : Setup) (ask : Ask) → IsSetUp old sequence
+    (Ok setup) ask new
+    → new.state ≡ Ready setup None
+setup_ready old new sequence setup ask is = ap (λ (s : SessionState). s.state) is.1
