@@ -40,3 +40,4 @@ mod ReplyNumberLemmas
 mod SoundStateLemmas
 mod MethodLemmas
 mod CauseLemmas
+pub mod ClientReplyLemmas
