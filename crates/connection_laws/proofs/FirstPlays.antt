@@ -23,6 +23,7 @@ use Rattle.rtsp_text.proofs.MessageUniqueness.{request_once}
 use Rattle.session.specs.declared.settings.Settings.{Settings}
 use Rattle.session.specs.declared.states.Prepared.{Prepared}
 use Rattle.session.specs.declared.states.Setup.{Setup}
+use Rattle.session.specs.declared.states.StreamSource.{StreamSource}
 use Rattle.session.specs.Films.{IsFilmAt, identity_of}
 use Rattle.session.specs.RequestedPlans.{IsPlannedRun}
 use Rattle.session.specs.RunRequests.{playback_of as session_playback}
@@ -44,11 +45,12 @@ pub record IsWished (b : Beginning) (play : FilmPlay) : Type 0 where
   pub identity : Identity
   pub media : identity.channel ≡ 0
   pub control : identity.control ≡ 1
+  pub ssrc : identity.ssrc ≡ b.source.ssrc
   pub pieces : play.pieces ≡ film_blocks stored identity
   pub before : play.before ≡ 0
   pub sending : IsSending (stored_sizes stored) (playback_of b.wish stored) (whole_run stored) play.plan
 
-some_time : (stored : Stored) → 1 ≤ picture_time stored.film.rate
+pub some_time : (stored : Stored) → 1 ≤ picture_time stored.film.rate
 some_time stored =
     let film = stored.film in
     let rate = film-rate (read_after [] film.bytes.items) film.grammar.accepted in
@@ -113,6 +115,7 @@ wished_play {b} {old} {message} {prepared} {play} waits is heard plan before pie
       identity = identity;
       media = settled.media;
       control = settled.control;
+      ssrc = ap (λ (s : StreamSource). s.ssrc) waits.source_is;
       pieces = pieces ∙ (ap (λ (p : Prepared). run_pieces p.frames) prepared_is
           ∙ ap (λ (r : Run). run_pieces (run_of stored.film r.first_unit r.end_unit identity)) run);
       before = before ∙ (ap (λ (p : Prepared). p.run.sent) prepared_is ∙ ap (λ (r : Run). r.sent) run);
