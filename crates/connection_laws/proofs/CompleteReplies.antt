@@ -1,4 +1,4 @@
--- Each reply to a client's SETUP, PLAY and TEARDOWN is a whole message.
+-- Each reply to a client's SETUP, PLAY and TEARDOWN is a complete message.
 use Rattle.std.specs.Prelude.{⊤}
 use Rattle.std.proofs.Common.{◌≡◌, ℕ, ◌<◌, ◌≤◌, ◌^◌, ◌⊎◌, true, nat_lt, nat_le, List, [], ◌∷◌, ◌++◌}
 use Rattle.std.proofs.Common.{◌&&◌, ◌==◌, not, map, get_or, codes, decimal, string_bytes, length, sym, ap, subst}
@@ -95,7 +95,7 @@ IsOwnReply (AskHalt keep) = ⊤
 IsOwnReply (AskLook slot) = ⊥
 IsOwnReply (AskOffer plan offers) = ⊥
 
--- what is asked was answered, and each reply that it can have is whole
+-- what is asked was answered, and each reply that it can have is complete
 pub record HasWholeReply (asking : SessionState) (ask : Ask) (outcome : Outcome) (new : SessionState) : Type 0 where
   pub whole : RepliesAreComplete ask asking
   pub answered : IsAskAnswered asking ask outcome new
@@ -271,7 +271,7 @@ teardowns_cut b [] rest are = (tt, are)
 teardowns_cut b (message ∷ front) rest are =
     let its = teardowns_cut b front rest are.1 in ((are.0, its.0), its.1)
 
--- the replies are whole messages
+-- the replies are complete messages
 abbrev pub AreWhole : List (List ℕ) → Type 0
 AreWhole [] = ⊤
 AreWhole (message ∷ messages) = IsMessage message × AreWhole messages
@@ -296,7 +296,7 @@ pub record AsksTeardowns (b : Beginning) (session : SessionState) (requests : Li
   pub own : IsNamed b session
   pub teardowns : AreTeardowns b requests
 
--- what is taken up is answered whole, with 200, and the session keeps its names
+-- what is processed is answered completely, with 200, and the session keeps its names
 pub record IsAnsweredWhole (b : Beginning) (new : SessionState) (replies : List (List ℕ)) : Type 0 where
   pub named : HasValidIds new
   pub own : IsNamed b new
@@ -366,7 +366,7 @@ answers_join : (front rest : List (List ℕ)) → AreAnswers front → AreAnswer
 answers_join [] rest are more = more
 answers_join (message ∷ front) rest are more = (are.0, answers_join front rest are.1 more)
 
--- what is taken up and what comes later
+-- what is processed and what comes later
 pub whole_later : {b : Beginning} {session : SessionState} {replies : List (List ℕ)} (later : List (List ℕ))
     → IsAnsweredWhole b session replies
     → (HasValidIds session → IsNamed b session → AreWhole later × AreAnswers later)

@@ -1,4 +1,4 @@
--- The play that a client's PLAY begins after its SETUP: of the whole film, as the client wished.
+-- The play that a client's PLAY begins after its SETUP: of the entire film, as the client wished.
 use Rattle.std.proofs.Common.{◌≡◌, ℕ, ◌≤◌, List, [], Option, Some, None, codes, string_bytes, refl, sym, ap, subst, ◌∙◌}
 use Rattle.std.proofs.Common.{arith}
 use Rattle.film_frames.specs.declared.stored_films.Stored.{Stored}
@@ -36,7 +36,7 @@ use Rattle.session.proofs.PlayInReadyLemmas.{IsPlayHeard}
 use Rattle.connection_laws.proofs.ClientSetups.{IsSettled, range_is}
 use Rattle.connection_laws.proofs.SetupOnly.{Beginning, IsUnbegun, IsWaiting}
 
--- a play of the whole film, as the client wished
+-- a play of the entire film, as the client wished
 pub record IsWished (b : Beginning) (play : FilmPlay) : Type 0 where
   pub number : ℕ
   pub stored : Stored
@@ -56,7 +56,7 @@ some_time stored =
     let rate = film-rate (read_after [] film.bytes.items) film.grammar.accepted in
     (time_bounds film.rate (omega (arith, film.grammar.rate, rate.0)) (omega (arith, film.grammar.rate, rate.1))).0
 
--- a session planned a run for the client, which is the whole film
+-- a session planned a run for the client, which is the entire film
 record IsPlannedFor (b : Beginning) (settings : Settings) (stored : Stored) (plan : List Segment) : Type 0 where
   setup : Setup
   run : Run

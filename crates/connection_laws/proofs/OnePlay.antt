@@ -1,4 +1,4 @@
--- A connection that is asked for SETUP and PLAY, and perhaps TEARDOWN, has one play at most, of the whole film.
+-- A connection that is asked for SETUP and PLAY, and perhaps TEARDOWN, has one play at most, of the entire film.
 use Rattle.std.specs.Prelude.{⊤}
 use Rattle.std.proofs.Common.{true, false, Option, None, is_some, inl, inr, ◌+◌, ◌≤◌}
 use Rattle.std.proofs.Common.{◌≡◌, ℕ, zero, suc, ◌<◌, ◌^◌, max, List, [], ◌∷◌, ◌++◌, length, get_or, codes, refl, sym}
@@ -69,7 +69,7 @@ pub record Outlook : Type 0 where
   pub play : FilmPlay
   pub others : List FilmPlay
 
--- the one play, and the slots in which so many requests and PLAY were taken up
+-- the one play, and the slots in which so many requests and PLAY were processed
 pub record IsOnePlay (b : Beginning) (out : Outlook) (slot ahead : ℕ) (slots : List ℕ) : Type 0 where
   pub wished : IsWished b out.play
   pub alone : out.others ≡ []
@@ -88,7 +88,7 @@ abbrev pub IsReadyFor : ℕ → SessionState → Type 0
 IsReadyFor zero s = has_session_in s.state ≡ true
 IsReadyFor (suc n) s = ⊤
 
--- so it is, and all replies are whole, and read as they are awaited
+-- so it is, and all replies are complete, and read as they are awaited
 pub record IsPlayedWhole (b : Beginning) (out : Outlook) (s : SessionState) (slot ahead : ℕ) (slots : List ℕ)
     (replies : List (List ℕ)) : Type 0 where
   pub one : IsOnePlay b out slot ahead slots
@@ -120,14 +120,14 @@ fresh_still old new [] same fresh = tt
 fresh_still old new (one ∷ []) same fresh = same ∙ fresh
 fresh_still old new (one ∷ two ∷ ahead) same fresh = absurd fresh
 
--- what is taken up after these pieces
+-- what is processed after these pieces
 pub record Later : Type 0 where
   requests : List (List ℕ)
   askings : List StationRequest
   slots : List ℕ
   replies : List (List ℕ)
 
--- PLAY is to come in what is taken up
+-- PLAY is to come in what is processed
 pub record IsAhead (b : Beginning) (out : Outlook) (s : SessionState) (slot : ℕ) (ahead : List (List ℕ))
     (later : Later) : Type 0 where
   pub waits : IsWaiting b s
@@ -155,7 +155,7 @@ setup_no_play b {message} is = λ request read method.
     let same = request_once setup.read read in
     let clash : 83 ≡ 80 = ap (λ name. get_or name 0 0) (same.method_is ∙ method) in omega (arith, clash)
 
--- PLAY is taken up, and no play begins after it
+-- PLAY is processed, and no play begins after it
 record IsPlayTaken (b : Beginning) (out : Outlook) (old : SessionState) (message : List ℕ) (asking : StationRequest)
     (later : List StationRequest) : Type 0 where
   waits : IsWaiting b old
@@ -231,7 +231,7 @@ play_turn {b} {out} {old} {message} {outcome} {new} later slots heard taken (Sta
     begun_play later slots taken begins
     (play_heard old message heard.ask heard.asking begins.prepared taken.waits.stands.rest begins.asked_is heard.hears)
 
--- its reply is whole
+-- its reply is complete
 play_whole : {b : Beginning} {out : Outlook} {old : SessionState} {message : List ℕ} {outcome : Outcome}
     {new : SessionState} (later : List StationRequest) (heard : HasHeard old message outcome new)
     → IsPlayTaken b out old message (Asks heard.asking.awaited outcome) later
@@ -256,7 +256,7 @@ play_read {b} {out} {old} {new = new} later heard valid taken whole (Starts afte
     subst (λ (p : FilmPlay). IsPlayBegunAt b p.start old new) same
     (play_begun_at taken.waits valid heard taken.message_is begins whole)
 
--- what is taken up from these elements on, in this slot
+-- what is processed from these elements on, in this slot
 abbrev from_takings : (slot : ℕ) (old : Stage) (takings : List ElementStep) (new : Stage) → TakesAll old takings new
     → Later → Later
 from_takings slot old takings new takes later = record {
@@ -391,7 +391,7 @@ ahead_some : (ahead : List (List ℕ)) (x : List ℕ) (xs : List (List ℕ)) →
 ahead_some [] x xs is = let no : ⊥ = cc in no
 ahead_some (y ∷ ahead) x xs is = let no : ⊥ = cc in no
 
--- what is taken up in these rounds, after this slot
+-- what is processed in these rounds, after this slot
 abbrev pub in_rounds : (slot : ℕ) (old : Stage) (rounds : List Round) (new : Stage) → IsCourseBetween old rounds new →
     Later
 in_rounds slot old rounds new follows = record {

@@ -82,7 +82,7 @@ named_still {b} {old} {new} same named =
       names = subst N (sym films) named.names;
     }
 
--- the station is asked for a play of the whole film, with the first part of its reply
+-- the station is asked for a play of the entire film, with the first part of its reply
 pub record AsksClientPlay (b : Beginning) (old new : SessionState) : Type 0 where
   pub setup : Setup
   pub paused : Option Run

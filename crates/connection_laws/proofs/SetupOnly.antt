@@ -64,7 +64,7 @@ unsending wish films (Ready setup paused) is = refl
 unsending wish films (Playing setup play) is = absurd is
 unsending wish films (Stopping setup stop) is = absurd is
 
--- a slot leaves all but the slot that was heard last
+-- a slot leaves all but the slot that was received last
 record IsHeardOn (old new : SessionState) : Type 0 where
   films : new.films ≡ old.films
   settings : new.settings ≡ old.settings
