@@ -17,7 +17,7 @@ use Rattle.rtsp_client.specs.declared.watch_request.Watched.{Watched}
 use Rattle.rtsp_client.specs.Answers.{history_after, events_of_elements}
 use Rattle.rtsp_client.specs.Meters.{watched_in}
 use Rattle.rtsp_client.specs.Outcomes.{IsDecided}
-use Rattle.rtsp_client.specs.WatchCourses.{Ends, HasCourse, Round, RunsAll, Stage, StopsAt, stage}
+use Rattle.rtsp_client.specs.WatchCourses.{Ends, HasCourse, Round, RunsAll, WatchStage, StopsAt, stage}
 use Rattle.rtsp_client.proofs.UniqueEnd.{Quits, AtFraming, AtMoment, gives-not-on, gives-once, stops-quit}
 use Rattle.connection_laws.specs.LinkDelivery.{heard_bytes}
 use Rattle.connection_laws.specs.WatchEnds.{RefusesNothing}
@@ -38,13 +38,13 @@ pub record FilmStream : Type 0 where
   pub accepts : AcceptsFrames
   pub done : EndsInDone
 
-accepted_of : {bytes : List ℕ} {at : Stage} (heard : Heard bytes at) → HasAccepted heard.elements at.history
+accepted_of : {bytes : List ℕ} {at : WatchStage} (heard : Heard bytes at) → HasAccepted heard.elements at.history
 accepted_of heard = record { sum = heard.sum; frames = heard.frames; gone = heard.gone }
 
 -- ---- how a watching stops
 
 -- where what waits gives the answer, it is `Done`
-quits_done : {bytes : List ℕ} {at : Stage} {end : WatchEnd} (wish : Wish) (s : FilmStream) (heard : Heard bytes at)
+quits_done : {bytes : List ℕ} {at : WatchStage} {end : WatchEnd} (wish : Wish) (s : FilmStream) (heard : Heard bytes at)
     → IsPlaceIn (all_of s.x) heard.elements at.rest → Quits wish at.history at.rest end
     → end ≡ Done (watched_in wish at.history)
 quits_done wish s heard place (AtFraming is fault first) = absurd (no_fault fault place first)
@@ -55,12 +55,12 @@ quits_done {at = at} {end = end} wish s heard place (AtMoment moment next given)
     ]
 
 -- the answer after the last bytes
-record IsStopped (wish : Wish) (rounds : List Round) (mid : Stage) (bytes : List ℕ) (end : WatchEnd)
+record IsStopped (wish : Wish) (rounds : List Round) (mid : WatchStage) (bytes : List ℕ) (end : WatchEnd)
     (sent out : List ℕ) : Type 0 where
   runs : RunsAll (stage [] []) rounds mid
   stops : StopsAt wish (stage mid.history (mid.rest ++ bytes)) end sent out
 
-stopped_done : {wish : Wish} {rounds : List Round} {mid : Stage} {bytes : List ℕ} {end : WatchEnd}
+stopped_done : {wish : Wish} {rounds : List Round} {mid : WatchStage} {bytes : List ℕ} {end : WatchEnd}
     {sent out : List ℕ} (s : FilmStream) (count : ℕ) → IsDecided end
     → (stopped : IsStopped wish rounds mid bytes end sent out)
     → rounds_heard rounds ++ bytes ≡ take count (framed_bytes (all_of s.x))
@@ -92,7 +92,7 @@ pub record IsReceived (s : FilmStream) (heard : List IoEvent) : Type 0 where
   pub front : heard_bytes heard ≡ take count (framed_bytes (all_of s.x))
 
 ended : {wish : Wish} {end : WatchEnd} {doings : List IoEvent} {out : List ℕ} (s : FilmStream) (count : ℕ)
-    (mid : Stage) (rounds : List Round) → RunsAll (stage [] []) rounds mid
+    (mid : WatchStage) (rounds : List Round) → RunsAll (stage [] []) rounds mid
     → Ends wish mid (length rounds) end doings out
     → rounds_heard rounds ++ heard_bytes doings ≡ take count (framed_bytes (all_of s.x)) → RefusesNothing end
 ended s count mid rounds runs (inl (inl lost, none, empty)) front = subst RefusesNothing (sym lost.0) tt
@@ -111,9 +111,9 @@ refuses_nothing s client received =
 
 -- ---- all of it came
 
-runs_idle : (old new : Stage) (rounds : List Round) → IsFirst old.rest (Ok More) → RunsAll old rounds new
+runs_idle : (old new : WatchStage) (rounds : List Round) → IsFirst old.rest (Ok More) → RunsAll old rounds new
     → IsFirst new.rest (Ok More)
-runs_idle old new [] idle all = subst (λ (s : Stage). IsFirst s.rest (Ok More)) (sym all) idle
+runs_idle old new [] idle all = subst (λ (s : WatchStage). IsFirst s.rest (Ok More)) (sym all) idle
 runs_idle old new (round ∷ rounds) idle all = runs_idle all.0 new rounds all.1.1 all.1.2
 
 -- where no complete element waits, all elements were received
@@ -132,7 +132,7 @@ whole_stream {elements} {rest} all alone cut idle =
     no_more (element ∷ more) is after = absurd (tells_none rest (Ok More) idle after.0 after.1.0)
 
 -- a client doesn't wait for more after the last reply
-not_waiting : (mid : Stage) (rounds : List Round) (s : FilmStream) (last : List ℕ) (others : List (List ℕ))
+not_waiting : (mid : WatchStage) (rounds : List Round) (s : FilmStream) (last : List ℕ) (others : List (List ℕ))
     → s.x.later ≡ last ∷ others → RunsAll (stage [] []) rounds mid
     → rounds_heard rounds ≡ framed_bytes (all_of s.x) → ⊥
 not_waiting mid rounds s last others later runs whole =
@@ -149,7 +149,7 @@ not_waiting mid rounds s last others later runs whole =
     no_third x last others accepted texts.0.moment
 
 ended_done : {wish : Wish} {end : WatchEnd} {doings : List IoEvent} {out : List ℕ} (s : FilmStream) (count : ℕ)
-    (mid : Stage) (rounds : List Round) → IsDecided end → RunsAll (stage [] []) rounds mid
+    (mid : WatchStage) (rounds : List Round) → IsDecided end → RunsAll (stage [] []) rounds mid
     → Ends wish mid (length rounds) end doings out
     → rounds_heard rounds ++ heard_bytes doings ≡ take count (framed_bytes (all_of s.x))
     → (rounds_heard rounds ++ [] ≡ rounds_heard rounds ++ heard_bytes doings → ⊥)

@@ -12,7 +12,7 @@ use Rattle.rtsp_client.specs.declared.watch_request.Watched.{Watched}
 use Rattle.rtsp_client.specs.declared.watch_request.WatchEnd.TheVariants.{Done}
 use Rattle.rtsp_client.specs.Answers.{GoOn, Gives, history_after, cut_bytes, events_of_elements, element_events}
 use Rattle.rtsp_client.specs.Answers.{payloads_of}
-use Rattle.rtsp_client.specs.WatchCourses.{Brings, IsNext, Round, Runs, RunsAll, Stage, stage}
+use Rattle.rtsp_client.specs.WatchCourses.{Brings, IsNext, Round, Runs, RunsAll, WatchStage, stage}
 use Rattle.rtsp_client.specs.Films.{is_complete}
 use Rattle.rtsp_client.specs.MeterGuarantee.{frames_heard, frames_of}
 use Rattle.rtsp_client.specs.Meters.{first_slot, watched_in}
@@ -32,7 +32,7 @@ abbrev pub no_sum : Sum
 no_sum = sum_of []
 
 -- where a client stands that received these bytes
-pub record Heard (bytes : List ℕ) (at : Stage) : Type 0 where
+pub record Heard (bytes : List ℕ) (at : WatchStage) : Type 0 where
   pub elements : List (List ℕ)
   pub cut : AreInputElements bytes elements at.rest
   pub sum : sum_of at.history ≡ steps no_sum (events_of_elements elements)
@@ -52,7 +52,7 @@ frames_later h (Report b ∷ ms) = frames_later (Report b ∷ h) ms
 frames_later h (Slot t cut ∷ ms) = frames_later (Slot t cut ∷ h) ms
 
 -- with further elements
-pub heard_more : {bytes : List ℕ} {old : Stage} {rest : List ℕ} (more : List ℕ) (elements : List (List ℕ))
+pub heard_more : {bytes : List ℕ} {old : WatchStage} {rest : List ℕ} (more : List ℕ) (elements : List (List ℕ))
     (heard : Heard bytes old) → AreInputElements (old.rest ++ more) elements rest
     → GoOn old.history (events_of_elements elements)
     → Heard (bytes ++ more) (stage (history_after old.history (events_of_elements elements)) rest)
@@ -71,10 +71,10 @@ heard_more {bytes} {old} {rest} more elements heard cut good = record {
   gone = gone_on old.history (events_of_elements elements) heard.gone good;
 }
 
-same_stage : (new : Stage) (h : History) (rest : List ℕ) → new.history ≡ h → new.rest ≡ rest → stage h rest ≡ new
+same_stage : (new : WatchStage) (h : History) (rest : List ℕ) → new.history ≡ h → new.rest ≡ rest → stage h rest ≡ new
 same_stage new h rest history same = ap (λ x. stage x rest) (sym history) ∙ ap (λ x. stage new.history x) (sym same)
 
-heard_event : {bytes : List ℕ} {old new : Stage} (event : IoEvent) (moments : List ClientEvent) → Heard bytes old
+heard_event : {bytes : List ℕ} {old new : WatchStage} (event : IoEvent) (moments : List ClientEvent) → Heard bytes old
     → Brings event old.rest moments new.rest
     → GoOn old.history moments → new.history ≡ history_after old.history moments → Heard (bytes ++ bytes_in event) new
 heard_event {bytes} {old} {new} (HeardBytes more) moments heard brings good history =
@@ -103,12 +103,12 @@ heard_event {bytes} {old} {new} (HeardSlot slot) moments heard brings good histo
 heard_event {new} HeardEnd moments heard brings good history = absurd brings
 heard_event {new} (Sent byte) moments heard brings good history = absurd brings
 
-pub heard_round : (bytes : List ℕ) (old new : Stage) (round : Round) → Heard bytes old → Runs old round new
+pub heard_round : (bytes : List ℕ) (old new : WatchStage) (round : Round) → Heard bytes old → Runs old round new
     → Heard (bytes ++ bytes_in round.event) new
 heard_round bytes old new round heard runs = heard_event round.event round.moments heard runs.brings runs.good
     runs.history_is
 
-pub heard_all : (bytes : List ℕ) (old new : Stage) (rounds : List Round) → Heard bytes old
+pub heard_all : (bytes : List ℕ) (old new : WatchStage) (rounds : List Round) → Heard bytes old
     → RunsAll old rounds new → Heard (bytes ++ rounds_heard rounds) new
 heard_all bytes old new [] heard all =
     let P : List ℕ → Type 0 = λ b. Heard b new in subst P (sym (append-nil bytes)) (subst (Heard bytes) (sym all) heard)
@@ -144,7 +144,7 @@ slot_stays h (m ∷ ms) playing = let one = slot_once h m playing in slot_stays 
 
 -- the next element is the last reply
 pub record IsDrained (wish : Wish) (watched : Watched) (bytes out : List ℕ) : Type 0 where
-  pub at : Stage
+  pub at : WatchStage
   pub heard : Heard bytes at
   pub message : List ℕ
   pub length_ : ℕ
@@ -162,7 +162,7 @@ complete_then n complete two awaited =
     let P : ℕ → Type 0 = λ k. (nat_lt k 2 || complete) ≡ true in subst P two awaited
 
 -- the done stage, with its moments
-pub at_done : {wish : Wish} {watched : Watched} {bytes out : List ℕ} {at : Stage} {moment : ClientEvent}
+pub at_done : {wish : Wish} {watched : Watched} {bytes out : List ℕ} {at : WatchStage} {moment : ClientEvent}
     (moments : List ClientEvent)
     → Heard bytes at → IsNext at.rest moment → Gives wish at.history moment (Done watched)
     → at.history ≡ history_after [] moments → out ≡ payloads_of moments

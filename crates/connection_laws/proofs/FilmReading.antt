@@ -19,7 +19,7 @@ use Rattle.film_frames.specs.Tracks.{framed_bytes}
 use Rattle.film_frames.proofs.PayloadLemmas.{FirstAndLast, comes-back, run-sum}
 use Rattle.film_frames.proofs.FilmPieceLemmas.{laid-film}
 use Rattle.rtsp_client.specs.Answers.{cut_bytes, events_of_elements, payloads_of}
-use Rattle.rtsp_client.specs.WatchCourses.{Stage}
+use Rattle.rtsp_client.specs.WatchCourses.{WatchStage}
 use Rattle.rtsp_client.specs.Films.{begins_film, is_complete, time_in, units, units_until}
 use Rattle.rtsp_client.specs.Meters.{time}
 use Rattle.rtsp_client.specs.ClientHistory.{History, end_ms, first_frame, frames, payloads, bytes_received, sizes}
@@ -138,7 +138,7 @@ timed {film} {identity} {x} {h} k is gone sum_is =
 
 -- ---- a reading
 
-pub heard_of : {film : Film} {identity : Identity} {x : Stream} {c : ℕ} {at : Stage} → IsFilmIn film identity x
+pub heard_of : {film : Film} {identity : Identity} {x : Stream} {c : ℕ} {at : WatchStage} → IsFilmIn film identity x
     → HasGoneOn at.history → IsReadingOf x c at
     → units_until (begun_sum x).end_ms (picture_time film.rate) ≡ length (film_sizes film)
     → IsFilmHeard (film_sizes film) (picture_time film.rate) at.history (cut_bytes at.rest)

@@ -16,7 +16,7 @@ use Rattle.rtp_pack.specs.declared.reports.Identity.{Identity}
 use Rattle.film_frames.specs.Tracks.{framed_bytes}
 use Rattle.rtsp_client.specs.declared.watch_request.Wish.{Wish}
 use Rattle.rtsp_client.specs.Answers.{history_after, cut_bytes, events_of_elements, element_events}
-use Rattle.rtsp_client.specs.WatchCourses.{Brings, Round, Runs, RunsAll, Stage, events_of_rounds}
+use Rattle.rtsp_client.specs.WatchCourses.{Brings, Round, Runs, RunsAll, WatchStage, events_of_rounds}
 use Rattle.rtsp_client.specs.Films.{units_until}
 use Rattle.rtsp_client.specs.Meters.{first_slot, is_read, place_in}
 use Rattle.rtsp_client.specs.ClientHistory.{History, ClientEvent, Frame, Reply, Report, Slot, is_playing, last_slot}
@@ -121,17 +121,17 @@ pub record FilmCounted (film : Film) (identity : Identity) (x : Stream) : Type 0
   pub count : units_until (begun_sum x).end_ms (picture_time film.rate) ≡ length (film_sizes film)
 
 -- what was received by a stage at which nothing more can be processed is a prefix of a stream
-record HeardFront (x : Stream) (bytes : List ℕ) (at : Stage) : Type 0 where
+record HeardFront (x : Stream) (bytes : List ℕ) (at : WatchStage) : Type 0 where
   heard : Heard bytes at
   idle : IsFirst at.rest (Ok More)
   front_is : bytes ≡ take (length bytes) (framed_bytes (all_of x))
 
 -- at most two replies came, and the second before a play's first slot
-record TwoReplies (at : Stage) (begin : ℕ) : Type 0 where
+record TwoReplies (at : WatchStage) (begin : ℕ) : Type 0 where
   few : replies at.history ≤ 2
   begins : (1 < replies at.history → first_slot at.history ≡ begin)
 
-slot_met : {wish : Wish} {film : Film} {identity : Identity} {x : Stream} {begin : ℕ} {bytes : List ℕ} {at : Stage}
+slot_met : {wish : Wish} {film : Film} {identity : Identity} {x : Stream} {begin : ℕ} {bytes : List ℕ} {at : WatchStage}
     (slot : ℕ) → FilmCounted film identity x → HeardFront x bytes at → TwoReplies at begin →
     (begin ≤ slot → IsFed wish film x bytes (slot - begin)) → is_read at.history slot ≡ true →
     IsFilmHeard (film_sizes film) (picture_time film.rate) at.history (cut_bytes at.rest)
@@ -158,12 +158,12 @@ slot_met {wish} {film} {begin} {at} slot counted front two fed read =
 -- ---- all events
 
 -- a round with this event
-record RoundHeard (event : IoEvent) (old : Stage) (round : Round) (new : Stage) : Type 0 where
+record RoundHeard (event : IoEvent) (old : WatchStage) (round : Round) (new : WatchStage) : Type 0 where
   event_is : round.event ≡ event
   runs : Runs old round new
 
 always_round : {event : IoEvent} {wish : Wish} {film : Film} {identity : Identity} {x : Stream} {begin : ℕ}
-    {bytes : List ℕ} {old new : Stage} {round : Round} → RoundHeard event old round new →
+    {bytes : List ℕ} {old new : WatchStage} {round : Round} → RoundHeard event old round new →
     FilmCounted film identity x → HeardFront x bytes old → TwoReplies new begin →
     ((slot : ℕ) → event ≡ HeardSlot slot → begin ≤ slot → IsFed wish film x bytes (slot - begin)) →
     IsBetweenAlways wish (film_sizes film) (picture_time film.rate) old.history →
@@ -196,24 +196,24 @@ always_round {event = Sent byte} {old} {new} {round} round_heard counted front t
     λ e. Brings e old.rest round.moments new.rest in absurd (subst B round_heard.event_is round_heard.runs.brings)
 
 -- what was received by a stage, and what rounds bring after it, is a prefix of a stream
-pub record HeardThrough (x : Stream) (bytes : List ℕ) (rounds : List Round) (old : Stage) : Type 0 where
+pub record HeardThrough (x : Stream) (bytes : List ℕ) (rounds : List Round) (old : WatchStage) : Type 0 where
   pub heard : Heard bytes old
   pub idle : IsFirst old.rest (Ok More)
   pub count : ℕ
   pub front : bytes ++ rounds_heard rounds ≡ take count (framed_bytes (all_of x))
 
 -- at most two replies came, and the first slot after them is known
-pub record RepliesKnown (new : Stage) (begin : ℕ) : Type 0 where
+pub record RepliesKnown (new : WatchStage) (begin : ℕ) : Type 0 where
   pub few : replies new.history ≤ 2
   pub begins : first_slot new.history ≡ begin
 
 pub always_all : {wish : Wish} {film : Film} {identity : Identity} {x : Stream} {begin : ℕ} {bytes : List ℕ}
-    {old : Stage} {rounds : List Round} {new : Stage} → HeardThrough x bytes rounds old → RunsAll old rounds new →
+    {old : WatchStage} {rounds : List Round} {new : WatchStage} → HeardThrough x bytes rounds old → RunsAll old rounds new →
     FilmCounted film identity x → RepliesKnown new begin → AreFed wish film x begin bytes rounds →
     IsBetweenAlways wish (film_sizes film) (picture_time film.rate) old.history →
     IsBetweenAlways wish (film_sizes film) (picture_time film.rate) new.history
 always_all {wish} {film} {rounds = []} through all counted known fed met =
-    let A : Stage → Type 0 =
+    let A : WatchStage → Type 0 =
     λ s. IsBetweenAlways wish (film_sizes film) (picture_time film.rate) s.history in subst A (sym all) met
 always_all {wish} {film} {identity} {x} {begin} {bytes} {old} {rounds = round ∷ rounds} {new} through all counted
     known fed met =

@@ -13,7 +13,7 @@ use Rattle.interleave.proofs.StreamElements.{TwoStreams, stream_once}
 use Rattle.film_frames.specs.FramedRuns.{count_ended}
 use Rattle.film_frames.specs.Tracks.{framed_bytes}
 use Rattle.rtsp_client.specs.Answers.{block_events, cut_bytes, events_of_elements, element_events}
-use Rattle.rtsp_client.specs.WatchCourses.{Stage}
+use Rattle.rtsp_client.specs.WatchCourses.{WatchStage}
 use Rattle.rtsp_client.specs.ClientHistory.{ClientEvent, Reply, replies}
 use Rattle.connection_laws.proofs.PieceCounts.{count_bytes, count_less, count_more, count_most, count_past}
 use Rattle.connection_laws.proofs.PieceCounts.{count_whole, count_within, rest_less, rest_more, rest_past}
@@ -129,7 +129,7 @@ two_moments x rest =
     ∙ ap (λ l. steps no_sum (Reply x.first ∷ (l ++ events_of_elements rest))) x.second_is.moment
 
 -- what was received at a reading, once the reply to PLAY was received and before a third one
-pub record IsReadingOf (x : Stream) (c : ℕ) (at : Stage) : Type 0 where
+pub record IsReadingOf (x : Stream) (c : ℕ) (at : WatchStage) : Type 0 where
   pub past : length x.first + length x.second ≤ c
   pub sum : sum_of at.history ≡ steps (begun_sum x) (events_of_elements (take (count_ended (film_place x c) x.blocks)
       x.blocks))
@@ -137,7 +137,7 @@ pub record IsReadingOf (x : Stream) (c : ℕ) (at : Stage) : Type 0 where
       ≡ min (film_place x c) (length (framed_bytes x.blocks))
 
 -- with the two first replies complete
-reading_film : {x : Stream} {c : ℕ} {at : Stage} → length x.first + length x.second ≤ c
+reading_film : {x : Stream} {c : ℕ} {at : WatchStage} → length x.first + length x.second ≤ c
     → sum_of at.history
     ≡ steps (begun_sum x) (events_of_elements (take (count_ended (film_place x c) (x.blocks ++ x.later)) (x.blocks ++
     x.later)))
@@ -186,7 +186,7 @@ reading_film {x} {c} {at} past sum rest few =
           }
     ]
 
-pub reading_of : {x : Stream} {bytes : List ℕ} {c : ℕ} {at : Stage} → Heard bytes at
+pub reading_of : {x : Stream} {bytes : List ℕ} {c : ℕ} {at : WatchStage} → Heard bytes at
     → ((n : ℕ) → IsElementLength at.rest n → ⊥)
     → bytes ≡ take c (framed_bytes (all_of x)) → 1 < replies at.history → replies at.history ≤ 2 → IsReadingOf x c at
 reading_of {x} {bytes} {c} {at} heard none is playing few =

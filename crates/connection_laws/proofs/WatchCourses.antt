@@ -16,7 +16,7 @@ use Rattle.rtsp_client.specs.declared.watch_request.Watched.{Watched}
 use Rattle.rtsp_client.specs.declared.watch_request.WatchEnd.{WatchEnd}
 use Rattle.rtsp_client.specs.declared.watch_request.WatchEnd.TheVariants.{Done}
 use Rattle.rtsp_client.specs.Answers.{Gives, history_after, events_of_elements, payload_of, payloads_of, requests_after}
-use Rattle.rtsp_client.specs.WatchCourses.{Ends, HasCourse, IsNext, Round, RunsAll, Stage, Stops, StopsAt}
+use Rattle.rtsp_client.specs.WatchCourses.{Ends, HasCourse, IsNext, Round, RunsAll, WatchStage, Stops, StopsAt}
 use Rattle.rtsp_client.specs.WatchCourses.{events_of_rounds}
 use Rattle.rtsp_client.specs.WatchCourses.{rounds_doings, stage}
 use Rattle.rtsp_client.specs.Meters.{first_slot}
@@ -41,13 +41,13 @@ use Rattle.connection_laws.proofs.HistorySums.{Sum, steps_payloads, sum_after, s
 -- ---- how the course ends
 
 -- the next moment gives the answer, and nothing more is handed on
-record IsGiven (wish : Wish) (watched : Watched) (at : Stage) (out : List ℕ) : Type 0 where
+record IsGiven (wish : Wish) (watched : Watched) (at : WatchStage) (out : List ℕ) : Type 0 where
   pub moment : ClientEvent
   pub next : IsNext at.rest moment
   pub gives : Gives wish at.history moment (Done watched)
   pub out_none : out ≡ []
 
-stop_of : (wish : Wish) (watched : Watched) (at : Stage) (sent out : List ℕ)
+stop_of : (wish : Wish) (watched : Watched) (at : WatchStage) (sent out : List ℕ)
     → Stops wish at (Done watched) sent out → IsGiven wish watched at out
 stop_of wish watched at sent out (inl framing) = absurd (let no : ⊥ = cc in no)
 stop_of wish watched at sent out (inr (moment, (next, inl gives))) =
@@ -55,12 +55,12 @@ stop_of wish watched at sent out (inr (moment, (next, inl gives))) =
 stop_of wish watched at sent out (inr (moment, (next, inr fails))) = absurd fails.1
 
 -- bytes in which a watching that is done ended
-abbrev IsEnd : Wish → Watched → Stage → List IoEvent → List ℕ → Type 0
+abbrev IsEnd : Wish → Watched → WatchStage → List IoEvent → List ℕ → Type 0
 IsEnd wish watched mid doings out = (bytes : List ℕ) × ((sent : List ℕ)
     × (StopsAt wish (stage mid.history (mid.rest ++ bytes)) (Done watched) sent out
     × (doings ≡ HeardBytes bytes ∷ sends sent)))
 
-end_of : {wish : Wish} {watched : Watched} {count : ℕ} {doings : List IoEvent} {out : List ℕ} (mid : Stage)
+end_of : {wish : Wish} {watched : Watched} {count : ℕ} {doings : List IoEvent} {out : List ℕ} (mid : WatchStage)
     → Ends wish mid count (Done watched) doings out
     → IsEnd wish watched mid doings out
 end_of {out} mid (inl (inl fault, none, empty)) = absurd (let no : ⊥ = cc in no)
@@ -69,13 +69,13 @@ end_of {out} mid (inr (inl early)) = absurd (let no : ⊥ = cc in no)
 end_of {out} mid (inr (inr (bytes, (sent, (stops, doings_are, few))))) = (bytes, (sent, (stops, doings_are)))
 
 -- all of a course: the bytes that were received, and where it is done
-pub record HasWatchedAll (wish : Wish) (watched : Watched) (rounds : List Round) (mid : Stage)
+pub record HasWatchedAll (wish : Wish) (watched : Watched) (rounds : List Round) (mid : WatchStage)
     (bytes out : List ℕ) : Type 0 where
   pub done : IsDrained wish watched (rounds_heard rounds ++ bytes) out
   pub elements : List (List ℕ)
   pub history : done.at.history ≡ history_after mid.history (events_of_elements elements)
 
-all_watched : {wish : Wish} {watched : Watched} {rounds : List Round} {mid : Stage}
+all_watched : {wish : Wish} {watched : Watched} {rounds : List Round} {mid : WatchStage}
     {last sent bytes out : List ℕ} → RunsAll (stage [] []) rounds mid
     → (stops : StopsAt wish (stage mid.history (mid.rest ++ bytes)) (Done watched) sent last)
     → out ≡ payloads_of (events_of_rounds rounds) ++ last
@@ -95,7 +95,7 @@ all_watched {wish} {watched} {rounds} {mid} {last} {bytes} {out} runs stops out_
     ∙ append-nil (payloads_of (events_of_elements stops.elements))))
     ∙ sym (flat_map-append payload_of moments (events_of_elements stops.elements))) in
     let done = at_done (moments ++ events_of_elements stops.elements) h given.next given.gives told all_out in
-    record { done = done.0; elements = stops.elements; history = ap (λ (s : Stage). s.history) done.1 }
+    record { done = done.0; elements = stops.elements; history = ap (λ (s : WatchStage). s.history) done.1 }
 
 -- ---- the promise
 
@@ -114,7 +114,7 @@ pub record WishedStream (wish : Wish) (film : Film) (identity : Identity) (x : S
   pub film_is : IsFilmIn film identity x
 
 pub kept_promise : {wish : Wish} {film : Film} {identity : Identity} {x : Stream} {watched : Watched}
-    {rounds : List Round} {mid : Stage} {bytes out : List ℕ} (c : ℕ) → WishedStream wish film identity x →
+    {rounds : List Round} {mid : WatchStage} {bytes out : List ℕ} (c : ℕ) → WishedStream wish film identity x →
     RunsAll (stage [] []) rounds mid → HasWatchedAll wish watched rounds mid bytes out →
     rounds_heard rounds ++ bytes ≡ take c (framed_bytes (all_of x)) →
     AreFed wish film x (first_slot mid.history) [] rounds → IsPromise wish film watched out

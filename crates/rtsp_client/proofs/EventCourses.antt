@@ -19,7 +19,7 @@ use Rattle.rtsp_client.specs.Requests.{setup_text}
 use Rattle.rtsp_client.specs.ClientHistory.{History, Slot}
 use Rattle.rtsp_client.specs.Answers.{history_after, cut_bytes, events_of_elements, payload_of, payloads_of}
 use Rattle.rtsp_client.specs.Answers.{requests_after}
-use Rattle.rtsp_client.specs.WatchCourses.{Ends, HasWatched, Round, Runs, RunsAll, Stage}
+use Rattle.rtsp_client.specs.WatchCourses.{Ends, HasWatched, Round, Runs, RunsAll, WatchStage}
 use Rattle.rtsp_client.specs.WatchCourses.{events_of_rounds, rounds_doings, stage}
 use Rattle.rtsp_client.specs.HistoryInvariant.{HistoryInvariant, StateInvariant}
 use Rattle.rtsp_client.specs.States.{State, after_slot, new_state}
@@ -104,18 +104,18 @@ ended-peer {h} {c} {end} {s} k is = record {
 
 -- ---- all events
 
-runs-on : {mid new : Stage} {round : Round} (old : Stage) (rounds : List Round) → RunsAll old rounds mid
+runs-on : {mid new : WatchStage} {round : Round} (old : WatchStage) (rounds : List Round) → RunsAll old rounds mid
     → Runs mid round new → IsFirst new.rest (Ok More)
     → RunsAll old (rounds ++ round ∷ []) new
 runs-on {new} {round} old [] all runs idle =
-    let R : Stage → Type 0 = λ x. Runs x round new in
+    let R : WatchStage → Type 0 = λ x. Runs x round new in
     (new, (subst R all runs, idle, refl))
 runs-on {mid} {new} {round} old (first ∷ rounds) all runs idle =
     (all.0, (all.1.0, all.1.1, runs-on {mid = mid} {new = new} {round = round} all.0 rounds all.1.2 runs idle))
 
-pub history-later : (old mid : Stage) (rounds : List Round) → RunsAll old rounds mid
+pub history-later : (old mid : WatchStage) (rounds : List Round) → RunsAll old rounds mid
     → mid.history ≡ history_after old.history (events_of_rounds rounds)
-history-later old mid [] all = ap (λ (s : Stage). s.history) all
+history-later old mid [] all = ap (λ (s : WatchStage). s.history) all
 history-later old mid (round ∷ rounds) all =
     history-later all.0 mid rounds all.1.2
     ∙ (ap (λ h. history_after h (events_of_rounds rounds)) all.1.0.history_is

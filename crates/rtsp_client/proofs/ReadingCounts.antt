@@ -4,12 +4,12 @@ use Rattle.std.proofs.Common.{refl, arith}
 use Rattle.std.specs.List.{filter}
 use Rattle.rtsp_client.specs.declared.watch_request.Wish.{Wish}
 use Rattle.rtsp_client.specs.ClientHistory.{History, Frame, Reply, Report, Slot}
-use Rattle.rtsp_client.specs.MeterReadings.{Reading, is_overrun, is_underrun, readings}
+use Rattle.rtsp_client.specs.MeterReadings.{MeterReading, is_overrun, is_underrun, readings}
 use Rattle.rtsp_client.specs.Meters.{bytes_waiting, count_over, count_under, is_read, lacks_picture}
 use Rattle.rtsp_client.specs.Meters.{place_in}
 
 -- a count of one more where a reading is so
-one-more : (test : Reading → Bool) (read : Bool) (reading : Reading) (count : ℕ) (rest : List Reading)
+one-more : (test : MeterReading → Bool) (read : Bool) (reading : MeterReading) (count : ℕ) (rest : List MeterReading)
     → count ≡ length (filter test rest)
     → cond (read && test reading) (count + 1) count ≡ length (filter test (cond read (reading ∷ rest) rest))
 one-more test false reading count rest is = is
@@ -20,7 +20,7 @@ one-more test true reading count rest is = here (test reading) is
     here true is = omega (arith, is)
     here false is = is
 
-abbrev reading-at : Wish → History → ℕ → ℕ → Reading
+abbrev reading-at : Wish → History → ℕ → ℕ → MeterReading
 reading-at wish h slot cut = record {
   slot = place_in h slot;
   waiting = bytes_waiting wish h slot cut;

@@ -20,7 +20,7 @@ use Rattle.rtsp_client.specs.ClientHistory.{History, ClientEvent, Frame, Reply, 
 use Rattle.rtsp_client.specs.Films.{is_good_frame}
 use Rattle.rtsp_client.specs.Answers.{Gives, GoOn, GoesOn, IsBadReply, IsGoodReply, IsOrderly, has_fields}
 use Rattle.rtsp_client.specs.Answers.{history_after, events_of_elements, element_events, payloads_of, requests_after}
-use Rattle.rtsp_client.specs.WatchCourses.{Fails, IsNext, Stage, Stops, StopsAt}
+use Rattle.rtsp_client.specs.WatchCourses.{Fails, IsNext, WatchStage, Stops, StopsAt}
 use Rattle.rtsp_client.specs.Outcomes.{IsDecided}
 
 -- ---- replies
@@ -98,7 +98,7 @@ record QuitsAlone (wish : Wish) (h : History) (rest : List ℕ) (end : WatchEnd)
   no_sent : sent ≡ []
   no_out : out ≡ []
 
-quits-alone : {wish : Wish} {mid : Stage} {end : WatchEnd} {sent out : List ℕ} → IsDecided end
+quits-alone : {wish : Wish} {mid : WatchStage} {end : WatchEnd} {sent out : List ℕ} → IsDecided end
     → Stops wish mid end sent out → QuitsAlone wish mid.history mid.rest end sent out
 quits-alone decided (inl (is, (fault, first), no_sent, no_out)) =
     record { quits = AtFraming is fault first; no_sent = no_sent; no_out = no_out }
@@ -217,7 +217,7 @@ quit-once {wish} {h} {bytes} {one} {other} {rest} {rest'} {end} {end'} quit quit
 
 -- ---- what the client did
 
-pub stops-quit : {wish : Wish} {old : Stage} {end : WatchEnd} {sent out : List ℕ} → IsDecided end
+pub stops-quit : {wish : Wish} {old : WatchStage} {end : WatchEnd} {sent out : List ℕ} → IsDecided end
     → (stops : StopsAt wish old end sent out)
     → IsQuit wish old.history old.rest stops.elements stops.mid end
 stops-quit decided stops = record {
@@ -231,7 +231,7 @@ pub record AreSameStops (end end' : WatchEnd) (sent sent' out out' : List ℕ) :
   pub sent_is : sent ≡ sent'
   pub out_is : out ≡ out'
 
-pub stops-once : {wish : Wish} {old : Stage} {end end' : WatchEnd} {sent sent' out out' : List ℕ} → IsDecided end
+pub stops-once : {wish : Wish} {old : WatchStage} {end end' : WatchEnd} {sent sent' out out' : List ℕ} → IsDecided end
     → IsDecided end' → StopsAt wish old end sent out → StopsAt wish old end' sent' out'
     → AreSameStops end end' sent sent' out out'
 stops-once {wish} {old} decided decided' one other =

@@ -15,7 +15,7 @@ use Rattle.rtsp_client.specs.declared.watch_request.WatchEnd.TheVariants.{Fault}
 use Rattle.rtsp_client.specs.declared.watch_request.WatchFault.TheVariants.{EndedEarly, TurnsSpent}
 use Rattle.rtsp_client.specs.ClientHistory.{ClientEvent, sizes}
 use Rattle.rtsp_client.specs.Answers.{GoOn, history_after, events_of_elements, payloads_of, requests_after}
-use Rattle.rtsp_client.specs.WatchCourses.{Brings, Ends, HasNotBegun, Round, Runs, RunsAll, Stage, StopsAt}
+use Rattle.rtsp_client.specs.WatchCourses.{Brings, Ends, HasNotBegun, Round, Runs, RunsAll, WatchStage, StopsAt}
 use Rattle.rtsp_client.specs.WatchCourses.{events_of_rounds, rounds_doings, stage}
 use Rattle.rtsp_client.specs.Requests.{setup_text}
 use Rattle.rtsp_client.specs.Outcomes.{IsDecided, IsOutcome, WatchOutcome, events_in}
@@ -46,7 +46,7 @@ event-heard old new moments (HeardSlot slot) brings doings = refl
 event-heard old new moments HeardEnd brings doings = absurd brings
 event-heard old new moments (Sent byte) brings doings = absurd brings
 
-rounds-heard : (wish : Wish) (old mid : Stage) (rounds : List Round) → RunsAll old rounds mid
+rounds-heard : (wish : Wish) (old mid : WatchStage) (rounds : List Round) → RunsAll old rounds mid
     → events_in (rounds_doings wish old.history rounds) ≡ events_of rounds
 rounds-heard wish old mid [] all = refl
 rounds-heard wish old mid (round ∷ rounds) (next, (runs, idle, all)) =
@@ -79,11 +79,11 @@ brings-once old (HeardSlot slot) (is, same) idle (is', same') idle' =
 brings-once old HeardEnd brings idle brings' idle' = absurd brings
 brings-once old (Sent byte) brings idle brings' idle' = absurd brings
 
-record AreSameRounds (one other : Round) (mid mid' : Stage) : Type 0 where
+record AreSameRounds (one other : Round) (mid mid' : WatchStage) : Type 0 where
   round_is : one ≡ other
   mid_is : mid ≡ mid'
 
-runs-once : {old mid mid' : Stage} {one other : Round} → Runs old one mid → IsFirst mid.rest (Ok More)
+runs-once : {old mid mid' : WatchStage} {one other : Round} → Runs old one mid → IsFirst mid.rest (Ok More)
     → Runs old other mid' → IsFirst mid'.rest (Ok More) → one.event ≡ other.event
     → AreSameRounds one other mid mid'
 runs-once {old} {mid} {mid'} {one} {other} runs idle runs' idle' heard =
@@ -113,7 +113,7 @@ final-is {a} {b} end doings out =
     ap E end ∙ (ap D doings ∙ ap O out)
 
 -- after so many events no further one is received; or the server ended; or bytes gave the answer
-data Closes (wish : Wish) (old : Stage) (count : ℕ) (f : Final) : Type 0 where
+data Closes (wish : Wish) (old : WatchStage) (count : ℕ) (f : Final) : Type 0 where
   Spent : f.end ≡ Fault TurnsSpent → count ≡ 2 ^ 40 → f.doings ≡ [] → f.out ≡ [] → Closes wish old count f
   Ended : f.end ≡ Fault (EndedEarly (length (sizes old.history))) → count < 2 ^ 40 → f.doings ≡ HeardEnd ∷ []
       → f.out ≡ [] → Closes wish old count f
@@ -121,14 +121,14 @@ data Closes (wish : Wish) (old : Stage) (count : ℕ) (f : Final) : Type 0 where
       → StopsAt wish (stage old.history (old.rest ++ bytes)) f.end sent f.out
       → f.doings ≡ HeardBytes bytes ∷ sends sent → count < 2 ^ 40 → Closes wish old count f
 
-closes : {wish : Wish} {old : Stage} {count : ℕ} {f : Final} → IsDecided f.end
+closes : {wish : Wish} {old : WatchStage} {count : ℕ} {f : Final} → IsDecided f.end
     → Ends wish old count f.end f.doings f.out → Closes wish old count f
 closes decided (inl (inl (lost, few), doings, out)) = absurd (subst IsDecided lost decided)
 closes decided (inl (inr (spent, all), doings, out)) = Spent spent all doings out
 closes decided (inr (inl (is, few, doings, out))) = Ended is few doings out
 closes decided (inr (inr (bytes, (sent, (stops, doings, few))))) = Stopped bytes sent decided stops doings few
 
-closes-few : {wish : Wish} {old : Stage} {count : ℕ} {f : Final} → Closes wish old count f → count ≤ 2 ^ 40
+closes-few : {wish : Wish} {old : WatchStage} {count : ℕ} {f : Final} → Closes wish old count f → count ≤ 2 ^ 40
 closes-few (Spent is all doings out) = omega (arith, all)
 closes-few (Ended is few doings out) = omega (arith, few)
 closes-few (Stopped bytes sent decided stops doings few) = omega (arith, few)
@@ -156,7 +156,7 @@ is_peer_end (Sent byte) = false
 no-end-of-bytes : {bytes : List ℕ} → HeardEnd ≡ HeardBytes bytes → ⊥
 no-end-of-bytes same = both_ways (is_peer_end HeardEnd) (ap is_peer_end same) refl
 
-finals-once : {wish : Wish} {old : Stage} {count : ℕ} {a b : Final} (later : List IoEvent) → Closes wish old count a
+finals-once : {wish : Wish} {old : WatchStage} {count : ℕ} {a b : Final} (later : List IoEvent) → Closes wish old count a
     → Closes wish old count b → events_in b.doings ≡ events_in a.doings ++ later → a ≡ b
 finals-once later (Spent is all doings out) (Spent is' all' doings' out') same =
     final-is (is ∙ sym is') (doings ∙ sym doings') (out ∙ sym out')
@@ -189,7 +189,7 @@ finals-once {wish} {old} {a} {b} later (Stopped bytes sent decided stops doings 
     ∙ sym doings') one.out_is
 
 -- the watching doesn't go on at the event that gives the answer
-closes-not-runs : {wish : Wish} {old mid : Stage} {count : ℕ} {f : Final} {round : Round} {more : List IoEvent}
+closes-not-runs : {wish : Wish} {old mid : WatchStage} {count : ℕ} {f : Final} {round : Round} {more : List IoEvent}
     (later : List IoEvent) → Closes wish old count f → count < 2 ^ 40 → Runs old round mid → IsFirst mid.rest (Ok More)
     → events_in f.doings ++ later ≡ round.event ∷ more → ⊥
 closes-not-runs later (Spent is all doings out) few runs idle same = omega (arith, all, few)
@@ -208,8 +208,8 @@ closes-not-runs {old} {mid} {round} later (Stopped bytes sent decided stops doin
 
 -- ---- all events
 
-record IsCourse (wish : Wish) (old : Stage) (count : ℕ) (rounds : List Round) (f : Final) : Type 0 where
-  mid : Stage
+record IsCourse (wish : Wish) (old : WatchStage) (count : ℕ) (rounds : List Round) (f : Final) : Type 0 where
+  mid : WatchStage
   runs : RunsAll old rounds mid
   closes : Closes wish mid (count + length rounds) f
 
@@ -217,7 +217,7 @@ record AreSameCourses (one other : List Round) (a b : Final) : Type 0 where
   rounds_are : one ≡ other
   final_is : a ≡ b
 
-courses-once : {wish : Wish} {a b : Final} (later : List IoEvent) (one other : List Round) {old : Stage} {count : ℕ}
+courses-once : {wish : Wish} {a b : Final} (later : List IoEvent) (one other : List Round) {old : WatchStage} {count : ℕ}
     → IsCourse wish old count one a → IsCourse wish old count other b
     → events_of other ++ events_in b.doings ≡ (events_of one ++ events_in a.doings) ++ later
     → AreSameCourses one other a b

@@ -6,13 +6,13 @@ use Rattle.rtsp_client.specs.Meters.{bytes_waiting, is_read, lacks_picture, plac
 
 -- a reading: the slot of the play, the bytes that wait to be played as it begins, and whether a
 -- picture is missing that is to be used by then
-pub record Reading : Type 0 where
+pub record MeterReading : Type 0 where
   pub slot : ℕ
   pub waiting : ℕ
   pub lacks : Bool
 
 -- all readings of a history, the latest first
-abbrev pub readings : Wish → History → List Reading
+abbrev pub readings : Wish → History → List MeterReading
 readings wish [] = []
 readings wish (Reply message ∷ h) = readings wish h
 readings wish (Frame block ∷ h) = readings wish h
@@ -26,8 +26,8 @@ readings wish (Slot slot cut ∷ h) = if is_read h slot
     else readings wish h
 
 -- more waits than the buffer holds
-abbrev pub is_overrun : Wish → Reading → Bool
+abbrev pub is_overrun : Wish → MeterReading → Bool
 is_overrun wish reading = nat_lt wish.buffer reading.waiting
 
-abbrev pub is_underrun : Reading → Bool
+abbrev pub is_underrun : MeterReading → Bool
 is_underrun reading = reading.lacks

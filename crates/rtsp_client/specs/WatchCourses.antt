@@ -20,11 +20,11 @@ use Rattle.rtsp_client.specs.Answers.{element_events, payload_of, payloads_of, r
 use Rattle.rtsp_client.specs.Answers.{requests_after}
 
 -- where a watching stands: what was received, and the bytes that wait
-pub record Stage : Type 0 where
+pub record WatchStage : Type 0 where
   pub history : History
   pub rest : List ℕ
 
-abbrev pub stage : History → List ℕ → Stage
+abbrev pub stage : History → List ℕ → WatchStage
 stage history rest = record { history = history; rest = rest }
 
 -- an event brings these moments: those of the elements that are complete then, or a slot's; and
@@ -43,15 +43,15 @@ pub record Round : Type 0 where
   pub moments : List ClientEvent
 
 -- an event was processed, and the watching goes on
-pub record Runs (old : Stage) (round : Round) (new : Stage) : Type 0 where
+pub record Runs (old : WatchStage) (round : Round) (new : WatchStage) : Type 0 where
   pub brings : Brings round.event old.rest round.moments new.rest
   pub good : GoOn old.history round.moments
   pub history_is : new.history ≡ history_after old.history round.moments
 
 -- events, one after another; before the next one is asked for, all that was complete was processed
-abbrev pub RunsAll : Stage → List Round → Stage → Type 0
+abbrev pub RunsAll : WatchStage → List Round → WatchStage → Type 0
 RunsAll old [] new = new ≡ old
-RunsAll old (round ∷ rounds) new = (mid : Stage)
+RunsAll old (round ∷ rounds) new = (mid : WatchStage)
     × (Runs old round mid × IsFirst mid.rest (Ok More) × RunsAll mid rounds new)
 
 -- what the link exposes of them: each event, and directly after it the requests that it allowed
@@ -87,7 +87,7 @@ IsNext rest moment = (n : ℕ) × (IsElementLength rest n × (element_events (ta
 
 -- nothing more is processed: the bytes begin no element; or the next moment gives the answer; or
 -- I/O failed as it was processed
-abbrev pub Stops : Wish → Stage → WatchEnd → List ℕ → List ℕ → Type 0
+abbrev pub Stops : Wish → WatchStage → WatchEnd → List ℕ → List ℕ → Type 0
 Stops wish mid end sent out =
     ((end ≡ Fault Framing) × ((fault : DemuxFault) × IsFirst mid.rest (Err fault)) × (sent ≡ [])
     × (out ≡ []))
@@ -96,7 +96,7 @@ Stops wish mid end sent out =
     ⊎ (GoesOn mid.history moment × Fails wish mid.history moment end sent out))))
 
 -- elements of the bytes that wait were processed, and then nothing more
-pub record StopsAt (wish : Wish) (old : Stage) (end : WatchEnd) (sent out : List ℕ) : Type 0 where
+pub record StopsAt (wish : Wish) (old : WatchStage) (end : WatchEnd) (sent out : List ℕ) : Type 0 where
   pub elements : List (List ℕ)
   pub mid : List ℕ
   pub cut : AreInputElements old.rest elements mid
@@ -112,7 +112,7 @@ pub record StopsAt (wish : Wish) (old : Stage) (end : WatchEnd) (sent out : List
 -- the answer after so many events, what the link exposes last, and what was handed on last: no
 -- further event was received, since the link failed or all were received; or the server ended; or
 -- bytes came
-abbrev pub Ends : Wish → Stage → ℕ → WatchEnd → List IoEvent → List ℕ → Type 0
+abbrev pub Ends : Wish → WatchStage → ℕ → WatchEnd → List IoEvent → List ℕ → Type 0
 Ends wish old count end doings out =
     ((((end ≡ LinkFault) × (count < 2 ^ 40)) ⊎ ((end ≡ Fault TurnsSpent) × (count ≡ 2 ^ 40)))
     × (doings ≡ []) × (out ≡ []))
@@ -127,7 +127,7 @@ Ends wish old count end doings out =
 pub record HasCourse (wish : Wish) (end : WatchEnd) (old_told new_told : Option (List IoEvent))
     (old_out new_out : Option (List ℕ)) : Type 0 where
   pub rounds : List Round
-  pub mid : Stage
+  pub mid : WatchStage
   pub runs : RunsAll (stage [] []) rounds mid
   pub last_doings : List IoEvent
   pub last_out : List ℕ
