@@ -46,7 +46,7 @@ no_play_begins {old} {message} {outcome} replied stands none =
     none its.request its.is_request its.method)
     (turns_as old.session message outcome replied.answered heard stands.rest)
 
--- neither what is taken up asks for a play, nor does one begin after it
+-- neither what is processed asks for a play, nor does one begin after it
 pub record HasNoPlays (old : Stage) (takings : List ElementStep) (more : List StationRequest) : Type 0 where
   pub stands : Stands old.session
   pub requests : AreNoPlays (takings_requests takings)

@@ -239,7 +239,7 @@ range_text end_ms =
     ap (λ z. codes "npt=" ++ (z ++ (codes "-" ++ (seconds_text end_ms ++ [])))) zero_text
     ∙ ap (λ l. codes "npt=0.000-" ++ l) (append-nil (seconds_text end_ms))
 
--- what a reply tells of its stream: where it is asked for, and its first packet
+-- what a reply states of its stream: where it is asked for, and its first packet
 pub record StreamInfo : Type 0 where
   pub authority : List ℕ
   pub name : List ℕ

@@ -39,7 +39,7 @@ never_unsent {slot} play now before late unsent =
     let below : due_by now (play ∷ []) < 0 = unsent 0 (first_boundary play before) (omega (arith, none)) in
     omega (arith, below)
 
--- replies to requests that were taken up once the film was due
+-- replies to requests that were processed once the film was due
 record AreOnceDue (play : FilmPlay) (now : ℕ) (slots : List ℕ) (texts : List PlacedText) : Type 0 where
   due : IsDueBy play slots
   sent : AreSentAt now (play ∷ []) slots texts
