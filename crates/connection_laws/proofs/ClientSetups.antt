@@ -36,7 +36,7 @@ use Rattle.session.specs.declared.states.Setup.{Setup}
 use Rattle.session.specs.Films.{IsFilmAt, Names}
 use Rattle.vod_base.specs.Limits.{WritesNumber}
 use Rattle.session.specs.Setups.{AreChannelsOf, AsksForSetup, IsChosen}
-use Rattle.session.proofs.SetupLemmas.{IsSetupRequest}
+use Rattle.session_laws.proofs.SetupLemmas.{IsSetupRequest}
 
 -- ---- the film that a URL names
 

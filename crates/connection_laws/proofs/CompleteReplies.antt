@@ -25,16 +25,18 @@ use Rattle.vod_base.specs.Links.{IoEvent, HeardBytes, HeardEnd, HeardSlot, Sent}
 use Rattle.session.specs.declared.commands.Ask.{Ask}
 use Rattle.session.specs.declared.commands.Ask.TheVariants.{Reply as AskReply, Play as AskPlay, Halt as AskHalt}
 use Rattle.session.specs.declared.commands.Ask.TheVariants.{Look as AskLook, Offer as AskOffer}
-use Rattle.session.specs.EndLaws.{HaltsPlay, IsTeardown}
-use Rattle.session.specs.MethodLaws.{setup_in}
-use Rattle.session.specs.Replies.{session_text}
+use Rattle.session_laws.specs.EndLaws.{HaltsPlay}
+use Rattle.session.specs.Laws.{IsTeardown}
+use Rattle.session_laws.specs.MethodLaws.{setup_in}
+use Rattle.rtsp_replies.specs.Replies.{session_text}
 use Rattle.session.specs.RequestSteps.{Hears, after_admission}
 use Rattle.session.specs.Laws.{InitStage, PlayingStage, ReadyStage, StateKind as SessionStage, stage_of}
 use Rattle.session.specs.SettingRanges.{AreFilms}
 use Rattle.session.specs.SessionStates.{SessionState}
-use Rattle.session.specs.CompleteReplies.{IsMessage, HasValidIds, LeavesRoom, RepliesAreComplete}
-use Rattle.session.proofs.PauseTeardownLemmas.{teardown_ends}
-use Rattle.session.proofs.CompleteReplyLemmas.{keeps_named, replies_whole}
+use Rattle.session_laws.specs.CompleteReplies.{HasValidIds, LeavesRoom, RepliesAreComplete}
+use Rattle.rtsp_replies.specs.Messages.{IsMessage}
+use Rattle.session_laws.proofs.PauseTeardownLemmas.{teardown_ends}
+use Rattle.session_laws.proofs.CompleteReplyLemmas.{keeps_named, replies_whole}
 use Rattle.conn.specs.EventSteps.{Round, Runs}
 use Rattle.conn.specs.InputSteps.{Answered, Entered, HasHeard, IsAskAnswered, IsLookAnswered, IsPlayAnswered, IsReplied}
 use Rattle.conn.specs.InputSteps.{Offered}

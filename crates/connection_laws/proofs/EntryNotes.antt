@@ -24,7 +24,7 @@ use Rattle.session.specs.declared.states.State.{State}
 use Rattle.session.specs.declared.states.State.TheVariants.{Init, Ready, Playing, Stopping}
 use Rattle.session.specs.SlotSteps.{after_slot}
 use Rattle.session.specs.SessionStates.{NoAnswer, SessionState, awaited_answer_of, open_in}
-use Rattle.session.proofs.RequestShapes.{HearsAs, Replies, SetsUp, AsksPlay, Stops, AsksLook, AsksOffer, hears_as}
+use Rattle.session_laws.proofs.RequestShapes.{HearsAs, Replies, SetsUp, AsksPlay, Stops, AsksLook, AsksOffer, hears_as}
 use Rattle.conn.specs.Agreement.{Activity, HasDone, doings_outcomes}
 use Rattle.conn.specs.EventSteps.{Comes, Ending, Unheard, PeerEnded, Overfull, AtElement, InSlot, InReply}
 use Rattle.conn.specs.EventSteps.{Ends, Round, Runs, RunsAll, entries_in}

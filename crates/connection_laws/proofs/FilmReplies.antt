@@ -18,12 +18,13 @@ use Rattle.rtsp_text.specs.Replies.{Field, field_line, reply_front, reply_text}
 use Rattle.rtsp_text.proofs.UrlBytes.{name_in_url}
 use Rattle.vod_base.specs.Names.{good_name, is_name_byte}
 use Rattle.session.specs.Films.{IsFilmAt, length_ms}
-use Rattle.session.specs.Replies.{field, play_fields, play_text as play_reply}
-use Rattle.session.specs.RequestSteps.{started_text}
-use Rattle.session.specs.MethodLaws.{setup_in}
+use Rattle.rtsp_replies.specs.Replies.{field, play_fields, play_text as play_reply}
+use Rattle.rtsp_replies.specs.Replies.{started_text}
+use Rattle.session_laws.specs.MethodLaws.{setup_in}
 use Rattle.session.specs.SessionStates.{SessionState, has_session_in}
 use Rattle.session.specs.SlotSteps.{admitted_in}
-use Rattle.session.specs.CompleteReplies.{HasValidIds, IsMessage}
+use Rattle.session_laws.specs.CompleteReplies.{HasValidIds}
+use Rattle.rtsp_replies.specs.Messages.{IsMessage}
 use Rattle.rtsp_text.proofs.LineBounds.{all-drop, all-take}
 use Rattle.rtsp_text.proofs.ReplyTexts.{front_field, whole_reply}
 use Rattle.rtsp_fields.specs.Urls.{IsRead}

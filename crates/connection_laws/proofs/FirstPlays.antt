@@ -28,11 +28,11 @@ use Rattle.session.specs.Films.{IsFilmAt, identity_of}
 use Rattle.session.specs.RequestedPlans.{IsPlannedRun}
 use Rattle.session.specs.RunRequests.{playback_of as session_playback}
 use Rattle.session.specs.SessionStates.{SessionState}
-use Rattle.session.proofs.WholeFilmLemmas.{asked-whole}
+use Rattle.session_laws.proofs.WholeFilmLemmas.{asked-whole}
 use Rattle.connection_laws.specs.WholePlays.{film_blocks, playback_of, whole_run}
 use Rattle.connection_laws.specs.Plays.{FilmPlay}
 use Rattle.connection_laws.proofs.RequestedPlan.{playback_same}
-use Rattle.session.proofs.PlayInReadyLemmas.{IsPlayHeard}
+use Rattle.session_laws.proofs.PlayInReadyLemmas.{IsPlayHeard}
 use Rattle.connection_laws.proofs.ClientSetups.{IsSettled, range_is}
 use Rattle.connection_laws.proofs.SetupOnly.{Beginning, IsUnbegun, IsWaiting}
 

@@ -9,7 +9,7 @@ use Rattle.session.specs.declared.states.Play.{Play as Played}
 use Rattle.session.specs.declared.states.Setup.{Setup}
 use Rattle.session.specs.declared.states.State.{State}
 use Rattle.session.specs.declared.states.State.TheVariants.{Init, Ready, Playing, Stopping}
-use Rattle.session.specs.MethodLaws.{setup_in}
+use Rattle.session_laws.specs.MethodLaws.{setup_in}
 use Rattle.session.specs.SlotSteps.{halted_in, next_of, state_once_halted}
 use Rattle.session.specs.SessionStates.{AwaitedAnswer, HaltAnswer, LookAnswer, NoAnswer, OfferAnswer, PlayAnswer}
 use Rattle.session.specs.SessionStates.{SessionState, awaited_answer}

@@ -13,13 +13,14 @@ use Rattle.rtsp_text.proofs.MessageUniqueness.{request_once}
 use Rattle.session.specs.declared.states.Awaited.{Awaited}
 use Rattle.session.specs.declared.states.Awaited.TheVariants.{Play}
 use Rattle.session.specs.declared.commands.Ask.TheVariants.{Reply}
-use Rattle.session.specs.MethodLaws.{setup_in}
+use Rattle.session_laws.specs.MethodLaws.{setup_in}
 use Rattle.session.specs.SessionStates.{SessionState, has_session_in}
 use Rattle.session.specs.declared.states.Setup.{Setup}
 use Rattle.session.specs.declared.states.State.{State}
 use Rattle.session.specs.declared.states.State.TheVariants.{Init, Ready, Playing, Stopping}
-use Rattle.session.specs.CompleteReplies.{IsMessage, HasValidIds, RepliesAreComplete}
-use Rattle.session.proofs.CompleteReplyLemmas.{replies_whole}
+use Rattle.session_laws.specs.CompleteReplies.{HasValidIds, RepliesAreComplete}
+use Rattle.rtsp_replies.specs.Messages.{IsMessage}
+use Rattle.session_laws.proofs.CompleteReplyLemmas.{replies_whole}
 use Rattle.conn.specs.EventSteps.{Round}
 use Rattle.conn.specs.InputSteps.{Answered, HasHeard, IsAskAnswered, IsReplied, Outcome, Passed, SentPart, Stage}
 use Rattle.conn.specs.InputSteps.{ElementStep, TakesAll}
@@ -31,10 +32,10 @@ use Rattle.connection_laws.proofs.GreatestSlots.{comes_heard, takes_left}
 use Rattle.connection_laws.proofs.NoPlays.{AreNoPlays, IsNoPlay, event_none, no_play_begins, no_plays_front}
 use Rattle.connection_laws.proofs.NoPlays.{no_plays_rest}
 use Rattle.connection_laws.proofs.NoPlays.{rounds_none, takes_stands, takings_none}
-use Rattle.session.proofs.PlayInReadyLemmas.{IsPlayHeard, play_heard}
+use Rattle.session_laws.proofs.PlayInReadyLemmas.{IsPlayHeard, play_heard}
 use Rattle.connection_laws.proofs.Requests.{rounds_requests, takings_requests}
 use Rattle.connection_laws.proofs.ClientSetups.{setup_is}
-use Rattle.session.proofs.SetupLemmas.{IsSetupRequest}
+use Rattle.session_laws.proofs.SetupLemmas.{IsSetupRequest}
 use Rattle.connection_laws.proofs.RequestEffects.{Begins, Ends, Starts, Stays, TurnsAs, turns_as}
 use Rattle.connection_laws.proofs.SetupOnly.{Beginning, IsWaiting, answered_waits, opened_waits, reply_same}
 use Rattle.connection_laws.proofs.SetupOnly.{setup_asked}

@@ -15,7 +15,7 @@ use Rattle.mpeg_scan.specs.StartCodes.{read_after}
 use Rattle.mpeg_scan.specs.PictureRates.{picture_time}
 use Rattle.mpeg_scan.proofs.FilmBoundLemmas.{film-rate}
 use Rattle.session.specs.Films.{length_ms}
-use Rattle.session.specs.Replies.{field, joined_parts, play_fields, play_text}
+use Rattle.rtsp_replies.specs.Replies.{field, joined_parts, play_fields, play_text}
 use Rattle.connection_laws.specs.PlayReplies.{IsPlayRead}
 use Rattle.plan_cert.proofs.DecimalLemmas.{no_leading_zero}
 use Rattle.vod_base.specs.Numbers.{number_of}

@@ -19,7 +19,7 @@ use Rattle.rtsp_text.proofs.LineBounds.{all-append}
 use Rattle.rtsp_text.proofs.SingleLineTexts.{one_line-url}
 use Rattle.rtsp_text.proofs.UrlBytes.{all_of}
 use Rattle.rtsp_fields.specs.Sdp.{seconds_text}
-use Rattle.session.specs.Replies.{field, joined_parts}
+use Rattle.rtsp_replies.specs.Replies.{field, joined_parts}
 
 -- a text of printable bytes other than the space
 abbrev pub IsPrinted : List ℕ → Type 0

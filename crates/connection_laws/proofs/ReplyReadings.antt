@@ -17,9 +17,9 @@ use Rattle.rtsp_text.specs.Replies.{Field, IsPlain, all_fields, phrase, reply_fr
 use Rattle.rtsp_text.proofs.LineBounds.{all-take}
 use Rattle.rtsp_text.proofs.ReplyRoundTrip.{read_back}
 use Rattle.rtsp_text.proofs.UrlBytes.{all_of}
-use Rattle.session.specs.CompleteReplies.{IsMessage}
-use Rattle.session.specs.Replies.{field, joined_parts, play_fields, play_text, session_text, setup_text}
-use Rattle.session.specs.Replies.{transport_value}
+use Rattle.rtsp_replies.specs.Messages.{IsMessage}
+use Rattle.rtsp_replies.specs.Replies.{field, joined_parts, play_fields, play_text, session_text, setup_text}
+use Rattle.rtsp_replies.specs.Replies.{transport_value}
 use Rattle.rtsp_client.specs.Replies.{IsAnswer, play_range, play_start, session_id, setup_session, usable_id}
 use Rattle.connection_laws.specs.PlayReplies.{IsPlayRead}
 use Rattle.connection_laws.proofs.PlayReplyReading.{PlayNumbers, StreamInfo, play_read}

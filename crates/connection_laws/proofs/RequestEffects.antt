@@ -33,7 +33,7 @@ use Rattle.conn.specs.InputSteps.{HasHeard, IsAskAnswered, IsHaltAnswered, IsHal
 use Rattle.conn.specs.InputSteps.{Outcome}
 use Rattle.conn.specs.InputSteps.{Unasked, Entered, WasFull, Offered}
 use Rattle.connection_laws.specs.Plays.{StationRequest, plays_admitted, plays_begun, booked_by, kept_by, kept_with}
-use Rattle.session.proofs.RequestShapes.{HearsAs, Replies, SetsUp, AsksPlay, Stops, AsksLook, AsksOffer, hears_as}
+use Rattle.session_laws.proofs.RequestShapes.{HearsAs, Replies, SetsUp, AsksPlay, Stops, AsksLook, AsksOffer, hears_as}
 use Rattle.connection_laws.proofs.AnswerPremises.{PlayEntry, HaltAsked}
 
 -- what of a film is being sent: nothing, a play, or the rest of one that was halted

@@ -19,14 +19,14 @@ use Rattle.session.specs.declared.states.State.{State}
 use Rattle.session.specs.declared.states.State.TheVariants.{Init, Ready, Playing, Stopping}
 use Rattle.session.specs.Films.{IsFilmAt, Names, length_ms, milliseconds_at, timestamp_at}
 use Rattle.session.specs.Methods.{first_number}
-use Rattle.session.specs.MethodLaws.{setup_in}
+use Rattle.session_laws.specs.MethodLaws.{setup_in}
 use Rattle.session.specs.RefusalOrder.{IsOwnSession, first_of}
-use Rattle.session.specs.Replies.{play_fields, session_text, setup_text as setup_reply}
+use Rattle.rtsp_replies.specs.Replies.{play_fields, session_text, setup_text as setup_reply}
 use Rattle.session.specs.RequestSteps.{Hears}
 use Rattle.session.specs.RequestedPlans.{IsPlannedRun}
 use Rattle.session.specs.SessionStates.{SessionState, has_session_in}
-use Rattle.session.proofs.ClientReplyLemmas.{IsCall, play_answered, setup_answered, teardown_answered}
-use Rattle.session.proofs.WholeFilmLemmas.{asked-whole}
+use Rattle.session_laws.proofs.ClientReplyLemmas.{IsCall, play_answered, setup_answered, teardown_answered}
+use Rattle.session_laws.proofs.WholeFilmLemmas.{asked-whole}
 use Rattle.connection_laws.specs.WholePlays.{whole_run}
 use Rattle.connection_laws.proofs.ClientSetups.{range_is, settled_by}
 use Rattle.connection_laws.proofs.FirstPlays.{some_time}

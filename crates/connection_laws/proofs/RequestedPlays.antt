@@ -29,7 +29,7 @@ use Rattle.connection_laws.proofs.OnePlay.{IsPlayedWhole, Outlook, rounds_walk, 
 use Rattle.connection_laws.proofs.ReplyOrder.{replies_in_order}
 use Rattle.connection_laws.proofs.CompleteReplies.{AreTeardowns, AreWhole, texts_whole}
 use Rattle.session.specs.RequestSteps.{source_of}
-use Rattle.session.proofs.CompleteReplyLemmas.{begins_named}
+use Rattle.session_laws.proofs.CompleteReplyLemmas.{begins_named}
 use Rattle.connection_laws.proofs.EndToEndMeter.{rest_all}
 use Rattle.connection_laws.proofs.CourseReplies.{replies_sent}
 use Rattle.connection_laws.proofs.Requests.{rounds_requests}

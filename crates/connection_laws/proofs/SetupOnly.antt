@@ -30,7 +30,7 @@ use Rattle.conn.specs.InputSteps.{Takes}
 use Rattle.conn.specs.InputSteps.{Unasked, WasFull}
 use Rattle.connection_laws.proofs.FilmBytes.{Stands, opened_stands, taken_stands}
 use Rattle.connection_laws.proofs.ClientSetups.{IsSettled, settled_by, setup_is}
-use Rattle.session.proofs.SetupLemmas.{IsSetupRequest, SetupHeard, Refused, Settled, setup_heard}
+use Rattle.session_laws.proofs.SetupLemmas.{IsSetupRequest, SetupHeard, Refused, Settled, setup_heard}
 
 -- no play has begun, and a SETUP that was answered 200 settled what the client wished
 abbrev pub IsUnbegun : Wish → List Stored → State → Type 0

@@ -1,7 +1,7 @@
 -- The replies to two requests before a play stand before its film, and those to requests once it was due after it.
 use Rattle.std.proofs.Common.{◌≡◌, ℕ, ◌+◌, ◌<◌, ◌≤◌, List, [], ◌∷◌, drop, ap, ◌∙◌, arith, inl}
 use Rattle.film_frames.specs.Tracks.{IsBoundary}
-use Rattle.session.specs.CompleteReplies.{IsMessage}
+use Rattle.rtsp_replies.specs.Messages.{IsMessage}
 use Rattle.connection_laws.specs.ClientRequests.{IsDueBy}
 use Rattle.connection_laws.specs.ReplyPlaces.{AreSentAt, IsBoundaryIn, IsSentAt, IsUnsentAt}
 use Rattle.connection_laws.specs.WholePlays.{AreAfter}

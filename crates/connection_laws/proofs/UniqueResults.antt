@@ -12,7 +12,7 @@ use Rattle.session.specs.declared.commands.Ask.TheVariants.{Look as AskLook, Off
 use Rattle.session.specs.RequestSteps.{Hears}
 use Rattle.session.specs.Laws.{IsOneAnswer}
 use Rattle.session.specs.SettingRanges.{AreFilms}
-use Rattle.session.proofs.AnswerUniqueness.{hears_once}
+use Rattle.session_laws.proofs.AnswerUniqueness.{hears_once}
 use Rattle.session.specs.SlotSteps.{can_reply, after_play, is_between, is_sending, is_taken, sent_due, sent_reply}
 use Rattle.session.specs.SlotSteps.{sent_slot, after_slot, stepped_in}
 use Rattle.session.specs.SessionStates.{AwaitedAnswer, NoAnswer, PlayAnswer, HaltAnswer, LookAnswer, OfferAnswer}

@@ -18,7 +18,7 @@ ghost use Rattle.session.specs.declared.settings.Settings.{Settings};
 ghost use Rattle.session.specs.declared.states.Counts.{Counts};
 ghost use Rattle.session.specs.declared.states.Setup.{Setup};
 ghost use Rattle.session.specs.declared.states.StreamSource.{StreamSource};
-ghost use Rattle.session.specs.Replies.{field, play_fields, play_text};
+ghost use Rattle.rtsp_replies.specs.Replies.{field, play_fields, play_text};
 ghost use Rattle.vod_base.specs.Links.{IoEvent};
 ghost use Rattle.conn.specs.EventSteps.{IsPrefixOf, rounds_doings};
 ghost use Rattle.rtsp_client.specs.WatchCourses.{HasCourse};

@@ -10,7 +10,7 @@ use Rattle.rtsp_text.specs.declared.requests.Request.{Request}
 use Rattle.rtsp_text.proofs.MessageUniqueness.{no_fault, request_once}
 use Rattle.session.specs.declared.commands.Ask.{Ask}
 use Rattle.session.specs.declared.plans.Planned.{Planned}
-use Rattle.session.specs.declared.refusals.Refusal.{Refusal}
+use Rattle.rtsp_replies.specs.declared.refusals.Refusal.{Refusal}
 use Rattle.session.specs.declared.refusals.Task.{Task}
 use Rattle.session.specs.declared.refusals.Task.TheVariants.{Options as ToOptions}
 use Rattle.session.specs.declared.refusals.Task.TheVariants.{Describe as ToDescribe}
@@ -25,14 +25,14 @@ use Rattle.session.specs.declared.states.State.{State}
 use Rattle.session.specs.declared.states.State.TheVariants.{Init, Ready, Playing, Stopping}
 use Rattle.session.specs.Films.{IsFilmAt, Names}
 use Rattle.session.specs.Methods.{AsksPlayOr, Ends, IsSetUp, Plays, Takes, TearsDown, play_call, play_front}
-use Rattle.session.specs.MethodLaws.{setup_in}
+use Rattle.session_laws.specs.MethodLaws.{setup_in}
 use Rattle.session.specs.RefusalOrder.{IsJudged, IsOwnFilm, IsOwnSession, required_of}
-use Rattle.session.specs.Replies.{session_text, setup_text}
+use Rattle.rtsp_replies.specs.Replies.{session_text, setup_text}
 use Rattle.session.specs.RequestSteps.{Hears}
 use Rattle.session.specs.RequestedPlans.{IsPlanned, IsPlannedRun}
 use Rattle.session.specs.SessionStates.{SessionState, has_session_in, with_reply}
 use Rattle.session.specs.Setups.{AsksForSetup, IsSetupRead}
-use Rattle.session.proofs.VerdictUniqueness.{not_both}
+use Rattle.session_laws.proofs.VerdictUniqueness.{not_both}
 
 -- two names that differ in a byte
 other_name : {name one other : List ℕ} (k a b : ℕ) → name ≡ one → name ≡ other → get_or one k 0 ≡ a
