@@ -4,6 +4,7 @@ use Rattle.std.proofs.Common.{◌≡◌, ℕ, ◌+◌, ◌<◌, ◌≤◌, ◌^�
 use Rattle.std.proofs.Common.{length, take, drop, Option, Some, None, Ok, Err, refl, ap, sym, ◌∙◌, subst, inl, inr}
 use Rattle.std.proofs.Common.{arith}
 use Rattle.std.proofs.lemmas.List.{append-nil, append_assoc, map-append, length-append, length-take-le}
+use Rattle.interleave.specs.declared.demux.TheConstants.{MAX_WAITING_BYTES}
 use Rattle.interleave.specs.Elements.{IsFirst}
 use Rattle.interleave.specs.declared.elements.Step.TheVariants.{Request}
 use Rattle.interleave.specs.declared.elements.DemuxFault.{DemuxFault}
@@ -214,7 +215,7 @@ event_up seen (Some end) c up =
 
 -- bytes came and wait, and nothing else was done
 pub record BytesSeen (bytes : List ℕ) (a b : Observed) : Type 0 where
-  pub few : length a.stage.input + length bytes ≤ 131072
+  pub few : length a.stage.input + length bytes ≤ MAX_WAITING_BYTES
   pub waits : b.stage ≡ stage a.stage.session (a.stage.input ++ bytes)
   pub told : b.told ≡ a.told
   pub seat : b.seat ≡ a.seat
@@ -255,7 +256,7 @@ slot_broken slot a c broken =
       noted = subst (λ s. AreNoted a.seat s []) (sym broken.noted) (noted_none a.seat);
     }
 
-pub overfull : (bytes : List ℕ) (a c : Observed) → 131072 < length a.stage.input + length bytes →
+pub overfull : (bytes : List ℕ) (a c : Observed) → MAX_WAITING_BYTES < length a.stage.input + length bytes →
     a.stage.session.waits ≡ true → c ≡ a →
     HasHandledEvent (Some TooMuchInput) (HeardBytes bytes) a c
 overfull bytes a c many waits is =

@@ -17,7 +17,7 @@ use Rattle.station.specs.Ledgers.{play_of}
 use Rattle.session.specs.declared.commands.Ask.{Ask}
 use Rattle.session.specs.declared.commands.Ask.TheVariants.{Reply as AskReply, Play as AskPlay}
 use Rattle.session.specs.RequestEffects.{AsksOrLacks, CanBePlayed, IsPlayAsked}
-use Rattle.session.specs.Replies.{full_text, overflow_text}
+use Rattle.rtsp_replies.specs.Replies.{full_text, overflow_text}
 use Rattle.session.specs.SessionStates.{SessionState}
 use Rattle.session.proofs.RequestEffectLemmas.{hears_good, hears_ground}
 use Rattle.conn.specs.InputSteps.{Outcome, Unasked, Entered, WasFull, Offered, HasHeard, IsAskAnswered}

@@ -10,7 +10,7 @@ use Rattle.session.specs.declared.commands.Ask.{Ask}
 use Rattle.session.specs.declared.commands.Ask.TheVariants.{Reply as AskReply, Play as AskPlay}
 use Rattle.session.specs.RequestEffects.{AsksOrLacks, CanBePlayed, ChangesState, HasCode, IsPlayAsked}
 use Rattle.session.specs.RequestEffects.{LacksMemory}
-use Rattle.session.specs.RequestSteps.{started_text}
+use Rattle.rtsp_replies.specs.Replies.{started_text}
 use Rattle.session.specs.Methods.{play_front, prepared_of}
 use Rattle.session.specs.SessionStates.{SessionState, sequence_of}
 use Rattle.session.proofs.RequestEffectLemmas.{hears_good, hears_ground, hears_state}

@@ -16,8 +16,9 @@ use Rattle.session.specs.declared.commands.Ask.TheVariants.{Reply as AskReply, P
 use Rattle.session.specs.declared.commands.Ask.TheVariants.{Halt as AskHalt, Look as AskLook}
 use Rattle.session.specs.declared.commands.Ask.TheVariants.{Offer as AskOffer}
 use Rattle.session.specs.RequestEffects.{HasCode, IsNoRefusal, RefusesNone}
-use Rattle.session.specs.RequestSteps.{after_full, started_text}
-use Rattle.session.specs.Replies.{field, full_text, overflow_text}
+use Rattle.session.specs.RequestSteps.{after_full}
+use Rattle.rtsp_replies.specs.Replies.{started_text}
+use Rattle.rtsp_replies.specs.Replies.{field, full_text, overflow_text}
 use Rattle.session.specs.SlotSteps.{can_reply, after_play, is_between, is_sending, is_taken, sent_due}
 use Rattle.session.specs.SlotSteps.{sent_reply, sent_slot, after_slot, stepped_in}
 use Rattle.session.specs.SessionStates.{AwaitedAnswer, NoAnswer, PlayAnswer, HaltAnswer, LookAnswer}

@@ -14,7 +14,7 @@ use Rattle.station.specs.Ledgers.{play_of}
 use Rattle.session.specs.declared.states.Play.{Play as Played}
 use Rattle.session.specs.declared.states.State.TheVariants.{Playing}
 use Rattle.session.specs.RequestEffects.{HasCode, IsPlayAsked}
-use Rattle.session.specs.Replies.{full_text, overflow_text}
+use Rattle.rtsp_replies.specs.Replies.{full_text, overflow_text}
 use Rattle.session.specs.SessionStates.{SessionState}
 use Rattle.conn.specs.InputSteps.{Outcome, Unasked, Entered, WasFull, Offered}
 use Rattle.conn.specs.Films.{HasSent}

@@ -4,6 +4,7 @@ use Rattle.std.specs.Prelude.{nat_lt, List, length, take, Option, Some, None, Ok
 use Rattle.vod_base.specs.IoState.{HasRisen}
 use Rattle.vod_base.specs.declared.links.Heard.{Heard}
 use Rattle.vod_base.specs.declared.links.Heard.TheVariants.{Bytes, Slot, End as PeerEnd}
+use Rattle.interleave.specs.declared.demux.TheConstants.{MAX_WAITING_BYTES}
 use Rattle.interleave.specs.Elements.{IsFirst}
 use Rattle.interleave.specs.Streams.{AreInputElements}
 use Rattle.interleave.specs.declared.elements.Step.TheVariants.{Request, More}
@@ -46,8 +47,8 @@ abbrev pub HasTakenEvent : Heard → ℕ → Option ConnEnd → Connection → T
 HasTakenEvent PeerEnd waiting end c = end ≡ Some Ended
 HasTakenEvent (Slot slot) waiting end c = IsProcessed end c
 HasTakenEvent (Bytes n) waiting end c =
-    ((131072 < waiting + n) × (end ≡ Some TooMuchInput))
-    ⊎ ((waiting + n < 131073) × IsProcessed end c)
+    ((MAX_WAITING_BYTES < waiting + n) × (end ≡ Some TooMuchInput))
+    ⊎ ((waiting + n ≤ MAX_WAITING_BYTES) × IsProcessed end c)
 
 -- however bytes were split into elements and this rest, they are split into elements and that one
 -- too
@@ -57,7 +58,7 @@ pub record CutsOn (old new : List ℕ) : Type 0 where
 
 -- what waits, with the bytes that an event brought; where too many would wait, without them
 abbrev pub with_heard : List ℕ → Heard → List ℕ → List ℕ
-with_heard input (Bytes n) into = if nat_lt 131072 (length input + n)
+with_heard input (Bytes n) into = if nat_lt MAX_WAITING_BYTES (length input + n)
     then input else input ++ take n into
 with_heard input (Slot slot) into = input
 with_heard input PeerEnd into = input

@@ -19,7 +19,7 @@ use Rattle.admission.specs.Makers.{PlacedEntry}
 use Rattle.plan_cert.specs.declared.Segment.{Segment}
 use Rattle.slot_calendar.specs.declared.calendar.Overflow.{Overflow}
 use Rattle.station.specs.Ledgers.{play_of}
-use Rattle.session.specs.Replies.{overflow_text}
+use Rattle.rtsp_replies.specs.Replies.{overflow_text}
 use Rattle.session.specs.SessionStates.{SessionState, sequence_of}
 use Rattle.conn.specs.InputSteps.{Outcome, Unasked, Entered, WasFull, Offered, SentPart, Film, Text}
 use Rattle.conn.specs.InputSteps.{Stage}

@@ -12,7 +12,7 @@ use Rattle.plan_cert.specs.declared.Segment.{Segment}
 use Rattle.slot_calendar.specs.Calendars.{IsFirstOverflow}
 use Rattle.slot_calendar.specs.Profiles.{capacity_at}
 use Rattle.session.specs.RequestEffects.{HasCode}
-use Rattle.session.specs.Replies.{full_text, overflow_text}
+use Rattle.rtsp_replies.specs.Replies.{full_text, overflow_text}
 use Rattle.session.specs.SessionStates.{SessionState}
 use Rattle.station.specs.Seats.{SeatState}
 use Rattle.conn.specs.InputSteps.{Outcome, Entered, WasFull, SentPart, Film, Text}

@@ -1,6 +1,7 @@
 -- What a connection does with one element of its input, and with one slot.
 use Rattle.std.specs.Prelude.{◌≡◌, ℕ, ◌^◌, ◌<◌, ◌⊎◌, ◌++◌, ◌&&◌, true, false, if◌then◌else◌, List}
 use Rattle.std.specs.Prelude.{[], ◌∷◌, length, take, drop, Option, Some, None, Ok}
+use Rattle.interleave.specs.declared.demux.TheConstants.{MAX_WAITING_BYTES}
 use Rattle.interleave.specs.Elements.{IsFirst}
 use Rattle.interleave.specs.declared.elements.Step.TheVariants.{Block, Request, Skip}
 use Rattle.admission.specs.declared.entries.Answer.{Answer}
@@ -37,7 +38,7 @@ held stage = length stage.input
 
 -- the most that may be held
 abbrev pub most_held : ℕ
-most_held = 131072
+most_held = MAX_WAITING_BYTES
 
 -- what is sent at once: bytes of a film, its reports among them, or a reply
 pub data SentPart : Type 0 where

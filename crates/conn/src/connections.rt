@@ -33,7 +33,7 @@ use station::{Booking, PlayRefused, Seat, Station};
 use std::alloc::Global;
 use std::mem;
 use std::sync::Wait;
-use vod_base::{Heard, Link, LinkFault, NoMemory};
+use vod_base::{Heard, Link, LinkFault, MAX_READ_BYTES, NoMemory};
 
 /// A connection between two events.
 pub(crate) struct Connection<'a> {
@@ -92,7 +92,7 @@ impl<'a> Connection<'a> {
         requires quiet { IsQuiet seat.old.mine self.old }
         requires torn { self.old.session.torn ≡ false }
         requires heard { IsWithin heard (list_length bytes.now) }
-        requires few { list_length bytes.now ≤ 16384 }
+        requires few { list_length bytes.now ≤ MAX_READ_BYTES }
         requires waiting { IsWaiting self.old }
         requires lost { self.old.session.lost ≡ false }
         ensures kept { KeepsReservations seat.old seat.new self.old self.new }

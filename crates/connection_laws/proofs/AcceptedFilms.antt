@@ -84,9 +84,9 @@ refuses_none LinkFault decided = tt
 refuses_none SinkFault decided = tt
 refuses_none NoMemory decided = tt
 
--- ---- the whole watching
+-- ---- the entire watching
 
--- what a client received is a front of a film's stream
+-- what a client received is a prefix of a film's stream
 pub record IsReceived (s : FilmStream) (heard : List IoEvent) : Type 0 where
   pub count : ℕ
   pub front : heard_bytes heard ≡ take count (framed_bytes (all_of s.x))
@@ -116,7 +116,7 @@ runs_idle : (old new : WatchStage) (rounds : List Round) → IsFirst old.rest (O
 runs_idle old new [] idle all = subst (λ (s : WatchStage). IsFirst s.rest (Ok More)) (sym all) idle
 runs_idle old new (round ∷ rounds) idle all = runs_idle all.0 new rounds all.1.1 all.1.2
 
--- where no whole element waits, all elements were received
+-- where no complete element waits, all elements were received
 whole_stream : {elements : List (List ℕ)} {rest : List ℕ} (all : List (List ℕ)) → AreAlone all
     → AreInputElements (framed_bytes all) elements rest → IsFirst rest (Ok More) → elements ≡ all
 whole_stream {elements} {rest} all alone cut idle =

@@ -1,4 +1,4 @@
--- The plays of a course are those that its entries tell.
+-- The plays of a course are those that its entries record.
 use Rattle.std.specs.Prelude.{⊤}
 use Rattle.std.proofs.Common.{◌≡◌, ℕ, ◌++◌, List, [], ◌∷◌, map, refl, ap, sym, ◌∙◌, subst}
 use Rattle.std.proofs.lemmas.List.{map-append}
@@ -28,7 +28,7 @@ use Rattle.connection_laws.proofs.FilmBytes.{Stands, opened_stands, round_step, 
 use Rattle.connection_laws.proofs.RequestEffects.{Ends, Starts, Stays, TurnsAs, told_by, turns_as}
 use Rattle.connection_laws.proofs.AnswerPremises.{HaltGiven}
 
--- the play that begins is the one that the entry tells, if any
+-- the play that begins is the one that the entry records, if any
 abbrev pub IsToldBy : Awaited → Outcome → Type 0
 IsToldBy asked outcome = (askings : List StationRequest) (made : List PlacedEntry)
     → ((all : ℕ) → kept_in askings all ≡ kept_among made all)
@@ -122,7 +122,7 @@ takes_outcomes old new (Passed n ∷ takings) takes = takes_outcomes takes.0 new
 takes_outcomes old new (Answered message outcome parts ∷ takings) takes =
     ap (λ os. outcome ∷ os) (takes_outcomes takes.0 new takings takes.1.1)
 
--- the halt of a play that is done tells none
+-- the halt of a play that is done records none
 halt_told : {s : SessionState} (asked : Awaited) (halt : Outcome) →
     ((answer : _) (later : List StationRequest) → plays_admitted asked answer later ≡ []) → HaltGiven s halt →
     IsToldBy asked halt
@@ -183,7 +183,7 @@ course_outcomes old new (round ∷ rounds) follows =
     (takes_outcomes runs.opened follows.0 round.takings runs.takes)
     ∙ ap (λ os. round_outcomes round ++ os) (course_outcomes follows.0 new rounds follows.1.1)
 
--- the plays of a course are those that its entries tell
+-- the plays of a course are those that its entries record
 pub plays_booked : (films : List Stored) (settings : Settings) (words : List ℕ) (rounds : List Round) (new : Stage)
     (follows : IsCourseBetween (first_stage films settings words) rounds new)
     → map booking_of (plays_of (askings_of (first_stage films settings words) rounds new follows))

@@ -1,4 +1,4 @@
--- What a client has heard, event by event: the elements in front of the bytes that came.
+-- What a client has received, event by event: the elements in front of the bytes that came.
 use Rattle.std.proofs.Common.{◌≡◌, ℕ, ◌+◌, ◌<◌, ◌≤◌, ◌==◌, ◌||◌, Bool, true, false, nat_lt, List}
 use Rattle.std.proofs.Common.{[], ◌∷◌, ◌++◌, take, refl, sym, ap, ap₂, subst, ◌∙◌, append_assoc}
 use Rattle.std.proofs.Common.{arith, inl, inr}
@@ -23,7 +23,7 @@ use Rattle.connection_laws.proofs.FirstFrames.{HasGoneOn, gone_on}
 use Rattle.connection_laws.proofs.HistorySums.{Sum, replies_grow, steps, steps_on, sum_after, sum_of}
 use Rattle.connection_laws.proofs.UnitSizes.{frames_parts, moments_parts}
 
--- the bytes that were heard
+-- the bytes that were received
 abbrev pub rounds_heard : List Round → List ℕ
 rounds_heard [] = []
 rounds_heard (round ∷ rounds) = bytes_in round.event ++ rounds_heard rounds
@@ -31,7 +31,7 @@ rounds_heard (round ∷ rounds) = bytes_in round.event ++ rounds_heard rounds
 abbrev pub no_sum : Sum
 no_sum = sum_of []
 
--- where a client stands that heard these bytes
+-- where a client stands that received these bytes
 pub record Heard (bytes : List ℕ) (at : WatchStage) : Type 0 where
   pub elements : List (List ℕ)
   pub cut : AreInputElements bytes elements at.rest
@@ -123,7 +123,7 @@ heard_all bytes old new (round ∷ rounds) heard all =
 pub replies_later : (h : History) (ms : List ClientEvent) → replies h ≤ replies (history_after h ms)
 replies_later h ms = omega (arith, replies_grow (sum_of h) ms, ap (λ (s : Sum). s.replies) (sum_after h ms))
 
--- the play's first slot stays, once its reply was heard
+-- the play's first slot stays, once its reply was received
 slot_once : (h : History) (m : ClientEvent) → 1 < replies h → (first_slot (m ∷ h) ≡ first_slot h) × (1 < replies (m ∷
     h))
 slot_once h (Reply m) playing =

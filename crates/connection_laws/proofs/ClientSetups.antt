@@ -1,5 +1,5 @@
 -- What the requests of a client that wishes for a film settle: its channels, its buffer, its delay and its film, and
--- the whole run.
+-- the entire run.
 use Rattle.std.proofs.Common.{◌≡◌, ◌≢◌, ℕ, ◌+◌, ◌-◌, ◌<◌, ◌^◌, ◌==◌, not, true, false, List, [], ◌∷◌, ◌++◌}
 use Rattle.std.proofs.Common.{Option, Some, length, take, drop, get_or, codes, decimal, string_bytes, nat_lt}
 use Rattle.std.proofs.Common.{slice_range}
@@ -36,7 +36,7 @@ use Rattle.session.specs.declared.states.Setup.{Setup}
 use Rattle.session.specs.Films.{IsFilmAt, Names}
 use Rattle.vod_base.specs.Limits.{WritesNumber}
 use Rattle.session.specs.Setups.{AreChannelsOf, AsksForSetup, IsChosen}
-use Rattle.session.proofs.SetupLemmas.{IsSetupRequest}
+use Rattle.session_laws.proofs.SetupLemmas.{IsSetupRequest}
 
 -- ---- the film that a URL names
 

@@ -1,4 +1,4 @@
--- Each reply to a client's SETUP, PLAY and TEARDOWN is a whole message.
+-- Each reply to a client's SETUP, PLAY and TEARDOWN is a complete message.
 use Rattle.std.specs.Prelude.{⊤}
 use Rattle.std.proofs.Common.{◌≡◌, ℕ, ◌<◌, ◌≤◌, ◌^◌, ◌⊎◌, true, nat_lt, nat_le, List, [], ◌∷◌, ◌++◌}
 use Rattle.std.proofs.Common.{◌&&◌, ◌==◌, not, map, get_or, codes, decimal, string_bytes, length, sym, ap, subst}
@@ -10,7 +10,7 @@ use Rattle.std.proofs.lemmas.Fmt.{length-decimal-le}
 use Rattle.std.proofs.lemmas.List.{length-append}
 use Rattle.film_frames.specs.declared.stored_films.Stored.{Stored}
 use Rattle.admission.specs.declared.entries.Answer.{Answer}
-use Rattle.admission.specs.declared.entries.Answer.TheVariants.{Admitted}
+use Rattle.admission.specs.declared.entries.Answer.TheVariants.{Admitted, Halted}
 use Rattle.admission.specs.Makers.{PlacedEntry}
 use Rattle.rtsp_client.specs.RequestParts.{teardown_parts}
 use Rattle.rtsp_client.specs.Requests.{film_url, play_text, setup_text, teardown_text}
@@ -25,14 +25,18 @@ use Rattle.vod_base.specs.Links.{IoEvent, HeardBytes, HeardEnd, HeardSlot, Sent}
 use Rattle.session.specs.declared.commands.Ask.{Ask}
 use Rattle.session.specs.declared.commands.Ask.TheVariants.{Reply as AskReply, Play as AskPlay, Halt as AskHalt}
 use Rattle.session.specs.declared.commands.Ask.TheVariants.{Look as AskLook, Offer as AskOffer}
-use Rattle.session.specs.EndLaws.{HaltsPlay, IsTeardown}
-use Rattle.session.specs.RequestSteps.{Hears}
+use Rattle.session_laws.specs.EndLaws.{HaltsPlay}
+use Rattle.session.specs.Laws.{IsTeardown}
+use Rattle.session_laws.specs.MethodLaws.{setup_in}
+use Rattle.rtsp_replies.specs.Replies.{session_text}
+use Rattle.session.specs.RequestSteps.{Hears, after_admission}
 use Rattle.session.specs.Laws.{InitStage, PlayingStage, ReadyStage, StateKind as SessionStage, stage_of}
 use Rattle.session.specs.SettingRanges.{AreFilms}
 use Rattle.session.specs.SessionStates.{SessionState}
-use Rattle.session.specs.CompleteReplies.{IsMessage, HasValidIds, LeavesRoom, RepliesAreComplete}
-use Rattle.session.proofs.PauseTeardownLemmas.{teardown_ends}
-use Rattle.session.proofs.CompleteReplyLemmas.{keeps_named, replies_whole}
+use Rattle.session_laws.specs.CompleteReplies.{HasValidIds, LeavesRoom, RepliesAreComplete}
+use Rattle.rtsp_replies.specs.Messages.{IsMessage}
+use Rattle.session_laws.proofs.PauseTeardownLemmas.{teardown_ends}
+use Rattle.session_laws.proofs.CompleteReplyLemmas.{keeps_named, replies_whole}
 use Rattle.conn.specs.EventSteps.{Round, Runs}
 use Rattle.conn.specs.InputSteps.{Answered, Entered, HasHeard, IsAskAnswered, IsLookAnswered, IsPlayAnswered, IsReplied}
 use Rattle.conn.specs.InputSteps.{Offered}
@@ -44,6 +48,11 @@ use Rattle.connection_laws.specs.Replies.{PlacedText, replies_of, takings_replie
 use Rattle.connection_laws.proofs.UniqueResults.{answered_names, names_in, replied_names, stepped_names}
 use Rattle.connection_laws.proofs.Requests.{rounds_requests, takings_requests}
 use Rattle.connection_laws.proofs.SetupOnly.{Beginning}
+use Rattle.connection_laws.proofs.KeptSetups.{IsSameSetup, halt_setup, opened_setup, replied_setup}
+use Rattle.connection_laws.proofs.PrintedTexts.{IsPrinted, printed_w64}
+use Rattle.connection_laws.specs.WatchEnds.{AreAnswers}
+use Rattle.connection_laws.proofs.ReplyReadings.{teardown_read as read_teardown}
+use Rattle.connection_laws.proofs.RequestReplies.{IsNamed, named_still, teardown_replied}
 
 -- ---- the films and the id stay
 
@@ -88,23 +97,47 @@ IsOwnReply (AskHalt keep) = ⊤
 IsOwnReply (AskLook slot) = ⊥
 IsOwnReply (AskOffer plan offers) = ⊥
 
--- what is asked was answered, and each reply that it can have is whole
+-- what is asked was answered, and each reply that it can have is complete
 pub record HasWholeReply (asking : SessionState) (ask : Ask) (outcome : Outcome) (new : SessionState) : Type 0 where
   pub whole : RepliesAreComplete ask asking
   pub answered : IsAskAnswered asking ask outcome new
 
+-- the session's own reply is the one that it made
+own_text : (asking new : SessionState) (ask : Ask) (outcome : Outcome) → IsOwnReply ask
+    → IsAskAnswered asking ask outcome new → new.text ≡ asking.text
+own_text asking new AskReply Unasked own answered = ap (λ (s : SessionState). s.text) answered
+own_text asking new AskReply (Entered placed) own answered = absurd answered
+own_text asking new AskReply (WasFull more entries live) own answered = absurd answered
+own_text asking new AskReply (Offered at_slot note) own answered = absurd answered
+own_text asking new (AskPlay plan) outcome own answered = absurd own
+own_text asking new (AskHalt keep) outcome own answered = halted_text asking keep outcome new answered
+own_text asking new (AskLook slot) outcome own answered = absurd own
+own_text asking new (AskOffer plan offers) outcome own answered = absurd own
+
+-- and what SETUP settled stays
+own_setup : (asking new : SessionState) (ask : Ask) (outcome : Outcome) → IsOwnReply ask
+    → IsAskAnswered asking ask outcome new → setup_in new.state ≡ setup_in asking.state
+own_setup asking new AskReply Unasked own answered = ap (λ (s : SessionState). setup_in s.state) answered
+own_setup asking new AskReply (Entered placed) own answered = absurd answered
+own_setup asking new AskReply (WasFull more entries live) own answered = absurd answered
+own_setup asking new AskReply (Offered at_slot note) own answered = absurd answered
+own_setup asking new (AskPlay plan) outcome own answered = absurd own
+own_setup asking new (AskHalt keep) outcome own answered = halt_setup asking keep outcome new answered
+own_setup asking new (AskLook slot) outcome own answered = absurd own
+own_setup asking new (AskOffer plan offers) outcome own answered = absurd own
+
+own_complete : (asking : SessionState) (ask : Ask) → IsOwnReply ask → RepliesAreComplete ask asking
+    → IsMessage asking.text
+own_complete asking AskReply own whole = whole
+own_complete asking (AskPlay plan) own whole = absurd own
+own_complete asking (AskHalt keep) own whole = whole
+own_complete asking (AskLook slot) own whole = absurd own
+own_complete asking (AskOffer plan offers) own whole = absurd own
+
 own_whole : {asking new : SessionState} (ask : Ask) (outcome : Outcome) → IsOwnReply ask
     → HasWholeReply asking ask outcome new → IsMessage new.text
-own_whole AskReply Unasked own has =
-    subst IsMessage (sym (ap (λ (s : SessionState). s.text) has.answered)) has.whole
-own_whole AskReply (Entered placed) own has = absurd has.answered
-own_whole AskReply (WasFull more entries live) own has = absurd has.answered
-own_whole AskReply (Offered at_slot note) own has = absurd has.answered
-own_whole (AskPlay plan) outcome own has = absurd own
-own_whole {asking} {new} (AskHalt keep) outcome own has =
-    subst IsMessage (sym (halted_text asking keep outcome new has.answered)) has.whole
-own_whole (AskLook slot) outcome own has = absurd own
-own_whole (AskOffer plan offers) outcome own has = absurd own
+own_whole {asking} {new} ask outcome own has =
+    subst IsMessage (sym (own_text asking new ask outcome own has.answered)) (own_complete asking ask own has.whole)
 
 -- the reply to a play that was admitted
 pub admitted_whole : {start : ℕ} {placed : PlacedEntry} {asking new : SessionState} (ask : Ask)
@@ -120,6 +153,25 @@ admitted_whole (AskHalt keep) is small has =
 admitted_whole {start} {placed} {asking} {new} (AskLook slot) is small has =
     let L : Answer → Type 0 = λ a. IsLookAnswered asking placed a new in absurd (subst L is has.answered.1)
 admitted_whole (AskOffer plan offers) is small has = absurd has.answered
+
+-- the session after a play was admitted
+pub record IsAdmittedFrom (asking : SessionState) (place start : ℕ) (new : SessionState) : Type 0 where
+  pub later : asking.heard < start
+  pub new_is : new ≡ after_admission asking place start
+
+pub admitted_from : {start : ℕ} (placed : PlacedEntry) (asking new : SessionState) (ask : Ask)
+    → placed.entry.answer ≡ Admitted start → IsAskAnswered asking ask (Entered placed) new
+    → IsAdmittedFrom asking placed.place start new
+admitted_from placed asking new AskReply is answered = absurd answered
+admitted_from {start} placed asking new (AskPlay plan) is answered =
+    let P : Answer → Type 0 = λ a. IsPlayAnswered asking placed a new in
+    let admitted = subst P is answered.1 in
+    record { later = admitted.0; new_is = admitted.1 }
+admitted_from {start} placed asking new (AskHalt keep) is answered =
+    let clash : Halted ≡ Admitted start = sym answered.answer ∙ is in absurd (let no : ⊥ = cc in no)
+admitted_from {start} placed asking new (AskLook slot) is answered =
+    let L : Answer → Type 0 = λ a. IsLookAnswered asking placed a new in absurd (subst L is answered.1)
+admitted_from placed asking new (AskOffer plan offers) is answered = absurd answered
 
 pub reply_whole : {old new : SessionState} {message : List ℕ} {outcome : Outcome} (heard : HasHeard old message outcome
     new)
@@ -221,7 +273,7 @@ teardowns_cut b [] rest are = (tt, are)
 teardowns_cut b (message ∷ front) rest are =
     let its = teardowns_cut b front rest are.1 in ((are.0, its.0), its.1)
 
--- the replies are whole messages
+-- the replies are complete messages
 abbrev pub AreWhole : List (List ℕ) → Type 0
 AreWhole [] = ⊤
 AreWhole (message ∷ messages) = IsMessage message × AreWhole messages
@@ -243,47 +295,101 @@ texts_whole (text ∷ texts) more are = (are.0, texts_whole texts more are.1)
 -- a session whose names are good is asked only to tear down
 pub record AsksTeardowns (b : Beginning) (session : SessionState) (requests : List (List ℕ)) : Type 0 where
   pub named : HasValidIds session
+  pub own : IsNamed b session
   pub teardowns : AreTeardowns b requests
 
--- what is taken up is answered whole, and the session keeps its names
-pub record IsAnsweredWhole (new : SessionState) (replies : List (List ℕ)) : Type 0 where
+-- what is processed is answered completely, with 200, and the session keeps its names
+pub record IsAnsweredWhole (b : Beginning) (new : SessionState) (replies : List (List ℕ)) : Type 0 where
   pub named : HasValidIds new
+  pub own : IsNamed b new
   pub whole : AreWhole replies
+  pub answers : AreAnswers replies
+
+-- an id of a session is printable
+pub id_printed : {s : SessionState} → HasValidIds s → IsPrinted s.id
+id_printed {s} named =
+    let P : List ℕ → Type 0 = λ id. IsPrinted id in subst P (sym named.id_is) (printed_w64 named.number)
+
+-- the reply to one TEARDOWN
+torn_reply : {b : Beginning} {old new : Stage} {message : List ℕ} {outcome : Outcome} {parts : List SentPart}
+    → (replied : IsReplied old message outcome parts new) → message ≡ teardown_text b.wish b.session
+    → HasValidIds old.session → IsNamed b old.session
+    → IsAnsweredWhole b new.session (replied.answered.text ∷ [])
+torn_reply {b} {old} {new} {message} {outcome} replied is valid named =
+    let heard = replied.heard in
+    let own = teardown_own {message = message} b old.session heard.asking heard.ask is heard.hears in
+    let complete = replies_whole old.session message heard.ask heard.asking valid (teardown_room b is) heard.hears in
+    let whole = own_whole heard.ask outcome own (record { whole = complete; answered = heard.answered }) in
+    let told = teardown_replied b old.session heard.ask heard.asking named is heard.hears in
+    let text : replied.answered.text ≡ session_text 3 old.session.id =
+    own_text heard.asking replied.answered heard.ask outcome own heard.answered ∙ told.text in
+    let same : IsSameSetup heard.asking replied.answered = record {
+      names = answered_names heard.asking heard.ask outcome replied.answered heard.answered;
+      setup = own_setup heard.asking replied.answered heard.ask outcome own heard.answered;
+    } in
+    let still = named_still (replied_setup replied.answered) (named_still same (named_still told.same named)) in
+    record {
+      named = answered_named replied valid;
+      own = subst (λ (s : Stage). IsNamed b s.session) (sym replied.new_is) still;
+      whole = (whole, tt);
+      answers = (read_teardown old.session.id whole (id_printed valid) text, tt);
+    }
 
 pub takings_torn : {b : Beginning} (old new : Stage) (takings : List ElementStep) (takes : TakesAll old takings new)
     → AsksTeardowns b old.session (takings_requests takings)
-    → IsAnsweredWhole new.session (takings_replies old takings new takes)
-takings_torn old new [] takes tears =
-    record { named = subst (λ (s : Stage). HasValidIds s.session) (sym takes) tears.named; whole = tt }
+    → IsAnsweredWhole b new.session (takings_replies old takings new takes)
+takings_torn {b} old new [] takes tears =
+    record {
+      named = subst (λ (s : Stage). HasValidIds s.session) (sym takes) tears.named;
+      own = subst (λ (s : Stage). IsNamed b s.session) (sym takes) tears.own;
+      whole = tt;
+      answers = tt;
+    }
 takings_torn {b} old new (Passed n ∷ takings) takes tears =
     let same : takes.0.session ≡ old.session = ap (λ (s : Stage). s.session) takes.1.0.2 in
     takings_torn {b = b} takes.0 new takings takes.1.1
-    (record { named = subst HasValidIds (sym same) tears.named; teardowns = tears.teardowns })
+    (record {
+      named = subst HasValidIds (sym same) tears.named;
+      own = subst (IsNamed b) (sym same) tears.own;
+      teardowns = tears.teardowns;
+    })
 takings_torn {b} old new (Answered message outcome parts ∷ takings) takes tears =
-    let replied = takes.1.0 in
-    let heard = replied.heard in
-    let is : message ≡ teardown_text b.wish b.session = tears.teardowns.0 in
-    let own = teardown_own {message = message} b old.session heard.asking heard.ask is heard.hears in
-    let whole = replies_whole old.session message heard.ask heard.asking tears.named (teardown_room b is) heard.hears in
+    let one = torn_reply {b = b} takes.1.0 tears.teardowns.0 tears.named tears.own in
     let rest = takings_torn {b = b} takes.0 new takings takes.1.1
-    (record { named = answered_named replied tears.named; teardowns = tears.teardowns.1 }) in
+    (record { named = one.named; own = one.own; teardowns = tears.teardowns.1 }) in
     record {
       named = rest.named;
-      whole = (own_whole heard.ask outcome own (record { whole = whole; answered = heard.answered }), rest.whole);
+      own = rest.own;
+      whole = (one.whole.0, rest.whole);
+      answers = (one.answers.0, rest.answers);
     }
 
--- what is taken up and what comes later
-pub whole_later : {session : SessionState} {replies : List (List ℕ)} (later : List (List ℕ))
-    → IsAnsweredWhole session replies → (HasValidIds session → AreWhole later) → AreWhole (replies ++ later)
-whole_later {replies = replies} later first rest = whole_join replies later first.whole (rest first.named)
+answers_join : (front rest : List (List ℕ)) → AreAnswers front → AreAnswers rest → AreAnswers (front ++ rest)
+answers_join [] rest are more = more
+answers_join (message ∷ front) rest are more = (are.0, answers_join front rest are.1 more)
+
+-- what is processed and what comes later
+pub whole_later : {b : Beginning} {session : SessionState} {replies : List (List ℕ)} (later : List (List ℕ))
+    → IsAnsweredWhole b session replies
+    → (HasValidIds session → IsNamed b session → AreWhole later × AreAnswers later)
+    → AreWhole (replies ++ later) × AreAnswers (replies ++ later)
+whole_later {replies = replies} later first rest =
+    let its = rest first.named first.own in
+    (whole_join replies later first.whole its.0, answers_join replies later first.answers its.1)
 
 pub rounds_torn : {b : Beginning} (old new : Stage) (rounds : List Round) (follows : IsCourseBetween old rounds new)
-    → AsksTeardowns b old.session (rounds_requests rounds) → AreWhole (replies_of old rounds new follows)
-rounds_torn old new [] follows tears = tt
+    → AsksTeardowns b old.session (rounds_requests rounds)
+    → AreWhole (replies_of old rounds new follows) × AreAnswers (replies_of old rounds new follows)
+rounds_torn old new [] follows tears = (tt, tt)
 rounds_torn {b} old new (round ∷ rounds) follows tears =
     let runs = follows.1.0 in
     let cut = teardowns_cut b (takings_requests round.takings) (rounds_requests rounds) tears.teardowns in
     let first = takings_torn {b = b} runs.opened follows.0 round.takings runs.takes
-    (record { named = opened_named runs tears.named; teardowns = cut.0 }) in
-    whole_later (replies_of follows.0 rounds new follows.1.1) first
-    (λ named. rounds_torn {b = b} follows.0 new rounds follows.1.1 (record { named = named; teardowns = cut.1 }))
+    (record {
+      named = opened_named runs tears.named;
+      own = named_still (opened_setup runs) tears.own;
+      teardowns = cut.0;
+    }) in
+    whole_later {b = b} (replies_of follows.0 rounds new follows.1.1) first
+    (λ named own. rounds_torn {b = b} follows.0 new rounds follows.1.1
+    (record { named = named; own = own; teardowns = cut.1 }))

@@ -1,4 +1,4 @@
--- A film that is watched over a link that carries it slot by slot comes back whole.
+-- A film that is watched over a link that carries it slot by slot comes back complete.
 use Rattle.std.proofs.Common.{ℕ, ◌-◌, List, [], ◌∷◌, ◌++◌, Some, ap, subst, sym, ◌∙◌}
 use Rattle.vod_base.specs.Links.{IoEvent}
 use Rattle.film_frames.specs.declared.stored_films.Stored.{Stored}

@@ -4,7 +4,7 @@ use Rattle.conn.specs.EventSteps.{Round, Runs, RunsAll}
 use Rattle.conn.specs.InputSteps.{Stage}
 use Rattle.connection_laws.specs.Courses.{IsCourseBetween, IsCourseSplit}
 
--- rounds after each of which all was taken up that could be
+-- rounds after each of which all was processed that could be
 pub follows_all : (old new : Stage) (rounds : List Round) → RunsAll old rounds new → IsCourseBetween old rounds new
 follows_all old new [] runs = runs
 follows_all old new (round ∷ rounds) runs = (runs.0, (runs.1.0, follows_all runs.0 new rounds runs.1.2))
@@ -16,7 +16,7 @@ follows_last {new} {round} old [] runs last = (new, (subst (λ s. Runs s round n
 follows_last {mid} {new} {round} old (first ∷ rounds) runs last =
     (runs.0, (runs.1.0, follows_last runs.0 rounds runs.1.2 last))
 
--- each front of a course is one
+-- each prefix of a course is one
 abbrev pub parts_of : (old new : Stage) (first rest : List Round) → IsCourseBetween old (first ++ rest) new
     → IsCourseSplit old first rest new
 parts_of old new [] rest follows = (old, (refl, follows))

@@ -1,4 +1,4 @@
--- The elements of a connection's input that are taken up, one after another: each byte CR or LF, each block, each
+-- The elements of a connection's input that are processed, one after another: each byte CR or LF, each block, each
 -- request.
 use Rattle.std.proofs.Common.{◌≡◌, ◌⊎◌, ℕ, zero, suc, ◌<◌, ◌≤◌, ◌++◌, true, false, List, [], ◌∷◌}
 use Rattle.std.proofs.Common.{Ok, Err, length, take, drop, get_or, refl, ap, sym, ◌∙◌, subst, inl}
@@ -34,7 +34,7 @@ use Rattle.connection_laws.specs.InputSplits.{heard_requests_taken}
 use Rattle.connection_laws.proofs.UniqueResults.{answered_names, answers_same, hearing, hears_same, replied_names}
 use Rattle.connection_laws.proofs.UniqueResults.{AnswersAlike}
 
--- a request that was taken up, what was asked, and what came of it
+-- a request that was processed, what was asked, and what came of it
 pub record StationCall : Type 0 where
   pub session : SessionState
   pub message : List ℕ
@@ -92,7 +92,7 @@ abbrev pub GoesAll : Stage → List Element → Stage → Type 0
 GoesAll old [] new = new ≡ old
 GoesAll old (element ∷ elements) new = (mid : Stage) × (Goes old element mid × GoesAll mid elements new)
 
--- what is sent meanwhile, what the station answers, and the requests that are heard
+-- what is sent meanwhile, what the station answers, and the requests that are received
 abbrev pub elements_bytes : List Element → List ℕ
 elements_bytes [] = []
 elements_bytes (Over n ∷ elements) = elements_bytes elements
@@ -111,7 +111,7 @@ elements_hearings (RequestElement turn ∷ elements) = hearing turn.session turn
 
 -- ---- joined, and with more input
 
--- elements that are taken up from a stage on
+-- elements that are processed from a stage on
 pub record LaterElements : Type 0 where
   pub old : Stage
   pub new : Stage
@@ -181,7 +181,7 @@ goes_grow old new [] more goes = ap (λ s. longer s more) goes
 goes_grow old new (element ∷ elements) more goes =
     (longer goes.0 more, (element_grows old goes.0 element more goes.1.0, goes_grow goes.0 new elements more goes.1.1))
 
--- ---- what is taken up
+-- ---- what is processed
 
 pub record Path (old new : Stage) (bytes : List ℕ) (answers : List Outcome) (hearings : List HeardRequest) : Type 0
   where
@@ -285,7 +285,7 @@ path_of old new (Answered message outcome parts ∷ takings) takes =
     path_then
     (path_taken old takes.0 message outcome parts replied) (path_of takes.0 new takings takes.1.1)
 
--- ---- where nothing more can be taken up
+-- ---- where nothing more can be processed
 
 first_element : (old new : Stage) (element : Element) → Goes old element new → (n : ℕ) × IsElementLength old.input n
 first_element old new (Over n) goes = (n, over_element old.input n goes.over)
@@ -406,12 +406,12 @@ turns_same {old} {one} {other} {turn} {again} given films taken also alike =
       both.1,
     )
 
--- these elements lead from a stage to one at which nothing more can be taken up
+-- these elements lead from a stage to one at which nothing more can be processed
 pub record PathDone (old : Stage) (xs : List Element) (one : Stage) : Type 0 where
   pub goes : GoesAll old xs one
   pub done : IsDrained one
 
--- two paths that go on with the same answers, and that lack memory alike
+-- two paths that go on with the same answers, and that run out of memory alike
 pub record PathsAlike (xs ys : List Element) (ones others : List Outcome) (heard also : List HeardRequest) : Type 0
   where
     pub answers : AreSameAnswers (elements_answers xs ++ ones) (elements_answers ys ++ others)

@@ -1,4 +1,4 @@
--- A stream of whole elements, cut at any place.
+-- A stream of complete elements, split at any place.
 use Rattle.std.proofs.Common.{◌≡◌, ℕ, suc, ◌+◌, ◌-◌, ◌<◌, nat_le, cond, List, [], ◌∷◌, ◌++◌, length, take, drop, refl}
 use Rattle.std.proofs.Common.{sym, ap, subst, ◌∙◌, arith, inl, inr}
 use Rattle.std.proofs.lemmas.Bool.{cases_lt, le-leb, lt-leb}
@@ -22,7 +22,7 @@ pub alone_append : (xs ys : List (List ℕ)) → AreAlone xs → AreAlone ys →
 alone_append [] ys one two = two
 alone_append (x ∷ xs) ys one two = (one.0, alone_append xs ys one.1 two)
 
--- the front of an element at which a stream is cut
+-- the prefix of an element at which a stream is split
 abbrev pub rest_at : ℕ → List (List ℕ) → List ℕ
 rest_at c [] = []
 rest_at c (element ∷ elements) = cond (nat_le (length element) c) (rest_at (c - length element) elements)
@@ -59,7 +59,7 @@ stream_short p t c alone less =
     ) in
     (same, none)
 
--- a front of a stream is its whole elements in front, and the front of the next one
+-- a prefix of a stream is its complete elements in front, and a prefix of the next one
 pub cut_at : (ps : List (List ℕ)) (c : ℕ) → AreAlone ps
     → IsStream (take c (framed_bytes ps)) (take (count_ended c ps) ps) (rest_at c ps)
 cut_at [] c alone = let P : List ℕ → Type 0 = λ xs. IsStream xs [] [] in subst P (sym (take-nil c)) (refl, no_element)
@@ -96,13 +96,13 @@ sends_front : {rest : List ℕ} {all cut : List (List ℕ)} (end : List ℕ) (mo
 sends_front {all} {cut} end [] is are none = ([], sym (append-nil cut ∙ is ∙ append-nil all))
 sends_front {all} {cut} end (element ∷ more) is are none = absurd (none are.0 are.1.0)
 
--- bytes that are a front of framed elements, each of which stands alone
+-- bytes that are a prefix of framed elements, each of which stands alone
 pub record FramedFront (bytes : List ℕ) (ps : List (List ℕ)) : Type 0 where
   pub count : ℕ
   pub alone : AreAlone ps
   pub front_is : bytes ≡ take count (framed_bytes ps)
 
--- whatever was cut is a front of the elements
+-- whatever was split off is a prefix of the elements
 pub cut_front : {bytes rest : List ℕ} {n : ℕ} {ps : List (List ℕ)} (front : FramedFront bytes ps)
     (cut : List (List ℕ)) → AreInputElements bytes cut rest → IsElementLength rest n →
     ((more : List (List ℕ)) × (take (count_ended front.count ps) ps ≡ (cut ++ take n rest ∷ []) ++ more))

@@ -115,7 +115,7 @@ stream_replies wish stored course played P is = is
 first_stands : (course : Course) → Stands (first_stage course.films course.settings course.words).session
 first_stands course = record { rest = refl; sound = tt }
 
--- what was sent of a whole play by a slot
+-- what was sent of an entire play by a slot
 pub record IsSentThrough (play : FilmPlay) (rounds : List Round) : Type 0 where
   pub film : rounds_film rounds ≡ film_written (greatest_slot rounds) (play ∷ [])
   pub plan : IsPlan play.plan
@@ -318,7 +318,7 @@ fed {wish} {stored} {course} {bytes} {j} played written =
     let F : List ℕ → Type 0 = λ b. IsFed wish stored.film (stream_of wish stored course played) b j in
     subst F are (fed_by played whole.first whole.later j whole.parts slot)
 
--- ---- all that was sent is a front of the stream
+-- ---- all that was sent is a prefix of the stream
 
 pub all_sent : (wish : Wish) (stored : Stored) (course : Course) (played : HasPlayedWhole wish stored course)
     → IsFrontOf (sent_bytes (rounds_doings course.rounds)) (framed_bytes (all_of (stream_of wish stored course played)))
@@ -399,7 +399,7 @@ all_sent_whole {wish} {stored} {course} played last others later =
     ap (λ (l : List ℕ). length l) front.is ∙ length-take front.count (framed_bytes (all_of x)) in
     front.is ∙ take_all front.count (framed_bytes (all_of x)) (omega (arith, count, many))
 
--- a front of a front
+-- a prefix of a prefix
 pub front_again : (bytes mid all : List ℕ) (n : ℕ) → bytes ≡ take n mid → IsFrontOf mid all → IsFrontOf bytes all
 front_again bytes mid all n is front =
     let size : length mid ≡ min front.count (length all) = ap (λ (l : List ℕ). length l) front.is

@@ -24,7 +24,7 @@ use Rattle.session.specs.declared.states.State.{State}
 use Rattle.session.specs.declared.states.State.TheVariants.{Init, Ready, Playing, Stopping}
 use Rattle.session.specs.SlotSteps.{after_slot}
 use Rattle.session.specs.SessionStates.{NoAnswer, SessionState, awaited_answer_of, open_in}
-use Rattle.session.proofs.RequestShapes.{HearsAs, Replies, SetsUp, AsksPlay, Stops, AsksLook, AsksOffer, hears_as}
+use Rattle.session_laws.proofs.RequestShapes.{HearsAs, Replies, SetsUp, AsksPlay, Stops, AsksLook, AsksOffer, hears_as}
 use Rattle.conn.specs.Agreement.{Activity, HasDone, doings_outcomes}
 use Rattle.conn.specs.EventSteps.{Comes, Ending, Unheard, PeerEnded, Overfull, AtElement, InSlot, InReply}
 use Rattle.conn.specs.EventSteps.{Ends, Round, Runs, RunsAll, entries_in}
@@ -42,7 +42,7 @@ use Rattle.connection_laws.proofs.FilmBytes.{Stands}
 use Rattle.connection_laws.proofs.CourseNotes.{ending_rest, plays_noted, stands_all, turns_told}
 use Rattle.connection_laws.proofs.PlayNotes.{begun_note, no_note}
 
--- the play that an answer's entry tells
+-- the play that an answer's entry records
 abbrev placed_by : Outcome → List PlacedEntry → List PlacedPlay
 placed_by Unasked made = []
 placed_by (Entered placed) made =
@@ -60,7 +60,7 @@ record Sequel : Type 0 where
   made : List PlacedEntry
   keeps : KeepsAs turns made
 
--- a turn's note is that of the play that its entry tells, if any
+-- a turn's note is that of the play that its entry records, if any
 abbrev IsNoted : SessionState → Outcome → Type 0
 IsNoted asking outcome = (later : Sequel)
     → map noted_play (notes_of_calls asking outcome later.turns) ≡ placed_by outcome later.made
@@ -137,7 +137,7 @@ not_look {sequence} looks prepared asks = let no : Look sequence ≡ Play prepar
 not_nothing : {awaited : Awaited} → awaited ≡ Nothing → (prepared : Prepared) → awaited ≡ Play prepared → ⊥
 not_nothing rest prepared asks = let no : Nothing ≡ Play prepared = sym rest ∙ asks in cc no
 
--- the note of a play is what its entry tells, and what is kept by what comes later
+-- the note of a play is what its entry records, and what is kept by what comes later
 note_is : (setup : Setup) (run : Run) (place : ℕ) (admitted : Option Booked) (later : Sequel)
     → map noted_play (noted_for setup run place admitted later.turns)
     ≡ map (placed_play place) (booked_by admitted later.made)

@@ -1,4 +1,4 @@
--- What was sent where a send failed is a front of what a longer course sends.
+-- What was sent where a send failed is a prefix of what a longer course sends.
 use Rattle.std.proofs.Common.{◌≡◌, ℕ, ◌+◌, ◌++◌, ◌&&◌, if◌then◌else◌, Bool, true, false, List, [], ◌∷◌, length, drop}
 use Rattle.std.proofs.Common.{arith, refl, sym, ap, subst, ◌∙◌}
 use Rattle.conn.proofs.CourseSteps.{takings_bytes-append}
@@ -27,7 +27,7 @@ use Rattle.connection_laws.proofs.FilmBytes.{Stands, course_step, stands_by, rep
 use Rattle.connection_laws.specs.Courses.{askings_of}
 use Rattle.conn.specs.Films.{rounds_film}
 
--- ---- fronts
+-- ---- prefixes
 front_of : (xs ys : List ℕ) → IsPrefixOf xs (xs ++ ys)
 front_of xs ys = (length xs, (omega (arith, length-append xs ys), sym (take_at xs ys (length xs) refl)))
 

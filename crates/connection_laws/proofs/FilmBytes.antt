@@ -231,7 +231,7 @@ unasked_step : (s : SessionState) (halt : Outcome) (new : SessionState) → Stan
 unasked_step s halt new stands finished =
     unasked_same s halt new stands (subst (λ a. IsFinished (awaited_answer_of a) s halt new) stands.rest finished)
 
--- a slot that is taken up by what is being sent
+-- a slot that is processed by what is being sent
 finished_step : {s : SessionState} {halt : Outcome} {new : SessionState} {done : Bool}
     → IsSound (sends_in s.state) s.waits s.heard → is_done_in s.state ≡ done
     → s.awaited ≡ (if done then Halt (sent_in s.state) Done else Nothing)

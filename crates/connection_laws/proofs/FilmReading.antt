@@ -1,4 +1,4 @@
--- What a client reads of a whole film's blocks: the sizes of its units, the time of its pictures,
+-- What a client reads of an entire film's blocks: the sizes of its units, the time of its pictures,
 -- and its bytes.
 use Rattle.std.proofs.Common.{◌≡◌, ℕ, ◌+◌, ◌-◌, ◌<◌, ◌≤◌, ◌==◌, true, nat_lt, min, List, [], ◌∷◌}
 use Rattle.std.proofs.Common.{length, take, drop, map, sum, Some, slice_get, refl, sym, ap, subst}
@@ -38,7 +38,7 @@ film_run film identity = run_of film 0 (length film.units.items) identity
 abbrev pub film_sizes : Film → List ℕ
 film_sizes film = map (λ u. wire_size film.slice_starts.items u) film.units.items
 
--- the blocks of a stream are those of a whole film
+-- the blocks of a stream are those of an entire film
 pub record IsFilmIn (film : Film) (identity : Identity) (x : Stream) : Type 0 where
   pub media : identity.channel ≡ 0
   pub control : identity.control ≡ 1
@@ -107,7 +107,7 @@ time_by {film} {identity} {x} k (unit ∷ items) items_are is =
       control = is.control;
     }) k items (begun_sum x) refl some) begins good)
 
--- the time of a picture and the number of units, by what was heard
+-- the time of a picture and the number of units, by what was received
 pub record IsTimed (film : Film) (x : Stream) (h : History) : Type 0 where
   pub time_is : 0 < frames h → time h ≡ picture_time film.rate
   pub units_are : 0 < frames h → units h ≡ units_until (begun_sum x).end_ms (picture_time film.rate)
@@ -185,7 +185,7 @@ pub blocks_sum : (film : Film) (identity : Identity) (x : Stream) → IsFilmIn f
 blocks_sum film identity x is =
     ap (λ bs. length (framed_bytes bs)) (is.blocks ∙ sym (run_blocks film identity)) ∙ run_total film identity
 
--- what was heard of a whole film
+-- what was received of an entire film
 pub record IsWholeOf (film : Film) (x : Stream) (h : History) : Type 0 where
   pub sizes_are : sizes h ≡ film_sizes film
   pub count : units_until (begun_sum x).end_ms (picture_time film.rate) ≡ length (film_sizes film)

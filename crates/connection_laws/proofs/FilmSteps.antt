@@ -67,7 +67,7 @@ sound_waits Idle old new slot is waits = tt
 sound_waits (Going p) old new slot is waits = is
 sound_waits (Ending p) old new slot is waits = (is.0, waits, is.2)
 
--- a pacing by a whole plan, from its start on
+-- a pacing by an entire plan, from its start on
 record WholePlay (p : PacerState) : Type 0 where
   start : ℕ
   pieces : List (List ℕ)

@@ -1,4 +1,4 @@
--- The first frame that a client hears of a film, and the time of a picture in it.
+-- The first frame that a client receives of a film, and the time of a picture in it.
 use Rattle.std.proofs.Common.{◌≡◌, ℕ, zero, suc, ◌+◌, ◌-◌, ◌%◌, ◌<◌, ◌≤◌, ◌==◌, ◌&&◌, Bool, true}
 use Rattle.std.proofs.Common.{false, not, nat_le, cond, List, [], ◌∷◌, ◌++◌, length, take, drop}
 use Rattle.std.proofs.Common.{get_or, is_ok, sym, ap, subst, ◌∙◌, append_assoc, min, arith, inl}
@@ -151,7 +151,7 @@ first_frame_is {starts} {unit} from k units s none some =
 
 -- ---- the time of a picture
 
--- a first frame that begins a film tells its rate
+-- a first frame that begins a film gives its rate
 pub frame_time_is : {run : FramedRun} {starts : List ℕ} {unit : PictureUnit} {f rate : ℕ} {first : List ℕ}
     → IsLaid starts unit → IsLed run starts unit f first
     → BeginsSequence run.film rate unit.from → begins_film (drop 20 first) ≡ true → time_in first ≡ picture_time rate

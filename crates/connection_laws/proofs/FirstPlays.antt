@@ -1,4 +1,4 @@
--- The play that a client's PLAY begins after its SETUP: of the whole film, as the client wished.
+-- The play that a client's PLAY begins after its SETUP: of the entire film, as the client wished.
 use Rattle.std.proofs.Common.{◌≡◌, ℕ, ◌≤◌, List, [], Option, Some, None, codes, string_bytes, refl, sym, ap, subst, ◌∙◌}
 use Rattle.std.proofs.Common.{arith}
 use Rattle.film_frames.specs.declared.stored_films.Stored.{Stored}
@@ -23,19 +23,20 @@ use Rattle.rtsp_text.proofs.MessageUniqueness.{request_once}
 use Rattle.session.specs.declared.settings.Settings.{Settings}
 use Rattle.session.specs.declared.states.Prepared.{Prepared}
 use Rattle.session.specs.declared.states.Setup.{Setup}
+use Rattle.session.specs.declared.states.StreamSource.{StreamSource}
 use Rattle.session.specs.Films.{IsFilmAt, identity_of}
 use Rattle.session.specs.RequestedPlans.{IsPlannedRun}
 use Rattle.session.specs.RunRequests.{playback_of as session_playback}
 use Rattle.session.specs.SessionStates.{SessionState}
-use Rattle.session.proofs.WholeFilmLemmas.{asked-whole}
+use Rattle.session_laws.proofs.WholeFilmLemmas.{asked-whole}
 use Rattle.connection_laws.specs.WholePlays.{film_blocks, playback_of, whole_run}
 use Rattle.connection_laws.specs.Plays.{FilmPlay}
 use Rattle.connection_laws.proofs.RequestedPlan.{playback_same}
-use Rattle.session.proofs.PlayInReadyLemmas.{IsPlayHeard}
+use Rattle.session_laws.proofs.PlayInReadyLemmas.{IsPlayHeard}
 use Rattle.connection_laws.proofs.ClientSetups.{IsSettled, range_is}
 use Rattle.connection_laws.proofs.SetupOnly.{Beginning, IsUnbegun, IsWaiting}
 
--- a play of the whole film, as the client wished
+-- a play of the entire film, as the client wished
 pub record IsWished (b : Beginning) (play : FilmPlay) : Type 0 where
   pub number : ℕ
   pub stored : Stored
@@ -44,17 +45,18 @@ pub record IsWished (b : Beginning) (play : FilmPlay) : Type 0 where
   pub identity : Identity
   pub media : identity.channel ≡ 0
   pub control : identity.control ≡ 1
+  pub ssrc : identity.ssrc ≡ b.source.ssrc
   pub pieces : play.pieces ≡ film_blocks stored identity
   pub before : play.before ≡ 0
   pub sending : IsSending (stored_sizes stored) (playback_of b.wish stored) (whole_run stored) play.plan
 
-some_time : (stored : Stored) → 1 ≤ picture_time stored.film.rate
+pub some_time : (stored : Stored) → 1 ≤ picture_time stored.film.rate
 some_time stored =
     let film = stored.film in
     let rate = film-rate (read_after [] film.bytes.items) film.grammar.accepted in
     (time_bounds film.rate (omega (arith, film.grammar.rate, rate.0)) (omega (arith, film.grammar.rate, rate.1))).0
 
--- a session planned a run for the client, which is the whole film
+-- a session planned a run for the client, which is the entire film
 record IsPlannedFor (b : Beginning) (settings : Settings) (stored : Stored) (plan : List Segment) : Type 0 where
   setup : Setup
   run : Run
@@ -113,6 +115,7 @@ wished_play {b} {old} {message} {prepared} {play} waits is heard plan before pie
       identity = identity;
       media = settled.media;
       control = settled.control;
+      ssrc = ap (λ (s : StreamSource). s.ssrc) waits.source_is;
       pieces = pieces ∙ (ap (λ (p : Prepared). run_pieces p.frames) prepared_is
           ∙ ap (λ (r : Run). run_pieces (run_of stored.film r.first_unit r.end_unit identity)) run);
       before = before ∙ (ap (λ (p : Prepared). p.run.sent) prepared_is ∙ ap (λ (r : Run). r.sent) run);

@@ -1,4 +1,4 @@
--- The slot that a session heard last is the greatest that its connection heard.
+-- The slot that a session received last is the greatest that its connection received.
 use Rattle.std.proofs.Common.{◌≡◌, ℕ, ◌^◌, ◌<◌, ◌≤◌, ◌++◌, ◌&&◌, if◌then◌else◌, Bool, true, false, nat_le, max, List}
 use Rattle.std.proofs.Common.{[], ◌∷◌, refl, ap, sym, ◌∙◌, subst, arith}
 use Rattle.std.proofs.lemmas.Bool.{ltb-true, ltb-false}
@@ -50,7 +50,7 @@ takes_left old new (Answered message outcome parts ∷ takings) takes rest =
     ∙ after.awaited) in
     (left.0, left.1 ∙ ap (λ (s : SessionState). s.heard) session ∙ reply.1 ∙ after.heard)
 
--- a slot that is taken up is the last one then
+-- a slot that is processed is the last one then
 halted_heard : (s : SessionState) (keep : ℕ) (halt : Outcome) (new : SessionState) → IsHalted s keep halt new
     → new.heard ≡ s.heard
 halted_heard s keep Unasked new halted = absurd halted

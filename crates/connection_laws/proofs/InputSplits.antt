@@ -1,4 +1,4 @@
--- However the same bytes between the same slots are cut, a connection sends the same.
+-- However the same bytes between the same slots are split, a connection sends the same.
 use Rattle.std.proofs.Common.{◌≡◌, ℕ, ◌++◌, Bool, true, false, List, [], ◌∷◌, map, refl, ap, sym, ◌∙◌, subst, inl, inr}
 use Rattle.std.proofs.lemmas.Bool.{true≢false}
 use Rattle.std.proofs.lemmas.List.{append-nil, append_assoc}
@@ -273,7 +273,7 @@ rounds_split cur new (round ∷ rounds) takes done =
           (record { due = round.due; halt = round.halt; comes = runs.comes }) done path later);
     }
 
--- ---- what was heard has one split
+-- ---- what was received has one split
 
 abbrev is_some : List IoEvent → Bool
 is_some [] = false
@@ -331,7 +331,7 @@ record SameLegs (one other : Stage) (sent again : List ℕ) : Type 0 where
 opened_same : (a b : Stage) → b.session ≡ a.session → b.input ≡ a.input → b ≡ a
 opened_same a b session input = ap (λ s. stage s b.input) session ∙ ap (λ i. stage a.session i) input
 
--- two courses of legs that heard the same, with the same answers, and that lack memory alike
+-- two courses of legs that received the same, with the same answers, and that run out of memory alike
 record LegsAlike (xs ys : List Leg) : Type 0 where
   heard : legs_heard xs ≡ legs_heard ys
   answers : AreSameAnswers (legs_answers xs) (legs_answers ys)
@@ -422,7 +422,7 @@ two_cuttings beginning one other films cuts =
     films (whole_split beginning one) (whole_split beginning other) cuts.heard cuts.answers cuts.memory in
     record { bytes = sym same.bytes; last = sym same.last }
 
--- ---- a connection's course is such a cutting, and so is each front of it
+-- ---- a connection's course is such a split, and so is each prefix of it
 
 pub takes_all : (old new : Stage) (rounds : List Round) → RunsAll old rounds new → TakesUp old rounds new
 takes_all old new [] runs = runs
@@ -442,7 +442,7 @@ takes_part old new (round ∷ first) rest takes =
     let parted = takes_part takes.0 new first rest takes.1.2 in
     (parted.0, ((takes.0, (takes.1.0, takes.1.1, parted.1.0)), parted.1.1))
 
--- what is alike is alike in fronts
+-- what is alike is alike in prefixes
 pub same_fronts : (one more other further : List Outcome) → AreSameAnswers (one ++ more) (other ++ further)
     → AreSameAnswers one other
 same_fronts [] more other further same = tt

@@ -1,4 +1,4 @@
--- What is written of films, as whole lists: the lemmas on plays joined.
+-- What is written of films, as entire lists: the lemmas on plays joined.
 use Rattle.std.specs.Prelude.{⊤}
 use Rattle.std.proofs.Common.{◌≡◌, ℕ, ◌+◌, ◌-◌, ◌<◌, ◌≤◌, ◌++◌, Bool, true, min, List, [], ◌∷◌, length, take, drop}
 use Rattle.std.proofs.Common.{refl, ap, sym, ◌∙◌, subst, arith}
@@ -36,7 +36,7 @@ IsFilm slot (play ∷ plays) bytes =
     (rest : List ℕ)
     × ((bytes ≡ take (due_of slot play) (film_of play) ++ rest) × IsFilm slot plays rest × IsSpent plays slot play)
 
--- as a whole list
+-- as an entire list
 pub film_is : (slot : ℕ) (plays : List FilmPlay) (bytes : List ℕ) → IsFilm slot plays bytes
     → bytes ≡ film_written slot plays
 film_is slot [] bytes is = is

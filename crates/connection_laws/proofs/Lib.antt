@@ -47,6 +47,12 @@ mod TwoReplies
 mod RequestedInput
 mod RequestedPlays
 mod CompleteWatch
+mod KeptSetups
+mod PrintedTexts
+mod ReplyReadings
+mod RequestReplies
+mod FilmReplies
+mod AnsweredRequests
 mod AcceptedMoments
 mod AcceptedFilms
 mod WatchedFilms

@@ -10,7 +10,7 @@ use Rattle.session.specs.declared.commands.Ask.{Ask}
 use Rattle.session.specs.declared.commands.Ask.TheVariants.{Reply as AskReply, Play as AskPlay, Halt as AskHalt}
 use Rattle.session.specs.declared.commands.Ask.TheVariants.{Look as AskLook, Offer as AskOffer}
 use Rattle.session.specs.Laws.{Is500, NeverLacks}
-use Rattle.session.specs.Replies.{field, full_text, overflow_text}
+use Rattle.rtsp_replies.specs.Replies.{field, full_text, overflow_text}
 use Rattle.session.specs.RequestEffects.{HasCode}
 use Rattle.session.specs.SessionStates.{SessionState}
 use Rattle.session.proofs.ReplyCodeLemmas.{hears_may, hears_never}

@@ -120,7 +120,7 @@ pub record FilmCounted (film : Film) (identity : Identity) (x : Stream) : Type 0
   pub film_is : IsFilmIn film identity x
   pub count : units_until (begun_sum x).end_ms (picture_time film.rate) ≡ length (film_sizes film)
 
--- what was heard by a stage at which nothing more can be taken up is a front of a stream
+-- what was received by a stage at which nothing more can be processed is a prefix of a stream
 record HeardFront (x : Stream) (bytes : List ℕ) (at : WatchStage) : Type 0 where
   heard : Heard bytes at
   idle : IsFirst at.rest (Ok More)
@@ -195,7 +195,7 @@ always_round {event = Sent byte} {old} {new} {round} round_heard counted front t
     let B : IoEvent → Type 0 =
     λ e. Brings e old.rest round.moments new.rest in absurd (subst B round_heard.event_is round_heard.runs.brings)
 
--- what was heard by a stage, and what rounds bring after it, is a front of a stream
+-- what was received by a stage, and what rounds bring after it, is a prefix of a stream
 pub record HeardThrough (x : Stream) (bytes : List ℕ) (rounds : List Round) (old : WatchStage) : Type 0 where
   pub heard : Heard bytes old
   pub idle : IsFirst old.rest (Ok More)

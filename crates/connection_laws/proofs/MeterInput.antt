@@ -1,4 +1,4 @@
--- What a client reads its meter by, where what came is a front of two replies, a film's blocks and
+-- What a client reads its meter by, where what came is a prefix of two replies, a film's blocks and
 -- later replies.
 use Rattle.std.proofs.Common.{◌≡◌, ℕ, zero, suc, ◌+◌, ◌-◌, ◌<◌, ◌≤◌, ◌==◌, ◌&&◌, ◌||◌, Bool, true}
 use Rattle.std.proofs.Common.{false, nat_lt, cond, min, List, [], ◌∷◌, ◌++◌, length, take, get_or}
@@ -23,7 +23,7 @@ use Rattle.connection_laws.proofs.ElementStreams.{AreAlone, IsAlone, cut_at, res
 use Rattle.connection_laws.proofs.HistorySums.{AreOneBlocks, Sum, blocks_same, step, steps, steps_on, sum_of}
 use Rattle.connection_laws.proofs.UnitSizes.{moments_parts}
 
--- ---- a reply, as it is heard
+-- ---- a reply, as it is received
 
 pub record IsText (m : List ℕ) : Type 0 where
   pub moment : element_events m ≡ Reply m ∷ []
@@ -43,7 +43,7 @@ text_is m starts size = record {
   alone = record { some = starts.0; whole = WholeMessage starts size (omega arith) };
 }
 
--- ---- the bytes of a block that isn't whole
+-- ---- the bytes of a block that isn't complete
 
 take_cut : (m : List ℕ) (d : ℕ) → (get_or m 0 0 == 36) ≡ false → cut_bytes (take d m) ≡ 0
 take_cut m zero other = refl
@@ -128,7 +128,7 @@ two_moments x rest =
     ap (λ l. steps no_sum (l ++ (element_events x.second ++ events_of_elements rest))) x.first_is.moment
     ∙ ap (λ l. steps no_sum (Reply x.first ∷ (l ++ events_of_elements rest))) x.second_is.moment
 
--- what was heard at a reading, once the reply to PLAY was heard and before a third one
+-- what was received at a reading, once the reply to PLAY was received and before a third one
 pub record IsReadingOf (x : Stream) (c : ℕ) (at : WatchStage) : Type 0 where
   pub past : length x.first + length x.second ≤ c
   pub sum : sum_of at.history ≡ steps (begun_sum x) (events_of_elements (take (count_ended (film_place x c) x.blocks)
@@ -136,7 +136,7 @@ pub record IsReadingOf (x : Stream) (c : ℕ) (at : WatchStage) : Type 0 where
   pub cut : length (framed_bytes (take (count_ended (film_place x c) x.blocks) x.blocks)) + cut_bytes at.rest
       ≡ min (film_place x c) (length (framed_bytes x.blocks))
 
--- with the two first replies whole
+-- with the two first replies complete
 reading_film : {x : Stream} {c : ℕ} {at : WatchStage} → length x.first + length x.second ≤ c
     → sum_of at.history
     ≡ steps (begun_sum x) (events_of_elements (take (count_ended (film_place x c) (x.blocks ++ x.later)) (x.blocks ++

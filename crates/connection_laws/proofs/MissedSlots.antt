@@ -11,15 +11,15 @@ use Rattle.session.specs.declared.commands.Ask.{Ask}
 use Rattle.session.specs.declared.commands.Ask.TheVariants.{Reply as AskReply, Play as AskPlay, Halt as AskHalt}
 use Rattle.session.specs.declared.commands.Ask.TheVariants.{Look as AskLook, Offer as AskOffer}
 use Rattle.session.specs.declared.settings.Settings.{Settings}
-use Rattle.session.specs.PlayLaws.{slots_missed}
+use Rattle.session_laws.specs.PlayLaws.{slots_missed}
 use Rattle.session.specs.SlotSteps.{can_reply, after_play, is_between, is_sending, is_taken}
 use Rattle.session.specs.SlotSteps.{missed_between, sent_due, sent_reply, sent_slot, after_slot}
 use Rattle.session.specs.SlotSteps.{start_in, stepped_in}
 use Rattle.session.specs.SessionStates.{AwaitedAnswer, HaltAnswer, LookAnswer, NoAnswer, OfferAnswer, OpenBooking}
 use Rattle.session.specs.SessionStates.{PlayAnswer, SessionState}
 use Rattle.session.specs.SessionStates.{awaited_answer, open_of}
-use Rattle.session.proofs.SlotCountLemmas.{missed_is}
-use Rattle.session.proofs.RequestShapes.{HearsAs, Replies, SetsUp, AsksPlay, Stops, AsksLook, AsksOffer, hears_as}
+use Rattle.session_laws.proofs.SlotCountLemmas.{missed_is}
+use Rattle.session_laws.proofs.RequestShapes.{HearsAs, Replies, SetsUp, AsksPlay, Stops, AsksLook, AsksOffer, hears_as}
 use Rattle.conn.specs.EventSteps.{Comes, Ending, Unheard, PeerEnded, Overfull, AtElement, InSlot, InReply, Ends, Round}
 use Rattle.conn.specs.EventSteps.{Runs, RunsAll}
 use Rattle.conn.specs.InputSteps.{HasHeard, IsAskAnswered, IsClosed, IsFinished, IsHalted, IsLookAnswered}

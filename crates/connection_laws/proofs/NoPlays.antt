@@ -10,7 +10,7 @@ use Rattle.conn.specs.InputSteps.{Answered, IsReplied, Outcome, SentPart, Passed
 use Rattle.connection_laws.specs.Courses.{IsCourseBetween, asked_by, askings_of, takings_askings}
 use Rattle.connection_laws.specs.Plays.{StationRequest, plays_begun, plays_of}
 use Rattle.connection_laws.proofs.FilmBytes.{Stands, opened_stands, taken_stands}
-use Rattle.session.proofs.PlayInReadyLemmas.{play_heard}
+use Rattle.session_laws.proofs.PlayInReadyLemmas.{play_heard}
 use Rattle.connection_laws.proofs.Requests.{rounds_requests, takings_requests}
 use Rattle.connection_laws.proofs.ServedPlays.{comes_none}
 use Rattle.connection_laws.proofs.RequestEffects.{Begins, Ends, Starts, Stays, TurnsAs, turns_as}
@@ -46,7 +46,7 @@ no_play_begins {old} {message} {outcome} replied stands none =
     none its.request its.is_request its.method)
     (turns_as old.session message outcome replied.answered heard stands.rest)
 
--- neither what is taken up asks for a play, nor does one begin after it
+-- neither what is processed asks for a play, nor does one begin after it
 pub record HasNoPlays (old : Stage) (takings : List ElementStep) (more : List StationRequest) : Type 0 where
   pub stands : Stands old.session
   pub requests : AreNoPlays (takings_requests takings)

@@ -1,6 +1,7 @@
--- A connection that is asked for SETUP and PLAY, and perhaps TEARDOWN, has one play at most, of the whole film.
+-- A connection that is asked for SETUP and PLAY, and perhaps TEARDOWN, has one play at most, of the entire film.
 use Rattle.std.specs.Prelude.{⊤}
-use Rattle.std.proofs.Common.{◌≡◌, ℕ, zero, suc, ◌<◌, max, List, [], ◌∷◌, ◌++◌, length, get_or, codes, refl, sym}
+use Rattle.std.proofs.Common.{true, false, Option, None, is_some, inl, inr, ◌+◌, ◌≤◌}
+use Rattle.std.proofs.Common.{◌≡◌, ℕ, zero, suc, ◌<◌, ◌^◌, max, List, [], ◌∷◌, ◌++◌, length, get_or, codes, refl, sym}
 use Rattle.std.proofs.Common.{ap}
 use Rattle.std.proofs.Common.{subst, ◌∙◌, arith}
 use Rattle.film_frames.specs.FramedRuns.{run_pieces}
@@ -12,11 +13,17 @@ use Rattle.rtsp_text.proofs.MessageUniqueness.{request_once}
 use Rattle.session.specs.declared.states.Awaited.{Awaited}
 use Rattle.session.specs.declared.states.Awaited.TheVariants.{Play}
 use Rattle.session.specs.declared.commands.Ask.TheVariants.{Reply}
-use Rattle.session.specs.SessionStates.{SessionState}
-use Rattle.session.specs.CompleteReplies.{IsMessage, HasValidIds, RepliesAreComplete}
-use Rattle.session.proofs.CompleteReplyLemmas.{replies_whole}
+use Rattle.session_laws.specs.MethodLaws.{setup_in}
+use Rattle.session.specs.SessionStates.{SessionState, has_session_in}
+use Rattle.session.specs.declared.states.Setup.{Setup}
+use Rattle.session.specs.declared.states.State.{State}
+use Rattle.session.specs.declared.states.State.TheVariants.{Init, Ready, Playing, Stopping}
+use Rattle.session_laws.specs.CompleteReplies.{HasValidIds, RepliesAreComplete}
+use Rattle.rtsp_replies.specs.Messages.{IsMessage}
+use Rattle.session_laws.proofs.CompleteReplyLemmas.{replies_whole}
 use Rattle.conn.specs.EventSteps.{Round}
-use Rattle.conn.specs.InputSteps.{Answered, HasHeard, IsAskAnswered, Outcome, Passed, Stage, ElementStep, TakesAll}
+use Rattle.conn.specs.InputSteps.{Answered, HasHeard, IsAskAnswered, IsReplied, Outcome, Passed, SentPart, Stage}
+use Rattle.conn.specs.InputSteps.{ElementStep, TakesAll}
 use Rattle.connection_laws.specs.Courses.{IsCourseBetween, askings_of, slot_in, takings_askings}
 use Rattle.connection_laws.specs.ReplyPlaces.{slots_from, takings_slots}
 use Rattle.connection_laws.specs.Plays.{StationRequest, Asks, FilmPlay, kept_in, plays_admitted, plays_begun, plays_of}
@@ -25,17 +32,24 @@ use Rattle.connection_laws.proofs.GreatestSlots.{comes_heard, takes_left}
 use Rattle.connection_laws.proofs.NoPlays.{AreNoPlays, IsNoPlay, event_none, no_play_begins, no_plays_front}
 use Rattle.connection_laws.proofs.NoPlays.{no_plays_rest}
 use Rattle.connection_laws.proofs.NoPlays.{rounds_none, takes_stands, takings_none}
-use Rattle.session.proofs.PlayInReadyLemmas.{IsPlayHeard, play_heard}
+use Rattle.session_laws.proofs.PlayInReadyLemmas.{IsPlayHeard, play_heard}
 use Rattle.connection_laws.proofs.Requests.{rounds_requests, takings_requests}
 use Rattle.connection_laws.proofs.ClientSetups.{setup_is}
-use Rattle.session.proofs.SetupLemmas.{IsSetupRequest}
+use Rattle.session_laws.proofs.SetupLemmas.{IsSetupRequest}
 use Rattle.connection_laws.proofs.RequestEffects.{Begins, Ends, Starts, Stays, TurnsAs, turns_as}
-use Rattle.connection_laws.proofs.SetupOnly.{Beginning, IsWaiting, answered_waits, opened_waits, setup_asked}
+use Rattle.connection_laws.proofs.SetupOnly.{Beginning, IsWaiting, answered_waits, opened_waits, reply_same}
+use Rattle.connection_laws.proofs.SetupOnly.{setup_asked}
 use Rattle.connection_laws.proofs.CompleteReplies.{AreTeardowns, AreWhole, admitted_whole, answered_named, opened_named}
-use Rattle.connection_laws.proofs.CompleteReplies.{play_room, reply_whole, rounds_torn, setup_room, takings_torn}
+use Rattle.connection_laws.proofs.CompleteReplies.{id_printed, play_room, reply_whole, rounds_torn, setup_room}
+use Rattle.connection_laws.proofs.CompleteReplies.{takings_torn}
 use Rattle.connection_laws.proofs.CompleteReplies.{teardowns_cut, whole_later}
 use Rattle.connection_laws.specs.Replies.{replies_of, takings_replies}
 use Rattle.connection_laws.proofs.FirstPlays.{IsWished, wished_play}
+use Rattle.connection_laws.proofs.FilmReplies.{IsFilmAnswer, IsPlayBegun as IsPlayBegunAt, play_begun as play_begun_at}
+use Rattle.connection_laws.proofs.KeptSetups.{opened_setup, replied_setup}
+use Rattle.connection_laws.specs.WatchEnds.{AreAnswers}
+use Rattle.connection_laws.proofs.ReplyReadings.{IsSetupRead, setup_read}
+use Rattle.connection_laws.proofs.RequestReplies.{IsNamed, named_still, setup_replied}
 
 -- ---- the walk to PLAY
 
@@ -56,41 +70,81 @@ pub record Outlook : Type 0 where
   pub play : FilmPlay
   pub others : List FilmPlay
 
--- the one play, and the slots in which so many requests and PLAY were taken up
+-- the one play, and the slots in which so many requests and PLAY were processed
 pub record IsOnePlay (b : Beginning) (out : Outlook) (slot ahead : ℕ) (slots : List ℕ) : Type 0 where
   pub wished : IsWished b out.play
   pub alone : out.others ≡ []
   pub late : slot < out.play.start
   pub before : AreBefore (suc ahead) out.play.start slots
 
--- so it is, and all replies are whole
-pub record IsPlayedWhole (b : Beginning) (out : Outlook) (slot ahead : ℕ) (slots : List ℕ) (replies : List (List ℕ))
-    : Type 0 where
+-- the replies to so many SETUPs, to PLAY and to TEARDOWN, as the client reads them
+abbrev pub AreRead : Beginning → ℕ → List (List ℕ) → Type 0
+AreRead b zero [] = ⊥
+AreRead b zero (reply ∷ replies) = IsFilmAnswer b reply × AreAnswers replies
+AreRead b (suc n) [] = ⊥
+AreRead b (suc n) (reply ∷ replies) = IsSetupRead reply × AreRead b n replies
+
+-- where no SETUP is to come, there is a session
+abbrev pub IsReadyFor : ℕ → SessionState → Type 0
+IsReadyFor zero s = has_session_in s.state ≡ true
+IsReadyFor (suc n) s = ⊤
+
+-- so it is, and all replies are complete, and read as they are awaited
+pub record IsPlayedWhole (b : Beginning) (out : Outlook) (s : SessionState) (slot ahead : ℕ) (slots : List ℕ)
+    (replies : List (List ℕ)) : Type 0 where
   pub one : IsOnePlay b out slot ahead slots
   pub whole : AreWhole replies
+  pub ready : IsReadyFor ahead s
+  pub read : out.play.start ≤ 2 ^ 62 + 1 → AreRead b ahead replies
 
--- what is taken up after these pieces
+-- a session that is asked for at most one SETUP, and where it is, has none yet
+abbrev pub IsFresh : List (List ℕ) → SessionState → Type 0
+IsFresh [] s = ⊤
+IsFresh (one ∷ []) s = setup_in s.state ≡ None
+IsFresh (one ∷ two ∷ ahead) s = ⊥
+
+has_setup : (state : State) → has_session_in state ≡ is_some (setup_in state)
+has_setup Init = refl
+has_setup (Ready setup paused) = refl
+has_setup (Playing setup play) = refl
+has_setup (Stopping setup stop) = refl
+
+ready_still : (old new : SessionState) (n : ℕ) → setup_in new.state ≡ setup_in old.state → IsReadyFor n new
+    → IsReadyFor n old
+ready_still old new zero same ready =
+    has_setup old.state ∙ (ap (λ (o : Option Setup). is_some o) (sym same) ∙ (sym (has_setup new.state) ∙ ready))
+ready_still old new (suc n) same ready = tt
+
+fresh_still : (old new : SessionState) (ahead : List (List ℕ)) → setup_in new.state ≡ setup_in old.state
+    → IsFresh ahead old → IsFresh ahead new
+fresh_still old new [] same fresh = tt
+fresh_still old new (one ∷ []) same fresh = same ∙ fresh
+fresh_still old new (one ∷ two ∷ ahead) same fresh = absurd fresh
+
+-- what is processed after these pieces
 pub record Later : Type 0 where
   requests : List (List ℕ)
   askings : List StationRequest
   slots : List ℕ
   replies : List (List ℕ)
 
--- PLAY is to come in what is taken up
+-- PLAY is to come in what is processed
 pub record IsAhead (b : Beginning) (out : Outlook) (s : SessionState) (slot : ℕ) (ahead : List (List ℕ))
     (later : Later) : Type 0 where
   pub waits : IsWaiting b s
   pub named : HasValidIds s
   pub heard : s.heard ≡ slot
   pub setups : AreSetups b ahead
+  pub fresh : IsFresh ahead s
   pub requests_are : later.requests ≡ ahead ++ (play_text b.wish b.session ∷ out.last)
   pub teardowns : AreTeardowns b out.last
   pub plays : plays_of later.askings ≡ out.play ∷ out.others
 
 pub record Leads (b : Beginning) (out : Outlook) (new : SessionState) (slot : ℕ) (later : Later) : Type 0 where
   walk : (ahead : List (List ℕ)) → IsAhead b out new slot ahead later
-      → IsPlayedWhole b out slot (length ahead) later.slots later.replies
-  torn : HasValidIds new → AreTeardowns b later.requests → AreWhole later.replies
+      → IsPlayedWhole b out new slot (length ahead) later.slots later.replies
+  torn : HasValidIds new → IsNamed b new → AreTeardowns b later.requests
+      → AreWhole later.replies × AreAnswers later.replies
   none : Stands new → AreNoPlays later.requests → plays_of later.askings ≡ []
 
 -- SETUP asks for no play
@@ -102,7 +156,7 @@ setup_no_play b {message} is = λ request read method.
     let same = request_once setup.read read in
     let clash : 83 ≡ 80 = ap (λ name. get_or name 0 0) (same.method_is ∙ method) in omega (arith, clash)
 
--- PLAY is taken up, and no play begins after it
+-- PLAY is processed, and no play begins after it
 record IsPlayTaken (b : Beginning) (out : Outlook) (old : SessionState) (message : List ℕ) (asking : StationRequest)
     (later : List StationRequest) : Type 0 where
   waits : IsWaiting b old
@@ -178,7 +232,7 @@ play_turn {b} {out} {old} {message} {outcome} {new} later slots heard taken (Sta
     begun_play later slots taken begins
     (play_heard old message heard.ask heard.asking begins.prepared taken.waits.stands.rest begins.asked_is heard.hears)
 
--- its reply is whole
+-- its reply is complete
 play_whole : {b : Beginning} {out : Outlook} {old : SessionState} {message : List ℕ} {outcome : Outcome}
     {new : SessionState} (later : List StationRequest) (heard : HasHeard old message outcome new)
     → IsPlayTaken b out old message (Asks heard.asking.awaited outcome) later
@@ -191,7 +245,19 @@ play_whole {out = out} {new = new} later heard taken whole (Starts after begins)
       answered = subst (λ o. IsAskAnswered heard.asking heard.ask o new) begins.outcome_is heard.answered;
     })
 
--- what is taken up from these elements on, in this slot
+-- and what the client reads in it
+play_read : {b : Beginning} {out : Outlook} {old : SessionState} {message : List ℕ} {outcome : Outcome}
+    {new : SessionState} (later : List StationRequest) (heard : HasHeard old message outcome new) → HasValidIds old
+    → IsPlayTaken b out old message (Asks heard.asking.awaited outcome) later → IsMessage new.text
+    → TurnsAs old heard.asking.awaited outcome new → IsPlayBegunAt b out.play.start old new
+play_read later heard valid taken whole (Stays same after still) = absurd (not_begun later taken (still.none later))
+play_read later heard valid taken whole (Ends after halts) = absurd (not_begun later taken (halts.none later))
+play_read {b} {out} {old} {new = new} later heard valid taken whole (Starts after begins) =
+    let same = (begun_same later taken begins).same in
+    subst (λ (p : FilmPlay). IsPlayBegunAt b p.start old new) same
+    (play_begun_at taken.waits valid heard taken.message_is begins whole)
+
+-- what is processed from these elements on, in this slot
 abbrev from_takings : (slot : ℕ) (old : Stage) (takings : List ElementStep) (new : Stage) → TakesAll old takings new
     → Later → Later
 from_takings slot old takings new takes later = record {
@@ -201,24 +267,52 @@ from_takings slot old takings new takes later = record {
   replies = takings_replies old takings new takes ++ later.replies;
 }
 
+-- the reply to SETUP, after which there is a session
+setup_reply : {old new : Stage} {message : List ℕ} {outcome : Outcome} {parts : List SentPart} (b : Beginning)
+    → (replied : IsReplied old message outcome parts new) → message ≡ setup_text b.wish
+    → replied.heard.ask ≡ Reply → IsMessage replied.answered.text → HasValidIds old.session
+    → setup_in old.session.state ≡ None → has_session_in new.session.state ≡ true
+    → IsSetupRead replied.answered.text
+setup_reply {old} {new} {outcome = outcome} b replied is reply whole valid fresh ready =
+    let heard = replied.heard in
+    let same : replied.answered ≡ heard.asking =
+    reply_same heard.asking heard.ask outcome replied.answered reply heard.answered in
+    elim (setup_replied b old.session heard.ask heard.asking is heard.hears) [
+      | inl still ↦
+          let none : setup_in new.session.state ≡ None =
+          ap (λ (s : Stage). setup_in s.session.state) replied.new_is
+          ∙ ((replied_setup replied.answered).setup
+          ∙ (ap (λ (s : SessionState). setup_in s.state) same ∙ (ap setup_in still ∙ fresh))) in
+          let has : false ≡ true =
+          sym (has_setup new.session.state ∙ ap (λ (o : Option Setup). is_some o) none) ∙ ready in
+          absurd (let no : ⊥ = cc in no)
+      | inr text ↦
+          setup_read old.session.source.ssrc old.session.id whole (id_printed valid)
+          (ap (λ (s : SessionState). s.text) same ∙ text)
+    ]
+
 takings_walk : {b : Beginning} {out : Outlook} {slot : ℕ} {later : Later} {ahead : List (List ℕ)} (old new : Stage)
     (takings : List ElementStep) (takes : TakesAll old takings new) → Leads b out new.session slot later
     → IsAhead b out old.session slot ahead (from_takings slot old takings new takes later)
-    → IsPlayedWhole b out slot (length ahead) (takings_slots slot takings ++ later.slots)
+    → IsPlayedWhole b out old.session slot (length ahead) (takings_slots slot takings ++ later.slots)
     (takings_replies old takings new takes ++ later.replies)
 takings_walk {b} {out} {slot} {later} {ahead} old new [] takes leads is =
-    leads.walk ahead (subst (λ (s : Stage). IsAhead b out s.session slot ahead later) (sym takes) is)
+    subst (λ (s : Stage). IsPlayedWhole b out s.session slot (length ahead) later.slots later.replies) takes
+    (leads.walk ahead (subst (λ (s : Stage). IsAhead b out s.session slot ahead later) (sym takes) is))
 takings_walk {b} {out} {slot} {later} {ahead} old new (Passed n ∷ takings) takes leads is =
     let same : takes.0.session ≡ old.session = ap (λ (s : Stage). s.session) takes.1.0.2 in
-    takings_walk {ahead = ahead} takes.0 new takings takes.1.1 leads (record {
+    let P : SessionState → Type 0 = λ s. IsPlayedWhole b out s slot (length ahead)
+    (takings_slots slot takings ++ later.slots) (takings_replies takes.0 takings new takes.1.1 ++ later.replies) in
+    subst P same (takings_walk {ahead = ahead} takes.0 new takings takes.1.1 leads (record {
       waits = subst (IsWaiting b) (sym same) is.waits;
       named = subst HasValidIds (sym same) is.named;
       heard = ap (λ (s : SessionState). s.heard) same ∙ is.heard;
       setups = is.setups;
+      fresh = subst (IsFresh ahead) (sym same) is.fresh;
       requests_are = is.requests_are;
       teardowns = is.teardowns;
       plays = is.plays;
-    })
+    }))
 takings_walk {b} {out} {slot} {later} {ahead = []} old new (Answered message outcome parts ∷ takings) takes leads is =
     let more = takings_askings takes.0 takings new takes.1.1 ++ later.askings in
     let front = takings_requests takings in
@@ -241,30 +335,38 @@ takings_walk {b} {out} {slot} {later} {ahead = []} old new (Answered message out
     let whole = replies_whole old.session message heard.ask heard.asking is.named (play_room b at) heard.hears in
     let torn : AreTeardowns b (front ++ later.requests) = subst (AreTeardowns b) (sym rest) is.teardowns in
     let cut = teardowns_cut b front later.requests torn in
+    let mine = play_whole more heard taken whole turns in
+    let begun = play_read more heard is.named taken mine turns in
+    let own : IsNamed b takes.0.session =
+    subst (λ (s : Stage). IsNamed b s.session) (sym takes.1.0.new_is)
+    (named_still (replied_setup takes.1.0.answered) begun.own) in
     let first = takings_torn {b = b} takes.0 new takings takes.1.1
-    (record { named = answered_named takes.1.0 is.named; teardowns = cut.0 }) in
+    (record { named = answered_named takes.1.0 is.named; own = own; teardowns = cut.0 }) in
+    let after = whole_later {b = b} later.replies first (λ named still. leads.torn named still cut.1) in
     record {
       one = subst (λ h. IsOnePlay b out h 0 (h ∷ slots)) is.heard (play_turn more slots heard taken turns);
-      whole = (
-        play_whole more heard taken whole turns,
-        whole_later later.replies first (λ named. leads.torn named cut.1),
-      );
+      whole = (mine, after.0);
+      ready = begun.ready;
+      read = λ few. (begun.answer few, after.1);
     }
-takings_walk {b} {out} {later} {ahead = one ∷ ahead} old new (Answered message outcome parts ∷ takings) takes leads is =
+takings_walk {ahead = one ∷ two ∷ ahead} old new (Answered message outcome parts ∷ takings) takes leads is =
+    absurd is.fresh
+takings_walk {b} {out} {later} {ahead = one ∷ []} old new (Answered message outcome parts ∷ takings) takes leads is =
     let more = takings_askings takes.0 takings new takes.1.1 ++ later.askings in
     let all : message ∷ (takings_requests takings ++ later.requests)
-    ≡ one ∷ (ahead ++ (play_text b.wish b.session ∷ out.last)) = is.requests_are in
+    ≡ one ∷ (play_text b.wish b.session ∷ out.last) = is.requests_are in
     let here : message ≡ one = cc in
-    let rest : takings_requests takings ++ later.requests ≡ ahead ++ (play_text b.wish b.session ∷ out.last) = cc in
+    let rest : takings_requests takings ++ later.requests ≡ play_text b.wish b.session ∷ out.last = cc in
     let at : message ≡ setup_text b.wish = here ∙ is.setups.0 in
     let none = no_play_begins takes.1.0 is.waits.stands (setup_no_play b at) more in
     let left = takes_left old takes.0 (Answered message outcome parts ∷ []) (takes.0, (takes.1.0, refl))
     is.waits.stands.rest in
-    let rec = takings_walk {ahead = ahead} takes.0 new takings takes.1.1 leads (record {
+    let rec = takings_walk {ahead = []} takes.0 new takings takes.1.1 leads (record {
       waits = answered_waits takes.1.0 at is.waits;
       named = answered_named takes.1.0 is.named;
       heard = left.1 ∙ is.heard;
       setups = is.setups.1;
+      fresh = tt;
       requests_are = rest;
       teardowns = is.teardowns;
       plays = sym (ap (λ l. l ++ plays_of more) none) ∙ is.plays;
@@ -272,6 +374,8 @@ takings_walk {b} {out} {later} {ahead = one ∷ ahead} old new (Answered message
     let heard = takes.1.0.heard in
     let whole = replies_whole old.session message heard.ask heard.asking is.named (setup_room b at) heard.hears in
     let reply : heard.ask ≡ Reply = (setup_asked {outcome = outcome} {parts = parts} takes.1.0 at is.waits).0 in
+    let mine = reply_whole heard reply whole in
+    let set = setup_reply b takes.1.0 at reply mine is.named is.fresh rec.ready in
     record {
       one = record {
         wished = rec.one.wished;
@@ -279,14 +383,16 @@ takings_walk {b} {out} {later} {ahead = one ∷ ahead} old new (Answered message
         late = rec.one.late;
         before = (rec.one.late, rec.one.before);
       };
-      whole = (reply_whole heard reply whole, rec.whole);
+      whole = (mine, rec.whole);
+      ready = tt;
+      read = λ few. (set, rec.read few);
     }
 
 ahead_some : (ahead : List (List ℕ)) (x : List ℕ) (xs : List (List ℕ)) → [] ≡ ahead ++ (x ∷ xs) → ⊥
 ahead_some [] x xs is = let no : ⊥ = cc in no
 ahead_some (y ∷ ahead) x xs is = let no : ⊥ = cc in no
 
--- what is taken up in these rounds, after this slot
+-- what is processed in these rounds, after this slot
 abbrev pub in_rounds : (slot : ℕ) (old : Stage) (rounds : List Round) (new : Stage) → IsCourseBetween old rounds new →
     Later
 in_rounds slot old rounds new follows = record {
@@ -299,7 +405,8 @@ in_rounds slot old rounds new follows = record {
 pub rounds_walk : {b : Beginning} {out : Outlook} {slot : ℕ} (old new : Stage) (rounds : List Round)
     (follows : IsCourseBetween old rounds new) (ahead : List (List ℕ))
     → IsAhead b out old.session slot ahead (in_rounds slot old rounds new follows)
-    → IsPlayedWhole b out slot (length ahead) (slots_from slot rounds) (replies_of old rounds new follows)
+    → IsPlayedWhole b out old.session slot (length ahead) (slots_from slot rounds)
+    (replies_of old rounds new follows)
 rounds_walk {b} {out} {slot} old new [] follows ahead is =
     absurd (ahead_some ahead (play_text b.wish b.session) out.last is.requests_are)
 rounds_walk {b} {out} {slot} old new (round ∷ rounds) follows ahead is =
@@ -310,7 +417,8 @@ rounds_walk {b} {out} {slot} old new (round ∷ rounds) follows ahead is =
     let after = takings_askings runs.opened round.takings mid runs.takes ++ more in
     let leads : Leads b out mid.session later (in_rounds later mid rounds new follows.1.1) = record {
       walk = λ further its. rounds_walk {slot = later} mid new rounds follows.1.1 further its;
-      torn = λ named are. rounds_torn {b = b} mid new rounds follows.1.1 (record { named = named; teardowns = are });
+      torn = λ named own are. rounds_torn {b = b} mid new rounds follows.1.1
+          (record { named = named; own = own; teardowns = are });
       none = λ stands are. rounds_none mid new rounds follows.1.1 stands are;
     } in
     let rec = takings_walk {ahead = ahead} runs.opened mid round.takings runs.takes leads (record {
@@ -319,6 +427,7 @@ rounds_walk {b} {out} {slot} old new (round ∷ rounds) follows ahead is =
       heard = comes_heard old runs.opened round.event round.due round.halt runs.comes
           ∙ ap (λ n. max n (slot_in round.event)) is.heard;
       setups = is.setups;
+      fresh = fresh_still old.session runs.opened.session ahead (opened_setup runs).setup is.fresh;
       requests_are = is.requests_are;
       teardowns = is.teardowns;
       plays = sym (ap (λ l. l ++ plays_of after) (event_none runs after)) ∙ is.plays;
@@ -328,4 +437,6 @@ rounds_walk {b} {out} {slot} old new (round ∷ rounds) follows ahead is =
     record {
       one = record { wished = one.wished; alone = one.alone; late = late; before = one.before };
       whole = rec.whole;
+      ready = ready_still old.session runs.opened.session (length ahead) (opened_setup runs).setup rec.ready;
+      read = rec.read;
     }

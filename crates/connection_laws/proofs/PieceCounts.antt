@@ -93,7 +93,7 @@ count_whole (x ∷ xs) c past =
       count_whole xs (c - length x) (omega (arith, past, sum)),
     )
 
--- the whole pieces and what is left of the next one are the bytes
+-- the complete pieces and what is left of the next one are the bytes
 pub count_bytes : (xs : List (List ℕ)) (c : ℕ) → c ≤ length (framed_bytes xs)
     → length (framed_bytes (take (count_ended c xs) xs)) + length (rest_at c xs) ≡ c
 count_bytes [] c few = omega (arith, few)

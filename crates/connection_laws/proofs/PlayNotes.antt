@@ -27,7 +27,7 @@ use Rattle.session.specs.declared.states.State.TheVariants.{Init, Ready, Playing
 use Rattle.session.specs.RequestSteps.{after_halt}
 use Rattle.session.specs.SlotSteps.{admitted_in, halted_in, halted_notes, kept_of, note_of, state_once_halted}
 use Rattle.session.specs.SessionStates.{SessionState}
-use Rattle.session.proofs.RequestShapes.{HearsAs, Replies, SetsUp, AsksPlay, Stops, AsksLook, AsksOffer, hears_as}
+use Rattle.session_laws.proofs.RequestShapes.{HearsAs, Replies, SetsUp, AsksPlay, Stops, AsksLook, AsksOffer, hears_as}
 use Rattle.conn.specs.InputSteps.{HasHeard, IsAskAnswered, IsHalted, IsLookAnswered, IsPlayAnswered, Outcome, Unasked}
 use Rattle.conn.specs.InputSteps.{Entered, WasFull, Offered}
 use Rattle.connection_laws.specs.Notes.{StationCall, kept_later, note_for, notes_of_calls, noted_entry, noted_for}

@@ -15,7 +15,7 @@ use Rattle.mpeg_scan.specs.StartCodes.{read_after}
 use Rattle.mpeg_scan.specs.PictureRates.{picture_time}
 use Rattle.mpeg_scan.proofs.FilmBoundLemmas.{film-rate}
 use Rattle.session.specs.Films.{length_ms}
-use Rattle.session.specs.Replies.{field, joined_parts, play_fields, play_text}
+use Rattle.rtsp_replies.specs.Replies.{field, joined_parts, play_fields, play_text}
 use Rattle.connection_laws.specs.PlayReplies.{IsPlayRead}
 use Rattle.plan_cert.proofs.DecimalLemmas.{no_leading_zero}
 use Rattle.vod_base.specs.Numbers.{number_of}
@@ -239,7 +239,7 @@ range_text end_ms =
     ap (λ z. codes "npt=" ++ (z ++ (codes "-" ++ (seconds_text end_ms ++ [])))) zero_text
     ∙ ap (λ l. codes "npt=0.000-" ++ l) (append-nil (seconds_text end_ms))
 
--- what a reply tells of its stream: where it is asked for, and its first packet
+-- what a reply states of its stream: where it is asked for, and its first packet
 pub record StreamInfo : Type 0 where
   pub authority : List ℕ
   pub name : List ℕ

@@ -39,8 +39,8 @@ use Rattle.session.specs.SlotSteps.{admitted_in, after_play, after_slot, can_rep
 use Rattle.session.specs.SlotSteps.{is_done_in, is_taken, sent_due, sent_reply, sent_slot}
 use Rattle.session.specs.SlotSteps.{stepped_in}
 use Rattle.session.specs.SlotTransitions.{after_stop}
-use Rattle.session.proofs.RunLemmas.{IsLeftBy, IsNextRun, RunsAs, Replies, SetsUp, AsksPlay, Stops, AsksLook}
-use Rattle.session.proofs.RunLemmas.{AsksOffer, one_film, run_goes_on, runs_as}
+use Rattle.session_laws.proofs.RunLemmas.{IsLeftBy, IsNextRun, RunsAs, Replies, SetsUp, AsksPlay, Stops, AsksLook}
+use Rattle.session_laws.proofs.RunLemmas.{AsksOffer, one_film, run_goes_on, runs_as}
 use Rattle.conn.specs.EventSteps.{Comes, Round}
 use Rattle.conn.specs.InputSteps.{IsAskAnswered, IsFinished, IsHalted, IsLookAnswered, IsPlayAnswered}
 use Rattle.conn.specs.InputSteps.{IsReplied, Outcome, Unasked, Entered, WasFull, Offered, SentPart, Stage, ElementStep}

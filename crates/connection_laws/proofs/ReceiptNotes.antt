@@ -17,7 +17,7 @@ use Rattle.session.specs.SlotSteps.{sent_reply, sent_slot, stepped_in}
 use Rattle.session.specs.SessionStates.{AwaitedAnswer, HaltAnswer, LookAnswer, NoAnswer, OfferAnswer, OpenBooking}
 use Rattle.session.specs.SessionStates.{PlayAnswer, SessionState}
 use Rattle.session.specs.SessionStates.{awaited_answer, open_of}
-use Rattle.session.proofs.RequestShapes.{HearsAs, Replies, SetsUp, AsksPlay, Stops, AsksLook, AsksOffer, hears_as}
+use Rattle.session_laws.proofs.RequestShapes.{HearsAs, Replies, SetsUp, AsksPlay, Stops, AsksLook, AsksOffer, hears_as}
 use Rattle.conn.specs.EventSteps.{Comes, Ending, Unheard, PeerEnded, Overfull, AtElement, InSlot, InReply}
 use Rattle.conn.specs.EventSteps.{Ends, Round, Runs, RunsAll, ending_outcomes, round_outcomes}
 use Rattle.conn.specs.EventSteps.{rounds_outcomes, takings_outcomes}

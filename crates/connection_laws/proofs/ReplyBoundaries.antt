@@ -1,4 +1,4 @@
--- Each reply of a connection stands at the first boundary from what was due when its request was taken up.
+-- Each reply of a connection stands at the first boundary from what was due when its request was processed.
 use Rattle.std.proofs.Common.{◌≡◌, ℕ, ◌+◌, ◌-◌, ◌<◌, ◌≤◌, ◌++◌, ◌&&◌, if◌then◌else◌, Bool, true}
 use Rattle.std.proofs.Common.{false, min, List, [], ◌∷◌, Option, Some, None, length, refl, ap, sym}
 use Rattle.std.proofs.Common.{◌∙◌, subst, inl, arith}

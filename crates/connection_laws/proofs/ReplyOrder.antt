@@ -48,7 +48,7 @@ texts_append [] ys = refl
 texts_append (Film bytes ∷ xs) ys = texts_append xs ys
 texts_append (Text text ∷ xs) ys = ap (λ ts. text ∷ ts) (texts_append xs ys)
 
--- these texts were sent, and these are replies to requests that were taken up meanwhile
+-- these texts were sent, and these are replies to requests that were processed meanwhile
 abbrev Replies : SessionState → List (List ℕ) → List (List ℕ) → SessionState → Type 0
 Replies old sent replies new = sent ++ waiting_reply new ≡ waiting_reply old ++ replies
 

@@ -33,7 +33,7 @@ use Rattle.conn.specs.InputSteps.{HasHeard, IsAskAnswered, IsHaltAnswered, IsHal
 use Rattle.conn.specs.InputSteps.{Outcome}
 use Rattle.conn.specs.InputSteps.{Unasked, Entered, WasFull, Offered}
 use Rattle.connection_laws.specs.Plays.{StationRequest, plays_admitted, plays_begun, booked_by, kept_by, kept_with}
-use Rattle.session.proofs.RequestShapes.{HearsAs, Replies, SetsUp, AsksPlay, Stops, AsksLook, AsksOffer, hears_as}
+use Rattle.session_laws.proofs.RequestShapes.{HearsAs, Replies, SetsUp, AsksPlay, Stops, AsksLook, AsksOffer, hears_as}
 use Rattle.connection_laws.proofs.AnswerPremises.{PlayEntry, HaltAsked}
 
 -- what of a film is being sent: nothing, a play, or the rest of one that was halted
@@ -54,7 +54,7 @@ pub record IsAfter (old new : SessionState) : Type 0 where
   pub awaited : new.awaited ≡ Nothing
   pub waits : new.waits ≡ true
 
--- the plays that an answer's entry tells
+-- the plays that an answer's entry records
 abbrev pub told_by : Outcome → List PlacedEntry → List Booked
 told_by Unasked made = []
 told_by (Entered placed) made = booked_by (play_admitted placed.entry.command placed.entry.answer) made
@@ -145,7 +145,7 @@ play_in {setup} {paused} {prepared} {awaited} place start is asks plays =
     subst (At (Ready setup paused)) asks (subst (λ (s : State). At s awaited) is plays) in
     (there.pacing, there.plan)
 
--- a session that asks stands as before, and has heard no more
+-- a session that asks stands as before, and has received no more
 record SameHeard (old asked : SessionState) : Type 0 where
   state : asked.state ≡ old.state
   heard : asked.heard ≡ old.heard
@@ -358,7 +358,7 @@ answers_as {ask} {outcome} {asked} {new} rest answered (AsksOffer plan offers se
     asked_offer plan offers asked (subst (λ a. IsAskAnswered asked a outcome new) ask_is answered)
     (ap (λ (s : SessionState). s.state) is) (ap (λ (s : SessionState). s.heard) is)
 
--- a request was heard and answered
+-- a request was received and answered
 pub turns_as : (old : SessionState) (message : List ℕ) (outcome : Outcome) (new : SessionState)
     (heard : HasHeard old message outcome new)
     → old.awaited ≡ Nothing → TurnsAs old heard.asking.awaited outcome new

@@ -1,4 +1,4 @@
--- A connection that hears a front of a client's requests takes up the first of them, each whole.
+-- A connection that receives a prefix of a client's requests processes the first of them, each complete.
 use Rattle.std.specs.Prelude.{⊤}
 use Rattle.std.proofs.Common.{◌≡◌, ℕ, ◌<◌, if◌then◌else◌, false, List, [], ◌∷◌, ◌++◌, Ok, length, drop, refl, sym, ap}
 use Rattle.std.proofs.Common.{subst, ◌∙◌, arith, inl, inr}
@@ -12,7 +12,7 @@ use Rattle.connection_laws.specs.Courses.{Course, first_stage}
 use Rattle.connection_laws.specs.Requests.{is_no_request, requests_in, rounds_input}
 use Rattle.connection_laws.proofs.Requests.{follows_cut, requests_append, rounds_requests, starts_request}
 
--- texts that are found whole, each in front of whatever comes after it
+-- texts that are found complete, each in front of whatever comes after it
 abbrev pub AreFound : List (List ℕ) → Type 0
 AreFound [] = ⊤
 AreFound (text ∷ texts) =
@@ -57,7 +57,7 @@ nothing_cut (element ∷ more) end cut = absurd (none cut.0 cut.1.0)
     none n (WholeBlock starts four size inside) = omega (arith, starts.0)
     none n (WholeMessage starts size inside) = omega (arith, starts.0)
 
--- the elements of a front of them are the first of them
+-- the elements of a prefix of them are the first of them
 front_cut : {input : List ℕ} (texts elements : List (List ℕ)) (rest : List ℕ) → AreFound texts
     → IsPrefixOf input (joined texts) → AreInputElements input elements rest → (more : List (List ℕ)) × (texts ≡
     elements ++ more)

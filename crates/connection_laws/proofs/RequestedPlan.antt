@@ -1,4 +1,4 @@
--- The plan with which a session asks for a whole film is that of the client for whom it was set up.
+-- The plan with which a session asks for an entire film is that of the client for whom it was set up.
 use Rattle.std.proofs.Common.{◌≡◌, ℕ, [], List, refl, ap, subst, ◌∙◌, arith}
 use Rattle.std.proofs.lemmas.List.{length-map}
 use Rattle.mpeg_scan.specs.StartCodes.{read_after}

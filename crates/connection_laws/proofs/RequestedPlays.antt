@@ -1,5 +1,6 @@
 -- What a client that wishes for a film asks of a connection is played as it wished.
-use Rattle.std.proofs.Common.{◌≡◌, ℕ, List, [], ◌∷◌, ◌++◌, length, sum, get_or, codes, refl, sym, ap, subst, ◌∙◌, arith}
+use Rattle.std.proofs.Common.{◌≡◌, ℕ, List, [], ◌∷◌, ◌++◌, length, sum, get_or, codes, refl, sym, ap, subst}
+use Rattle.std.proofs.Common.{slice_index, ◌∙◌, arith}
 use Rattle.std.proofs.lemmas.List.{append-nil}
 use Rattle.film_frames.specs.declared.stored_films.Stored.{Stored}
 use Rattle.film_frames.specs.Tracks.{framed_bytes}
@@ -27,7 +28,8 @@ use Rattle.connection_laws.proofs.NoPlays.{AreNoPlays, IsNoPlay, rounds_none}
 use Rattle.connection_laws.proofs.OnePlay.{IsPlayedWhole, Outlook, rounds_walk, setup_no_play}
 use Rattle.connection_laws.proofs.ReplyOrder.{replies_in_order}
 use Rattle.connection_laws.proofs.CompleteReplies.{AreTeardowns, AreWhole, texts_whole}
-use Rattle.session.proofs.CompleteReplyLemmas.{begins_named}
+use Rattle.session.specs.RequestSteps.{source_of}
+use Rattle.session_laws.proofs.CompleteReplyLemmas.{begins_named}
 use Rattle.connection_laws.proofs.EndToEndMeter.{rest_all}
 use Rattle.connection_laws.proofs.CourseReplies.{replies_sent}
 use Rattle.connection_laws.proofs.Requests.{rounds_requests}
@@ -35,12 +37,13 @@ use Rattle.connection_laws.proofs.TwoReplies.{AreReplies, two_first}
 use Rattle.connection_laws.proofs.SetupOnly.{Beginning, IsWaiting}
 use Rattle.connection_laws.proofs.FirstPlays.{IsWished}
 
-abbrev beginning_of : {wish : Wish} {stored : Stored} {course : Course} → IsAskedFor wish stored course → Beginning
+abbrev pub beginning_of : {wish : Wish} {stored : Stored} {course : Course} → IsAskedFor wish stored course → Beginning
 beginning_of {wish} {stored} {course} asked = record {
   wish = wish;
   films = course.films;
   settings = course.settings;
   session = asked.session;
+  source = source_of course.words;
   wished = asked.wished;
   port = asked.port;
   session_is = asked.session_is;
@@ -65,7 +68,7 @@ pub record AreAsked (b : Beginning) (requests : List (List ℕ)) : Type 0 where
 abbrev all_texts : Beginning → List (List ℕ)
 all_texts b = setup_text b.wish ∷ play_text b.wish b.session ∷ teardown_text b.wish b.session ∷ []
 
-torn_no_plays : (b : Beginning) (messages : List (List ℕ)) → AreTeardowns b messages → AreNoPlays messages
+pub torn_no_plays : (b : Beginning) (messages : List (List ℕ)) → AreTeardowns b messages → AreNoPlays messages
 torn_no_plays b [] are = tt
 torn_no_plays b (message ∷ messages) are = (teardown_no_play b are.0, torn_no_plays b messages are.1)
 
@@ -97,10 +100,11 @@ first_waits asked = record {
   stands = record { rest = refl; sound = tt };
   films_are = refl;
   settings_are = refl;
+  source_is = refl;
   unbegun = tt;
 }
 
-requests_of : {wish : Wish} {stored : Stored} {course : Course} (asked : IsAskedFor wish stored course)
+pub requests_of : {wish : Wish} {stored : Stored} {course : Course} (asked : IsAskedFor wish stored course)
     → AreAsked (beginning_of asked) (rounds_requests course.rounds)
 requests_of {wish} {stored} {course} asked =
     let b = beginning_of asked in
@@ -122,7 +126,7 @@ requests_of {wish} {stored} {course} asked =
     let clash : [] ≡ asked.play ∷ asked.others = sym empty ∙ asked.plays in
     let no : ⊥ = cc in no)
 
-abbrev outlook_of : {wish : Wish} {stored : Stored} {course : Course} (asked : IsAskedFor wish stored course)
+abbrev pub outlook_of : {wish : Wish} {stored : Stored} {course : Course} (asked : IsAskedFor wish stored course)
     → AreAsked (beginning_of asked) (rounds_requests course.rounds) → Outlook
 outlook_of asked its = record {
   last = its.last;
@@ -131,8 +135,9 @@ outlook_of asked its = record {
   others = asked.others;
 }
 
-one_play : {wish : Wish} {stored : Stored} {course : Course} (asked : IsAskedFor wish stored course)
-    → IsPlayedWhole (beginning_of asked) (outlook_of asked (requests_of asked)) 0 1 (slots_from 0 course.rounds)
+pub one_play : {wish : Wish} {stored : Stored} {course : Course} (asked : IsAskedFor wish stored course)
+    → IsPlayedWhole (beginning_of asked) (outlook_of asked (requests_of asked))
+    (first_stage course.films course.settings course.words).session 0 1 (slots_from 0 course.rounds)
     (course_replies course)
 one_play {wish} {stored} {course} asked =
     rounds_walk (first_stage course.films course.settings course.words) course.last course.rounds course.follows
@@ -141,6 +146,7 @@ one_play {wish} {stored} {course} asked =
       named = begins_named course.films course.settings course.words asked.films;
       heard = refl;
       setups = (refl, tt);
+      fresh = refl;
       requests_are = (requests_of asked).requests_are;
       teardowns = (requests_of asked).teardowns;
       plays = asked.plays;
@@ -208,3 +214,9 @@ asked_played {wish} {stored} {course} asked =
       },
       refl,
     )
+
+-- its source is the connection's random word
+pub asked_source : {wish : Wish} {stored : Stored} {course : Course} (asked : IsAskedFor wish stored course)
+    → (asked_played asked).0.identity.ssrc ≡ slice_index course.words 2
+unfolding asked_played
+asked_source asked = (one_play asked).one.wished.ssrc

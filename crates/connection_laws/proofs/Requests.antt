@@ -1,4 +1,4 @@
--- The requests that were taken up are those of the input, in order.
+-- The requests that were processed are those of the input, in order.
 use Rattle.std.proofs.Common.{◌≡◌, ◌⊎◌, ℕ, ◌<◌, ◌++◌, ◌||◌, ◌==◌, if◌then◌else◌, Bool, true, false}
 use Rattle.std.proofs.Common.{List, [], ◌∷◌, Ok, Err, length, take, drop, map, get_or, refl, ap}
 use Rattle.std.proofs.Common.{sym, ◌∙◌, subst, inl, inr, arith}
@@ -48,7 +48,7 @@ over_other input n (ABlock starts four size inside) =
     let same : get_or (take n input) 0 0 ≡ 36 = get_or-take n input 0 0 (omega (arith, size)) ∙ starts.1 in
     ap (λ b. is_line_end b || (b == 36)) same
 
--- elements that are taken up are those of the input
+-- elements that are processed are those of the input
 record Cuts (old new : Stage) (messages : List (List ℕ)) : Type 0 where
   elements : List (List ℕ)
   cut : AreInputElements old.input elements new.input
@@ -98,7 +98,7 @@ goes_cut old new (RequestElement turn ∷ elements) goes =
           ∙ ap (λ m. m ∷ map message_of (elements_hearings elements)) (sym taken.next.message_is);
     }
 
--- bytes that wait are cut on
+-- bytes that wait are split further
 record LaterCut : Type 0 where
   input : List ℕ
   elements : List (List ℕ)
@@ -127,14 +127,14 @@ pub record CutsAll (heard : List ℕ) (new : Stage) (messages : List (List ℕ))
   pub cut : AreInputElements heard elements new.input
   pub requests : requests_in elements ≡ messages
 
--- what was heard by a stage is cut into elements with these requests, and into what waits
+-- what was received by a stage is split into elements with these requests, and into what waits
 pub record HeardCut (old : Stage) (messages : List (List ℕ)) : Type 0 where
   pub heard : List ℕ
   pub elements : List (List ℕ)
   pub cut : AreInputElements heard elements old.input
   pub requests : requests_in elements ≡ messages
 
--- the requests that were taken up, in order
+-- the requests that were processed, in order
 abbrev pub takings_requests : List ElementStep → List (List ℕ)
 takings_requests [] = []
 takings_requests (Passed n ∷ takings) = takings_requests takings
@@ -144,7 +144,7 @@ abbrev pub rounds_requests : List Round → List (List ℕ)
 rounds_requests [] = []
 rounds_requests (round ∷ rounds) = takings_requests round.takings ++ rounds_requests rounds
 
--- the requests that are heard are those that are taken up
+-- the requests that are received are those that are processed
 takings_heard : (old new : Stage) (takings : List ElementStep) (takes : TakesAll old takings new)
     → map message_of (heard_requests_taken old takings new takes) ≡ takings_requests takings
 takings_heard old new [] takes = refl
@@ -215,7 +215,7 @@ follows_cut {new} {messages} old (round ∷ rounds) follows heard_cut =
   where
     open heard_cut use {heard, elements, cut, requests}
 
--- what isn't taken up isn't whole, or waits for a reply
+-- what isn't processed isn't complete, or waits for a reply
 abbrev IsRest : Stage → Type 0
 IsRest stage = ((n : ℕ) → IsElementLength stage.input n → ⊥) ⊎ (AwaitsReply stage ⊎ (stage.session.torn ≡ true))
 

@@ -67,7 +67,7 @@ texts_parts place (Film bytes ∷ xs) ys =
     omega (arith, length-append bytes (film_bytes xs)) in e)
 texts_parts place (Text text ∷ xs) ys = ap (λ l. placed_text place text ∷ l) (texts_parts place xs ys)
 
--- ---- how much film there is in a front
+-- ---- how much film there is in a prefix
 
 pub record IsCounted (first second film total bytes : ℕ) : Type 0 where
   pub is : first + second ≤ bytes → min (bytes - first - second) total ≡ film
@@ -118,7 +118,7 @@ counted_by {later} {rest} {total} texts_first (a ∷ b ∷ c ∷ texts) all with
     let past = subst P third later_texts.after in
     record { is = λ much. omega (arith, one, two, later_texts.few, past.0, within.1.1.1.0) }
 
--- ---- all of it, as a front of the stream
+-- ---- all of it, as a prefix of the stream
 
 pub framed_append : (xs ys : List (List ℕ)) → framed_bytes (xs ++ ys) ≡ framed_bytes xs ++ framed_bytes ys
 framed_append [] ys = refl
@@ -174,7 +174,7 @@ film_woven {film} blocks (placed ∷ texts) n is after within =
           (blocks ++ framed_bytes (map text_of (placed ∷ texts))) (omega arith));
     }
 
--- bytes that are a front of these blocks
+-- bytes that are a prefix of these blocks
 pub record BlocksFront (film : List ℕ) : Type 0 where
   pub blocks : List ℕ
   pub count : ℕ
@@ -195,7 +195,7 @@ all_woven front setup played later after within =
   where
     open front use {blocks, count as n, front_is as is}
 
--- ---- what the link told of rounds
+-- ---- what the link exposed of rounds
 
 sent_append : (a b : List IoEvent) → sent_bytes (a ++ b) ≡ sent_bytes a ++ sent_bytes b
 sent_append [] b = refl
@@ -248,7 +248,7 @@ rounds_latest (round ∷ rounds) =
     let sent = sends (round_bytes round) in
     omega (arith, latest_append sent (rounds_doings rounds), latest_sends (round_bytes round), rounds_latest rounds)
 
--- a front that no byte follows is that of whole rounds
+-- a prefix that no byte follows is that of complete rounds
 pub record AreWhole (rounds : List Round) (front : List IoEvent) : Type 0 where
   pub first : List Round
   pub later : List Round

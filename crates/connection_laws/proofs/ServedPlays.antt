@@ -133,7 +133,7 @@ none_before : (a b : List StationRequest) → plays_of (a ++ b) ≡ [] → plays
 none_before [] b none = refl
 none_before (Asks asked outcome ∷ a) b none = before_by a b (none_before a b) (either asked outcome) none
 
--- one play that is kept whole: it began already, and is the same, or it begins later
+-- one play that is kept entirely: it began already, and is the same, or it begins later
 abbrev pub IsSoFar : List StationRequest → List StationRequest → FilmPlay → Type 0
 IsSoFar a b play = (plays_of a ≡ play ∷ []) ⊎ ((plays_of a ≡ []) × (plays_of b ≡ play ∷ []))
 
@@ -166,7 +166,7 @@ one_so_far [] b play one whole = inr (refl, one)
 one_so_far (Asks asked outcome ∷ a) b play one whole =
     one_by a b (λ is. one_so_far a b play is whole) (either asked outcome) one whole
 
--- ---- a play begins after the slot that was heard, with a plan of segments
+-- ---- a play begins after the slot that was received, with a plan of segments
 
 pub record IsLatePlay (heard : ℕ) (play : FilmPlay) : Type 0 where
   pub late : heard < play.start
@@ -277,7 +277,7 @@ comes_none {old} {opened} {event = HeardSlot slot} come =
 comes_none {event = HeardEnd} come = absurd come.comes
 comes_none {event = Sent byte} come = absurd come.comes
 
--- an event leaves the heard slot, or raises it
+-- an event leaves the slot that was received last, or raises it
 opened_heard : (old new : Stage) (round : Round) (runs : Runs old round new) → Stands old.session
     → old.session.heard ≤ runs.opened.session.heard
 opened_heard old new round runs stands =

@@ -17,6 +17,7 @@ use Rattle.session.specs.declared.settings.Settings.{Settings}
 use Rattle.session.specs.declared.states.Awaited.{Awaited}
 use Rattle.session.specs.declared.states.Awaited.TheVariants.{Nothing}
 use Rattle.session.specs.declared.states.State.{State}
+use Rattle.session.specs.declared.states.StreamSource.{StreamSource}
 use Rattle.session.specs.declared.states.State.TheVariants.{Init, Ready, Playing, Stopping}
 use Rattle.session.specs.Films.{Names}
 use Rattle.session.specs.SlotSteps.{after_play, after_slot, can_reply, is_sending, is_taken, sent_reply, sent_slot}
@@ -29,7 +30,7 @@ use Rattle.conn.specs.InputSteps.{Takes}
 use Rattle.conn.specs.InputSteps.{Unasked, WasFull}
 use Rattle.connection_laws.proofs.FilmBytes.{Stands, opened_stands, taken_stands}
 use Rattle.connection_laws.proofs.ClientSetups.{IsSettled, settled_by, setup_is}
-use Rattle.session.proofs.SetupLemmas.{IsSetupRequest, SetupHeard, Refused, Settled, setup_heard}
+use Rattle.session_laws.proofs.SetupLemmas.{IsSetupRequest, SetupHeard, Refused, Settled, setup_heard}
 
 -- no play has begun, and a SETUP that was answered 200 settled what the client wished
 abbrev pub IsUnbegun : Wish → List Stored → State → Type 0
@@ -44,6 +45,7 @@ pub record Beginning : Type 0 where
   pub films : List Stored
   pub settings : Settings
   pub session : List ℕ
+  pub source : StreamSource
   pub wished : IsWish wish
   pub port : wish.port < 2 ^ 16
   pub session_is : IsSessionId session
@@ -53,6 +55,7 @@ pub record IsWaiting (b : Beginning) (s : SessionState) : Type 0 where
   pub stands : Stands s
   pub films_are : s.films ≡ b.films
   pub settings_are : s.settings ≡ b.settings
+  pub source_is : s.source ≡ b.source
   pub unbegun : IsUnbegun b.wish b.films s.state
 
 unsending : (wish : Wish) (films : List Stored) (state : State) → IsUnbegun wish films state → is_sending state ≡ false
@@ -61,19 +64,21 @@ unsending wish films (Ready setup paused) is = refl
 unsending wish films (Playing setup play) is = absurd is
 unsending wish films (Stopping setup stop) is = absurd is
 
--- a slot leaves all but the slot that was heard last
+-- a slot leaves all but the slot that was received last
 record IsHeardOn (old new : SessionState) : Type 0 where
   films : new.films ≡ old.films
   settings : new.settings ≡ old.settings
+  source : new.source ≡ old.source
   state : new.state ≡ old.state
   awaited : new.awaited ≡ old.awaited
 
 heard_on : (old : SessionState) (slot : ℕ) (taken sending : Bool) → sending ≡ false
     → IsHeardOn old
     (if taken then (if sending then after_play (sent_slot old slot) else record old { heard = slot }) else old)
-heard_on old slot true false is = record { films = refl; settings = refl; state = refl; awaited = refl }
+heard_on old slot true false is = record { films = refl; settings = refl; source = refl; state = refl; awaited = refl }
 heard_on old slot true true is = absurd (true≢false is)
-heard_on old slot false sending is = record { films = refl; settings = refl; state = refl; awaited = refl }
+heard_on old slot false sending is =
+    record { films = refl; settings = refl; source = refl; state = refl; awaited = refl }
 
 finished_same : (s : SessionState) (halt : Outcome) (new : SessionState) → IsFinished NoAnswer s halt new → new ≡ s
 finished_same s Unasked new is = is
@@ -88,6 +93,7 @@ comes_same old opened (HeardBytes bytes) come rest idle =
     record {
       films = ap (λ (s : SessionState). s.films) same;
       settings = ap (λ (s : SessionState). s.settings) same;
+      source = ap (λ (s : SessionState). s.source) same;
       state = ap (λ (s : SessionState). s.state) same;
       awaited = ap (λ (s : SessionState). s.awaited) same;
     }
@@ -100,6 +106,7 @@ comes_same old opened (HeardSlot slot) come rest idle =
     record {
       films = ap (λ (x : SessionState). x.films) same ∙ on.films;
       settings = ap (λ (x : SessionState). x.settings) same ∙ on.settings;
+      source = ap (λ (x : SessionState). x.source) same ∙ on.source;
       state = ap (λ (x : SessionState). x.state) same ∙ on.state;
       awaited = ap (λ (x : SessionState). x.awaited) same ∙ on.awaited;
     }
@@ -117,6 +124,7 @@ opened_waits {b} {old} {new} {round} runs waits =
       stands = opened_stands old new round runs waits.stands;
       films_are = on.films ∙ waits.films_are;
       settings_are = on.settings ∙ waits.settings_are;
+      source_is = on.source ∙ waits.source_is;
       unbegun = subst (IsUnbegun b.wish b.films) (sym on.state) waits.unbegun;
     }
 
@@ -131,6 +139,7 @@ unbegun_reply wish films (Stopping setup stop) is = absurd is
 pub record IsWaitingStill (b : Beginning) (s : SessionState) : Type 0 where
   pub films_are : s.films ≡ b.films
   pub settings_are : s.settings ≡ b.settings
+  pub source_is : s.source ≡ b.source
   pub unbegun : IsUnbegun b.wish b.films s.state
 
 replied_waits : {b : Beginning} (goes : Bool) (s : SessionState) → IsWaitingStill b s
@@ -138,11 +147,12 @@ replied_waits : {b : Beginning} (goes : Bool) (s : SessionState) → IsWaitingSt
 replied_waits {b} true s still = record {
   films_are = still.films_are;
   settings_are = still.settings_are;
+  source_is = still.source_is;
   unbegun = unbegun_reply b.wish b.films s.state still.unbegun;
 }
 replied_waits false s still = still
 
-reply_same : (asking : SessionState) (ask : Ask) (outcome : Outcome) (new : SessionState) → ask ≡ Reply
+pub reply_same : (asking : SessionState) (ask : Ask) (outcome : Outcome) (new : SessionState) → ask ≡ Reply
     → IsAskAnswered asking ask outcome new → new ≡ asking
 reply_same asking ask outcome new is answered =
     go outcome (subst (λ a. IsAskAnswered asking a outcome new) is answered)
@@ -161,6 +171,7 @@ setup_waits {b} {old} {asking} waits (Refused text reply is) = (
   record {
     films_are = ap (λ (s : SessionState). s.films) is ∙ waits.films_are;
     settings_are = ap (λ (s : SessionState). s.settings) is ∙ waits.settings_are;
+    source_is = ap (λ (s : SessionState). s.source) is ∙ waits.source_is;
     unbegun = subst (IsUnbegun b.wish b.films) (sym (ap (λ (s : SessionState). s.state) is)) waits.unbegun;
   },
 )
@@ -171,6 +182,7 @@ setup_waits {b} {old} {asking} waits (Settled setup text authority reply is asks
       record {
         films_are = ap (λ (s : SessionState). s.films) is ∙ waits.films_are;
         settings_are = ap (λ (s : SessionState). s.settings) is ∙ waits.settings_are;
+        source_is = ap (λ (s : SessionState). s.source) is ∙ waits.source_is;
         unbegun = subst (IsUnbegun b.wish b.films) (sym (ap (λ (s : SessionState). s.state) is)) (refl, settled);
       },
     )
@@ -202,5 +214,6 @@ answered_waits {b} {old} {new} {message} {outcome} {parts} takes is waits =
       stands = taken_stands old new (Answered message outcome parts) takes waits.stands;
       films_are = its.films_are;
       settings_are = its.settings_are;
+      source_is = its.source_is;
       unbegun = its.unbegun;
     }

@@ -176,7 +176,7 @@ ending_either {between = false} {p} {heard} {slot} sound later stands =
     (sym (slot_is true false slot p sound.0.pacing stands))
     (ending_on p heard slot sound later)
 
--- what is sent goes on by a slot that is taken up
+-- what is sent goes on by a slot that is processed
 abbrev pub SlotGoes : State → Bool → ℕ → ℕ → List ℕ → Type 0
 SlotGoes state waits heard slot text =
     GoesOn (sends_in state) (sends_in (state_after waits state slot)) heard slot (waits_after waits state slot)

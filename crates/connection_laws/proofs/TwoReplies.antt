@@ -1,7 +1,7 @@
 -- The replies to two requests before a play stand before its film, and those to requests once it was due after it.
 use Rattle.std.proofs.Common.{◌≡◌, ℕ, ◌+◌, ◌<◌, ◌≤◌, List, [], ◌∷◌, drop, ap, ◌∙◌, arith, inl}
 use Rattle.film_frames.specs.Tracks.{IsBoundary}
-use Rattle.session.specs.CompleteReplies.{IsMessage}
+use Rattle.rtsp_replies.specs.Messages.{IsMessage}
 use Rattle.connection_laws.specs.ClientRequests.{IsDueBy}
 use Rattle.connection_laws.specs.ReplyPlaces.{AreSentAt, IsBoundaryIn, IsSentAt, IsUnsentAt}
 use Rattle.connection_laws.specs.WholePlays.{AreAfter}
@@ -39,7 +39,7 @@ never_unsent {slot} play now before late unsent =
     let below : due_by now (play ∷ []) < 0 = unsent 0 (first_boundary play before) (omega (arith, none)) in
     omega (arith, below)
 
--- replies to requests that were taken up once the film was due
+-- replies to requests that were processed once the film was due
 record AreOnceDue (play : FilmPlay) (now : ℕ) (slots : List ℕ) (texts : List PlacedText) : Type 0 where
   due : IsDueBy play slots
   sent : AreSentAt now (play ∷ []) slots texts

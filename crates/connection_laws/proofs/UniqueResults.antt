@@ -12,7 +12,7 @@ use Rattle.session.specs.declared.commands.Ask.TheVariants.{Look as AskLook, Off
 use Rattle.session.specs.RequestSteps.{Hears}
 use Rattle.session.specs.Laws.{IsOneAnswer}
 use Rattle.session.specs.SettingRanges.{AreFilms}
-use Rattle.session.proofs.AnswerUniqueness.{hears_once}
+use Rattle.session_laws.proofs.AnswerUniqueness.{hears_once}
 use Rattle.session.specs.SlotSteps.{can_reply, after_play, is_between, is_sending, is_taken, sent_due, sent_reply}
 use Rattle.session.specs.SlotSteps.{sent_slot, after_slot, stepped_in}
 use Rattle.session.specs.SessionStates.{AwaitedAnswer, NoAnswer, PlayAnswer, HaltAnswer, LookAnswer, OfferAnswer}
@@ -23,7 +23,7 @@ use Rattle.conn.specs.InputSteps.{IsAskAnswered, IsFinished, IsHalted, IsLookAns
 use Rattle.conn.specs.InputSteps.{after_reply}
 use Rattle.connection_laws.specs.InputSplits.{AreSameAnswers, HeardRequest, LackMemoryAlike, RanOutOfMemory, answer_in}
 
--- ---- a request is heard
+-- ---- a request is received
 
 abbrev pub hearing : SessionState → List ℕ → Ask → SessionState → HeardRequest
 hearing session message ask asking = record { session = session; message = message; ask = ask; asking = asking }
@@ -189,7 +189,7 @@ answers_same {new} {again} {one} {other} old ask alike is also =
     (outcome_of old ask other again also) alike.same in
     (answered_once old ask one is (subst (λ o. IsAskAnswered old ask o again) both.0 also), both.1)
 
--- ---- a slot is taken up
+-- ---- a slot is processed
 
 unasked : (old : SessionState) (outcome : Outcome) (new : SessionState) → IsFinished NoAnswer old outcome new
     → (outcome ≡ Unasked) × (new ≡ old)

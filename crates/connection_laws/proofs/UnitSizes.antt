@@ -78,7 +78,7 @@ part_frames of_run (suc k) (p ∷ (q ∷ packets)) s marked few =
   where
     open of_run use {run, frames as f, unit, media}
 
--- a unit is whole: its size is that of its frames and of what waited before them
+-- a unit is complete: its size is that of its frames and of what waited before them
 pub record IsUnitDone (s : Sum) (size : ℕ) (t : Sum) : Type 0 where
   pub sizes : t.sizes ≡ s.sizes ++ size ∷ []
   pub pending : t.pending ≡ 0
@@ -208,7 +208,7 @@ whole_unit {s} true from marked_unit some between =
 
 -- ---- units
 
--- by so many bytes of units of these sizes, some units are whole, and the next isn't
+-- by so many bytes of units of these sizes, some units are complete, and the next isn't
 pub record HasCome (sizes : List ℕ) (c : ℕ) (s t : Sum) : Type 0 where
   pub count : ℕ
   pub sizes_are : t.sizes ≡ s.sizes ++ take count sizes
@@ -286,7 +286,7 @@ blocks_one from starts (unit ∷ units) =
   where
     open from use {run, frames as f, octets as o}
 
--- the sizes of the units that are whole
+-- the sizes of the units that are complete
 pub units_come : {c : ℕ} {s : Sum} (from : RunFrom) (starts : List ℕ) (units : List PictureUnit) →
     AreLaid (length from.run.film) starts units → AtUnit s →
     HasCome (map (λ u. wire_size starts u) units) c s

@@ -22,7 +22,7 @@ use Rattle.connection_laws.proofs.TextPlaces.{AreFrom, AreLater, IsAtNext, Stand
 use Rattle.connection_laws.proofs.TextPlaces.{with_pending}
 use Rattle.connection_laws.proofs.RequestEffects.{Ending, Going, Idle, Sends}
 
--- what was sent and what is sent from here on, with the slots in which the requests were taken up whose replies come
+-- what was sent and what is sent from here on, with the slots in which the requests were processed whose replies come
 abbrev pub Stand : Sends → Option ℕ → List StationRequest → ℕ → List ℕ → List SentPart → Type 0
 Stand Idle pending askings end slots parts = AreSentAt end (plays_of askings) (with_pending pending slots)
     (placed_texts 0 parts)
@@ -30,7 +30,7 @@ Stand (Going p) pending askings end slots parts =
     StandAt p (kept_in askings (total_bytes p.plan)) pending (plays_of askings) end slots parts
 Stand (Ending p) pending askings end slots parts = StandAt p p.keep pending (plays_of askings) end slots parts
 
--- how a sending stands: what it sends, the slot that was heard last, and the slot in which the request was taken up
+-- how a sending stands: what it sends, the slot that was received last, and the slot in which the request was processed
 -- whose reply is held up
 pub record Point : Type 0 where
   pub sends : Sends
@@ -70,7 +70,7 @@ goes_then {a} {b} {c} {made} {asked} {slots} {taken} {parts} {sent} one two = re
 pub goes_same : (at : Point) → GoesTo at at [] [] []
 goes_same at = record { later = omega arith; rest = λ askings end more rest on fits. fits }
 
--- ---- a reply is held up: of the film no boundary was reached since its request was taken up
+-- ---- a reply is held up: of the film no boundary was reached since its request was processed
 
 pub record IsHeldUp (p : PacerState) (slot heard : ℕ) : Type 0 where
   pub before : slot ≤ heard

@@ -68,7 +68,7 @@ end_of {out} mid (inl (inr spent, none, empty)) = absurd (let no : ⊥ = cc in n
 end_of {out} mid (inr (inl early)) = absurd (let no : ⊥ = cc in no)
 end_of {out} mid (inr (inr (bytes, (sent, (stops, doings_are, few))))) = (bytes, (sent, (stops, doings_are)))
 
--- all of a course: the bytes that were heard, and where it is done
+-- all of a course: the bytes that were received, and where it is done
 pub record HasWatchedAll (wish : Wish) (watched : Watched) (rounds : List Round) (mid : WatchStage)
     (bytes out : List ℕ) : Type 0 where
   pub done : IsDrained wish watched (rounds_heard rounds ++ bytes) out
@@ -150,7 +150,7 @@ kept_promise {wish} {film} {x} {rounds} {mid} {bytes} {out} c wished_stream runs
   where
     open wished_stream use {wished, timed, film_is as is}
 
--- ---- what the link told
+-- ---- what the link exposed
 
 heard_append : (a b : List IoEvent) → heard_bytes (a ++ b) ≡ heard_bytes a ++ heard_bytes b
 heard_append [] b = refl
@@ -182,7 +182,7 @@ heard_rounds wish h (round ∷ rounds) =
     ∙ (ap (λ l. l ++ heard_bytes rest) (heard_sends (requests_after wish h round.moments))
     ∙ heard_rounds wish (history_after h round.moments) rounds))
 
--- what it told before a round, and after it
+-- what it exposed before a round, and after it
 pub record IsSplit (wish : Wish) (h : History) (before : List Round) (round : Round) (told : List IoEvent) : Type 0
   where
     pub later : List IoEvent
@@ -205,7 +205,7 @@ split_at wish h (first ∷ before) later round =
           (round.event ∷ rest.later));
     }
 
--- what the link told that was heard, whatever the answer is
+-- what the link exposed that was received, whatever the answer is
 pub told_bytes : {wish : Wish} {end : WatchEnd} {heard : List IoEvent} {out : List ℕ}
     (client : HasCourse wish end (Some []) (Some heard) (Some []) (Some out))
     → heard_bytes heard ≡ rounds_heard client.rounds ++ heard_bytes client.last_doings

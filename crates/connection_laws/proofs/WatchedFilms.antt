@@ -27,7 +27,7 @@ use Rattle.connection_laws.proofs.EndToEndMeter.{all_sent, all_sent_whole, film_
 use Rattle.connection_laws.proofs.EndToEndMeter.{stream_replies}
 use Rattle.connection_laws.proofs.MeterInput.{all_of}
 
--- a whole film that a course played, with the clauses on its frames
+-- an entire film that a course played, with the clauses on its frames
 pub record IsServed (wish : Wish) (stored : Stored) (course : Course) : Type 0 where
   pub played : HasPlayedWhole wish stored course
   pub small : played.identity.ssrc < 2 ^ 32

@@ -13,7 +13,7 @@ use Rattle.film_run.specs.Units.{stored_sizes}
 use Rattle.rtsp_client.specs.declared.watch_request.Wish.{Wish}
 use Rattle.session.specs.declared.states.Setup.{Setup}
 use Rattle.session.specs.declared.settings.Settings.{Settings}
-use Rattle.session.specs.CompleteReplies.{IsMessage}
+use Rattle.rtsp_replies.specs.Messages.{IsMessage}
 use Rattle.connection_laws.specs.Courses.{Course, course_plays}
 use Rattle.connection_laws.specs.Plays.{FilmPlay}
 use Rattle.connection_laws.specs.Replies.{PlacedText, course_texts, placed_text}

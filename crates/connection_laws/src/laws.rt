@@ -41,8 +41,9 @@ ghost use Rattle.connection_laws.specs.Replies.{waiting_reply};
 ghost use Rattle.connection_laws.specs.Replies.{insert_texts};
 
 pub use crate::watch_laws::{
-    law_play_reply_is_read_correctly, law_requested_film_is_played, law_unit_count_from_end_time,
-    law_watched_film_is_complete, law_whole_film_uses_its_plan,
+    law_client_requests_are_answered, law_play_reply_is_read_correctly,
+    law_requested_film_is_played, law_unit_count_from_end_time, law_watched_film_is_complete,
+    law_whole_film_uses_its_plan,
 };
 
 /// The events of a connection's course follow one another, with the last one where an element ended

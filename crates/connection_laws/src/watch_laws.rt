@@ -2,7 +2,7 @@
 //! replies.
 
 ghost use Rattle.std.specs.Prelude.{◌≡◌, ◌≤◌, ◌<◌, ◌+◌, ◌^◌, ◌++◌, ◌∷◌, All, List, Some, []};
-ghost use Rattle.std.specs.Prelude.{ℕ, codes, decimal, length, map};
+ghost use Rattle.std.specs.Prelude.{ℕ, codes, decimal, length, map, slice_index};
 ghost use Rattle.film_frames.specs.declared.stored_films.Stored.{Stored};
 ghost use Rattle.interleave.specs.Elements.{IsMessageLength};
 ghost use Rattle.mpeg_scan.specs.PictureRates.{picture_time};
@@ -18,7 +18,7 @@ ghost use Rattle.session.specs.declared.settings.Settings.{Settings};
 ghost use Rattle.session.specs.declared.states.Counts.{Counts};
 ghost use Rattle.session.specs.declared.states.Setup.{Setup};
 ghost use Rattle.session.specs.declared.states.StreamSource.{StreamSource};
-ghost use Rattle.session.specs.Replies.{field, play_fields, play_text};
+ghost use Rattle.rtsp_replies.specs.Replies.{field, play_fields, play_text};
 ghost use Rattle.vod_base.specs.Links.{IoEvent};
 ghost use Rattle.conn.specs.EventSteps.{IsPrefixOf, rounds_doings};
 ghost use Rattle.rtsp_client.specs.WatchCourses.{HasCourse};
@@ -29,7 +29,8 @@ ghost use Rattle.rtsp_client.specs.declared.watch_request.WatchEnd.{WatchEnd};
 ghost use Rattle.rtsp_client.specs.declared.watch_request.WatchEnd.TheVariants.{Done};
 ghost use Rattle.rtsp_client.specs.declared.watch_request.Watched.{Watched};
 ghost use Rattle.rtsp_client.specs.declared.watch_request.Wish.{Wish};
-ghost use Rattle.connection_laws.specs.ClientRequests.{EndsWhole, HasWatchedWhole, IsAskedFor};
+ghost use Rattle.connection_laws.specs.ClientRequests.{AreInRange, EndsWhole, HasWatchedWhole};
+ghost use Rattle.connection_laws.specs.ClientRequests.{IsAskedFor};
 ghost use Rattle.connection_laws.specs.LinkDelivery.{IsCarried, IsDelivered, heard_bytes};
 ghost use Rattle.connection_laws.specs.LinkDelivery.{sent_bytes};
 ghost use Rattle.connection_laws.specs.Replies.{text_of};
@@ -48,9 +49,10 @@ use rtsp_client::laws::law_whole_film_ends_in_done;
 /// play, of the entire film and for the client's own buffer, start delay and slot, was sent to its
 /// end.
 ///
-/// The client refuses no byte, no frame and no reply of such a connection, where the replies to its
-/// requests are 200. Once it received all that the server sent, the reply to TEARDOWN with it, it
-/// ends in `Done`, unless its own I/O failed or its memory ran out.
+/// The client refuses no byte, no frame and no reply of such a connection: where it was asked for
+/// the film, or where the replies to the client's requests are 200. Once it received all that the
+/// server sent, the reply to TEARDOWN with it, it ends in `Done`, unless its own I/O failed or its
+/// memory ran out.
 pub fn law_watched_film_is_complete()
     ensures played { (wish : Wish) (stored : Stored) (course : Course) (watched : Watched)
         (heard : List IoEvent) (out : List ℕ) → IsWish wish
@@ -78,6 +80,19 @@ pub fn law_watched_film_is_complete()
         → IsCarried (rounds_doings course.rounds) heard played.play.start
         (first_slot client.mid.history) → IsDelivered course heard → IsDecided end
         → EndsWhole wish stored end out }
+    ensures asked_unrefused { (wish : Wish) (stored : Stored) (course : Course) (end : WatchEnd)
+        (heard : List IoEvent) (out : List ℕ) → (asked : IsAskedFor wish stored course)
+        → AreInRange course asked.play
+        → HasCourse wish end (Some []) (Some heard) (Some []) (Some out)
+        → IsPrefixOf (heard_bytes heard) (sent_bytes (rounds_doings course.rounds))
+        → RefusesNothing end }
+    ensures asked_done { (wish : Wish) (stored : Stored) (course : Course) (end : WatchEnd)
+        (heard : List IoEvent) (out : List ℕ) → (asked : IsAskedFor wish stored course)
+        → AreInRange course asked.play
+        → (client : HasCourse wish end (Some []) (Some heard) (Some []) (Some out))
+        → IsCarried (rounds_doings course.rounds) heard asked.play.start
+        (first_slot client.mid.history) → IsDelivered course heard → IsDecided end
+        → EndsWhole wish stored end out }
 {
     law_whole_film_ends_in_done();
 }
@@ -91,6 +106,20 @@ pub fn law_requested_film_is_played()
     ensures { (wish : Wish) (stored : Stored) (course : Course)
         → (asked : IsAskedFor wish stored course)
         → (played : HasPlayedWhole wish stored course) × (played.play ≡ asked.play) }
+{}
+
+/// A client that asks a connection for a film reads 200 in each reply: the one to SETUP names a
+/// session, and the one to PLAY has the film's end and the play's start, which is at most slot
+/// 2^62 + 1. The film's frames have the SSRC that is the third of the connection's random words
+/// (RFC 3550 section 5.1).
+pub fn law_client_requests_are_answered()
+    ensures replies { (wish : Wish) (stored : Stored) (course : Course)
+        → (asked : IsAskedFor wish stored course) → asked.play.start ≤ 2 ^ 62 + 1
+        → (played : HasPlayedWhole wish stored course)
+        → AreGoodReplies stored.film played.setup played.played (map text_of played.later) }
+    ensures source { (wish : Wish) (stored : Stored) (course : Course)
+        → IsAskedFor wish stored course → (played : HasPlayedWhole wish stored course)
+        × (played.identity.ssrc ≡ slice_index course.words 2) }
 {}
 
 /// A client reads in the reply to PLAY what the server writes in it: its code and number, the

@@ -43,7 +43,7 @@ requests-on wish h (m ∷ a) b =
     ∙ sym (append_assoc (request_after wish h m) (requests_after wish (m ∷ h) a)
     (requests_after wish (history_after (m ∷ h) a) b))
 
--- bytes were cut, and then their rest
+-- bytes were split, and then their rest
 record CutsInTurn (bytes mid end : List ℕ) (p q : List (List ℕ)) : Type 0 where
   first : AreInputElements bytes p mid
   next : AreInputElements mid q end
@@ -88,7 +88,7 @@ ends-none (b ∷ bytes) all =
     ap (λ t. t ++ events_of_elements (map (λ c. c ∷ []) bytes)) (cond-true (is_line_end b) [] _ first)
     ∙ ends-none bytes (λ k few. all (suc k) (omega (arith, few)))
 
--- ---- elements were taken up
+-- ---- elements were processed
 
 -- the same client, but for its input
 pub record IsSameClient (c new : Client) : Type 0 where
@@ -138,7 +138,7 @@ pub taken-same : {wish : Wish} {h : History} {w rest : List ℕ} {new : Client} 
     → HasTaken wish h w new s t → HasTaken wish h rest new s t
 taken-same {wish} {h} {new} {s} {t} same taken = subst (λ (i : List ℕ). HasTaken wish h i new s t) same taken
 
--- the element in front, of so many bytes, was taken up and dropped
+-- the element in front, of so many bytes, was processed and dropped
 taken-element : {wish : Wish} {h : History} {rest : List ℕ} {n : ℕ} {moments : List ClientEvent} {c new : Client}
     {s t : Observed}
     → IsElementLength rest n → element_events (take n rest) ≡ moments → HasTakenEvents wish h moments c s t
@@ -215,7 +215,7 @@ taken-on {wish} {h} {rest} {mid} {new} {s} {u} first next =
           (passed-on first.passed second.passed);
     }
 
--- ---- nothing more was taken up
+-- ---- nothing more was processed
 
 stops-now : {wish : Wish} {h : History} {rest : List ℕ} {end : WatchEnd} {sent out : List ℕ} {s t : Observed}
     → Stops wish (stage h rest) end sent out → t ≡ observed_more s sent out → HasStopped wish h rest end s t

@@ -245,7 +245,7 @@ watched-end {count} {event} {c} {end} {s} {t} run begun few heard next =
     ∙ told_more-append t.told (event ∷ []) (sends ended.sent)))
     (ap (λ (x : Observed). x.out) ended.sight_is ∙ ap (λ (x : Observed). told_more x.out ended.out) heard)
 
--- no further event was heard
+-- no further event was received
 pub watched-lost : {wish : Wish} {count : ℕ} {c : Client} {end : WatchEnd} {told0 : Option (List IoEvent)}
     {out0 : Option (List ℕ)} {s t : Observed} {new_told : Option (List IoEvent)} (run : HasRun wish count c s t)
     → s ≡ observed (told_more told0 (sends (setup_text wish))) out0

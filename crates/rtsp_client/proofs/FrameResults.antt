@@ -164,7 +164,7 @@ request-last {wish} {h} {mid} {b} taken all =
     (sym (complete-is wish (Frame b ∷ h) mid.watching (keeps-taken taken).state) ∙ all)
     ∙ ap (teardown_text wish) (sym taken.keeps.session_is)
 
--- all units are whole, and TEARDOWN was sent
+-- all units are complete, and TEARDOWN was sent
 pub last-done : {wish : Wish} {h : History} {c mid : Client} {b : List ℕ} {next : RtpSource}
     {new_told : Option (List IoEvent)}
     {out new_out : Option (List ℕ)} (told : Option (List IoEvent)) → TakenFrame wish h c mid b next
@@ -177,7 +177,7 @@ last-done {wish} {h} {b} {new_told} {out} told taken all handed sent =
     (observed-both told out (request_after wish h (Frame b)) (drop 20 b)
     (subst P (sym (request-last taken all)) sent) handed)
 
--- or TEARDOWN was cut
+-- or TEARDOWN was sent in part
 pub last-cut : {wish : Wish} {h : History} {c mid : Client} {b : List ℕ} {next : RtpSource} {end : WatchEnd}
     {told new_told : Option (List IoEvent)}
     {out new_out : Option (List ℕ)} → TakenFrame wish h c mid b next → has_all mid.watching ≡ true → end ≡ LinkFault

@@ -31,7 +31,7 @@ use Rattle.rtsp_client.specs.States.{after_slot, place_of, reading_at, source_re
 use Rattle.rtsp_client.specs.ClientState.{replies_in, session_of}
 use Rattle.rtsp_client.specs.HistoryInvariant.{AreSumsOf, IsPlayOf, IsSource, IsSourceOf, StateInvariant}
 
--- ---- nothing was heard
+-- ---- nothing was received
 
 pub keeps-new : (wish : Wish) → StateInvariant wish [] new_state
 keeps-new wish = record {
@@ -48,7 +48,7 @@ keeps-new wish = record {
 
 -- ---- replies
 
--- the same replies were heard
+-- the same replies were received
 pub replies-same : (c new : Client) → new.session ≡ c.session → new.watching.play ≡ c.watching.play
     → replies_in new ≡ replies_in c
 replies-same c new session play =

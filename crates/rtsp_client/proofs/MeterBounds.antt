@@ -33,7 +33,7 @@ not-yet {wish} {all} {p} {j} n lasts between next =
           absurd (omega (arith, used, between.low, next, sum-take-rises all (n + 1) (c - 0) (omega (arith, many))))
     ]
 
--- what is used of the whole units is what is used of the film
+-- what is used of the complete units is what is used of the film
 pub same-used : {p : ℕ} (wish : Wish) (all : List ℕ) (j n : ℕ) → Durations wish.slot_units p
     → (n < length all → j ≤ use_slot wish p n)
     → used_before wish p j 0 (take n all) ≡ used_before wish p j 0 all

@@ -18,13 +18,13 @@ use Rattle.rtsp_client.proofs.HistorySteps.{sum-one}
 use Rattle.rtsp_client.proofs.MeterReadings.{Durations, no-units, used-sum}
 use Rattle.rtsp_client.proofs.MeterBounds.{same-used, use-first, used-time}
 
--- the bytes of whole units are among those that came
+-- the bytes of complete units are among those that came
 frame-received : (last : Bool) (whole : List ℕ) (pending n came : ℕ) → sum whole + pending ≤ came
     → sum (cond last (whole ++ (pending + n) ∷ []) whole) + cond last 0 (pending + n) ≤ came + n
 frame-received true whole pending n came is = omega (arith, is, sum-one whole (pending + n))
 frame-received false whole pending n came is = omega (arith, is)
 
--- bytes of whole units, of the unit that isn't whole, and all that came
+-- bytes of complete units, of the unit that isn't complete, and all that came
 record Amounts : Type 0 where
   whole : ℕ
   pending : ℕ

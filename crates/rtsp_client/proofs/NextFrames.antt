@@ -10,7 +10,7 @@ use Rattle.rtsp_client.specs.ClientHistory.{is_playing, latest_frame}
 use Rattle.rtsp_client.specs.Films.{is_complete, is_first_good, is_good_frame, is_next_good}
 use Rattle.rtsp_client.specs.MeterGuarantee.{frames_heard}
 
--- the frame behind those that were heard
+-- the frame behind those that were received
 last-of : (all : List (List ℕ)) (block : List ℕ) → get_or (all ++ block ∷ []) (length all) [] ≡ block
 last-of all block =
     let none : length all - length all ≡ 0 = omega arith in

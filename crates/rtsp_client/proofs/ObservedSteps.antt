@@ -1,4 +1,4 @@
--- What the link and the output tell, one thing after another.
+-- What the link and the output expose, one thing after another.
 use Rattle.std.proofs.Common.{◌≡◌, ℕ, List, [], ◌++◌, length, Option, refl, sym, ap, ◌∙◌, arith}
 use Rattle.std.proofs.lemmas.List.{map-append, take_all}
 use Rattle.vod_base.specs.Links.{IoEvent, Sent, sends, told_more}
@@ -41,7 +41,7 @@ pub observed-both : {new : Option (List IoEvent)} {new_out : Option (List ℕ)} 
 observed-both {new} {new_out} told out a x is handed =
     ap (λ t. observed t new_out) is ∙ ap (λ o. observed (told_more told (sends a)) o) handed
 
--- fronts
+-- prefixes
 pub no-front : (bytes : List ℕ) → IsPrefixOf [] bytes
 no-front bytes = (0, (omega arith, refl))
 

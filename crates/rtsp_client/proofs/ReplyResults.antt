@@ -148,7 +148,7 @@ setup-cut {wish} {h} {m} {id} {told} {new} out reply end_is front =
       sight_is = observed-sent told new out (take front.0 (play_text wish id)) front.1.1;
     }
 
--- one moment was taken up
+-- one moment was processed
 pub passed-one : {wish : Wish} {h : History} {m : ClientEvent} {new : Client} {old_sight new_sight : Observed}
     → GoesOn h m → HistoryInvariant wish (m ∷ h) new
     → new_sight ≡ observed_more old_sight (request_after wish h m) (payload_of m)

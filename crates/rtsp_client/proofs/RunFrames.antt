@@ -72,7 +72,7 @@ EndsUnit [] = Unit {0}
 EndsUnit (b ∷ []) = is_last b ≡ true
 EndsUnit (b ∷ (c ∷ bs)) = EndsUnit (c ∷ bs)
 
--- frames of a source, of so many whole units
+-- frames of a source, of so many complete units
 pub record AreFrames (source units : ℕ) (frames : List (List ℕ)) : Type 0 where
   pub all : AllFrom source frames
   pub count : count_last frames ≡ units
@@ -318,7 +318,7 @@ ends-some b (c ∷ bs) ends = by-last (is_last b) (ends-some c bs ends)
     by-last true some = omega arith
     by-last false some = some
 
--- where frames go on, a unit isn't whole yet
+-- where frames go on, a unit isn't complete yet
 pub ends-later : (xs : List (List ℕ)) (b : List ℕ) (rest : List (List ℕ)) → EndsUnit (xs ++ b ∷ rest)
     → 0 < count_last (b ∷ rest)
 ends-later [] b rest ends = ends-some b rest ends

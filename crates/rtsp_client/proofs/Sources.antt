@@ -15,7 +15,7 @@ use Rattle.rtsp_client.specs.declared.frames.RtpSource.{RtpSource}
 use Rattle.rtsp_client.specs.declared.play_reply.Play.{Play}
 use Rattle.rtsp_client.specs.States.{State, has_all, source_played, source_read, source_with}
 
--- a head that is read is whole
+-- a head that is read is complete
 not-short : {head : Head} (short : Bool) (rest : Result Head HeadFault)
     → (if short then Err Short else rest) ≡ Ok head → short ≡ false
 not-short true rest is = absurd cc
@@ -32,11 +32,11 @@ head-long block is =
       at-least (length (drop 4 block)) (not-short (nat_lt (length (drop 4 block)) 16) _ is),
     )
 
--- no reply to PLAY was heard
+-- no reply to PLAY was received
 pub source-unplayed : (s : State) (block : List ℕ) → s.play ≡ None → None ≡ source_with s block
 source-unplayed s block is = sym (ap (λ play. source_played play s block) is)
 
--- all pictures are whole, or some are to come
+-- all pictures are complete, or some are to come
 pub source-all : {play : Play} (s : State) (block : List ℕ) → s.play ≡ Some play → has_all s ≡ true
     → None ≡ source_with s block
 source-all {play} s block is all = sym (ap (λ p. source_played p s block) is

@@ -136,7 +136,7 @@ quits-not-idle {rest} (AtFraming is fault first) idle =
     both_ways (tells (Err fault)) refl (ap tells (answer_once rest (Err fault) (Ok More) first idle))
 quits-not-idle {rest} (AtMoment moment (n, (element, _)) given) idle = tells_none rest (Ok More) idle n element
 
--- and no element of them is taken up
+-- and no element of them is processed
 quits-not-on : {wish : Wish} {h : History} {rest : List ℕ} {end : WatchEnd} (later element : List ℕ)
     (elements : List (List ℕ)) → Quits wish h rest end → AreInputElements rest (element ∷ elements) later
     → GoOn h (events_of_elements (element ∷ elements)) → ⊥
@@ -166,7 +166,7 @@ record AreSame (one other : List (List ℕ)) (rest later : List ℕ) : Type 0 wh
   elements_are : one ≡ other
   rest_is : rest ≡ later
 
--- no further element is taken up after the answer
+-- no further element is processed after the answer
 no-further : {wish : Wish} {h : History} {bytes : List ℕ} {one other : List (List ℕ)} {rest later : List ℕ}
     {end : WatchEnd} (more : List (List ℕ)) → IsQuit wish h bytes one rest end → IsPassed h bytes other later
     → other ≡ one ++ more → AreInputElements rest more later → AreSame one other rest later
@@ -176,13 +176,13 @@ no-further {h} {one} {later} (element ∷ more) quit passed is cut =
     (good-later h (events_of_elements one) (events_of_elements (element ∷ more))
     (subst (GoOn h) (ap events_of_elements is ∙ flat_map-append element_events one (element ∷ more)) passed.good)))
 
--- where no whole element is in front, none is taken up
+-- where no complete element is in front, none is processed
 idle-stays : {rest later : List ℕ} (more : List (List ℕ)) → IsFirst rest (Ok More) → AreInputElements rest more later
     → IsFirst later (Ok More)
 idle-stays [] idle cut = subst (λ r. IsFirst r (Ok More)) cut idle
 idle-stays {rest} (element ∷ more) idle (n, cut) = absurd (tells_none rest (Ok More) idle n cut.0)
 
--- bytes that give the answer are not all taken up
+-- bytes that give the answer are not all processed
 pub quit-not-passed : {wish : Wish} {h : History} {bytes : List ℕ} {one other : List (List ℕ)} {rest later : List ℕ}
     {end : WatchEnd} → IsQuit wish h bytes one rest end → IsPassed h bytes other later → IsFirst later (Ok More) → ⊥
 quit-not-passed {bytes} {one} {other} {rest} {later} quit passed idle =

@@ -1,4 +1,4 @@
--- The events that were heard decide a watching's answer.
+-- The events that were received decide a watching's answer.
 use Rattle.std.proofs.Common.{◌≡◌, ℕ, ◌+◌, ◌^◌, ◌<◌, ◌≤◌, ◌++◌, ◌∷◌, [], List, length, Option, Ok}
 use Rattle.std.proofs.Common.{Bool, true, false}
 use Rattle.std.proofs.Common.{refl, sym, ap, subst, ◌∙◌, arith, inl, inr}
@@ -99,7 +99,7 @@ runs-once {old} {mid} {mid'} {one} {other} runs idle runs' idle' heard =
 
 -- ---- the last event
 
--- the answer, with what the link tells last and what was handed on last
+-- the answer, with what the link exposes last and what was handed on last
 record Final : Type 0 where
   end : WatchEnd
   doings : List IoEvent
@@ -112,7 +112,7 @@ final-is {a} {b} end doings out =
     let O : List ℕ → Final = λ o. record { end = b.end; doings = b.doings; out = o } in
     ap E end ∙ (ap D doings ∙ ap O out)
 
--- after so many events no further one is heard; or the server ended; or bytes gave the answer
+-- after so many events no further one is received; or the server ended; or bytes gave the answer
 data Closes (wish : Wish) (old : WatchStage) (count : ℕ) (f : Final) : Type 0 where
   Spent : f.end ≡ Fault TurnsSpent → count ≡ 2 ^ 40 → f.doings ≡ [] → f.out ≡ [] → Closes wish old count f
   Ended : f.end ≡ Fault (EndedEarly (length (sizes old.history))) → count < 2 ^ 40 → f.doings ≡ HeardEnd ∷ []
@@ -255,7 +255,7 @@ courses-once {wish} {a} {b} later (round ∷ one) (round' ∷ other) {old} {coun
       final_is = rest.final_is;
     }
 
--- ---- the whole watching
+-- ---- the entire watching
 
 -- what comes of a course
 abbrev outcome_of : Wish → Option (List ℕ) → List Round → Final → WatchOutcome

@@ -87,7 +87,7 @@ begins-film {film} {rate} {from} packet begins here long bounds =
 abbrev pub HeadsUncut : Type 0
 HeadsUncut = ForAllCutPoints (λ from headers_end slices cuts. IsUncut from headers_end cuts)
 
--- the film's first frame begins it, and tells its rate
+-- the film's first frame begins it, and gives its rate
 pub record FirstIs (film : Film) (frames : List (List ℕ)) : Type 0 where
   pub block : List ℕ
   pub more : List (List ℕ)
@@ -147,7 +147,7 @@ sizes-count (Frame b ∷ h) =
     by-last all size true is = omega (arith, is, length-append all (size ∷ []))
     by-last all size false is = omega (arith, is)
 
--- the first frame that was heard
+-- the first frame that was received
 record BeginsHeard (h : History) : Type 0 where
   more : List (List ℕ)
   are : frames_heard h ≡ first_frame h ∷ more
@@ -178,7 +178,7 @@ begins-heard (Frame b ∷ h) some =
           }
     ]
 
--- a client that heard some of a film's first frames knows its number of units
+-- a client that received some of a film's first frames knows its number of units
 units-known : {film : Film} {h : History} (identity : Identity) (rest : List (List ℕ)) → HeadsUncut → AwaitsFilm film h
     → frames_of_film film identity ≡ frames_heard h ++ rest → 0 < frames h → units h ≡ length film.units.items
 units-known {film} {h} identity rest uncut awaits are some =
@@ -193,7 +193,7 @@ units-known {film} {h} identity rest uncut awaits are some =
 
 -- ---- a film's next frame
 
--- these frames were heard of a film, from its first one on, and this one is the next
+-- these frames were received of a film, from its first one on, and this one is the next
 pub record IsNext (film : Film) (identity : Identity) (h : History) (block : List ℕ) : Type 0 where
   pub rest : List (List ℕ)
   pub small : identity.ssrc < 2 ^ 32

@@ -27,7 +27,7 @@ use crate::watch_state::WatchState;
 use interleave::{Demux, Step};
 use std::alloc::Global;
 use std::ops::ControlFlow;
-use vod_base::{Heard, Link, NoMemory, Sink};
+use vod_base::{Heard, Link, MAX_READ_BYTES, NoMemory, Sink};
 
 /// A client between two events.
 #[derive(Drop)]
@@ -83,9 +83,10 @@ impl Client {
         requires waits { list_length self.old.input ≤ 81920 }
         requires idle { IsFirst self.old.input (Ok More) }
         requires heard { IsWithin heard (list_length bytes.now) }
-        requires short { list_length bytes.now ≤ 16384 }
-        requires few { bytes_in self.old + 16384 < 2 ^ 62 }
-        ensures few { OnOk (as_result result) (bytes_in self.new ≤ bytes_in self.old + 16384) }
+        requires short { list_length bytes.now ≤ MAX_READ_BYTES }
+        requires few { bytes_in self.old + MAX_READ_BYTES < 2 ^ 62 }
+        ensures few { OnOk (as_result result)
+            (bytes_in self.new ≤ bytes_in self.old + MAX_READ_BYTES) }
         ensures waits { OnOk (as_result result) (list_length self.new.input ≤ 81920) }
         ensures count { K.faults link.old ≤ K.faults link.new }
         ensures count_out { O.faults out.old ≤ O.faults out.new }

@@ -21,3 +21,4 @@ mod ReplyNumberLemmas
 mod SoundStateLemmas
 mod MethodLemmas
 mod CauseLemmas
+pub mod ClientReplyLemmas

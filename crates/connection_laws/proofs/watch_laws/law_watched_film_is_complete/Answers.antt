@@ -5,6 +5,7 @@ use Rattle.connection_laws.specs.LinkDelivery.{IsCarried}
 use Rattle.connection_laws.specs.Plays.{FilmPlay}
 use Rattle.connection_laws.proofs.RequestedPlays.{asked_played}
 use Rattle.connection_laws.proofs.CompleteWatch.{watched_whole}
+use Rattle.connection_laws.proofs.AnsweredRequests.{asked_play, asked_served}
 use Rattle.connection_laws.proofs.WatchedFilms.{watched_done, watched_unrefused}
 use Rattle.connection_laws.proofs.watch_laws.law_watched_film_is_complete.Goals as goal
 
@@ -54,3 +55,20 @@ returns-clause-done c = λ wish stored course end heard out wished played small 
       accepts = c.law_whole_film_ends_in_done.ensures.frame;
       done = c.law_whole_film_ends_in_done.ensures.done;
     }) client delivered decided carried
+
+pub returns-clause-asked_unrefused : goal.returns-clause-asked_unrefused
+returns-clause-asked_unrefused c = λ wish stored course end heard out asked range client front.
+    watched_unrefused {wish = wish} {stored = stored} {course = course} {end = end} {heard = heard} {out = out}
+    (asked_served asked range c.law_whole_film_ends_in_done.ensures.frame c.law_whole_film_ends_in_done.ensures.done)
+    client front
+
+pub returns-clause-asked_done : goal.returns-clause-asked_done
+returns-clause-asked_done c = λ wish stored course end heard out asked range client carried delivered decided.
+    let served = asked_served asked range c.law_whole_film_ends_in_done.ensures.frame
+    c.law_whole_film_ends_in_done.ensures.done in
+    let C : FilmPlay → Type 0 = λ play.
+    IsCarried (rounds_doings course.rounds) heard play.start (first_slot client.mid.history) in
+    watched_done {wish = wish} {stored = stored} {course = course} {end = end} {heard = heard} {out = out}
+    asked.wished served client delivered decided
+    (subst C (asked_play asked range c.law_whole_film_ends_in_done.ensures.frame
+    c.law_whole_film_ends_in_done.ensures.done) carried)

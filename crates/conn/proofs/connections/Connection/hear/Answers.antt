@@ -6,6 +6,8 @@ use Rattle.conn.specs.declared.reports.ConnEnd.TheVariants.{LinkFault, TooMuchIn
 use Rattle.conn.specs.Observations.{HasFailedSend, HasHandledEvent, HasTakenSlot, Observed, observed}
 use Rattle.conn.specs.InputSteps.{stage}
 use Rattle.std.proofs.lemmas.List.{length-take-le}
+use Rattle.interleave.specs.declared.demux.TheConstants.{MAX_WAITING_BYTES}
+use Rattle.vod_base.specs.declared.links.TheConstants.{MAX_READ_BYTES}
 use Rattle.conn.specs.Events.{CutsOn, HasTakenEvent, with_heard}
 use Rattle.conn.proofs.FaultCounts.{counted_on}
 use Rattle.conn.proofs.ElementPrefixes.{cuts_same}
@@ -17,10 +19,10 @@ use Rattle.conn.proofs.connections.Connection.hear.Goals as goal
 pub returns-then-is_err-clause-comes : goal.returns-then-is_err-clause-comes
 returns-then-is_err-clause-comes g c =
     let bytes : List ℕ = take c.in-Bytes.count c.args.bytes.now in
-    let many : 131072 < length c.args.self.now.input + length bytes = search rules in
+    let many : MAX_WAITING_BYTES < length c.args.self.now.input + length bytes = search rules in
     let same : c.put.new.self ≡ c.args.self.now.input = search rules in
     let within : c.in-Bytes.count ≤ length c.args.bytes.now = search rules in
-    let short : length bytes ≤ 16384 =
+    let short : length bytes ≤ MAX_READ_BYTES =
     omega (arith, length-take-le c.in-Bytes.count c.args.bytes.now within, within, c.requires.few) in
     let here : Observed = observed c.args.self.now (g.K.Link.told c.args.link.now) c.args.seat.now in
     subst (λ (h : Heard). HasHandledEvent (Some TooMuchInput) (io_event_of h c.args.bytes.now) here
@@ -49,7 +51,7 @@ returns-then-is_err-2-clause-comes g c =
 pub returns-else-is_err-clause-comes : goal.returns-else-is_err-clause-comes
 returns-else-is_err-clause-comes g c =
     let bytes : List ℕ = take c.in-Bytes.count c.args.bytes.now in
-    let few : length c.args.self.now.input + length bytes ≤ 131072 = search rules in
+    let few : length c.args.self.now.input + length bytes ≤ MAX_WAITING_BYTES = search rules in
     let input : c.put.new.self ≡ c.args.self.now.input ++ bytes = search rules in
     let here : Observed = observed c.args.self.now (g.K.Link.told c.args.link.now) c.args.seat.now in
     let mid : Observed =

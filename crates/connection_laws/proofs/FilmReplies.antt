@@ -1,0 +1,158 @@
+-- The reply to the PLAY that begins a client's film, as the client reads it.
+use Rattle.std.proofs.Common.{◌≡◌, ℕ, ◌+◌, ◌*◌, ◌/◌, ◌-◌, ◌^◌, ◌<◌, ◌≤◌, ◌&&◌, ◌==◌, true, not, nat_lt, nat_le, List}
+use Rattle.std.proofs.Common.{[], ◌∷◌, ◌++◌, drop, length, get_or, codes, decimal, string_bytes, Option, Some, refl}
+use Rattle.std.proofs.Common.{sym, ap, ap₂, subst, ◌∙◌, arith}
+use Rattle.std.specs.List.{list_all}
+use Rattle.std.proofs.lemmas.Bool.{and_parts}
+use Rattle.std.proofs.Math.Nat.{div-mul-le_self, mul-le-mul}
+use Rattle.film_frames.specs.declared.stored_films.Stored.{Stored}
+use Rattle.mpeg_scan.specs.StartCodes.{read_after}
+use Rattle.mpeg_scan.specs.PictureRates.{picture_time}
+use Rattle.mpeg_scan.specs.declared.films.Film.{Film}
+use Rattle.mpeg_scan.specs.declared.units.Unit.{Unit as PictureUnit}
+use Rattle.mpeg_scan.proofs.FilmBoundLemmas.{film-pictures, film-rate, film-units}
+use Rattle.rtsp_client.specs.Requests.{play_text}
+use Rattle.rtsp_client.proofs.PictureTimes.{time_bounds}
+use Rattle.rtsp_text.specs.Grammar.{is_url_byte}
+use Rattle.rtsp_text.specs.Replies.{Field, field_line, reply_front, reply_text}
+use Rattle.rtsp_text.proofs.UrlBytes.{name_in_url}
+use Rattle.vod_base.specs.Names.{good_name, is_name_byte}
+use Rattle.session.specs.Films.{IsFilmAt, length_ms}
+use Rattle.rtsp_replies.specs.Replies.{field, play_fields, play_text as play_reply}
+use Rattle.rtsp_replies.specs.Replies.{started_text}
+use Rattle.session_laws.specs.MethodLaws.{setup_in}
+use Rattle.session.specs.SessionStates.{SessionState, has_session_in}
+use Rattle.session.specs.SlotSteps.{admitted_in}
+use Rattle.session_laws.specs.CompleteReplies.{HasValidIds}
+use Rattle.rtsp_replies.specs.Messages.{IsMessage}
+use Rattle.rtsp_text.proofs.LineBounds.{all-drop, all-take}
+use Rattle.rtsp_text.proofs.ReplyTexts.{front_field, whole_reply}
+use Rattle.rtsp_fields.specs.Urls.{IsRead}
+use Rattle.conn.specs.InputSteps.{HasHeard, IsAskAnswered, Outcome}
+use Rattle.connection_laws.proofs.CompleteReplies.{admitted_from, id_printed}
+use Rattle.connection_laws.proofs.KeptSetups.{IsSameSetup}
+use Rattle.connection_laws.proofs.PrintedTexts.{IsPrinted}
+use Rattle.connection_laws.proofs.ReplyReadings.{IsPlayAnswer, play_answer}
+use Rattle.connection_laws.proofs.RequestEffects.{Begins}
+use Rattle.connection_laws.proofs.RequestReplies.{IsNamed, named_still, play_asked}
+use Rattle.connection_laws.proofs.SetupOnly.{Beginning, IsUnbegun, IsWaiting}
+use Rattle.connection_laws.proofs.UniqueResults.{answered_names}
+
+-- ---- numbers in their ranges
+
+film_few : (film : Film) → length film.units.items ≤ 4194304
+film_few film =
+    let accepted = film.grammar.accepted in
+    omega (
+      arith,
+      ap (λ (l : List PictureUnit). length l) film.grammar.units,
+      film-units film.bytes.items accepted,
+      film-pictures (read_after [] film.bytes.items) accepted,
+    )
+
+film_brief : (film : Film) → picture_time film.rate ≤ 360000
+film_brief film =
+    let rate = film-rate (read_after [] film.bytes.items) film.grammar.accepted in
+    let bounds = time_bounds film.rate (omega (arith, film.grammar.rate, rate.0))
+    (omega (arith, film.grammar.rate, rate.1)) in
+    omega (arith, bounds.1)
+
+end_fits : (film : Film) → length_ms film < 2 ^ 64
+end_fits film =
+    let units = length film.units.items * picture_time film.rate in
+    let most : units ≤ 4194304 * 360000 = mul-le-mul (film_few film) (film_brief film) in
+    let small : units / 360 * 360 ≤ units = div-mul-le_self units 360 in
+    omega (arith, most, small)
+
+name_prints : (name : List ℕ) → good_name name ≡ true → list_all is_url_byte name ≡ true
+name_prints name good =
+    name_in_url name
+    (and_parts (nat_lt 0 (length name) && nat_le (length name) 64 && not (get_or name 0 0 == 46))
+    (list_all is_name_byte name) good).1
+
+-- ---- the reply
+
+-- the reply to a PLAY of a film of the wished name
+pub record IsFilmAnswer (b : Beginning) (message : List ℕ) : Type 0 where
+  pub number : ℕ
+  pub stored : Stored
+  pub at : IsFilmAt b.films number stored
+  pub name_is : string_bytes stored.name ≡ string_bytes b.wish.name
+  pub answer : IsPlayAnswer (length_ms stored.film) message
+
+-- what comes of a client's PLAY that begins a play in a slot: its reply, and the session
+pub record IsPlayBegun (b : Beginning) (start : ℕ) (old new : SessionState) : Type 0 where
+  pub ready : has_session_in old.state ≡ true
+  pub own : IsNamed b new
+  pub answer : start ≤ 2 ^ 62 + 1 → IsFilmAnswer b new.text
+
+-- where a URL is read, its authority is printable
+authority_prints : {url authority : List ℕ} {name : Option (List ℕ)} → IsRead url authority name → IsPrinted authority
+authority_prints {url} is =
+    ap (list_all is_url_byte) is.authority_is
+    ∙ all-take is_url_byte (is.path - 7) (drop 7 url) (all-drop is_url_byte 7 url is.is_url.bytes)
+
+-- the reply to a play that was admitted is its first part and its start
+started_reply : {front : List ℕ} (fields : List Field) (slots : ℕ) → front ≡ reply_front 200 (Some 2) fields
+    → started_text front slots ≡ reply_text 200 (Some 2) (fields ++ field (codes "x-Start") (decimal slots) ∷ []) []
+started_reply {front} fields slots is =
+    let own = field (codes "x-Start") (decimal slots) in
+    let more : front ++ field_line own ≡ reply_front 200 (Some 2) (fields ++ own ∷ []) =
+    front_field {old = front} 200 (Some 2) fields own refl is in
+    whole_reply {old = front ++ field_line own} 200 (Some 2) (fields ++ own ∷ []) [] refl more
+
+pub play_begun : {b : Beginning} {old new : SessionState} {message : List ℕ} {outcome : Outcome}
+    → IsWaiting b old → HasValidIds old → (heard : HasHeard old message outcome new)
+    → message ≡ play_text b.wish b.session → (begins : Begins old heard.asking.awaited outcome new)
+    → IsMessage new.text → IsPlayBegun b begins.start old new
+play_begun {b} {old} {new} {message} {outcome} waits valid heard is begins whole =
+    let asking = heard.asking in
+    let asked = play_asked b old heard.ask asking begins.prepared waits begins.asked_is is heard.hears in
+    let stored = asked.stored in
+    let setup = asked.setup in
+    let place = begins.placed.place in
+    let slots = begins.start - asking.heard in
+    let admitted = admitted_from begins.placed asking new heard.ask begins.answer
+    (subst (λ o. IsAskAnswered asking heard.ask o new) begins.outcome_is heard.answered) in
+    let fields =
+    play_fields old.id 0 (length_ms stored.film) asked.authority (string_bytes stored.name) asked.number asked.time in
+    let text : new.text ≡ play_reply 2 fields slots =
+    ap (λ (s : SessionState). s.text) admitted.new_is ∙ started_reply fields slots asked.text in
+    let begun = subst (IsUnbegun b.wish b.films) asked.ready waits.unbegun in
+    let at = subst (λ films. IsFilmAt films setup.film stored) waits.films_are asked.at in
+    let named : string_bytes stored.name ≡ string_bytes b.wish.name = begun.1.film stored at in
+    let G : List ℕ → Type 0 = λ name. IsPrinted name in
+    let state : setup_in new.state ≡ Some setup =
+    ap (λ (s : SessionState). setup_in s.state) admitted.new_is
+    ∙ ap₂ (λ s a. setup_in (admitted_in s a place begins.start)) (asked.state ∙ asked.ready) begins.asked_is in
+    let same : IsSameSetup old new = record {
+      names = answered_names asking heard.ask outcome new heard.answered ∙ asked.same;
+      setup = state ∙ sym (ap setup_in asked.ready);
+    } in
+    record {
+      ready = ap has_session_in asked.ready;
+      own = named_still same asked.named;
+      answer = λ few. record {
+        number = setup.film;
+        stored = stored;
+        at = at;
+        name_is = named;
+        answer = play_answer (record {
+          id = old.id;
+          end_ms = length_ms stored.film;
+          authority = asked.authority;
+          name = string_bytes stored.name;
+          number = asked.number;
+          time = asked.time;
+          slots = slots;
+          id_prints = id_printed valid;
+          end_fits = end_fits stored.film;
+          authority_prints = authority_prints asked.names.read;
+          name_prints = subst G (sym named) (name_prints (string_bytes b.wish.name) b.wished.name);
+          number_fits = omega (arith, asked.number_fits);
+          time_fits = omega (arith, asked.time_fits);
+          some = omega (arith, admitted.later);
+          few = omega (arith, few);
+        }) whole text;
+      };
+    }

@@ -1,0 +1,228 @@
+-- What a client reads in the replies to its requests, as a server writes them.
+use Rattle.std.proofs.Common.{◌≡◌, ℕ, ◌+◌, ◌^◌, ◌<◌, ◌≤◌, ◌==◌, true, List, [], ◌∷◌, ◌++◌, All, codes, decimal}
+use Rattle.std.proofs.Common.{Option, Some, None, is_some, refl, sym, ap, subst, ◌∙◌, arith}
+use Rattle.std.specs.Prelude.{option_map, option_and_then}
+use Rattle.std.specs.Int.{w32, to_be_bytes}
+use Rattle.hex.specs.Hex.{encode_lower}
+use Rattle.std.specs.List.{before_first, list_all, position_or_len}
+use Rattle.std.proofs.lemmas.Bool.{cond-true}
+use Rattle.std.proofs.lemmas.List.{append-nil}
+use Rattle.std.proofs.lemmas.List.Elements.{All-cons, All-nil}
+use Rattle.vod_base.specs.Numbers.{number_of}
+use Rattle.vod_base.proofs.TextLemmas.{decimal_read}
+use Rattle.rtsp_fields.specs.Sdp.{seconds_text}
+use Rattle.rtsp_text.specs.Fields.{header_value}
+use Rattle.rtsp_text.specs.Grammar.{is_url_byte, is_value_byte}
+use Rattle.rtsp_text.specs.Replies.{Field, IsPlain, all_fields, phrase, reply_front, reply_text, value_named}
+use Rattle.rtsp_text.proofs.LineBounds.{all-take}
+use Rattle.rtsp_text.proofs.ReplyRoundTrip.{read_back}
+use Rattle.rtsp_text.proofs.UrlBytes.{all_of}
+use Rattle.rtsp_replies.specs.Messages.{IsMessage}
+use Rattle.rtsp_replies.specs.Replies.{field, joined_parts, play_fields, play_text, session_text, setup_text}
+use Rattle.rtsp_replies.specs.Replies.{transport_value}
+use Rattle.rtsp_client.specs.Replies.{IsAnswer, play_range, play_start, session_id, setup_session, usable_id}
+use Rattle.connection_laws.specs.PlayReplies.{IsPlayRead}
+use Rattle.connection_laws.proofs.PlayReplyReading.{PlayNumbers, StreamInfo, play_read}
+use Rattle.connection_laws.proofs.PrintedTexts.{IsPrinted, bare_printed, plain_field, printed_decimal, printed_parts}
+use Rattle.connection_laws.proofs.PrintedTexts.{printed_seconds, printed_w32}
+
+-- ---- a reply of 200 without a body
+
+-- it answers the request of its number, and each name has the value of its first field of that name
+record IsReplyRead (message : List ℕ) (number : ℕ) (fields : List Field) : Type 0 where
+  answer : IsAnswer message number 200
+  values : (name : List ℕ) → header_value message name ≡ value_named name (all_fields (Some number) fields)
+
+named_number : (number : ℕ) (fields : List Field)
+    → value_named (codes "CSeq") (all_fields (Some number) fields) ≡ Some (decimal number)
+unfolding value_named
+named_number number fields = refl
+
+-- plain fields, with the number's
+with_number : (number : ℕ) (fields : List Field) → number < 2 ^ 64 → All IsPlain fields
+    → All IsPlain (all_fields (Some number) fields)
+with_number number fields small plain =
+    All-cons IsPlain (field (codes "CSeq") (decimal number)) fields
+    (plain_field (codes "CSeq") refl (printed_decimal number small)) plain
+
+one_more : {value : List ℕ} (name : List ℕ) (fields : List Field) → IsPlain (field name value) → All IsPlain fields
+    → All IsPlain (field name value ∷ fields)
+one_more {value} name fields plain rest = All-cons IsPlain (field name value) fields plain rest
+
+read_reply : {message : List ℕ} (number : ℕ) (fields : List Field) → number < 2 ^ 64 → IsMessage message
+    → All IsPlain fields → message ≡ reply_text 200 (Some number) fields []
+    → IsReplyRead message number fields
+unfolding reply_text
+read_reply {message} number fields small whole plain is =
+    let head = reply_front 200 (Some number) fields ++ codes "\r\n" in
+    let back = read_back (record { code = 200; sequence = Some number; fields = fields; body = [] }) whole.size
+    refl (with_number number fields small plain) is in
+    let same : message ≡ head = is ∙ append-nil head in
+    let value : (name : List ℕ)
+    → header_value message name ≡ value_named name (all_fields (Some number) fields) = λ name.
+    ap (λ m. header_value m name) same ∙ back.values name in
+    record {
+      answer = record {
+        phrase = phrase 200;
+        line = back.reply.line;
+        sequence = ap (λ v. option_and_then number_of v) (value (codes "CSeq") ∙ named_number number fields)
+            ∙ decimal_read number small;
+      };
+      values = value;
+    }
+
+-- ---- a session's id
+
+value_byte : (c : ℕ) → is_url_byte c ≡ true → is_value_byte c ≡ true
+value_byte c is = grind arith
+
+id_usable : (id : List ℕ) → IsPrinted id → list_all is_value_byte (session_id id) ≡ true
+id_usable id prints =
+    let front = before_first (λ byte. byte == 59) id in
+    let printed : IsPrinted front =
+    all-take is_url_byte (position_or_len (λ byte. byte == 59) id) id prints in
+    let P : List ℕ → Type 0 = λ text. list_all is_value_byte text ≡ true in
+    subst P (sym (bare_printed front printed)) (all_of is_url_byte is_value_byte value_byte front printed)
+
+session_named : {id : List ℕ} (message : List ℕ) → header_value message (codes "Session") ≡ Some id → IsPrinted id
+    → is_some (setup_session message) ≡ true
+session_named {id} message value prints =
+    ap (λ v. is_some (option_and_then usable_id (option_map session_id v))) value
+    ∙ ap (λ (o : Option (List ℕ)). is_some o)
+    (cond-true (list_all is_value_byte (session_id id)) (Some (session_id id)) None (id_usable id prints))
+
+-- ---- SETUP
+
+-- the reply to SETUP, as the client reads it
+pub record IsSetupRead (message : List ℕ) : Type 0 where
+  pub answer : IsAnswer message 1 200
+  pub named : is_some (setup_session message) ≡ true
+
+setup_id : (ssrc : ℕ) (id : List ℕ)
+    → value_named (codes "Session") (all_fields (Some 1)
+    (field (codes "Transport") (transport_value 0 1 ssrc) ∷ field (codes "Session") id ∷ [])) ≡ Some id
+unfolding value_named
+setup_id ssrc id = refl
+
+pub setup_read : {message : List ℕ} (ssrc : ℕ) (id : List ℕ) → IsMessage message → IsPrinted id
+    → message ≡ setup_text 1 0 1 ssrc id → IsSetupRead message
+setup_read {message} ssrc id whole printed is =
+    let named = field (codes "Session") id ∷ [] in
+    let fields = field (codes "Transport") (transport_value 0 1 ssrc) ∷ named in
+    let transport : IsPrinted (transport_value 0 1 ssrc) =
+    printed_parts (codes "RTP/AVP/TCP;unicast;interleaved=" ∷ decimal 0 ∷ codes "-" ∷ decimal 1 ∷ codes ";ssrc="
+    ∷ encode_lower (to_be_bytes w32 ssrc) ∷ []) (
+      refl,
+      (
+        printed_decimal 0 (omega arith),
+        (refl, (printed_decimal 1 (omega arith), (refl, (printed_w32 ssrc, tt)))),
+      ),
+    ) in
+    let plain : All IsPlain fields =
+    one_more (codes "Transport") named (plain_field (codes "Transport") refl transport)
+    (one_more (codes "Session") [] (plain_field (codes "Session") refl printed) (All-nil IsPlain)) in
+    let read : IsReplyRead message 1 fields = read_reply 1 fields (omega arith) whole plain is in
+    record {
+      answer = read.answer;
+      named = session_named message (read.values (codes "Session") ∙ setup_id ssrc id) printed;
+    }
+
+-- ---- TEARDOWN
+
+pub teardown_read : {message : List ℕ} (id : List ℕ) → IsMessage message → IsPrinted id → message ≡ session_text 3 id
+    → IsAnswer message 3 200
+teardown_read {message} id whole printed is =
+    let fields = field (codes "Session") id ∷ [] in
+    let plain : All IsPlain fields =
+    one_more (codes "Session") [] (plain_field (codes "Session") refl printed) (All-nil IsPlain) in
+    let read : IsReplyRead message 3 fields = read_reply 3 fields (omega arith) whole plain is in
+    read.answer
+
+-- ---- PLAY
+
+-- the reply to PLAY, as the client reads it: it has the end of the film and a start
+pub record IsPlayAnswer (end_ms : ℕ) (message : List ℕ) : Type 0 where
+  pub answer : IsAnswer message 2 200
+  pub range : play_range message ≡ Some end_ms
+  pub start : is_some (play_start message) ≡ true
+
+-- what a reply to PLAY is written from, in its ranges
+pub record PlayText : Type 0 where
+  pub id : List ℕ
+  pub end_ms : ℕ
+  pub authority : List ℕ
+  pub name : List ℕ
+  pub number : ℕ
+  pub time : ℕ
+  pub slots : ℕ
+  pub id_prints : IsPrinted id
+  pub end_fits : end_ms < 2 ^ 64
+  pub authority_prints : IsPrinted authority
+  pub name_prints : IsPrinted name
+  pub number_fits : number < 2 ^ 64
+  pub time_fits : time < 2 ^ 64
+  pub some : 1 ≤ slots
+  pub few : slots ≤ 2 ^ 62 + 1
+
+abbrev pub text_of : PlayText → List ℕ
+text_of p = play_text 2 (play_fields p.id 0 p.end_ms p.authority p.name p.number p.time) p.slots
+
+play_plain : (p : PlayText) → All IsPlain (play_fields p.id 0 p.end_ms p.authority p.name p.number p.time
+    ++ field (codes "x-Start") (decimal p.slots) ∷ [])
+play_plain p =
+    let few = p.few in
+    let start = field (codes "x-Start") (decimal p.slots) ∷ [] in
+    let ranges = codes "npt=" ∷ seconds_text 0 ∷ codes "-" ∷ seconds_text p.end_ms ∷ [] in
+    let range : IsPrinted (joined_parts ranges) = printed_parts ranges
+    (refl, (printed_seconds 0 (omega arith), (refl, (printed_seconds p.end_ms p.end_fits, tt)))) in
+    let parts = codes "url=rtsp://" ∷ p.authority ∷ codes "/" ∷ p.name ∷ codes "/video;seq=" ∷ decimal p.number
+    ∷ codes ";rtptime=" ∷ decimal p.time ∷ [] in
+    let info : IsPrinted (joined_parts parts) = printed_parts parts (
+      refl,
+      (
+        p.authority_prints,
+        (
+          refl,
+          (
+            p.name_prints,
+            (
+              refl,
+              (printed_decimal p.number p.number_fits, (refl, (printed_decimal p.time p.time_fits, tt))),
+            ),
+          ),
+        ),
+      ),
+    ) in
+    let with_start : All IsPlain start =
+    one_more (codes "x-Start") []
+    (plain_field (codes "x-Start") refl (printed_decimal p.slots (omega (arith, few)))) (All-nil IsPlain) in
+    let with_info = field (codes "RTP-Info") (joined_parts parts) ∷ start in
+    let info_plain : All IsPlain with_info =
+    one_more (codes "RTP-Info") start (plain_field (codes "RTP-Info") refl info) with_start in
+    let with_range = field (codes "Range") (joined_parts ranges) ∷ with_info in
+    let range_plain : All IsPlain with_range =
+    one_more (codes "Range") with_info (plain_field (codes "Range") refl range) info_plain in
+    one_more (codes "Session") with_range (plain_field (codes "Session") refl p.id_prints) range_plain
+
+pub play_answer : {message : List ℕ} (p : PlayText) → IsMessage message → message ≡ text_of p
+    → IsPlayAnswer p.end_ms message
+play_answer {message} p whole is =
+    let info : StreamInfo = record { authority = p.authority; name = p.name; number = p.number; time = p.time } in
+    let fields = play_fields p.id 0 p.end_ms p.authority p.name p.number p.time in
+    let numbers : PlayNumbers = record {
+      sequence = 2;
+      end_ms = p.end_ms;
+      slots = p.slots;
+      small = omega arith;
+      short = p.end_fits;
+      some = p.some;
+      few = p.few;
+    } in
+    let read : IsPlayRead message p.id 2 p.end_ms p.slots =
+    play_read info numbers whole.size is
+    (with_number 2 (fields ++ field (codes "x-Start") (decimal p.slots) ∷ []) (omega arith) (play_plain p)) in
+    record {
+      answer = read.answer;
+      range = read.range;
+      start = ap (λ (o : Option ℕ). is_some o) read.start;
+    }

@@ -1,0 +1,217 @@
+-- What a session replies to a client's SETUP, PLAY and TEARDOWN.
+use Rattle.std.proofs.Common.{◌≡◌, ◌⊎◌, ℕ, ◌^◌, ◌<◌, List, [], ◌++◌, true, codes, string_bytes, Option, Some, None}
+use Rattle.std.proofs.Common.{refl, sym, ap, ap₂, subst, ◌∙◌, arith, inl, inr}
+use Rattle.film_frames.specs.declared.stored_films.Stored.{Stored}
+use Rattle.film_run.specs.declared.runs.Run.{Run}
+use Rattle.rtsp_text.specs.Fields.{header_value}
+use Rattle.rtsp_text.specs.Replies.{reply_front, value_named}
+use Rattle.rtsp_text.specs.Requests.{IsRequest}
+use Rattle.rtsp_text.specs.RequestTexts.{request_head}
+use Rattle.rtsp_fields.specs.SessionIds.{IsSession}
+use Rattle.rtsp_client.specs.RequestParts.{play_parts, setup_parts, teardown_parts}
+use Rattle.rtsp_client.specs.Requests.{film_url, play_text, setup_text, teardown_text}
+use Rattle.rtsp_client.proofs.RequestGrammar.{play-asked, setup-asked, teardown-asked}
+use Rattle.session.specs.declared.commands.Ask.{Ask}
+use Rattle.session.specs.declared.states.Awaited.TheVariants.{Play}
+use Rattle.session.specs.declared.states.Prepared.{Prepared}
+use Rattle.session.specs.declared.states.Setup.{Setup}
+use Rattle.session.specs.declared.states.State.{State}
+use Rattle.session.specs.declared.states.State.TheVariants.{Init, Ready, Playing, Stopping}
+use Rattle.session.specs.Films.{IsFilmAt, Names, length_ms, milliseconds_at, timestamp_at}
+use Rattle.session.specs.Methods.{first_number}
+use Rattle.session_laws.specs.MethodLaws.{setup_in}
+use Rattle.session.specs.RefusalOrder.{IsOwnSession, first_of}
+use Rattle.rtsp_replies.specs.Replies.{play_fields, session_text, setup_text as setup_reply}
+use Rattle.session.specs.RequestSteps.{Hears}
+use Rattle.session.specs.RequestedPlans.{IsPlannedRun}
+use Rattle.session.specs.SessionStates.{SessionState, has_session_in}
+use Rattle.session_laws.proofs.ClientReplyLemmas.{IsCall, play_answered, setup_answered, teardown_answered}
+use Rattle.session_laws.proofs.WholeFilmLemmas.{asked-whole}
+use Rattle.connection_laws.specs.WholePlays.{whole_run}
+use Rattle.connection_laws.proofs.ClientSetups.{range_is, settled_by}
+use Rattle.connection_laws.proofs.FirstPlays.{some_time}
+use Rattle.connection_laws.proofs.KeptSetups.{IsSameSetup}
+use Rattle.connection_laws.proofs.SetupOnly.{Beginning, IsUnbegun, IsWaiting}
+use Rattle.connection_laws.proofs.UniqueResults.{names_in}
+
+same_names : (old new : SessionState) → new.films ≡ old.films → new.id ≡ old.id → names_in new ≡ names_in old
+same_names old new films id = ap₂ (λ (f : List Stored) (i : List ℕ). (f, i)) films id
+
+-- ---- SETUP
+
+-- it is refused, or answered with the channels 0 and 1
+abbrev pub AnswersSetup : SessionState → SessionState → Type 0
+AnswersSetup old new = (new.state ≡ old.state) ⊎ (new.text ≡ setup_reply 1 0 1 old.source.ssrc old.id)
+
+pub setup_replied : {message : List ℕ} (b : Beginning) (old : SessionState) (ask : Ask) (new : SessionState)
+    → message ≡ setup_text b.wish → Hears old message ask new → AnswersSetup old new
+setup_replied {message} b old ask new is hears =
+    let asked = setup-asked b.wish b.wished b.port in
+    let url = film_url b.wish ++ codes "/video" in
+    let head = request_head (setup_parts b.wish) in
+    let R : List ℕ → Type 0 = λ m. IsRequest m (codes "SETUP") url 1 head [] in
+    let call : IsCall message (codes "SETUP") url 1 head = record { body = []; read = subst R (sym is) asked.read } in
+    elim (setup_answered old message url 1 head ask new call hears) [
+      | inl same ↦ inl same
+      | inr told ↦
+          let settled = settled_by b.wish b.wished b.port told.asks told.names in
+          inr (told.text ∙ (ap (λ n. setup_reply 1 n told.setup.control old.source.ssrc old.id) settled.media
+          ∙ ap (λ n. setup_reply 1 0 n old.source.ssrc old.id) settled.control))
+    ]
+
+-- ---- PLAY
+
+-- a session that a client's PLAY and TEARDOWN name, with the film of their URL
+pub record IsNamed (b : Beginning) (s : SessionState) : Type 0 where
+  pub setup : Setup
+  pub setup_is : setup_in s.state ≡ Some setup
+  pub own : IsSession b.session s.id
+  pub authority : List ℕ
+  pub names : Names s.films (film_url b.wish) authority setup.film
+
+pub named_still : {b : Beginning} {old new : SessionState} → IsSameSetup old new → IsNamed b old → IsNamed b new
+named_still {b} {old} {new} same named =
+    let films = ap (λ (n : List Stored × List ℕ). n.0) same.names in
+    let id = ap (λ (n : List Stored × List ℕ). n.1) same.names in
+    let N : List Stored → Type 0 = λ films. Names films (film_url b.wish) named.authority named.setup.film in
+    record {
+      setup = named.setup;
+      setup_is = same.setup ∙ named.setup_is;
+      own = subst (IsSession b.session) (sym id) named.own;
+      authority = named.authority;
+      names = subst N (sym films) named.names;
+    }
+
+-- the station is asked for a play of the entire film, with the first part of its reply
+pub record AsksClientPlay (b : Beginning) (old new : SessionState) : Type 0 where
+  pub setup : Setup
+  pub paused : Option Run
+  pub ready : old.state ≡ Ready setup paused
+  pub stored : Stored
+  pub at : IsFilmAt old.films setup.film stored
+  pub authority : List ℕ
+  pub names : Names old.films (film_url b.wish) authority setup.film
+  pub number : ℕ
+  pub time : ℕ
+  pub number_fits : number < 2 ^ 16
+  pub time_fits : time < 2 ^ 32
+  pub text : new.text ≡ reply_front 200 (Some 2)
+      (play_fields old.id 0 (length_ms stored.film) authority (string_bytes stored.name) number time)
+  pub state : new.state ≡ old.state
+  pub heard : new.heard ≡ old.heard
+  pub same : names_in new ≡ names_in old
+  pub named : IsNamed b old
+
+play_session : (b : Beginning)
+    → header_value (request_head (play_parts b.wish b.session)) (codes "Session") ≡ Some b.session
+unfolding value_named
+play_session b =
+    let asked = play-asked b.wish b.session b.wished b.port b.session_is in
+    let is : value_named (codes "Session") (play_parts b.wish b.session).fields ≡ Some b.session = refl in
+    asked.values (codes "Session") ∙ is
+
+pub play_asked : {message : List ℕ} (b : Beginning) (old : SessionState) (ask : Ask) (new : SessionState)
+    (prepared : Prepared) → IsWaiting b old → new.awaited ≡ Play prepared → message ≡ play_text b.wish b.session
+    → Hears old message ask new → AsksClientPlay b old new
+play_asked {message} b old ask new prepared waits asks is hears =
+    let asked = play-asked b.wish b.session b.wished b.port b.session_is in
+    let head = request_head (play_parts b.wish b.session) in
+    let R : List ℕ → Type 0 = λ m. IsRequest m (codes "PLAY") (film_url b.wish) 2 head [] in
+    let call : IsCall message (codes "PLAY") (film_url b.wish) 2 head =
+    record { body = []; read = subst R (sym is) asked.read } in
+    let told = play_answered old message (film_url b.wish) 2 head ask new prepared call waits.stands.rest asks hears in
+    let stored = told.stored in
+    let setup = told.setup in
+    let begun = subst (IsUnbegun b.wish b.films) told.ready waits.unbegun in
+    let P : Option Run → Option (List ℕ) → Type 0 = λ p r. IsPlannedRun old stored setup p r told.planned in
+    let range = range_is b.wish b.session b.wished b.port b.session_is in
+    let its = subst (P None) range (subst (λ p. P p (header_value head (codes "Range"))) begun.0 told.planned_is) in
+    let run : told.planned.run ≡ whole_run stored =
+    its.run_is ∙ asked-whole stored its.wanted (some_time stored) its.asked in
+    let number = first_number old stored setup told.planned in
+    let time = timestamp_at stored.film old.source told.planned.run.from_unit in
+    let F : ℕ → ℕ → List ℕ = λ from to.
+    reply_front 200 (Some 2) (play_fields old.id from to told.authority (string_bytes stored.name) number time) in
+    let first : milliseconds_at stored.film told.planned.run.from_unit ≡ 0 =
+    ap (λ (r : Run). milliseconds_at stored.film r.from_unit) run ∙ omega arith in
+    let last : milliseconds_at stored.film told.planned.run.end_unit ≡ length_ms stored.film =
+    ap (λ (r : Run). milliseconds_at stored.film r.end_unit) run in
+    let S : Option (List ℕ) → Type 0 = λ v. IsOwnSession (has_session_in old.state) old.id v ⊥ in
+    let own = subst S (play_session b) told.session in
+    record {
+      setup = setup;
+      paused = told.paused;
+      ready = told.ready;
+      stored = stored;
+      at = told.at;
+      authority = told.authority;
+      names = told.names;
+      number = number;
+      time = time;
+      number_fits = omega arith;
+      time_fits = omega arith;
+      text = told.text ∙ ap₂ F first last;
+      state = told.state;
+      heard = told.heard;
+      same = same_names old new told.films told.id;
+      named = record {
+        setup = setup;
+        setup_is = ap setup_in told.ready;
+        own = own.1;
+        authority = told.authority;
+        names = told.names;
+      };
+    }
+
+-- ---- TEARDOWN
+
+-- it is answered with the session, and what SETUP settled stays
+pub record AnswersTeardown (old new : SessionState) : Type 0 where
+  pub text : new.text ≡ session_text 3 old.id
+  pub same : IsSameSetup old new
+
+teardown_fields : (b : Beginning) (name : List ℕ) (found : Option (List ℕ))
+    → value_named name (teardown_parts b.wish b.session).fields ≡ found
+    → header_value (request_head (teardown_parts b.wish b.session)) name ≡ found
+teardown_fields b name found is =
+    (teardown-asked b.wish b.session b.wished b.port b.session_is).values name ∙ is
+
+-- no option is required, and the session is named
+record IsTeardownHead (b : Beginning) (head : List ℕ) : Type 0 where
+  require : header_value head (codes "Require") ≡ None
+  proxy : header_value head (codes "Proxy-Require") ≡ None
+  session : header_value head (codes "Session") ≡ Some b.session
+
+teardown_head : (b : Beginning) → IsTeardownHead b (request_head (teardown_parts b.wish b.session))
+unfolding value_named
+teardown_head b = record {
+  require = teardown_fields b (codes "Require") None refl;
+  proxy = teardown_fields b (codes "Proxy-Require") None refl;
+  session = teardown_fields b (codes "Session") (Some b.session) refl;
+}
+
+has_one : {setup : Setup} (state : State) → setup_in state ≡ Some setup → has_session_in state ≡ true
+has_one Init is = absurd (let no : ⊥ = cc in no)
+has_one (Ready setup paused) is = refl
+has_one (Playing setup play) is = refl
+has_one (Stopping setup stop) is = refl
+
+pub teardown_replied : {message : List ℕ} (b : Beginning) (old : SessionState) (ask : Ask) (new : SessionState)
+    → IsNamed b old → message ≡ teardown_text b.wish b.session → Hears old message ask new → AnswersTeardown old new
+teardown_replied {message} b old ask new named is hears =
+    let asked = teardown-asked b.wish b.session b.wished b.port b.session_is in
+    let head = request_head (teardown_parts b.wish b.session) in
+    let its = teardown_head b in
+    let R : List ℕ → Type 0 = λ m. IsRequest m (codes "TEARDOWN") (film_url b.wish) 3 head [] in
+    let call : IsCall message (codes "TEARDOWN") (film_url b.wish) 3 head =
+    record { body = []; read = subst R (sym is) asked.read } in
+    let S : Option (List ℕ) → Type 0 = λ v. IsOwnSession (has_session_in old.state) old.id v ⊥ in
+    let told = teardown_answered old message (film_url b.wish) 3 head ask new call (record {
+      free = ap (λ v. first_of v (header_value head (codes "Proxy-Require"))) its.require ∙ its.proxy;
+      session = subst S (sym its.session) (has_one old.state named.setup_is, named.own);
+      authority = named.authority;
+      setup = named.setup;
+      setup_is = named.setup_is;
+      names = named.names;
+    }) hears in
+    record { text = told.text; same = record { names = same_names old new told.films told.id; setup = told.setup } }

@@ -1,0 +1,9 @@
+use Rattle.connection_laws.proofs.AnsweredRequests.{good_replies}
+use Rattle.connection_laws.proofs.RequestedPlays.{asked_played, asked_source}
+use Rattle.connection_laws.proofs.watch_laws.law_client_requests_are_answered.Goals as goal
+
+pub returns-clause-replies : goal.returns-clause-replies
+returns-clause-replies c = λ wish stored course asked few played. good_replies asked few played
+
+pub returns-clause-source : goal.returns-clause-source
+returns-clause-source c = λ wish stored course asked. ((asked_played asked).0, asked_source asked)
