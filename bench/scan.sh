@@ -47,8 +47,8 @@ if command -v valgrind >/dev/null; then
     codes=$(./count memchr counted.mpg)
     awk -v scan="$(instructions "$program" scan film=counted.mpg)" -v codes="$codes" \
         -v memchr="$(instructions ./count memchr counted.mpg)" 'BEGIN {
-        printf "made film of 10,000 pictures, %d codes: %.1f million instructions, %d a code; memchr %.1f million\n",
-            codes, scan / 1e6, scan / codes, memchr / 1e6
+        printf "made film of 10,000 pictures, %d codes: %.1f million instructions, %d a code; memchr %.1f million, %d\n",
+            codes, scan / 1e6, scan / codes, memchr / 1e6, memchr / codes
     }'
 fi
 
