@@ -173,7 +173,7 @@ course_told old new (round ∷ rounds) follows stands =
     )
     (course_told follows.0 new rounds follows.1.1 mid)
 
-course_outcomes : (old new : Stage) (rounds : List Round) (follows : IsCourseBetween old rounds new)
+pub course_outcomes : (old new : Stage) (rounds : List Round) (follows : IsCourseBetween old rounds new)
     → outcomes_in (askings_of old rounds new follows) ≡ rounds_outcomes rounds
 course_outcomes old new [] follows = refl
 course_outcomes old new (round ∷ rounds) follows =

@@ -52,6 +52,7 @@ mod PrintedTexts
 mod ReplyReadings
 mod RequestReplies
 mod FilmReplies
+mod AdmittedStarts
 mod AnsweredRequests
 mod AcceptedMoments
 mod AcceptedFilms

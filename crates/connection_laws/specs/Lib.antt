@@ -15,3 +15,4 @@ pub mod ClientRequests
 pub mod ReportCourses
 pub mod LookLimits
 pub mod WatchEnds
+pub mod StartRanges

@@ -1,9 +1,12 @@
 //! Laws on every course of a connection, on its bytes and its report, each a contract without a
 //! body.
 
-ghost use Rattle.std.specs.Prelude.{◌≡◌, ◌+◌, ◌++◌, ◌∷◌, [], ℕ, List, None, Option, map};
+ghost use Rattle.std.specs.Prelude.{◌≡◌, ◌+◌, ◌^◌, ◌≤◌, ◌++◌, ◌∷◌, [], ℕ, All, List, None};
+ghost use Rattle.std.specs.Prelude.{Option, map};
 ghost use Rattle.vod_base.specs.Links.{IoEvent, HeardSlot};
 ghost use Rattle.film_frames.specs.declared.stored_films.Stored.{Stored};
+ghost use Rattle.admission.specs.declared.entries.Entry.{Entry};
+ghost use Rattle.admission.specs.Histories.{asked_in, latest_asked};
 ghost use Rattle.session.specs.SettingRanges.{AreFilms};
 ghost use Rattle.session.specs.declared.settings.Settings.{Settings};
 ghost use Rattle.conn.specs.Films.{rounds_film};
@@ -13,7 +16,8 @@ ghost use Rattle.conn.specs.EventSteps.{entries_in, round_bytes, rounds_outcomes
 ghost use Rattle.conn.specs.InputSteps.{Answered, HasHeard, Outcome, Stage, reply_parts};
 ghost use Rattle.conn.specs.declared.reports.ConnEnd.{ConnEnd};
 ghost use Rattle.conn.specs.declared.reports.ConnReport.{ConnReport};
-ghost use Rattle.conn.specs.Agreement.{Activity, HasDone, doings_outcomes};
+ghost use Rattle.conn.specs.Agreement.{Activity, HasDone, Visit, doings_outcomes};
+ghost use Rattle.conn.specs.Journals.{Terms};
 ghost use Rattle.conn.specs.ConnectionService.{HasServedFrom};
 ghost use Rattle.session.specs.RequestEffects.{HasCode};
 ghost use Rattle.session.specs.RequestSteps.{new_session_state};
@@ -35,6 +39,8 @@ ghost use Rattle.connection_laws.specs.ReplyPlaces.{AreSentAt, slots_from};
 ghost use Rattle.connection_laws.specs.LookLimits.{MayLackMemory};
 ghost use Rattle.connection_laws.specs.PlayRuns.{AreRunsInOrder};
 ghost use Rattle.connection_laws.specs.Plays.{AreOver, booked_plays, booking_of};
+ghost use Rattle.connection_laws.specs.StartRanges.{AreMadeByConnections, IsCourseIn};
+ghost use Rattle.connection_laws.specs.StartRanges.{StartsInRange};
 ghost use Rattle.connection_laws.specs.Requests.{AreTaken};
 ghost use Rattle.connection_laws.specs.Replies.{course_replies, course_texts, text_of};
 ghost use Rattle.connection_laws.specs.Replies.{waiting_reply};
@@ -99,6 +105,29 @@ pub fn law_plays_resume_or_begin_runs()
 pub fn law_plays_match_journal_entries()
     ensures { (course : Course) → map booking_of (course_plays course)
         ≡ booked_plays (entries_in (rounds_outcomes course.rounds)) }
+{}
+
+/// Each play of a connection begins after slot 0, and at the latest in the slot after the latest
+/// one in which a play was asked for. This requires that the connection's report agrees with a
+/// legal journal (`conn::laws::law_connection_agrees_with_journal`).
+///
+/// A connection asks for plays in slots up to 2^62: it takes a greater slot as 2^62. So in a
+/// journal whose entries connections made, plays begin in slot 2^62 + 1 at the latest. That a
+/// journal is legal gives no such bound, since an entry may ask for any slot.
+pub fn law_admitted_plays_start_in_range()
+    ensures asked { (films : List Stored) (settings : Settings) (words : List ℕ)
+        (doings : Activity) (report : ConnReport) → HasDone films settings words doings report
+        → All (λ placed. asked_in placed.entry.command ≤ 2 ^ 62)
+        (entries_in (doings_outcomes doings)) }
+    ensures latest { (journal : List Entry) → AreMadeByConnections journal
+        → latest_asked journal ≤ 2 ^ 62 }
+    ensures next { (visit : Visit) (terms : Terms) (journal : List Entry) (course : Course)
+        → IsCourseIn visit terms journal course
+        → All (λ play. (1 ≤ play.start) × (play.start ≤ latest_asked journal + 1))
+        (course_plays course) }
+    ensures range { (visit : Visit) (terms : Terms) (journal : List Entry) (course : Course)
+        → IsCourseIn visit terms journal course → latest_asked journal ≤ 2 ^ 62
+        → All StartsInRange (course_plays course) }
 {}
 
 /// All bytes that a connection sent are the film bytes that it wrote, with the replies among them:

@@ -20,7 +20,10 @@ ghost use Rattle.session.specs.declared.states.Setup.{Setup};
 ghost use Rattle.session.specs.declared.states.StreamSource.{StreamSource};
 ghost use Rattle.rtsp_replies.specs.Replies.{field, play_fields, play_text};
 ghost use Rattle.vod_base.specs.Links.{IoEvent};
+ghost use Rattle.admission.specs.declared.entries.Entry.{Entry};
+ghost use Rattle.conn.specs.Agreement.{Visit};
 ghost use Rattle.conn.specs.EventSteps.{IsPrefixOf, rounds_doings};
+ghost use Rattle.conn.specs.Journals.{Terms};
 ghost use Rattle.rtsp_client.specs.WatchCourses.{HasCourse};
 ghost use Rattle.rtsp_client.specs.Meters.{first_slot};
 ghost use Rattle.rtsp_client.specs.WatchRequests.{IsWish};
@@ -34,6 +37,8 @@ ghost use Rattle.connection_laws.specs.ClientRequests.{IsAskedFor};
 ghost use Rattle.connection_laws.specs.LinkDelivery.{IsCarried, IsDelivered, heard_bytes};
 ghost use Rattle.connection_laws.specs.LinkDelivery.{sent_bytes};
 ghost use Rattle.connection_laws.specs.Replies.{text_of};
+ghost use Rattle.connection_laws.specs.StartRanges.{AreMadeByConnections, IsCourseIn};
+ghost use Rattle.connection_laws.specs.StartRanges.{StartsInRange};
 ghost use Rattle.connection_laws.specs.WatchEnds.{AreGoodReplies, RefusesNothing};
 ghost use Rattle.connection_laws.specs.WholePlays.{HasPlayedWhole, IsSetUpFor, playback_of};
 ghost use Rattle.connection_laws.specs.WholePlays.{whole_run};
@@ -53,6 +58,10 @@ use rtsp_client::laws::law_whole_film_ends_in_done;
 /// the film, or where the replies to the client's requests are 200. Once it received all that the
 /// server sent, the reply to TEARDOWN with it, it ends in `Done`, unless its own I/O failed or its
 /// memory ran out.
+///
+/// So it does where the server's report agrees with a journal, and connections made each entry of
+/// the journal (`served_done`). Then the play's start is in its range
+/// (`law_admitted_plays_start_in_range`).
 pub fn law_watched_film_is_complete()
     ensures played { (wish : Wish) (stored : Stored) (course : Course) (watched : Watched)
         (heard : List IoEvent) (out : List ℕ) → IsWish wish
@@ -93,6 +102,15 @@ pub fn law_watched_film_is_complete()
         → IsCarried (rounds_doings course.rounds) heard asked.play.start
         (first_slot client.mid.history) → IsDelivered course heard → IsDecided end
         → EndsWhole wish stored end out }
+    ensures served_done { (wish : Wish) (stored : Stored) (course : Course) (end : WatchEnd)
+        (heard : List IoEvent) (out : List ℕ) (visit : Visit) (terms : Terms)
+        (journal : List Entry) → (asked : IsAskedFor wish stored course)
+        → IsCourseIn visit terms journal course → AreMadeByConnections journal
+        → slice_index course.words 2 < 2 ^ 32
+        → (client : HasCourse wish end (Some []) (Some heard) (Some []) (Some out))
+        → IsCarried (rounds_doings course.rounds) heard asked.play.start
+        (first_slot client.mid.history) → IsDelivered course heard → IsDecided end
+        → EndsWhole wish stored end out }
 {
     law_whole_film_ends_in_done();
 }
@@ -111,7 +129,8 @@ pub fn law_requested_film_is_played()
 /// A client that asks a connection for a film reads 200 in each reply: the one to SETUP names a
 /// session, and the one to PLAY has the film's end and the play's start, which is at most slot
 /// 2^62 + 1. The film's frames have the SSRC that is the third of the connection's random words
-/// (RFC 3550 section 5.1).
+/// (RFC 3550 section 5.1). The start is in this range where the connection's report agrees with a
+/// journal whose entries connections made.
 pub fn law_client_requests_are_answered()
     ensures replies { (wish : Wish) (stored : Stored) (course : Course)
         → (asked : IsAskedFor wish stored course) → asked.play.start ≤ 2 ^ 62 + 1
@@ -120,6 +139,10 @@ pub fn law_client_requests_are_answered()
     ensures source { (wish : Wish) (stored : Stored) (course : Course)
         → IsAskedFor wish stored course → (played : HasPlayedWhole wish stored course)
         × (played.identity.ssrc ≡ slice_index course.words 2) }
+    ensures start { (wish : Wish) (stored : Stored) (course : Course) (visit : Visit)
+        (terms : Terms) (journal : List Entry) → (asked : IsAskedFor wish stored course)
+        → IsCourseIn visit terms journal course → AreMadeByConnections journal
+        → StartsInRange asked.play }
 {}
 
 /// A client reads in the reply to PLAY what the server writes in it: its code and number, the

@@ -1,8 +1,10 @@
 use Rattle.std.proofs.Common.{subst, sym}
 use Rattle.conn.specs.EventSteps.{rounds_doings}
 use Rattle.rtsp_client.specs.Meters.{first_slot}
+use Rattle.connection_laws.specs.ClientRequests.{AreInRange}
 use Rattle.connection_laws.specs.LinkDelivery.{IsCarried}
 use Rattle.connection_laws.specs.Plays.{FilmPlay}
+use Rattle.connection_laws.proofs.AdmittedStarts.{asked_start}
 use Rattle.connection_laws.proofs.RequestedPlays.{asked_played}
 use Rattle.connection_laws.proofs.CompleteWatch.{watched_whole}
 use Rattle.connection_laws.proofs.AnsweredRequests.{asked_play, asked_served}
@@ -72,3 +74,10 @@ returns-clause-asked_done c = λ wish stored course end heard out asked range cl
     asked.wished served client delivered decided
     (subst C (asked_play asked range c.law_whole_film_ends_in_done.ensures.frame
     c.law_whole_film_ends_in_done.ensures.done) carried)
+
+pub returns-clause-served_done : goal.returns-clause-served_done
+returns-clause-served_done c =
+    λ wish stored course end heard out visit terms journal asked is made small client carried delivered decided.
+    let start = (asked_start asked visit terms journal is made).1 in
+    let range : AreInRange course asked.play = record { ssrc = small; start = start } in
+    returns-clause-asked_done c wish stored course end heard out asked range client carried delivered decided

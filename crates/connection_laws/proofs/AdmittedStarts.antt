@@ -1,0 +1,369 @@
+-- In which slots a connection asks for plays, and in which slots its plays begin.
+use Rattle.std.specs.Prelude.{⊤, All, Option, Some, None}
+use Rattle.std.specs.List.{fold}
+use Rattle.std.proofs.Common.{◌≡◌, ℕ, zero, suc, ◌+◌, ◌^◌, ◌≤◌, ◌++◌, List, [], ◌∷◌, length, max, min}
+use Rattle.std.proofs.Common.{take, arith, refl, sym, ap, subst}
+use Rattle.std.proofs.lemmas.List.Elements.{All-append, All-contains, All-cons, All-get_or, All-head, All-nil, All-tail}
+use Rattle.std.proofs.lemmas.List.Elements.{All-weaker}
+use Rattle.vod_base.specs.Links.{IoEvent, HeardBytes, HeardEnd, HeardSlot, Sent}
+use Rattle.plan_cert.specs.PlanSlots.{total_bytes}
+use Rattle.film_frames.specs.declared.stored_films.Stored.{Stored}
+use Rattle.film_frames.specs.FramedRuns.{run_pieces}
+use Rattle.slot_calendar.specs.declared.profiles.CapStep.{CapStep}
+use Rattle.admission.specs.declared.entries.Answer.{Answer}
+use Rattle.admission.specs.declared.entries.Answer.TheVariants.{Admitted, Halted, Looked, Overflow}
+use Rattle.admission.specs.declared.entries.Command.{Command}
+use Rattle.admission.specs.declared.entries.Command.TheVariants.{Play as PlayCommand, Halt as HaltCommand}
+use Rattle.admission.specs.declared.entries.Command.TheVariants.{Look as LookCommand}
+use Rattle.admission.specs.declared.entries.Entry.{Entry}
+use Rattle.admission.specs.Histories.{IsLegal, asked_in, latest_asked, state_after}
+use Rattle.admission.specs.Machine.{IsAnswer, State}
+use Rattle.admission.specs.Makers.{PlacedEntry}
+use Rattle.admission.proofs.HistoryPrefixes.{legal-take, no_entry}
+use Rattle.admission.proofs.PlayCounts.{tally}
+use Rattle.session.specs.declared.commands.Ask.{Ask}
+use Rattle.session.specs.declared.commands.Ask.TheVariants.{Reply as AskReply, Play as AskPlay, Halt as AskHalt}
+use Rattle.session.specs.declared.commands.Ask.TheVariants.{Look as AskLook, Offer as AskOffer}
+use Rattle.session.specs.declared.settings.Settings.{Settings}
+use Rattle.session.specs.declared.states.Awaited.{Awaited}
+use Rattle.session.specs.declared.states.Awaited.TheVariants.{Nothing, Play, Halt, Look, Offer}
+use Rattle.session.specs.SessionStates.{AwaitedAnswer, HaltAnswer, LookAnswer, NoAnswer, OfferAnswer, OpenBooking}
+use Rattle.session.specs.SessionStates.{PlayAnswer, SessionState, awaited_answer, open_of}
+use Rattle.session.specs.SlotSteps.{after_slot}
+use Rattle.rtsp_client.specs.declared.watch_request.Wish.{Wish}
+use Rattle.conn.specs.Agreement.{Activity, HasDone, Visit, doings_outcomes}
+use Rattle.conn.specs.EventSteps.{Comes, Ending, Ends, Unheard, PeerEnded, Overfull, AtElement, InSlot, InReply}
+use Rattle.conn.specs.EventSteps.{Round, Runs, RunsAll, ending_outcomes, entries_in, round_outcomes, rounds_outcomes}
+use Rattle.conn.specs.EventSteps.{takings_outcomes}
+use Rattle.conn.specs.InputSteps.{IsAskAnswered, IsClosed, IsFinished, IsHalted, Outcome, Unasked, Entered, WasFull}
+use Rattle.conn.specs.InputSteps.{Offered, SentPart, Stage, ElementStep, Passed, Answered, TakesAll}
+use Rattle.conn.specs.Journals.{AgreeWith, StandsIn, Terms}
+use Rattle.conn.specs.Plays.{ending_rounds}
+use Rattle.conn.specs.declared.reports.ConnEnd.{ConnEnd}
+use Rattle.conn.specs.declared.reports.ConnReport.{ConnReport}
+use Rattle.connection_laws.specs.ClientRequests.{IsAskedFor}
+use Rattle.connection_laws.specs.Courses.{Course, askings_of, course_plays, first_stage}
+use Rattle.connection_laws.specs.Plays.{StationRequest, Asks, FilmPlay, kept_in, plays_admitted, plays_begun, plays_of}
+use Rattle.connection_laws.specs.StartRanges.{AreMadeByConnections, IsCourseIn, IsMadeByConnection, StartsInRange}
+use Rattle.connection_laws.proofs.BookedPlays.{course_outcomes, outcomes_in}
+
+-- ---- the entries among what the station answered
+abbrev InEntry : (PlacedEntry → Type 0) → Outcome → Type 0
+InEntry P Unasked = ⊤
+InEntry P (Entered placed) = P placed
+InEntry P (WasFull more entries live) = ⊤
+InEntry P (Offered at_slot note) = ⊤
+
+abbrev InEntries : (PlacedEntry → Type 0) → List Outcome → Type 0
+InEntries P [] = ⊤
+InEntries P (outcome ∷ outcomes) = InEntry P outcome × InEntries P outcomes
+
+entries_join : (P : PlacedEntry → Type 0) (xs ys : List Outcome) → InEntries P xs → InEntries P ys
+    → InEntries P (xs ++ ys)
+entries_join P [] ys one two = two
+entries_join P (x ∷ xs) ys one two = (one.0, entries_join P xs ys one.1 two)
+
+entries_front : (P : PlacedEntry → Type 0) (xs ys : List Outcome) → InEntries P (xs ++ ys) → InEntries P xs
+entries_front P [] ys are = tt
+entries_front P (x ∷ xs) ys are = (are.0, entries_front P xs ys are.1)
+
+entries_rest : (P : PlacedEntry → Type 0) (xs ys : List Outcome) → InEntries P (xs ++ ys) → InEntries P ys
+entries_rest P [] ys are = are
+entries_rest P (x ∷ xs) ys are = entries_rest P xs ys are.1
+
+all_entries : (P : PlacedEntry → Type 0) (outcomes : List Outcome) → InEntries P outcomes
+    → All P (entries_in outcomes)
+all_entries P [] are = All-nil P
+all_entries P (Unasked ∷ outcomes) are = all_entries P outcomes are.1
+all_entries P (Entered placed ∷ outcomes) are =
+    All-cons P placed (entries_in outcomes) are.0 (all_entries P outcomes are.1)
+all_entries P (WasFull more entries live ∷ outcomes) are = all_entries P outcomes are.1
+all_entries P (Offered at_slot note ∷ outcomes) are = all_entries P outcomes are.1
+
+-- ---- in which slots a connection asks
+abbrev AsksInRange : PlacedEntry → Type 0
+AsksInRange placed = asked_in placed.entry.command ≤ 2 ^ 62
+
+halted_range : (old : SessionState) (keep : ℕ) (outcome : Outcome) (new : SessionState)
+    → IsHalted old keep outcome new → InEntry AsksInRange outcome
+halted_range old keep Unasked new halted = tt
+halted_range old keep (Entered placed) new halted =
+    let none : asked_in placed.entry.command ≡ 0 = ap asked_in halted.command in omega (arith, none)
+halted_range old keep (WasFull more entries live) new halted = tt
+halted_range old keep (Offered at_slot note) new halted = tt
+
+entered_range : (old : SessionState) (ask : Ask) (placed : PlacedEntry) (new : SessionState)
+    → IsAskAnswered old ask (Entered placed) new → AsksInRange placed
+entered_range old AskReply placed new answered = absurd answered
+entered_range old (AskPlay plan) placed new answered =
+    let slot : asked_in placed.entry.command ≡ min old.heard (2 ^ 62) = ap asked_in answered.0 in
+    omega (arith, slot)
+entered_range old (AskHalt keep) placed new answered = halted_range old keep (Entered placed) new answered
+entered_range old (AskLook slot) placed new answered =
+    let none : asked_in placed.entry.command ≡ 0 = ap asked_in answered.0 in omega (arith, none)
+entered_range old (AskOffer plan offers) placed new answered = absurd answered
+
+ask_range : (old : SessionState) (ask : Ask) (outcome : Outcome) (new : SessionState)
+    → IsAskAnswered old ask outcome new → InEntry AsksInRange outcome
+ask_range old ask Unasked new answered = tt
+ask_range old ask (Entered placed) new answered = entered_range old ask placed new answered
+ask_range old ask (WasFull more entries live) new answered = tt
+ask_range old ask (Offered at_slot note) new answered = tt
+
+unasked_range : (old : SessionState) (halt : Outcome) (new : SessionState) → IsFinished NoAnswer old halt new
+    → InEntry AsksInRange halt
+unasked_range old Unasked new is = tt
+unasked_range old (Entered placed) new is = absurd is
+unasked_range old (WasFull more entries live) new is = tt
+unasked_range old (Offered at_slot note) new is = tt
+
+finished_range : (awaited : AwaitedAnswer) (old : SessionState) (halt : Outcome) (new : SessionState)
+    → IsFinished awaited old halt new → InEntry AsksInRange halt
+finished_range NoAnswer old halt new is = unasked_range old halt new is
+finished_range (PlayAnswer plan) old halt new is = absurd is
+finished_range (HaltAnswer keep) old halt new is = halted_range old keep halt new is
+finished_range LookAnswer old halt new is = absurd is
+finished_range OfferAnswer old halt new is = absurd is
+
+closed_range : (booking : Option OpenBooking) (old : SessionState) (halt : Outcome) (new : SessionState)
+    → IsClosed booking old halt new → InEntry AsksInRange halt
+closed_range None old Unasked new is = tt
+closed_range None old (Entered placed) new is = absurd is
+closed_range None old (WasFull more entries live) new is = tt
+closed_range None old (Offered at_slot note) new is = tt
+closed_range (Some booking) old halt new is = halted_range old booking.due halt new is
+
+comes_range : (old opened : Stage) (event : IoEvent) (due : List SentPart) (halt : Outcome)
+    → Comes old event due halt opened → InEntry AsksInRange halt
+comes_range old opened (HeardBytes bytes) due halt comes = subst (InEntry AsksInRange) (sym comes.1) tt
+comes_range old opened (HeardSlot slot) due halt comes =
+    finished_range (awaited_answer (after_slot old.session slot)) (after_slot old.session slot) halt opened.session
+    comes.1.finished
+comes_range old opened HeardEnd due halt comes = absurd comes
+comes_range old opened (Sent byte) due halt comes = absurd comes
+
+takes_range : (old new : Stage) (takings : List ElementStep) → TakesAll old takings new
+    → InEntries AsksInRange (takings_outcomes takings)
+takes_range old new [] takes = tt
+takes_range old new (Passed n ∷ takings) takes = takes_range takes.0 new takings takes.1.1
+takes_range old new (Answered message outcome parts ∷ takings) takes =
+    let heard = takes.1.0.heard in (
+      ask_range heard.asking heard.ask outcome takes.1.0.answered heard.answered,
+      takes_range takes.0 new takings takes.1.1,
+    )
+
+round_range : (old : Stage) (round : Round) (new : Stage) → Runs old round new
+    → InEntries AsksInRange (round_outcomes round)
+round_range old round new runs = (
+  comes_range old runs.opened round.event round.due round.halt runs.comes,
+  takes_range runs.opened new round.takings runs.takes,
+)
+
+rounds_range : (old : Stage) (rounds : List Round) (new : Stage) → RunsAll old rounds new
+    → InEntries AsksInRange (rounds_outcomes rounds)
+rounds_range old [] new runs = tt
+rounds_range old (round ∷ rounds) new runs =
+    entries_join AsksInRange (round_outcomes round) (rounds_outcomes rounds) (round_range old round runs.0 runs.1.0)
+    (rounds_range runs.0 rounds new runs.1.2)
+
+ending_range : (old : Stage) (count : ℕ) (ending : Ending) (end : ConnEnd) (new : Stage)
+    → Ends old count ending end new → InEntries AsksInRange (ending_outcomes ending)
+ending_range old count Unheard end new ends = tt
+ending_range old count PeerEnded end new ends = tt
+ending_range old count (Overfull bytes) end new ends = tt
+ending_range old count (AtElement round) end new ends = round_range old round new ends.0
+ending_range old count (InSlot slot front) end new ends = tt
+ending_range old count (InReply round message outcome front) end new ends =
+    let heard = ends.1.fails.heard in
+    entries_join AsksInRange (round_outcomes round) (outcome ∷ []) (round_range old round ends.1.mid ends.1.runs)
+    (ask_range heard.asking heard.ask outcome ends.1.fails.answered heard.answered, tt)
+
+-- a connection asks for no play in a slot after 2^62
+pub asked_range : (films : List Stored) (settings : Settings) (words : List ℕ) (doings : Activity)
+    (report : ConnReport) → HasDone films settings words doings report
+    → All AsksInRange (entries_in (doings_outcomes doings))
+asked_range films settings words doings report done =
+    let rounds = rounds_range (first_stage films settings words) doings.rounds done.mid done.runs in
+    let ending = ending_range done.mid (length doings.rounds) doings.ending report.end done.last done.ends in
+    let halt = closed_range (open_of done.last.session) done.last.session doings.halt done.closed done.closes in
+    let course = rounds_outcomes doings.rounds ++ ending_outcomes doings.ending in
+    all_entries AsksInRange (doings_outcomes doings)
+    (entries_join AsksInRange course (doings.halt ∷ [])
+    (entries_join AsksInRange (rounds_outcomes doings.rounds) (ending_outcomes doings.ending) rounds ending)
+    (halt, tt))
+
+-- ---- the latest slot in which a play was asked for
+abbrev later : ℕ → Entry → ℕ
+later latest e = max latest (asked_in e.command)
+
+later_from : (base : ℕ) (xs : List Entry) → base ≤ fold later base xs
+later_from base [] = omega arith
+later_from base (x ∷ xs) = let rest = later_from (later base x) xs in omega (arith, rest)
+
+later_take : (base n : ℕ) (xs : List Entry) → fold later base (take n xs) ≤ fold later base xs
+later_take base zero xs = later_from base xs
+later_take base (suc n) [] = omega arith
+later_take base (suc n) (x ∷ xs) = later_take (later base x) n xs
+
+later_each : (base : ℕ) (xs : List Entry) → All (λ (e : Entry). asked_in e.command ≤ fold later base xs) xs
+later_each base [] = All-nil (λ (e : Entry). asked_in e.command ≤ base)
+later_each base (x ∷ xs) =
+    let most = fold later (later base x) xs in
+    let from = later_from (later base x) xs in
+    All-cons (λ (e : Entry). asked_in e.command ≤ most) x xs (omega (arith, from)) (later_each (later base x) xs)
+
+later_most : (most base : ℕ) (xs : List Entry) → base ≤ most → All (λ (e : Entry). asked_in e.command ≤ most) xs
+    → fold later base xs ≤ most
+later_most most base [] few all = few
+later_most most base (x ∷ xs) few all =
+    let P : Entry → Type 0 = λ (e : Entry). asked_in e.command ≤ most in
+    let first : asked_in x.command ≤ most = All-head P x xs all in
+    later_most most (later base x) xs (omega (arith, few, first)) (All-tail P x xs all)
+
+made_range : (e : Entry) → IsMadeByConnection e → asked_in e.command ≤ 2 ^ 62
+made_range e made =
+    let all = asked_range made.films made.settings made.words made.doings made.report made.done in
+    subst (λ (x : Entry). asked_in x.command ≤ 2 ^ 62) made.entry_is
+    (All-contains AsksInRange (entries_in (doings_outcomes made.doings)) made.placed all made.among)
+
+-- in a journal that connections made, no play was asked for in a slot after 2^62
+pub latest_range : (journal : List Entry) → AreMadeByConnections journal → latest_asked journal ≤ 2 ^ 62
+latest_range journal made =
+    let all =
+    All-weaker IsMadeByConnection (λ (e : Entry). asked_in e.command ≤ 2 ^ 62) made_range journal made in
+    later_most (2 ^ 62) 0 journal (omega arith) all
+
+-- ---- where plays begin
+abbrev IsNext : List Entry → ℕ → Type 0
+IsNext journal start = (1 ≤ start) × (start ≤ latest_asked journal + 1)
+
+abbrev StartsNext : List Entry → PlacedEntry → Type 0
+StartsNext journal placed = (start : ℕ) → placed.entry.answer ≡ Admitted start → IsNext journal start
+
+answer_start : (steps : List CapStep) (state : State) (command : Command) (start : ℕ)
+    → IsAnswer steps state command (Admitted start) → start ≡ max state.now (asked_in command) + 1
+answer_start steps state (PlayCommand slot segments) start is = is.0
+answer_start steps state (HaltCommand number keep) start is = absurd is
+answer_start steps state (LookCommand slot) start is = absurd is
+
+stands_next : {terms : Terms} {journal : List Entry} (from : ℕ) (placed : PlacedEntry) → IsLegal terms.steps journal
+    → StandsIn terms journal from placed → StartsNext journal placed
+stands_next {terms} {journal} from placed legal stands = λ start same.
+    let before = take placed.place journal in
+    let state = state_after before in
+    let E : Entry → Type 0 = λ e. IsAnswer terms.steps state e.command e.answer in
+    let answered = subst E (stands.entry no_entry) (legal.each placed.place no_entry stands.within) in
+    let admitted = subst (λ (a : Answer). IsAnswer terms.steps state placed.entry.command a) same answered in
+    let is = answer_start terms.steps state placed.entry.command start admitted in
+    let now : state.now ≡ latest_asked before =
+    (tally terms.steps before (legal-take terms.steps journal placed.place legal)).1 in
+    let few : latest_asked before ≤ latest_asked journal = later_take 0 placed.place journal in
+    let P : Entry → Type 0 = λ e. asked_in e.command ≤ latest_asked journal in
+    let own : asked_in placed.entry.command ≤ latest_asked journal = subst P (stands.entry no_entry)
+    (All-get_or P journal placed.place no_entry stands.within (later_each 0 journal)) in
+    (omega (arith, is), omega (arith, is, now, few, own))
+
+agree_next : (terms : Terms) (journal : List Entry) (from : ℕ) (outcomes : List Outcome)
+    → IsLegal terms.steps journal → AgreeWith terms journal from outcomes → InEntries (StartsNext journal) outcomes
+agree_next terms journal from [] legal agree = tt
+agree_next terms journal from (Unasked ∷ outcomes) legal agree =
+    (tt, agree_next terms journal from outcomes legal agree)
+agree_next terms journal from (Entered placed ∷ outcomes) legal agree =
+    (stands_next from placed legal agree.0, agree_next terms journal (placed.place + 1) outcomes legal agree.1)
+agree_next terms journal from (WasFull more entries live ∷ outcomes) legal agree =
+    (tt, agree_next terms journal entries outcomes legal agree.1)
+agree_next terms journal from (Offered at_slot note ∷ outcomes) legal agree =
+    (tt, agree_next terms journal note.seen outcomes legal agree.1)
+
+ending_entries : (P : PlacedEntry → Type 0) (ending : Ending) → InEntries P (ending_outcomes ending)
+    → InEntries P (rounds_outcomes (ending_rounds ending))
+ending_entries P Unheard are = tt
+ending_entries P PeerEnded are = tt
+ending_entries P (Overfull bytes) are = tt
+ending_entries P (AtElement round) are = entries_join P (round_outcomes round) [] are tt
+ending_entries P (InSlot slot front) are = tt
+ending_entries P (InReply round message outcome front) are =
+    entries_join P (round_outcomes round) [] (entries_front P (round_outcomes round) (outcome ∷ []) are) tt
+
+course_entries : (P : PlacedEntry → Type 0) (rounds : List Round) (ending : Ending)
+    → InEntries P (rounds_outcomes rounds) → InEntries P (ending_outcomes ending)
+    → InEntries P (rounds_outcomes (rounds ++ ending_rounds ending))
+course_entries P [] ending are last = ending_entries P ending last
+course_entries P (round ∷ rounds) ending are last =
+    let first = round_outcomes round in
+    let rest = rounds_outcomes rounds in
+    entries_join P first (rounds_outcomes (rounds ++ ending_rounds ending)) (entries_front P first rest are)
+    (course_entries P rounds ending (entries_rest P first rest are) last)
+
+-- a play begins where the entry that admits it says
+abbrev Begins : (ℕ → Type 0) → FilmPlay → Type 0
+Begins S play = S play.start
+
+admitted_starts : (S : ℕ → Type 0) (asked : Awaited) (answer : Answer) (askings : List StationRequest)
+    → ((start : ℕ) → answer ≡ Admitted start → S start) → All (Begins S) (plays_admitted asked answer askings)
+admitted_starts S (Play prepared) (Admitted start) askings starts =
+    All-cons (Begins S) (record {
+      start = start;
+      plan = prepared.plan;
+      keep = kept_in askings (total_bytes prepared.plan);
+      before = prepared.run.sent;
+      pieces = run_pieces prepared.frames;
+    }) [] (starts start refl) (All-nil (Begins S))
+admitted_starts S (Play prepared) (Overflow slot booked asked) askings starts = All-nil (Begins S)
+admitted_starts S (Play prepared) Halted askings starts = All-nil (Begins S)
+admitted_starts S (Play prepared) (Looked now at booked) askings starts = All-nil (Begins S)
+admitted_starts S Nothing answer askings starts = All-nil (Begins S)
+admitted_starts S (Halt keep next) answer askings starts = All-nil (Begins S)
+admitted_starts S (Look sequence) answer askings starts = All-nil (Begins S)
+admitted_starts S (Offer sequence) answer askings starts = All-nil (Begins S)
+
+begun_starts : (journal : List Entry) (asked : Awaited) (outcome : Outcome) (askings : List StationRequest)
+    → InEntry (StartsNext journal) outcome → All (Begins (IsNext journal)) (plays_begun asked outcome askings)
+begun_starts journal asked Unasked askings next = All-nil (Begins (IsNext journal))
+begun_starts journal asked (Entered placed) askings next =
+    admitted_starts (IsNext journal) asked placed.entry.answer askings next
+begun_starts journal asked (WasFull more entries live) askings next = All-nil (Begins (IsNext journal))
+begun_starts journal asked (Offered at_slot note) askings next = All-nil (Begins (IsNext journal))
+
+plays_start : (journal : List Entry) (askings : List StationRequest)
+    → InEntries (StartsNext journal) (outcomes_in askings) → All (Begins (IsNext journal)) (plays_of askings)
+plays_start journal [] next = All-nil (Begins (IsNext journal))
+plays_start journal (Asks asked outcome ∷ askings) next =
+    All-append (Begins (IsNext journal)) (plays_begun asked outcome askings) (plays_of askings)
+    (begun_starts journal asked outcome askings next.0) (plays_start journal askings next.1)
+
+-- each play of a connection begins in a slot after 0, and in the slot after the latest one in which a play was asked
+-- for at the latest
+pub course_starts : (visit : Visit) (terms : Terms) (journal : List Entry) (course : Course)
+    → IsCourseIn visit terms journal course
+    → All (λ play. (1 ≤ play.start) × (play.start ≤ latest_asked journal + 1)) (course_plays course)
+course_starts visit terms journal course is =
+    let agrees = is.agrees in
+    let doings = agrees.doings in
+    let P = StartsNext journal in
+    let rounds = rounds_outcomes doings.rounds in
+    let ending = ending_outcomes doings.ending in
+    let all = agree_next terms journal 0 (doings_outcomes doings) agrees.legal agrees.agree in
+    let part = entries_front P (rounds ++ ending) (doings.halt ∷ []) all in
+    let mine = course_entries P doings.rounds doings.ending (entries_front P rounds ending part)
+    (entries_rest P rounds ending part) in
+    let first = first_stage course.films course.settings course.words in
+    let R : List Round → Type 0 = λ rs. InEntries P (rounds_outcomes rs) in
+    let these : InEntries P (rounds_outcomes course.rounds) = subst R (sym is.course_is.rounds_are) mine in
+    plays_start journal (askings_of first course.rounds course.last course.follows)
+    (subst (InEntries P) (sym (course_outcomes first course.last course.rounds course.follows)) these)
+
+pub course_range : (visit : Visit) (terms : Terms) (journal : List Entry) (course : Course)
+    → IsCourseIn visit terms journal course → latest_asked journal ≤ 2 ^ 62 → All StartsInRange (course_plays course)
+course_range visit terms journal course is few =
+    let next : FilmPlay → Type 0 = λ play. (1 ≤ play.start) × (play.start ≤ latest_asked journal + 1) in
+    All-weaker next StartsInRange (λ play its. (its.0, omega (arith, its.1, few))) (course_plays course)
+    (course_starts visit terms journal course is)
+
+-- so does the play of a film that was asked for, where connections made the journal
+pub asked_start : {wish : Wish} {stored : Stored} {course : Course} (asked : IsAskedFor wish stored course)
+    (visit : Visit) (terms : Terms) (journal : List Entry) → IsCourseIn visit terms journal course
+    → AreMadeByConnections journal → StartsInRange asked.play
+asked_start {wish} {stored} {course} asked visit terms journal is made =
+    let all = course_range visit terms journal course is (latest_range journal made) in
+    All-head StartsInRange asked.play asked.others (subst (All StartsInRange) asked.plays all)
