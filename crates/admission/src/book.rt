@@ -42,7 +42,7 @@ impl Model for Book {
     ghost invariant = { IsBook };
 }
 
-/// The most entries of a journal.
+/// The most entries of a journal. A book takes memory for its limit of them when it is made.
 pub const MAX_ENTRIES: u64 = 1_048_576;
 
 /// The latest slot; a later one is taken as this one.
@@ -51,8 +51,8 @@ pub const LATEST_SLOT: u64 = vod_base::LATEST_SLOT;
 impl Book {
     ghost use Rattle.admission.specs.Books.{IsFull, IsNoted, places_taken};
 
-    /// An empty book of a link of this capacity, whose journal has room for `limit` entries, 2 to
-    /// [`MAX_ENTRIES`]. No other call takes memory.
+    /// Makes an empty book of a link of this capacity, whose journal has room for `limit` entries,
+    /// 2 to [`MAX_ENTRIES`]. No other call takes memory.
     ///
     /// # Errors
     ///
@@ -63,6 +63,8 @@ impl Book {
         ensures { IfOk result (λ book.
             book ≡ record { steps = profile; limit = limit; entries = [] }) }
     {
+        // All memory is taken here. So a server knows its need at its start, and no play fails for
+        // memory.
         let calendar = Calendar::new(alloc, profile)?;
         Ok(Book {
             calendar,
@@ -84,24 +86,27 @@ impl Book {
         }
     }
 
-    /// A play of this plan, asked for in a slot: it is admitted from the slot after that one and
-    /// after now on, if its plan fits into every slot, and else answered the first slot without
-    /// room. Both make an entry, and now comes up to the slot. A slot above [`LATEST_SLOT`] is
-    /// taken as that one.
+    /// Admits a play of this plan, asked for in a slot, if its plan fits into every slot from the
+    /// slot after that one and after now on. Else it answers the first slot without room. Both make
+    /// an entry, and now comes up to the slot. A slot above [`LATEST_SLOT`] is taken as that one.
     ///
     /// # Errors
     ///
     /// [`PlayFull`] exactly where the entries, the open plays and 2, for the play's entry and its
     /// halt's, are more than the limit. It hands the plan back and leaves the book as it was.
     pub fn play(&mut self, maker: u32, slot: u64, plan: Plan) -> Result<Noted, PlayFull>
+        // answers: the admission rule's answer, exactly where the journal has two more places
         ensures noted { IfOk result (λ noted.
             IsNoted self.old maker (Command.Play (min slot LATEST_SLOT) plan) noted self.new) }
         ensures room { OnOk result (places_taken self.old.entries + 2 ≤ self.old.limit) }
+        // refuses: exactly where it hasn't, with the counts
         ensures full { OnErr result (self.old.limit < places_taken self.old.entries + 2) }
         ensures counts { IfErr result (λ refused. IsFull self.old refused.full) }
+        // answers: an admitted play can be halted, after any of its bytes
         ensures open { IfOk result (λ noted. (start keep : ℕ) →
             noted.answer ≡ Answer.Admitted start → keep ≤ total_bytes plan →
             CanHalt (state_after self.new.entries) noted.place keep) }
+        // leaves: after a refusal, the plan to the caller and the book as it was
         ensures plan { IfErr result (λ refused. refused.plan ≡ plan) }
         ensures left { OnErr result (self.new ≡ self.old) }
     {
@@ -111,6 +116,7 @@ impl Book {
         if full.entries + full.live + 2 > self.limit {
             return Err(PlayFull { plan, full });
         }
+        // A bounded slot: no sum of slots overflows, also with the slots of a plan.
         let slot = slot.min(LATEST_SLOT);
         let answer = admit(&mut self.calendar, slot, &plan);
         self.live += opened_count(answer);
@@ -123,8 +129,8 @@ impl Book {
     }
 
     /// Halts the open play of this number, the place of its entry. It keeps the first `keep` bytes
-    /// of its plan; what is after them is free again in the slots from now on. The entry always
-    /// finds its place.
+    /// of its plan; what is after them is free again in the slots from now on. `keep` is at most
+    /// the plan's bytes. The entry always finds its place.
     pub fn halt(&mut self, maker: u32, number: u64, keep: u64) -> Noted
         requires { CanHalt (state_after self.old.entries) number keep }
         ensures noted { IsNoted self.old maker (Command.Halt number keep) result self.new }
@@ -132,6 +138,7 @@ impl Book {
     {
         release_play(&mut self.calendar, self.entries.as_slice(), number, keep);
         self.live -= 1;
+        // The play's free place becomes this entry's. So a halt needs no limit, and never fails.
         note(
             &mut self.entries,
             maker,
@@ -148,19 +155,24 @@ impl Book {
     /// [`Full`] exactly where the entries, the open plays and 1 are more than the limit. It leaves
     /// the book as it was.
     pub fn look(&mut self, maker: u32, slot: u64) -> Result<Noted, Full>
+        // answers: what is booked, exactly where the journal has one more place
         ensures noted { IfOk result (λ noted.
             IsNoted self.old maker (Command.Look (min slot LATEST_SLOT)) noted self.new) }
         ensures room { OnOk result (places_taken self.old.entries + 1 ≤ self.old.limit) }
+        // refuses: exactly where it hasn't, with the counts
         ensures full { OnErr result (self.old.limit < places_taken self.old.entries + 1) }
         ensures counts { IfErr result (λ full. IsFull self.old full) }
+        // leaves: after a refusal, the book as it was
         ensures left { OnErr result (self.new ≡ self.old) }
     {
         let full = self.counts();
+        // A look takes an entry, too: its answer is then part of the history that can be judged.
         if full.entries + full.live + 1 > self.limit {
             return Err(full);
         }
         let slot = slot.min(LATEST_SLOT);
         let now = self.calendar.now();
+        // The calendar has forgotten the slots before now. A look doesn't move now; plays alone do.
         let at = now.max(slot);
         let booked = self.calendar.booked(at);
         Ok(note(
@@ -171,7 +183,7 @@ impl Book {
         ))
     }
 
-    /// The entries, in their order.
+    /// Returns the entries, in their order.
     pub fn entries(&self) -> &[Entry]
         ensures value { result.now ≡ self.now.entries }
         ensures legal { IsLegal self.now.steps self.now.entries }
@@ -181,7 +193,7 @@ impl Book {
         self.entries.as_slice()
     }
 
-    /// What is booked on the link from the machine's now on.
+    /// Returns what is booked on the link from the machine's now on.
     pub fn calendar(&self) -> &Calendar
         ensures steps { result.now.steps ≡ self.now.steps }
         ensures now { result.now.first ≡ (state_after self.now.entries).now }

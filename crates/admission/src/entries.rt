@@ -3,7 +3,7 @@
 use plan_cert::Plan;
 use thiserror::Error;
 
-/// What is asked of the book.
+/// A command to the book.
 #[derive(Debug, Drop)]
 pub enum Command {
     /// To play a plan, asked in a slot: it may begin in the slot after it at the earliest.
@@ -27,7 +27,7 @@ pub enum Command {
     },
 }
 
-/// What the book answers.
+/// An answer of the book.
 #[derive(Clone, Copy, Debug, PartialEq, Eq)]
 pub enum Answer {
     /// The play is admitted.
@@ -60,7 +60,7 @@ pub enum Answer {
 /// An entry of the journal. Its place, from 0, is the number of entries before it.
 #[derive(Debug, Drop)]
 pub struct Entry {
-    /// Who asked.
+    /// The number of who asked.
     pub maker: u32,
     /// What was asked.
     pub command: Command,
@@ -68,8 +68,8 @@ pub struct Entry {
     pub answer: Answer,
 }
 
-/// The journal has no room for an entry beyond those that the open plays will need for their
-/// halts. Nothing was changed.
+/// The refusal of a command: the journal has no room for an entry beyond those that the open plays
+/// will need for their halts. Nothing was changed.
 #[derive(Clone, Copy, Debug, PartialEq, Eq, Error)]
 #[error("the journal is full: {entries} entries, {live} open plays")]
 pub struct Full {
@@ -79,7 +79,7 @@ pub struct Full {
     pub live: u64,
 }
 
-/// An entry was made.
+/// An entry that was made.
 #[derive(Clone, Copy, Debug, PartialEq, Eq)]
 pub struct Noted {
     /// Its place in the journal, from 0; the number of the play where one was admitted.
@@ -88,7 +88,7 @@ pub struct Noted {
     pub answer: Answer,
 }
 
-/// The journal has no room for a play, whose plan is handed back.
+/// The refusal of a play: the journal has no room for it. Its plan is handed back.
 #[derive(Debug, Drop, Error)]
 #[error("{full}")]
 pub struct PlayFull {

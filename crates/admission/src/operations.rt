@@ -24,7 +24,9 @@ pub(crate) fn admit(calendar: &mut Calendar, slot: u64, plan: &Plan) -> Answer
         MatchesState calendar.new (next_state state place (Command.Play slot plan.now) result) }
 {
     let now = calendar.now().max(slot);
+    // Also before a refusal: the request itself shows that time has come to its slot.
     calendar.advance(now);
+    // Not in the slot of the request: the play's first bytes then have a complete slot.
     let start = now + 1;
     // the contract of this call says that a plan has at most 1,000,000 slots, so it ends within the
     // calendar's ring
@@ -65,6 +67,7 @@ pub(crate) fn release_play(calendar: &mut Calendar, entries: &[Entry], number: u
         (next_state (state_after entries.now) place (Command.Halt number keep) Answer.Halted) }
 {
     let admitted = &entries[number as usize];
+    // Only the place of an admitted play can be halted (`CanHalt`), so neither case can come.
     let Command::Play { plan, .. } = &admitted.command else {
         unreachable!()
     };
@@ -88,6 +91,7 @@ pub(crate) fn note(entries: &mut Vec<Entry>, maker: u32, command: Command, answe
     ensures room { vec_capacity entries.new ≡ vec_capacity entries.old }
 {
     let place = entries.len() as u64;
+    // No memory is taken: what the calendar has changed is then noted without fail.
     entries.push_reserved(Entry {
         maker,
         command,

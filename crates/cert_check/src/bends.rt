@@ -17,6 +17,8 @@ pub(crate) fn first_equal(segments: &[Segment]) -> Option<u64>
     ensures { MatchOption result ((i : ℕ) →
         ¬ IsEqualAt segments.now i) (IsFirst (IsEqualAt segments.now)) }
 {
+    // The last segment has none after it. Segments of one slope are one segment, and a plan has one
+    // text.
     for i in 0..segments.len().saturating_sub(1) {
         if stays_level(segments[i], segments[i + 1]) {
             return Some(i as u64);
@@ -38,6 +40,8 @@ pub(crate) fn first_rise_off(curves: &Curves, segments: &[Segment]) -> Option<u6
     for i in 0..segments.len().saturating_sub(1) {
         place += segments[i].slots as usize;
         height += segments[i].bytes;
+        // The rate may rise only where the client's buffer is full. Elsewhere sending more before
+        // would make the rise smaller.
         let off = height != up[place - 1];
         if off && rises(segments[i], segments[i + 1]) {
             return Some(i as u64);
@@ -59,6 +63,8 @@ pub(crate) fn first_fall_off(curves: &Curves, segments: &[Segment]) -> Option<u6
     for i in 0..segments.len().saturating_sub(1) {
         place += segments[i].slots as usize;
         height += segments[i].bytes;
+        // The rate may fall only where the client has just what it needs. Elsewhere sending less
+        // before would make the fall smaller.
         let off = height != low[place - 1];
         if off && rises(segments[i + 1], segments[i]) {
             return Some(i as u64);

@@ -17,9 +17,9 @@ use crate::walk::{Outside, first_outside};
 use plan_cert::{Segment, has_slots};
 use wire_curve::Curves;
 
-/// Whether the segments are the taut line between the curves, or else the first fault. A list that
-/// passes is best, as [`law_checked_plan_is_optimal`] says. It takes no memory, and makes one pass
-/// over the slots and a few over the segments.
+/// Checks whether the segments are the taut line between the curves, and returns the first fault
+/// where they aren't. A list that passes is best, as [`law_checked_plan_is_optimal`] says. It takes
+/// no memory, and makes one pass over the slots and a few over the segments.
 ///
 /// # Errors
 ///
@@ -64,6 +64,8 @@ fn find_fault(curves: &Curves, segments: &[Segment]) -> Result<(), CertFault>
         (λ fault. IsFirstFault curves.now.from curves.now.low.items curves.now.up.items
         segments.now fault) }
 {
+    // Each test may rely on those before it: without empty segments, and with the slots and bytes
+    // of the curves, the walk stays within both lists and its numbers are small.
     if let Some(i) = first_empty(segments) {
         return Err(CertFault::EmptySegment(i));
     }

@@ -15,8 +15,8 @@ mod walk;
 pub use checker::check;
 use thiserror::Error;
 
-/// What is wrong with a list of segments. Faults are tried in this order, and within one kind the
-/// least number is named.
+/// A fault of a list of segments. Faults are tried in this order, and within one kind the least
+/// number is named.
 #[derive(Clone, Copy, Debug, PartialEq, Eq, Error)]
 pub enum CertFault {
     /// This segment, from 0, has no slots.

@@ -20,5 +20,6 @@ pub(crate) fn first_empty(segments: &[Segment]) -> Option<u64>
 pub(crate) fn leads_to(from: u64, segments: &[Segment], total: u64) -> bool
     ensures { IsTrue result ↔ (from + total_bytes segments.now ≡ total) }
 {
+    // Compared first: without it the difference could be negative.
     from <= total && has_bytes(segments, total - from)
 }

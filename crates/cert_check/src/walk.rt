@@ -36,9 +36,13 @@ pub(crate) fn first_outside(curves: &Curves, segments: &[Segment]) -> Outside
         walk = next_walk(walk, segments);
         let segment = segments[walk.index];
         let height = scaled_height(walk, segment);
+        // Both sides are multiplied by the segment's slots: the line is compared exactly, without a
+        // quotient.
         if height < u128::from(low[t]) * u128::from(segment.slots) {
             return Outside::Below(t as u64);
         }
+        // A slot below the lower curve comes first in the order of faults, also after one above. So
+        // an exit above is only noted until the walk is over.
         if above.is_none() && height > u128::from(up[t]) * u128::from(segment.slots) {
             above = Some(t as u64);
         }

@@ -48,14 +48,14 @@ pub record IsAsking (seat next : SeatState) (before : Connection) : Type 0 where
   pub held : IsHeld seat.mine before.booking (open_of before.session)
   pub closed : open_of before.session ≡ None
 
--- a refusal was told
+-- a refusal was reported
 pub record HasToldRefusal (refused : PlayRefused) (before after : Connection) : Type 0 where
   pub exact : after.session ≡ after_refusal before.session refused
   pub handed : IsAnswerRecorded before.session (refusal_receipt refused) after.session
   pub closed : open_of after.session ≡ None
   pub booking : after.booking ≡ before.booking
 
--- a play of a plan was refused, at a heard slot
+-- a play of a plan was refused, at a slot that was received
 record HasRefused (refused : PlayRefused) (seat next : SeatState) : Type 0 where
   heard : ℕ
   plan : List Segment

@@ -40,7 +40,7 @@ use Rattle.conn.specs.Observations.{HasLostReply, HasTakenSlot}
 use Rattle.conn.specs.Observations.{HasRound, HasRun, HasTaken, HasProcessedInput, IsSent, Observed}
 use Rattle.conn.proofs.EventPremises.{RequestInFront}
 
--- what the link tells
+-- what the link exposes
 pub sent_none : (told : Option (List IoEvent)) → IsSent told [] told
 sent_none told = sym (told_more-nil told)
 
@@ -74,7 +74,7 @@ noted_on {a} {b} {c} {xs} {ys} first second = record {
       first.agree (subst (λ terms. AgreeWith terms c.seen (length b.seen) ys) (terms_same a b first.seat) second.agree);
 }
 
--- elements that are taken up from a stage on
+-- elements that are processed from a stage on
 pub record TakenLater : Type 0 where
   pub old : Stage
   pub new : Stage
@@ -146,7 +146,7 @@ up_on (Some end) a b c first up =
       | inr stopped ↦ inr (taken_on a b c first stopped.0, stopped.1)
     ]
 
--- an event, and what was taken up after it
+-- an event, and what was processed after it
 event_round : {event : IoEvent} {halt : Outcome} {a b c : Observed} (due : List SentPart) →
     Comes a.stage event due halt b.stage → IsSent a.told (parts_bytes due) b.told →
     AreNoted a.seat b.seat (halt ∷ []) → HasTaken b c → IsIdle c.stage → HasRound event a c
@@ -312,7 +312,7 @@ run_none a = record {
   noted = noted_none a.seat;
 }
 
--- an event was heard
+-- an event was received
 heard_sent : {b c : Option (List IoEvent)} (a : Option (List IoEvent)) (event : IoEvent) (bytes : List ℕ) →
     b ≡ told_more a (event ∷ []) → IsSent b bytes c →
     c ≡ told_more a (event ∷ sends bytes)
@@ -363,8 +363,8 @@ run_end {count} {event} {end} {a} {b} {c} run stage_is seat_is told_is more last
       noted = noted_on run.noted (subst (λ s. AreNoted s c.seat (ending_outcomes ending)) seat_is last.noted);
     }
 
--- or no event was heard any more
--- no more than 2^40 events were heard
+-- or no event was received any more
+-- no more than 2^40 events were received
 few_heard : (end : ConnEnd) (count : ℕ) → IsUnheard end count → count ≤ 2 ^ 40
 few_heard LinkFault count is = omega (arith, is)
 few_heard TurnsSpent count is = omega (arith, is)
@@ -389,7 +389,7 @@ run_over {count} {end} {a} {b} {c} run unheard is =
       noted = subst (λ os. AreNoted a.seat b.seat os) (sym (append-nil (rounds_outcomes run.rounds))) run.noted;
     })
 
--- an element in front that is too long: what was taken up before it stands, and the connection ends
+-- a first element that is too long: what was processed before it stands, and the connection ends
 pub taken_fault : {a b : Observed} (fault : DemuxFault) (end : ConnEnd) → b ≡ a → a.stage.session.torn ≡ false
     → IsFirst a.stage.input (Err fault)
     → IsEndOf fault end → HasTaken a b × IsStopped end b.stage
@@ -430,14 +430,14 @@ pub reply_sent : (session : SessionState) (old new : Option (List IoEvent)) →
 reply_sent session old new told = told_if (can_reply session) (Text session.text ∷ []) old
     (append-nil session.text) told
 
--- the element in front was passed over
+-- the first element was passed over
 pub taken_passed : (a b : Observed) (n : ℕ) → IsPassed a.stage.input n → a.stage.session.torn ≡ false →
     b ≡ record a { stage = stage a.stage.session (drop n a.stage.input) } → HasTaken a b
 taken_passed a b n passed torn is = subst (HasTaken a) (sym is)
     (taken_one a (record a { stage = stage a.stage.session (drop n a.stage.input) }) (Passed n)
     (passed, torn, refl) (sent_none a.told) (noted_none a.seat))
 
--- the request in front, of so many bytes
+-- the first request, of so many bytes
 next_is : (a : Stage) (n : ℕ) → IsFirst a.input (Ok (Request n)) → a.session.waits ≡ false
     → a.session.torn ≡ false → IsNext a (take n a.input)
 next_is a n first replied torn =

@@ -13,7 +13,7 @@ pub cuts_on : (a b c : List ℕ) → CutsOn a b → CutsOn b c → CutsOn a c
 cuts_on a b c first second =
     record { each = λ bytes elements cut. let next = first.each bytes elements cut in second.each bytes next.0 next.1 }
 
--- the element in front is dropped
+-- the first element is dropped
 pub cuts_drop : {input rest : List ℕ} {n : ℕ} (step : Step) → IsFirst input (Ok step)
     → returned_length (Ok step) ≡ n → rest ≡ drop n input → CutsOn input rest
 cuts_drop {input} {rest} step first length_is dropped = record {

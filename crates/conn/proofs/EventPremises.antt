@@ -30,7 +30,8 @@ pub record SlotStandings : Type 0 where
   pub still : SessionState
   pub before : SessionState
 
--- the film's bytes in a slot: those before a waiting reply, those after it, and all where none waits
+-- the film's bytes in a slot: those before a waiting reply, those after it, and all where none
+-- waits
 pub record SlotBytes : Type 0 where
   pub before : List ℕ
   pub rest : List ℕ
@@ -50,7 +51,7 @@ pub record TakenBack (before taken new : Option Content) (returned : ReturnedCon
   pub takes : taken ≡ option_map after_take before
   pub returns : new ≡ option_map (after_return returned) taken
 
--- a request stands in front, and it can be taken up
+-- a request stands first, and it can be processed
 pub record RequestInFront (old : Stage) (n : ℕ) : Type 0 where
   pub first : IsFirst old.input (Ok (Request n))
   pub replied : old.session.waits ≡ false

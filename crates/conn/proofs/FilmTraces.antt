@@ -1,4 +1,4 @@
--- What holds of each film, one film after another.
+-- What is true of each film, one film after another.
 use Rattle.std.proofs.Common.{◌≡◌, ℕ, ◌+◌, ◌<◌, ◌≤◌, List, Some, length, subst, arith, inl, inr}
 use Rattle.std.specs.Prelude.{slice_get}
 use Rattle.std.proofs.lemmas.Option.{slice_get_cases}
@@ -7,7 +7,7 @@ use Rattle.film_frames.specs.declared.stored_films.Stored.{Stored}
 use Rattle.session.specs.Films.{IsFilmAt, OfFilm}
 use Rattle.conn.specs.Plays.{IsShown}
 
--- the films in front are shown
+-- the first films are shown
 abbrev pub AreFrontShown : List Stored → ℕ → Type 0
 AreFrontShown films film = (number : ℕ) (stored : Stored) → number < film → IsFilmAt films number stored
     → IsShown stored

@@ -11,8 +11,8 @@ use Rattle.session.specs.declared.states.Play.{Play as Played}
 use Rattle.conn.specs.Films.{HasSent}
 use Rattle.conn.proofs.FilmBytes.{sent_through, slot_bytes, slot_film, through_is}
 
--- A pacing of which these bytes were sent by the heard slot: as many as the plan has through it, and none past what is
--- kept, which ends at the first boundary at or after them.
+-- A pacing of which these bytes were sent by the latest slot: as many as the plan has through it,
+-- and none past what is kept, which ends at the first boundary at or after them.
 pub record IsHaltedPacing (p : PacerState) (heard : ℕ) (film : List ℕ) : Type 0 where
   pub pacing : IsPacerState p
   pub passed : p.passed ≡ heard + 1 - p.start

@@ -7,7 +7,8 @@ use Rattle.interleave.specs.declared.elements.Step.TheVariants.{More}
 use Rattle.conn.specs.declared.connections.Connection.{Connection}
 use Rattle.conn.specs.Events.{IsWaiting}
 
--- where no whole element waits, few bytes do, so an event's bytes find no room only while a reply waits
+-- where no complete element waits, few bytes do, so an event's bytes find no room only while a
+-- reply waits
 pub waits_for_room : (c : Connection) (n : ℕ) → (IsFirst c.input (Ok More) → length c.input < 81920) →
     n ≤ MAX_READ_BYTES → MAX_WAITING_BYTES < length c.input + n → IsWaiting c →
     c.session.waits ≡ true

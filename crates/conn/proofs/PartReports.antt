@@ -20,7 +20,7 @@ use Rattle.conn.specs.Parts.{AreServed, AreReported, HasServedOne, IsUntouched, 
 use Rattle.vod_base.proofs.HistoryLemmas.{told_more-nil}
 use Rattle.conn.proofs.EventPremises.{TakenBack}
 
--- what a connection told at its end is what it told before, and more
+-- what a connection exposed at its end is what it exposed before, and more
 told_after : {session : SessionState} {old new : Option (List IoEvent)} {seat next : SeatState} {report : ConnReport} →
     ConnectionSpec session old new seat next report →
     (doings : List IoEvent) × (new ≡ told_more old doings)
@@ -77,7 +77,7 @@ served_more {films} {settings} {mid} {new} {returned} {report} old (b ∷ back) 
   ),
 )
 
--- the same of what is told of the part
+-- the same of what the part exposes
 pub told_first : {reports : List ConnReport} (films : List Stored) (settings : Settings) (part : Option Content)
     (seat : SeatState) → IfSome part IsUntouched → reports ≡ [] → AreReported films settings part reports seat seat
 told_first films settings None seat untouched none = tt
@@ -102,7 +102,8 @@ told_one {films} {settings} {taken} {new} {between} {next} {more} {returned} {mi
     (subst (λ rs. AreServed films settings old (mid.own.back ++ returned ∷ []) rs next) (sym items)
     (served_more old mid.own.back reports are one))
 
--- what is told of a part beside its content: films and settings, the seat before and after, and the reports
+-- what a part exposes in addition to its content: films and settings, the seat before and after,
+-- and the reports
 pub record PartServed : Type 0 where
   pub films : List Stored
   pub settings : Settings

@@ -48,13 +48,13 @@ use Rattle.station.specs.Seats.{IsSeat, SeatState}
 use Rattle.conn.proofs.SessionInvariant.{rounds_well, slot_play}
 use Rattle.conn.proofs.EventPremises.{SlotStandings, EventCome}
 
--- a session that heard nothing yet
+-- a session that received nothing yet
 pub new_well : (films : List Stored) (settings : Settings) (words : List ℕ) → AreShown films → AreSettings settings →
     IsWell (new_session_state films settings words) []
 new_well films settings words shown good =
     record { films = shown; settings = good; unstopped = refl; state = tt }
 
--- the heard slot after a slot
+-- the latest slot after a slot
 heard_cases : {slot : ℕ} (taken sending : Bool) (standings : SlotStandings) → standings.sending.heard ≡ slot →
     standings.still.heard ≡ slot →
     (if taken then (if sending then standings.sending else standings.still) else standings.before).heard ≡
@@ -194,7 +194,7 @@ never_overbooked : (seat : SeatState) → IsSeat seat → (n slot : ℕ)
 never_overbooked seat is = λ n slot.
     (sound-after seat.steps (take n seat.seen) (legal-take seat.steps seat.seen n is.legal)).within.each slot
 
--- the whole promise
+-- the entire promise
 pub keeps_promise : {session : SessionState} {old_told new_told : Option (List IoEvent)} {old_seat new_seat : SeatState}
     {report : ConnReport} → IsWell session [] →
     session.text ≡ [] → IsSeat new_seat → HasServedFrom session old_told new_told old_seat new_seat report →

@@ -56,7 +56,7 @@ finished_same (HaltAnswer keep) old halt new is free = absurd (no_halt old keep 
 finished_same LookAnswer old halt new is free = absurd is
 finished_same OfferAnswer old halt new is free = absurd is
 
--- the state and the heard slot, after a slot that is taken up
+-- the state and the latest slot, after a slot that is processed
 pub reply_state : (goes : Bool) (s : SessionState)
     → (if goes then sent_reply s else s).state ≡ (if goes then after_stop s.state else s.state)
 reply_state true s = refl
@@ -131,7 +131,7 @@ play_film waits setup play text slot =
     (plan_bytes p' p'.sent (step_end false (at_slot slot p')))
     (plan_bytes p p.sent (step_end false (at_slot slot p))) text
 
--- a play goes on by a slot that is taken up
+-- a play goes on by a slot that is processed
 pub taken_slot : {setup : Setup} {play : Played} {film : List ℕ} (old : SessionState) (slot : ℕ) →
     old.state ≡ Playing setup play → HasSent play old.heard film →
     old.heard < slot → HasSentOn setup play (after_play (sent_slot old slot)) (film ++ film_bytes (due_parts old slot))
@@ -178,7 +178,8 @@ as_it_was session setup play film is has = record {
   sent = has;
 }
 
--- what holds before a slot, in a session that sends, and once what is due was sent in it, holds after the slot
+-- what holds before a slot, in a session that sends, and once what is due was sent in it, holds
+-- after the slot
 pub slot_cases : {taken sending : Bool} {old next : SessionState} {film : List ℕ} (P : SessionState → List ℕ → Type 0)
     (still : SessionState) (parts : List SentPart) → sending ≡ true →
     P old film → (taken ≡ true → P next (film ++ film_bytes parts)) →
@@ -403,7 +404,7 @@ rounds_on {setup} {play} {film} old new (round ∷ rounds) runs free going =
     subst (HasSentOn setup play new.session) (append_assoc film (film_bytes round.due) (rounds_film rounds))
     (goes_on first rest)
 
--- and by what is taken up before the next event
+-- and by what is processed before the next event
 pub film_on : (s : PlaySpan) (on : GoesOn s) → HasSentOn on.setup s.play s.new.session (s.film ++ rounds_film s.rounds)
 film_on s on =
     let front = unhalted_front (takings_outcomes s.takings) (rounds_outcomes s.rounds) on.unhalted in

@@ -20,7 +20,7 @@ use Rattle.conn.specs.Films.{IsReady}
 use Rattle.conn.specs.Admissions.{IsEntryReplied, IsPlayReplied}
 use Rattle.conn.proofs.PlayStart.{play_begins}
 
--- the front of a play's reply is of 200, and the reply to one that lacks memory of 500
+-- the reply to a play begins with 200, and the reply to one that runs out of memory has 500
 front_ok : (old asking : SessionState) (is : IsPlayAsked old asking) (slots : ℕ) →
     HasCode 200 (started_text (play_front old is.stored is.setup is.planned is.sequence is.authority) slots)
 unfolding reply_front status_line digits

@@ -1,4 +1,4 @@
--- What a client is told of a play that the link has no room for.
+-- What a client learns of a play that the link has no room for.
 use Rattle.std.proofs.Common.{◌≡◌, List, ap, subst}
 use Rattle.plan_cert.specs.declared.Segment.{Segment}
 use Rattle.slot_calendar.specs.declared.calendar.Overflow.{Overflow as Over}

@@ -1,4 +1,4 @@
--- What the replies of a connection tell of the station's answers.
+-- What the replies of a connection say about the station's answers.
 use Rattle.std.proofs.Common.{◌≡◌, ℕ, ◌-◌, ◌++◌, ◌&&◌, Bool, true, false, if◌then◌else◌, Contains}
 use Rattle.std.proofs.Common.{List, [], ◌∷◌, codes, decimal, get_or, refl, sym}
 use Rattle.std.proofs.Common.{ap, subst, ◌∙◌, arith}
@@ -50,7 +50,7 @@ full_not_overflow : (sequence entries live : ℕ) → HasCode 453 (full_text seq
 unfolding reply_text reply_front status_line digits
 full_not_overflow sequence entries live is = other (λ p. absurd (omega (arith, p))) is
 
--- what a reply tells of the station's answers
+-- what a reply says about the station's answers
 pub record TellsOver (made : List Outcome) (text : List ℕ) : Type 0 where
   pub placed : PlacedEntry
   pub among : Contains made (Entered placed)
@@ -116,7 +116,7 @@ are_both made [] ys first second = second
 are_both made (Film bytes ∷ xs) ys first second = are_both made xs ys first second
 are_both made (Text text ∷ xs) ys first second = (first.0, are_both made xs ys first.1 second)
 
--- what the station answers is told
+-- what the station answers is reported
 told_overflow : {slot booked asked : ℕ} (made : List Outcome) (placed : PlacedEntry) (sequence : ℕ) →
     placed.entry.answer ≡ Overflow slot booked asked →
     IsTold (made ++ Entered placed ∷ []) (overflow_text sequence slot booked asked)
@@ -194,7 +194,7 @@ halted_text old keep (Entered placed) new halted = ap (λ (s : SessionState). s.
 halted_text old keep (WasFull more entries live) new halted = absurd halted
 halted_text old keep (Offered at_slot note) new halted = absurd halted
 
--- the station's answer to a session whose text tells of no refusal
+-- the station's answer to a session whose text states no refusal
 pub record PlainAnswer (old : SessionState) (ask : Ask) (outcome : Outcome) (new : SessionState) : Type 0 where
   pub plain : RefusesNone ask old
   pub answered : IsAskAnswered old ask outcome new
@@ -246,7 +246,7 @@ reply_text_is : (goes : Bool) (s : SessionState) → (if goes then sent_reply s 
 reply_text_is true s = refl
 reply_text_is false s = refl
 
--- elements: what was sent tells, and so does the reply that waits
+-- elements: what was sent shows it, and so does the reply that waits
 record Tells (made : List Outcome) (s : SessionState) (parts : List SentPart) : Type 0 where
   waiting : IsTold made s.text
   sent : AreReported made parts
@@ -428,7 +428,7 @@ nothing_told : IsTold [] []
 unfolding digits
 nothing_told = record { overflow = λ is. absurd (no_digits 52 53 51 is); full = λ is. absurd (no_digits 53 48 51 is) }
 
--- over a whole course
+-- over an entire course
 pub course_tells : {ending : Ending} (old mid : Stage) (rounds : List Round) → old.session.text ≡ [] →
     RunsAll old rounds mid →
     CourseEnd mid ending

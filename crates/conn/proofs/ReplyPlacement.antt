@@ -28,7 +28,7 @@ use Rattle.conn.proofs.PlayProgress.{comes_on, heard_left, round_on, taking_left
 use Rattle.conn.proofs.PlayProgress.{unhalted_front, unhalted_rest}
 use Rattle.conn.proofs.EventPremises.{SlotBytes, EventCome, PlayGoing}
 
--- as many bytes were sent as the plan has up to the heard slot
+-- as many bytes were sent as the plan has up to the latest slot
 pub film_count : (play : Played) (heard : ℕ) (film : List ℕ) → HasSent play heard film
     → length film ≡ first_slots play.pacer.plan (heard + 1 - play.start)
 film_count play heard film has =

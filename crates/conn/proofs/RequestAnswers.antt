@@ -1,4 +1,4 @@
--- A request that was heard, and answered as far as the station goes.
+-- A request that was received, and answered as far as the station goes.
 use Rattle.std.proofs.Common.{◌≡◌, ℕ, List, refl, subst}
 use Rattle.session.specs.declared.commands.Ask.{Ask}
 use Rattle.session.specs.declared.commands.Ask.TheVariants.{Reply as AskReply}

@@ -44,8 +44,8 @@ use Rattle.conn.proofs.HaltedPlays.{IsHaltedPacing, halted_here}
 abbrev pub AreShown : List Stored → Type 0
 AreShown films = (number : ℕ) → OfFilm films number IsShown
 
--- what a session's state is told by: its films, source, settings and counts, the notes of plays, the
--- heard slot, and the bytes that were sent of its film
+-- what is known of a session's state: its films, source, settings and counts, the notes of plays,
+-- the latest slot, and the bytes that were sent of its film
 pub record Ground : Type 0 where
   pub films : List Stored
   pub source : StreamSource

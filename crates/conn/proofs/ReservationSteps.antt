@@ -26,7 +26,7 @@ entry_receipts-append (EntryReceipt place answer ∷ xs) ys =
     ap (λ rs. EntryReceipt place answer ∷ rs) (entry_receipts-append xs ys)
 entry_receipts-append (FullReceipt entries live ∷ xs) ys = entry_receipts-append xs ys
 
--- no entry was made, and the receipts tell none
+-- no entry was made, and the receipts list none
 pub gone_none : {old new : ReservationState} (full : List Receipt) → new.mine ≡ old.mine → new.booking ≡ old.booking →
     new.receipts ≡ old.receipts ++ full → entry_receipts full ≡ [] →
     HasAdvanced old new

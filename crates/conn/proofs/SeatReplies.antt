@@ -1,4 +1,4 @@
--- What the replies of a connection tell, by what its seat has seen of the journal.
+-- What the replies of a connection state, by what its seat has seen of the journal.
 use Rattle.std.proofs.Common.{◌≡◌, ℕ, ◌<◌, ◌++◌, All, Contains}
 use Rattle.std.proofs.Common.{List, [], ◌∷◌, Some, get_or, length, take, refl, sym}
 use Rattle.std.proofs.Common.{ap, arith, subst, ◌∙◌}
@@ -124,7 +124,7 @@ overflow_seen {seat} text own told =
   where
     open own use {seat_is as is}
 
--- over a whole course, by the seat at its end
+-- over an entire course, by the seat at its end
 pub refusals_told : {seat : SeatState} {made : List Outcome} (parts : List SentPart) → SeatEntries seat made →
     AreReported made parts → AreRefusalsJustified (terms_of seat) seat.seen made parts
 refusals_told [] own told = tt

@@ -319,7 +319,7 @@ finished_ground old s is = record {
   unstopped = λ none. done_next (is_done_in s.state) (sent_in s.state) s.awaited (is.unstopped none);
 }
 
--- a slot is taken up in a play or its rest, or outside, or not at all
+-- a slot is processed in a play or its rest, or outside, or not at all
 slot_any : {sending : Bool} {next still old : SessionState} (P : SessionState → Type 0) (taken : Bool) →
     (sending ≡ true → P next) → P still → P old →
     P (if taken then (if sending then next else still) else old)
@@ -377,7 +377,7 @@ slot_off : (films : ℕ) (old : SessionState) (slot : ℕ) → is_sending old.st
 slot_off films old slot none off =
     slot_any (λ s. IsOff films s.state) (is_taken old slot) (λ sends. absurd (true≢false (sym sends ∙ none))) off off
 
--- the session before a slot, but for the heard slot
+-- the session before a slot, but for the latest slot
 passed_ground : {old new : SessionState} → IsSameSession old new → IsSameContext (record old { heard = new.heard }) new
 passed_ground same = record {
   films = same.films;

@@ -7,7 +7,7 @@ use Rattle.conn.proofs.SeatInvariants.{kept_none, kept_on}
 -- on what is kept, and on the link's count of faults, where a call of it may have failed
 pub ruleset count_steps = (kept_none, kept_on, counted_same, counted_end, counted_fault, counted_on)
 
--- on what a connection makes of the journal, as a slot is taken up
+-- on what a connection makes of the journal, as a slot is processed
 pub ruleset slot_steps = (gone_still, gone_on, held_same)
 
 -- at its end

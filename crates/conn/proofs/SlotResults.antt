@@ -1,4 +1,4 @@
--- What a slot comes to that is taken up.
+-- What a slot that is processed results in.
 use Rattle.std.proofs.Common.{◌≡◌, ℕ, ◌∷◌, [], ◌&&◌, refl, ap, sym, ◌∙◌, subst}
 use Rattle.session.specs.declared.commands.Ask.TheVariants.{Halt as AskHalt}
 use Rattle.session.specs.SlotSteps.{IsTold, after_slot, due_bytes, is_sending, is_taken}

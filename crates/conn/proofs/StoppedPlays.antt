@@ -71,7 +71,7 @@ stop_film stop waits setup text slot =
     (plan_bytes p' p'.sent (step_end false (at_slot slot p')))
     (plan_bytes p p.sent (step_end false (at_slot slot p))) text
 
--- by a slot that is taken up
+-- by a slot that is processed
 stop_through : {ground : Ground} {setup : Setup} {stop : Stop} {slot : ℕ} (waits : Bool) →
     HasStopped ground setup stop → ground.heard < slot →
     HasStopped (ground_by ground slot (ground.film ++ slot_film waits slot stop.pacer)) setup

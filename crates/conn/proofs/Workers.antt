@@ -19,7 +19,8 @@ use Rattle.conn.specs.Parts.{IsUntouched, IsServed, AreOf, entries_reported, Has
 use Rattle.conn.specs.Words.{words_of}
 use Rattle.conn.proofs.EventPremises.{TakenBack}
 
--- a connection with no booking open and nothing noted, and what it noted by the time that none is open again
+-- a connection with no booking open and nothing noted, and what it noted by the time that none is
+-- open again
 pub record RestedBusiness (booking next : Option Booking) (receipts told lists : List Receipt) : Type 0 where
   pub closed : booking ≡ None
   pub none : receipts ≡ []
@@ -133,7 +134,7 @@ has_one {mine} {new} {reports} {more} report served gone is = record {
       ∙ ap (λ play. open_play_from play gone.made) served.open_is ∙ gone.open_is;
 }
 
--- something holds of each report of a list, and of one more
+-- something is true of each report of a list, and of one more
 pub record ReportsHold (P : ConnReport → ℕ → Type 0) (reports : List ConnReport) (report : ConnReport) : Type 0 where
   pub each : ((k : ℕ) (none : ConnReport) → k < length reports → P (get_or reports k none) k)
   pub last : P report (length reports)

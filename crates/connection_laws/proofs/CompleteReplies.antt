@@ -286,7 +286,7 @@ abbrev pub AreMessages : List PlacedText → Type 0
 AreMessages [] = ⊤
 AreMessages (text ∷ texts) = IsMessage text.text × AreMessages texts
 
--- texts in front of others
+-- texts before others
 pub texts_whole : (texts : List PlacedText) (more : List (List ℕ)) → AreWhole (map text_of texts ++ more)
     → AreMessages texts
 texts_whole [] more are = tt

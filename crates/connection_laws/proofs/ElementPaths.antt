@@ -1,5 +1,5 @@
--- The elements of a connection's input that are processed, one after another: each byte CR or LF, each block, each
--- request.
+-- The elements of a connection's input that are processed, one after another: each byte CR or LF,
+-- each block, each request.
 use Rattle.std.proofs.Common.{◌≡◌, ◌⊎◌, ℕ, zero, suc, ◌<◌, ◌≤◌, ◌++◌, true, false, List, [], ◌∷◌}
 use Rattle.std.proofs.Common.{Ok, Err, length, take, drop, get_or, refl, ap, sym, ◌∙◌, subst, inl}
 use Rattle.std.proofs.Common.{inr, arith}
@@ -47,7 +47,7 @@ pub data Element : Type 0 where
   Over : ℕ → Element
   RequestElement : StationCall → Element
 
--- a byte CR or LF is in front, or a block
+-- a byte CR or LF is first, or a block
 pub data IsOver (input : List ℕ) (n : ℕ) : Type 0 where
   AnEnd : n ≡ 1 → 0 < length input → is_line_end (get_or input 0 0) ≡ true → IsOver input n
   ABlock : StartsBlock input → 4 ≤ length input → n ≡ block_length input → n ≤ length input → IsOver input n

@@ -59,7 +59,7 @@ stream_short p t c alone less =
     ) in
     (same, none)
 
--- a prefix of a stream is its complete elements in front, and a prefix of the next one
+-- a prefix of a stream is its complete elements at the beginning, and a prefix of the next one
 pub cut_at : (ps : List (List ℕ)) (c : ℕ) → AreAlone ps
     → IsStream (take c (framed_bytes ps)) (take (count_ended c ps) ps) (rest_at c ps)
 cut_at [] c alone = let P : List ℕ → Type 0 = λ xs. IsStream xs [] [] in subst P (sym (take-nil c)) (refl, no_element)

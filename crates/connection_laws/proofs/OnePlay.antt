@@ -1,4 +1,5 @@
--- A connection that is asked for SETUP and PLAY, and perhaps TEARDOWN, has one play at most, of the entire film.
+-- A connection that is asked for SETUP and PLAY, and perhaps TEARDOWN, has one play at most, of the
+-- entire film.
 use Rattle.std.specs.Prelude.{⊤}
 use Rattle.std.proofs.Common.{true, false, Option, None, is_some, inl, inr, ◌+◌, ◌≤◌}
 use Rattle.std.proofs.Common.{◌≡◌, ℕ, zero, suc, ◌<◌, ◌^◌, max, List, [], ◌∷◌, ◌++◌, length, get_or, codes, refl, sym}
@@ -57,7 +58,7 @@ abbrev pub AreSetups : Beginning → List (List ℕ) → Type 0
 AreSetups b [] = ⊤
 AreSetups b (message ∷ messages) = (message ≡ setup_text b.wish) × AreSetups b messages
 
--- so many slots in front are before another one
+-- so many slots at the beginning are before another one
 abbrev pub AreBefore : ℕ → ℕ → List ℕ → Type 0
 AreBefore zero start slots = ⊤
 AreBefore (suc n) start [] = ⊥

@@ -228,7 +228,7 @@ named_read {message} {id} info numbers size plain is =
   where
     open numbers use {sequence, end_ms, slots, small, short, some, few}
 
--- no time in front
+-- no time before it
 zero_text : seconds_text 0 ≡ codes "0.000"
 zero_text = seconds_is 0 ∙ ap (λ d. d ++ 46 ∷ 48 ∷ 48 ∷ 48 ∷ []) (decimal_digit 0 (omega arith))
 

@@ -1,4 +1,5 @@
--- A connection that receives a prefix of a client's requests processes the first of them, each complete.
+-- A connection that receives a prefix of a client's requests processes the first of them, each
+-- complete.
 use Rattle.std.specs.Prelude.{⊤}
 use Rattle.std.proofs.Common.{◌≡◌, ℕ, ◌<◌, if◌then◌else◌, false, List, [], ◌∷◌, ◌++◌, Ok, length, drop, refl, sym, ap}
 use Rattle.std.proofs.Common.{subst, ◌∙◌, arith, inl, inr}
@@ -12,7 +13,7 @@ use Rattle.connection_laws.specs.Courses.{Course, first_stage}
 use Rattle.connection_laws.specs.Requests.{is_no_request, requests_in, rounds_input}
 use Rattle.connection_laws.proofs.Requests.{follows_cut, requests_append, rounds_requests, starts_request}
 
--- texts that are found complete, each in front of whatever comes after it
+-- texts that are found complete, each before whatever comes after it
 abbrev pub AreFound : List (List ℕ) → Type 0
 AreFound [] = ⊤
 AreFound (text ∷ texts) =
@@ -47,7 +48,7 @@ texts_requests (text ∷ texts) found =
     ap (λ b. if b then requests_in texts else text ∷ requests_in texts) (text_request text (found.0 []))
     ∙ ap (λ l. text ∷ l) (texts_requests texts found.1)
 
--- no element is made of no bytes
+-- no element is of no bytes
 nothing_cut : (more : List (List ℕ)) (end : List ℕ) → AreInputElements [] more end → more ≡ []
 nothing_cut [] end cut = refl
 nothing_cut (element ∷ more) end cut = absurd (none cut.0 cut.1.0)

@@ -59,7 +59,7 @@ teardown_no_play b {message} is = λ request read method.
     let same = request_once (subst R (sym is) asked.read) read in
     let clash : 84 ≡ 80 = ap (λ name. get_or name 0 0) (same.method_is ∙ method) in omega (arith, clash)
 
--- the requests of a client, and those of them that a connection took up
+-- the requests of a client, and those of them that a connection processed
 pub record AreAsked (b : Beginning) (requests : List (List ℕ)) : Type 0 where
   pub last : List (List ℕ)
   pub requests_are : requests ≡ setup_text b.wish ∷ play_text b.wish b.session ∷ last

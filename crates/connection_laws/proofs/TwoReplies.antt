@@ -1,4 +1,5 @@
--- The replies to two requests before a play stand before its film, and those to requests once it was due after it.
+-- The replies to two requests before a play stand before its film, and those to requests once it
+-- was due after it.
 use Rattle.std.proofs.Common.{◌≡◌, ℕ, ◌+◌, ◌<◌, ◌≤◌, List, [], ◌∷◌, drop, ap, ◌∙◌, arith, inl}
 use Rattle.film_frames.specs.Tracks.{IsBoundary}
 use Rattle.rtsp_replies.specs.Messages.{IsMessage}
@@ -57,7 +58,7 @@ after_film {play} {now} {total} (slot ∷ slots) (placed ∷ texts) total_is rep
     record { due = replies.due.1; sent = replies.sent.1; messages = replies.messages.1 } in
     (omega (arith, after, all, total_is), replies.messages.0, after_film slots texts total_is rest)
 
--- two replies in front, and the others after the film
+-- two first replies, and the others after the film
 pub record AreTwoFirst (total : ℕ) (texts : List PlacedText) : Type 0 where
   pub first : List ℕ
   pub second : List ℕ

@@ -223,7 +223,7 @@ pub last_bytes : {doings : List IoEvent} (bytes sent : List ℕ) → doings ≡ 
     → heard_bytes doings ≡ bytes
 last_bytes bytes sent is = ap heard_bytes is ∙ (ap (λ l. bytes ++ l) (heard_sends sent) ∙ append-nil bytes)
 
--- the course of a watching that is done, by what its link told
+-- the course of a watching that is done, by what its link exposed
 pub record IsToldCourse (wish : Wish) (watched : Watched) (heard : List IoEvent) (out : List ℕ)
     (client : HasCourse wish (Done watched) (Some []) (Some heard) (Some []) (Some out))
     : Type 0 where

@@ -21,7 +21,7 @@ abbrev pub IsPlayTaken : LineStep → ℕ → Rest → ClientState → Type 0
 IsPlayTaken step c rest state =
     IfBusy state (IsTold state_text step.old step.new step.text) (IsAsked step.link c rest step.old step.new step.text)
 
--- what a client asks for on a link: the day before and after it, and the journal by which it is told
+-- what a client asks for on a link: the day before and after it, and the journal that reports it
 pub record ClientAsks : Type 0 where
   pub link : Link
   pub client : ℕ

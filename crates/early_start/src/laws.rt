@@ -35,6 +35,7 @@ pub fn law_offer_covers_past_slots()
 /// The start that is found is the least of those within the wait at which the plan fits; where none
 /// is found it fits at none of them.
 pub fn law_offered_start_is_earliest()
+    // where a start was found: it fits, lies within the wait, and is the least
     ensures fits { (from first start : ℕ) (booked capacity : ℕ → ℕ) (segments : List Segment)
         (found : Offers) → IsOffer from booked capacity segments first found →
         found.start ≡ Some start → HasRoom from booked capacity start segments }
@@ -48,17 +49,19 @@ pub fn law_offered_start_is_earliest()
         (segments : List Segment) (found : Offers) →
         IsOffer from booked capacity segments first found → found.start ≡ Some start →
         first ≤ earlier → earlier < start → ¬ HasRoom from booked capacity earlier segments }
+    // where none was found
     ensures none { (from first start : ℕ) (booked capacity : ℕ → ℕ) (segments : List Segment)
         (found : Offers) → IsOffer from booked capacity segments first found →
         found.start ≡ None → first ≤ start → start ≤ first + found.wait →
         ¬ HasRoom from booked capacity start segments }
 {}
 
-/// What is found says of the starts that don't fit: they are all starts from the first one up to the
-/// one that was found, in order, or all within the wait where none was found. Each comes with its
-/// first slot without room, the bytes booked there, and the bytes that the plan sends there from
-/// this start on, which are together above the capacity.
+/// What is found says of the starts that don't fit: they are all starts from the first one up to
+/// the one that was found, in order, or all within the wait where none was found. Each comes with
+/// its first slot without room, the bytes booked there, and the bytes that the plan sends there
+/// from this start on, which are together above the capacity.
 pub fn law_each_earlier_start_has_its_overflow()
+    // which starts: all up to the one that was found, or all within the wait
     ensures starts { (from first i : ℕ) (booked capacity : ℕ → ℕ) (segments : List Segment)
         (found : Offers) (none : Tried) → IsOffer from booked capacity segments first found →
         i < length found.tried → (slice_index_or found.tried i none).start ≡ first + i }
@@ -68,6 +71,7 @@ pub fn law_each_earlier_start_has_its_overflow()
     ensures all { (from first : ℕ) (booked capacity : ℕ → ℕ) (segments : List Segment)
         (found : Offers) → IsOffer from booked capacity segments first found →
         found.start ≡ None → length found.tried ≡ found.wait + 1 }
+    // what is reported of each: the slot, its bytes, and that it is the first one
     ensures booked { (from first i : ℕ) (booked capacity : ℕ → ℕ) (segments : List Segment)
         (found : Offers) (none : Tried) → IsOffer from booked capacity segments first found →
         i < length found.tried → (slice_index_or found.tried i none).over.booked

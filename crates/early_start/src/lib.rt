@@ -60,6 +60,8 @@ impl Offers {
         ensures start { IfOk result (λ offers. offers.start ≡ None) }
         ensures tried { IfOk result (λ offers. offers.tried ≡ []) }
     {
+        // The first start and `wait` later ones. Where the plan fits at none, all of them are
+        // noted.
         let tried = Vec::with_capacity(alloc, wait as usize + 1)?;
         Ok(Offers {
             wait,
@@ -68,7 +70,7 @@ impl Offers {
         })
     }
 
-    /// How many slots later than the first one the plan may start.
+    /// Returns how many slots later than the first one the plan may start.
     pub fn wait(&self) -> u64
         ensures value { result ≡ self.now.wait }
         ensures most { result ≤ MAX_WAIT }
@@ -76,15 +78,15 @@ impl Offers {
         self.wait
     }
 
-    /// The least start that was found, or None where the plan fits at none.
+    /// Returns the least start that was found, or None where the plan fits at none.
     pub fn start(&self) -> Option<u64>
         ensures { result ≡ self.now.start }
     {
         self.start
     }
 
-    /// The starts before it, at which the plan doesn't fit, in order; all of them where there is
-    /// none. At most `wait() + 1` starts.
+    /// Returns the starts before it, at which the plan doesn't fit, in order; all of them where
+    /// there is none. At most `wait() + 1` starts.
     pub fn tried(&self) -> &[Tried]
         ensures value { result.now ≡ self.now.tried }
         ensures few { length result.now ≤ self.now.wait + 1 }
@@ -102,6 +104,7 @@ impl Offers {
         ensures wait { self.new.wait ≡ self.old.wait }
         ensures offer { IsOfferIn calendar.now plan.now first self.new }
     {
+        // The answer is for this calendar alone, so what was found before is dropped.
         self.tried.clear();
         self.start = search(calendar, plan, first, self.wait, &mut self.tried);
     }
@@ -115,15 +118,18 @@ fn search(
     wait: u64,
     tried: &mut Vec<Tried>,
 ) -> Option<u64>
+    // needs: a first start after now, and room for all starts that may be tried
     requires after { calendar.now.first < first }
     requires small { first ≤ LATEST_SLOT + 1 }
     requires wait { wait ≤ MAX_WAIT }
     requires empty { tried.old.items ≡ [] }
     requires room { wait + 1 ≤ vec_capacity tried.old }
+    // answers: the first start that fits, or None; each start before it with its overflow
     ensures refusals { AreRefusalsIn calendar.now plan.now first tried.new.items }
     ensures start { IsStartIn calendar.now plan.now first wait (length tried.new.items) result }
     ensures room { vec_capacity tried.old ≤ vec_capacity tried.new }
 {
+    // In the order of the starts, so the first one that fits is the earliest.
     for later in 0..wait + 1 {
         let start = first + later;
         let Some(over) = calendar.first_overflow(start, plan) else {

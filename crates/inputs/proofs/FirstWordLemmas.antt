@@ -1,4 +1,4 @@
--- The word at the front of a text: its length, and the number that its digits write.
+-- The word at the beginning of a text: its length, and the number that its digits write.
 use Rattle.std.proofs.Common.{◌≡◌, ◌⊎◌, ℕ, ◌+◌, ◌<◌, ◌≤◌, ◌^◌, true, false, not, List, [], ◌∷◌, length, take}
 use Rattle.std.proofs.Common.{drop, get_or, slice_range, Some, sym, ap, ◌∙◌, arith, add-zero, inl, inr}
 use Rattle.std.specs.List.{list_all}
@@ -19,14 +19,14 @@ use Rattle.inputs.proofs.TokenLemmas.{word_at}
 pub digit_no_blank : (b : ℕ) → is_ascii_digit b ≡ true → not (is_white_space b) ≡ true
 digit_no_blank b h = grind arith
 
--- each of the digits in front is one
+-- each of the digits at the beginning is one
 digit_at : (rest : List ℕ) (k i : ℕ) → k ≤ length rest → list_all is_ascii_digit (take k rest) ≡ true → i < k
     → is_ascii_digit (get_or rest i 0) ≡ true
 digit_at rest k i fits digits before =
     ap is_ascii_digit (sym (get_or-take k rest i 0 before))
     ∙ AllPass-from_list_all is_ascii_digit (take k rest) digits i 0 (omega (arith, before, length-take-le k rest fits))
 
--- digits in front are of the first word
+-- digits at the beginning are of the first word
 digits_within : (rest : List ℕ) (k : ℕ) → k ≤ length rest → list_all is_ascii_digit (take k rest) ≡ true →
     k ≤ word_length rest
 digits_within rest k fits digits = elim (cases_lt (word_length rest) k) [
@@ -67,7 +67,7 @@ no_digit rest k size inside other is =
     both_ways (is_ascii_digit (get_or rest k 0)) other
     (digit_at rest (word_length rest) k (prefix_len-le-length (λ b. not (is_white_space b)) rest) read.1 inside)
 
--- digits in front, and the number that they write
+-- digits at the beginning, and the number that they write
 pub record DigitsInFront (rest : List ℕ) (k value : ℕ) : Type 0 where
   pub digits : list_all is_ascii_digit (take k rest) ≡ true
   pub value_is : value ≡ digits_value 10 (take k rest)
@@ -88,7 +88,7 @@ too_large {rest} {k} {value} {size} front fits large is =
     digits_value-take-le 10 (first_word rest) k (omega arith) in
     omega (arith, same, few, front.value_is, read.2, is.1, large)
 
--- where the digits in front end within the first word, it writes no number up to 2^32
+-- where the digits at the beginning end within the first word, it writes no number up to 2^32
 end_inside : {rest : List ℕ} {k value size : ℕ} → DigitsInFront rest k value → k < word_length rest
     → DoStop rest k value → WritesSize rest size → ⊥
 end_inside {rest} {k} {value} {size} front inside stops written =
@@ -98,7 +98,7 @@ end_inside {rest} {k} {value} {size} front inside stops written =
       | inr other ↦ no_digit rest k size inside other written.0
     ]
 
--- no digits in front
+-- no digits at the beginning
 pub no_digits : {rest : List ℕ} {k value size : ℕ} → DigitsInFront rest k value → k ≡ 0 → DoStop rest k value
     → WritesSize rest size → ⊥
 no_digits {rest} {k} {value} {size} front none stops written =
@@ -113,7 +113,7 @@ pub not_whole : {rest : List ℕ} {k value size : ℕ} → DigitsInFront rest k 
 not_whole {rest} {k} front inside other stops written =
     end_inside front (other_within rest k inside front.digits other) stops written
 
--- digits that are the whole word write their number
+-- digits that are the entire word write their number
 pub whole_word : {rest : List ℕ} {k value : ℕ} → DigitsInFront rest k value → 0 < k → k ≤ length rest → value ≤ 2 ^ 32
     → (k < length rest → is_white_space (get_or rest k 0) ≡ true) → (k ≡ word_length rest) × WritesSize rest value
 whole_word {rest} {k} {value} front some fits small ends =

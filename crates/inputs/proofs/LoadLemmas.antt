@@ -54,7 +54,7 @@ video_trouble name file video t is h =
     refusal_map name t
     (λ fault refused. each_film_fault (IsVideoRefused file) fault (λ own its. (video, (is, its))) refused) h
 
--- the bytes of the file of a name, where the library tells what it holds, and at most so many
+-- the bytes of the file of a name, where the library exposes what it holds, and at most so many
 pub record WasRead (told : Option (List File)) (name file : List ℕ) (most : ℕ) : Type 0 where
   pub found : (held : List File) → told ≡ Some held → file_named held name ≡ Some file
   pub short : length file ≤ most

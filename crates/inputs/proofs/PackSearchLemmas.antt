@@ -1,4 +1,4 @@
--- The first start code of bytes, looked for from the front on.
+-- The first start code of bytes, looked for from the beginning on.
 use Rattle.std.proofs.Common.{◌≡◌, ℕ, ◌+◌, ◌-◌, ◌<◌, ◌≤◌, true, false, cond, eqb, List, [], ◌∷◌, ◌++◌}
 use Rattle.std.proofs.Common.{append_assoc, length, take, drop, Option, Some, None, inl, inr, refl, sym, ap}
 use Rattle.std.proofs.Common.{subst, ◌∙◌, arith, get_or, length-append}
@@ -115,7 +115,7 @@ at_byte seen chunk more index inside =
     ∙ ap (λ (l : List ℕ). l ++ drop (index + 1) chunk) (take_more chunk index 0 inside) in
     ap (λ (l : List ℕ). (seen ++ l) ++ more) split ∙ search (append_assoc, sym)
 
--- a file of the library, of which a front was looked through
+-- a file of the library, of which a prefix was looked through
 pub record HasLooked (held : List File) (name : List ℕ) (size place : ℕ) (prefix : Prefix) : Type 0 where
   pub bytes : List ℕ
   pub front : IsFilePrefix held name size bytes
@@ -138,7 +138,7 @@ more_looked {name} {place} {next} chunk count so_far front within unfound = reco
   unfound = unfound;
 }
 
--- the first code was found, or none stands in the whole file
+-- the first code was found, or none stands in the entire file
 pub found_opened : {held : List File} {name : List ℕ} {size : ℕ} {bytes : List ℕ} {pack : Option ℕ} →
     (front : IsFilePrefix held name size bytes) →
     ((more : List ℕ) → pack_in (bytes ++ more) ≡ pack) → IfSome pack (λ place. place ≤ size) →

@@ -44,7 +44,7 @@ more_front {held} {name} {bytes} {chunk} {n} k so_far read fits =
           ∙ sym (take-add (length bytes) k so_far.whole) ∙ ap (λ (m : ℕ). take m so_far.whole) (sym long);
     }
 
--- a front as long as the file is the file
+-- a prefix as long as the file is the file
 pub whole_front : (held : List File) (name : List ℕ) (size : ℕ) (bytes : List ℕ) →
     IsFilePrefix held name size bytes → size ≤ length bytes →
     file_named held name ≡ Some bytes
@@ -70,7 +70,7 @@ pub one_file : (held : List File) (name a b : List ℕ) → file_named held name
     file_named held name ≡ Some b → a ≡ b
 one_file held name a b p q = let e : Some a ≡ Some b = sym p ∙ q in cc
 
--- a front of a file, and the rest of it
+-- a prefix of a file, and the rest of it
 pub front_rest : (held : List File) (name : List ℕ) (size : ℕ) (bytes : List ℕ)
     → (front : IsFilePrefix held name size bytes) → bytes ++ drop (length bytes) front.whole ≡ front.whole
 front_rest held name size bytes front =

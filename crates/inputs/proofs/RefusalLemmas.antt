@@ -12,7 +12,7 @@ use Rattle.cli_errors.specs.declared.errors.CliError.TheVariants.{NoMemory, Gate
 use Rattle.inputs.specs.FileReads.{IsThatName}
 use Rattle.inputs.specs.LoadErrors.{IsFilmFault, IsFilmError, IsRefusal, IsSystemFault}
 
--- what holds of each fault of a film that is refused for it; and of each of a system stream
+-- what is true of each fault of a film that is refused for it; and of each of a system stream
 pub each_film_fault : {Refuses : FilmFault → Type 0} (P : InputError → Type 0) (fault : InputError)
     → ((own : FilmFault) → Refuses own → P (Film own)) → IsFilmFault Refuses fault → P fault
 each_film_fault P (Film own) holds h = holds own h
@@ -40,12 +40,12 @@ pub film_trouble_map : {Refuses Refuses' : FilmFault → Type 0} (name : List �
 film_trouble_map {Refuses} {Refuses'} name t refuses h =
     refusal_map name t (λ fault is. each_film_fault (IsFilmFault Refuses') fault refuses is) h
 
--- where the library tells what it holds, the one reason against a file of a name comes to the other
+-- where the library exposes what it holds, one reason to refuse a file of a name implies the other
 pub record MeansRefused (told : Option (List File)) (name : List ℕ) (Reason : InputError → Type 0)
     (Refuses : List File → List ℕ → InputError → Type 0) : Type 0 where
   pub refuses : (held : List File) (fault : InputError) → told ≡ Some held → Reason fault → Refuses held name fault
 
--- a refusal of what was read, where the library tells what it holds
+-- a refusal of what was read, where the library exposes what it holds
 pub refusal_read : {told : Option (List File)} {name : List ℕ} {Reason : InputError → Type 0}
     {Refuses : List File → List ℕ → InputError → Type 0} (faults faults' : ℕ) (t : CliError) →
     MeansRefused told name Reason Refuses → IsRefusal name Reason t →

@@ -81,7 +81,7 @@ pub scanned_fed : {Heard : List Call → Type 0} {told' : Option (List File)} {n
 scanned_fed {Heard} {name} {place} so_far =
     omega (arith, so_far.scanned.fed.progress.fed, length-read so_far.bytes [], so_far.long)
 
--- what is refused at a code of a front of the bytes is refused
+-- what is refused at a code of a prefix of the bytes is refused
 pub front_refused : (front rest : List ℕ) (fault : FilmFault) → length (front ++ rest) ≤ 2 ^ 40 →
     first_fault (codes_of (read_after [] front)) ≡ Some fault →
     refusal (front ++ rest) ≡ Some fault
@@ -162,7 +162,7 @@ refused_ended scanner video short so_far =
     ∙ front_refused so_far.front so_far.rest so_far.fault
     (omega (arith, short, ap length so_far.video_is)) so_far.refused
 
--- ---- the whole film
+-- ---- the entire film
 
 pub all_scanned : {Heard : List Call → Type 0} {told' : Option (List File)} {name : List ℕ} {size place : ℕ}
     {scanner : Scanner} → (so_far : HasScanned Heard told' name size place scanner) → place ≤ size →
@@ -212,7 +212,7 @@ pub err_map : {T E : Type 0} (P Q : E → Type 0) (r : Result T E) → ((x : E) 
 err_map P Q (Ok x) f h = tt
 err_map P Q (Err e) f h = f e h
 
--- the trouble with a film whose video is refused, where the library tells what it holds
+-- the error for a film whose video is refused, where the library exposes what it holds
 pub film_trouble : {told : Option (List File)} {Refuses : FilmFault → Type 0} (name : List ℕ) (faults faults' : ℕ)
     (t : CliError) →
     ((held : List File) (fault : FilmFault) → told ≡ Some held → Refuses fault →
@@ -224,7 +224,7 @@ film_trouble {told} {Refuses} name faults faults' t refuses h =
     } in
     refusal_read faults faults' t means h
 
--- the trouble of a read, where each cause follows from another
+-- the error of a read, where each cause follows from another
 pub read_trouble_map : {Reads Reads' : List ℕ → Type 0} {Refuses Refuses' : List File → List ℕ → InputError → Type 0}
     {told : Option (List File)} (before after : ℕ) (t : CliError) → ((name : List ℕ) → Reads name → Reads' name) →
     ((held : List File) (name : List ℕ) (fault : InputError) → told ≡ Some held → Reads name → Refuses held name fault →
@@ -301,7 +301,7 @@ pub troubles_on : {told told' : Option (List File)} {a b : ℕ} (name : List ℕ
 troubles_on name c (Ok ending) on h = tt
 troubles_on name c (Err t) on h = trouble_on name IsFilmRefused c t on h
 
--- a film that is heard where the library tells as much as before
+-- a film that was scanned, where the library exposes as much as before
 pub heard_on : {told told' : Option (List File)} (Heard : List Call → Type 0) (name : List ℕ)
     (r : Result Ending CliError) → told' ≡ told →
     IfOk r (λ e. HasScannedFilm Heard told' name e.bytes e.rate) → IfOk r (λ e. HasScannedFilm Heard told name e.bytes

@@ -1,4 +1,4 @@
--- The sizes that are counted while a film's parts are told are those of its units.
+-- The sizes that are counted while a film's parts are handed on are those of its units.
 use Rattle.std.proofs.Common.{◌≡◌, ℕ, ◌+◌, ◌-◌, ◌≤◌, false, cond, eqb, ltb, leb, ◌&&◌, List, [], ◌∷◌, ◌++◌}
 use Rattle.std.proofs.Common.{append_assoc, Some, None, IsSome, length, take, drop, map, refl, sym, ap, ◌∙◌}
 use Rattle.std.proofs.Common.{arith, length-append}
@@ -136,7 +136,7 @@ sizes-told (unit_call unit ∷ calls) s {part = within from head_end at n} {k} {
     ∙ append_assoc s.sizes ((cond unit.starts_group 52 0 + frames_of s.unit) ∷ []) rest
     ∙ ap (λ n. s.sizes ++ n ∷ rest) size
 
--- the sizes counted of a whole film
+-- the sizes counted of an entire film
 pub film-sizes : (film : List ℕ) (unit : Measure) (sizes : List ℕ) → refusal film ≡ None
     → IsSized unit sizes (film_calls film) → sizes ≡ sizes_of film
 film-sizes film unit sizes accepted sized =

@@ -209,7 +209,7 @@ pub chunk_told : {held : List File} {name : List ℕ} {size from : ℕ} {seen ch
 chunk_told (StreamFault own) read refused moves = chunk_fault read refused moves
 chunk_told NoRoom read refused moves = absurd moves
 
--- the trouble with a film whose stream is refused, where the library tells what it holds
+-- the error for a film whose stream is refused, where the library exposes what it holds
 pub system_trouble : {told : Option (List File)} {Refuses : SystemFault → Type 0} (name : List ℕ) (faults faults' : ℕ)
     (t : CliError) →
     ((held : List File) (fault : SystemFault) → told ≡ Some held → Refuses fault →
@@ -221,7 +221,7 @@ system_trouble {told} {Refuses} name faults faults' t refuses h =
     } in
     refusal_read faults faults' t means h
 
--- ---- the whole stream
+-- ---- the entire stream
 
 pub all_streamed : {Heard : List Call → Type 0} {told : Option (List File)} {name : List ℕ} {size from place : ℕ}
     {unwrapper : Unwrapper} {scanner : Scanner} →

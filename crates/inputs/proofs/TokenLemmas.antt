@@ -1,4 +1,4 @@
--- The tokens of a text, from the front on, and the traces that they write.
+-- The tokens of a text, from the beginning on, and the traces that they write.
 use Rattle.std.proofs.Common.{◌≡◌, ℕ, ◌+◌, ◌-◌, ◌<◌, ◌≤◌, ◌^◌, Bool, true, false, not, List, [], ◌∷◌, ◌++◌}
 use Rattle.std.proofs.Common.{length, take, drop, map, sum, Some, Option, refl, sym, ap, ◌∙◌, arith, add-zero}
 use Rattle.std.proofs.Common.{min, ◌&&◌, subst, inl, inr, if◌then◌else◌, slice_range, get_or, length-append, length-drop}
@@ -12,7 +12,7 @@ use Rattle.vod_base.specs.Numbers.{number_of}
 use Rattle.inputs.specs.Traces.{is_white_space, Token, begins_token, joined_tokens, tokens_from, WriteSizes}
 use Rattle.inputs.specs.Traces.{IsBadTraceText, AddsSize}
 
--- blanks in front are passed over
+-- blanks at the beginning are passed over
 pub tokens-blanks : (at : ℕ) (blanks rest : List ℕ) → list_all is_white_space blanks ≡ true
     → tokens_from at (blanks ++ rest) ≡ tokens_from (at + length blanks) rest
 tokens-blanks at [] rest h = ap (λ (n : ℕ). tokens_from n rest) (sym (add-zero at))

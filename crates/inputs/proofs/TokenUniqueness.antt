@@ -28,7 +28,7 @@ separated_only at text (token ∷ tokens) h =
     ∙ ap (λ (n : ℕ). tokens_from (n + length token.bytes) rest) h.1.1.4)
     ∙ sym reads
 
--- a blank more in front
+-- a blank more at the beginning
 blank_front : (at b : ℕ) (rest : List ℕ) (tokens : List Token) → is_white_space b ≡ true
     → AreSeparated (at + 1) rest tokens → AreSeparated at (b ∷ rest) tokens
 blank_front at b rest [] blank h = and_from (is_white_space b) (list_all is_white_space rest) blank h
@@ -79,7 +79,7 @@ first_word at token tokens byte (x ∷ front, (after, h)) =
     let blank : is_white_space x ≡ true = (and_parts (is_white_space x) (list_all is_white_space front) h.1).0 in
     absurd (false≢true (ap not (sym blank) ∙ ap begins_token (sym h.0) ∙ byte.begins_is))
 
--- a byte of a word more in front
+-- a byte of a word more at the beginning
 word_front : {b : ℕ} {begins : Bool} (at : ℕ) (rest : List ℕ) (tokens : List Token) → WordByte b rest begins →
     AreSeparated (at + 1) rest tokens →
     AreSeparated at (b ∷ rest) (joined_tokens at b begins tokens)

@@ -15,7 +15,7 @@ use std::alloc::{AllocFailed, Global};
 use thiserror::Error;
 use vod_base::{MAX_BYTES, MAX_SLOTS, read_number, split_at_first};
 
-/// What a certificate says.
+/// The content of a certificate.
 #[derive(Debug, PartialEq, Eq, Drop)]
 pub struct CertText {
     /// The slots that its head gives, which are those of its segments.
@@ -26,7 +26,7 @@ pub struct CertText {
     pub segments: Vec<Segment>,
 }
 
-/// Why a text isn't read as a certificate.
+/// The reason why a text isn't read as a certificate.
 #[derive(Clone, Copy, Debug, PartialEq, Eq, Error)]
 pub enum CertRead {
     /// This line, from 1, is the first that breaks the grammar, or the one after the last where the
@@ -87,6 +87,7 @@ fn cert_number(digits: &[u8]) -> Option<u64>
     ensures { MatchOption result ((n : ℕ) → n ≤ MAX_NUMBER → digits.now ≢ decimal n)
         (λ n. (n ≤ MAX_NUMBER) × (digits.now ≡ decimal n)) }
 {
+    // A plan has one text only, so a number is written in one way.
     if has_leading_zero(digits) {
         return None;
     }
@@ -185,11 +186,14 @@ fn read_body(alloc: Global, text: &[u8]) -> Result<Vec<Segment>, CertRead>
             if after.is_empty() {
                 return Ok(segments);
             }
+            // Bytes after `end` are on the line after it, which is the bad one.
             return Err(CertRead::BadCert { line: count + 5 });
         }
         let Some(segment) = segment_in(line) else {
+            // Three lines of the head and one for each segment come before this one.
             return Err(CertRead::BadCert { line: count + 4 });
         };
+        // A plan has no more segments. So the memory that a text can take has a limit.
         if count == MAX_SEGMENTS {
             return Err(CertRead::BadCert { line: count + 4 });
         }
@@ -197,6 +201,7 @@ fn read_body(alloc: Global, text: &[u8]) -> Result<Vec<Segment>, CertRead>
         rest = after;
         count += 1;
     }
+    // The text ends before `end`: the bad line is the one that is missing.
     Err(CertRead::BadCert { line: count + 4 })
 }
 
@@ -208,6 +213,8 @@ fn read_lines(alloc: Global, text: &[u8]) -> Result<CertText, CertRead>
 {
     let head = read_head(text)?;
     let segments = read_body(alloc, head.rest)?;
+    // The sums come last: a line that breaks the grammar is named before a line `slots` or `bytes`
+    // that doesn't agree.
     if !has_slots(segments.as_slice(), head.slots) {
         return Err(CertRead::BadCert { line: 2 });
     }

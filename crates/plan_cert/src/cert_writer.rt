@@ -7,7 +7,7 @@ use crate::{Plan, Segment};
 use std::alloc::Global;
 use vod_base::{NoMemory, push_field};
 
-/// The certificate of a plan: a line `smooth 1`, `slots` and `bytes` with the sums, one line
+/// Writes the certificate of a plan: a line `smooth 1`, `slots` and `bytes` with the sums, one line
 /// `segment SLOTS BYTES` for each segment, and a line `end`. Each line ends with LF, and numbers
 /// are decimal.
 ///

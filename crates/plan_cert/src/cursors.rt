@@ -32,7 +32,7 @@ impl Model for PlanCursor {
 }
 
 impl PlanCursor {
-    /// A cursor at the plan's beginning.
+    /// Makes a cursor at the plan's beginning.
     pub fn new(plan: Plan) -> PlanCursor
         ensures { result ≡ plan }
     {
@@ -42,22 +42,22 @@ impl PlanCursor {
         }
     }
 
-    /// The plan.
+    /// Returns the plan.
     pub fn plan(&self) -> &Plan
         ensures { result.now ≡ self.now }
     {
         &self.plan
     }
 
-    /// The plan, handed out.
+    /// Hands the plan out.
     pub fn into_plan(self) -> Plan
         ensures { result ≡ self }
     {
         self.plan
     }
 
-    /// The bytes that the plan sends through this slot, from its first one on; past its end all of
-    /// its bytes.
+    /// Returns the bytes that the plan sends through this slot, from its first one on; past its end
+    /// all of its bytes.
     pub fn sum_at(&mut self, slot: u64) -> u64
         ensures value { result ≡ sum_through self.old slot }
         ensures plan { self.new ≡ self.old }
@@ -65,7 +65,7 @@ impl PlanCursor {
         sum_after(self.plan.segments(), &mut self.passed, slot)
     }
 
-    /// The bytes that the plan sends in this slot; 0 past its end.
+    /// Returns the bytes that the plan sends in this slot; 0 past its end.
     pub fn slot_bytes(&mut self, slot: u64) -> u64
         ensures value { result ≡ slice_index (plan_slots self.old) slot }
         ensures plan { self.new ≡ self.old }

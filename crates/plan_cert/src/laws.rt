@@ -21,6 +21,7 @@ use crate::cert_reader::{MAX_NUMBER, MAX_SEGMENTS};
 /// segment's bytes over its slots, rounded down or up; what its first slots have sent is the height
 /// of its straight line at their end, rounded down.
 pub fn law_plan_slots_add_up_to_its_bytes()
+    // the slots of all segments, one after the other
     ensures count { (segments : List Segment) →
         length (plan_slots segments) ≡ total_slots segments }
     ensures sum { (segments : List Segment) → IsPlan segments →
@@ -28,6 +29,7 @@ pub fn law_plan_slots_add_up_to_its_bytes()
     ensures place { (segments : List Segment) (s : Segment) (i j : ℕ) → i < length segments →
         s ≡ slice_index_or segments i s → j < s.slots →
         slice_index (plan_slots segments) (total_slots (take i segments) + j) ≡ slot_of s j }
+    // one slot of a segment, and its first ones
     ensures rounded { (s : Segment) (j : ℕ) → 1 ≤ s.slots →
         (slot_of s j ≡ s.bytes / s.slots) ⊎ (slot_of s j ≡ (s.bytes + (s.slots - 1)) / s.slots) }
     ensures line { (s : Segment) (j : ℕ) → 1 ≤ s.slots → j ≤ s.slots →
@@ -77,6 +79,7 @@ pub fn law_written_plan_is_read_back()
 /// stands behind the end. Of a text whose lines are all well formed it is `slots` where the
 /// segments have another number of slots, else `bytes`. No other line is named.
 pub fn law_bad_line_is_the_first()
+    // a line of the head
     ensures title { (line rest : List ℕ) → IsOneLine line → line ≢ codes "smooth 1" →
         IsBadLine (line ++ 10 ∷ rest) 1 }
     ensures slots { (line rest : List ℕ) → IsOneLine line →
@@ -87,6 +90,7 @@ pub fn law_bad_line_is_the_first()
         IsBadLine
         (codes "smooth 1" ++ 10 ∷ ((codes "slots " ++ decimal slots) ++ 10 ∷ (line ++ 10 ∷ rest)))
         3 }
+    // a line after the head: a bad one, one that is missing, or one behind the end
     ensures segment { OfBegunTexts (λ slots bytes segments. (line rest : List ℕ) →
         IsOneLine line → line ≢ codes "end" → (length segments ≡ MAX_SEGMENTS)
         ⊎ ((s : Segment) → s.slots ≤ MAX_NUMBER → s.bytes ≤ MAX_NUMBER → line ≢ segment_words s) →
@@ -96,11 +100,13 @@ pub fn law_bad_line_is_the_first()
     ensures after { OfBegunTexts (λ slots bytes segments. (rest : List ℕ) → rest ≢ [] →
         IsBadLine (begun_text slots bytes segments (codes "end" ++ 10 ∷ rest))
         (length segments + 5)) }
+    // well formed lines whose sums don't agree
     ensures sums { OfBegunTexts (λ slots bytes segments.
         (total_slots segments ≢ slots →
         IsBadLine (begun_text slots bytes segments (codes "end\n")) 2)
         × (total_slots segments ≡ slots → total_bytes segments ≢ bytes →
         IsBadLine (begun_text slots bytes segments (codes "end\n")) 3)) }
+    // no other line
     ensures one { (text : List ℕ) (line other : ℕ) → IsBadLine text line → IsBadLine text other →
         line ≡ other }
 {}

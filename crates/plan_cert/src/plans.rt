@@ -36,14 +36,16 @@ impl Model for Plan {
 }
 
 impl Plan {
-    /// Whether these segments make a plan: none is empty, and they have at most [`MAX_SLOTS`] slots
-    /// and [`MAX_BYTES`] bytes.
+    /// Returns whether these segments make a plan: none is empty, and they have at most
+    /// [`MAX_SLOTS`] slots and [`MAX_BYTES`] bytes.
     pub fn is_allowed(segments: &[Segment]) -> bool
         ensures { IsTrue result ↔ IsPlan segments.now }
     {
         let mut slots = 0;
         let mut bytes = 0;
         for segment in segments {
+            // Compared with what is left of the limits: segments of any numbers are judged without
+            // overflow.
             if segment.slots == 0
                 || segment.slots > MAX_SLOTS - slots
                 || segment.bytes > MAX_BYTES - bytes
@@ -56,11 +58,12 @@ impl Plan {
         true
     }
 
-    /// A plan of these segments, which [`Plan::is_allowed`] allows. One pass over them.
+    /// Makes a plan of these segments, which [`Plan::is_allowed`] allows. One pass over them.
     pub fn new(segments: Vec<Segment>) -> Plan
         requires { IsPlan segments.items }
         ensures { result ≡ segments.items }
     {
+        // Counted once, here. Both sums of a plan are within its limits, so they fit into 64 bits.
         let slots = total_slots(segments.as_slice()) as u64;
         let bytes = total_bytes(segments.as_slice()) as u64;
         Plan {
@@ -70,7 +73,7 @@ impl Plan {
         }
     }
 
-    /// The segments.
+    /// Returns the segments.
     pub fn segments(&self) -> &[Segment]
         ensures value { result.now ≡ self.now }
         ensures plan { IsPlan self.now }
@@ -78,37 +81,37 @@ impl Plan {
         self.segments.as_slice()
     }
 
-    /// How many slots it has, in constant time.
+    /// Returns how many slots it has, in constant time.
     pub fn slots(&self) -> u64
         ensures { result ≡ total_slots self.now }
     {
         self.slots
     }
 
-    /// How many bytes it sends in all, in constant time.
+    /// Returns how many bytes it sends in all, in constant time.
     pub fn bytes(&self) -> u64
         ensures { result ≡ total_bytes self.now }
     {
         self.bytes
     }
 
-    /// The bytes that it sends through this slot, from its first one on; past its end all of its
-    /// bytes. One pass over the segments, and none over slots.
+    /// Returns the bytes that it sends through this slot, from its first one on; past its end all
+    /// of its bytes. One pass over the segments, and none over slots.
     pub fn sum_at(&self, slot: u64) -> u64
         ensures { result ≡ sum_through self.now slot }
     {
         sum_after(self.segments.as_slice(), &mut SegmentPrefix::new(), slot)
     }
 
-    /// The bytes that it sends in this slot; 0 past its end. One pass over the segments, and none
-    /// over slots.
+    /// Returns the bytes that it sends in this slot; 0 past its end. One pass over the segments,
+    /// and none over slots.
     pub fn slot_bytes(&self, slot: u64) -> u64
         ensures { result ≡ slice_index (plan_slots self.now) slot }
     {
         slot_after(self.segments.as_slice(), &mut SegmentPrefix::new(), slot)
     }
 
-    /// Another plan of the same segments.
+    /// Copies the plan: another one of the same segments.
     ///
     /// # Errors
     ///

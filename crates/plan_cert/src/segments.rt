@@ -8,14 +8,18 @@ use crate::Segment;
 use vod_base::{MAX_BYTES, MAX_SLOTS};
 
 impl Segment {
-    /// The bytes of its first `count` slots: floor(count * bytes / slots).
+    /// Returns the bytes of its first `count` slots: floor(count * bytes / slots). `count` is at
+    /// most its slots.
     pub fn first_bytes(self, count: u64) -> u64
+        // needs: a segment of a plan, and no more slots than it has; so the product fits into 64
+        // bits
         requires some { 1 ≤ self.slots }
         requires within { count ≤ self.slots }
         requires few { self.slots ≤ MAX_SLOTS }
         requires small { self.bytes ≤ MAX_BYTES }
         ensures { result ≡ count * self.bytes / self.slots }
     {
+        // Rounded once, from the segment's first slot on. So its slots add up to its bytes exactly.
         count * self.bytes / self.slots
     }
 }
@@ -67,6 +71,7 @@ pub(crate) fn place_after(
         ((total_slots segments.now ≤ slot) × (passed.new.bytes ≡ total_bytes segments.now))
         (λ place. IsSlotPosition segments.now slot place.segment place.passed place.before) }
 {
+    // Only a slot before the passed ones begins anew. Slots in order pass each segment once in all.
     if slot < passed.slots {
         *passed = SegmentPrefix::new();
     }
@@ -98,6 +103,7 @@ pub(crate) fn sum_after(segments: &[Segment], passed: &mut SegmentPrefix, slot: 
 {
     match place_after(segments, passed, slot) {
         Some(place) => place.before + place.segment.first_bytes(place.passed + 1),
+        // Past the plan's end all of its segments were passed.
         None => passed.bytes,
     }
 }
@@ -111,6 +117,8 @@ pub(crate) fn slot_after(segments: &[Segment], passed: &mut SegmentPrefix, slot:
 {
     match place_after(segments, passed, slot) {
         Some(place) => {
+            // The difference of two sums: a slot has what the sum through it has more than the one
+            // before.
             let sent = place.segment.first_bytes(place.passed);
             place.segment.first_bytes(place.passed + 1) - sent
         }

@@ -5,14 +5,15 @@ ghost use Rattle.plan_cert.specs.PlanSlots.{total_slots, total_bytes};
 
 use crate::Segment;
 
-/// Whether the segments have this many slots.
+/// Returns whether the segments have this many slots.
 pub fn has_slots(segments: &[Segment], slots: u64) -> bool
     ensures { IsTrue result ↔ (total_slots segments.now ≡ slots) }
 {
+    // In 128 bits: segments that make no plan may have any numbers.
     total_slots(segments) == u128::from(slots)
 }
 
-/// Whether the segments have this many bytes.
+/// Returns whether the segments have this many bytes.
 pub fn has_bytes(segments: &[Segment], bytes: u64) -> bool
     ensures { IsTrue result ↔ (total_bytes segments.now ≡ bytes) }
 {

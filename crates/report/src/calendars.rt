@@ -42,6 +42,7 @@ fn push_slots(out: &mut Vec<u8>, calendar: &Calendar) -> Result<(), NoMemory>
         out.new.items result }
 {
     let now = calendar.now();
+    // Nothing is booked past the ring, so these are all slots that can have a line.
     for slot in now..now + RING_SLOTS {
         let booked = calendar.booked(slot);
         if booked > 0 {

@@ -21,6 +21,7 @@ pub fn entry_line(place: u64, entry: &Entry, out: &mut Vec<u8>) -> Result<(), No
     requires { IsOfKind entry.now.command entry.now.answer }
     ensures { IsAppended out.old.items (entry_line place entry.now) out.new.items result }
 {
+    // The place comes first: the line of a halt names the play by it.
     push_number(out, place)?;
     push_field(out, b" seat=", u64::from(entry.maker))?;
     push_command(out, &entry.command)?;

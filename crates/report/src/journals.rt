@@ -22,6 +22,8 @@ pub fn journal_text(from: usize, entries: &[Entry], out: &mut Vec<u8>) -> Result
 {
     let rest = entries_from(entries, from);
     for (passed, entry) in rest.iter().enumerate() {
+        // Places count from the journal's beginning, also where the text begins later: `halt
+        // number=K` refers to them.
         entry_line((from + passed) as u64, entry, out)?;
     }
     Ok(())
@@ -31,5 +33,6 @@ pub fn journal_text(from: usize, entries: &[Entry], out: &mut Vec<u8>) -> Result
 fn entries_from(entries: &[Entry], from: usize) -> &[Entry]
     ensures { result.now ≡ drop from entries.now }
 {
+    // A text from a place past the end is empty, and no error: nothing was noted since.
     entries.get(from..).unwrap_or(&[])
 }

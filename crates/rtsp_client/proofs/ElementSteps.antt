@@ -56,7 +56,7 @@ cut-on {bytes} {mid} {end} {p = element ∷ p} {q} cuts =
     let later : CutsInTurn (drop cuts.first.0 bytes) mid end p q = record { first = cut.2; next = cuts.next } in
     (cuts.first.0, (cut.0, cut.1, cut-on later))
 
--- ---- the elements in front
+-- ---- the first elements
 
 element-start : (rest : List ℕ) (n : ℕ) → 0 < n → get_or (take n rest) 0 0 ≡ get_or rest 0 0
 element-start rest n some = get_or-take n rest 0 0 some
@@ -138,7 +138,7 @@ pub taken-same : {wish : Wish} {h : History} {w rest : List ℕ} {new : Client} 
     → HasTaken wish h w new s t → HasTaken wish h rest new s t
 taken-same {wish} {h} {new} {s} {t} same taken = subst (λ (i : List ℕ). HasTaken wish h i new s t) same taken
 
--- the element in front, of so many bytes, was processed and dropped
+-- the first element, of so many bytes, was processed and dropped
 taken-element : {wish : Wish} {h : History} {rest : List ℕ} {n : ℕ} {moments : List ClientEvent} {c new : Client}
     {s t : Observed}
     → IsElementLength rest n → element_events (take n rest) ≡ moments → HasTakenEvents wish h moments c s t

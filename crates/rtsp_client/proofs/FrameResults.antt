@@ -84,7 +84,7 @@ frame-cut {wish} {h} {c} {b} {next} {end} {out} {new_out} told k some is front =
   sight_is = observed-handed told out new_out (take front.0 (drop 20 b)) front.1.1;
 }
 
--- what the frames say with the block in front, and the block's payload, where `w` is the input
+-- what the frames say with the first block, and the block's payload, where `w` is the input
 pub source-here : {w : List ℕ} {found answer : Option RtpSource} (c : Client) (n : ℕ) → w ≡ c.input
     → found ≡ source_with c.watching (take n w) → found ≡ answer → source_with c.watching (take n c.input) ≡ answer
 source-here c n same found is = ap (λ i. source_with c.watching (take n i)) (sym same) ∙ (sym found ∙ is)
@@ -116,8 +116,8 @@ keeps-taken {wish} {h} {c} {mid} {b} taken = record {
       (keeps-frame taken.keeps.state taken.next_is taken.long);
 }
 
--- the first bytes of the input, which is `w`, were read as the film's next frame; `found` is what the
--- frames say with it
+-- the first bytes of the input, which is `w`, were read as the film's next frame; `found` is what
+-- the frames say with it
 pub record ReadFrame (wish : Wish) (h : History) (c : Client) (n : ℕ) (w : List ℕ)
     (found : Option RtpSource) (next : RtpSource) : Type 0 where
   pub keeps : HistoryInvariant wish h c

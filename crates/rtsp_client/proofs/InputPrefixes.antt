@@ -1,4 +1,4 @@
--- What stands in front of the same bytes.
+-- What stands before the same bytes.
 use Rattle.std.proofs.Common.{◌≡◌, ℕ, ◌+◌, ◌≤◌, List, length, take, drop, Ok, ap, sym, subst, arith}
 use Rattle.std.proofs.lemmas.List.{length-drop}
 use Rattle.interleave.specs.Elements.{IsFirst, IsMessageLength}

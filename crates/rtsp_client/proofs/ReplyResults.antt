@@ -96,7 +96,7 @@ setup-lacks {wish} {h} {c} {m} {end} {s} k first is none end_is =
     ))
 
 -- the reply that is awaited first, with the id of a session
--- the session that was read of the message in front
+-- the session that was read of the first message
 pub session-read : {X E : Type 0} {input waiting : List ℕ} {found : Option X} {r : Result X E} {s : X}
     (now : X → List ℕ) (length : ℕ) → waiting ≡ input → option_map now found ≡ setup_session (take length waiting)
     → found ≡ result_ok r → r ≡ Ok s → setup_session (take length input) ≡ Some (now s)

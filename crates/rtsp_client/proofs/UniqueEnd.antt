@@ -128,7 +128,7 @@ quits-once {rest} (AtMoment moment (n, (element, _)) given) (AtFraming is fault 
 quits-once {wish} {h} {one} (AtMoment moment next given) (AtMoment moment' next' given') =
     gives-once wish h moment' (subst (λ m. Gives wish h m one) (next-once next next') given) given'
 
--- where bytes that wait give the answer, something is in front of them
+-- where bytes that wait give the answer, something stands before them
 pub quits-not-idle : {wish : Wish} {h : History} {rest : List ℕ} {end : WatchEnd} → Quits wish h rest end
     → IsFirst rest (Ok More) → ⊥
 quits-not-idle {rest} (AtFraming is fault first) idle =
@@ -151,7 +151,7 @@ quits-not-on {wish} {h} {rest} {end} later element elements (AtMoment moment (n,
 
 -- ---- elements, one after another
 
--- elements in front of bytes, which let the watching go on
+-- elements before bytes, which let the watching go on
 pub record IsPassed (h : History) (bytes : List ℕ) (elements : List (List ℕ)) (rest : List ℕ) : Type 0 where
   pub cut : AreInputElements bytes elements rest
   pub good : GoOn h (events_of_elements elements)
@@ -176,7 +176,7 @@ no-further {h} {one} {later} (element ∷ more) quit passed is cut =
     (good-later h (events_of_elements one) (events_of_elements (element ∷ more))
     (subst (GoOn h) (ap events_of_elements is ∙ flat_map-append element_events one (element ∷ more)) passed.good)))
 
--- where no complete element is in front, none is processed
+-- where no complete element is first, none is processed
 idle-stays : {rest later : List ℕ} (more : List (List ℕ)) → IsFirst rest (Ok More) → AreInputElements rest more later
     → IsFirst later (Ok More)
 idle-stays [] idle cut = subst (λ r. IsFirst r (Ok More)) cut idle

@@ -32,7 +32,7 @@ pub front_of : (old new : Option (List IoEvent)) (bytes : List ℕ) (k : ℕ)
 front_of old new bytes k told =
     let front = any_front bytes k in (front.0, (front.1.0, told ∙ ap (λ bs. told_more old (sends bs)) (sym front.1.1)))
 
--- all of what comes first, and a front of the rest
+-- all of what comes first, and a prefix of the rest
 pub front_right : {mid new : Option (List IoEvent)} (old : Option (List IoEvent)) (bytes more : List ℕ) →
     mid ≡ told_more old (sends bytes) → IsSentPrefix mid new more →
     IsSentPrefix old new (bytes ++ more)
@@ -65,14 +65,15 @@ pub failed_due : {stop : Bool} {slot : ℕ} {p new : PacerState} {told next : Op
     → HasFailed stop slot p new told next → new.due ≡ due_by p slot
 failed_due {stop} {slot} {p} {new} {next} failed = ap (λ (q : PacerState). q.due) failed.state
 
--- what a slot sends: what comes before a reply, the reply, what comes after it, and all where no reply waits
+-- what a slot sends: what comes before a reply, the reply, what comes after it, and all where no
+-- reply waits
 pub record SlotSends : Type 0 where
   pub one : List ℕ
   pub text : List ℕ
   pub after : List ℕ
   pub plain : List ℕ
 
--- both sends of a slot: a front of what comes after the first
+-- both sends of a slot: a prefix of what comes after the first
 pub front_both : {waits between : Bool} {mid new : Option (List IoEvent)} (old : Option (List IoEvent))
     (sent : SlotSends) → waits ≡ true → between ≡ true → mid ≡ told_more old (sends sent.one)
     → IsSentPrefix mid new (sent.text ++ sent.after)

@@ -58,7 +58,7 @@ or_if true false = refl
 or_if false true = refl
 or_if false false = refl
 
--- a session that hears a request stands between halts
+-- a session that receives a request stands between halts
 pub going_in : {inside : Inside} → IsSessionInvariant inside → CanHandleRequest (session_state_of inside) → IsGoing
     false inside.state
 going_in {inside} kept hear = subst (λ (lost : Bool). IsGoing lost inside.state) hear.lost

@@ -1,4 +1,4 @@
--- What a session begins with, what it hears, and a play that it has in hand.
+-- What a session begins with, what it receives, and a play that it has in hand.
 use Rattle.std.proofs.Common.{◌≡◌, ℕ, List}
 use Rattle.film_frames.specs.declared.stored_films.Stored.{Stored}
 use Rattle.rtsp_text.specs.declared.requests.Request.{Request}
@@ -17,7 +17,7 @@ pub record Beginning : Type 0 where
   pub settings : Settings
   pub words : List ℕ
 
--- a message that was heard, what it asks of the station, and the session before and after it
+-- a message that was received, what it asks of the station, and the session before and after it
 pub record HeardMessage : Type 0 where
   pub old : SessionState
   pub new : SessionState
@@ -25,7 +25,7 @@ pub record HeardMessage : Type 0 where
   pub ask : Ask
   pub hears : Hears old message ask new
 
--- a message that the same session heard twice
+-- a message that the same session received twice
 pub record TwoHearings : Type 0 where
   pub old : SessionState
   pub one : SessionState
@@ -37,7 +37,7 @@ pub record TwoHearings : Type 0 where
   pub is : Hears old message ask one
   pub its : Hears old message again other
 
--- a request that was taken up, what it asks of the station, and the session before and after it
+-- a request that was processed, what it asks of the station, and the session before and after it
 pub record TakenRequest : Type 0 where
   pub old : SessionState
   pub new : SessionState

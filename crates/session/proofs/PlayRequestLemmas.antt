@@ -153,7 +153,7 @@ halting_kept ground keep kept pacing is = (
   },
 )
 
--- a play in hand, as a request is heard that halts it
+-- a play in hand, as a request is received that halts it
 pub record HeardInPlay (inside : Inside) : Type 0 where
   pub setup : Setup
   pub play : Played

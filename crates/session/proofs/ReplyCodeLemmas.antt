@@ -1,4 +1,4 @@
--- The codes of replies: none of the session's own is 453 or 503, and 500 is want of memory.
+-- The codes of replies: none of the session's own is 453 or 503, and 500 is out of memory.
 use Rattle.std.proofs.Common.{◌≡◌, ℕ, ◌<◌, ◌++◌, List, [], Option, Some, refl, sym, ap, subst, ◌∙◌, arith}
 use Rattle.std.proofs.lemmas.Fmt.{decimal_injective}
 use Rattle.std.specs.Fmt.{digits}
@@ -170,7 +170,7 @@ refusal_plain sequence refusal option =
       not_full = λ is. own.not_full (one_code text own.small (omega arith) code is);
     }
 
--- a 200 tells no want of memory
+-- a 200 doesn't mean that memory ran out
 record IsFound (text : List ℕ) : Type 0 where
   found : ¬ HasCode 500 text
 
@@ -260,7 +260,7 @@ pub hears_may : (old new : SessionState) (message : List ℕ) (ask : Ask) → He
     → MayRunOutOfMemory old message
 hears_may old new message ask hears code = (hears_wanting old new message ask hears code).0
 
--- what is begun with the station is no want of memory
+-- a request that begins a play at the station did not run out of memory
 comes_never : (old new : SessionState) (message : List ℕ) (ask : Ask) → ComesTo old message ask new → NeverLacks ask new
 comes_never old new message ask (Lacks may is) = subst (λ a. NeverLacks a new) (sym is.0) tt
 comes_never old new message ask (Refuses sequence refusal option other is) = subst (λ a. NeverLacks a new) (sym is.0) tt

@@ -135,13 +135,13 @@ init_of (Ready setup paused) none = absurd (let no : ⊥ = cc in no)
 init_of (Playing setup play) none = absurd (let no : ⊥ = cc in no)
 init_of (Stopping setup stop) none = absurd (let no : ⊥ = cc in no)
 
--- a SETUP of a film that the session has, which is heard in Init
+-- a SETUP of a film that the session has, which is received in Init
 record SetupHeard (old : SessionState) (message : List ℕ) (request : Request) (film : ℕ) : Type 0 where
   number : first_sequence message ≡ Some request.sequence
   init : old.state ≡ Init
   within : film < length old.films
 
--- a PLAY that is heard in Ready
+-- a PLAY that is received in Ready
 record PlayHeard (old : SessionState) (message : List ℕ) : Type 0 where
   sequence : ℕ
   authority : List ℕ
@@ -152,7 +152,7 @@ record PlayHeard (old : SessionState) (message : List ℕ) : Type 0 where
   ready : old.state ≡ Ready setup paused
   play : IsOfMethod (codes "PLAY") message
 
--- a GET_PARAMETER that is heard
+-- a GET_PARAMETER that is received
 record ParameterHeard (old : SessionState) (message : List ℕ) (request : Request) : Type 0 where
   read : IsReadAs message request
   method : request.method.now ≡ codes "GET_PARAMETER"
@@ -166,7 +166,7 @@ module _ (old : SessionState) (message : List ℕ) (ask : Ask) (new : SessionSta
       → IsRefused old (Some sequence) Memory [] ask new → Comes
   lacks sequence number may is = Lacks may (subst (λ s. IsRefused old s Memory [] ask new) (sym number) is)
 
-  -- a refusal, or want of memory where it may be
+  -- a refusal, or out of memory where it may be
   refuses : (sequence : ℕ) (refusal : Refusal) → first_sequence message ≡ Some sequence
       → (refusal ≡ Memory → MayRunOutOfMemory old message)
       → IsRefused old (Some sequence) refusal [] ask new → Comes

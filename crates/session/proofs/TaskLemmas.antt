@@ -1,4 +1,4 @@
--- A request that passes each judgement is taken up.
+-- A request that passes each judgement is processed.
 use Rattle.std.proofs.Common.{List, ℕ}
 use Rattle.film_frames.specs.declared.stored_films.Stored.{Stored}
 use Rattle.rtsp_text.specs.declared.requests.Request.{Request}

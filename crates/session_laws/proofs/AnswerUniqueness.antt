@@ -1,4 +1,4 @@
--- A message is heard in one way, if memory is found for it.
+-- A message has one answer, if memory is found for it.
 use Rattle.std.proofs.Common.{◌≡◌, ℕ, string_bytes, ◌⊎◌, List, [], Option, Some}
 use Rattle.std.proofs.Common.{None, Result, Ok, Err, codes, refl, sym, ap, subst, ◌∙◌, inl, inr}
 use Rattle.std.proofs.Common.{arith}

@@ -1,4 +1,5 @@
--- What a session replies to a SETUP that it accepts, to a PLAY that asks for a play, and to a TEARDOWN of its own.
+-- What a session replies to a SETUP that it accepts, to a PLAY that asks for a play, and to a
+-- TEARDOWN of its own.
 use Rattle.std.proofs.Common.{◌≡◌, ◌⊎◌, ℕ, List, codes, get_or}
 use Rattle.std.proofs.Common.{Option, Some, None, Result, Ok, Err, refl, sym, ap, subst, ◌∙◌, arith, inl, inr}
 use Rattle.std.proofs.lemmas.Option.{same_Some}
@@ -169,7 +170,7 @@ module _ (old : SessionState) (message url : List ℕ) (sequence : ℕ) (head : 
   plays_ready (Ok planned) came planned_is (inr refused) = absurd (not_replied _ refused.1)
   plays_ready (Err refusal) came planned_is refused = absurd (not_replied _ refused.1)
 
-  -- a PLAY that is taken up
+  -- a PLAY that is processed
   record IsPlayTaken (request : Request) (authority : List ℕ) (film : ℕ) (state : State) : Type 0 where
     same : old.state ≡ state
     number : request.sequence ≡ sequence
@@ -236,7 +237,8 @@ pub record IsTornAnswered (old : SessionState) (sequence : ℕ) (new : SessionSt
   pub id : new.id ≡ old.id
   pub setup : setup_in new.state ≡ setup_in old.state
 
--- a TEARDOWN that the session isn't to refuse: it requires no option, and names the session and its film
+-- a TEARDOWN that the session isn't to refuse: it requires no option, and names the session and its
+-- film
 pub record IsOwnTeardown (old : SessionState) (url head : List ℕ) : Type 0 where
   pub free : required_of head ≡ None
   pub session : IsOwnSession (has_session_in old.state) old.id (header_value head (codes "Session")) ⊥

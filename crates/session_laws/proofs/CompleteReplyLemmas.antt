@@ -1,4 +1,4 @@
--- Each reply of a session is a whole message.
+-- Each reply of a session is a complete message.
 use Rattle.std.proofs.Common.{◌≡◌, ℕ, ◌+◌, ◌-◌, ◌*◌, ◌^◌, ◌<◌, ◌≤◌, ◌&&◌, Bool, true, suc, zero}
 use Rattle.std.proofs.Common.{nat_lt, nat_le, List, [], ◌∷◌, codes, cond, eqb, get_or}
 use Rattle.std.proofs.Common.{le_refl, length}
@@ -296,7 +296,7 @@ module _ (old : SessionState) (message : List ℕ) (ask : Ask) (new : SessionSta
   refused sequence refusal option number repeats fits is =
       replied (refusal_text sequence refusal option) (refusal_whole sequence refusal option number repeats fits) is
 
-  -- by a cause that says nothing besides
+  -- by a cause that says nothing else
   refused_by : (sequence : ℕ) (refusal : Refusal) → sequence < 2 ^ 64 → HasFitLeast refusal
       → IsRefused old (Some sequence) refusal [] ask new → Whole
   refused_by sequence refusal number fits is = refused (Some sequence) refusal [] number repeats_nothing fits is

@@ -80,7 +80,7 @@ use Rattle.rtsp_replies.proofs.ReplyPhrases.{public_told}
 use Rattle.session.proofs.RequestUniqueness.{names_once, read_once, topic_once}
 use Rattle.session_laws.proofs.VerdictUniqueness.{AreAlike, method_once}
 
--- ---- a request that no shared refusal stops is taken up
+-- ---- a request that no shared refusal stops is processed
 
 some_none : (value : Option (List ℕ)) → value ≡ None → is_some value ≡ true → ⊥
 some_none None none some = let no : ⊥ = cc in no
@@ -135,7 +135,7 @@ passes_alike old request other m alike passes = record {
       passes.state;
 }
 
--- a request of a method is taken up, as it was read
+-- a request of a method is processed, as it was read
 record TakenUp (h : HeardMessage) (request : Request) (m : Method) : Type 0 where
   pub other : Request
   pub alike : AreAlike request other
@@ -537,7 +537,7 @@ module _ (old : SessionState) (setup : Setup) (paused : Option Run) (range : Opt
   plan_refusal n refusal (inr none) is =
       by_cause n refusal none is (cause_as none.refusal_is (curve_cause none.refused))
 
--- a PLAY in Ready, taken up
+-- a PLAY in Ready, processed
 record ReadyPlay (old : SessionState) (request : Request) (setup : Setup) (paused : Option Run) (ask : Ask)
     (new : SessionState) : Type 0 where
   pub other : Request
@@ -675,7 +675,7 @@ may_name old (inl none) =
 may_name old (inr names) =
     own_session (has_session_in old.state) ⊤ (exists_in old.state names.0 names.1.0) names.1.1
 
--- a GET_PARAMETER is taken up by its topic
+-- a GET_PARAMETER is processed by its topic
 record TopicTaken (h : HeardMessage) (request : Request) (topic : Topic) : Type 0 where
   pub other : Request
   pub alike : AreAlike request other

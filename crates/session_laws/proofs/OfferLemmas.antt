@@ -1,4 +1,4 @@
--- What an offer asks and tells, and the least buffer.
+-- What an offer asks for and reports, and the least buffer.
 use Rattle.std.proofs.Common.{◌≡◌, ℕ, List, [], ◌∷◌, ◌++◌, map, flat_map, length}
 use Rattle.std.proofs.Common.{codes, decimal, Option, Some, None, Result, Ok, Err, append_assoc}
 use Rattle.std.proofs.Common.{refl, sym, ap, subst, ◌∙◌, inl, inr, arith}
@@ -57,7 +57,7 @@ wait_in head None wait same is = absurd is
 wait_in head (Some text) wait same is =
     record { text = text; named = same; number_is = is.is_number; fits = omega (arith, is.below) }
 
--- a request for an offer, with the wait that it names, which is heard in Ready
+-- a request for an offer, with the wait that it names, which is received in Ready
 record OfferHeard (old : SessionState) (message : List ℕ) : Type 0 where
   request : Request
   setup : Setup
@@ -175,7 +175,7 @@ module _ (old : SessionState) (message : List ℕ) (plan : List Segment) (offers
   offer_asked (inr whole) =
       takes whole.request whole.hears.judgement whole.is_request whole.hears.judged whole.hears.takes
 
--- ---- what is told
+-- ---- what is reported
 
 start_is : (start : Option ℕ) → start_line start ≡ found_line start ++ codes "\r\n"
 start_is None = refl

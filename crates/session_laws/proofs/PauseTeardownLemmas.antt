@@ -181,7 +181,7 @@ pause_leaves old new message ask is hears =
     hears_on IsPausedPlay (does_task IsPausedPlay Pause pauses_task) {old = old} {message = message}
     {ask = ask} {new = new} is hears
 
--- a message that is taken up, with its task
+-- a message that is processed, with its task
 record IsTakenUp (old : SessionState) (message : List ℕ) (task : Task) : Type 0 where
   request : Request
   is_request : IsReadAs message request

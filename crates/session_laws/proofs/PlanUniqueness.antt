@@ -138,7 +138,7 @@ asks_some : (film : Film) (paused : Option Run) (range : Option (List ℕ)) (wan
 asks_some film paused range wanted is none =
     wants_some film paused is.span.from is.span.to wanted is.is_wanted (none is.span is.is_span)
 
--- why a run has no plan: one cause, or want of memory
+-- why a run has no plan: one cause, or out of memory
 least_once : {sizes : List ℕ} {timing : Timing} {slot used least slot' used' least' : ℕ}
     → IsBufferTooSmall sizes timing slot used least
     → IsBufferTooSmall sizes timing slot' used' least' → least' ≤ least
@@ -262,7 +262,7 @@ module _ (old : SessionState) (setup : Setup) (paused : Option Run) (range : Opt
       (subst (λ (s : Stored). IsNoRange s.film paused range) film its.none))
   refused_once one other (inr is) (inr its) = no_plan_once one other is its
 
-  -- one run with one plan, or one refusal, or want of memory
+  -- one run with one plan, or one refusal, or out of memory
   pub planned_once : (one other : Result Planned Refusal) → IsPlanned old setup paused range one
       → IsPlanned old setup paused range other
       → (other ≡ one) ⊎ ((one ≡ Err Memory) ⊎ (other ≡ Err Memory))

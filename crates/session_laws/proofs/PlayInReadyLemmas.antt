@@ -1,4 +1,4 @@
--- A session asks the station for a play where it heard a PLAY in Ready, and nowhere else.
+-- A session asks the station for a play where it received a PLAY in Ready, and nowhere else.
 use Rattle.std.proofs.Common.{◌≡◌, ℕ, List, Option, Result, Ok, Err, codes, refl, sym, ap, ◌∙◌, inl}
 use Rattle.std.proofs.Common.{inr}
 use Rattle.film_frames.specs.declared.stored_films.Stored.{Stored}

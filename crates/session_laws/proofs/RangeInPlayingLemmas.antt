@@ -31,7 +31,7 @@ use Rattle.session.proofs.InitialStateLemmas.{HeardMessage}
 use Rattle.session_laws.proofs.VerdictUniqueness.{AreAlike, refusal_once}
 use Rattle.session.proofs.ReplyCodeLemmas.{one_code, own_code, refusal_code}
 
--- a PLAY with a Range, heard in Playing
+-- a PLAY with a Range, received in Playing
 pub record IsRanged (stage : State) (request : Request) : Type 0 where
   pub method : request.method.now ≡ codes "PLAY"
   pub range : is_some (header_value request.head.now (codes "Range")) ≡ true
@@ -138,7 +138,7 @@ pub range_refused : {request : Request} (heard : HeardMessage) → HasRangeInPla
 range_refused {request} heard is =
     hears_refused is.is_request (ranged_in heard.old heard.message request is) heard.hears
 
--- a PLAY with a Range, heard in Playing, that would else be good, under another reading
+-- a PLAY with a Range, received in Playing, that would else be good, under another reading
 record RangedPlay (old : SessionState) (request other : Request) : Type 0 where
   pub alike : AreAlike request other
   pub ranged : IsRanged old.state request

@@ -73,7 +73,7 @@ hears_refused {message} request refusal ask new is own (inr whole) =
     takes_refused refusal whole.hears.judgement ask new (same_request message request whole.request is whole.is_request)
     own whole.hears.judged whole.hears.takes
 
--- a heard request, read so
+-- a received request, read so
 pub record HeardRequest : Type 0 where
   pub heard : HeardMessage
   pub request : Request

@@ -1,4 +1,4 @@
--- What a request makes of the runs of a session, for laws on its whole course.
+-- What a request makes of the runs of a session, for laws on its entire course.
 use Rattle.std.proofs.Common.{◌≡◌, ℕ, ◌+◌, ◌-◌, ◌⊎◌, Bool, true, List, Option, Some, None, Result, Ok, Err}
 use Rattle.std.proofs.Common.{refl, sym, ap, subst, ◌∙◌, inl, inr}
 use Rattle.plan_cert.specs.declared.Segment.{Segment}

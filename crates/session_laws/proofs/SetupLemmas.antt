@@ -1,4 +1,4 @@
--- What a SETUP that is heard comes to: it is refused, or the session is Ready with what it asks for.
+-- What a SETUP results in: it is refused, or the session is Ready with what it asks for.
 use Rattle.std.proofs.Common.{◌≡◌, ℕ, List, None, Result, Ok, Err, codes, sym, subst, inl, inr, ap}
 use Rattle.std.proofs.Common.{◌∙◌, arith, get_or}
 use Rattle.rtsp_text.specs.Requests.{IsRequest}

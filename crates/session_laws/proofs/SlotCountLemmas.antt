@@ -78,7 +78,7 @@ pub resting_late : (old : SessionState) (slot : ℕ) → is_sending old.state �
     old.late
 resting_late old slot is = rest_late (is_taken old slot) (is_sending old.state) old slot is
 
--- ---- which slots are taken up
+-- ---- which slots are processed
 
 heard_of : (b : Bool) (standing : SessionState) → (cond b (sent_reply standing) standing).heard ≡ standing.heard
 heard_of true standing = refl

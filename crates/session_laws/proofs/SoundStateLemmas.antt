@@ -56,7 +56,7 @@ sound_kept {old} hand sound =
     (subst (λ (s : State). IsAwaitedInvariant (context_of old) old.lost s old.awaited) hand.playing sound.awaited)
     (due_within hand.play (sound_play hand sound).1)
 
--- a halt that keeps the whole plan keeps the rest of the run
+-- a halt that keeps the entire plan keeps the rest of the run
 pub sound_whole : {old : SessionState} (stored : Stored) (hand : PlayInHand old) → IsSoundState old
     → IsFilmAt old.films hand.setup.film stored
     → kept_of old.awaited hand.play.pacer.due ≡ total_bytes hand.play.plan
@@ -70,7 +70,7 @@ sound_whole {old} stored hand sound at all =
     ap (λ (p : List (List ℕ)). length (framed_bytes p)) (is.2 stored at).pieces in
     omega (arith, is.1.pacing.whole, is.1.before, total, pieces, all)
 
--- a play of which no halt was asked keeps its whole plan
+-- a play of which no halt was asked keeps its entire plan
 pub sound_keep : (old : SessionState) (hand : PlayInHand old) → IsSoundState old → AwaitsNoAnswer old
     → old.lost ≡ false → hand.play.pacer.keep ≡ total_bytes hand.play.plan
 sound_keep old hand sound rest linked =

@@ -1,4 +1,4 @@
--- A PLAY from a film's beginning, without an end, asks for the whole film.
+-- A PLAY from a film's beginning, without an end, asks for the entire film.
 use Rattle.std.proofs.Common.{◌≡◌, ◌*◌, ◌≤◌, Some, None, length, get_or, codes, refl, sym, ap, subst, ◌∙◌, arith, inl}
 use Rattle.std.proofs.Math.Nat.{mul-le-mul_left}
 use Rattle.mpeg_scan.specs.PictureRates.{picture_time}

@@ -26,8 +26,10 @@ pub fn law_slope_order_is_transitive(a: Slope, b: Slope, c: Slope)
 
 /// Level slopes stand in the same order to every third one, and being level goes both ways.
 pub fn law_equal_slopes_compare_alike(a: Slope, b: Slope, c: Slope)
+    // needs: slopes of at least one slot
     requires one { 1 ≤ a.slots }
     requires other { 1 ≤ b.slots }
+    // answers: being level goes both ways, and a third slope stands alike to both
     ensures turned { IsEquallySteep a b → IsEquallySteep b a }
     ensures same_below { IsEquallySteep a b → (IsLessSteep a c ↔ IsLessSteep b c) }
     ensures same_above { IsEquallySteep a b → (IsLessSteep c a ↔ IsLessSteep c b) }

@@ -21,7 +21,7 @@ pub struct Slope {
     pub slots: u64,
 }
 
-/// The order of two slopes, by `a.bytes * b.slots` against `b.bytes * a.slots`. It never overflows.
+/// Compares two slopes, by `a.bytes * b.slots` against `b.bytes * a.slots`. It never overflows.
 pub fn compare(a: Slope, b: Slope) -> Ordering
     ensures { MatchOrdering result (IsLessSteep a b) (IsEquallySteep a b) (IsLessSteep b a) }
 {

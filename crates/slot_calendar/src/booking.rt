@@ -18,12 +18,14 @@ use vod_base::LATEST_SLOT;
 
 /// Adds segments, one after the other, from slot `start` on.
 pub(crate) fn book_segments(ring: &mut Ring, start: u64, segments: &[Segment])
+    // needs: a plan whose slots are in the ring, and totals that stay within the greatest capacity
     requires plan { IsPlan segments.now }
     requires small { start ≤ LATEST_SLOT + RING_SLOTS }
     requires from_now { ring.old.first ≤ start }
     requires within { start + total_slots segments.now ≤ ring.old.first + ring_slots }
     requires fits { (t : ℕ) → ring.old.first ≤ t →
         total_of ring.old t + asked_at segments.now start t ≤ MAX_CAPACITY }
+    // leaves: each slot's total with what the plan asks for there
     ensures now { ring.new.first ≡ ring.old.first }
     ensures stale { ring.new.stale ≡ ring.old.stale }
     ensures totals { (t : ℕ) → ring.old.first ≤ t →
@@ -39,15 +41,19 @@ pub(crate) fn book_segments(ring: &mut Ring, start: u64, segments: &[Segment])
 /// Takes away what segments, one after the other from slot `start` on, have after their first
 /// `keep` bytes, in the slots of the ring.
 pub(crate) fn release_segments(ring: &mut Ring, start: u64, segments: &[Segment], keep: u64)
+    // needs: totals that have what is released
     requires plan { IsPlan segments.now }
     requires small { start ≤ LATEST_SLOT + RING_SLOTS }
     requires booked { (t : ℕ) → ring.old.first ≤ t →
         released_at segments.now start keep t ≤ total_of ring.old t }
+    // leaves: each slot's total without what is released
     ensures now { ring.new.first ≡ ring.old.first }
     ensures totals { (t : ℕ) → ring.old.first ≤ t →
         total_of ring.new t + released_at segments.now start keep t ≡ total_of ring.old t }
 {
     let mut from = start;
+    // The bytes that are kept are the first ones, so the earlier segments keep theirs before the
+    // later.
     let mut left = keep;
     for segment in segments {
         release_segment(ring, from, *segment, left);
@@ -73,11 +79,14 @@ pub(crate) fn overflow_in(
         (IsOverflowIn from (from + segment.slots) (total_of ring.now) (capacity_at profile.now)
         from (segment ∷ [])) }
 {
+    // Rounded up: slots are rounded sums, so none of them has more than this.
     let most = segment.bytes.div_ceil(segment.slots);
     let mut passed = 0;
     while passed < segment.slots {
         let slot = from + passed;
         let span = profile.span(slot);
+        // One stretch has one block and one step of the capacity. So one test stands for all its
+        // slots.
         let end = segment
             .slots
             .min(passed + (BLOCK - slot % BLOCK))
@@ -121,6 +130,7 @@ fn book_segment(ring: &mut Ring, from: u64, segment: Segment)
 {
     let mut before = 0;
     for passed in 0..segment.slots {
+        // A slot has the difference of two running sums, as the plan counts its slots.
         let sent = sent_through(segment, passed + 1);
         ring.raise(from + passed, sent - before);
         before = sent;
@@ -154,6 +164,7 @@ fn release_segment(ring: &mut Ring, from: u64, segment: Segment, keep: u64)
 {
     let mut before = 0;
     for passed in 0..segment.slots {
+        // Up to the kept bytes this is 0. So a slot in which they end gives back its rest alone.
         let over = sent_through(segment, passed + 1).saturating_sub(keep);
         release_slot(ring, from + passed, over - before);
         before = over;

@@ -52,7 +52,7 @@ impl Calendar {
     ghost use Rattle.slot_calendar.specs.Calendars.{IsCalendar, Represents, HasRoomIn};
     ghost use Rattle.slot_calendar.specs.Calendars.{IsFirstOverflowIn, booked_at};
 
-    /// An empty calendar of this capacity, from slot 0 on. No other call takes memory.
+    /// Makes an empty calendar of this capacity, from slot 0 on. No other call takes memory.
     ///
     /// # Errors
     ///
@@ -67,14 +67,14 @@ impl Calendar {
         Ok(Calendar { profile, ring })
     }
 
-    /// The capacity of its slots, as it was given at its making.
+    /// Returns the capacity of its slots, as it was given at its making.
     pub fn profile(&self) -> &Profile
         ensures { result.now ≡ self.now.steps }
     {
         &self.profile
     }
 
-    /// The first slot that it still knows.
+    /// Returns the first slot that it still knows.
     pub fn now(&self) -> u64
         ensures value { result ≡ self.now.first }
         ensures calendar { IsCalendar self.now }
@@ -83,7 +83,8 @@ impl Calendar {
         self.ring.now()
     }
 
-    /// The bytes booked in a slot, never above its capacity; 0 from `now() + 1,048,576` on.
+    /// Returns the bytes booked in a slot, never above its capacity; 0 from `now() + 1,048,576` on.
+    /// The slot isn't before `now()`.
     pub fn booked(&self, slot: u64) -> u64
         requires { self.now.first ≤ slot }
         ensures value { result ≡ booked_at self.now slot }
@@ -93,18 +94,21 @@ impl Calendar {
         self.ring.total(slot)
     }
 
-    /// A slot after which no bytes are booked, at most 1,048,576 after `now()`. It may lie before
-    /// `now()`, and slots up to it may have been released.
+    /// Returns a slot after which no bytes are booked, at most 1,048,576 after `now()`. It may lie
+    /// before `now()`, and slots up to it may have been released.
     pub fn booked_through(&self) -> u64
         ensures calendar { IsCalendar self.now }
         ensures within { result ≤ self.now.first + ring_slots }
         ensures after { (t : ℕ) → self.now.first ≤ t → result + 1 ≤ t → booked_at self.now t ≡ 0 }
     {
+        // Past the ring nothing is booked. A caller that sums the slots up to here passes over the
+        // ring at most once.
         self.ring.last().min(self.ring.now() + RING_SLOTS)
     }
 
-    /// The first slot where the bytes booked and those that this plan asks for, if it begins at
-    /// `start`, are together above the capacity; None where it fits into every slot.
+    /// Finds the first slot where the bytes booked and those that this plan asks for, if it begins
+    /// at `start`, are together above the capacity; None where it fits into every slot. `start` is
+    /// after `now()`, and at most 2^62 + 256.
     ///
     /// It passes over the segments once, and over the blocks of 1,024 slots that have room for the
     /// greatest slot of a segment without reading them.
@@ -116,6 +120,8 @@ impl Calendar {
     {
         let segments = plan.segments();
         let mut from = start;
+        // The segments are tried in the order of their slots, so the first overflow found is the
+        // first.
         for segment in segments {
             if let Some(over) = overflow_in(&self.ring, &self.profile, from, *segment) {
                 return Some(over);
@@ -125,11 +131,14 @@ impl Calendar {
         None
     }
 
-    /// Books a plan that fits, from `start` on. One pass over the plan's slots.
+    /// Books a plan that fits, from `start` on. `start` is after `now()`, and the plan's last slot
+    /// is one of the 1,048,576 from `now()` on. One pass over the plan's slots.
     pub fn book(&mut self, start: u64, plan: &Plan)
+        // needs: slots after now and within the ring, and room in each of them
         requires after { self.old.first < start }
         requires within { start + total_slots plan.now ≤ self.old.first + ring_slots }
         requires room { HasRoomIn self.old start plan.now }
+        // leaves: the plan's bytes added in each slot, and nothing else changed
         ensures now { self.new.first ≡ self.old.first }
         ensures profile { self.new.steps ≡ self.old.steps }
         ensures totals { (t : ℕ) → self.old.first ≤ t →
@@ -141,11 +150,13 @@ impl Calendar {
     }
 
     /// Gives back what a plan that was booked at `start` has after its first `keep` bytes in the
-    /// slots from now on. One pass over the plan's slots.
+    /// slots from now on. `keep` is at most the plan's bytes. One pass over the plan's slots.
     pub fn release(&mut self, start: u64, plan: &Plan, keep: u64)
+        // needs: bytes that are booked, as those of a plan that was booked are
         requires keep { keep ≤ total_bytes plan.now }
         requires booked { (t : ℕ) → self.old.first ≤ t →
             released_at plan.now start keep t ≤ booked_at self.old t }
+        // leaves: what is after the kept bytes taken away, and nothing else changed
         ensures now { self.new.first ≡ self.old.first }
         ensures profile { self.new.steps ≡ self.old.steps }
         ensures totals { (t : ℕ) → self.old.first ≤ t →
@@ -162,10 +173,12 @@ impl Calendar {
         }
     }
 
-    /// Forgets the slots before `now`.
+    /// Forgets the slots before `now`, which is at most 2^62.
     pub fn advance(&mut self, now: u64)
+        // needs: a slot that isn't before now
         requires from_now { self.old.first ≤ now }
         requires small { now ≤ LATEST_SLOT }
+        // leaves: all slots from the new now on as they were
         ensures now { self.new.first ≡ now }
         ensures profile { self.new.steps ≡ self.old.steps }
         ensures totals { (t : ℕ) → now ≤ t → booked_at self.new t ≡ booked_at self.old t }

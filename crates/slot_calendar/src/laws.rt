@@ -19,12 +19,14 @@ ghost use Rattle.slot_calendar.specs.Calendars.{Represents, booked_at};
 /// plan: nothing before its start, its running sum through the slot before, all its bytes from its
 /// end on.
 pub fn law_plan_bytes_follow_running_sum()
+    // what it has sent before a slot
     ensures before { (segments : List Segment) (start t : ℕ) → t ≤ start →
         sent_before segments start t ≡ 0 }
     ensures through { (segments : List Segment) (start t : ℕ) → start ≤ t →
         sent_before segments start (t + 1) ≡ sum_through segments (t - start) }
     ensures end { (segments : List Segment) (start t : ℕ) → IsPlan segments →
         start + total_slots segments ≤ t → sent_before segments start t ≡ total_bytes segments }
+    // what it sends in a slot
     ensures slot { (segments : List Segment) (start j : ℕ) →
         asked_at segments start (start + j) ≡ slice_index (plan_slots segments) j }
     ensures outside { (segments : List Segment) (start t : ℕ) → t < start →
@@ -71,9 +73,9 @@ pub fn law_room_means_within_capacity()
         capacity over.slot < over.booked + over.asked }
 {}
 
-/// What an overflow says: it names a slot, the bytes that are booked there without the plan, and the
-/// bytes that the plan sends there. Together they are above the capacity. Each slot before it has
-/// room for what the plan sends there.
+/// What an overflow says: it names a slot, the bytes that are booked there without the plan, and
+/// the bytes that the plan sends there. Together they are above the capacity. Each slot before it
+/// has room for what the plan sends there.
 pub fn law_overflow_names_first_slot_without_room()
     ensures booked { (from start : ℕ) (booked capacity : ℕ → ℕ) (segments : List Segment)
         (over : Overflow) → IsFirstOverflow from booked capacity start segments over →

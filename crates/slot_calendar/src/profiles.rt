@@ -9,7 +9,8 @@ use std::alloc::Global;
 use std::marker::Model;
 use vod_base::NoMemory;
 
-/// From slot `from` on, up to the next step, each slot has room for `bytes` bytes.
+/// A step of the capacity: from slot `from` on, up to the next step, each slot has room for `bytes`
+/// bytes.
 #[derive(Clone, Copy, Debug, PartialEq, Eq)]
 pub struct CapStep {
     /// The step's first slot.
@@ -55,11 +56,12 @@ pub(crate) struct Span {
 }
 
 impl Profile {
-    /// Whether these steps make a profile: 1 to [`MAX_STEPS`] of them, the first from slot 0,
-    /// strictly ascending, each of at most [`MAX_CAPACITY`] bytes.
+    /// Returns whether these steps make a profile: 1 to [`MAX_STEPS`] of them, the first from slot
+    /// 0, strictly ascending, each of at most [`MAX_CAPACITY`] bytes.
     pub fn is_allowed(steps: &[CapStep]) -> bool
         ensures { IsTrue result ↔ IsProfile steps.now }
     {
+        // A first step from slot 0 and ascending ones: then each slot has exactly one capacity.
         !steps.is_empty()
             && steps.len() <= MAX_STEPS
             && steps[0].from == 0
@@ -67,7 +69,7 @@ impl Profile {
             && are_small(steps)
     }
 
-    /// A profile of these steps, which [`Profile::is_allowed`] allows.
+    /// Makes a profile of these steps, which [`Profile::is_allowed`] allows.
     pub fn new(steps: Vec<CapStep>) -> Profile
         requires { IsProfile steps.items }
         ensures { result ≡ steps.items }
@@ -75,7 +77,7 @@ impl Profile {
         Profile { steps }
     }
 
-    /// The same capacity in all slots, at most [`MAX_CAPACITY`] bytes in each.
+    /// Makes a profile with the same capacity in all slots, at most [`MAX_CAPACITY`] bytes in each.
     ///
     /// # Errors
     ///
@@ -89,7 +91,7 @@ impl Profile {
         Ok(Profile { steps })
     }
 
-    /// The steps.
+    /// Returns the steps.
     pub fn steps(&self) -> &[CapStep]
         ensures value { result.now ≡ self.now }
         ensures profile { IsProfile self.now }
@@ -97,7 +99,7 @@ impl Profile {
         self.steps.as_slice()
     }
 
-    /// The capacity of a slot in bytes: that of the last step that begins at or before it.
+    /// Returns the capacity of a slot in bytes: that of the last step that begins at or before it.
     pub fn at(&self, slot: u64) -> u64
         ensures value { result ≡ capacity_at self.now slot }
         ensures last { IsCapacity self.now slot result }
@@ -139,6 +141,7 @@ fn span_at(steps: &[CapStep], slot: u64) -> Span
 {
     let mut bytes = 0;
     for step in steps {
+        // The steps ascend, so the first one after the slot ends the search.
         if step.from > slot {
             return Span {
                 bytes,
@@ -147,6 +150,7 @@ fn span_at(steps: &[CapStep], slot: u64) -> Span
         }
         bytes = step.bytes;
     }
+    // The last step has no end. The greatest number stands for it, which no booked slot reaches.
     Span {
         bytes,
         until: u64::MAX,

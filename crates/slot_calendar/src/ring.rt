@@ -10,10 +10,12 @@ use std::alloc::Global;
 use std::marker::Model;
 use vod_base::NoMemory;
 
-/// How many slots a calendar knows, from its now on. No bytes are booked after them.
+/// The number of slots that a calendar knows, from its now on: more than a plan has, so a plan that
+/// begins in the next slot ends within it. No bytes are booked after them.
 pub const RING_SLOTS: u64 = 1_048_576;
 
-/// The places of a block.
+/// The places of a block. A ring has a whole number of blocks, so the slots of a block have places
+/// of one block.
 pub(crate) const BLOCK: u64 = 1024;
 
 /// The blocks of a ring.
@@ -89,6 +91,7 @@ impl Ring {
         ensures value { result ≡ total_of self.now slot }
         ensures past { self.now.first + ring_slots ≤ slot → result ≡ 0 }
     {
+        // Past the ring nothing is booked. The place of such a slot belongs to an earlier one.
         if slot - self.first >= RING_SLOTS {
             return 0;
         }
@@ -100,6 +103,7 @@ impl Ring {
         requires { self.now.first ≤ slot }
         ensures { (t : ℕ) → slot ≤ t → t / BLOCK ≡ slot / BLOCK → total_of self.now t ≤ result }
     {
+        // Past the ring 0 is a bound. The block's places belong to earlier slots.
         if slot - self.first >= RING_SLOTS {
             return 0;
         }
@@ -108,9 +112,11 @@ impl Ring {
 
     /// Adds to the total of a slot.
     pub(crate) fn raise(&mut self, slot: u64, by: u64)
+        // needs: a slot of the ring, and a sum of 64 bits
         requires from_now { self.old.first ≤ slot }
         requires within { slot < self.old.first + ring_slots }
         requires fits { total_of self.old slot + by < 2 ^ 64 }
+        // leaves: this slot's total raised, and all others as they were
         ensures now { self.new.first ≡ self.old.first }
         ensures stale { self.new.stale ≡ self.old.stale }
         ensures at { total_of self.new slot ≡ total_of self.old slot + by }
@@ -121,15 +127,19 @@ impl Ring {
         let block = place / BLOCK as usize;
         let total = self.places[place] + by;
         self.places[place] = total;
+        // A raise can only lift the greatest total, so the block isn't read for it.
         self.tops[block] = self.tops[block].max(total);
+        // Noted, so that `advance` can pass over a long time without bookings at once.
         self.last = self.last.max(slot);
     }
 
     /// Takes from the total of a slot. The greatest total of its block is settled later.
     pub(crate) fn lower(&mut self, slot: u64, by: u64)
+        // needs: a slot from now on that has so much
         requires from_now { self.old.first ≤ slot }
         requires some { 0 < by }
         requires booked { by ≤ total_of self.old slot }
+        // leaves: this slot's total lowered, and all others as they were
         ensures now { self.new.first ≡ self.old.first }
         ensures at { total_of self.new slot + by ≡ total_of self.old slot }
         ensures others { (t : ℕ) → self.old.first ≤ t → t ≢ slot →
@@ -178,6 +188,7 @@ impl Ring {
         ensures now { self.new.first ≡ self.old.first + 1 }
         ensures totals { (t : ℕ) → self.new.first ≤ t → total_of self.new t ≡ total_of self.old t }
     {
+        // Its place is the last slot's as soon as now moves, and nothing is booked there yet.
         self.empty_first();
         self.first += 1;
     }
@@ -207,6 +218,7 @@ impl Ring {
         if self.first < now {
             self.jump(now);
         }
+        // Emptying lowers totals, which leaves a block's greatest one above them.
         self.settle();
     }
 }
@@ -216,6 +228,7 @@ fn greatest_of(numbers: &[u64]) -> u64
     requires { 0 < length numbers.now }
     ensures { IsGreatest numbers.now result }
 {
+    // A block has places, so the 0 is never taken.
     *numbers.iter().max().unwrap_or(&0)
 }
 

@@ -81,7 +81,7 @@ pack_begins {start} {place} {part} {kept} mark h is =
       place_is = h.place_is;
     }
 
--- a whole packet of another stream
+-- a complete packet of another stream
 other_done : {before : Option ℕ} {value high start place : ℕ} {now : Option ℕ} {part kept : List ℕ} (low : ℕ)
     (rest : List ℕ) → (h : IsAtPrefix start place (value ∷ high ∷ []) now (choose before value) part kept)
     → 187 ≤ value → is_chosen (choose before value) value ≡ false → length rest ≡ high * 256 + low
@@ -231,7 +231,7 @@ header_bad {chosen} {start} {place} {left} {part} {kept} {header} byte h none =
     } in
     inl (bad, h.none, tt)
 
--- a whole packet of the chosen stream
+-- a complete packet of the chosen stream
 chosen_done : {chosen : Option ℕ} {start place left : ℕ} {now : Option ℕ} {part kept video : List ℕ}
     {header : Header} (byte : ℕ) (rest : List ℕ) → (h : IsAtHeader chosen start place now part kept header (left + 1)) →
     length rest ≡ left → video_from header (byte ∷ rest) ≡ Some video

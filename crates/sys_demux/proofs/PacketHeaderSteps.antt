@@ -19,7 +19,7 @@ pub stuffing_ends : (count byte : ℕ) (rest : List ℕ) → ((byte ≡ 255 → 
 stuffing_ends count byte rest (inl other) = stuffing_other (16 - count) byte rest (ne_eqb byte 255 other)
 stuffing_ends count byte rest (inr many) = stuffing_none (16 - count) byte rest (omega (arith, many))
 
--- the same of what is said of each rest
+-- the same of what is stated of each rest
 pub says_same : {X : Type 0} {f g : List ℕ → Option (List ℕ)} (left : ℕ) (least : X → ℕ)
     (from : X → List ℕ → Option (List ℕ)) (o : Option X) → ((rest : List ℕ) → f rest ≡ g rest) →
     MatchOption o ((rest : List ℕ) → length rest ≡ left → g rest ≡ None)

@@ -74,7 +74,7 @@ zeros_no_prefix (suc (suc (suc n))) zero s e =
 zeros_no_prefix zero (suc m) s e = let bad : 0 ≡ length (0 ∷ with_prefix m s) = ap length e in omega (arith, bad)
 zeros_no_prefix (suc n) (suc m) s e = zeros_no_prefix n m s (tail_same 0 0 (replicate n 0) (with_prefix m s) e)
 
--- the front of bytes 00 and a prefix that is bytes 00 lacks a part of it
+-- bytes 00 at the beginning are at most the zeros before a start code and its own two
 zeros_front : (n m : ℕ) (l s : List ℕ) → replicate n 0 ++ l ≡ with_prefix m s → n ≤ m + 2
 zeros_front zero m l s e = omega arith
 zeros_front (suc zero) m l s e = omega arith
@@ -137,7 +137,7 @@ item_prefixed : (a : Item) → item_bytes a ≡ with_prefix (zeros_of a) (rest_o
 item_prefixed (Pack _ rest) = refl
 item_prefixed (Packet _ value high low content) = refl
 
--- lists of one length in front
+-- equal texts have equal beginnings of one length, and equal rests
 front_once : (a b x y : List ℕ) → a ++ x ≡ b ++ y → length a ≡ length b → (a ≡ b) × (x ≡ y)
 front_once a b x y e long = (
   sym (take_at a x (length a) refl) ∙ ap (take (length a)) e ∙ ap (λ n. take n (b ++ y)) long
@@ -146,7 +146,7 @@ front_once a b x y e long = (
       ∙ drop_at b y (length b) refl,
 )
 
--- one item stands in front
+-- one item stands first
 pub record IsSameItem (a b : Item) (x y : List ℕ) : Type 0 where
   pub item : a ≡ b
   pub rest : x ≡ y
@@ -221,7 +221,7 @@ mark_other {rest} {mark} chosen (Pack n (b ∷ r)) x p e other =
 mark_other {rest} {mark} chosen (Packet n k h l r) x p e other =
     omega (arith, p.value_is, head_same k 186 (h ∷ l ∷ (r ++ x)) (mark ∷ rest) e)
 
--- a content that stands whole has a header
+-- complete content has a header
 content_bad : {chosen : Option ℕ} {start place : ℕ} {t : List ℕ} (a : Item) (x : List ℕ) →
     (f : IsBadPacket chosen start t place) → IsItem chosen a →
     rest_of a ++ x ≡ f.value ∷ f.high ∷ f.low ∷ (f.front ++ f.rest) → ⊥
@@ -252,7 +252,7 @@ content_bad {chosen} (Packet n k h l r) x f p e =
   where
     open f use {value, high, low, front, rest, chosen_is, within, none}
 
--- what no item stands in front of
+-- what no item stands before
 Stops : Option ℕ → List ℕ → Type 0
 Stops chosen t = (a : Item) (x : List ℕ) → IsItem chosen a → item_bytes a ++ x ≡ t → ⊥
 
@@ -278,7 +278,7 @@ values_once {z} {w} {k} {j} r s a b =
     let same = prefix_once z w (k ∷ r) (j ∷ s) (sym a ∙ b) in
     (same.zeros, head_same k j r s same.rest)
 
--- the front of an item with its whole prefix
+-- the first bytes of an item, with its complete start code prefix
 front_prefixed : (t l r : List ℕ) (z : ℕ) → t ++ l ≡ with_prefix z r → z + 3 ≤ length t
     → t ≡ with_prefix z (drop (z + 3) t)
 front_prefixed t l r z e long =
@@ -295,7 +295,7 @@ cut_prefixed : (chosen : Option ℕ) (start : ℕ) (t : List ℕ) (place : ℕ) 
 cut_prefixed chosen start t place f =
     front_prefixed t f.lacking (rest_of f.item) (zeros_of f.item) (sym f.is ∙ item_prefixed f.item) f.begun
 
--- a fault that bytes show stands in no front of an item
+-- the bytes of a truncated item show no fault
 cut_shows_none : {chosen : Option ℕ} {start : ℕ} {t : List ℕ} {place : ℕ} (fault : SystemFault)
     → IsTruncatedItem chosen start t place → IsShown fault → IsFault chosen start t fault → ⊥
 unfolding Stops
@@ -390,7 +390,7 @@ fault_once {one = Truncated p} {other = Truncated q} chosen start t f g =
     (prefix_once (zeros_of f.item) (zeros_of g.item) (drop (zeros_of f.item + 3) t)
     (drop (zeros_of g.item + 3) t) (sym (cut_prefixed chosen start t p f) ∙ cut_prefixed chosen start t q g)).zeros)
 
--- nothing stands in front of an end
+-- nothing stands before an end
 end_stops : (chosen : Option ℕ) (t : List ℕ) → IsEnd t → Stops chosen t
 unfolding Stops
 end_stops chosen t end = λ a x p e. item_no_end chosen a x p e end
@@ -400,7 +400,7 @@ record AreSame (items items' : List Item) (t t' : List ℕ) : Type 0 where
   items_are : items ≡ items'
   tail_is : t ≡ t'
 
--- items, and what no item stands in front of
+-- items, and what no item stands before
 record AreRead (chosen : Option ℕ) (items : List Item) (t : List ℕ) : Type 0 where
   are : AreItems chosen items
   stops : Stops (chosen_after chosen items) t

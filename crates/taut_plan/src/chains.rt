@@ -23,12 +23,14 @@ pub(crate) fn join(
     chain: &mut Queue,
     slot: usize,
 ) -> Result<Point, AllocError>
+    // needs: a slot of both curves, and a chain from the apex up to it
     requires low { slot < length curves.now.low.items }
     requires up { slot < length curves.now.up.items }
     requires sound { AreSound curves.now.from curves.now.low.items curves.now.up.items }
     requires apex { Fits apex }
     requires rising { IsRising side apex (on_curve (side_of curves.now side) apex.place) }
     requires chain { IsChain side (side_of curves.now side) slot apex chain.old }
+    // leaves: a chain up to the end of this slot, which is its last point
     ensures point { IfOk result (λ point. point ≡ on_curve (side_of curves.now side) (slot + 1)) }
     ensures chain { OnOk result (IsChain side (side_of curves.now side) (slot
         + 1) apex chain.new) }

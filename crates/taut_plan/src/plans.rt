@@ -28,7 +28,7 @@ use wire_curve::Curves;
 ///
 /// # Errors
 ///
-/// [`NoMemory`] alone.
+/// [`NoMemory`] where there is none for the chains or for the segments. There is no other error.
 pub fn plan(alloc: Global, curves: &Curves) -> Result<Plan, NoMemory>
     requires { AreSound curves.now.from curves.now.low.items curves.now.up.items }
     ensures taut { IfOk result (λ plan.
@@ -40,6 +40,8 @@ pub fn plan(alloc: Global, curves: &Curves) -> Result<Plan, NoMemory>
         IsBestPlan curves.now.from curves.now.low.items curves.now.up.items plan) }
 {
     let segments = taut_segments(alloc, curves)?;
+    // The taut list is a plan: none of its segments is empty, and the curves bound its slots and
+    // bytes.
     Ok(Plan::new(segments))
 }
 
@@ -53,6 +55,8 @@ fn crossing(side: Side, apex: Point, others: &Queue, point: Point) -> Option<Poi
         (λ corner. IsCrossed side apex others.now point corner) }
 {
     let corner = others.first()?;
+    // Strictly: a corner on the line to the new point is no bend. The segments before and after it
+    // could have one slope.
     if is_inside(side, apex, corner, point) {
         Some(corner)
     } else {
@@ -71,12 +75,14 @@ fn extend(
     others: &mut Queue,
     slot: usize,
 ) -> Result<(), AllocError>
+    // needs: a path up to the apex, and a funnel from it over the slots so far
     requires sound { AreSound curves.now.from curves.now.low.items curves.now.up.items }
     requires slot { slot < length curves.now.low.items }
     requires path { IsPath (lower_of curves.now) (upper_of curves.now) curves.now.from
         path.old.apex path.old.segments.items }
     requires funnel { IsFunnel side (side_of curves.now side) (side_of curves.now (other_side side))
         (funnel_reach slot (other_curve_reach side slot) path.old.apex) own.old others.old }
+    // leaves: the path with its new bends, and the funnel over this slot as well
     ensures path { OnOk result (IsPath (lower_of curves.now) (upper_of curves.now) curves.now.from
         path.new.apex path.new.segments.items) }
     ensures funnel { OnOk result

@@ -107,6 +107,7 @@ pub(crate) fn point_at(curves: &Curves, side: Side, slot: usize) -> Point
 /// side, and at most that on the upper side.
 #[inline(always)]
 pub(crate) fn is_passed(side: Side, link: Link, point: Point) -> bool
+    // needs: a later point that isn't lower, and numbers whose products fit into 64 bits
     requires later { link.point.place ≤ point.place }
     requires higher { link.point.height ≤ point.height }
     requires slots { link.slots ≤ 2 ^ 20 }
@@ -114,14 +115,19 @@ pub(crate) fn is_passed(side: Side, link: Link, point: Point) -> bool
     requires fits { Fits point }
     ensures { MatchBool result (IsPassed side link point) (IsKept side link point) }
 {
+    // Cross products stand for the two slopes: each is a slope times both numbers of slots.
     let rise = link.slots * (point.height - link.point.height);
     let line = (point.place - link.point.place) * link.bytes;
+    // A point on the line counts as passed: the latest of the points in a line is the corner, so
+    // that neighbouring segments differ in slope.
     match side {
         Side::Lower => is_at_most(line, rise),
         Side::Upper => is_at_most(rise, line),
     }
 }
 
+/// Whether the first number is at most the other one. The contract has both cases, as
+/// [`is_passed`] needs them.
 #[inline(always)]
 fn is_at_most(one: u64, other: u64) -> bool
     ensures { MatchBool result (one ≤ other) (other < one) }
@@ -185,6 +191,7 @@ fn weights(first: Point, middle: Point, last: Point) -> (u64, u64)
         ≡ (last.place - middle.place) * first.height + (middle.place - first.place) * last.height }
     ensures point { result.1 ≡ (last.place - first.place) * middle.height }
 {
+    // No quotient is taken, so points near the line are judged exactly.
     let before = middle.place - first.place;
     let beyond = last.place - middle.place;
     (

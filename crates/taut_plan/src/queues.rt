@@ -118,6 +118,7 @@ impl Queue {
         let link = if self.passed < count {
             Link::new(self.links[count - 1].point, point)
         } else {
+            // Numbers that are never read: the first point's edge begins at the apex, which moves.
             Link {
                 point,
                 slots: 0,
@@ -144,6 +145,7 @@ impl Queue {
         ensures { self.new ≡ drop 1 self.old }
     {
         self.passed += 1;
+        // Nothing of the list is needed any more, so its room is used again from the start.
         if self.passed == self.links.len() {
             self.links.clear();
             self.passed = 0;

@@ -38,6 +38,8 @@ pub(crate) fn append_reserved(to: &mut Vec<u8>, bytes: &[u8])
     ensures len { vec_len to.new ≡ vec_len to.old + length bytes.now }
     ensures capacity { vec_capacity to.new ≡ vec_capacity to.old }
 {
+    // The room was reserved when the object was made. So it can't run out of memory here, and each
+    // fault that it answers is one that it counts.
     for byte in bytes {
         to.push_reserved(*byte);
     }

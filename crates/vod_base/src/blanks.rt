@@ -7,6 +7,7 @@ ghost use Rattle.vod_base.specs.Blanks.{is_blank, without_leading_blanks, withou
 pub fn is_blank(byte: u8) -> bool
     ensures { result ≡ is_blank byte }
 {
+    // The blanks of RFC 2326, section 15.1, but for folded lines: those are refused.
     byte == b' ' || byte == b'\t'
 }
 

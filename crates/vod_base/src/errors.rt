@@ -26,22 +26,22 @@ impl<T: Drop> From<AllocFailed<T>> for NoMemory {
     }
 }
 
-/// A library could not be searched or read.
+/// The fault of a library that could not be searched or read.
 #[derive(Clone, Copy, Debug, PartialEq, Eq, Error)]
 #[error("the library could not be read")]
 pub struct StoreFault;
 
-/// Output could not be written.
+/// The fault of output that could not be written.
 #[derive(Clone, Copy, Debug, PartialEq, Eq, Error)]
 #[error("the output could not be written")]
 pub struct SinkFault;
 
-/// A connection could not be read or written.
+/// The fault of a connection that could not be read or written.
 #[derive(Clone, Copy, Debug, PartialEq, Eq, Error)]
 #[error("the connection could not be read or written")]
 pub struct LinkFault;
 
-/// The listener failed: no connection could be awaited or opened.
+/// The fault of a listener: no connection could be awaited or opened.
 #[derive(Clone, Copy, Debug, PartialEq, Eq, Error)]
 #[error("no connection could be made")]
 pub struct GateFault;

@@ -9,6 +9,7 @@ pub(crate) fn counted_call(calls: &mut u64, failing: &[u64]) -> bool
     ensures counted { calls.new ≡ one_more calls.old }
     ensures fails { result ≡ call_fails failing.now calls.old }
 {
+    // A count that wrapped would come to the number of a failing call again.
     *calls = calls.saturating_add(1);
     failing.contains(calls)
 }

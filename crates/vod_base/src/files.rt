@@ -27,16 +27,19 @@ pub trait Library {
         ensures found { (held : List File) → files self.old ≡ Some held →
             IfOk result (λ size. size ≡ option_map length (file_named held name.now)) };
 
-    /// Reads bytes of the file, from the place `at` on, and puts them at the start of `into`.
-    /// Returns how many: 0 only if `into` is empty or the file has no byte at `at`.
+    /// Reads bytes of the file, from the place `at` on, counted from 0, and puts them at the start
+    /// of `into`. Returns how many: 0 only if `into` is empty or the file has no byte at `at`.
     ///
     /// # Errors
     ///
     /// [`StoreFault`] if the file could not be read.
     fn read(&mut self, name: &str, at: u64, into: &mut [u8]) -> Result<usize, StoreFault>
+        // leaves: the files as they were
         ensures kept { files self.new ≡ files self.old }
+        // faults: the count never falls, and rises where the call fails
         ensures count { faults self.old ≤ faults self.new }
         ensures fault { OnErr result (HasRisen (faults self.old) (faults self.new)) }
+        // answers: how many bytes; the file's own, where the library exposes its content
         ensures within { IfOk result (λ n. n ≤ length into.new) }
         ensures bytes { (held : List File) → files self.old ≡ Some held →
             IfOk result (λ n. IsRead (bytes_named held name.now) at n into.new) };

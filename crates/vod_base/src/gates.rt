@@ -12,7 +12,7 @@ ghost use Rattle.vod_base.specs.Gates.{told_rejoined};
 use crate::errors::GateFault;
 use crate::links::Link;
 
-/// How a gate is opened.
+/// The settings with which a gate is opened.
 #[derive(Clone, Copy, Debug, PartialEq, Eq)]
 pub struct Opening {
     /// The TCP port.
@@ -55,9 +55,12 @@ pub trait Gate: Sized {
     ///
     /// [`GateFault`] if there is no new part.
     fn split(&mut self) -> Result<Self, GateFault>
+        // needs: an open gate with fewer than 256 parts, where it exposes what it did
         requires may { IfSome (told self.old) MaySplit }
+        // faults: the count never falls, and rises where the call fails
         ensures count { faults self.old ≤ faults self.new }
         ensures fault { OnErr result (HasRisen (faults self.old) (faults self.new)) }
+        // leaves: one part more, which has no fault; after a fault, all as it was
         ensures split { OnOk result (told self.new ≡ option_map split_off (told self.old)) }
         ensures part { IfOk result (λ part. (told part ≡ option_map new_part (told self.old))
             × (faults part ≡ 0)) }
@@ -70,13 +73,16 @@ pub trait Gate: Sized {
     ///
     /// [`GateFault`] if none can be accepted any more.
     fn take(&mut self) -> Result<Option<Self::Conn>, GateFault>
+        // faults: the count never falls, and rises where the call fails
         ensures count { faults self.old ≤ faults self.new }
         ensures fault { OnErr result (HasRisen (faults self.old) (faults self.new)) }
+        // answers: a connection that did nothing yet
         ensures gave { IfOk result (λ taken.
             IfSome taken (λ conn. told self.new ≡ option_map after_take (told self.old))) }
         ensures fresh { IfOk result (λ taken.
             IfSome taken (λ conn. (Self.Conn.faults conn ≡ 0)
             × IfSome (Self.Conn.told conn) (λ doings. doings ≡ []))) }
+        // leaves: where none is given, why: there are no more, or it failed
         ensures none { IfOk result (λ taken. taken ≡ None →
             told self.new ≡ option_map (after_empty_take NoMore) (told self.old)) }
         ensures lost { OnErr result (told self.new ≡

@@ -6,10 +6,12 @@ ghost use Rattle.vod_base.specs.Limits.{WritesNumber, in_range};
 
 use crate::numbers::read_number;
 
-/// The most slots of a film's curves and of its plan.
+/// The most slots of a film's curves and of its plan. A calendar has more, so a plan that begins in
+/// the slot after its now ends within it.
 pub const MAX_SLOTS: u64 = 1_000_000;
 
-/// The most bytes of a plan, of a client's buffer and of a slot of a link.
+/// The most bytes of a plan, of a client's buffer and of a slot of a link. A product of bytes and
+/// slots then fits into 64 bits.
 pub const MAX_BYTES: u64 = 1 << 42;
 
 /// The longest start delay, in slots: the most before the first picture is used.

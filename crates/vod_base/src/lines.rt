@@ -3,7 +3,7 @@
 ghost use Rattle.std.specs.Prelude.{◌≡◌, ◌≤◌, length, IfSome, IfNone};
 ghost use Rattle.vod_base.specs.Lines.{IsLine, HasNoLine};
 
-/// Where a line ends, in bytes from the text's beginning.
+/// The end of a line, in bytes from the text's beginning.
 #[derive(Clone, Copy, Debug, PartialEq, Eq)]
 pub struct Line {
     /// The place after the last byte of the line's text.
@@ -12,7 +12,8 @@ pub struct Line {
     pub next: usize,
 }
 
-/// Finds the end of the line that begins at `at`: its LF or CR LF. A lone CR ends no line.
+/// Finds the end of the line that begins at `at`: its LF or CR LF. A lone CR ends no line. `at` is
+/// at most the text's length.
 ///
 /// Returns None exactly if there is no LF at or after `at`.
 pub fn line_end(bytes: &[u8], at: usize) -> Option<Line>
@@ -22,6 +23,8 @@ pub fn line_end(bytes: &[u8], at: usize) -> Option<Line>
 {
     for place in at..bytes.len() {
         if bytes[place] == b'\n' {
+            // RFC 2326, section 4, asks receivers to accept LF alone, too. A CR before the line's
+            // first byte is no part of its end.
             let text_end = if place > at && bytes[place - 1] == b'\r' {
                 place - 1
             } else {

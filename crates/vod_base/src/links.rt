@@ -8,7 +8,8 @@ ghost use Rattle.vod_base.specs.Links.{IsSentPrefix};
 
 use crate::errors::LinkFault;
 
-/// The last slot that counts, 2^62.
+/// The last slot that counts, 2^62. The slots of a plan or of a calendar after it still have
+/// numbers of 64 bits.
 pub const LATEST_SLOT: u64 = 1 << 62;
 
 /// The most bytes that a connection takes from its link in one call.
@@ -43,10 +44,14 @@ pub trait Link {
     ///
     /// [`LinkFault`] if the connection failed. Then nothing arrived and nothing was sent.
     fn next(&mut self, into: &mut [u8]) -> Result<Heard, LinkFault>
+        // needs: room for a byte
         requires some { 0 < length into.now }
+        // faults: the count never falls, and rises where the call fails
         ensures count { faults self.old ≤ faults self.new }
         ensures fault { OnErr result (HasRisen (faults self.old) (faults self.new)) }
+        // answers: an event, whose bytes fit into `into`
         ensures within { IfOk result (λ heard. IsWithin heard (length into.new)) }
+        // leaves: the exposed history with this event; after a fault, as it was
         ensures heard { IfOk result (λ heard. told self.new ≡
             told_more (told self.old) (io_event_of heard into.new ∷ [])) }
         ensures lost { OnErr result (told self.new ≡ told self.old) };

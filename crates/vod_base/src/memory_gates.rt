@@ -21,7 +21,7 @@ use crate::part_links::{PartLinks, TakeResult};
 use std::alloc::Global;
 use std::marker::Model;
 
-/// What one part of a gate in memory gives: links, which begin anew when they are given. Its calls
+/// The links that one part of a gate in memory gives. Each begins anew when it is given. Its calls
 /// of `take` fail at the given numbers, from 1.
 #[derive(Drop)]
 pub struct MemoryPart {
@@ -31,7 +31,7 @@ pub struct MemoryPart {
     pub failing: Vec<u64>,
 }
 
-/// The most parts.
+/// The most parts: as many as a server has workers at most.
 const MAX_PARTS: usize = 256;
 
 /// A gate in memory, whose parts give links in memory.
@@ -106,6 +106,8 @@ impl MemoryGate {
               faults = 0;
             }) }
     {
+        // Reserved here, so that a split can't run out of memory: its only faults are the given
+        // ones.
         let room = Vec::with_capacity(alloc, MAX_PARTS)?;
         Ok(MemoryGate {
             alloc,
@@ -191,10 +193,14 @@ impl Gate for MemoryGate {
         ensures lost { OnErr result (self.new ≡
             record (gate_failed self.old) { content = after_open None self.old.content }) }
     {
+        // Counted, and the earlier parts forgotten, before it may fail: `Gate::open` asks for both
+        // even then.
         self.openings = self.openings.saturating_add(1);
         self.opening = None;
         self.parts.clear();
         if self.is_part {
+            // A part isn't opened again. The call counts as a fault, since an error without one
+            // isn't allowed.
             self.calls = self.calls.saturating_add(1);
             self.faults = self.faults.saturating_add(1);
             return Err(GateFault);
@@ -208,7 +214,9 @@ impl Gate for MemoryGate {
 
     fn split(&mut self) -> Result<MemoryGate, GateFault>
         requires may { MaySplit self.old.content }
+        // answers: an error exactly in a call that is to fail
         ensures fails { is_err result ≡ call_fails self.old.failing self.old.calls }
+        // leaves: one part more, with the next script; after an error, the call and its fault
         ensures split { OnOk result (self.new ≡
             record (gate_called self.old) {
               content = split_off self.old.content;
@@ -221,6 +229,7 @@ impl Gate for MemoryGate {
             return Err(GateFault);
         }
         let number = self.parts.len();
+        // An empty place: what the part gets back stands here after `rejoin`.
         self.parts.push_reserved(None);
         let script = next_script(self.alloc, &mut self.scripts);
         Ok(MemoryGate::part(self.alloc, number, script))
@@ -228,7 +237,9 @@ impl Gate for MemoryGate {
 
     #[tactic(auto, using(crate::proofs::PartLinkLemmas::back_stays))]
     fn take(&mut self) -> Result<Option<MemoryLink>, GateFault>
+        // answers: an error exactly in a call that is to fail
         ensures fails { is_err result ≡ call_fails self.old.failing self.old.calls }
+        // answers: the first link that waits, begun anew
         ensures gave { IfOk result (λ taken.
             IfSome taken (λ link. self.new ≡
             record (gate_called self.old) {
@@ -237,6 +248,7 @@ impl Gate for MemoryGate {
             })) }
         ensures first { IfOk result (λ taken.
             taken ≡ option_map link_begun (slice_get self.old.waiting 0)) }
+        // leaves: where none is given, why: there are no more, or it failed
         ensures none { IfOk result (λ taken. taken ≡ None →
             self.new ≡ record
             (gate_called self.old) { content = after_empty_take NoMore self.old.content }) }
@@ -252,7 +264,9 @@ impl Gate for MemoryGate {
             return Ok(None);
         }
         self.own.waiting -= 1;
+        // The links that wait are before those that came back, so the first one is the next.
         let mut link = self.own.links.remove(0);
+        // `Gate::take` promises a connection that did nothing yet.
         link.begin();
         self.own.given += 1;
         self.own.last = TakeResult::Link;
@@ -264,6 +278,7 @@ impl Gate for MemoryGate {
         ensures { self.new ≡
             record self.old { content = after_return (returned_conn_of conn) self.old.content } }
     {
+        // The link left its room in the list when it was given, so nothing is allocated.
         self.own.links.push_reserved(conn);
     }
 
@@ -277,6 +292,8 @@ impl Gate for MemoryGate {
             } }
     {
         let MemoryGate { own, faults, .. } = part;
+        // A worker's faults are seen at its own part. The gate must show them, too, once the part
+        // is gone.
         self.faults = count_with(self.faults, faults);
         let number = own.number;
         self.parts[number] = Some(own);
@@ -319,6 +336,7 @@ fn count_with(count: u64, part: u64) -> u64
     ensures { result ≡ (if nat_lt 0 part then one_more count else count) }
 {
     if part > 0 {
+        // Once, however many faults the part had: `Gate::rejoin` asks for a rise and for no sum.
         count.saturating_add(1)
     } else {
         count

@@ -63,6 +63,7 @@ impl MemoryLibrary {
     {
         let failed = counted_call(&mut self.calls, &self.failing);
         if failed {
+            // Saturating, as all counts of faults: `HasRisen` takes a count at 2^64 - 1 as risen.
             self.faults = self.faults.saturating_add(1);
         }
         failed
@@ -111,7 +112,10 @@ impl Library for MemoryLibrary {
     }
 
     fn read(&mut self, name: &str, at: u64, into: &mut [u8]) -> Result<usize, StoreFault>
+        // leaves: the call counted, and its fault if it is to fail
         ensures called { self.new ≡ library_called self.old }
+        // answers: an error exactly in a call that is to fail; else as many of the file's bytes as
+        // fit
         ensures fails { is_err result ≡ call_fails self.old.failing self.old.calls }
         ensures bytes { IfOk result (λ n.
             IsRead (bytes_named self.old.files name.now) at n into.new) }
@@ -124,6 +128,7 @@ impl Library for MemoryLibrary {
         }
         match self.file(name) {
             Some(bytes) => Ok(copy_from(bytes, at, into)),
+            // No such file is no fault of the library: it has no byte at any place.
             None => Ok(0),
         }
     }

@@ -115,6 +115,7 @@ impl MemoryLink {
               faults = 0;
             }) }
     {
+        // A note for each event and for each sent byte, up to `room` of either.
         let Some(both) = room.checked_mul(2) else {
             return Err(NoMemory);
         };
@@ -166,10 +167,13 @@ impl Link for MemoryLink {
     #[tactic(auto, using(crate::proofs::LinkLogLemmas::heard_more))]
     fn next(&mut self, into: &mut [u8]) -> Result<Heard, LinkFault>
         requires some { 0 < length into.now }
+        // answers: an error exactly in a call that is to fail, or where the room is full
         ensures fails { is_err result ≡ next_fails self.old }
+        // answers: what stands first in the events that are left
         ensures within { IfOk result (λ heard. IsWithin heard (length into.new)) }
         ensures front { IfOk result (λ heard.
             io_event_of heard into.new ≡ next_doing (length into.new) self.old.left) }
+        // leaves: the history with this event; after a fault, the call and the fault alone
         ensures heard { IfOk result (λ heard. self.new ≡
             record self.old {
               nexts = one_more self.old.nexts;
@@ -185,6 +189,8 @@ impl Link for MemoryLink {
         ensures untouched { OnErr result (into.new ≡ into.old) }
     {
         let failed = counted_call(&mut self.nexts, &self.failing_nexts);
+        // Without room for its note an event can't be handed out: what arrives has to stand in the
+        // history.
         if failed || self.handed_out >= self.room {
             self.faults = self.faults.saturating_add(1);
             return Err(LinkFault);
@@ -211,6 +217,7 @@ impl Link for MemoryLink {
             }) }
     {
         let failed = counted_call(&mut self.sends, &self.failing_sends);
+        // All bytes or none, where the trait allows any prefix: a test then knows what was sent.
         if failed || bytes.len() > self.room - self.sent.len() {
             self.faults = self.faults.saturating_add(1);
             return Err(LinkFault);
@@ -267,6 +274,8 @@ fn next_event(events: &[Event], front: &mut EventCursor, into: &mut [u8]) -> (Li
         (io_event_of result.1 into.new ≡ next_doing (length into.new) left)
         × (left_from events.now front.new ≡ left_after (length into.new) left) }
 {
+    // An empty list is no event, since `Heard::Bytes` has at least one byte. A list that was handed
+    // out entirely is passed here, too.
     while let Some(Event::Bytes(bytes)) = events.get(front.event)
         && front.offset >= bytes.len()
     {
@@ -277,6 +286,8 @@ fn next_event(events: &[Event], front: &mut EventCursor, into: &mut [u8]) -> (Li
         Some(Event::Bytes(bytes)) => {
             let from = front.offset;
             let count = copy_from(bytes, from as u64, into);
+            // What is left of the list is handed out by the next calls, as a socket does with a
+            // small buffer.
             front.offset = from + count;
             (
                 LinkLogEntry::Came(event, from, from + count),
@@ -291,6 +302,7 @@ fn next_event(events: &[Event], front: &mut EventCursor, into: &mut [u8]) -> (Li
             front.pass();
             (LinkLogEntry::Ended, Heard::End)
         }
+        // The peer stays closed, however often it is asked.
         None => (LinkLogEntry::Ended, Heard::End),
     }
 }

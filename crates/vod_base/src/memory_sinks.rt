@@ -92,6 +92,7 @@ impl Sink for MemorySink {
             }) }
     {
         let failed = counted_call(&mut self.calls, &self.failing);
+        // All bytes or none, where the trait allows any prefix: a test then knows what was written.
         if failed || bytes.len() > self.room - self.kept.len() {
             self.faults = self.faults.saturating_add(1);
             return Err(SinkFault);

@@ -9,6 +9,8 @@ ghost use Rattle.vod_base.specs.Names.{good_name, is_name_byte};
 pub fn good_name(name: &[u8]) -> bool
     ensures { result ≡ good_name name.now }
 {
+    // Without a first dot there is no `.`, no `..` and no hidden file. Without `/` and backslash a
+    // name stays in its folder.
     if name.is_empty() || name.len() > 64 || name[0] == b'.' {
         return false;
     }

@@ -12,7 +12,7 @@ use crate::errors::NoMemory;
 use itoa::Buffer;
 use thiserror::Error;
 
-/// Why a text is not a number of 64 bits.
+/// The reason why a text is not a number of 64 bits.
 #[derive(Clone, Copy, Debug, PartialEq, Eq, Error)]
 pub enum NumberFault {
     /// The text has no byte.
@@ -40,20 +40,21 @@ pub fn read_number(text: &[u8]) -> Result<u64, NumberFault>
     if text.is_empty() {
         return Err(NumberFault::Empty);
     }
+    // The digits are judged before the size, so that a text has one fault, however long it is.
     if let Some(place) = first_other(text) {
         return Err(NumberFault::NotDigit(place));
     }
     value_of(text).ok_or(NumberFault::TooLarge)
 }
 
-/// Whether the text is one or more digits `0` to `9`.
+/// Returns whether the text is one or more digits `0` to `9`.
 pub fn is_decimal(text: &[u8]) -> bool
     ensures { result ≡ is_decimal text.now }
 {
     !text.is_empty() && are_digits(text)
 }
 
-/// Whether all bytes are digits `0` to `9`, as those of the empty text are.
+/// Returns whether all bytes are digits `0` to `9`, as those of the empty text are.
 pub fn are_digits(text: &[u8]) -> bool
     ensures { result ≡ list_all is_ascii_digit text.now }
 {
@@ -69,6 +70,7 @@ pub fn push_number(text: &mut Vec<u8>, number: u64) -> Result<(), NoMemory>
     ensures whole { OnOk result (text.new.items ≡ text.old.items ++ decimal number) }
     ensures kept { OnErr result (text.new.items ≡ text.old.items) }
 {
+    // In one append, so that the text stays as it was where memory runs out.
     text.extend_from_slice(Buffer::new().format(number).as_bytes())?;
     Ok(())
 }
@@ -97,6 +99,7 @@ fn value_of(text: &[u8]) -> Option<u64>
 {
     let mut value = 0u64;
     for digit in text {
+        // The value only grows with more digits, so the first step that leaves 64 bits decides.
         let tens = value.checked_mul(10)?;
         value = tens.checked_add(u64::from(*digit - b'0'))?;
     }

@@ -8,6 +8,7 @@ pub(crate) fn copy_from(bytes: &[u8], at: u64, into: &mut [u8]) -> usize
     ensures read { IsRead bytes.now at result into.new }
     ensures most { result ≡ min (length into.new) (length bytes.now - at) }
 {
+    // Compared in 64 bits: a place past the end is no index, and no byte is read there.
     if at >= bytes.len() as u64 {
         return 0;
     }

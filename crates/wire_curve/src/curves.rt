@@ -12,16 +12,16 @@ use vod_base::{MAX_BYTES, MAX_SLOTS};
 pub struct Curves {
     /// The bytes that were sent before slot 0.
     pub from: u64,
-    /// What must have been sent by the end of each slot.
+    /// The bytes that must have been sent by the end of each slot.
     pub low: Vec<u64>,
-    /// What may have been sent by the end of each slot.
+    /// The bytes that may have been sent by the end of each slot.
     pub up: Vec<u64>,
 }
 
 impl Curves {
-    /// Whether the curves are sound, as the planner requires: 1 to 1,000,000 slots
-    /// in both; neither curve ever falls; the lower one begins at `from` or above, is nowhere above
-    /// the upper one, and meets it at the last slot, at 2^42 bytes or less.
+    /// Returns whether the curves are sound, as the planner requires: 1 to 1,000,000 slots in both;
+    /// neither curve ever falls; the lower one begins at `from` or above, is nowhere above the
+    /// upper one, and meets it at the last slot, at 2^42 bytes or less.
     ///
     /// It takes no memory, and time linear in the slots.
     pub fn is_sound(&self) -> bool
@@ -30,10 +30,13 @@ impl Curves {
         let low = self.low.as_slice();
         let up = self.up.as_slice();
         let slots = low.len();
+        // The lengths come first: what follows reads the last slot of both curves.
         if slots == 0 || slots as u64 > MAX_SLOTS || up.len() != slots {
             return false;
         }
         let (low_end, up_end) = (low[slots - 1], up[slots - 1]);
+        // Neither curve falls, so its last slot bounds all of its bytes by 2^42. The planner's
+        // products then fit into 64 bits.
         if self.from > low[0] || low_end != up_end || low_end > MAX_BYTES {
             return false;
         }

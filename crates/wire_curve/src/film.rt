@@ -18,10 +18,10 @@ use std::alloc::{AllocError, Global};
 use thiserror::Error;
 use vod_base::{MAX_BYTES, MAX_DELAY, MAX_FILM_PICTURES, MAX_SLOTS};
 
-/// The longest time of a picture and of a slot, in units of 1/360,000 second.
+/// The longest time of a picture and of a slot, in units of 1/360,000 second: one second.
 const MAX_UNITS: u32 = 360_000;
 
-/// When pictures are used and what the client can hold.
+/// The times at which pictures are used, and what the client can hold.
 ///
 /// Times are in units of 1/360,000 second. Picture k is used in the slot `k * picture_units /
 /// slot_units + delay`, rounded down.
@@ -42,23 +42,26 @@ pub struct Timing {
 }
 
 impl Timing {
-    /// The slot in which a picture is used, one of at most 4,194,304, from 0.
+    /// Returns the slot in which a picture is used, one of at most 4,194,304, from 0.
     pub fn due_slot(&self, picture: u64) -> u64
+        // needs: numbers within the limits, so that the product fits into 64 bits
         requires some_slot_units { 1 ≤ self.now.slot_units }
         requires picture_units { self.now.picture_units ≤ MAX_UNITS }
         requires picture { picture < MAX_FILM_PICTURES }
         requires delay { self.now.delay ≤ MAX_DELAY }
         ensures { result ≡ due_slot self.now picture }
     {
+        // One picture a slot, as each trace has: the quotient is the picture's number, without a
+        // division.
         if self.picture_units == self.slot_units {
             return picture + self.delay;
         }
         picture * u64::from(self.picture_units) / u64::from(self.slot_units) + self.delay
     }
 
-    /// Whether [`film_curves`] may be called for pictures of these sizes: each field is in its
-    /// range; they are at most 4,194,304 pictures, and their bytes and those used before slot 0 at
-    /// most 2^42; and the bytes sent before slot 0 are at least those used by then, at most all,
+    /// Returns whether [`film_curves`] may be called for pictures of these sizes: each field is in
+    /// its range; they are at most 4,194,304 pictures, and their bytes and those used before slot 0
+    /// at most 2^42; and the bytes sent before slot 0 are at least those used by then, at most all,
     /// and leave in the buffer no more than it holds.
     ///
     /// It takes no memory, and time linear in the pictures.
@@ -68,6 +71,7 @@ impl Timing {
         let Some(total) = total_bytes(self.played, sizes) else {
             return false;
         };
+        // In this order: `played` is at most `sent` before the difference is taken.
         1 <= self.picture_units
             && self.picture_units <= MAX_UNITS
             && 1 <= self.slot_units
@@ -87,6 +91,7 @@ fn total_bytes(played: u64, sizes: &[u64]) -> Option<u64>
     ensures { MatchOption result (MAX_BYTES < played + sum sizes.now)
         (λ total. (total ≡ played + sum sizes.now) × (total ≤ MAX_BYTES)) }
 {
+    // Counted down from the limit, so that no sum of sizes can overflow.
     let mut left = MAX_BYTES.checked_sub(played)?;
     for size in sizes {
         left = left.checked_sub(*size)?;
@@ -94,7 +99,7 @@ fn total_bytes(played: u64, sizes: &[u64]) -> Option<u64>
     Some(MAX_BYTES - left)
 }
 
-/// Why pictures have no curves, in the order in which the faults are looked for.
+/// The reason why pictures have no curves, in the order in which the faults are looked for.
 #[derive(Clone, Copy, PartialEq, Eq, Debug, Error)]
 pub enum CurveFault {
     /// There is no picture.
@@ -109,7 +114,7 @@ pub enum CurveFault {
     BufferTooSmall { slot: u64, used: u64, least: u64 },
 }
 
-/// Why `film_curves` gives no curves.
+/// The reason why `film_curves` gives no curves.
 #[derive(Clone, Copy, PartialEq, Eq, Debug, Error)]
 pub enum CurveRefused {
     /// The pictures have none.
@@ -130,28 +135,35 @@ impl From<AllocError> for CurveRefused {
     }
 }
 
-/// The curves of pictures of these sizes, which are sound.
+/// Makes the curves of pictures of these sizes, which are sound.
 ///
 /// It reads the sizes once and takes time linear in the pictures and the slots.
 ///
 /// # Errors
 ///
-/// [`CurveRefused::Fault`] exactly where a fault holds, the first in the order of [`CurveFault`];
-/// and [`CurveRefused::NoMemory`].
+/// [`CurveRefused::Fault`] exactly where a fault holds, the first in the order of [`CurveFault`].
+/// [`CurveRefused::NoMemory`] where there is none for the curves.
 pub fn film_curves(alloc: Global, sizes: &[u64], timing: &Timing) -> Result<Curves, CurveRefused>
+    // needs: sizes and times within their limits
     requires { IsWithinLimits sizes.now timing.now }
+    // answers: sound curves, exactly where there is no fault and memory is found
     ensures accepted { OnOk result (IsAccepted sizes.now timing.now) }
     ensures curves { IfOk result (λ curves. AreFilmCurves sizes.now timing.now curves) }
     ensures sound { IfOk result (λ curves. AreSound curves.from curves.low.items curves.up.items) }
+    // refuses: the first fault, or out of memory
     ensures refused { IfErr result (λ refusal. IsRefused sizes.now timing.now refusal) }
 {
     let Some(last) = sizes.len().checked_sub(1) else {
         return Err(CurveRefused::Fault(CurveFault::NoPictures));
     };
+    // Counted before any memory is taken: the times alone can ask for far more slots than a plan
+    // has.
     let slots = timing.due_slot(last as u64) + 1;
     if slots > MAX_SLOTS {
         return Err(CurveRefused::Fault(CurveFault::TooManySlots { slots }));
     }
+    // One pass makes both curves here. Where it finds a picture above the buffer, the way below
+    // finds the fault again, with its slot and the least buffer.
     if timing.picture_units == timing.slot_units {
         if let Some(curves) = picture_curves(alloc, sizes, timing)? {
             return Ok(curves);
@@ -185,6 +197,7 @@ fn picture_curves(
     let total = sum_sizes(timing.played, sizes);
     let mut low = Vec::with_capacity(alloc, slots)?;
     let mut up = Vec::with_capacity(alloc, slots)?;
+    // Before the first picture is used, nothing more must be sent, and the buffer may be filled.
     for _ in 0..timing.delay {
         low.push_reserved(timing.sent);
         up.push_reserved(total.min(timing.played + timing.buffer));
@@ -194,6 +207,9 @@ fn picture_curves(
         if *size > timing.buffer {
             return Ok(None);
         }
+        // The picture of a slot must have come by the slot's end, but it leaves the buffer only
+        // then. So the upper curve counts what was used before the slot, and the lower one the
+        // picture, too.
         up.push_reserved(total.min(used + timing.buffer));
         used += *size;
         low.push_reserved(timing.sent.max(used));
@@ -242,6 +258,7 @@ fn sum_slot_uses(
     let mut in_slot = vec![in alloc; 0u64; slots]?;
     let mut total = timing.played;
     for (picture, size) in sizes.iter().enumerate() {
+        // Several pictures may fall into one slot, and some slots may have none.
         let slot = timing.due_slot(picture as u64) as usize;
         in_slot[slot] += *size;
         total += *size;
@@ -256,6 +273,7 @@ fn buffer_fault(in_slot: &[u64], buffer: u64) -> Option<CurveFault>
 {
     let slot = in_slot.iter().position(|used| *used > buffer)?;
     let used = in_slot[slot];
+    // Some slot uses more than the buffer, so there is a greatest use.
     let least = in_slot.iter().copied().max().unwrap_or(used);
     Some(CurveFault::BufferTooSmall {
         slot: slot as u64,
@@ -271,6 +289,8 @@ fn curves_of_uses(alloc: Global, timing: &Timing, uses: SlotUses) -> Result<Curv
     requires buffer { timing.now.buffer ≤ MAX_BYTES }
     ensures { IfOk result (AreCurvesOfUses timing.now uses.in_slot.items uses.total) }
 {
+    // The upper curve is made first. The list of the uses isn't needed after it, and becomes the
+    // lower.
     let up = upper_curve(alloc, timing, &uses)?;
     let mut low = uses.in_slot;
     lower_curve(timing, low.as_mut_slice());
@@ -291,6 +311,8 @@ fn upper_curve(alloc: Global, timing: &Timing, uses: &SlotUses) -> Result<Vec<u6
     let mut up = Vec::with_capacity(alloc, uses.in_slot.len())?;
     let mut used = timing.played;
     for in_slot in &uses.in_slot {
+        // What a slot uses still fills the buffer up to the slot's end, so it isn't counted as used
+        // yet.
         up.push_reserved(uses.total.min(used + timing.buffer));
         used += *in_slot;
     }
@@ -305,6 +327,7 @@ fn lower_curve(timing: &Timing, uses: &mut [u64])
     let mut used = timing.played;
     for slot in 0..uses.len() {
         used += uses[slot];
+        // What was sent before slot 0 stays sent, so the curve never begins below it.
         uses[slot] = timing.sent.max(used);
     }
 }

@@ -22,15 +22,18 @@ pub fn law_picture_is_used_in_its_slot()
 /// curve is their bytes and a full buffer, or all bytes. From one slot to the next what is used
 /// grows by what the slot uses.
 pub fn law_curves_follow_the_played_pictures()
+    // the lower curve, by the pictures that are used by the end of a slot
     ensures some_by { (sizes : List ℕ) (timing : Timing) (t : ℕ) → 1 ≤ timing.slot_units →
         (n : ℕ) × AreUsedBy sizes timing n t }
     ensures low { (sizes : List ℕ) (timing : Timing) (n t : ℕ) → AreUsedBy sizes timing n t →
         low_at sizes timing t ≡ max timing.sent (played_to sizes timing n) }
+    // the upper curve, by those that are used before it begins
     ensures some_before { (sizes : List ℕ) (timing : Timing) (t : ℕ) → 1 ≤ timing.slot_units →
         (n : ℕ) × AreUsedBefore sizes timing n t }
     ensures up { (sizes : List ℕ) (timing : Timing) (n t : ℕ) → AreUsedBefore sizes timing n t →
         up_at sizes timing t
         ≡ min (total_of sizes timing) (played_to sizes timing n + timing.buffer) }
+    // the growth of what is used, from one slot to the next
     ensures slot { (sizes : List ℕ) (timing : Timing) (t : ℕ) → used_before sizes timing (t + 1)
         ≡ used_before sizes timing t + bytes_used_in sizes timing t }
 {}

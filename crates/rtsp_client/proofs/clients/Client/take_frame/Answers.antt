@@ -15,7 +15,7 @@ use Rattle.rtsp_client.proofs.FrameResults.{TakenFrame, payload-here, source-her
 use Rattle.rtsp_client.proofs.clients.Client.take_frame.Goals as goal
 use Rattle.rtsp_client.proofs.clients.Client.take_frame.Goals.{After-add_frame, After-is_complete}
 
--- the block in front is the film's next frame
+-- the first block is the film's next frame
 found : (g : _) (c : After-add_frame g)
     → source_with c.args.self.now.watching (take c.args.length c.args.self.now.input) ≡ Some c.in-Some.source
 found g c =
