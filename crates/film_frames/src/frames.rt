@@ -22,16 +22,21 @@ use mpeg_scan::Unit;
 use rtp_pack::{FRAME_HEAD_BYTES, Identity, Packet, REPORT_BYTES, packet_head, unit_report};
 use std::marker::Model;
 
-/// The bytes of a frame that its octets don't count: the interleaved head and the RTP header.
+/// The bytes of a frame that its octets don't count: the interleaved head and the RTP header. The
+/// video header is payload, which counts (RFC 3550 section 6.4.1).
 const UNCOUNTED: u64 = 16;
 
 /// A run: units of a film, one after another, that are sent under an identity. Contracts see the
 /// run.
 #[derive(Drop)]
 pub struct Frames<'a> {
+    /// The film, which lends the payloads.
     stored: &'a Stored,
+    /// Its first unit.
     first_unit: usize,
+    /// The unit at which it ends, which isn't in it.
     end_unit: usize,
+    /// Channels, source and counts under which it is sent.
     identity: Identity,
 }
 
@@ -48,7 +53,7 @@ impl<'a> Model for Frames<'a> {
 }
 
 impl<'a> Frames<'a> {
-    /// The run of the units from one on to another, which isn't in it.
+    /// Makes the run of the units from one on to another, which isn't in it.
     pub fn new(
         stored: &'a Stored,
         first_unit: usize,
@@ -67,16 +72,16 @@ impl<'a> Frames<'a> {
         }
     }
 
-    /// The number of the RTP frames of the run that end at or before `at`, any at. Reports don't
-    /// count.
+    /// Counts the RTP frames of the run that end at or before `at`, which may be any place. Reports
+    /// don't count.
     pub fn frames_before(&self, at: u64) -> u64
         ensures { result ≡ frames_before self.now at }
     {
         self.frames_before_piece(self.count_ended(at))
     }
 
-    /// The octets of the RTP frames of the run that end at or before `at`: their video headers and
-    /// payloads.
+    /// Counts the octets of the RTP frames of the run that end at or before `at`: their video
+    /// headers and payloads.
     pub fn octets_before(&self, at: u64) -> u64
         ensures { result ≡ octets_before self.now at }
     {
@@ -106,6 +111,8 @@ impl<'a> Frames<'a> {
         requires { piece ≤ length (pieces_in self.now) }
         ensures { result ≡ frames_in (take piece (pieces_in self.now)) }
     {
+        // Counted in the film's table, less what comes before the run: a run has no list of its
+        // own, so making one takes no memory.
         let first = self.stored.first_piece(self.first_unit);
         self.stored.frames(first + piece) - self.stored.frames(first)
     }
@@ -137,7 +144,8 @@ impl<'a> Frames<'a> {
     {
         let first = self.stored.first_piece(self.first_unit);
         let end = self.stored.first_piece(self.end_unit);
-        // a piece that ends exactly at `at` has ended, and so its end lies below this place
+        // A piece that ends exactly at `at` has ended, so its end lies below this place. `at` may
+        // be any number: bounded by the run it can't overflow the sum.
         let place = self.stored.place(first) + at.min(self.total()) + 1;
         ends_below(self.stored.ends(first, end), place)
     }
@@ -199,22 +207,27 @@ impl Track for Frames<'_> {
     }
 
     fn boundary_after(&self, at: u64) -> u64 {
+        // The run's first byte is a boundary, and no piece ends there.
         if at == 0 {
             return 0;
         }
+        // The piece that has byte `at - 1` ends at or after `at`, and is the first that does.
         self.begin_of(self.count_ended(at - 1) + 1)
     }
 
     /// The bytes from `at` on to the end of its report or frame. The payload is lent from the
     /// film's bytes, and a report has none.
     fn part(&self, at: u64, head: &mut [u8; HEAD_BUFFER_BYTES]) -> Part<'_>
+        // needs: a place before the run's end
         requires { at < length (framed_bytes (run_pieces self.now)) }
+        // answers, as each track: the bytes from `at` on, within one piece
         ensures order { result.head_from ≤ result.head_to }
         ensures within { result.head_to ≤ HEAD_BUFFER_BYTES }
         ensures bytes { IsNext (run_pieces self.now) at
             (slice_range head.new result.head_from result.head_to ++ result.payload.now) }
         ensures heads { IsSplit (run_pieces self.now) at (result.head_to - result.head_from)
             (length result.payload.now) }
+        // answers, as this one: the bytes to the end of the piece, and no payload in a report
         ensures whole { IsBoundary (run_pieces self.now)
             (at + (result.head_to - result.head_from) + length result.payload.now) }
         ensures report { (unit : PictureUnit) →
@@ -222,10 +235,12 @@ impl Track for Frames<'_> {
             Some (Report unit)
             → result.payload.now ≡ [] }
     {
+        // A slot may end inside a piece, so a part may begin anywhere in one.
         let number = self.count_ended(at);
         let inside = at - self.begin_of(number);
         match self.piece(number) {
             Piece::Report(unit) => {
+                // A report is written anew in each call, also for its last bytes: none is kept.
                 *head = self.report(number, &unit);
                 Part {
                     head_from: inside as usize,
@@ -234,6 +249,7 @@ impl Track for Frames<'_> {
                 }
             }
             Piece::Frame(unit, packet) => {
+                // Only the heads are written: the payload is lent, so a slot takes no memory.
                 self.put_heads(number, &unit, &packet, head);
                 Part {
                     head_from: inside.min(FRAME_HEAD_BYTES) as usize,

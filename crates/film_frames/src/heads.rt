@@ -14,6 +14,7 @@ pub(crate) fn report_block(control: u8, report: &Report) -> [u8; HEAD_BUFFER_BYT
     ensures { result ≡ interleaved_block control (report_bytes report.now) }
 {
     let mut block = [0; HEAD_BUFFER_BYTES];
+    // RFC 2326, section 10.12: a block's length leaves out its own head of 4 bytes.
     block[..4].copy_from_slice(&frame_head(control, 48));
     block[4..].copy_from_slice(&write_report(report));
     block
@@ -32,6 +33,7 @@ pub(crate) fn put_frame_heads(
         BLOCK_START ∷ channel ∷ ((16 + length) / 256) ∷ ((16 + length) % 256) ∷
         head_bytes head.now }
 {
+    // 16 bytes of RTP and video header; with at most 1,380 of payload the sum fits in 16 bits.
     block[..4].copy_from_slice(&frame_head(channel, 16 + length as u16));
     block[4..FRAME_HEAD_BYTES as usize].copy_from_slice(&write_head(head));
 }

@@ -29,7 +29,7 @@ impl Stored {
     ghost use Rattle.film_frames.specs.Pieces.{OfPiece, film_pieces, frames_in, from_of};
     ghost use Rattle.film_frames.specs.Pieces.{front_pieces, wire_in, wire_size};
 
-    /// A film under a name, with its table.
+    /// Makes the table of a film, and stores both under a name.
     ///
     /// # Errors
     ///
@@ -42,8 +42,8 @@ impl Stored {
         Ok(Stored { name, film, table })
     }
 
-    /// The bytes of a unit on the wire: its frames, and the report before it if it starts a group.
-    /// A unit of L bytes takes at most 2 * L + 112.
+    /// Returns the bytes of a unit on the wire: its frames, and the report before it if it starts a
+    /// group. A unit of L bytes takes at most 2 * L + 112.
     pub fn wire_size(&self, unit: usize) -> u64
         requires { unit < length self.now.film.units.items }
         ensures size { OfUnit self.now.film.units.items unit
@@ -75,6 +75,7 @@ impl Stored {
         requires { piece ≤ length (film_pieces self.now.film) }
         ensures { result ≡ frames_in (take piece (film_pieces self.now.film)) }
     {
+        // A group has one report and many frames, so the search goes through the shorter list.
         let reports = ends_below(self.table.reports(), piece as u64);
         (piece - reports) as u64
     }
@@ -84,7 +85,8 @@ impl Stored {
         requires { number < length (film_pieces self.now.film) }
         ensures { OfPiece (film_pieces self.now.film) number (λ piece. result ≡ from_of piece) }
     {
-        // on the wire, heads and reports stand between the film's bytes
+        // Units lie in the film without gaps. So the place of a payload is its place on the wire
+        // less the heads and reports before it, and the table needn't keep it.
         let frames = self.frames(number);
         let reports = number as u64 - frames;
         self.film.units[0].from

@@ -64,6 +64,7 @@ impl Row {
         match self.kept {
             PieceKind::Report => Piece::Report(*unit),
             PieceKind::Frame { begin, end } => {
+                // A row doesn't keep these: they follow from where this piece and the next begin.
                 let to = from + (size - FRAME_HEAD_BYTES);
                 Piece::Frame(*unit, packet(unit, from, to, begin, end))
             }

@@ -20,7 +20,8 @@ use rtp_pack::{Packet, refill_packets};
 use std::alloc::Global;
 use vod_base::NoMemory;
 
-/// For each report and each frame of a film its place among all framed bytes, and what it carries.
+/// A table of a film: for each report and each frame its place among all framed bytes, and what it
+/// carries.
 ///
 /// It takes 16 bytes for each of them, 8 for each unit, and 8 for each group, which has one report.
 #[derive(Drop)]
@@ -36,15 +37,18 @@ pub struct FrameTable {
 }
 
 impl FrameTable {
-    /// The table of a film.
+    /// Makes the table of a film.
     ///
     /// # Errors
     ///
-    /// [`NoMemory`] alone.
+    /// [`NoMemory`] where there is none for the table.
     pub fn make(alloc: Global, film: &Film) -> Result<FrameTable, NoMemory>
         ensures { IfOk result (λ table. IsTableOf film.now table) }
     {
+        // One list serves all units: after the unit with the most packets it takes no memory.
         let mut packets = Vec::new(alloc);
+        // Packets are cut twice, first to count them. The table then takes its exact room at once,
+        // where a list that grows may take more than it needs.
         let pieces = count_pieces(&mut packets, film)?;
         let mut table = FrameTable::new(alloc, pieces, film.units.len())?;
         for number in 0..film.units.len() {
@@ -53,8 +57,8 @@ impl FrameTable {
         Ok(table)
     }
 
-    /// The bytes of a unit of the film on the wire: its frames, and the report before it if it
-    /// starts a group.
+    /// Returns the bytes of a unit of the film on the wire: its frames, and the report before it if
+    /// it starts a group.
     ///
     /// A unit of L bytes takes at most 2 * L + 112.
     pub fn wire_size(&self, unit: usize) -> u64
@@ -80,6 +84,7 @@ impl FrameTable {
         let mut places = Vec::with_capacity(alloc, pieces + 1)?;
         let rows = Vec::with_capacity(alloc, pieces)?;
         let mut firsts = Vec::with_capacity(alloc, units + 1)?;
+        // With a 0 first, piece k lies between places k and k + 1; so do the pieces of unit k.
         put_number(&mut places, 0)?;
         put_number(&mut firsts, 0)?;
         Ok(FrameTable {
@@ -102,6 +107,7 @@ impl FrameTable {
     {
         let last = self.rows.len();
         let end = self.places[last] + wire_of(&piece);
+        // Where memory runs out between these, `make` drops the table: half a piece isn't seen.
         put_number(&mut self.places, end)?;
         put_report_number(&mut self.reports, last as u64, &piece)?;
         self.rows.push(Row::new(number, &piece))?;

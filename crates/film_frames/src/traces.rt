@@ -13,12 +13,13 @@ use vod_base::NoMemory;
 /// The most bytes of a part.
 const PART: u64 = 1024;
 
-/// What the parts show.
+/// Zero bytes, which all parts lend: a trace has sizes and no content.
 static ZEROS: [u8; 1024] = [0; 1024];
 
 /// A track of frames of zero bytes, by their sizes. Contracts see the sizes.
 #[derive(Drop)]
 pub struct TraceTrack {
+    /// Where each frame ends: so a search finds a place, and nothing is added up.
     ends: Vec<u64>,
 }
 
@@ -35,7 +36,7 @@ impl Model for TraceTrack {
 }
 
 impl TraceTrack {
-    /// A track of a frame for each size. The sizes add up to at most 2^42.
+    /// Makes a track of a frame for each size. The sizes add up to at most 2^42.
     ///
     /// It takes no memory, and so the answer is always Ok.
     ///
@@ -47,6 +48,7 @@ impl TraceTrack {
         ensures { result ≡ Ok sizes.items }
     {
         let mut end = 0;
+        // The sums are written over the sizes, so no memory is taken.
         for number in 0..sizes.len() {
             end += sizes[number];
             sizes[number] = end;
@@ -66,6 +68,7 @@ impl Track for TraceTrack {
     }
 
     fn boundary_after(&self, at: u64) -> u64 {
+        // The track's first byte is a boundary, also where no frame ends there.
         if at == 0 {
             return 0;
         }
@@ -75,19 +78,23 @@ impl Track for TraceTrack {
 
     /// The bytes from `at` on, none of them in the head: what is left of the frame, or 1,024 of it.
     fn part(&self, at: u64, head: &mut [u8; HEAD_BUFFER_BYTES]) -> Part<'_>
+        // needs: a place before the track's end
         requires { at < length (framed_bytes (zero_frames self.now)) }
+        // answers, as each track: the bytes from `at` on, within one frame
         ensures order { result.head_from ≤ result.head_to }
         ensures within { result.head_to ≤ HEAD_BUFFER_BYTES }
         ensures bytes { IsNext (zero_frames self.now) at
             (slice_range head.new result.head_from result.head_to ++ result.payload.now) }
         ensures heads { IsSplit (zero_frames self.now) at (result.head_to - result.head_from)
             (length result.payload.now) }
+        // answers, as this one: no head, and as much payload as a part may have
         ensures no_head { result.head_from ≡ result.head_to }
         ensures most { length result.payload.now ≤ 1024 }
         ensures full { (end : ℕ) → IsBoundaryAfter (zero_frames self.now) (at + 1) end
             → length result.payload.now ≡ min (end - at) 1024 }
     {
         let ends: &[u64] = &self.ends;
+        // The first end above `at`: frames of no bytes that end at `at` have nothing to send.
         let end = ends[ends_below(ends, at + 1)];
         Part {
             head_from: 0,

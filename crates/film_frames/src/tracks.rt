@@ -25,21 +25,23 @@ pub struct Part<'a> {
 pub trait Track {
     ghost pieces: { Self → List (List ℕ) };
 
-    /// The length of all pieces, in bytes.
+    /// Returns the length of all pieces, in bytes.
     fn total(&self) -> u64
         ensures { result ≡ length (framed_bytes (pieces self.now)) };
 
-    /// The least boundary that is at least `at`. A boundary is 0 or the end of a piece.
+    /// Returns the least boundary that is at least `at`. A boundary is 0 or the end of a piece.
     fn boundary_after(&self, at: u64) -> u64
         requires { at ≤ length (framed_bytes (pieces self.now)) }
         ensures { IsBoundaryAfter (pieces self.now) at result };
 
-    /// The bytes from `at` on: at least one, and none after the end of the piece.
+    /// Returns the bytes from `at` on: at least one, and none after the end of the piece.
     ///
     /// They are `head[head_from..head_to]` and then the payload. Between the two a frame's heads
     /// end, and heads end nowhere else among these bytes.
     fn part(&self, at: u64, head: &mut [u8; HEAD_BUFFER_BYTES]) -> Part<'_>
+        // needs: a place before the track's end
         requires { at < length (framed_bytes (pieces self.now)) }
+        // answers: a range of the head, the bytes from `at` on, and where heads end among them
         ensures order { result.head_from ≤ result.head_to }
         ensures within { result.head_to ≤ HEAD_BUFFER_BYTES }
         ensures bytes { IsNext (pieces self.now) at

@@ -27,7 +27,7 @@ impl Model for Draws {
 }
 
 impl Draws {
-    /// The draws of a number, from the first on.
+    /// Returns the draws of a number, from the first on.
     pub fn new(number: u64) -> Draws
         ensures { words_left result ≡ words_of number }
     {
@@ -38,12 +38,13 @@ impl Draws {
         }
     }
 
-    /// The next word modulo `n`, which is at least 1.
+    /// Draws the next word modulo `n`, which is at least 1.
     pub fn draw(&mut self, n: u32) -> u32
         requires { 1 ≤ n }
         ensures value { result ≡ words_left self.old 0 % n }
         ensures left { words_left self.new ≡ words_after 1 (words_left self.old) }
     {
+        // The bias of a remainder, at most n in 2^32, does no harm in generated inputs.
         self.rng.next_word() % n
     }
 }

@@ -12,8 +12,8 @@ use vod_base::NoMemory;
 /// A sequence end code.
 const SEQUENCE_END: [u8; 4] = [0, 0, 1, 0xb7];
 
-/// The film of a number: MPEG-1 video (ISO/IEC 11172-2) of 25 pictures a second, twelve pictures to
-/// a group, four slices to a picture.
+/// Makes the film of a number: MPEG-1 video (ISO/IEC 11172-2) of 25 pictures a second, twelve
+/// pictures to a group, four slices to a picture.
 ///
 /// `pictures` is at most 100,000 on the command line, and any number here.
 ///

@@ -18,13 +18,16 @@ ghost use Rattle.film_make.specs.Trace.{sizes_of, trace_of, trace_size};
 /// 7,996 bytes, every other from 200 to 1,999, where each size comes of some word; fewer pictures
 /// have the first of them. Its text has them line by line.
 pub fn law_trace_sizes_are_in_range()
+    // how many sizes, and their ranges
     ensures count { (words : ℕ → ℕ) (n : ℕ) → length (sizes_of words n) ≡ n }
     ensures first { (words : ℕ → ℕ) (k : ℕ) → k % 12 ≡ 0 → IsInRange 800 7996 (trace_size words k) }
     ensures other { (words : ℕ → ℕ) (k : ℕ) → k % 12 ≢ 0 → IsInRange 200 1999 (trace_size words k) }
+    // each size of the range comes, and a longer trace begins with a shorter one
     ensures each { (k size : ℕ) → k % 12 ≢ 0 → IsInRange 200 1999 size →
         (words : ℕ → ℕ) × (trace_size words k ≡ size) }
     ensures front { (words : ℕ → ℕ) (m n : ℕ) → m ≤ n →
         take m (sizes_of words n) ≡ sizes_of words m }
+    // the text
     ensures lines { (words : ℕ → ℕ) (n : ℕ) →
         trace_of words n ≡ flat_map (λ size. decimal size ++ 10 ∷ []) (sizes_of words n) }
 {}
@@ -34,10 +37,12 @@ pub fn law_trace_sizes_are_in_range()
 /// twelve pictures of a group, in the order of the stream, the types (1 is I, 2 P, 3 B), the places
 /// in the order of showing, and the vectors' fields (0 full-pel, f-code 1).
 pub fn law_film_headers_are_standard()
+    // the headers before a group
     ensures begins { (words : ℕ → ℕ) (n : ℕ) → 1 ≤ n →
         take 20 (film_of words n) ≡ sequence_and_group }
     ensures sequence { IsSequenceHeader (take 12 sequence_and_group) }
     ensures group { IsGroupHeader (drop 12 sequence_and_group) }
+    // the fields of the twelve picture headers
     ensures types { field_of picture_coding_type ≡
         1 ∷ 2 ∷ 3 ∷ 2 ∷ 3 ∷ 2 ∷ 3 ∷ 2 ∷ 3 ∷ 2 ∷ 3 ∷ 2 ∷ [] }
     ensures shown { field_of temporal_reference ≡

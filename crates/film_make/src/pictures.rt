@@ -102,6 +102,8 @@ fn temporal_reference_at(place: u32) -> u32
     ensures value { result ≡ temporal_reference place }
     ensures bound { result < 12 }
 {
+    // A B picture is sent after the P picture that it refers to, and shown before it. The last P
+    // picture of a group has no B picture after it.
     match place {
         0 => 0,
         11 => 11,
@@ -115,6 +117,9 @@ fn write_fields(kind: CodingType, shown: u32, out: &mut Vec<u8>) -> Result<(), N
     requires { shown < 1024 }
     ensures { OnOk result (out.new.items ≡ out.old.items ++ in_bytes (picture_fields kind shown)) }
 {
+    // From the highest bit: temporal_reference, type, vbv_delay (FFFF, as the bit rate is
+    // variable), then for P and B the vectors' bits with f-codes of 1, and zero bits to the end of
+    // the byte.
     let shown = u64::from(shown);
     match kind {
         CodingType::Intra => {
@@ -150,6 +155,7 @@ fn write_body(draws: &mut Draws, length: u32, out: &mut Vec<u8>) -> Result<(), N
     ensures left { OnOk result (words_left draws.new ≡ words_after length (words_left draws.old)) }
 {
     for i in 0..length {
+        // No byte is 00 or 01, so no start code comes up inside a slice.
         out.push(128 + draws.draw(128) as u8)?;
     }
     Ok(())
@@ -189,6 +195,7 @@ fn begin_group(place: u32, out: &mut Vec<u8>) -> Result<(), NoMemory>
         out.old.items ++ (if place == 0 then sequence_and_group else [])) }
 {
     if place == 0 {
+        // With a sequence header before it, a decoder can begin at each group.
         out.extend_from_slice(&SEQUENCE_AND_GROUP)?;
     }
     Ok(())

@@ -20,8 +20,8 @@ const PACK: [u8; 16] = [
 /// The end code of a system stream.
 const END: [u8; 4] = [0, 0, 1, 0xb9];
 
-/// The film of a number as an MPEG-1 system stream (ISO/IEC 11172-1): packets of 2,000 video bytes,
-/// or of what is left, each in a pack of its own.
+/// Makes the film of a number as an MPEG-1 system stream (ISO/IEC 11172-1): packets of 2,000 video
+/// bytes, or of what is left, each in a pack of its own.
 ///
 /// `pictures` is at most 100,000 on the command line, and any number here.
 ///
@@ -42,6 +42,8 @@ fn write_pack(video: &[u8], out: &mut Vec<u8>) -> Result<(), NoMemory>
     requires { length video.now ≤ 2000 }
     ensures { OnOk result (out.new.items ≡ out.old.items ++ pack_of video.now) }
 {
+    // The content is the byte 0F, which says that there is no time stamp, and the video. Both are
+    // at most 2,001 bytes, so they fit in 16 bits.
     let length = (video.len() + 1) as u16;
     out.extend_from_slice(&PACK)?;
     out.extend_from_slice(&length.to_be_bytes())?;

@@ -10,7 +10,7 @@ use crate::pictures::GROUP_PICTURES;
 use std::alloc::Global;
 use vod_base::{NoMemory, push_number};
 
-/// The sizes of a trace by the next draws: one for each picture, in bytes, from 200 to 7,996.
+/// Makes the sizes of a trace by the next draws: one for each picture, in bytes, from 200 to 7,996.
 ///
 /// # Errors
 ///
@@ -27,7 +27,8 @@ pub fn draw_sizes(alloc: Global, draws: &mut Draws, pictures: u32) -> Result<Vec
     Ok(sizes)
 }
 
-/// The trace by the next draws: for each picture its size in bytes, from 200 to 7,996, one a line.
+/// Makes the trace by the next draws: for each picture its size in bytes, from 200 to 7,996, one a
+/// line.
 ///
 /// # Errors
 ///
@@ -44,7 +45,7 @@ pub fn draw_trace(alloc: Global, draws: &mut Draws, pictures: u32) -> Result<Vec
     Ok(trace)
 }
 
-/// The trace of a number: for each picture its size in bytes, from 200 to 7,996, one a line.
+/// Makes the trace of a number: for each picture its size in bytes, from 200 to 7,996, one a line.
 ///
 /// `pictures` is at most 100,000 on the command line, and any number here.
 ///
@@ -64,6 +65,7 @@ fn next_size(draws: &mut Draws, index: u32) -> u32
         (if index % 12 == 0 then 4 else 1) * (200 + words_left draws.old 0 % 1800) }
     ensures left { words_left draws.new ≡ words_after 1 (words_left draws.old) }
 {
+    // As in coded films, the I picture that begins a group is usually the largest.
     let size = 200 + draws.draw(1800);
     if index % GROUP_PICTURES == 0 {
         4 * size

@@ -18,9 +18,11 @@ use mpeg_scan::Film;
 /// overflows. No plan that stays between the curves sends less above any rate. There is one such
 /// plan.
 pub fn law_plan_is_on_time_and_optimal()
+    // the client neither runs dry nor overflows
     ensures on_time { OfSendings AreUsedOnTime }
     ensures in_time { OfSendings AreInTime }
     ensures fits { OfSendings DoesFit }
+    // the plan is the best, and the only one
     ensures best { OfSendings IsBestPlanOf }
     ensures one { OfSendings IsOnlyPlan }
 {}

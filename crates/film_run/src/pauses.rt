@@ -13,8 +13,8 @@ use crate::runs::Run;
 use crate::units::Units;
 use plan_cert::Plan;
 
-/// What a halt leaves of a run: its play by `plan` stepped the plan's slot `last` last, or none,
-/// isn't done, and keeps `keep` bytes of its plan, at least those that were due.
+/// Returns what a halt leaves of a run: its play by `plan` stepped the plan's slot `last` last, or
+/// none, isn't done, and keeps `keep` bytes of its plan, at least those that were due.
 ///
 /// The run was sent up to what is kept. It is unplayed from the first picture on that is used in
 /// the slot in which the play stops or after it: the later of the slot last stepped and the first
@@ -31,11 +31,13 @@ pub fn run_after<U: Units>(
     last: Option<u64>,
     keep: u64,
 ) -> Run
+    // needs: the plan of this run, and a halt that keeps at least what was due
     requires playback { IsPlayback playback.now }
     requires run { IsRun (U.sizes units.now) run.now }
     requires fits { Fits playback.now.buffer run.now }
     requires plan { IsPlanOf (U.sizes units.now) playback.now run.now plan.now }
     requires halt { IsHalt plan.now last keep }
+    // answers: a run that can be played, and fits in the buffer
     ensures left { IsRemainingRun (U.sizes units.now) playback.now run.now plan.now last keep result }
     ensures run { IsRun (U.sizes units.now) result }
     ensures fits { Fits playback.now.buffer result }
@@ -45,10 +47,12 @@ pub fn run_after<U: Units>(
     let stop = stop_slot(plan, last, keep);
     let first = run.from_unit;
     let mut left = *run;
+    // The last picture is used in the last slot of the plan, so the loop ends within the run.
     while due_slot(playback, run, (left.from_unit - first) as u64) < stop {
         left.played += units.wire_size(left.from_unit);
         left.from_unit += 1;
     }
+    // Bytes up to `keep` still go out in their slots, so the next play begins after them.
     left.sent += keep;
     left
 }
@@ -84,7 +88,9 @@ fn stop_slot(plan: &Plan, last: Option<u64>, keep: u64) -> u64
     ensures inside { result < total_slots plan.now }
 {
     match last {
+        // Bytes up to `keep` go out in their planned slots, which may come after `last`.
         Some(last) => slot_with(plan, keep).max(last),
+        // Before its first slot nothing of a play was used.
         None => 0,
     }
 }

@@ -33,9 +33,9 @@ pub struct Playback {
     pub delay: u64,
 }
 
-/// The plan by which a run is sent on: the taut one between the curves of the units that weren't
-/// played. It sends all bytes of the run that weren't sent, and no plan that stays between the
-/// curves sends less above any rate.
+/// Computes the plan by which a run is sent on: the taut one between the curves of the units that
+/// weren't played. It sends all bytes of the run that weren't sent, and no plan that stays between
+/// the curves sends less above any rate.
 ///
 /// It takes time and memory in the units and slots that are still to be played, whatever stands
 /// before them.
@@ -50,22 +50,27 @@ pub fn plan_of<U: Units>(
     playback: &Playback,
     run: &Run,
 ) -> Result<Plan, CurveRefused>
+    // needs: a client within its limits, whose buffer holds what it was sent and hasn't played
     requires playback { IsPlayback playback.now }
     requires run { IsRun (U.sizes units.now) run.now }
     requires fits { Fits playback.now.buffer run.now }
+    // answers: the plan of all bytes that weren't sent, and that it is the best one
     ensures plan { IfOk result (IsPlanOf (U.sizes units.now) playback.now run.now) }
     ensures bytes { IfOk result (λ plan. run.now.sent + total_bytes plan
         ≡ bytes_between (U.sizes units.now) run.now.first_unit run.now.end_unit) }
     ensures best { IfOk result (IsBestPlanOf (U.sizes units.now) playback.now run.now) }
+    // answers: the fault of the curves, if they have one
     ensures refused { IfErr result
         (IsRefused (rest_sizes (U.sizes units.now) run.now) (timing_of playback.now run.now)) }
 {
     // The proof takes from `count` how many the units and their bytes are at most.
     let _count = units.count();
     let sizes = rest_sizes(alloc, units, run)?;
+    // The curves begin at the first unplayed unit: the time is that of what is still to be played.
     let curves = film_curves(alloc, &sizes, &timing_of(playback, run))?;
     match plan(alloc, &curves) {
         Ok(plan) => Ok(plan),
+        // Curves that were made are sound, so the planner can only run out of memory.
         Err(NoMemory) => Err(CurveRefused::NoMemory),
     }
 }

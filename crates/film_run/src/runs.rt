@@ -20,7 +20,7 @@ pub struct Run {
     pub played: u64,
 }
 
-/// The run of all units, from the first one on. None exactly where there is no unit.
+/// Returns the run of all units, from the first one on. None exactly where there is no unit.
 pub fn full_run<U: Units>(units: &U) -> Option<Run>
     ensures { MatchOption result
         (length (U.sizes units.now) ≡ 0)

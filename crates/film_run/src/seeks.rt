@@ -22,15 +22,16 @@ const UNITS: u128 = 9;
 /// Longer than any film, in nanoseconds.
 const LONGEST: u128 = 1 << 64;
 
-/// The new run from a time on, up to another or the film's end, in nanoseconds: from the last group
-/// that begins at or before the first time, up to the first later group that begins at or after the
-/// second. None exactly where the film has ended at the first time, or the second isn't after it
-/// (RFC 2326 sections 3.6 and 10.5).
+/// Finds the new run from a time on, up to another or the film's end, in nanoseconds: from the last
+/// group that begins at or before the first time, up to the first later group that begins at or
+/// after the second. None exactly where the film has ended at the first time, or the second isn't
+/// after it (RFC 2326 sections 3.6 and 10.5).
 pub fn run_between(film: &Film, from: u128, to: Option<u128>) -> Option<Run>
     ensures asked { MatchOption result (HasNothing film.now from to) (IsRequestedRange film.now from
         to) }
     ensures run { IfSome result (IsFilmRun film.now) }
 {
+    // Both laws tell the proof what is true of the units. They do nothing when they run.
     law_film_is_well_formed(film);
     law_units_tile_the_film(film);
     if is_reversed(from, to) {
@@ -48,6 +49,7 @@ fn units_before(nanoseconds: u128) -> u64
     ensures most { result ≤ 2 ^ 63 }
     ensures whole { IsBefore nanoseconds result }
 {
+    // A longer time lies after each film, too, and its product could overflow.
     (nanoseconds.min(LONGEST) * UNITS / NANOSECONDS) as u64
 }
 
@@ -75,6 +77,7 @@ fn group_before(units: &[Unit], place: usize) -> usize
     ensures before { result ≤ place }
     ensures last { (other : ℕ) → StartsGroup units.now other → other ≤ place → other ≤ result }
 {
+    // Unit 0 starts a group, so the search finds one.
     let mut unit = place;
     while unit > 0 && !is_start(units, unit) {
         unit -= 1;
@@ -104,6 +107,7 @@ fn end_place(units: usize, first: usize, time: u64, picture_units: u64) -> usize
     ensures { IsPlaceAfter units first time picture_units result }
 {
     let place = time.div_ceil(picture_units);
+    // A run has a unit at least, also where the time lies in its first group.
     (place.min(units as u64) as usize).max(first + 1)
 }
 
@@ -119,10 +123,12 @@ fn last_group_by(units: &[Unit], picture_units: u64, time: u128) -> Option<usize
         (IsGroupBy units.now picture_units time) }
     ensures rest { IfSome result (λ _. ¬ BeginsBy picture_units time (length units.now)) }
 {
+    // Pictures begin at whole units: rounding down changes none of those that begin by the time.
     let begin = units_before(time);
     if units.len() as u64 * picture_units <= begin {
         return None;
     }
+    // Pictures of a group may refer to earlier ones of it, so a play begins with a group.
     Some(group_before(units, (begin / picture_units) as usize))
 }
 
@@ -134,6 +140,7 @@ fn group_from(units: &[Unit], picture_units: u64, time: u128, after: usize) -> u
     requires after { after < length units.now }
     ensures { IsGroupFrom units.now picture_units time after result }
 {
+    // Rounding up changes none of those that begin at or after the time.
     let place = end_place(units.len(), after, units_after(time), picture_units);
     group_after(units, place)
 }

@@ -11,14 +11,14 @@ use std::marker::Model;
 pub trait Units {
     ghost sizes: { Self → List ℕ };
 
-    /// The number of the units, at most 4,194,304. All together they have at most 2^42 bytes on the
-    /// wire.
+    /// Returns the number of the units, at most 4,194,304. All together they have at most 2^42
+    /// bytes on the wire.
     fn count(&self) -> usize
         ensures count { result ≡ length (sizes self.now) }
         ensures few { length (sizes self.now) ≤ 4194304 }
         ensures small { sum (sizes self.now) ≤ 2 ^ 42 };
 
-    /// The bytes of a unit on the wire.
+    /// Returns the bytes of a unit on the wire.
     fn wire_size(&self, unit: usize) -> u64
         requires { unit < length (sizes self.now) }
         ensures { result ≡ slice_index (sizes self.now) unit };
@@ -31,6 +31,7 @@ impl Units for Stored {
     ghost sizes = { stored_sizes };
 
     fn count(&self) -> usize {
+        // Both laws show the bounds of a film. They do nothing when they run.
         law_film_is_well_formed(&self.film);
         law_wire_size_of_film_is_bounded();
         self.film.units.len()
@@ -61,7 +62,7 @@ impl<'a> Model for Trace<'a> {
 impl<'a> Trace<'a> {
     ghost use Rattle.film_run.specs.Units.{AreUnitSizes};
 
-    /// The trace of these sizes: at most 4,194,304, which add up to at most 2^42.
+    /// Makes the trace of these sizes: at most 4,194,304, which add up to at most 2^42.
     pub fn new(sizes: &'a [u64]) -> Trace<'a>
         requires { AreUnitSizes sizes.now }
         ensures { result ≡ sizes.now }

@@ -83,6 +83,7 @@ pub fn size_film<'a, L: Library>(
         (L.faults library.old) (L.faults library.new)) }
 {
     let mut found = SizeList {
+        // Any size will do here and below: the head of the next unit begins a new one.
         unit: UnitSize::begin(1),
         sizes: Vec::new(alloc),
     };
@@ -103,6 +104,7 @@ impl Found for UnitList {
     ghost heard = { λ list calls. list.units.items ≡ units_in calls };
 
     fn head(&mut self, _from: u64, _to: u64) -> Result<(), NoMemory> {
+        // A unit comes with its places and the number of its slices, so nothing else is kept.
         Ok(())
     }
 
@@ -139,7 +141,9 @@ impl Found for SizeList {
     }
 
     fn unit(&mut self, unit: Unit) -> Result<(), NoMemory> {
+        // `end` consumes the size, so another takes its place until the next head.
         let ended = mem::replace(&mut self.unit, UnitSize::begin(1));
+        // The report before a group is sent by the same plan as its frames.
         let report = if unit.starts_group { REPORT_BYTES } else { 0 };
         self.sizes.push(report + ended.end())?;
         Ok(())

@@ -39,6 +39,7 @@ pub fn read_input<'a, L: Library>(
 pub(crate) fn zeros(alloc: Global, count: usize) -> Result<Vec<u8>, AllocError>
     ensures { IfOk result (λ zeros. vec_len zeros ≡ count) }
 {
+    // A read fills bytes that are there, so room for one begins as zeros.
     vec![in alloc; 0u8; count]
 }
 
@@ -86,11 +87,14 @@ impl<'a> SizedFile<'a> {
         ensures error { IfErr result (IsReadError (IsThatName self.entry.name.now) IsNever
             (L.files library.old) (L.faults library.old) (L.faults library.new)) }
     {
+        // The file is read up to the size found first: a plan must match the film that is sent.
         if at == self.size {
             return Ok(None);
         }
         match library.read(self.name, at, into) {
+            // The file became shorter meanwhile: it ends here.
             Ok(0) => Ok(None),
+            // Bytes that were appended meanwhile aren't read.
             Ok(count) => Ok(Some(count.min((self.size - at) as usize))),
             Err(_) => Err(CliError::StoreFault(self.name)),
         }
@@ -110,6 +114,7 @@ impl<'a> SizedFile<'a> {
         ensures error { IfErr result (IsReadError (IsThatName self.entry.name.now) IsNever
             (L.files library.old) (L.faults library.old) (L.faults library.new)) }
     {
+        // Room for all of it at once: no chunk that is added takes memory.
         let mut bytes = Vec::with_capacity(alloc, self.size as usize)?;
         let mut chunk = zeros(alloc, CHUNK)?;
         while let Some(count) = self.read_at(library, bytes.len() as u64, &mut chunk)? {

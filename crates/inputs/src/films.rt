@@ -41,10 +41,13 @@ pub fn load_film<'a, L: Library>(
     library: &mut L,
     name: &'a str,
 ) -> Result<Stored, CliError<'a>>
+    // leaves: the library as it was, except its count of faults
     ensures library { IsReadOnly L.files L.faults library.old library.new }
+    // answers: the film under its name, with the bytes of the video in the file
     ensures name { IfOk result (λ stored. string_bytes stored.name ≡ name.entry.now) }
     ensures film { (held : List File) → L.files library.old ≡ Some held
         → IfOk result (λ stored. HoldsVideo held name.entry.now stored.film.bytes.items) }
+    // answers: Ok only where nothing refuses the file, and an error only for its cause
     ensures small { (held : List File) → L.files library.old ≡ Some held
         → IfOk result (λ stored. IsNotRefused IsServedFilmRefused held name.entry.now) }
     ensures error { IfErr result (IsReadError (IsThatName name.entry.now) IsServedFilmRefused
@@ -69,10 +72,13 @@ pub fn load_script_film<'a, L: Library>(
     library: &mut L,
     name: &'a str,
 ) -> Result<Stored, CliError<'a>>
+    // leaves: the library as it was, except its count of faults
     ensures library { IsReadOnly L.files L.faults library.old library.new }
+    // answers: the film under its name, with the bytes of the video in the file
     ensures name { IfOk result (λ stored. string_bytes stored.name ≡ name.entry.now) }
     ensures film { (held : List File) → L.files library.old ≡ Some held
         → IfOk result (λ stored. HoldsVideo held name.entry.now stored.film.bytes.items) }
+    // answers: Ok only where nothing refuses the file, and an error only for its cause
     ensures small { (held : List File) → L.files library.old ≡ Some held
         → IfOk result (λ stored. IsNotRefused IsFilmRefused held name.entry.now) }
     ensures error { IfErr result (IsReadError (IsThatName name.entry.now) IsFilmRefused
@@ -110,6 +116,7 @@ fn unwrap_stream(alloc: Global, stream: &[u8]) -> Result<Vec<u8>, StreamError>
         video.extend_from_slice(fed.video)?;
         at += fed.taken;
     }
+    // Faults of the stream come before those of its video, so it is read to its end first.
     unwrapper.finish()?;
     Ok(video)
 }
@@ -120,6 +127,7 @@ fn video_of<'a>(alloc: Global, name: &'a str, file: Vec<u8>) -> Result<Vec<u8>, 
     ensures video { IfOk result (λ video. IsVideo file.items video.items) }
     ensures error { IfErr result (IsFileBytesError name.entry.now file.items) }
 {
+    // Without a pack first the file is the video itself, and isn't copied.
     let Some(from) = pack_in(&file) else {
         return Ok(file);
     };
@@ -172,6 +180,7 @@ fn load_within<'a, L: Library>(
         (L.files library.old) (L.faults library.old) (L.faults library.new)) }
 {
     let size = find_file(library, name)?;
+    // Refused before any read: a file that is too large takes no memory.
     if most < size {
         return Err(CliError::Refused(name, over));
     }

@@ -23,9 +23,11 @@ pub(crate) fn pack_in(file: &[u8]) -> Option<u64>
     ensures place { result ≡ pack_in file.now }
     ensures within { IfSome result (λ place. place ≤ length file.now) }
 {
+    // The first start code decides, wherever it stands: names and suffixes prove nothing.
     match open_chunk(Prefix::Nothing, 0, file) {
         FirstCode::Pack(place) => Some(place),
         FirstCode::Other => None,
+        // A file without a start code is no system stream. Its scan says what it lacks.
         FirstCode::NotYet(_) => None,
     }
 }
@@ -47,6 +49,7 @@ pub(crate) fn find_pack<'a, L: Library>(
     ensures error { IfErr result (IsReadError (IsThatName file.entry.name.now) IsNever
         (L.files library.old) (L.faults library.old) (L.faults library.new)) }
 {
+    // The prefix may lie in two chunks, so what was matched of it is handed on.
     let mut prefix = Prefix::Nothing;
     let mut at = 0;
     while let Some(count) = file.read_at(library, at, chunk)? {
@@ -82,6 +85,7 @@ fn open_chunk(before: Prefix, at: u64, chunk: &[u8]) -> FirstCode
     for (index, byte) in chunk.iter().enumerate() {
         match prefix {
             Prefix::Whole if *byte == PACK => {
+                // Never stops at 0: the three bytes of the prefix came before this one.
                 return FirstCode::Pack((at + index as u64).saturating_sub(3));
             }
             Prefix::Whole => return FirstCode::Other,

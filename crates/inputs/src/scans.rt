@@ -64,11 +64,13 @@ pub(crate) fn scan_film_into<'a, L: Library, F: Found>(
         (L.faults library.old) (L.faults library.new)) }
 {
     let size = find_file(library, name)?;
+    // Refused before any byte is read.
     if MAX_FILM_BYTES < size {
         return Err(CliError::Refused(name, InputError::Film(FilmFault::TooLong)));
     }
     let file = SizedFile { name, size };
     let mut chunk = zeros(alloc, CHUNK)?;
+    // The search may have read past the code, so both scans read again from their first byte.
     let stream = find_pack(library, file, &mut chunk)?;
     match stream {
         None => scan_plain(library, file, &mut chunk, found),

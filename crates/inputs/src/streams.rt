@@ -111,6 +111,7 @@ pub(crate) fn scan_stream<'a, L: Library, F: Found>(
         &mut scanner,
         found,
     )?;
+    // The stream's own fault goes before its video's.
     match unwrapper.finish() {
         Ok(()) => finish_scan(file.name, scanner, found),
         Err(fault) => Err(stream_error(file.name, from, StreamError::Fault(fault))),
@@ -129,6 +130,7 @@ fn take_video<F: Found>(scanner: &mut Scanner, video: &[u8], found: &mut F) -> R
 {
     match scanner.feed(video, found) {
         Ok(()) => Ok(()),
+        // The scanner keeps it, and answers it again at the end.
         Err(ScanRefused::Fault(_)) => Ok(()),
         Err(ScanRefused::NoMemory) => Err(NoMemory),
     }

@@ -67,6 +67,7 @@ pub fn read_trace(alloc: Global, text: &[u8]) -> Result<Vec<u64>, TraceError>
     ensures trace { IfOk result (λ sizes. IsTraceText text.now sizes.items) }
     ensures refused { IfErr result (IsTraceError text.now) }
 {
+    // Each size but the last takes a digit and white space at least: a push never takes memory.
     let most = (text.len() / 2 + 1).min(MAX_PICTURES);
     let mut sizes = Vec::with_capacity(alloc, most)?;
     let mut total = 0u64;
@@ -147,6 +148,7 @@ fn digits_in_front(rest: &[u8]) -> Number
     if few == rest.len() {
         return Number { value, len: few };
     }
+    // Eleven digits begin with a zero or write too large a number, so this way is seldom taken.
     long_number(rest)
 }
 
@@ -161,6 +163,7 @@ fn long_number(rest: &[u8]) -> Number
 {
     let mut value = 0u64;
     for (place, byte) in rest.iter().enumerate() {
+        // The first value above the most ends it: nothing overflows, whatever follows.
         if !byte.is_ascii_digit() || value > MAX_SIZE {
             return Number { value, len: place };
         }
@@ -182,6 +185,7 @@ fn number_in_front(rest: &[u8]) -> Option<Number>
     if number.len == 0 || number.value > MAX_SIZE {
         return None;
     }
+    // A word ends at white space alone: `12x` and `12,` are no numbers.
     if number.len < rest.len() && !is_white_space(rest[number.len]) {
         return None;
     }
@@ -198,6 +202,7 @@ fn next_size(rest: &[u8], count: usize, total: u64) -> Option<Number>
         × AddsSize (first_word rest.now) count total number.value) }
 {
     let number = number_in_front(rest)?;
+    // Both are at most 2^40, so the sum can't overflow.
     if count < MAX_PICTURES && total + number.value <= MAX_TOTAL {
         Some(number)
     } else {

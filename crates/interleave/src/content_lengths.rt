@@ -20,6 +20,7 @@ pub(crate) fn body_length(head: &[u8]) -> Option<usize>
 {
     for at in 0..head.len() {
         if is_length_line(head, at) {
+            // The first line of a name counts, so a request has one length.
             return length_at(head, at + CONTENT_LENGTH.len());
         }
     }
@@ -33,8 +34,9 @@ fn length_of_value(value: &[u8]) -> Option<usize>
 {
     match read_number(value) {
         Ok(length) if length <= MAX_BODY_BYTES as u64 => Some(length as usize),
+        // The connection ends: a body that isn't awaited would be read as the next request.
         Ok(_) | Err(NumberFault::TooLarge) => None,
-        // no number: the message is taken without a body, and its reader judges the field
+        // No number: the message is taken without a body, and its reader judges the field.
         Err(_) => Some(0),
     }
 }
@@ -44,6 +46,7 @@ fn is_length_line(head: &[u8], at: usize) -> bool
     requires { at ≤ length head.now }
     ensures { IsTrue result ↔ IsLengthLine head.now at }
 {
+    // A field begins after a line end, so the request line is never one.
     at > 0
         && head[at - 1] == b'\n'
         && head.len() - at >= CONTENT_LENGTH.len()
@@ -58,6 +61,7 @@ fn length_at(head: &[u8], at: usize) -> Option<usize>
 {
     match line_end(head, at) {
         Some(line) => length_of_value(trim(&head[at..line.text_end])),
+        // A complete head ends with a line end, so this never comes for one.
         None => Some(0),
     }
 }

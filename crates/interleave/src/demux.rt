@@ -27,12 +27,16 @@ pub struct TooMuchInput;
 /// Contracts see the list of the waiting bytes.
 #[derive(Drop)]
 pub struct Demux {
+    /// The bytes that wait, after some that were dropped.
     bytes: Vec<u8>,
+    /// Where those that wait begin: dropped bytes stay until room is needed.
     start: usize,
+    /// What a look found of the request there, so that the next look reads on.
     known: HeadSearch,
 }
 
-/// The most bytes that wait in a [`Demux`].
+/// The most bytes that wait in a [`Demux`]. The longest message has 81,920, so a first element that
+/// is incomplete always has room for the rest.
 pub const MAX_WAITING_BYTES: usize = 131_072;
 
 impl Model for Demux {
@@ -64,7 +68,7 @@ impl Demux {
         })
     }
 
-    /// The bytes that wait.
+    /// Returns the bytes that wait.
     pub fn waiting(&self) -> &[u8]
         ensures { result.now ≡ self.now }
     {
@@ -81,6 +85,7 @@ impl Demux {
             bytes.now) }
         ensures waiting { self.new ≡ (if is_err result then self.old else self.old ++ bytes.now) }
     {
+        // Judged first, so that an error changes nothing.
         let waiting = self.bytes.len() - self.start;
         if bytes.len() > MAX_WAITING_BYTES - waiting {
             return Err(TooMuchInput);
@@ -88,7 +93,7 @@ impl Demux {
         self.start = make_room(&mut self.bytes, self.start, bytes.len());
         match self.bytes.extend_from_slice(bytes) {
             Ok(()) => Ok(()),
-            // never comes: there is room now, and so no memory is taken
+            // Never comes: there is room now, and so no memory is taken.
             Err(_) => Err(TooMuchInput),
         }
     }
@@ -113,9 +118,12 @@ impl Demux {
         let Some(front) = waiting.first() else {
             return Ok(Step::More);
         };
+        // Some clients send empty lines before a request: RFC 2068, section 4.1, asks to skip them.
         if is_line_end(*front) {
             return Ok(Step::Skip(line_ends(waiting)));
         }
+        // The names of methods don't begin with `$`, so this byte decides (RFC 2326, section
+        // 10.12).
         if *front == BLOCK_START {
             return Ok(block_step(waiting));
         }
@@ -131,7 +139,7 @@ impl Demux {
         ensures { self.new ≡ drop count self.old }
     {
         self.start += count;
-        // what was known is about bytes that are gone
+        // What was known is about bytes that are gone. A drop of none keeps it.
         if count > 0 {
             self.known = HeadSearch::Searched(0);
         }
@@ -157,6 +165,7 @@ fn block_step(bytes: &[u8]) -> Step
     if bytes.len() < 4 {
         return Step::More;
     }
+    // At most 65,539 bytes, so each block comes to its end in the waiting bytes.
     let length = 4 + usize::from(bytes[2]) * 256 + usize::from(bytes[3]);
     if length <= bytes.len() {
         Step::Block(bytes[1], length)
@@ -178,7 +187,7 @@ fn make_room(bytes: &mut Vec<u8>, start: usize, more: usize) -> usize
     if more <= MAX_WAITING_BYTES - bytes.len() {
         return start;
     }
-    // moved only when the end of the buffer is reached, not after each element
+    // Moved only when the end of the buffer is reached, not after each element.
     move_to_front(bytes, start);
     0
 }

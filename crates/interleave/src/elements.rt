@@ -32,8 +32,8 @@ pub enum DemuxFault {
 /// The byte with which an interleaved block begins (RFC 2326 section 10.12).
 pub const BLOCK_START: u8 = b'$';
 
-/// The head of an interleaved block (RFC 2326 section 10.12): `$`, the channel, and the number of
-/// the bytes that follow, the high byte first.
+/// Returns the head of an interleaved block (RFC 2326 section 10.12): `$`, the channel, and the
+/// number of the bytes that follow, the high byte first.
 pub fn frame_head(channel: u8, length: u16) -> [u8; 4]
     ensures { result ≡ BLOCK_START ∷ channel ∷ (length / 256) ∷ (length % 256) ∷ [] }
 {

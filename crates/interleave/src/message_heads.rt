@@ -29,12 +29,14 @@ pub(crate) fn search_head(bytes: &[u8], known: HeadSearch) -> Result<HeadSearch,
     requires known { IsHeadSearch bytes.now known }
     ensures { MatchResult result (IsSettled bytes.now) (λ f. IsFirst bytes.now (Err f)) }
 {
+    // Each byte is searched once: a client that sends byte by byte doesn't make a look longer.
     let HeadSearch::Searched(from) = known else {
         return Ok(known);
     };
     let to = bytes.len().min(MAX_HEAD_BYTES);
     match find_head(bytes, from, to) {
         Some(head) => length_with_head(bytes, head),
+        // Its end can't be awaited in bounded memory, and without it no next request is found.
         None if to == MAX_HEAD_BYTES => Err(DemuxFault::HeadTooLong),
         None => Ok(HeadSearch::Searched(to)),
     }
@@ -64,6 +66,7 @@ fn empty_line_ends(bytes: &[u8], at: usize) -> bool
     requires { at < length bytes.now }
     ensures { result ≡ empty_line_ends bytes.now at }
 {
+    // RFC 2326, section 4, asks receivers to accept LF alone as a line end, too.
     bytes[at] == b'\n'
         && ((at > 0 && bytes[at - 1] == b'\n')
             || (at > 1 && bytes[at - 1] == b'\r' && bytes[at - 2] == b'\n'))

@@ -19,7 +19,7 @@ pub enum Prefix {
 }
 
 impl Prefix {
-    /// The same, once `byte` is read.
+    /// Returns how much of the prefix stands at the end once `byte` is read.
     pub fn next(self, byte: u8) -> Prefix
         ensures { result ≡ next_prefix self byte }
     {
@@ -29,14 +29,16 @@ impl Prefix {
                 _ => Prefix::Nothing,
             },
             0 => match self {
+                // Zero bytes may stuff the space before a prefix, so a third one changes nothing.
                 Prefix::Zero | Prefix::Zeros => Prefix::Zeros,
+                // A value 00 may begin the next prefix: 00 00 01 00 00 01 B3 has two codes.
                 Prefix::Nothing | Prefix::Whole => Prefix::Zero,
             },
             _ => Prefix::Nothing,
         }
     }
 
-    /// Whether the next byte is the value of a start code.
+    /// Returns whether the next byte is the value of a start code.
     pub fn is_whole(self) -> bool
         ensures { result ≡ is_whole self }
     {

@@ -36,10 +36,12 @@ impl Found for Collector {
         × (c.slices.items ≡ slices_in calls) };
 
     fn head(&mut self, _from: u64, _to: u64) -> Result<(), NoMemory> {
+        // The unit has both places of its head.
         Ok(())
     }
 
     fn slice(&mut self, from: u64, _to: u64) -> Result<(), NoMemory> {
+        // The next slice or the unit says where this one ends, so one place is enough.
         self.slices.push(from)?;
         Ok(())
     }

@@ -106,6 +106,7 @@ pub(crate) fn header_fault(rate: Option<u8>, code: &Code, end: u64) -> Option<Fi
     requires { code.now.place ≤ end }
     ensures { result ≡ header_fault rate code.now end }
 {
+    // A header's fields can't reach into the next code.
     let length = end - code.place;
     if code.value == SEQUENCE {
         if length < SEQUENCE_HEADER {
@@ -131,6 +132,7 @@ pub(crate) fn code_fault(tally: &Tally, place: u64, value: u8) -> Option<FilmFau
     requires { HasRoom tally.now place }
     ensures { result ≡ code_fault tally.now place value }
 {
+    // Of several refusals at one code the first in this order counts, so a film has one refusal.
     value_fault(tally, place, value)
         .or_else(|| second_fault(tally, value))
         .or_else(|| first_slice_fault(tally, place, value))
@@ -145,6 +147,7 @@ pub(crate) fn last_fault(tally: &Tally) -> Option<FilmFault>
         return Some(FilmFault::NoSequence);
     };
     match (unit.slices, unit.picture) {
+        // At its first slice the unit was judged: it has a picture.
         (Some(_), _) => None,
         (None, None) => Some(FilmFault::HeadWithoutPicture(unit.from)),
         (None, Some(picture)) => Some(FilmFault::PictureWithoutSlices(picture.place)),
@@ -179,6 +182,7 @@ fn picture_fault(code: &Code, end: u64) -> Option<FilmFault>
     requires { code.now.place ≤ end }
     ensures { result ≡ picture_fault code.now end }
 {
+    // The type reads as 0 where it is missing. Such a header is shorter than 8 bytes, too.
     let coding_type = type_of(code);
     let length = end - code.place;
     if length < PICTURE_HEADER
@@ -198,8 +202,10 @@ fn value_fault(tally: &Tally, place: u64, value: u8) -> Option<FilmFault>
     ensures { result ≡ value_fault tally.now place value }
 {
     if value >= FIRST_SYSTEM {
+        // Packs of a system stream were taken off before, so none belongs here.
         Some(FilmFault::SystemCode(place))
     } else if value == EXTENSION {
+        // MPEG-2 has an extension after each sequence header; in MPEG-1 the code is reserved.
         Some(FilmFault::Mpeg2(place))
     } else if tally.unit.is_none() && value != SEQUENCE {
         Some(FilmFault::NoSequence)
@@ -232,6 +238,7 @@ fn first_slice_fault(tally: &Tally, place: u64, value: u8) -> Option<FilmFault>
     } else if unit.picture.is_none() {
         Some(FilmFault::HeadWithoutPicture(unit.from))
     } else if MAX_UNIT_HEAD_BYTES < place - unit.from {
+        // RFC 2250, section 3.1: no header is split, and here one packet takes all of a head.
         Some(FilmFault::HeadTooLong(unit.from))
     } else {
         None
@@ -246,6 +253,7 @@ fn count_fault(tally: &Tally, place: u64, value: u8) -> Option<FilmFault>
     if value != PICTURE {
         None
     } else if tally.pictures - tally.before_group >= MAX_GROUP_PICTURES {
+        // A temporal_reference of 10 bits would name two pictures of the group.
         Some(FilmFault::GroupTooLong(place))
     } else if tally.pictures >= MAX_FILM_PICTURES {
         Some(FilmFault::TooLong)

@@ -30,13 +30,14 @@ pub struct Film {
 }
 
 impl Film {
-    /// The time of a picture in 1/360,000 second, by the code of its rate (ISO/IEC 11172-2,
+    /// Returns the time of a picture in 1/360,000 second, by the code of its rate (ISO/IEC 11172-2,
     /// 2.4.3.2).
     pub fn picture_time(&self) -> u32
         ensures value { result ≡ picture_time self.now.rate }
         ensures some { 1 ≤ result }
         ensures fits { result ≤ 360000 }
     {
+        // The law shows that the rate is one of the eight. It does nothing when it runs.
         law_film_is_well_formed(self);
         picture_time(self.rate)
     }
@@ -49,14 +50,17 @@ impl Film {
 /// [`ScanRefused::Fault`] with the film's refusal, the one that `law_refusals_match_the_standard`
 /// names; [`ScanRefused::NoMemory`] where there is none for its units and slices.
 pub fn scan(alloc: Global, bytes: Vec<u8>) -> Result<Film, ScanRefused>
+    // answers: a film of these bytes, with units as the standard has them
     ensures film { IfOk result (λ film. film.bytes.items ≡ bytes.items) }
     ensures grammatical { IfOk result (λ film. IsGrammatical (read_after [] film.bytes.items)) }
     ensures numbered { IfOk result (λ film. AreNumbered (film_calls film.bytes.items)) }
     ensures tiled { IfOk result (λ film.
         Tiles (read_after [] film.bytes.items) (film_calls film.bytes.items)) }
+    // answers: the refusal that the standard asks for
     ensures fault { (f : FilmFault) → result ≡ Err (ScanRefused.Fault f) →
         refusal bytes.items ≡ Some f }
 {
+    // The refusal for size comes before all others, and `feed` takes no more bytes than these.
     if MAX_FILM_BYTES < bytes.len() as u64 {
         return Err(ScanRefused::Fault(FilmFault::TooLong));
     }

@@ -6,7 +6,8 @@ ghost use Rattle.mpeg_scan.specs.HeaderBytes.{header_with, header_with_all};
 
 use std::marker::Model;
 
-/// The most bytes that the fields of this standard's headers are read from.
+/// The most bytes that the fields of this standard's headers are read from: backward_f_code of a B
+/// picture ends in the fifth (ISO/IEC 11172-2, 2.4.2.5).
 const LONGEST: u8 = 5;
 
 /// The first bytes after a start code, as far as they are read.
@@ -57,6 +58,7 @@ impl HeaderBytes {
     pub(crate) fn note_all(&mut self, bytes: &[u8])
         ensures { self.new ≡ header_with_all self.old bytes.now }
     {
+        // A header that lies in one piece of the input is copied at once, without a loop.
         if self.len == 0 && bytes.len() >= usize::from(LONGEST) {
             self.bytes = [bytes[0], bytes[1], bytes[2], bytes[3], bytes[4]];
             self.len = LONGEST;
@@ -73,6 +75,7 @@ impl HeaderBytes {
     pub(crate) fn byte(&self, index: u8) -> u8
         ensures { result ≡ slice_index self.now index }
     {
+        // A header too short for its fields is refused by its length: the 0 decides nothing.
         if index < self.len {
             self.bytes[usize::from(index)]
         } else {

@@ -27,12 +27,15 @@ use vod_base::MAX_FILM_PICTURES;
 /// has at most 2^40 bytes and 4,194,304 units, one for each of its pictures; its start codes stand
 /// in their order, and its units are numbered as they come and lie one after another to its end.
 pub fn law_film_is_well_formed(film: &Film)
+    // the rate code
     ensures slowest { 1 ≤ film.now.rate }
     ensures fastest { film.now.rate ≤ 8 }
+    // the size, in bytes and in pictures
     ensures bytes { length film.now.bytes.items ≤ MAX_FILM_BYTES }
     ensures units { length film.now.units.items ≤ MAX_FILM_PICTURES }
     ensures pictures { length film.now.units.items ≡
         picture_count (codes_of (read_after [] film.now.bytes.items)) }
+    // the order of the codes and the places of the units
     ensures grammatical { IsGrammatical (read_after [] film.now.bytes.items) }
     ensures numbered { AreNumbered (film_calls film.now.bytes.items) }
     ensures tiled { Tiles (read_after [] film.now.bytes.items) (film_calls film.now.bytes.items) }
@@ -44,11 +47,13 @@ pub fn law_film_is_well_formed(film: &Film)
 /// sequence header of the film's rate, all 12 bytes of which are in its head. They lie one after
 /// another to the film's end, and have their slices in order.
 pub fn law_units_tile_the_film(film: &Film)
+    // the first unit
     ensures some { 0 < length film.now.units.items }
     ensures group { OfUnit film.now.units.items 0 (λ u. u.starts_group ≡ true) }
     ensures begins { OfUnit film.now.units.items 0
         (λ u. BeginsSequence film.now.bytes.items film.now.rate u.from) }
     ensures header { OfUnit film.now.units.items 0 (λ u. u.from + 12 ≤ u.head_end) }
+    // all units
     ensures chained { AreInFilm film.now.bytes.items film.now.units.items }
     ensures within { (k : ℕ)
         → OfUnit film.now.units.items k (λ u. u.to ≤ length film.now.bytes.items) }

@@ -30,7 +30,8 @@ pub(crate) struct Progress {
     pub(crate) fed: u64,
     /// How much of the next prefix stands at the end.
     prefix: Prefix,
-    /// The latest code, with what was read of its header.
+    /// The latest code, with what was read of its header. It isn't in the tally yet: only the next
+    /// code shows whether its header is complete.
     latest: Option<Code>,
     /// Of the codes before the latest.
     tally: Tally,
@@ -107,7 +108,8 @@ impl Progress {
         ensures fed { self.new.fed ≡ self.old.fed }
         ensures prefix { self.new.prefix ≡ self.old.prefix }
     {
-        // Most codes are slices that follow a slice. None of them is refused.
+        // Most codes are slices that follow a slice. None of them is refused: a slice has no header
+        // to judge, and its unit was judged at the first slice.
         if let Some(code) = &self.latest {
             if is_slice(code.value) && is_slice(value) {
                 self.tally.add(code);
@@ -147,6 +149,7 @@ impl Progress {
         ensures ready { OnOk result
             (AwaitsSliceAfter (F.ready_at found.new) (tally_now self.old) place value) }
     {
+        // Judged first: what would end at a refused code is not reported.
         self.judge(place, value)?;
         tell(&self.tally, place, value, found)?;
         self.latest = Some(Code {
@@ -182,7 +185,7 @@ impl Progress {
             self.note(byte);
             return Ok(());
         }
-        // the prefix 00 00 01 ends before this byte, which is the code's value
+        // The prefix 00 00 01 ends before this byte, which is the code's value.
         let place = self.fed - 3;
         self.note(byte);
         self.take_code(place, byte, found)
@@ -206,9 +209,11 @@ impl Progress {
         ensures skipped { HasSkipped self.old self.new rest.now result }
         ensures fed { self.new.fed ≡ self.old.fed + result }
     {
+        // A prefix that lies in one chunk is read at once, in place of three steps of `take_byte`.
         if rest.len() < 3 || rest[0] != 0 || rest[1] != 0 || rest[2] != 1 {
             return 0;
         }
+        // The latest header may be so short that this prefix is among the bytes kept of it.
         self.note_header(&rest[..3]);
         self.prefix = Prefix::Whole;
         self.fed += 3;
@@ -224,6 +229,7 @@ impl Progress {
         ensures skipped { HasSkipped self.old self.new rest.now result }
         ensures fed { self.new.fed ≡ self.old.fed + result }
     {
+        // Within a prefix each byte counts: `take_byte` reads it.
         let Prefix::Nothing = self.prefix else {
             return 0;
         };
@@ -264,6 +270,7 @@ impl Progress {
         let mut at = 0;
         while at < chunk.len() {
             at += self.skip(&chunk[at..]);
+            // `skip` may pass over nothing. A byte that is taken here brings the loop to its end.
             if at < chunk.len() {
                 self.take_byte(chunk[at], found)?;
                 at += 1;
@@ -303,6 +310,7 @@ impl Progress {
         ensures fault { IfErr result (λ f. (r : List ℕ) → HasReadBytes self.now r →
             refusal_of r ≡ Some f) }
     {
+        // The size of a film is judged before its codes, so these two come first.
         if self.fed == 0 {
             Err(FilmFault::Empty)
         } else if MAX_FILM_BYTES < self.fed {
@@ -318,5 +326,6 @@ fn run_before_zero(bytes: &[u8]) -> usize
     ensures bound { result ≤ length bytes.now }
     ensures run { (k : ℕ) → k < result → slice_index bytes.now k ≢ 0 }
 {
+    // Nearly all bytes of a film are neither zero nor in a header: they are passed over at once.
     memchr(0, bytes).unwrap_or(bytes.len())
 }

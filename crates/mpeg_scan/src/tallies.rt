@@ -48,6 +48,7 @@ pub(crate) fn is_slice(value: u8) -> bool
 pub(crate) fn rate_code(code: &Code) -> u8
     ensures { result ≡ rate_code code.now }
 {
+    // It stands after the width (12 bits), the height (12) and the aspect ratio (4).
     code.header.byte(3) % 16
 }
 
@@ -55,6 +56,7 @@ pub(crate) fn rate_code(code: &Code) -> u8
 pub(crate) fn type_of(code: &Code) -> u8
     ensures { result ≡ type_of code.now }
 {
+    // It stands after temporal_reference (10 bits), and has 3 bits.
     code.header.byte(1) / 8 % 8
 }
 
@@ -77,6 +79,7 @@ impl Header {
     fn of_picture(code: &Code) -> Header
         ensures { result ≡ header_of code.now }
     {
+        // vbv_delay (16 bits) stands between the type and the fields of the vectors.
         let forward = code.header.byte(3) % 8 * 2 + code.header.byte(4) / 128;
         let backward = code.header.byte(4) / 8 % 16;
         let kind = Kind::from_code(type_of(code));
@@ -85,6 +88,7 @@ impl Header {
             temporal: u16::from(code.header.byte(0)) * 4 + u16::from(code.header.byte(1) / 64),
             kind,
             vectors: match kind {
+                // These headers have no such fields: other bits stand in their place.
                 Kind::I | Kind::D => 0,
                 Kind::P => forward,
                 Kind::B => backward * 16 + forward,
@@ -168,6 +172,7 @@ impl UnitTally {
     {
         UnitTally {
             from: self.from,
+            // A second picture in a head was refused before, so the unit has this one alone.
             picture: if code.value == PICTURE {
                 Some(Header::of_picture(code))
             } else {
@@ -290,6 +295,7 @@ impl Tally {
     {
         match self.rate {
             None if code.value == SEQUENCE => Some(rate_code(code)),
+            // A later sequence header with another rate was refused.
             rate => rate,
         }
     }

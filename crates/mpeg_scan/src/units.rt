@@ -36,11 +36,12 @@ impl Kind {
             1 => Kind::I,
             2 => Kind::P,
             3 => Kind::B,
+            // The header was judged before: its type is one of the four.
             _ => Kind::D,
         }
     }
 
-    /// Its picture_coding_type (ISO/IEC 11172-2, 2.4.3.4).
+    /// Returns its picture_coding_type, 1 to 4 (ISO/IEC 11172-2, 2.4.3.4).
     pub fn code(self) -> u8
         ensures { result ≡ type_number self }
     {
@@ -83,11 +84,12 @@ pub struct Unit {
 }
 
 /// The times of a picture in 1/360,000 second, for the picture rate codes from 1 on (ISO/IEC
-/// 11172-2, 2.4.3.2).
+/// 11172-2, 2.4.3.2). 360,000 is the least number of units a second for which all eight times and a
+/// tick of 90 kHz are integers.
 const PICTURE_TIMES: [u32; 8] = [15015, 15000, 14400, 12012, 12000, 7200, 6006, 6000];
 
-/// The time of a picture in 1/360,000 second, by the picture rate code of a sequence header, 1 to 8
-/// (ISO/IEC 11172-2, 2.4.3.2).
+/// Returns the time of a picture in 1/360,000 second, by the picture rate code of a sequence
+/// header, 1 to 8 (ISO/IEC 11172-2, 2.4.3.2).
 pub fn picture_time(rate: u8) -> u32
     requires low { 1 ≤ rate }
     requires high { rate ≤ 8 }

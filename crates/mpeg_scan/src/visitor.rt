@@ -11,8 +11,9 @@ use crate::tallies::{Tally, is_head, is_slice};
 use crate::units::{MAX_FILM_BYTES, MAX_UNIT_HEAD_BYTES, Unit};
 use vod_base::NoMemory;
 
-/// Receives a film's parts while the film is scanned: of each unit its head, its slices in order,
-/// and then the unit itself, each when it has ended. Places are in bytes from the film's first.
+/// A receiver of a film's parts while the film is scanned: of each unit its head, its slices in
+/// order, and then the unit itself, each when it has ended. Places are in bytes from the film's
+/// first.
 ///
 /// # Errors
 ///
@@ -23,26 +24,42 @@ pub trait Found {
     /// That the next slice may begin at a place.
     ghost ready_at: { Self → ℕ → Type 0 } = { λ _ _. Unit {0} };
 
-    /// A head, from its unit's first start code to its first slice: 1 to 1,380 bytes.
+    /// Receives a head, from its unit's first start code to its first slice: 1 to 1,380 bytes.
+    ///
+    /// # Errors
+    ///
+    /// [`NoMemory`] where there is none to keep it.
     fn head(&mut self, from: u64, to: u64) -> Result<(), NoMemory>
+        // needs: 1 to 1,380 bytes, within the longest film
         requires some { from < to }
         requires most { to ≤ from + MAX_UNIT_HEAD_BYTES }
         requires within { to ≤ MAX_FILM_BYTES }
+        // leaves: the head is noted, and the first slice may begin where it ends
         ensures heard { OnOk result ((calls : List Call) → heard self.old calls →
             heard self.new (calls ++ head_call from to ∷ [])) }
         ensures ready { OnOk result (ready_at self.new to) };
 
-    /// A slice, from its start code to the next slice of its unit or to its unit's end: at least 4
-    /// bytes, from where the head or the slice before it ended.
+    /// Receives a slice, from its start code to the next slice of its unit or to its unit's end: at
+    /// least 4 bytes, from where the head or the slice before it ended.
+    ///
+    /// # Errors
+    ///
+    /// [`NoMemory`] where there is none to keep it.
     fn slice(&mut self, from: u64, to: u64) -> Result<(), NoMemory>
+        // needs: a start code at least, from where the part before it ended
         requires least { from + 4 ≤ to }
         requires within { to ≤ MAX_FILM_BYTES }
         requires ready { ready_at self.old from }
+        // leaves: the slice is noted, and the next one may begin where it ends
         ensures heard { OnOk result ((calls : List Call) → heard self.old calls →
             heard self.new (calls ++ slice_call from to ∷ [])) }
         ensures ready { OnOk result (ready_at self.new to) };
 
-    /// A unit, which ends where its last slice does.
+    /// Receives a unit, which ends where its last slice does.
+    ///
+    /// # Errors
+    ///
+    /// [`NoMemory`] where there is none to keep it.
     fn unit(&mut self, unit: Unit) -> Result<(), NoMemory>
         requires { ready_at self.old unit.to }
         ensures { OnOk result ((calls : List Call) → heard self.old calls →
@@ -61,6 +78,7 @@ pub(crate) fn tell_unit<F: Found>(tally: &Tally, to: u64, found: &mut F) -> Resu
 {
     let unit = tally.unit.unwrap();
     let slices = unit.slices.unwrap();
+    // No slice follows in the unit, so its last slice ends where the unit does.
     found.slice(slices.last, to)?;
     found.unit(unit_at(tally, to))
 }
@@ -84,6 +102,7 @@ pub(crate) fn tell<F: Found>(
     ensures heard { OnOk result ((calls : List Call) → F.heard found.old calls →
         F.heard found.new (calls ++ calls_at tally.now place value)) }
 {
+    // Before the first code of a film there is nothing that could end.
     let Some(unit) = tally.unit else {
         return Ok(());
     };
@@ -91,6 +110,7 @@ pub(crate) fn tell<F: Found>(
         None if is_slice(value) => found.head(unit.from, place),
         Some(slices) if is_slice(value) => found.slice(slices.last, place),
         Some(_) if is_head(value) => tell_unit(tally, place, found),
+        // User data, further headers of a head and the end of a sequence are bytes of their part.
         _ => Ok(()),
     }
 }
@@ -109,9 +129,11 @@ fn unit_at(tally: &Tally, to: u64) -> Unit
         from: unit.from,
         head_end: slices.first,
         to,
+        // The slices of this unit are among all so far.
         first_slice: tally.all_slices - slices.count,
         slices: slices.count,
         temporal: picture.temporal,
+        // temporal_reference counts anew in each group (ISO/IEC 11172-2, 2.4.3.4).
         presentation: u64::from(tally.before_group) + u64::from(picture.temporal),
         kind: picture.kind,
         vectors: picture.vectors,

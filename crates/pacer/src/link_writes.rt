@@ -41,6 +41,7 @@ pub(crate) fn send_between<T: Track, K: Link>(
         let front = &head[part.head_from..part.head_to];
         match send_part(front, part.payload, to - at, link) {
             Ok(sent) => at += sent,
+            // Only complete sends count. How much of the failed one went out is not known.
             Err(SendError(sent)) => return Err(SendError(at - from + sent)),
         }
     }
@@ -66,6 +67,7 @@ fn send_some<K: Link>(bytes: &[u8], link: &mut K) -> Result<(), LinkFault>
     ensures whole { OnOk result (K.told link.new ≡ told_more (K.told link.old) (sends bytes.now)) }
     ensures front { OnErr result (IsSentPrefix (K.told link.old) (K.told link.new) bytes.now) }
 {
+    // No call of the link for nothing: reports have no payload, and a part may have no head.
     if bytes.is_empty() {
         return Ok(());
     }
@@ -91,7 +93,7 @@ fn send_part<K: Link>(
         (take most (head.now ++ payload.now)) (K.told link.old) (K.told link.new) stopped.0) }
 {
     let head = front(head, most);
-    // head and payload go out in a send each: so the payload, which lies in the film, isn't copied
+    // Head and payload go out in a send each, so the payload, which lies in the film, isn't copied.
     let head_bytes = head.len() as u64;
     let payload = front(payload, most - head_bytes);
     let Ok(()) = send_some(head, link) else {

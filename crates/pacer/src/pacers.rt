@@ -83,8 +83,8 @@ impl<T: Track> Pacer<T> {
     ghost use Rattle.pacer.specs.PacerStates.{is_done};
     ghost use Rattle.pacer.specs.Steps.{IsStepped, HasFailed};
 
-    /// A pacer of a plan that begins in slot `start`. The plan's first byte stands at the boundary
-    /// `sent_before` of the track, its last one at the track's end.
+    /// Makes a pacer of a plan that begins in slot `start`. The plan's first byte stands at the
+    /// boundary `sent_before` of the track, its last one at the track's end.
     pub fn new(track: T, sent_before: u64, plan: Plan, start: u64) -> Pacer<T>
         requires boundary { IsBoundary (T.pieces track) sent_before }
         requires whole { sent_before + total_bytes plan ≡ length (framed_bytes (T.pieces track)) }
@@ -111,13 +111,16 @@ impl<T: Track> Pacer<T> {
     fn raise(&mut self, slot: u64)
         ensures { self.new ≡ at_slot slot self.old }
     {
+        // Nothing is reserved before the start, so nothing is due.
         if slot < self.start {
             return;
         }
         let number = slot - self.start;
+        // The sum has the bytes of missed slots, too. They were reserved and the client needs them,
+        // so they are made up at once.
         let reached = self.cursor.sum_at(number).min(self.keep);
         self.last = later_of(self.last, number);
-        // a slot that comes late, or again, never takes back what is due
+        // A slot that comes late, or again, never takes back what is due.
         self.due = self.due.max(reached);
     }
 
@@ -129,6 +132,7 @@ impl<T: Track> Pacer<T> {
         ensures boundary { IsBoundaryAfter self.now.pieces (self.now.before + self.now.sent)
             (self.now.before + result) }
     {
+        // Boundaries are places of the track, and bytes here count from the plan's first one.
         self.track.boundary_after(self.before + self.sent) - self.before
     }
 
@@ -139,7 +143,7 @@ impl<T: Track> Pacer<T> {
         ensures most { result ≤ self.now.due }
     {
         if stop {
-            // a reply waits, and may only stand between two packets (RFC 2326 section 10.12)
+            // A reply waits, and may only stand between two packets (RFC 2326 section 10.12).
             self.due.min(self.next_boundary())
         } else {
             self.due
@@ -162,16 +166,21 @@ impl<T: Track> Pacer<T> {
         stop: bool,
         link: &mut K,
     ) -> Result<Stepped, LinkFault>
+        // leaves: the count of faults never falls, and rises where the step fails
         ensures count { K.faults link.old ≤ K.faults link.new }
         ensures fault { OnErr result (HasRisen (K.faults link.old) (K.faults link.new)) }
+        // leaves, where Ok: what is due was sent, up to the stop, and nothing else
         ensures state { OnOk result (self.new ≡ after_step stop slot self.old) }
         ensures told { OnOk result (K.told link.new ≡ told_more (K.told link.old)
             (sends (plan_bytes self.old self.old.sent (step_end stop (at_slot slot self.old))))) }
         ensures answer { IfOk result (λ step. IsStepped self.old self.new step) }
+        // leaves, where it failed: what was due is raised, and a prefix was sent
         ensures failed { OnErr result
             (HasFailed stop slot self.old self.new (K.told link.old) (K.told link.new)) }
+        // leaves, in any case: bytes sent, due and kept in their order, within the plan
         ensures pacing { IsPacerState self.new }
     {
+        // Raised before the send: where that fails, the play is halted at what was due.
         self.raise(slot);
         let from = self.sent;
         let to = self.step_end(stop);
@@ -193,7 +202,9 @@ impl<T: Track> Pacer<T> {
     /// Halts at the first boundary at or after what was sent, and returns it. Nothing past it ever
     /// becomes due.
     pub fn ask_halt(&mut self) -> u64
+        // needs: all that is due was sent
         requires { self.old.due ≡ self.old.sent }
+        // answers: the boundary, at most what was kept; leaves it as the end of the play
         ensures value { result ≡ next_boundary self.old }
         ensures state { self.new ≡ record self.old { keep = next_boundary self.old } }
         ensures boundary { IsBoundaryAfter self.old.pieces (self.old.before + self.old.sent)
@@ -201,13 +212,13 @@ impl<T: Track> Pacer<T> {
         ensures pacing { IsPacerState self.new }
         ensures most { result ≤ self.old.keep }
     {
-        // a packet that is partly sent must go out to its end: the client couldn't read the stream
-        // after it
+        // A packet that is partly sent must go out to its end: the client couldn't read the stream
+        // after it.
         self.keep = self.next_boundary();
         self.keep
     }
 
-    /// The bytes that were sent.
+    /// Returns the bytes that were sent, from the plan's first one.
     pub fn sent(&self) -> u64
         ensures value { result ≡ self.now.sent }
         ensures pacing { IsPacerState self.now }
@@ -215,7 +226,7 @@ impl<T: Track> Pacer<T> {
         self.sent
     }
 
-    /// The bytes that are due, among them those that were sent.
+    /// Returns the bytes that are due, among them those that were sent.
     pub fn due(&self) -> u64
         ensures value { result ≡ self.now.due }
         ensures pacing { IsPacerState self.now }
@@ -223,7 +234,7 @@ impl<T: Track> Pacer<T> {
         self.due
     }
 
-    /// Whether what was sent ends at a boundary.
+    /// Returns whether what was sent ends at a boundary.
     pub fn at_boundary(&self) -> bool
         ensures value { result ≡ stands_at_boundary self.now }
         ensures boundary { IsTrue result ↔
@@ -232,8 +243,8 @@ impl<T: Track> Pacer<T> {
         self.next_boundary() == self.sent
     }
 
-    /// Whether a slot at or after the start was stepped, and all bytes of the plan were sent, or
-    /// those up to where it was halted.
+    /// Returns whether a slot at or after the start was stepped, and all bytes of the plan were
+    /// sent, or those up to where it was halted.
     pub fn done(&self) -> bool
         ensures value { result ≡ is_done self.now }
         ensures all { IsTrue result → (self.now.sent ≡ self.now.keep)
@@ -242,7 +253,8 @@ impl<T: Track> Pacer<T> {
         self.last.is_some() && self.sent == self.keep
     }
 
-    /// The number of the plan's slot that was stepped last, the greatest one.
+    /// Returns the number of the plan's slot that was stepped last, the greatest one; None before
+    /// the start.
     pub fn last_slot(&self) -> Option<u64>
         ensures { slots_through result ≡ self.now.passed }
     {

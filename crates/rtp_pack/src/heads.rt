@@ -52,7 +52,7 @@ const MPEG_VIDEO: u8 = 32;
 /// The marker in the byte that has the payload type.
 const MARKER: u8 = 0x80;
 
-/// The 16 bytes of the RTP header and the video header, big-endian.
+/// Returns the 16 bytes of the RTP header and the video header, big-endian.
 pub fn write_head(head: &Head) -> [u8; 16]
     ensures { result ≡ head_bytes head.now }
 {
@@ -70,7 +70,7 @@ pub fn write_head(head: &Head) -> [u8; 16]
     bytes
 }
 
-/// The head that the first 16 bytes are.
+/// Reads the head that the first 16 bytes are.
 ///
 /// `Short`, `NotRtp` and `NotVideo` come in this order, each exactly where it says.
 ///
@@ -83,6 +83,7 @@ pub fn read_head(bytes: &[u8]) -> Result<Head, HeadFault>
     if bytes.len() < HEAD {
         return Err(HeadFault::Short);
     }
+    // An extension or sources would move the video header; padding would end the payload early.
     if bytes[0] != VERSION {
         return Err(HeadFault::NotRtp);
     }
@@ -98,10 +99,12 @@ pub fn read_head(bytes: &[u8]) -> Result<Head, HeadFault>
     })
 }
 
-/// The video header of a packet of a unit, its first byte the highest (RFC 2250 section 3.4).
+/// Returns the video header of a packet of a unit, its first byte the highest (RFC 2250 section
+/// 3.4).
 pub fn video_header(unit: &Unit, packet: &Packet) -> u32
     ensures { result ≡ video_word unit.now packet.now }
 {
+    // MBZ, T, AN and N are 0: T, AN and N are for MPEG-2 (RFC 2250, section 3.4).
     u32::from(unit.temporal) % 0x400 * 0x1_0000
         + u32::from(packet.sequence_header) * 0x2000
         + u32::from(packet.begin) * 0x1000
@@ -118,18 +121,20 @@ pub(crate) fn wrapped_sum(start: u32, more: u128) -> u32
     ((u128::from(start) + more) % 0x1_0000_0000) as u32
 }
 
-/// The timestamp of a unit's packets and report on a clock of 90,000 Hz, modulo 2^32.
+/// Returns the timestamp of a unit's packets and report on a clock of 90,000 Hz, modulo 2^32.
 ///
 /// `picture_time` is the time of a picture in 1/360,000 second, as `mpeg_scan::picture_time`
 /// returns it.
 pub fn media_timestamp(identity: &Identity, picture_time: u32, unit: &Unit) -> u32
     ensures { result ≡ unit_timestamp identity.now picture_time unit.now }
 {
+    // A picture's timestamp is when it is shown (RFC 2250, section 3.3). A tick of 90 kHz has four
+    // units of 1/360,000 second. 128 bits, as nothing bounds `presentation` here.
     let ticks = u128::from(unit.presentation) * u128::from(picture_time) / 4;
     wrapped_sum(identity.timestamp, ticks)
 }
 
-/// The head of a unit's packet that has so many packets before it in its run.
+/// Returns the head of a unit's packet that has so many packets before it in its run.
 ///
 /// `picture_time` is the time of a picture in 1/360,000 second.
 pub fn packet_head(
@@ -143,6 +148,7 @@ pub fn packet_head(
 {
     Head {
         marker: packet.marker,
+        // RFC 3550, section 5.1: 16 bits that wrap.
         sequence: ((u128::from(identity.sequence) + u128::from(before)) % 0x1_0000) as u16,
         timestamp: media_timestamp(identity, picture_time, unit),
         ssrc: identity.ssrc,

@@ -37,9 +37,12 @@ pub(crate) fn goes_in(filling: OpenPacket, length: u64) -> bool
     ensures { result ≡ goes_in filling length }
 {
     let used = filling.at - filling.from;
+    // A slice begins a packet, or follows headers or complete slices (RFC 2250, section 3.1).
     match filling.holds {
+        // A slice that no packet can take is split anyway, so it follows the headers at once.
         PacketContents::HeadersAlone if length > MAX_PAYLOAD_BYTES => used < MAX_PAYLOAD_BYTES,
         PacketContents::Slices if length > MAX_PAYLOAD_BYTES => false,
+        // After a lost packet a receiver would have to search for a slice behind a fragment.
         PacketContents::LastFragment => false,
         _ => used <= MAX_PAYLOAD_BYTES && length <= MAX_PAYLOAD_BYTES - used,
     }
@@ -63,5 +66,6 @@ pub(crate) fn full_before(start: u64, end: u64) -> u64
     ensures before { start + MAX_PAYLOAD_BYTES * result < end }
     ensures within { end ≤ start + MAX_PAYLOAD_BYTES * result + MAX_PAYLOAD_BYTES }
 {
+    // A portion that ends exactly at `end` doesn't count: it is the one that stays open.
     (end - start - 1) / MAX_PAYLOAD_BYTES
 }

@@ -40,17 +40,19 @@ pub(crate) fn pack(
     Ok(())
 }
 
-/// The packet of the unit's bytes from a place to another, where it is known whether they begin and
-/// end with a slice (RFC 2250 section 3.4).
+/// Returns the packet of the unit's bytes from a place to another, where it is known whether they
+/// begin and end with a slice (RFC 2250 section 3.4).
 pub fn packet(unit: &Unit, from: u64, to: u64, begin: bool, end: bool) -> Packet
     ensures { result ≡ packet unit.now from to begin end }
 {
     Packet {
         from,
         to,
+        // RFC 2250, section 3.3: M marks the packet in which a picture ends.
         marker: to == unit.to,
         begin,
         end,
+        // The first packet has all headers of the unit, so no other one can have a sequence header.
         sequence_header: unit.has_sequence && from == unit.from,
     }
 }
@@ -68,7 +70,7 @@ fn close(packets: &mut Vec<Packet>, unit: &Unit, filling: OpenPacket) -> Result<
     ensures { OnOk result (packets.new.items ≡
         packets.old.items ++ filling_packet unit.now filling ∷ []) }
 {
-    // headers that no slice follows begin no slice and end none
+    // Headers that no slice follows begin no slice and end none.
     let begin = matches!(filling.holds, PacketContents::Slices);
     let end = !matches!(filling.holds, PacketContents::HeadersAlone);
     put(packets, packet(unit, filling.from, filling.at, begin, end))
@@ -84,6 +86,7 @@ fn put_full(packets: &mut Vec<Packet>, unit: &Unit, start: u64, end: u64) -> Res
         packets.old.items ++ full_packets unit.now true start (full_before start end)) }
 {
     let mut last = start;
+    // Only the first portion has the start code of the slice, and none of them has its end.
     let mut begin = true;
     for _portion in 0..full_before(start, end) {
         put(

@@ -27,11 +27,11 @@ pub struct Packet {
     pub sequence_header: bool,
 }
 
-/// The packets of a unit of the film, in order (RFC 2250 section 3.1).
+/// Returns the packets of a unit of the film, in order (RFC 2250 section 3.1).
 ///
 /// # Errors
 ///
-/// [`NoMemory`] alone.
+/// [`NoMemory`] where there is none for the packets.
 pub fn packets(alloc: Global, film: &Film, unit: usize) -> Result<Vec<Packet>, NoMemory>
     requires { unit < length film.now.units.items }
     ensures { OfUnit film.now.units.items unit (λ u.
@@ -42,8 +42,8 @@ pub fn packets(alloc: Global, film: &Film, unit: usize) -> Result<Vec<Packet>, N
     Ok(packets)
 }
 
-/// The packets of a unit of the film, in order, in place of those that the list has. It takes
-/// memory only where they are more than the list had room for.
+/// Replaces what the list has by the packets of a unit of the film, in order. It takes memory only
+/// where they are more than the list had room for.
 ///
 /// # Errors
 ///

@@ -44,13 +44,14 @@ pub struct Report {
 /// The bytes of a report (RFC 3550 sections 6.4.1 and 6.5) with its interleaved head of 4.
 pub const REPORT_BYTES: u64 = 52;
 
-/// The 48 bytes of a sender report without report blocks and a source description of the item CNAME
-/// `vodserve`, big-endian (RFC 3550 sections 6.4.1 and 6.5).
+/// Returns the 48 bytes of a sender report without report blocks and a source description of the
+/// item CNAME `vodserve`, big-endian (RFC 3550 sections 6.4.1 and 6.5).
 pub fn write_report(report: &Report) -> [u8; 48]
     ensures { result ≡ report_bytes report.now }
 {
     // What each report says: a sender report without report blocks, of 7 words in all, and a source
-    // description with the item CNAME, of 5. Dots and digits, in turn, stand where its fields go.
+    // description with the item CNAME, of 5: RFC 3550, section 6.1, asks for both together. Dots
+    // and digits, in turn, stand where its fields go.
     let mut bytes =
         *b"\x80\xC8\0\x06....12345678........1234\x81\xCA\0\x04....\x01\x08vodserve\0\0";
     BigEndian::write_u32(&mut bytes[4..], report.ssrc);
@@ -62,7 +63,7 @@ pub fn write_report(report: &Report) -> [u8; 48]
     bytes
 }
 
-/// The report before a unit that has so many packets and octets of its run before it.
+/// Returns the report before a unit that has so many packets and octets of its run before it.
 ///
 /// `picture_time` is the time of a picture in 1/360,000 second.
 pub fn unit_report(
@@ -78,6 +79,7 @@ pub fn unit_report(
         ssrc: identity.ssrc,
         time: media_time(picture_time, unit),
         timestamp: media_timestamp(identity, picture_time, unit),
+        // RFC 3550, section 6.4.1: counted since the source began to send, so over all its runs.
         packets: wrapped_sum(identity.packets, u128::from(packets)),
         octets: wrapped_sum(identity.octets, u128::from(octets)),
     }
@@ -89,6 +91,7 @@ pub fn unit_report(
 fn media_time(picture_time: u32, unit: &Unit) -> u64
     ensures { result ≡ media_time picture_time unit.now }
 {
+    // The film's time, not a wall clock's: each replay of a film then has the same bytes.
     let ticks = u128::from(unit.presentation) * u128::from(picture_time);
     let seconds = (ticks / 360_000 % 0x1_0000_0000) as u64;
     let fraction = (ticks % 360_000) as u64 * 0x1_0000_0000 / 360_000;

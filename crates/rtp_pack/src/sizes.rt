@@ -17,7 +17,9 @@ use std::marker::Model;
 /// Contracts see how many portions ended so far, and the one that is being filled.
 #[derive(Drop)]
 pub struct UnitSize {
+    /// How many portions ended so far.
     portions: u64,
+    /// The portion that is being filled, by places in the unit.
     filling: OpenPacket,
 }
 
@@ -58,12 +60,15 @@ impl UnitSize {
 
     /// Adds a slice by its length.
     pub fn slice(&mut self, length: u64)
+        // needs: a start code at least, and a unit of at most 2^40 bytes
         requires least { 4 ≤ length }
         requires most { bytes_of self.old + length ≤ 2 ^ 40 }
+        // leaves: the slice is in the portions, by the rules of cutting
         ensures slice { self.new ≡ with_slice self.old length }
         ensures bytes { bytes_of self.new ≡ bytes_of self.old + length }
         ensures measured { HasSlice length self.old self.new }
     {
+        // The steps of `packer::put_slice` without its list, so that measuring takes no memory.
         let end = self.filling.at + length;
         let mut start = self.filling.from;
         if !goes_in(self.filling, length) {
@@ -79,13 +84,14 @@ impl UnitSize {
         };
     }
 
-    /// The bytes of the unit's frames, each with its interleaved head of 4 bytes and its packet's
-    /// of 16.
+    /// Returns the bytes of the unit's frames, each with its interleaved head of 4 bytes and its
+    /// packet's of 16.
     pub fn end(self) -> u64
         ensures size { result ≡ frames_of self }
         ensures bound { result + REPORT_BYTES ≤ 2 * bytes_of self + 112 }
         ensures frames { IsSize self result }
     {
+        // The portion that is being filled is a packet, too.
         self.filling.at + FRAME_HEAD_BYTES * (self.portions + 1)
     }
 }

@@ -30,6 +30,7 @@ pub(crate) fn header_next(header: Header, byte: u8, left: u16) -> Option<Header>
         × ((rest : List ℕ) → length rest ≡ left →
         video_from header (byte ∷ rest) ≡ video_from next rest)) }
 {
+    // `left` is known, so a header too long for its packet is refused as soon as it shows.
     match header {
         Header::Stuffing(count) => after_stuffing(count, byte, left),
         Header::Second => Some(Header::Stamp),
@@ -43,6 +44,8 @@ fn stamp_rest(byte: u8) -> Option<u8>
     ensures { MatchOption result ((rest : List ℕ) → from_stamp (byte ∷ rest) ≡ None)
         (λ more. (rest : List ℕ) → from_stamp (byte ∷ rest) ≡ after_bytes more rest) }
 {
+    // 0010 begins a presentation time stamp of 5 bytes, 0011 that and a decoding time stamp, 10
+    // bytes in all. The byte 0F stands where there is none.
     if byte / 16 == 2 {
         Some(4)
     } else if byte / 16 == 3 {
@@ -63,6 +66,7 @@ fn after_stamp(byte: u8, left: u16) -> Option<Header>
         × ((rest : List ℕ) → length rest ≡ left →
         from_stamp (byte ∷ rest) ≡ video_from next rest)) }
 {
+    // The stamps themselves aren't read: a film's times come from its picture rate.
     match stamp_rest(byte) {
         Some(more) if u16::from(more) <= left => Some(Header::Rest(more)),
         _ => None,
@@ -77,9 +81,11 @@ fn after_size(byte: u8, left: u16) -> Option<Header>
         (λ next. (least_rest next ≤ left)
         × ((rest : List ℕ) → length rest ≡ left → from_size (byte ∷ rest) ≡ video_from next rest)) }
 {
+    // The bits 01 begin a buffer size of two bytes, which may be left out.
     if byte / 64 != 1 {
         return after_stamp(byte, left);
     }
+    // The second byte of the size and one of the time stamp at least are still to come.
     if left < 2 {
         return None;
     }
@@ -95,6 +101,7 @@ fn after_stuffing(count: u8, byte: u8, left: u16) -> Option<Header>
         × ((rest : List ℕ) → length rest ≡ left →
         video_from (Header.Stuffing count) (byte ∷ rest) ≡ video_from next rest)) }
 {
+    // No other field begins with FF, so a 17th such byte is refused by `after_size`.
     if byte != 0xff || count >= 16 {
         return after_size(byte, left);
     }

@@ -35,6 +35,7 @@ pub fn law_video_packet_header_is_standard()
 /// the stream's end stops early, each with the place of its prefix; and a byte that no start code
 /// can have there, with its own place.
 pub fn law_bad_items_are_refused_at_their_place()
+    // a header or a code that no item may have, by the place of its prefix
     ensures pack { (elements : List Element) (front mark : ℕ) (rest : List ℕ) →
         AreElements elements → mark / 16 ≢ 2 →
         IsBadStream (stream_bytes elements ++ with_code front 0xba (mark ∷ rest))
@@ -49,8 +50,10 @@ pub fn law_bad_items_are_refused_at_their_place()
         AreElements elements → value < 0xb9 →
         IsBadStream (stream_bytes elements ++ with_code front value rest)
         (SystemFault.BadCode (length (stream_bytes elements) + front)) }
+    // a byte that no prefix has, by its own place
     ensures byte { (elements : List Element) (bytes : List ℕ) (at : ℕ) → AreElements elements →
         IsStrayByte elements bytes at → IsBadStream bytes (SystemFault.BadCode at) }
+    // an item that the end stops early, by the place of its prefix
     ensures end { (elements : List Element) (element : Element) (count : ℕ) →
         AreElements elements → IsElement element → front_of element + 3 ≤ count →
         count < length (element_bytes element) →

@@ -54,6 +54,7 @@ pub(crate) fn zeros_next(zeros: u8, byte: u8, at: u64) -> ParserState
         IsPart (begins_at chosen start) (at - 2) now (part ++ byte ∷ []) kept result }
 {
     match byte {
+        // Any number of bytes 00 may stand before a prefix, so the count stops at two.
         0 => ParserState::Zeros((zeros.min(1)) + 1),
         1 if zeros >= 2 => ParserState::Value,
         _ => ParserState::Failed(SystemFault::BadCode(at)),
@@ -68,10 +69,12 @@ pub(crate) fn value_next(value: u8, item: u64) -> ParserState
         IsPart (begins_at chosen start) item (choose now value) (part ++ value ∷ []) kept result }
 {
     if value == END_VALUE {
+        // A stream ends at its end code. What follows is passed over.
         ParserState::End
     } else if value == PACK_VALUE {
         ParserState::Mark
     } else if value > PACK_VALUE {
+        // A system header (BB) has its length where packets have it, so it is passed over like one.
         ParserState::High(value)
     } else {
         ParserState::Failed(SystemFault::BadCode(item))
@@ -85,6 +88,7 @@ pub(crate) fn mark_next(mark: u8, item: u64) -> ParserState
         IsAtPrefix start item (186 ∷ []) now chosen part kept →
         IsPart (begins_at chosen start) item now (part ++ mark ∷ []) kept result }
 {
+    // MPEG-1 has the bits 0010 here. A pack of MPEG-2 has 01 and other fields.
     if mark / 16 == 2 {
         ParserState::Pass(PACK_REST_BYTES)
     } else {
@@ -96,6 +100,7 @@ pub(crate) fn mark_next(mark: u8, item: u64) -> ParserState
 pub(crate) fn pass(left: u16) -> ParserState
     ensures { result ≡ (if left == 0 then ParserState.Zeros 0 else ParserState.Pass left) }
 {
+    // With `Pass(0)` a call of `feed` would take no byte, and its caller would never end.
     if left == 0 {
         ParserState::Zeros(0)
     } else {
@@ -129,9 +134,11 @@ pub(crate) fn length_next(
         LeadsTo (begins_at before start) item chosen (part ++ low ∷ []) kept result }
 {
     let length = u16::from(high) * 256 + u16::from(low);
+    // Only the chosen stream is judged. Packets of others, such as audio, may have any content.
     if !is_chosen(chosen, value) {
         pass(length)
     } else if length == 0 {
+        // A header has one byte at least: 0F where no time stamp stands.
         ParserState::Failed(SystemFault::BadPacket(item))
     } else {
         ParserState::InHeader(Header::Stuffing(0), length)
@@ -159,6 +166,7 @@ pub(crate) fn end_fault(place: ParserState, item: u64) -> Option<SystemFault>
     ensures { result ≡ end_fault place item }
 {
     match place {
+        // A stream may lack its end code, and bytes 00 at its end are stuffing.
         ParserState::Zeros(_) | ParserState::End => None,
         ParserState::Failed(fault) => Some(fault),
         _ => Some(SystemFault::Truncated(item)),
@@ -182,6 +190,7 @@ fn header_goes_on(next: Header, left: u16) -> ParserState
     ensures place { result ≡ place_in next left }
 {
     match next {
+        // With the last byte of the header the video begins, which may have no byte.
         Header::Rest(0) => video(left),
         _ => ParserState::InHeader(next, left),
     }

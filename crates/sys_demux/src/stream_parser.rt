@@ -31,7 +31,7 @@ pub struct Fed<'p> {
 }
 
 impl Unwrapper {
-    /// Before the first byte of a stream.
+    /// Returns an unwrapper before the first byte of a stream.
     pub fn new() -> Unwrapper
         ensures { WasFed result [] [] }
     {
@@ -54,6 +54,8 @@ impl Unwrapper {
         let (at, mut item, mut chosen) = (self.fed, self.item, self.chosen);
         let place = match self.place {
             ParserState::Zeros(zeros) => {
+                // Where a prefix ends at this byte, it began two bytes ago. Else this place is
+                // never used, so that it may stop at 0.
                 item = at.saturating_sub(2);
                 zeros_next(zeros, byte, at)
             }
@@ -64,6 +66,7 @@ impl Unwrapper {
             ParserState::Mark => mark_next(byte, item),
             ParserState::High(value) => ParserState::Low(value, byte),
             ParserState::Low(value, high) => length_next(chosen, value, high, byte, item),
+            // A header that is read has a byte to come, so `left` is at least 1.
             ParserState::InHeader(header, left) => header_place(header, byte, left - 1, item),
             // `feed` takes no single byte in these states
             ParserState::Pass(left) => ParserState::Pass(left),
@@ -106,15 +109,19 @@ impl Unwrapper {
     ///
     /// [`SystemFault`] with its place in all the bytes that were fed; never `Truncated`.
     pub fn feed<'p>(&mut self, chunk: &'p [u8]) -> Result<Fed<'p>, SystemFault>
+        // needs: a byte at least, and at most 2^40 bytes in all
         requires some { 0 < length chunk.now }
         requires room { self.old.fed + length chunk.now ≤ 2 ^ 40 }
+        // answers: how many bytes were taken, and the video among them, all or none
         ensures taken { IfOk result (λ fed. (0 < fed.taken) × (fed.taken ≤ length chunk.now)) }
         ensures video { IfOk result (λ fed. (fed.video.now ≡ [])
             ⊎ (fed.video.now ≡ take fed.taken chunk.now)) }
         ensures count { IfOk result (λ fed. self.new.fed ≡ self.old.fed + fed.taken) }
+        // leaves: the bytes taken are read, and the video so far is what was lent
         ensures next { (seen video : List ℕ) → WasFed self.old seen video →
             IfOk result (λ fed.
             WasFed self.new (seen ++ take fed.taken chunk.now) (video ++ fed.video.now)) }
+        // answers: a fault that later bytes can't undo; it stays
         ensures fault { (seen video : List ℕ) → WasFed self.old seen video →
             IfErr result (λ fault. (more : List ℕ) → IsBadStream (seen ++ chunk.now ++ more) fault) }
         ensures shown { (seen video : List ℕ) → WasFed self.old seen video → IfErr result IsShown }
@@ -133,6 +140,8 @@ impl Unwrapper {
                 })
             }
             ParserState::Video(left) => {
+                // The video is lent from the chunk, not copied. `left` is in 16 bits, and `taken`
+                // not above it.
                 let taken = chunk.len().min(usize::from(left));
                 self.skip(taken, video(left - taken as u16));
                 Ok(Fed {
@@ -141,6 +150,7 @@ impl Unwrapper {
                 })
             }
             ParserState::End => {
+                // What follows the end code is taken, too: so a caller's loop comes to its end.
                 self.skip(chunk.len(), ParserState::End);
                 Ok(Fed {
                     taken: chunk.len(),
@@ -148,6 +158,7 @@ impl Unwrapper {
                 })
             }
             _ => {
+                // A chunk may end anywhere in a header, so headers are read byte by byte.
                 self.take(chunk[0]);
                 match self.place {
                     ParserState::Failed(fault) => Err(fault),
@@ -188,6 +199,7 @@ fn choose(chosen: Option<u8>, value: u8) -> Option<u8>
     ensures { result ≡ choose chosen value }
 {
     match chosen {
+        // The first stream of video is the film. Other streams are passed over.
         Some(first) => Some(first),
         None if FIRST_VIDEO <= value && value <= LAST_VIDEO => Some(value),
         None => None,

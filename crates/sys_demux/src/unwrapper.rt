@@ -5,10 +5,11 @@ ghost use Rattle.sys_demux.specs.ValidStates.{is_sound};
 
 use crate::parser_states::ParserState;
 
-/// Takes the video bytes out of an MPEG-1 system stream (ISO/IEC 11172-1), chunk by chunk. It takes
-/// no memory.
+/// A reader that takes the video bytes out of an MPEG-1 system stream (ISO/IEC 11172-1), chunk by
+/// chunk. It takes no memory.
 #[derive(Drop)]
 pub struct Unwrapper {
+    /// Where in the stream the next byte stands.
     pub(crate) place: ParserState,
     /// The place of the item's prefix.
     pub(crate) item: u64,
