@@ -53,8 +53,10 @@ impl<'a> Connection<'a> {
         settings: &Settings,
         words: [u32; 5],
     ) -> Result<Connection<'a>, NoMemory>
+        // needs: settings and films within their ranges
         requires settings { AreSettings settings.now }
         requires films { AreFilms films.now }
+        // answers: nothing has arrived, is booked, waits or failed
         ensures input { IfOk result (λ connection. connection.input ≡ []) }
         ensures waiting { IfOk result IsWaiting }
         ensures exact { IfOk result
@@ -88,6 +90,7 @@ impl<'a> Connection<'a> {
         heard: Heard,
         bytes: &[u8],
     ) -> Option<ConnEnd>
+        // needs: its seat, and that it goes on: nothing is torn down, and no call failed
         requires seat { seat.old.id ≡ station.now.id }
         requires quiet { IsQuiet seat.old.mine self.old }
         requires torn { self.old.session.torn ≡ false }
@@ -95,6 +98,7 @@ impl<'a> Connection<'a> {
         requires few { list_length bytes.now ≤ MAX_READ_BYTES }
         requires waiting { IsWaiting self.old }
         requires lost { self.old.session.lost ≡ false }
+        // leaves: the booking held, what was sent, the rest of the input, and the count of faults
         ensures kept { KeepsReservations seat.old seat.new self.old self.new }
         ensures comes { HasHandledEvent result (io_event_of heard bytes.now)
             (observed self.old (K.told link.old) seat.old)
@@ -104,8 +108,11 @@ impl<'a> Connection<'a> {
         ensures counted { HasCounted result (K.faults link.old) (K.faults link.new) }
     {
         match heard {
+            // No booking is lost here: `close` halts it, whatever ended the connection.
             Heard::End => Some(ConnEnd::Ended),
             Heard::Bytes(count) => {
+                // An incomplete request leaves room for one more read. So there is too much only
+                // while a reply waits, for which the requests behind it have to wait.
                 law_waiting_bytes_are_bounded(&self.input);
                 if self.input.put(&bytes[..count]).is_err() {
                     return Some(ConnEnd::TooMuchInput);
@@ -113,6 +120,8 @@ impl<'a> Connection<'a> {
                 self.process_input(rt, station, seat, link)
             }
             Heard::Slot(slot) => {
+                // The slot may bring the end of a reply's wait, so the requests that waited for it
+                // are processed after it.
                 if self.step(rt, station, seat, link, slot).is_err() {
                     return Some(ConnEnd::LinkFault);
                 }
@@ -204,16 +213,21 @@ impl<'a> Connection<'a> {
         ensures taken { IsTaken result (list_length self.old.input) self.new }
         ensures counted { HasCounted (end_in result) (K.faults link.old) (K.faults link.new) }
     {
+        // One session a connection: with the reply to TEARDOWN both end, and the rest isn't read.
         if self.session.torn() {
             return InputProgress::End(ConnEnd::TornDown);
         }
         match self.input.look() {
+            // Where the next request begins can't be known any more, so the connection ends, also
+            // while a reply waits.
             Err(fault) => InputProgress::End(end_of(fault)),
             Ok(Step::More) => InputProgress::Waits,
+            // RFC 2068 section 4.1: empty lines before a request are passed over.
             Ok(Step::Skip(count)) => {
                 self.input.drop_front(count);
                 InputProgress::Gone
             }
+            // The client's RTCP is ignored: what is sent follows from requests and slots alone.
             Ok(Step::Block(_, count)) => {
                 self.input.drop_front(count);
                 InputProgress::Gone
@@ -246,10 +260,12 @@ impl<'a> Connection<'a> {
         ensures taken { IsTaken result (list_length self.old.input) self.new }
         ensures counted { HasCounted (end_in result) (K.faults link.old) (K.faults link.new) }
     {
+        // One reply at a time: a client that sends without reading can't fill memory.
         if self.session.waits() {
             return InputProgress::Waits;
         }
         self.answer_request(rt, station, seat, length);
+        // Sent at once where no frame is being sent; else the slots bring it out.
         match self.session.reply(link) {
             Ok(()) => InputProgress::Gone,
             Err(_) => InputProgress::End(ConnEnd::LinkFault),
@@ -273,6 +289,7 @@ impl<'a> Connection<'a> {
         ensures lost { self.new.session.lost ≡ self.old.session.lost }
     {
         let ask = self.session.hear(&self.input.waiting()[..length]);
+        // The session has taken all that it needs of the request, so its bytes can go.
         self.input.drop_front(length);
         match ask {
             Ask::Reply => {}
@@ -295,6 +312,7 @@ impl<'a> Connection<'a> {
         ensures input { self.new.input ≡ self.old.input }
         ensures lost { self.new.session.lost ≡ self.old.session.lost }
     {
+        // It does nothing: its contract says of the seat what the proofs of the booking need.
         seat.holds();
         match station.play(rt, seat, self.session.heard_slot(), plan) {
             Ok(booking) => {
@@ -320,6 +338,7 @@ impl<'a> Connection<'a> {
         ensures lost { self.new.session.lost ≡ self.old.session.lost }
     {
         seat.holds();
+        // Moved out: the station takes it, so that no play is halted twice.
         let booking = release(&mut self.booking);
         let place = station.halt(rt, seat, booking, keep);
         self.session.halted(place);
@@ -367,6 +386,7 @@ impl<'a> Connection<'a> {
         ensures input { self.new.input ≡ self.old.input }
         ensures lost { self.new.session.lost ≡ self.old.session.lost }
     {
+        // The same slot as a PLAY would ask with, so that the offer says what that would get.
         let heard = self.session.heard_slot();
         let offered = station.offer(rt, seat, heard, &plan, &mut offers);
         self.session
@@ -383,6 +403,8 @@ impl<'a> Connection<'a> {
         ensures open { open_of self.new.session ≡ None }
         ensures booking { self.new.booking ≡ None }
     {
+        // What was due may have been sent, so it stays booked. The rest is free for others. Without
+        // this a disconnected client would leave its reservation behind.
         if let Some(due) = self.session.open_due() {
             self.halt(rt, station, seat, due);
         }
@@ -405,6 +427,7 @@ impl<'a> Connection<'a> {
         } = self;
         match booking {
             None => session.notes(),
+            // A booking can't be dropped, so this case has to be named; `close` has halted any.
             Some(_) => unreachable!(),
         }
     }

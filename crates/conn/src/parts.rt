@@ -31,16 +31,19 @@ pub fn serve_part<R: Wait, G: Gate>(
     worker: u32,
     part: &mut G,
 ) -> PartReport
+    // needs: a seat of the station, valid settings and films, and a part that gave nothing yet
     requires seat { seat.old.id ≡ station.now.id }
     requires settings { AreSettings settings.now }
     requires films { AreFilms films.now }
     requires untouched { IfSome (G.told part.old) IsUntouched }
+    // answers and leaves: a report and a connection given back for each that was taken
     ensures part { WorkerSpec (worker_input films.now settings.now seed worker) seat.old seat.new
         (worker_gate (G.faults part.old) (G.told part.old))
         (worker_gate (G.faults part.new) (G.told part.new)) result }
 {
     let mut reports = Vec::new(alloc);
     'connections: for _ in rt.forever() {
+        // Room comes before the connection: each one that is taken has its report.
         if reports.reserve(1).is_err() {
             return PartReport {
                 end: PartEnd::NoMemory,
@@ -49,6 +52,7 @@ pub fn serve_part<R: Wait, G: Gate>(
         }
         match part.take() {
             Ok(Some(mut link)) => {
+                // The number of reports numbers the connection, so no two draw the same words.
                 let words = connection_words(seed, worker, reports.len() as u64);
                 let report = serve_connection(
                     rt, alloc, station, seat, films, settings, words, worker, &mut link,
@@ -62,6 +66,7 @@ pub fn serve_part<R: Wait, G: Gate>(
                     reports,
                 };
             }
+            // `take` waits out errors that pass; after any other the listener is of no use.
             Err(_) => {
                 return PartReport {
                     end: PartEnd::GateFault,
@@ -70,5 +75,6 @@ pub fn serve_part<R: Wait, G: Gate>(
             }
         }
     }
+    // `forever` gives no end: each way out of the loop is a return.
     unreachable!()
 }

@@ -43,23 +43,30 @@ pub fn serve_connection<R: Wait, K: Link>(
     worker: u32,
     link: &mut K,
 ) -> ConnReport
+    // needs: a seat of the station, and valid settings and films
     requires seat { seat.old.id ≡ station.now.id }
     requires settings { AreSettings settings.now }
     requires films { AreFilms films.now }
+    // answers: a report with these numbers
     ensures seat { IsSameSeat seat.old seat.new }
     ensures worker { result.worker ≡ worker }
     ensures words { result.words ≡ words }
+    // leaves: what was sent and booked, and the guarantee on it
     ensures served { ConnectionSpec (new_session_state films.now settings.now words)
         (K.told link.old) (K.told link.new) seat.old seat.new result }
     ensures guarantee { MeetsGuarantee (new_session_state films.now settings.now words)
         (K.told link.old) (K.told link.new) seat.old seat.new result }
+    // faults: the link is blamed only where its count rose
     ensures count { K.faults link.old ≤ K.faults link.new }
     ensures fault { result.end ≡ LinkFault → HasRisen (K.faults link.old) (K.faults link.new) }
+    // journal: the seat's new entries are those of the receipts, and no play stays open
     ensures entries { HasAdvanced (at_rest seat.old.mine [])
         (at_rest seat.new.mine result.receipts.items) }
 {
+    // The guarantee speaks of curves over the films; this is its premise on them.
     law_all_films_are_traces(films);
     let Ok(mut connection) = Connection::new(alloc, films, settings, words) else {
+        // Nothing was sent or booked, so an empty report is all there is to say.
         let none = Notes {
             receipts: Vec::new(alloc),
             plays: Vec::new(alloc),
@@ -69,6 +76,7 @@ pub fn serve_connection<R: Wait, K: Link>(
         return report_of(alloc, worker, words, ConnEnd::NoMemory, none);
     };
     let end = hear_all(rt, station, seat, link, &mut connection);
+    // After any end, so that no play stays booked for a client that is gone.
     connection.close(rt, station, seat);
     seat.holds();
     report_of(alloc, worker, words, end, connection.notes())
@@ -93,7 +101,9 @@ fn hear_all<R: Wait, K: Link>(
     ensures course { HasCourse result (observed connection.old (K.told link.old) seat.old)
         (observed connection.new (K.told link.new) seat.new) }
 {
+    // One buffer for all events, so that a read takes no memory.
     let mut into = [0; MAX_READ_BYTES];
+    // A bound that no connection meets: at an event each millisecond it takes 34 years.
     'events: for _event in 0..MAX_EVENTS {
         let Ok(heard) = link.next(&mut into) else {
             return ConnEnd::LinkFault;
@@ -122,6 +132,7 @@ fn report_of(alloc: Global, worker: u32, words: [u32; 5], end: ConnEnd, notes: N
         mut offers,
     } = notes;
     let receipts = in_own_memory(alloc, receipts);
+    // The server stores all reports until it ends, so spare room would add up.
     plays.shrink_to_fit();
     offers.shrink_to_fit();
     ConnReport {

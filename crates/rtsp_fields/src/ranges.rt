@@ -39,13 +39,16 @@ pub struct Span {
 pub fn read_range(value: &[u8]) -> Option<Span>
     ensures { MatchOption result ((span : Span) → ¬ IsSpan value.now span) (IsSpan value.now) }
 {
+    // Other units (`smpte`, `clock`) give None: normal play time is enough for stored films.
     if !starts_with(value, UNIT) {
         return None;
     }
+    // No time has a `-`, so the first one parts FROM and TO.
     let dash = part_end(value, UNIT.len(), b'-');
     if dash == value.len() {
         return None;
     }
+    // An empty FROM is no time, so the form `npt=-TO` gives None.
     let from = read_origin(&value[UNIT.len()..dash])?;
     let to = read_limit(&value[dash + 1..])?;
     Some(Span { from, to })
@@ -68,6 +71,7 @@ fn read_limit(text: &[u8]) -> Option<Option<u128>>
     ensures { MatchOption result ((limit : Option ℕ) →
         ¬ IsLimit text.now limit) (IsLimit text.now) }
 {
+    // No TO is the film's end. The outer `Option` says whether the text is a limit at all.
     if text.is_empty() {
         return Some(None);
     }

@@ -25,6 +25,7 @@ pub(crate) fn put_seconds(into: &mut [u8], at: usize, ms: u64) -> usize
     ensures place { result ≤ at + 24 }
     ensures text { take result into.new ≡ take at into.old ++ seconds_text ms }
 {
+    // Three digits write milliseconds exactly, and a reader gets the same time back.
     let point = put_number(into, at, ms / 1000);
     let tenths = put(into, point, b".");
     let hundredths = put_digit(into, tenths, (ms / 100 % 10) as u8);
@@ -32,8 +33,8 @@ pub(crate) fn put_seconds(into: &mut [u8], at: usize, ms: u64) -> usize
     put_digit(into, thousandths, (ms % 10) as u8)
 }
 
-/// Milliseconds as seconds, a point and three digits, as the times of a Range (RFC 2326 section
-/// 3.6): at most 24 bytes, which stand in `into`.
+/// Writes milliseconds as seconds, a point and three digits, as the times of a Range (RFC 2326
+/// section 3.6), and returns the text: at most 24 bytes, which stand in `into`.
 pub fn seconds_text(ms: u64, into: &mut [u8; 24]) -> &[u8]
     ensures text { result.now ≡ seconds_text ms }
     ensures short { length result.now ≤ 24 }

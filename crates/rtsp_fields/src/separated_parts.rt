@@ -37,6 +37,7 @@ impl<'a> Iterator for SeparatedParts<'a> {
     ghost remaining = { λ parts. at_most (length parts.text.now + 1 - parts.from) };
 
     fn next(&mut self) -> Option<&'a [u8]> {
+        // Not `>=`: after a separator at the text's end one more part follows, which is empty.
         if self.from > self.text.len() {
             return None;
         }

@@ -34,6 +34,7 @@ pub fn read_transport(value: &[u8]) -> Option<Channels>
     ensures { MatchOption result ((channels : Channels) →
         ¬ IsTransport value.now channels) (IsTransport value.now) }
 {
+    // RFC 2326 section 12.39: alternatives stand in the order in which the client prefers them.
     for alternative in parts_of(value, b',') {
         if let Some(channels) = read_alternative(alternative) {
             return Some(channels);
@@ -53,6 +54,7 @@ fn read_pair(text: &[u8]) -> Option<Channels>
     }
     let media = number_within(&text[..dash], 0, 255)?;
     let control = number_within(&text[dash + 1..], 0, 255)?;
+    // RFC 2326 section 10.12: a block's channel alone tells packets from reports.
     if media == control {
         return None;
     }
@@ -67,6 +69,7 @@ fn read_single(text: &[u8]) -> Option<Channels>
     ensures { MatchOption result ((channels : Channels) →
         ¬ IsSingle text.now channels) (IsSingle text.now) }
 {
+    // At most 254, since the reports go on the next channel, and a channel is one byte.
     let media = number_within(text, 0, 254)?;
     Some(Channels {
         media: media as u8,
@@ -91,6 +94,7 @@ fn asks_other_delivery(part: &[u8]) -> bool
 {
     let word = trim(part);
     word.eq_ignore_ascii_case(b"multicast")
+        // RFC 2326 writes a mode with quotes and without. This server plays, and doesn't record.
         || (starts_with(word, b"mode=")
             && !word.eq_ignore_ascii_case(b"mode=play")
             && !word.eq_ignore_ascii_case(b"mode=\"play\""))
@@ -116,6 +120,7 @@ fn channels_of(text: &[u8]) -> Option<Channels>
 {
     for part in parts_of(text, b';') {
         let part = trim(part);
+        // Only the first such part counts, also where it is bad: the alternative is then refused.
         if starts_with(part, NAME) {
             return read_channels(&part[NAME.len()..]);
         }
@@ -132,6 +137,7 @@ fn read_alternative(text: &[u8]) -> Option<Channels>
         ¬ IsDelivery text.now channels) (IsDelivery text.now) }
 {
     let end = part_end(text, 0, b';');
+    // SETUP for UDP ends here: media goes over this connection alone.
     if !trim(&text[..end]).eq_ignore_ascii_case(b"RTP/AVP/TCP") {
         return None;
     }

@@ -28,8 +28,10 @@ pub struct Url<'a> {
 /// authority and the name have no LF; the authority has at most as many bytes as the URL, and the
 /// name is a good name, of at most 64 bytes.
 pub fn read_url(url: &[u8]) -> Option<Url<'_>>
+    // answers: the parts of the URL, or None if it has no such form
     ensures read { MatchOption result ((path : ℕ) → ¬ IsAbsoluteUrl url.now path)
         (λ read. IsRead url.now read.authority.now (option_copied read.name)) }
+    // sizes of the parts, so that a reply can repeat them on one line
     ensures authority { IfSome result (λ read. length read.authority.now ≤ length url.now) }
     ensures authority_line { IfSome result (λ read. is_one_line read.authority.now ≡ true) }
     ensures name { IfSome result (λ read. IfSome read.name (λ name. good_name name.now ≡ true)) }
@@ -40,6 +42,7 @@ pub fn read_url(url: &[u8]) -> Option<Url<'_>>
         return None;
     }
     let path = part_end(url, RTSP_SCHEME.len(), b'/');
+    // An authority has at least one byte, as in the grammar of requests.
     if path == RTSP_SCHEME.len() {
         return None;
     }
@@ -71,11 +74,13 @@ fn film_name(path: &[u8]) -> Option<&[u8]>
     ensures { MatchOption result ((name : List ℕ) →
         ¬ NamesFilm path.now name) (λ name. NamesFilm path.now name.now) }
 {
+    // A URL without a path is well formed. It names no film.
     if path.is_empty() || path[0] != b'/' {
         return None;
     }
     let end = part_end(path, 1, b'/');
     let name = &path[1..end];
+    // Percent signs aren't decoded, so that no two paths name one film by different spellings.
     if good_name(name) && is_tail(&path[end..]) {
         Some(name)
     } else {

@@ -23,11 +23,12 @@ pub enum Method {
     GetParameter,
 }
 
-/// The method of a request, where it is spoken.
+/// Reads the method of a request. None where it isn't spoken, as in another case of letters.
 pub fn read_method(text: &[u8]) -> Option<Method>
     ensures { MatchOption result ((method : Method) →
         text.now ≢ name_of method) (λ method. text.now ≡ name_of method) }
 {
+    // Byte by byte: RFC 2326 section 10 takes names of methods in their own case alone.
     if text == b"OPTIONS".as_slice() {
         Some(Method::Options)
     } else if text == b"DESCRIBE".as_slice() {
@@ -60,10 +61,12 @@ pub enum Topic {
     Unknown,
 }
 
-/// What the body of a GET_PARAMETER asks for.
+/// Reads what the body of a GET_PARAMETER asks for: `x-Booked` or `x-Offer`, with or without one
+/// line end, or nothing.
 pub fn read_topic(body: &[u8]) -> Topic
     ensures { IsTopic body.now result }
 {
+    // RFC 2326 section 10.8: an empty body tests whether the server is alive.
     if body.is_empty() {
         Topic::Nothing
     } else if is_word(body, b"x-Booked") {

@@ -8,7 +8,8 @@ ghost use Rattle.rtsp_replies.specs.declared.text_buffers.TheConstants.{MAX_TEXT
 use crate::text_buffers::Text;
 use early_start::{Offers, Tried};
 
-/// What is booked in a slot.
+/// Writes what is booked in a slot, over the old text: the slot `now` up to which the calendar has
+/// moved, the slot `at` and the bytes that are booked in it.
 pub fn put_look(body: &mut Text, now: u64, at: u64, booked: u64)
     ensures text { body.new ≡ look_body now at booked }
     ensures short { length body.new ≤ MAX_TEXT_BYTES }
@@ -23,13 +24,14 @@ pub fn put_look(body: &mut Text, now: u64, at: u64, booked: u64)
     body.put(b"\r\n");
 }
 
-/// From which slot on a play would fit, and the first slot without room for each start that was
-/// tried without room.
+/// Writes from which slot on a play would fit, and the first slot without room for each start that
+/// was tried without room, over the old text: at most 257 lines.
 pub fn put_offer(body: &mut Text, offers: &Offers)
     ensures text { body.new ≡ offer_body offers.now.start offers.now.tried }
     ensures short { length body.new ≤ MAX_TEXT_BYTES }
 {
-    // the contract of `wait` says that it is at most 255, so that at most 256 starts were tried
+    // The contract of `wait` says that it is at most 255, so at most 256 starts were tried. Their
+    // lines of at most 93 bytes and the first one of at most 31 then fit.
     let _most = offers.wait();
     body.clear();
     put_start_line(body, offers.start());

@@ -41,6 +41,7 @@ impl From<RequestFault> for Refusal {
     /// The refusal of a request that isn't well formed.
     fn from(fault: RequestFault) -> Refusal {
         match fault {
+            // RFC 2326 section 7.1.1 has a code of its own for a version; the rest is 400.
             RequestFault::BadVersion => Refusal::Version,
             RequestFault::BadLine
             | RequestFault::BadHeader(_)
@@ -58,6 +59,7 @@ impl From<CurveRefused> for Refusal {
         match refused {
             CurveRefused::NoMemory => Refusal::Memory,
             CurveRefused::Fault(fault) => match fault {
+                // Too few or too many pictures: another range may do, a larger buffer won't.
                 CurveFault::NoPictures | CurveFault::TooManySlots { .. } => Refusal::Range,
                 CurveFault::BufferTooSmall { least, .. } => Refusal::Buffer(least),
             },

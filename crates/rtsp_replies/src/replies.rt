@@ -20,7 +20,8 @@ use itoa::Buffer;
 use rtsp_fields::{Channels, description, seconds_text};
 use rtsp_text::Reply;
 
-/// A refusal, of a request that requires this option.
+/// Writes a refusal, over the old text. The option is what the request requires: 551 repeats it in
+/// `Unsupported`.
 pub fn put_refusal(reply: &mut Reply, sequence: Option<u64>, refusal: Refusal, option: &[u8])
     requires short { length option.now ≤ MAX_HEAD_BYTES }
     requires line { is_one_line option.now ≡ true }
@@ -32,7 +33,7 @@ pub fn put_refusal(reply: &mut Reply, sequence: Option<u64>, refusal: Refusal, o
     reply.finish(&[]);
 }
 
-/// The 200 of an OPTIONS.
+/// Writes the 200 of an OPTIONS, over the old text: its `Public` lists the methods that are spoken.
 pub fn put_public(reply: &mut Reply, sequence: u64)
     ensures { reply.new ≡ public_text sequence }
 {
@@ -45,7 +46,8 @@ pub fn put_public(reply: &mut Reply, sequence: u64)
     reply.finish(&[]);
 }
 
-/// The 200 of a DESCRIBE of a film that takes so many milliseconds.
+/// Writes the 200 of a DESCRIBE of a film that takes `end_ms` milliseconds, over the old text: the
+/// base URL under this authority, and the description.
 pub fn put_description(reply: &mut Reply, sequence: u64, authority: &[u8], name: &str, end_ms: u64)
     requires authority { length authority.now ≤ MAX_HEAD_BYTES }
     requires authority_line { is_one_line authority.now ≡ true }
@@ -53,9 +55,11 @@ pub fn put_description(reply: &mut Reply, sequence: u64, authority: &[u8], name:
     ensures { reply.new ≡ describe_text sequence authority.now name.now end_ms }
 {
     let mut text = [0u8; 512];
+    // The body is written first: the head gives its length.
     let length = description(name, end_ms, &mut text);
     reply.clear();
     reply.start(200, Some(sequence));
+    // The description's `control:video` is relative to this URL, hence the `/` at its end.
     reply.field_from_parts(
         b"Content-Base",
         &[
@@ -71,7 +75,8 @@ pub fn put_description(reply: &mut Reply, sequence: u64, authority: &[u8], name:
     reply.finish(&text[..length]);
 }
 
-/// The 200 of a SETUP: the channels, the SSRC in eight hexadecimal digits, and the session's id.
+/// Writes the 200 of a SETUP, over the old text: the channels, the SSRC in eight hexadecimal
+/// digits, and the session's id.
 pub fn put_setup(reply: &mut Reply, sequence: u64, channels: Channels, ssrc: u32, id: &[u8; 16])
     requires { is_one_line id.now ≡ true }
     ensures { reply.new ≡ setup_text sequence channels.media channels.control ssrc id.now }
@@ -95,7 +100,8 @@ pub fn put_setup(reply: &mut Reply, sequence: u64, channels: Channels, ssrc: u32
     reply.finish(&[]);
 }
 
-/// A 200 with the session's id alone.
+/// Writes a 200 with the session's id alone, over the old text: for a PAUSE, a TEARDOWN, and a PLAY
+/// that changes nothing.
 pub fn put_session(reply: &mut Reply, sequence: u64, id: &[u8; 16])
     requires id { is_one_line id.now ≡ true }
     ensures { reply.new ≡ session_text sequence id.now }
@@ -106,7 +112,7 @@ pub fn put_session(reply: &mut Reply, sequence: u64, id: &[u8; 16])
     reply.finish(&[]);
 }
 
-/// A 200 without fields.
+/// Writes a 200 with no field but CSeq, over the old text: for a GET_PARAMETER without a body.
 pub fn put_plain(reply: &mut Reply, sequence: u64)
     ensures { reply.new ≡ plain_text sequence }
 {
@@ -132,13 +138,16 @@ pub struct PlayInfo<'m> {
     pub timestamp: u32,
 }
 
-/// The 200 of a PLAY up to its start.
+/// Writes the 200 of a PLAY up to its start, over the old text: session, range of the film in
+/// seconds, URL, next sequence number and timestamp. [`put_start`] completes it.
 pub fn put_play(reply: &mut Reply, sequence: u64, id: &[u8; 16], info: &PlayInfo<'_>)
+    // needs: texts on one line, of a bounded size, so that the reply fits
     requires id { is_one_line id.now ≡ true }
     requires authority { length info.now.authority.now ≤ MAX_HEAD_BYTES }
     requires authority_line { is_one_line info.now.authority.now ≡ true }
     requires name { length info.now.name.now ≤ 64 }
     requires name_line { is_one_line info.now.name.now ≡ true }
+    // leaves: the beginning of the reply, with room for its end
     ensures text { reply.new ≡
         reply_front 200 (Some sequence) (play_fields id.now info.now.first_ms info.now.end_ms
         info.now.authority.now info.now.name.now info.now.sequence info.now.timestamp) }
@@ -158,6 +167,7 @@ pub fn put_play(reply: &mut Reply, sequence: u64, id: &[u8; 16], info: &PlayInfo
             seconds_text(info.end_ms, &mut end),
         ],
     );
+    // RFC 2326 section 12.33: by `seq` a client tells packets from before a seek.
     reply.field_from_parts(
         b"RTP-Info",
         &[
@@ -173,7 +183,8 @@ pub fn put_play(reply: &mut Reply, sequence: u64, id: &[u8; 16], info: &PlayInfo
     );
 }
 
-/// The end of the 200 of a PLAY that begins so many slots after the last one.
+/// Completes the 200 of a PLAY that begins so many slots after the last one, behind what
+/// [`put_play`] wrote.
 pub fn put_start(reply: &mut Reply, slots: u64)
     requires { length reply.old ≤ 20000 }
     ensures text { reply.new ≡ started_text reply.old slots }
@@ -185,7 +196,8 @@ pub fn put_start(reply: &mut Reply, slots: u64)
     reply.finish(&[]);
 }
 
-/// The 453 of a play for which the link has no room.
+/// Writes the 453 of a play for which the link has no room, over the old text: the first slot
+/// without room, the bytes booked in it and the bytes that the plan asks for there.
 pub fn put_overflow(reply: &mut Reply, sequence: u64, slot: u64, booked: u64, asked: u64)
     ensures { reply.new ≡ overflow_text sequence slot booked asked }
 {
@@ -197,7 +209,8 @@ pub fn put_overflow(reply: &mut Reply, sequence: u64, slot: u64, booked: u64, as
     reply.finish(&[]);
 }
 
-/// The 503 of a full journal.
+/// Writes the 503 of a full journal, over the old text: how many entries it has, and how many plays
+/// are open.
 pub fn put_full(reply: &mut Reply, sequence: u64, entries: u64, live: u64)
     ensures { reply.new ≡ full_text sequence entries live }
 {
@@ -208,7 +221,7 @@ pub fn put_full(reply: &mut Reply, sequence: u64, entries: u64, live: u64)
     reply.finish(&[]);
 }
 
-/// The 200 of a GET_PARAMETER with this body.
+/// Writes the 200 of a GET_PARAMETER with this body, over the old text.
 pub fn put_parameters(reply: &mut Reply, sequence: u64, body: &[u8])
     requires { length body.now ≤ MAX_TEXT_BYTES }
     ensures { reply.new ≡ parameters_text sequence body.now }
@@ -234,6 +247,7 @@ fn code_of(refusal: Refusal) -> u16
         Refusal::Film => 404,
         Refusal::State => 455,
         Refusal::Transport => 461,
+        // The client's buffer is a parameter, too: `x-Least-Buffer` then names what would do.
         Refusal::Parameter | Refusal::Buffer(_) => 451,
         Refusal::Range => 457,
         Refusal::Memory => 500,
@@ -250,6 +264,7 @@ fn put_refusal_field(reply: &mut Reply, refusal: Refusal, option: &[u8])
         → reply.new ≡ reply_front code sequence (refusal_fields refusal option.now) }
 {
     match refusal {
+        // RFC 2326 section 12.32: a 551 names the options that aren't supported, and none is.
         Refusal::Option => reply.field(b"Unsupported", option),
         Refusal::Buffer(least) => reply.number_field(b"x-Least-Buffer", least),
         Refusal::BadRequest

@@ -7,7 +7,7 @@ use std::alloc::Global;
 use std::marker::Model;
 use vod_base::NoMemory;
 
-/// The most bytes of a text.
+/// The most bytes of a text. An offer of 256 starts has the longest one: at most 23,839 bytes.
 pub const MAX_TEXT_BYTES: usize = 24_576;
 
 /// The text of a reply's body, in a buffer of 24,576 bytes that `new` takes. It is apart from
@@ -38,6 +38,7 @@ impl Text {
     pub fn new(alloc: Global) -> Result<Text, NoMemory>
         ensures { IfOk result (λ text. text ≡ []) }
     {
+        // All room is reserved here, so that a body is written without a case for a lack of memory.
         let bytes = Vec::with_capacity(alloc, MAX_TEXT_BYTES)?;
         Ok(Text { bytes })
     }
@@ -49,7 +50,7 @@ impl Text {
         self.bytes.clear();
     }
 
-    /// The text so far.
+    /// Returns the text so far.
     pub fn bytes(&self) -> &[u8]
         ensures { result.now ≡ self.now }
     {

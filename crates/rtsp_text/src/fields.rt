@@ -16,6 +16,7 @@ const SEQUENCE: &[u8; 4] = b"CSeq";
 pub(crate) fn header_value<'a>(head: &'a [u8], name: &[u8]) -> Option<&'a [u8]>
     ensures { option_map (λ value. value.now) result ≡ header_value head.now name.now }
 {
+    // The first line of a name counts, so that a request has one reading.
     for line in header_lines(head) {
         if let Some(value) = value_in(name, line) {
             return Some(value);
@@ -35,6 +36,8 @@ pub(crate) fn sequence_number(head: &[u8]) -> Option<u64>
 pub(crate) fn first_sequence(head: &[u8]) -> Option<u64>
     ensures { result ≡ first_sequence head.now }
 {
+    // A bad first CSeq makes the request a 400. A later good one still numbers that reply, so that
+    // the client can tell which request it answers.
     for line in header_lines(head) {
         if let Some(number) = number_in(value_in(SEQUENCE, line)) {
             return Some(number);
@@ -47,6 +50,7 @@ pub(crate) fn first_sequence(head: &[u8]) -> Option<u64>
 fn is_same_name(one: &[u8], other: &[u8]) -> bool
     ensures { result ≡ str_eq_ignore_ascii_case one.now other.now }
 {
+    // RFC 2326 section 4.2 takes names of fields as RFC 2068 does: in any case.
     one.eq_ignore_ascii_case(other)
 }
 

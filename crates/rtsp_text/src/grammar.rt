@@ -10,7 +10,7 @@ ghost use Rattle.rtsp_text.specs.Grammar.{IsRequestLine, IsHeaderLine};
 
 use vod_base::{is_decimal, split_at_first};
 
-/// Whether all bytes are printable and none is the space, as in a URL.
+/// Returns whether all bytes are printable and none is the space, as in a URL: 33 to 126.
 pub fn has_url_bytes(text: &[u8]) -> bool
     ensures { result ≡ list_all is_url_byte text.now }
 {
@@ -38,6 +38,8 @@ pub(crate) fn request_line(text: &[u8]) -> Option<RequestLine<'_>>
         ¬ IsRequestLine text.now method url version)
         (λ line. IsRequestLine text.now line.method.now line.url.now line.version.now) }
 {
+    // Single spaces part the three words (RFC 2326 section 6.1). With a further one a word is empty
+    // or has a space, which the checks below refuse.
     let (method, rest) = split_at_first(text, b' ')?;
     let (url, version) = split_at_first(rest, b' ')?;
     if is_token(method) && is_url(url) && is_version(version) {
@@ -72,6 +74,8 @@ pub(crate) fn is_rtsp_1_0(version: &[u8]) -> bool
 fn is_token_byte(byte: u8) -> bool
     ensures { result ≡ is_token_byte byte }
 {
+    // Narrower than the RFC's `token`: all names of RFC 2326 are of these bytes, and one grammar
+    // without exceptions can be proved.
     byte.is_ascii_alphanumeric() || byte == b'_' || byte == b'-'
 }
 
@@ -101,6 +105,7 @@ fn is_url_byte(byte: u8) -> bool
 fn is_value_byte(byte: u8) -> bool
     ensures { result ≡ is_value_byte byte }
 {
+    // A lone CR is a control character, so it can't hide a line's end inside a value.
     (32 <= byte || byte == b'\t') && byte != 127
 }
 
@@ -124,6 +129,7 @@ fn is_scheme(text: &[u8]) -> bool
 fn is_rtsp_url(url: &[u8]) -> bool
     ensures { IsTrue result ↔ IsRtspUrl url.now }
 {
+    // After the scheme at least one byte of an authority follows, which is not `/`.
     if url.len() <= RTSP_SCHEME.len() {
         return false;
     }

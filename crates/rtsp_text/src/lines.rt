@@ -37,6 +37,7 @@ impl<'a> Iterator for HeaderLines<'a> {
                 self.rest = rest;
                 Some(line)
             }
+            // The empty line ends the head: what follows is the body, which may look like lines.
             _ => None,
         }
     }
@@ -69,6 +70,7 @@ fn next_line(bytes: &[u8]) -> Option<(&[u8], &[u8])>
     if bytes.is_empty() {
         return None;
     }
+    // The line may end in LF alone (RFC 2326 section 4).
     match line_end(bytes, 0) {
         Some(line) => Some((&bytes[..line.text_end], &bytes[line.next..])),
         None => Some((bytes, &bytes[bytes.len()..])),
@@ -82,11 +84,14 @@ fn head_end(message: &[u8]) -> usize
     ensures within { result ≤ length message.now }
     ensures split { IsSplit message.now (take result message.now) (drop result message.now) }
 {
+    // A complete message has a first line and an empty one, so neither return of the length is
+    // taken.
     let Some(first) = line_end(message, 0) else {
         return message.len();
     };
     let mut at = first.next;
     while let Some(line) = line_end(message, at) {
+        // An empty line: its text ends where it begins.
         if line.text_end == at {
             return line.next;
         }

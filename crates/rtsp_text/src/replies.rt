@@ -20,7 +20,8 @@ pub struct Reply {
     text: Vec<u8>,
 }
 
-/// The most bytes of a reply's text.
+/// The most bytes of a reply's text. The longest reply has a body of 24,576 bytes, or repeats
+/// 16,384 bytes of its request's head.
 pub const MAX_REPLY_BYTES: usize = 65_536;
 
 /// The most bytes of a phrase, which `Method Not Valid In This State` has.
@@ -57,6 +58,7 @@ impl Reply {
     pub fn new(alloc: Global) -> Result<Reply, NoMemory>
         ensures { IfOk result (λ reply. reply ≡ []) }
     {
+        // All room is reserved here, so that a request can be answered 500 when memory is out.
         let text = Vec::with_capacity(alloc, MAX_REPLY_BYTES)?;
         Ok(Reply { text })
     }
@@ -68,7 +70,7 @@ impl Reply {
         self.text.clear();
     }
 
-    /// The text so far.
+    /// Returns the text so far.
     pub fn bytes(&self) -> &[u8]
         ensures { result.now ≡ self.now }
     {
@@ -116,23 +118,28 @@ impl Reply {
     /// Appends the status line `RTSP/1.0 CODE PHRASE` and, where there is a sequence number, the
     /// line `CSeq: N`: at most [`MAX_REPLY_START_BYTES`] bytes.
     pub fn start(&mut self, code: u16, sequence: Option<u64>)
+        // needs: a code with a phrase, and room
         requires code { IsTrue (is_code code) }
         requires fits { length self.old + MAX_REPLY_START_BYTES ≤ MAX_REPLY_BYTES }
+        // leaves: the two lines behind the old text
         ensures text { self.new ≡ self.old ++ (status_line code ++ sequence_line sequence) }
         ensures short { length self.new ≤ length self.old + MAX_REPLY_START_BYTES }
         ensures front { self.old ≡ [] → self.new ≡ reply_front code sequence [] }
     {
         self.put_status(code);
+        // A 400 to a message without a number repeats none (RFC 2326 section 12.17).
         if let Some(number) = sequence {
             self.put_field(b"CSeq", Buffer::new().format(number).as_bytes());
         }
     }
 
-    /// Appends the line `NAME: VALUE`. The value has no LF.
+    /// Appends the line `NAME: VALUE`, ended by CR LF. The value has no LF.
     pub fn field(&mut self, name: &[u8], value: &[u8])
+        // needs: a value on one line, and room
         requires one_line { is_one_line value.now ≡ true }
         requires fits { length self.old + (length name.now + length value.now + 4)
             ≤ MAX_REPLY_BYTES }
+        // leaves: the field's line behind the old text
         ensures text { self.new ≡
             self.old ++ field_line (record { name = name.now; value = value.now }) }
         ensures long { length self.new ≡
@@ -158,9 +165,11 @@ impl Reply {
     /// Appends the line `NAME: VALUE`, where the value is these parts, one after another. No part
     /// has an LF.
     pub fn field_from_parts(&mut self, name: &[u8], parts: &[&[u8]])
+        // needs: parts on one line, and room for them together
         requires one_line { list_all (λ part. is_one_line part.now) parts.now ≡ true }
         requires fits { length self.old
             + (length name.now + sum_by (λ part. length part.now) parts.now + 4) ≤ MAX_REPLY_BYTES }
+        // leaves: the field's line behind the old text
         ensures text { let value = flat_map (λ part. part.now) parts.now in
             self.new ≡ self.old ++ field_line (record { name = name.now; value = value }) }
         ensures long { let value_length = sum_by (λ part. length part.now) parts.now in
@@ -187,7 +196,7 @@ impl Reply {
         self.put_field(name, Buffer::new().format(value).as_bytes());
     }
 
-    /// Appends the empty line and the body.
+    /// Appends the empty line and the body: the reply is then complete.
     pub fn finish(&mut self, body: &[u8])
         requires { length self.old + (2 + length body.now) ≤ MAX_REPLY_BYTES }
         ensures text { self.new ≡ self.old ++ (codes "\r\n" ++ body.now) }
@@ -222,6 +231,7 @@ fn phrase(code: u16) -> &'static [u8]
         503 => b"Service Unavailable",
         505 => b"RTSP Version Not Supported",
         551 => b"Option Not Supported",
+        // The contract admits only the codes above.
         _ => b"",
     }
 }

@@ -66,38 +66,44 @@ impl fmt::Display for RequestFault {
 
 impl Error for RequestFault {}
 
-/// The value of a head's first header line of that name, in any case, without the spaces and tabs
-/// around it; of a request's head or of a reply's (RFC 2326 section 4.2).
+/// Returns the value of a head's first header line of that name, in any case, without the spaces
+/// and tabs around it; of a request's head or of a reply's (RFC 2326 section 4.2).
 ///
 /// None exactly where the head has no line of that name. The value has no LF and at most as many
 /// bytes as the head.
 pub fn header_of<'a>(head: &'a [u8], name: &[u8]) -> Option<&'a [u8]>
+    // answers: the value of the first line of that name, or None if there is none
     ensures value { option_map (λ value. value.now) result ≡ header_value head.now name.now }
     ensures first { IfSome result (λ value.
         IsFirstField name.now (header_lines head.now) value.now) }
     ensures none { IfNone result (HasNoField name.now (header_lines head.now)) }
+    // its size: no longer than the head, and without an LF
     ensures short { IfSome result (λ value. length value.now ≤ length head.now) }
     ensures one_line { IfSome result (λ value. is_one_line value.now ≡ true) }
 {
     fields::header_value(head, name)
 }
 
-/// The value of a request's first header line of that name, as [`header_of`] finds it in the
-/// request's head.
+/// Returns the value of a request's first header line of that name, as [`header_of`] finds it in
+/// the request's head.
 pub fn header<'a>(request: &Request<'a>, name: &[u8]) -> Option<&'a [u8]>
+    // answers: the value of the first line of that name, or None if there is none
     ensures value { option_map (λ value. value.now) result ≡
         header_value request.now.head.now name.now }
     ensures first { IfSome result (λ value.
         IsFirstField name.now (header_lines request.now.head.now) value.now) }
     ensures none { IfNone result (HasNoField name.now (header_lines request.now.head.now)) }
+    // its size: no longer than the head, and without an LF
     ensures short { IfSome result (λ value. length value.now ≤ length request.now.head.now) }
     ensures one_line { IfSome result (λ value. is_one_line value.now ≡ true) }
 {
     header_of(request.head, name)
 }
 
-/// The number of a message's first CSeq (RFC 2326 section 12.17) that is a number, also where the
-/// message is no request of RTSP 1.0.
+/// Returns the number of a message's first CSeq (RFC 2326 section 12.17) that is a number up to
+/// 2^64 - 1, also where the message is no request of RTSP 1.0.
+///
+/// None exactly where no CSeq of the message is such a number.
 pub fn sequence_of(message: &[u8]) -> Option<u64>
     ensures value { result ≡ first_sequence message.now }
     ensures first { IfSome result (IsFirstNumber (codes "CSeq") (header_lines message.now)) }
@@ -116,15 +122,19 @@ pub fn sequence_of(message: &[u8]) -> Option<u64>
 ///
 /// The first [`RequestFault`] that applies, in the order of its variants.
 pub fn read_request(message: &[u8]) -> Result<Request<'_>, RequestFault>
+    // needs: one complete message
     requires { IsMessageLength message.now (length message.now) }
+    // answers: what was read is a request, and a fault is the first that holds
     ensures read { IfOk result (λ r.
         IsRequest message.now r.method.now r.url.now r.sequence r.head.now r.body.now) }
     ensures refused { IfErr result (IsFault message.now) }
+    // and the other way round: each request is read, and each fault is answered
     ensures requests { (method url : List ℕ) (sequence : ℕ) (head body : List ℕ) →
         IsRequest message.now method url sequence head body →
         IsOkAnd result (λ r. (r.method.now ≡ method) × (r.url.now ≡ url)
         × (r.sequence ≡ sequence) × (r.head.now ≡ head) × (r.body.now ≡ body)) }
     ensures faults { (fault : RequestFault) → IsFault message.now fault → result ≡ Err fault }
+    // sizes of the parts
     ensures head { IfOk result (λ r. length r.head.now ≤ MAX_HEAD_BYTES) }
     ensures url { IfOk result (λ r. length r.url.now < length r.head.now) }
     ensures body { IfOk result (λ r. length r.body.now ≤ MAX_BODY_BYTES) }
@@ -137,6 +147,7 @@ fn first_bad(message: &[u8]) -> Option<u64>
     ensures { MatchOption result (All IsHeaderLine (header_lines message.now))
         (IsFirstBad (header_lines message.now)) }
 {
+    // The first bad line is named, so that a wrong request has one fault, whatever follows.
     let mut count = 0u64;
     for line in header_lines(message) {
         count += 1;
@@ -153,6 +164,7 @@ fn has_length(message: &[u8]) -> bool
 {
     match fields::header_value(message, b"Content-Length") {
         Some(value) => is_decimal(value),
+        // A request without the field has no body (RFC 2326 section 12.14).
         None => true,
     }
 }
@@ -165,6 +177,8 @@ fn read_parts(message: &[u8]) -> Result<Request<'_>, RequestFault>
         IsRequest message.now r.method.now r.url.now r.sequence r.head.now r.body.now) }
     ensures refused { IfErr result (IsFault message.now) }
 {
+    // The checks stand in the order of the faults: the first that holds is answered, so each
+    // message has one answer.
     let line = request_line(first_line(message)).ok_or(RequestFault::BadLine)?;
     if !is_rtsp_1_0(line.version) {
         return Err(RequestFault::BadVersion);

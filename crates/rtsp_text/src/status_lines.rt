@@ -29,7 +29,9 @@ pub struct ReplyParts<'a> {
 /// None exactly where the first line isn't `RTSP/1.0`, three digits and a phrase, with single
 /// spaces. Header lines aren't judged.
 pub fn read_reply(message: &[u8]) -> Option<ReplyParts<'_>>
+    // needs: one complete message
     requires { IsMessageLength message.now (length message.now) }
+    // answers: what was read is a reply, None if its first line is no status line
     ensures read { MatchOption result ((code : ℕ) (phrase : List ℕ) →
         ¬ IsStatusLine (first_line message.now) code phrase)
         (λ r. IsReply message.now r.code r.phrase.now r.head.now r.body.now) }
@@ -37,6 +39,7 @@ pub fn read_reply(message: &[u8]) -> Option<ReplyParts<'_>>
         IsReply message.now code phrase head body →
         IsSomeAnd result (λ r. (r.code ≡ code) × (r.phrase.now ≡ phrase)
         × (r.head.now ≡ head) × (r.body.now ≡ body)) }
+    // sizes of the parts
     ensures head { IfSome result (λ r. length r.head.now ≤ MAX_HEAD_BYTES) }
     ensures body { IfSome result (λ r. length r.body.now ≤ MAX_BODY_BYTES) }
 {
@@ -54,10 +57,12 @@ pub fn read_reply(message: &[u8]) -> Option<ReplyParts<'_>>
 fn read_code(text: &[u8]) -> Option<u16>
     ensures { MatchOption result ((code : ℕ) → ¬ IsCode text.now code) (IsCode text.now) }
 {
+    // A status code has three digits (RFC 2326 section 7.1.1); `read_number` would take others.
     if text.len() != 3 {
         return None;
     }
     let number = read_number(text).ok()?;
+    // Three digits write at most 999, so the cast loses nothing.
     Some(number as u16)
 }
 

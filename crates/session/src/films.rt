@@ -29,6 +29,7 @@ pub(crate) fn stored_at(films: &[Stored], film: usize) -> &Stored
     ensures sizes { AreUnitSizes (stored_sizes result.now) }
 {
     let stored = &films[film];
+    // Both laws bound the sizes of the film's units, which the contract states.
     law_film_is_well_formed(&stored.film);
     law_wire_size_of_film_is_bounded();
     stored
@@ -39,6 +40,7 @@ pub(crate) fn milliseconds_at(film: &Film, unit: usize) -> u64
     requires { unit ≤ MAX_FILM_PICTURES }
     ensures { result ≡ milliseconds_at film.now unit }
 {
+    // A picture's time counts in 1/360,000 s: 360 of them are a millisecond.
     unit as u64 * u64::from(film.picture_time()) / 360
 }
 
@@ -56,6 +58,8 @@ pub(crate) fn timestamp_at(film: &Film, source: StreamSource, unit: usize) -> u3
     requires { unit ≤ MAX_FILM_PICTURES }
     ensures { result ≡ timestamp_at film.now source unit }
 {
+    // The RTP clock of video has 90,000 ticks a second, so four of these units are a tick. It
+    // counts the film's time from a random beginning, and wraps at 2^32 (RFC 3550 section 5.1).
     let since = unit as u64 * u64::from(film.picture_time()) / 4;
     source.timestamp.wrapping_add((since % (1 << 32)) as u32)
 }
@@ -69,6 +73,7 @@ pub(crate) fn identity_of(source: StreamSource, setup: &Setup, counts: Counts) -
         channel: setup.media,
         control: setup.control,
         ssrc: source.ssrc,
+        // Sequence numbers go on over all runs and wrap at 2^16 (RFC 3550 section 5.1).
         sequence: source
             .sequence
             .wrapping_add((counts.frames % (1 << 16)) as u16),
@@ -93,6 +98,7 @@ pub(crate) fn frames_of<'a>(
         ≡ bytes_between (stored_sizes stored.now) run.now.first_unit run.now.end_unit }
 {
     let identity = identity_of(source, setup, counts);
+    // The law ties the sizes of the pieces to the sizes of which the plan was made.
     law_frame_and_report_sizes_are_exact();
     Frames::new(stored, run.first_unit, run.end_unit, identity)
 }
@@ -103,6 +109,7 @@ pub(crate) fn counts_after(counts: Counts, frames: &Frames<'_>, sent: u64) -> Co
     ensures { result ≡ counts_after counts frames.now sent }
 {
     Counts {
+        // A report's counts have 32 bits and wrap (RFC 3550 section 6.4.1).
         frames: counts
             .frames
             .wrapping_add((frames.frames_before(sent) % (1 << 32)) as u32),

@@ -64,11 +64,13 @@ impl<'a> Session<'a> {
             planned.counts planned.run planned.plan)) }
     {
         let stored = stored_at(self.films, setup.film);
+        // The range is judged before the plan: 457 goes before the 451 of a small buffer.
         let Some(wanted) = requested_run(&stored.film, paused, range) else {
             return Err(Refusal::Range);
         };
         let (run, counts) = run_and_counts(stored, self.source, setup, self.counts, paused, wanted);
         let playback = playback_of(&stored.film, &self.settings, setup);
+        // A resumed play gets a plan of its own, so it can be refused like a new one.
         let plan = plan_of(self.alloc, stored, &playback, &run)?;
         Ok(Planned { run, counts, plan })
     }
@@ -87,6 +89,7 @@ fn counts_before(
 {
     match paused {
         Some(run) => {
+            // What was sent of the run stays sent, so numbers of frames go on behind it.
             let frames = frames_of(stored, source, setup, counts, &run);
             counts_after(counts, &frames, run.sent)
         }
@@ -111,6 +114,7 @@ fn run_and_counts(
     ensures goes_on { IsRunOf stored.now source setup.now result.1 result.0 }
 {
     match wanted {
+        // A paused run counts its own frames: the counts stay those at its beginning.
         PlayRequest::Resumed(run) => (run, counts),
         PlayRequest::New(run) => (run, counts_before(stored, source, setup, counts, paused)),
     }

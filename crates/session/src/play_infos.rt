@@ -30,6 +30,8 @@ pub(crate) fn info_of<'m>(
         timestamp_at stored.now.film source prepared.now.run.from_unit }
 {
     let run = prepared.run;
+    // `seq` is the next frame to be sent, `rtptime` the time at which `Range` begins (RFC 2326
+    // section 12.33). After a pause that picture may have been sent already.
     let sent = counts_after(prepared.counts, &prepared.frames, run.sent);
     PlayInfo {
         first_ms: milliseconds_at(&stored.film, run.from_unit),

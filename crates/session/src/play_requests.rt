@@ -43,6 +43,7 @@ fn span_of(range: Option<&[u8]>) -> Option<Span>
 {
     match range {
         Some(value) => read_range(value),
+        // RFC 2326 section 10.5: without a Range, on from a pause or from the beginning.
         None => Some(Span {
             from: Origin::Now,
             to: None,
@@ -66,6 +67,7 @@ fn run_in(film: &Film, paused: Option<Run>, span: Span) -> Option<PlayRequest>
     match span.from {
         Origin::At(from) => new_run(film, from, span.to),
         Origin::Now => match paused {
+            // The paused run has its end; an end that the Range names isn't used.
             Some(run) => Some(PlayRequest::Resumed(run)),
             None => new_run(film, 0, span.to),
         },

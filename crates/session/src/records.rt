@@ -55,6 +55,7 @@ impl Records {
         let receipts = Vec::with_capacity(alloc, RESERVED_LOOKS)?;
         Ok(Records {
             receipts,
+            // These two take memory only when a play or an offer is asked for.
             plays: Vec::new(alloc),
             offers: Vec::new(alloc),
         })
@@ -96,6 +97,7 @@ impl Records {
             × (self.old.play_room ≤ self.new.play_room) }
         ensures others { self.new.offer_room ≡ self.old.offer_room }
     {
+        // Two receipts: for the admission and for the halt. A halt must find its place at any time.
         self.reserve_receipts(looks + 2)?;
         self.reserve_play()
     }
@@ -120,6 +122,7 @@ impl Records {
           receipt_room = self.old.receipt_room - 1;
         } }
     {
+        // No error: the request for this receipt reserved its room before the station was asked.
         self.receipts.push_reserved(receipt);
     }
 

@@ -70,7 +70,9 @@ pub(crate) fn check_request<'m>(
     ensures task { IfOk result (IsTask (length films.now) state.now) }
     ensures judged { IsJudged films.now id.now state.now request.now result }
 {
+    // 501, 551 and 454 first: one order for all methods gives each request one answer.
     let method = own_method(id, state, request)?;
+    // OPTIONS may ask for `*` (RFC 2326 section 10.1), so its URL is never 404.
     if let Method::Options = method {
         return Ok(Task::Options);
     }
@@ -127,6 +129,7 @@ fn required_options<'m>(request: &Request<'m>) -> Option<&'m [u8]>
 {
     match header(request, b"Require") {
         Some(option) => Some(option),
+        // RFC 2326 section 12.27: a server treats it as `Require`.
         None => header(request, b"Proxy-Require"),
     }
 }
@@ -138,11 +141,13 @@ fn fits_session(method: Method, exists: bool, id: &[u8; 16], named: Option<&[u8]
     ensures needs { IsTrue result → NeedsSession method exists }
 {
     let matches = match named {
+        // The id exists from the beginning, but only SETUP makes it known: before, none matches.
         Some(value) => exists && session_matches(value, id),
         None => false,
     };
     match method {
         Method::Options | Method::Describe => true,
+        // Both are of use before there is a session: SETUP makes it, and a look needs none.
         Method::Setup | Method::GetParameter => named.is_none() || matches,
         Method::Play | Method::Pause | Method::Teardown => matches,
     }
@@ -195,6 +200,7 @@ fn is_own(method: Method, state: &State<'_>, film: usize) -> bool
         }
     };
     match method {
+        // Any film can be described, also during a session of another one.
         Method::Options | Method::Describe => true,
         _ => own,
     }
@@ -206,8 +212,11 @@ fn is_valid(method: Method, state: &State<'_>, has_range: bool) -> bool
     ensures valid { IsTrue result → IsValid method state.now }
 {
     match method {
+        // One session a connection, of one film: a second SETUP is 455.
         Method::Setup => !state.has_session(),
+        // No queue of plays: it would need reservations for plays that have no start yet.
         Method::Play => !state.is_playing() || !has_range,
+        // A play that sent its last byte is over, so a PAUSE is then 455.
         Method::Pause => state.is_playing(),
         _ => true,
     }

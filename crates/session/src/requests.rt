@@ -55,17 +55,21 @@ impl<'a> Session<'a> {
     /// [`Session::slot`] or [`Session::reply`] returned an error, no request is processed any more,
     /// since a play could not be stopped between two packets. [`Session::link_failed`] says so too.
     pub fn hear(&mut self, message: &[u8]) -> Ask
+        // needs: no answer of the station is awaited, no reply waits, no TEARDOWN was answered, no
+        // call of the link failed; and one complete message
         requires rest { AwaitsNoAnswer self.old }
         requires replied { self.old.waits ≡ false }
         requires torn { self.old.torn ≡ false }
         requires linked { self.old.lost ≡ false }
         requires whole { IsMessageLength message.now (length message.now) }
+        // answers and leaves: what the rules of RFC 2326 say for this state and this message
         ensures hears { Hears self.old message.now result self.new }
         ensures asks { AsksFor result self.new }
         ensures same { IsSameStationState self.old self.new }
     {
         match read_request(message) {
             Ok(request) => self.hear_request(&request),
+            // What is no request may still have a number, by which its client knows the 400.
             Err(fault) => self.refuse(sequence_of(message), fault.into()),
         }
     }
@@ -186,6 +190,7 @@ impl<'a> Session<'a> {
                     self.source.ssrc,
                     &self.id,
                 );
+                // Only here: a SETUP that is refused leaves no session behind.
                 self.state.enter(State::Ready(setup, None));
                 self.reply_waits()
             }
@@ -205,6 +210,8 @@ impl<'a> Session<'a> {
     {
         let sequence = request.sequence;
         let State::Ready(setup, paused) = self.state else {
+            // Playing: without a Range it changes nothing (RFC 2326 section 10.5). Stopping can't
+            // be met: its reply waits, and until it is sent no request is processed.
             put_session(&mut self.reply, sequence, &self.id);
             return self.reply_waits();
         };
@@ -228,6 +235,8 @@ impl<'a> Session<'a> {
         ensures asks { AsksFor result self.new }
         ensures same { IsSameStationState self.old self.new }
     {
+        // Memory comes before the question: once the station has admitted the play, nothing can
+        // fail any more. Three plans are needed: for the journal, for the note and for the sender.
         let Ok((own, paced)) = plans_with_room(&mut self.log, self.looks_left, &planned.plan) else {
             return self.refuse(Some(sequence), Refusal::Memory);
         };
@@ -244,6 +253,8 @@ impl<'a> Session<'a> {
             paced,
             sequence,
         };
+        // The beginning of the 200 is written now: the authority is lent from the request, which is
+        // gone when the station answers. A refusal by the station clears it.
         let info = info_of(stored, self.source, setup, &prepared, authority);
         put_play(&mut self.reply, sequence, &self.id, &info);
         self.awaited.set(Awaited::Play(prepared));
@@ -260,7 +271,10 @@ impl<'a> Session<'a> {
         ensures same { IsSameStationState self.old self.new }
     {
         let films = self.films;
+        // Init only holds the place while the play is taken out, to be entered again below. The
+        // state changes when the station has noted the halt.
         let State::Playing(setup, mut play) = mem::replace(&mut self.state, State::Init) else {
+            // A PAUSE in any other state was answered 455.
             unreachable!()
         };
         let stored = stored_at(films, setup.film);
@@ -268,6 +282,7 @@ impl<'a> Session<'a> {
         let playback = playback_of(&stored.film, &self.settings, &setup);
         let last = play.pacer.last_slot();
         let left = run_after(stored, &playback, &play.run, &play.plan, last, keep);
+        // Written now: the station's answer to a halt adds nothing to this reply.
         put_session(&mut self.reply, sequence, &self.id);
         self.state.enter(State::Playing(setup, play));
         self.awaited
@@ -283,6 +298,7 @@ impl<'a> Session<'a> {
         ensures same { IsSameStationState self.old self.new }
     {
         put_session(&mut self.reply, sequence, &self.id);
+        // Without an open play there is no booking to halt, so the station isn't asked.
         let Some(keep) = ask_halt(&mut self.state) else {
             self.teardown = self.teardown.after_halt(AfterHalt::Torn);
             self.waits = true;
@@ -318,11 +334,14 @@ impl<'a> Session<'a> {
         ensures asks { AsksFor result self.new }
         ensures same { IsSameStationState self.old self.new }
     {
+        // While looks of the first 1,024 are left, their receipts have room. Later ones ask for
+        // memory, beside that for the halt of an open play, which must find its place.
         let looks_left = self.looks_left.saturating_sub(1);
         let open = usize::from(self.state.is_playing());
         if self.log.reserve_receipts(looks_left + open + 1).is_err() {
             return self.refuse(Some(sequence), Refusal::Memory);
         }
+        // Only now: a look that is refused uses up none.
         self.looks_left = looks_left;
         self.awaited.set(Awaited::Look(sequence));
         Ask::Look(self.heard)
@@ -360,6 +379,7 @@ impl<'a> Session<'a> {
         ensures asks { AsksFor result self.new }
         ensures same { IsSameStationState self.old self.new }
     {
+        // The same plan as a PLAY without a Range would ask with, so the offer says what that gets.
         match self.plan_play(setup, paused, None) {
             Ok(planned) => self.ask_offer(sequence, wait, planned),
             Err(refusal) => self.refuse(Some(sequence), refusal),
@@ -374,6 +394,7 @@ impl<'a> Session<'a> {
         ensures asks { AsksFor result self.new }
         ensures same { IsSameStationState self.old self.new }
     {
+        // Memory first, as for a play. An offer makes no entry, so it needs no receipt.
         let Ok(offers) = offers_with_room(self.alloc, &mut self.log, wait) else {
             return self.refuse(Some(sequence), Refusal::Memory);
         };
@@ -391,6 +412,7 @@ fn ask_halt(state: &mut State<'_>) -> Option<u64>
     ensures left { IfNone result (state.new ≡ state.old) }
 {
     match state {
+        // Not at once: a frame or report that was begun goes out to its end (RFC 2326, 10.12).
         State::Playing(_, play) => Some(play.pacer.ask_halt()),
         _ => None,
     }

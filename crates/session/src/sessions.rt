@@ -72,9 +72,9 @@ impl<'a> Model for Session<'a> {
 }
 
 impl<'a> Session<'a> {
-    /// A session of a new connection, in Init. The words are the connection's own random numbers:
-    /// two for the session's id, the SSRC, the sequence number of the first frame in 16 bits, and
-    /// the timestamp of the film's beginning.
+    /// Makes the session of a new connection, in Init. The words are the connection's own random
+    /// numbers: two for the session's id, the SSRC, the sequence number of the first frame in 16
+    /// bits, and the timestamp of the film's beginning.
     ///
     /// # Errors
     ///
@@ -85,10 +85,13 @@ impl<'a> Session<'a> {
         settings: Settings,
         words: [u32; 5],
     ) -> Result<Session<'a>, NoMemory>
+        // needs: settings and films within their ranges
         requires settings { AreSettings settings }
         requires films { AreFilms films.now }
+        // answers: the session at its beginning
         ensures exact { IfOk result (λ session. session ≡ new_session_state films.now settings
             words) }
+        // which means: nothing is awaited, open, waiting, failed or noted
         ensures rest { IfOk result (λ session. AwaitsNoAnswer session) }
         ensures open { IfOk result (λ session. open_of session ≡ None) }
         ensures replies { IfOk result (λ session. session.waits ≡ false) }
@@ -103,6 +106,7 @@ impl<'a> Session<'a> {
     {
         let id = session_id(u64::from(words[0]) * (1 << 32) + u64::from(words[1]));
         let source = source_of(&words);
+        // Taken here: later calls then write replies, bodies and receipts without an error.
         let reply = Reply::new(alloc)?;
         let body = Text::new(alloc)?;
         let log = Records::new(alloc)?;
@@ -127,40 +131,41 @@ impl<'a> Session<'a> {
         })
     }
 
-    /// Whether a reply waits.
+    /// Returns whether a reply waits.
     pub fn waits(&self) -> bool
         ensures { result ≡ self.now.waits }
     {
         self.waits
     }
 
-    /// Whether the 200 of a TEARDOWN was sent.
+    /// Returns whether the 200 of a TEARDOWN was sent.
     pub fn torn(&self) -> bool
         ensures { result ≡ self.now.torn }
     {
         matches!(self.teardown, Teardown::Sent)
     }
 
-    /// Whether a link call of the session failed: [`Session::slot`] or [`Session::reply`] returned
-    /// an error. From then on [`Session::hear`] may not be called.
+    /// Returns whether a link call of the session failed: [`Session::slot`] or [`Session::reply`]
+    /// returned an error. From then on [`Session::hear`] may not be called.
     pub fn link_failed(&self) -> bool
         ensures { result ≡ self.now.lost }
     {
         self.lost
     }
 
-    /// What is due of the open booking, in bytes of its plan, if there is one.
+    /// Returns what is due of the open booking, in bytes of its plan, if there is one.
     pub fn open_due(&self) -> Option<u64>
         ensures due { MatchOption result (open_of self.now ≡ None) (IsDue (open_of self.now)) }
         ensures within { IfSome result (CanKeep (open_of self.now)) }
     {
         match &self.state {
+            // In Stopping the station has noted the halt already, so nothing is open.
             State::Playing(_, play) => Some(play.pacer.due()),
             _ => None,
         }
     }
 
-    /// The greatest slot up to 2^62 that arrived, at first 0.
+    /// Returns the greatest slot up to 2^62 that arrived, at first 0.
     pub fn heard_slot(&self) -> u64
         ensures slot { result ≡ self.now.heard }
         ensures most { result ≤ 2 ^ 62 }
@@ -170,8 +175,10 @@ impl<'a> Session<'a> {
 
     /// Hands out what the connection leaves for its report.
     pub fn notes(self) -> Notes
+        // needs: no answer is awaited, and no booking is open
         requires rest { AwaitsNoAnswer self }
         requires closed { open_of self ≡ None }
+        // answers: all that was noted
         ensures receipts { result.receipts.items ≡ self.entry.receipts }
         ensures plays { result.plays.items ≡ self.entry.plays }
         ensures offers { result.offers.items ≡ self.entry.offers }

@@ -21,6 +21,7 @@ pub(crate) fn read_setup(
     ensures read { IsSetupRead settings.now request.now.head.now film result }
     ensures ranges { (films : ℕ) → film < films → IfOk result (IsSetup films) }
 {
+    // 461 goes before 451: the causes are tried in one order.
     let channels = channels_of(request).ok_or(Refusal::Transport)?;
     let buffer = buffer_of(request, settings).ok_or(Refusal::Parameter)?;
     let delay = delay_of(request, settings).ok_or(Refusal::Parameter)?;

@@ -32,11 +32,14 @@ impl<'a> Session<'a> {
     ///
     /// [`LinkFault`] only where the link's count rose.
     pub fn slot<K: Link>(&mut self, slot: u64, link: &mut K) -> Result<Slotted, LinkFault>
+        // needs: no answer of the station is awaited
         requires rest { AwaitsNoAnswer self.old }
+        // answers and sends: what is due in the slot, and the reply where it can go out
         ensures exact { OnOk result (self.new ≡ after_slot self.old slot) }
         ensures told { OnOk result (IsTold (is_taken self.old slot
             && is_sending self.old.state) (K.told link.old)
             (due_bytes self.old.waits self.old.state self.old.text slot) (K.told link.new)) }
+        // leaves: the slot as the last one, and the notes and the booking as they were
         ensures heard { self.new.heard ≡ last_heard_slot self.old.heard slot }
         ensures brings { IfOk result (λ step. Brings step self.new) }
         ensures kept { OnOk result (self.new.lost ≡ self.old.lost) }
@@ -45,11 +48,13 @@ impl<'a> Session<'a> {
         ensures receipts { self.new.receipts ≡ self.old.receipts }
         ensures plays { self.new.plays ≡ self.old.plays }
         ensures offers { self.new.offers ≡ self.old.offers }
+        // on an error: a prefix of these bytes was sent, and the link's count rose
         ensures count { K.faults link.old ≤ K.faults link.new }
         ensures failed { OnErr result
             (HasSlotFailed self.old slot (K.told link.old) (K.told link.new) self.new) }
         ensures fault { OnErr result (HasRisen (K.faults link.old) (K.faults link.new)) }
     {
+        // A slot counts once. None above 2^62 does, so that later sums stay in 64 bits.
         if slot <= self.heard || slot > LATEST_SLOT {
             return Ok(Slotted::Going);
         }
@@ -57,8 +62,10 @@ impl<'a> Session<'a> {
         let Some(start) = start_of(&self.state) else {
             return Ok(Slotted::Going);
         };
+        // Counted before the sends, so that missed slots count also where a send fails.
         self.late += missed_slots(before, start, slot);
         let Ok(replied) = send_due(&mut self.state, &self.reply, self.waits, slot, link) else {
+            // A frame may be cut: nothing may follow it, so no request is processed any more.
             self.lost = true;
             return Err(LinkFault);
         };
@@ -77,24 +84,30 @@ impl<'a> Session<'a> {
     ///
     /// [`LinkFault`] only where the link's count rose.
     pub fn reply<K: Link>(&mut self, link: &mut K) -> Result<(), LinkFault>
+        // needs: no answer of the station is awaited
         requires rest { AwaitsNoAnswer self.old }
+        // answers and sends: the reply, where it splits nothing
         ensures exact { OnOk result (self.new ≡
             (if can_reply self.old then sent_reply self.old else self.old)) }
         ensures told { OnOk result
             (IsTold (can_reply self.old) (K.told link.old) self.old.text (K.told link.new)) }
+        // on an error: only `lost` has changed, and a prefix of the reply was sent
         ensures failed { OnErr result (self.new ≡ record self.old { lost = true }) }
         ensures can { OnErr result (can_reply self.old ≡ true) }
         ensures front { OnErr result
             (IsSentPrefix (K.told link.old) (K.told link.new) self.old.text) }
+        // leaves: the last slot, the booking and the notes as they were
         ensures rest { AwaitsNoAnswer self.new }
         ensures kept { OnOk result (self.new.lost ≡ self.old.lost) }
         ensures heard { self.new.heard ≡ self.old.heard }
         ensures open { open_of self.new ≡ open_of self.old }
         ensures receipts { self.new.receipts ≡ self.old.receipts }
         ensures notes { AreNotesUnchanged self.old self.new }
+        // faults: the link's count never falls, and rose if the call failed
         ensures count { K.faults link.old ≤ K.faults link.new }
         ensures fault { OnErr result (HasRisen (K.faults link.old) (K.faults link.new)) }
     {
+        // Inside a frame or report the reply waits for the next boundary (RFC 2326 section 10.12).
         if !self.waits || !is_between(&self.state) {
             return Ok(());
         }
@@ -114,6 +127,7 @@ fn missed_slots(before: u64, start: u64, slot: u64) -> u64
     requires { before ≤ slot }
     ensures { result ≡ slot - 1 - max before (start - 1) }
 {
+    // Saturating: before the start of the play no slot is missed.
     (slot.saturating_sub(1)).saturating_sub(before.max(start.saturating_sub(1)))
 }
 
@@ -198,12 +212,15 @@ fn send_due<K: Link>(
         (sends (due_bytes waits state.old reply.now slot))) }
     ensures waited { IfOk result (λ sent. sent ≡ true → waits ≡ true) }
 {
+    // Without a reply there is no reason to stop at a boundary.
     if !waits {
         step(state, slot, false, link)?;
         return Ok(false);
     }
+    // First up to the next boundary: the reply splits no frame there, and waits no longer.
     step(state, slot, true, link)?;
     if !is_between(state) {
+        // All that is due ends inside a frame: the reply waits for the slot that brings its end.
         return Ok(false);
     }
     send_both(state, reply, slot, link)?;
@@ -233,6 +250,7 @@ fn send_both<K: Link>(
         (K.told link.new ≡ told_more (K.told link.old)
         (sends (reply.now ++ step_bytes false slot state.old))) }
 {
+    // The reply goes before the rest: it comes at the first boundary, not after the slot's bytes.
     link.send(reply.bytes())?;
     step(state, slot, false, link)?;
     Ok(())
@@ -255,6 +273,7 @@ fn done_bytes(state: &State<'_>) -> Option<u64>
 fn settle(state: &mut State<'_>)
     ensures { state.new ≡ after_stop state.old }
 {
+    // The stopped frame was sent before the reply, so nothing of the play is left.
     if let State::Stopping(setup, stop) = &*state {
         let ready = State::Ready(*setup, stop.paused);
         state.enter(ready);
@@ -270,6 +289,7 @@ fn finish<'a>(state: &State<'a>, awaited: &mut Awaited<'a>) -> Slotted
     ensures brings { BringsIn result awaited.new state.now }
 {
     match done_bytes(state) {
+        // Halted as soon as it is done, so that the journal has a halt for each admission.
         Some(bytes) => {
             *awaited = Awaited::Halt(bytes, AfterHalt::Done);
             Slotted::Finished(bytes)

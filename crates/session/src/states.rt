@@ -177,6 +177,7 @@ impl Teardown {
         ensures torn { is_torn_down result ≡ is_torn_down self }
     {
         match (self, next) {
+            // Only a TEARDOWN ends the session, and what it has reached is never taken back.
             (Teardown::Unanswered, AfterHalt::Torn) => Teardown::Answered,
             _ => self,
         }
@@ -204,6 +205,7 @@ impl<'a> Awaited<'a> {
         match mem::replace(self, Awaited::Nothing) {
             Awaited::Play(prepared) => prepared.sequence,
             Awaited::Look(sequence) | Awaited::Offer(sequence) => sequence,
+            // Nobody reads this number: the callers are the answers to a play, a look and an offer.
             Awaited::Nothing | Awaited::Halt(..) => 0,
         }
     }
@@ -222,6 +224,7 @@ pub(crate) fn source_of(words: &[u32; 5]) -> StreamSource
 {
     StreamSource {
         ssrc: words[2],
+        // RFC 3550 section 5.1: sequence number and timestamp begin at random values.
         sequence: (words[3] % 65_536) as u16,
         timestamp: words[4],
     }

@@ -38,11 +38,13 @@ use rtsp_replies::{put_full, put_look, put_offer, put_overflow, put_parameters, 
 use std::mem;
 
 impl<'a> Session<'a> {
-    /// The station admitted the play that was asked for: the place of its entry in the journal, and
-    /// the slot in which it begins.
+    /// Begins the play that was asked for, which the station admitted, and completes its 200: given
+    /// the place of its entry in the journal, and the slot in which it begins.
     pub fn admitted(&mut self, place: u64, start: u64)
+        // needs: a play was asked for, and begins in a later slot than the last
         requires asked { IsPlay (awaited_answer self.old) }
         requires start { self.old.heard < start }
+        // leaves: the play, the reply that waits, and the receipt of the answer
         ensures exact { self.new ≡ after_admission self.old place start }
         ensures text { (fields : List Field) →
             self.old.text ≡ reply_front 200 (Some (sequence_of self.old.awaited)) fields
@@ -55,28 +57,34 @@ impl<'a> Session<'a> {
         ensures play { IsPlayIn self.new.state }
         ensures notes { AreNotesUnchanged self.old self.new }
     {
+        // The contract asks for an awaited play, and a session asks for plays only in Ready.
         let Awaited::Play(prepared) = mem::replace(&mut self.awaited, Awaited::Nothing) else {
             unreachable!()
         };
         let State::Ready(setup, _) = self.state else {
             unreachable!()
         };
+        // A paused run that this play takes the place of is counted only now: had the station
+        // refused the play, the run would still be there to be resumed.
         self.counts = prepared.counts;
         self.log.note(Receipt::Entry {
             place,
             answer: Answer::Admitted { start },
         });
+        // The rest of the 200 was written when the play was asked for.
         put_start(&mut self.reply, start - self.heard);
         let play = play_of(prepared, place, start);
         self.state.enter(State::Playing(setup, play));
         self.waits = true;
     }
 
-    /// The link has no room for the play that was asked for: the place of the entry in the journal,
-    /// the first slot without room, the bytes booked in it and the bytes that the plan asks for
-    /// there.
+    /// Answers 453 to the play that was asked for, for which the link has no room: given the place
+    /// of the entry in the journal, the first slot without room, the bytes booked in it and the
+    /// bytes that the plan asks for there.
     pub fn overflowed(&mut self, place: u64, slot: u64, booked: u64, asked: u64)
+        // needs: a play was asked for
         requires asked { IsPlay (awaited_answer self.old) }
+        // leaves: the reply that waits and the receipt; no play is open
         ensures exact { self.new ≡ after_overflow self.old place slot booked asked }
         ensures handed { IsAnswerRecorded self.old
             (Receipt.Entry place (Answer.Overflow slot booked asked)) self.new }
@@ -97,10 +105,12 @@ impl<'a> Session<'a> {
         self.waits = true;
     }
 
-    /// The journal had no room for the play or the look that was asked for: the number of its
-    /// entries and of the open plays.
+    /// Answers 503 to the play or the look that was asked for, for which the journal had no room:
+    /// given the number of its entries and of the open plays.
     pub fn full(&mut self, entries: u64, live: u64)
+        // needs: a play or a look was asked for
         requires asked { IsPlayOrLook (awaited_answer self.old) }
+        // leaves: the reply that waits and the receipt, and an open play as it was
         ensures exact { self.new ≡ after_full self.old entries live }
         ensures handed { IsAnswerRecorded self.old (Receipt.Full entries live) self.new }
         ensures replies { self.new.waits ≡ true }
@@ -113,10 +123,13 @@ impl<'a> Session<'a> {
         self.waits = true;
     }
 
-    /// The booking was halted: the one for which that was asked, or the open one as the connection
-    /// ends, which keeps what is due.
+    /// Ends the play whose booking was halted, and notes it: the one for which that was asked, or
+    /// the open one as the connection ends, which keeps what is due. Given is the place of the
+    /// halt's entry in the journal.
     pub fn halted(&mut self, place: u64)
+        // needs: an open play, and its halt was asked for or nothing was
         requires asked { IsHalt (awaited_answer self.old) (open_of self.old) }
+        // leaves: no open play, its note and its receipt, and the reply's text as it was
         ensures halts { Halts self.old place self.new }
         ensures state { self.new.state ≡ halted_in self.old.state self.old.awaited }
         ensures plays { self.new.plays ≡
@@ -129,9 +142,12 @@ impl<'a> Session<'a> {
         ensures open { open_of self.new ≡ None }
     {
         let asked = mem::replace(&mut self.awaited, Awaited::Nothing);
+        // Init only holds the place while the play is taken out; the next state is entered below.
         let State::Playing(setup, play) = mem::replace(&mut self.state, State::Init) else {
             unreachable!()
         };
+        // A halt that nobody asked for is that of a connection that ends: it keeps what was due,
+        // which may have been sent.
         let (keep, next) = kept_and_next(&asked, play.pacer.due());
         let (films, source, counts) = (self.films, self.source, self.counts);
         self.counts = counts_next(films, source, counts, &setup, &play.run, keep, next);
@@ -140,16 +156,21 @@ impl<'a> Session<'a> {
             answer: Answer::Halted,
         });
         let (state, note) = state_and_note(setup, play, keep, next);
+        // Noted at the halt, since only now it is known how many bytes the booking keeps.
         self.log.note_play(note);
         self.state.enter(state);
+        // `|=`: as the connection ends, the reply to another request may still wait.
         self.waits |= is_answered(next);
         self.teardown = self.teardown.after_halt(next);
     }
 
-    /// What the station saw: the place of the entry in the journal, the slot up to which its book
-    /// has come, the slot that was looked at and the bytes booked in it.
+    /// Answers the look that was asked for: given the place of its entry in the journal, the slot
+    /// up to which the station's book has come, the slot that was looked at and the bytes booked in
+    /// it.
     pub fn looked(&mut self, place: u64, now: u64, at: u64, booked: u64)
+        // needs: a look was asked for
         requires asked { IsLook (awaited_answer self.old) }
+        // leaves: the reply that waits and the receipt, and an open play as it was
         ensures exact { self.new ≡ after_look self.old place now at booked }
         ensures handed { IsAnswerRecorded self.old
             (Receipt.Entry place (Answer.Looked now at booked)) self.new }
@@ -167,10 +188,12 @@ impl<'a> Session<'a> {
         self.waits = true;
     }
 
-    /// What the station offers: how many entries the journal had, the first slot that was tried,
-    /// and the plan and the offers that were handed out.
+    /// Answers the offer that was asked for, and notes it: given how many entries the journal had,
+    /// the first slot that was tried, and the plan and the offers that were handed out.
     pub fn offered(&mut self, seen: u64, first: u64, plan: Plan, offers: Offers)
+        // needs: an offer was asked for
         requires asked { IsOffer (awaited_answer self.old) }
+        // leaves: the reply that waits and the offer's note, and all else as it was
         ensures exact { self.new ≡
             after_offer self.old (record {
               seen = seen;
@@ -264,6 +287,8 @@ fn counts_next(
 {
     match next {
         AfterHalt::Done => {
+            // The run is over, so what was sent of it counts for the next one. A paused run counts
+            // on by itself, and no run follows a TEARDOWN.
             let stored = stored_at(films, setup.film);
             let frames = frames_of(stored, source, setup, counts, run);
             counts_after(counts, &frames, run.sent + keep)

@@ -103,6 +103,7 @@ pub fn law_play_is_answered()
 /// is asked for, or refused as a PLAY without a Range is. Any other body is refused by 451 (RFC
 /// 2326 section 10.8).
 pub fn law_get_parameter_is_answered()
+    // an empty body, and one that means nothing
     ensures alone { (old new : SessionState) (message : List ℕ) (ask : Ask) (request : Request) →
         Hears old message ask new → IsParameterRequest old message request →
         request.body.now ≡ [] → AnswersAlone old ask new }
@@ -112,10 +113,12 @@ pub fn law_get_parameter_is_answered()
     ensures unknown { (old new : SessionState) (message : List ℕ) (ask : Ask) (request : Request) →
         Hears old message ask new → IsParameterRequest old message request →
         IsUnknownBody request.body.now → IsRefusedBy old 451 request.sequence ask new }
+    // what is booked now: one entry of the journal, so it may need memory
     ensures look { (old new : SessionState) (message : List ℕ) (ask : Ask) (request : Request) →
         Hears old message ask new → IsParameterRequest old message request →
         IsWord (codes "x-Booked") request.body.now → IsLookAsked old request.sequence ask new
         ⊎ IsRefusedFor (old.looks_left ≡ 0) old 500 request.sequence ask new }
+    // a start for a play: refused by state first, then for its wait, and else asked for
     ensures no_session { (old new : SessionState) (message : List ℕ) (ask : Ask)
         (request : Request) → Hears old message ask new → IsParameterRequest old message request →
         IsWord (codes "x-Offer") request.body.now → old.state ≡ Init →

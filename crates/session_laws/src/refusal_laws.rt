@@ -28,6 +28,7 @@ ghost use Rattle.session.specs.SessionStates.{SessionState};
 /// names another session or none that it needs, 404 for a URL that names no film, and 455 for a
 /// method that isn't valid in the state (RFC 2326 sections 7.1.1, 12.27, 12.32 and 12.37).
 pub fn law_refusals_come_in_order()
+    // each of these has as premise that no earlier one applies
     ensures method { (old new : SessionState) (message : List ℕ) (ask : Ask) (request : Request) →
         Hears old message ask new → IsReadAs message request →
         ¬ IsKnownMethod request → IsRefusedBy old 501 request.sequence ask new }

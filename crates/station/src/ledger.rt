@@ -102,6 +102,7 @@ impl Ledger {
                 booked,
                 asked,
             }),
+            // A play is answered by one of these two alone.
             _ => unreachable!(),
         }
     }
@@ -128,6 +129,7 @@ impl Ledger {
             IsFullFor self.old self.new 1 full.entries full.live) }
     {
         let noted = self.book.look(maker, slot)?;
+        // A look that has room has this answer alone.
         let Answer::Looked { now, at, booked } = noted.answer else {
             unreachable!()
         };
@@ -146,8 +148,11 @@ impl Ledger {
     {
         let calendar = self.book.calendar();
         let entries = self.book.entries();
+        // The search needs a calendar within its capacity, and a start that isn't past.
         law_never_overbooked();
         law_offer_covers_past_slots();
+        // Where a play that is asked for now would begin: in the slot after the last one that
+        // arrived, or after the latest one in which any play was asked for.
         let first = calendar.now().max(heard.min(LATEST_SLOT)) + 1;
         into.find(calendar, plan, first);
         Offered {

@@ -29,15 +29,16 @@ impl Model for Seat {
 }
 
 impl Seat {
-    /// Its number: 0 for the first seat.
+    /// Returns its number: 0 for the first seat.
     pub fn number(&self) -> u32
         ensures { result ≡ self.now.number }
     {
         self.pass.number()
     }
 
-    /// What each seat satisfies: it has seen a legal history over its capacity in which each play
-    /// is halted by its own maker, and its own entries are those of its number in it.
+    /// States what each seat satisfies, and does nothing: it has seen a legal history over its
+    /// capacity in which each play is halted by its own maker, and its own entries are those of its
+    /// number in it.
     pub fn holds(&self)
         ensures kept { IsSeat self.now }
     {

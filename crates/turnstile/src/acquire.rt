@@ -72,6 +72,7 @@ fn wait<B: Kept, R: Wait>(
             return;
         }
         tries = match sleep {
+            // Its bell rang, so this ticket is most likely next: it looks awake again.
             Some(key) => {
                 key.wait(rt);
                 0
@@ -81,8 +82,10 @@ fn wait<B: Kept, R: Wait>(
                 hint::spin_loop();
                 (tries + 1).min(SPINS)
             }
+            // Others come first: it sleeps before the next look.
             None => SPINS,
         };
     }
+    // `forever` gives no end: the only way out is to be served.
     unreachable!()
 }

@@ -10,7 +10,7 @@ pub trait Kept {
 
     ghost terms: { Self → Terms };
 
-    /// How many entries the list has.
+    /// Returns how many entries the list has.
     fn count(&self) -> u64
         ensures { result ≡ length (entries self.now) };
 }

@@ -36,7 +36,7 @@ impl Model for Pass {
 }
 
 impl Pass {
-    /// Its number: 0 for the first pass.
+    /// Returns its number: 0 for the first pass.
     pub fn number(&self) -> u32
         ensures { result ≡ self.now.number }
     {
@@ -73,6 +73,7 @@ impl Pass {
         ensures number { self.new.number ≡ self.old.number }
         ensures splits { self.new.splits ≡ self.old.splits }
     {
+        // A blank badge stays behind: while the lock is held the seat is in the turn alone.
         mem::replace(&mut self.badge, Badge::blank()).into_seat()
     }
 }

@@ -78,6 +78,7 @@ pub(crate) fn look<B: Kept>(shared: &SharedTable<B>, place: &mut Place<B>, ticke
     ensures same { IsSame place.old place.new }
     ensures looked { HasLooked B.entries B.terms place.old.me result place.new.me }
 {
+    // Reading its own ticket gives a pass the slot, so the lock needs no step of its own.
     shared.load::<Looks<B>>(place, SERVING)
 }
 
@@ -91,6 +92,7 @@ pub(crate) fn count_entry<B: Kept>(shared: &SharedTable<B>, place: &mut Place<B>
     ensures same { IsSame place.old place.new }
     ensures counted { place.new.me ≡ after_counting B.entries place.old.me }
 {
+    // By the invariant the word is the length of the journal, so this step makes the entry.
     shared.fetch_add::<Counts<B>>(place, ENTRIES, 1);
 }
 
@@ -104,6 +106,7 @@ pub(crate) fn give_back<B: Kept>(shared: &SharedTable<B>, place: &mut Place<B>) 
     ensures left { (place.new.me.0 ≡ record place.old.me.0 { stage = Idle })
         × (place.new.me.1 ≡ []) }
 {
+    // One step gives the slot back and serves the next ticket, so the next pass finds the value.
     shared.fetch_add::<Leaves>(place, SERVING, 1)
 }
 

@@ -46,6 +46,7 @@ impl<B: Kept> Turn<B> {
         requires own { seat.me.0.mine ≡ entries_by seat.me.0.number seat.me.0.seen }
         ensures { result ≡ record { pass = state_of_view seat.table_id seat.me.0; value = value } }
     {
+        // Kept, so that the end can tell at run time whether an entry was made.
         let before = value.count();
         Turn {
             seat,
@@ -75,9 +76,11 @@ impl<B: Kept> Turn<B> {
             value,
             before,
         } = self;
+        // A turn makes at most one entry, so another count means one more.
         let grown = value.count() != before;
         // The value goes back before the next ticket is served: that pass takes it at once.
         let empty = shared.exchange(&mut seat, VALUE, Some(value));
+        // The slot was emptied when the lock was taken, and no other pass could fill it.
         let None = empty else { unreachable!() };
         count_if_grown(shared, &mut seat, grown);
         let served = give_back(shared, &mut seat);
@@ -86,7 +89,7 @@ impl<B: Kept> Turn<B> {
         seat
     }
 
-    /// The value.
+    /// Lends the value. What is written to it is what `Turnstile::leave` puts back.
     pub fn value(&mut self) -> &mut B
         ensures* writes_back { sem 𝓛 (LendsValue B.row B.Kept self.entry result) }
         ensures value { result.now ≡ self.old.value }
