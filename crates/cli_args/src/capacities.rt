@@ -13,7 +13,7 @@ use slot_calendar::{CapStep, MAX_CAPACITY, MAX_STEPS, Profile};
 use std::alloc::Global;
 use vod_base::{LATEST_SLOT, NoMemory, number_within, read_number};
 
-/// The capacity of each slot in bytes, where no argument gives one.
+/// The capacity of each slot in bytes, where no argument gives one: 10 Mbit/s in slots of 40 ms.
 const DEFAULT_CAPACITY: u64 = 50_000;
 
 /// Reads the steps of the capacity that the arguments give.
@@ -28,7 +28,7 @@ pub(crate) fn one_capacity(words: &[String], key: &str) -> Option<Steps>
     }
 }
 
-/// The capacity of these steps, each from its slot on, in bytes a slot.
+/// Makes the capacity of these steps, each from its slot on, in bytes a slot.
 ///
 /// # Errors
 ///
@@ -56,6 +56,7 @@ fn is_later_step(steps: &[CapStep], slot: u64) -> bool
 {
     match steps.last() {
         Some(last) => last.from < slot,
+        // From slot 0 on, so that each slot has a capacity.
         None => slot == 0,
     }
 }
@@ -123,6 +124,7 @@ fn read_capacity(text: &str) -> Option<Steps>
     ensures steps { result ≡ capacity_of text.now }
     ensures profile { IfSome result IsProfile }
 {
+    // A colon tells the forms apart: BYTES for all slots, or SLOT:BYTES joined by commas.
     if text.split_once(':').is_some() {
         return read_steps(text);
     }

@@ -11,6 +11,8 @@ use std::marker::Model;
 /// Contracts see the list of the steps.
 #[derive(Debug, Drop)]
 pub struct Steps {
+    // An array, so that arguments are read without memory: reading them has no other failure than a
+    // usage error.
     steps: [CapStep; MAX_STEPS],
     count: usize,
 }
@@ -37,7 +39,7 @@ impl Steps {
         }
     }
 
-    /// The steps.
+    /// Returns the steps, by rising slots.
     pub fn as_slice(&self) -> &[CapStep]
         ensures { result.now ≡ self.now }
     {

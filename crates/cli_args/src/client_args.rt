@@ -76,6 +76,8 @@ fn trace_alone<'a>(words: &[String], name: &'a str) -> Option<Source<'a>>
         (values_of (codes "film") (texts words.now)) (values_of (codes "slot") (texts words.now)) }
     ensures range { IfSome result IsSourceInRange }
 {
+    // A trace has one picture a slot, whatever a slot's length is. So `slot` has no meaning with
+    // it.
     if good_name(name.as_bytes()) && is_absent(words, "film") && is_absent(words, "slot") {
         Some(Source::Trace(name))
     } else {

@@ -27,6 +27,7 @@ pub(crate) fn are_films(words: &[String]) -> bool
     let mut count = 0usize;
     for (place, word) in words.iter().enumerate() {
         if let Some(name) = film_named(word.as_str()) {
+            // The name is the path of the film's URL, so two films can't have the same.
             if !good_name(name.as_bytes()) || is_named(&words[place + 1..], name) {
                 return false;
             }

@@ -40,7 +40,7 @@ pub enum Source<'a> {
 }
 
 impl<'a> Source<'a> {
-    /// Its name in the library.
+    /// Returns its name in the library.
     pub fn name(&self) -> &'a str
         ensures { result.now ≡ source_name (source_read self.now) }
     {

@@ -44,7 +44,7 @@ pub(crate) fn script_given<'a>(words: &'a [String]) -> Option<&'a str>
     one_name(words, "script")
 }
 
-/// A client's buffer, in bytes.
+/// A client's buffer, in bytes: 1 to 2^42, 1 MiB if not given.
 pub(crate) fn buffer_given(words: &[String]) -> Option<u64>
     ensures buffer { result ≡ buffer_given (texts words.now) }
     ensures range { IfSome result IsValidBuffer }
@@ -52,7 +52,7 @@ pub(crate) fn buffer_given(words: &[String]) -> Option<u64>
     number_or(words, "buffer", 1_048_576, 1, MAX_BYTES)
 }
 
-/// A start delay, in slots.
+/// A start delay, in slots: 0 to 10,000, 25 (1 s of default slots) if not given.
 pub(crate) fn delay_given(words: &[String]) -> Option<u64>
     ensures delay { result ≡ delay_given (texts words.now) }
     ensures range { IfSome result IsValidDelay }
@@ -60,7 +60,8 @@ pub(crate) fn delay_given(words: &[String]) -> Option<u64>
     number_or(words, "startup", 25, 0, MAX_DELAY)
 }
 
-/// The length of a slot, in 1/360,000 second.
+/// The length of a slot, in 1/360,000 second: 360 (1 ms) to 360,000 (1 s), 14,400 (40 ms) if not
+/// given.
 pub(crate) fn slot_given(words: &[String]) -> Option<u32>
     ensures slot { result ≡ slot_given (texts words.now) }
     ensures range { IfSome result IsValidSlot }
@@ -77,7 +78,7 @@ pub(crate) fn capacity_given(words: &[String]) -> Option<Steps>
     one_capacity(words, "capacity")
 }
 
-/// The most entries of a journal.
+/// The most entries of a journal: 2 to 1,048,576, 65,536 if not given.
 pub(crate) fn journal_given(words: &[String]) -> Option<u64>
     ensures journal { result ≡ journal_given (texts words.now) }
     ensures range { IfSome result IsValidJournal }
@@ -85,7 +86,7 @@ pub(crate) fn journal_given(words: &[String]) -> Option<u64>
     number_or(words, "journal", 65_536, 2, 1_048_576)
 }
 
-/// The port.
+/// The port: 1 to 65,535, 8554 if not given.
 pub(crate) fn port_given(words: &[String]) -> Option<u16>
     ensures port { result ≡ port_given (texts words.now) }
     ensures range { IfSome result IsValidPort }
@@ -94,7 +95,7 @@ pub(crate) fn port_given(words: &[String]) -> Option<u16>
     Some(port as u16)
 }
 
-/// The number of workers.
+/// The number of workers: 1 to 256, 32 if not given. Each serves one connection at a time.
 pub(crate) fn workers_given(words: &[String]) -> Option<u32>
     ensures workers { result ≡ workers_given (texts words.now) }
     ensures range { IfSome result IsValidWorkers }

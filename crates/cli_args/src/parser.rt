@@ -79,6 +79,8 @@ fn command_invocation<'a>(command: Subcommand, words: &'a [String]) -> Option<In
         command }
     ensures range { IfSome result IsInvocationInRange }
 {
+    // Asked first: the readers below pass over keys that they don't know, and a misspelled key
+    // would leave its default without a word.
     if are_settings_of(command, words) {
         invocation_given(command, words)
     } else {
@@ -94,6 +96,7 @@ fn lone_invocation<'a>(order: Invocation<'a>, rest: &[String]) -> Option<Invocat
     ensures range { IfSome result IsInvocationInRange }
 {
     match rest {
+        // Any more arguments would be ignored, so there may be none.
         [] => Some(order),
         _ => None,
     }

@@ -20,6 +20,8 @@ pub(crate) fn serve_args_given<'a>(words: &'a [String]) -> Option<ServeArgs<'a>>
     ensures serving { option_map serve_args_of result ≡ serve_args_given (texts words.entry.now) }
     ensures range { IfSome result AreServeArgsInRange }
 {
+    // Only judged here. The names are read from the arguments again when the films are loaded, so
+    // no list of them takes memory.
     if !are_films(words) {
         return None;
     }

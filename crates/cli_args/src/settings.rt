@@ -36,6 +36,8 @@ pub(crate) fn find_given<'a>(words: &'a [String], key: &str) -> Given<'a>
     for word in words {
         if let Some(value) = setting(word.as_str(), key) {
             if found.is_some() {
+                // A second value is an error and not the last word: a typing error must not change
+                // a setting silently.
                 return Given::Again;
             }
             found = Some(value);

@@ -28,7 +28,7 @@ pub enum Subcommand {
     Watch,
 }
 
-/// The command of that name, if there is one.
+/// Returns the command of that name, if there is one.
 pub fn subcommand_named(word: &str) -> Option<Subcommand>
     ensures { result ≡ subcommand_named word.now }
 {
@@ -45,7 +45,7 @@ pub fn subcommand_named(word: &str) -> Option<Subcommand>
     }
 }
 
-/// The keys that a command takes.
+/// Returns the keys that a command takes.
 pub fn keys_of(command: Subcommand) -> &'static [&'static str]
     ensures { map (λ key. key.now) result.now ≡ keys_of command }
 {

@@ -109,6 +109,7 @@ fn write_spaced_number<S: Sink>(sink: &mut S, number: u64) -> Result<(), SinkFau
     ensures { IsTextWritten (S.faults sink.old) (S.faults sink.new) (S.written sink.old)
         (S.written sink.new) (number_text number) (is_ok result) }
 {
+    // On the stack: an error is written when memory is out, too.
     let mut buffer = itoa::Buffer::new();
     sink.write_all(b" ")?;
     sink.write_all(buffer.format(number).as_bytes())

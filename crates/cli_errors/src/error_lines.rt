@@ -46,6 +46,7 @@ pub fn write_number<S: Sink>(sink: &mut S, label: &str, number: u64) -> Result<(
     ensures { IsTextWritten (S.faults sink.old) (S.faults sink.new) (S.written sink.old)
         (S.written sink.new) (with_label label.now number) (is_ok result) }
 {
+    // On the stack: an error is written when memory is out, too.
     let mut buffer = itoa::Buffer::new();
     sink.write_all(b" ")?;
     sink.write_all(label.as_bytes())?;
@@ -67,6 +68,8 @@ fn write_input_name<S: Sink>(sink: &mut S, name: &str) -> Result<(), SinkFault>
     ensures { IsTextWritten (S.faults sink.old) (S.faults sink.new) (S.written sink.old)
         (S.written sink.new) (codes "vodserve: " ++ name.now) (is_ok result) }
 {
+    // A good name has no blank, no `:` and no line end. So the line is one line, and its parts can
+    // be told apart.
     sink.write_all(b"vodserve: ")?;
     sink.write_all(name.as_bytes())
 }

@@ -112,6 +112,7 @@ pub fn law_watched_film_is_complete()
         (first_slot client.mid.history) → IsDelivered course heard → IsDecided end
         → EndsWhole wish stored end out }
 {
+    // Hands the prover the law of the client's end.
     law_whole_film_ends_in_done();
 }
 

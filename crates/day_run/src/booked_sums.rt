@@ -19,6 +19,8 @@ pub(crate) fn booked_between(book: &Book, from: u64, to: u64) -> (u64, u64)
     ensures few { result.0 ≤ (to - from) * 2 ^ 42 }
 {
     let calendar = book.calendar();
+    // Nothing is booked later. A script may go on by 2^62 slots in one line, and the sum must not
+    // count through them.
     let end = to.min(calendar.booked_through());
     let mut booked = 0;
     let mut peak = 0;

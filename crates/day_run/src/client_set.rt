@@ -37,6 +37,7 @@ pub(crate) fn step_clients(clients: &mut [Client<'_>], slot: u64) -> u64
 {
     let mut sent = 0;
     for client in clients.iter_mut() {
+        // Can't overflow: at most 256 clients, and at most 2^42 bytes for each.
         sent += client.step(slot);
     }
     sent
@@ -58,6 +59,7 @@ pub(crate) fn halt_plays(book: &mut Book, clients: &mut [Client<'_>], which: Hal
     for (maker, client) in clients.iter_mut().enumerate() {
         if let Some(halt) = client.halt_of(which) {
             *client = Client::Idle;
+            // Can't fail: the journal keeps a place for the halt of each open play.
             let _noted = book.halt(maker as u32, halt.number, halt.keep);
         }
     }

@@ -101,6 +101,7 @@ impl<'r> Client<'r> {
             Client::Playing(play) => send(&mut play.pacer, slot),
             Client::Pausing(stop) => {
                 let sent = send(&mut stop.pacer, slot);
+                // Paused only now: a frame or report is never cut, and a resume begins after it.
                 if stop.pacer.sent() == stop.keep {
                     let rest = stop.rest;
                     *self = Client::Paused(rest);
@@ -146,6 +147,7 @@ impl<'r> Client<'r> {
                 if play.pacer.done() {
                     Some(Halt {
                         number: play.number,
+                        // All its bytes were sent, so nothing is left to be freed.
                         keep: play.pacer.sent(),
                     })
                 } else {
@@ -168,6 +170,7 @@ impl<'r> Client<'r> {
         match self {
             Client::Playing(play) => Some(Halt {
                 number: play.number,
+                // What is due counts as sent: it was reserved in slots that have passed.
                 keep: play.pacer.due(),
             }),
             _ => None,
@@ -191,18 +194,22 @@ impl<'r> Client<'r> {
 
     /// Pauses its play, if it has one, and returns how it is to be halted.
     pub(crate) fn pause(&mut self) -> Option<Halt>
+        // needs: a client that goes on soundly, and whose play isn't done
         requires going { IsGoing self.old }
         requires undone { IsUndone self.old }
+        // answers: how the play is to be halted, or None where nothing plays
         ensures some { IfSome result (IsHaltOf self.old) }
         ensures none { IfNone result (self.new ≡ self.old) }
         ensures idle { IfNone result (IsQuiet self.old) }
         ensures pause { (heard : ℕ) → IsTimed heard self.old →
             IfSome result (λ halt. IsPauseOf heard halt self.old self.new) }
+        // leaves: a client that goes on soundly and plays nothing open
         ensures timed { (heard : ℕ) → IsTimed heard self.old → IsTimed heard self.new }
         ensures going { IsGoing self.new }
         ensures undone { IsUndone self.new }
         ensures quiet { OnSome result (IsQuiet self.new) }
     {
+        // The play is moved out, as pausing takes it apart. Each case puts a client back.
         match replace(self, Client::Idle) {
             Client::Playing(play) => {
                 let (halt, next) = pause_play(play);
@@ -225,6 +232,7 @@ fn send(pacer: &mut Pacer<Sending<'_>>, slot: u64) -> u64
 {
     match pacer.step(slot, false, &mut NullLink) {
         Ok(sending) => sending.sent,
+        // Can't come: `NullLink` counts no faults, and a step fails only where its link did.
         Err(_) => unreachable!(),
     }
 }
@@ -255,6 +263,7 @@ fn pause_play<'r>(play: Play<'r>) -> (Halt, Client<'r>)
     let run = run_after(rest.medium, &rest.playback, &rest.run, &plan, last, keep);
     let rest = Rest { run, ..rest };
     let halt = Halt { number, keep };
+    // No piece is cut, so no further slot is needed to end it.
     if sent == keep {
         return (halt, Client::Paused(rest));
     }

@@ -38,8 +38,8 @@ const TRACES: usize = 16;
 /// A slot in 1/360,000 second.
 const SLOT_UNITS: u32 = 14_400;
 
-/// A large day that a number determines: 16 drawn traces, 256 clients and so many turns, at most
-/// 100,000, on a link of this capacity in slots of 40 ms, whose journal has room for 1,048,576
+/// Runs a large day that a number determines: 16 drawn traces, 256 clients and so many turns, at
+/// most 100,000, on a link of this capacity in slots of 40 ms, whose journal has room for 1,048,576
 /// entries.
 ///
 /// # Errors
@@ -47,6 +47,7 @@ const SLOT_UNITS: u32 = 14_400;
 /// [`NoMemory`] alone.
 pub fn fair(alloc: Global, seed: u64, plays: u32, profile: Profile) -> Result<Day, NoMemory>
     requires { plays ≤ 100000 }
+    // answers: the one line and journal of the number, a legal one within its limit
     ensures fair { IfOk result (λ day.
         IsFair profile seed plays day.text.items day.journal.items) }
     ensures legal { IfOk result (λ day. IsLegal profile day.journal.items) }
@@ -55,8 +56,11 @@ pub fn fair(alloc: Global, seed: u64, plays: u32, profile: Profile) -> Result<Da
     let mut draws = Draws::new(seed);
     let traces = draw_traces(alloc, &mut draws)?;
     let media = trace_media(alloc, &traces)?;
+    // The longest journal there is: 100,000 turns ask for at most as many plays, each with one
+    // halt.
     let mut machine = DayMachine::new(alloc, &media, profile, MAX_ENTRIES, SLOT_UNITS)?;
     let counts = run_turns(alloc, &mut draws, &mut machine, plays)?;
+    // The plays that are open are halted, so the counts have one halt for each play.
     machine.end();
     let journal = machine.into_entries();
     let entries = count_entries(&journal);
@@ -75,6 +79,8 @@ fn draw_traces(alloc: Global, draws: &mut Draws) -> Result<Vec<Vec<u64>>, NoMemo
 {
     let mut traces = Vec::with_capacity(alloc, TRACES)?;
     for trace in 0..TRACES {
+        // The order of the draws is part of the definition of a large day, here and below: one
+        // number has one day.
         let pictures = 100 + draws.draw(101);
         traces.push(draw_sizes(alloc, draws, pictures)?)?;
     }
@@ -143,6 +149,7 @@ fn turn_client(
 {
     match &machine.clients[client as usize] {
         Client::Playing(_) => Ok(Some(machine.pause(client))),
+        // Its last piece isn't sent to its end, so it can be asked for nothing in this slot.
         Client::Pausing(_) => Ok(None),
         Client::Paused(_) => Ok(Some(machine.resume(alloc, client)?)),
         Client::Idle => Ok(Some(play_drawn(alloc, draws, machine, client)?)),
@@ -151,11 +158,13 @@ fn turn_client(
 
 /// Comes to a slot that is so many later, if it is.
 fn advance(machine: &mut DayMachine<'_>, later: u64, counts: &mut FairTotals)
+    // needs: a sound day that is early enough, and sums that fit
     requires machine { IsDayMachine machine.old }
     requires ready { IsReady (day_state_of machine.old) }
     requires few { later ≤ 3 }
     requires early { machine.old.heard ≤ 2 ^ 20 }
     requires fitting { IsFitting machine.old.heard counts.old }
+    // leaves: a sound day in the later slot, and its sums
     ensures machine { IsDayMachine machine.new }
     ensures ready { IsReady (day_state_of machine.new) }
     ensures kept { IsKept machine.old machine.new }
@@ -165,6 +174,7 @@ fn advance(machine: &mut DayMachine<'_>, later: u64, counts: &mut FairTotals)
     ensures fitting { IsFitting machine.new.heard counts.new }
 {
     if later > 0 {
+        // The sums below can't overflow: at most 2^20 slots of at most 2^42 bytes.
         let slot = machine.heard + later;
         let passed = machine.slot(slot);
         counts.last = slot;
@@ -186,6 +196,8 @@ fn is_full(told: LineAnswer) -> bool
     match told {
         LineAnswer::Full(_) => true,
         LineAnswer::Entry(place) => {
+            // Does nothing at run time: the prover gets from it that an entry's line isn't this
+            // one.
             law_entries_other(place);
             false
         }
@@ -226,17 +238,20 @@ fn run_turn(
     machine: &mut DayMachine<'_>,
     counts: &mut FairTotals,
 ) -> Result<(), NoMemory>
+    // needs: a sound day that is early enough, with the 16 traces, and counts that fit
     requires machine { IsDayMachine machine.old }
     requires ready { IsReady (day_state_of machine.old) }
     requires media { length machine.old.media.now ≡ 16 }
     requires early { machine.old.heard ≤ 2 ^ 20 }
     requires turns { counts.old.turns < 2 ^ 32 }
     requires fitting { IsFitting machine.old.heard counts.old }
+    // leaves: a sound day, at most 3 slots later, with counts that fit
     ensures machine { OnOk result (IsDayMachine machine.new) }
     ensures ready { OnOk result (IsReady (day_state_of machine.new)) }
     ensures kept { OnOk result (IsKept machine.old machine.new) }
     ensures heard { OnOk result (machine.new.heard ≤ machine.old.heard + 3) }
     ensures fitting { OnOk result (IsFitting machine.new.heard counts.new) }
+    // answers: one turn of the definition
     ensures turned { OnOk result (IsTurnResult (link_on machine.old)
         (drawn_to (words_left draws.old) counts.old (day_state_of machine.old))
         (drawn_to (words_left draws.new) counts.new (day_state_of machine.new))) }

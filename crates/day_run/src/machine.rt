@@ -74,10 +74,12 @@ impl<'r> DayMachine<'r> {
         limit: u64,
         slot_units: u32,
     ) -> Result<DayMachine<'r>, NoMemory>
+        // needs: a limit and a slot length in range
         requires some { 2 ≤ limit }
         requires few { limit ≤ 1048576 }
         requires some_slot_units { 1 ≤ slot_units }
         requires slot_units_fit { slot_units ≤ 360000 }
+        // answers: a day at slot 0 on that link, whose clients play nothing
         ensures machine { IfOk result IsDayMachine }
         ensures steps { IfOk result (λ machine. machine.book.steps ≡ profile) }
         ensures link { IfOk result (λ machine. link_on machine ≡ record {
@@ -110,12 +112,15 @@ impl<'r> DayMachine<'r> {
         buffer: u64,
         delay: u64,
     ) -> Result<LineAnswer, NoMemory>
+        // needs: a sound day, one of its sources, and a buffer and a delay in range
         requires machine { IsDayMachine self.old }
         requires source { source < length self.old.media.now }
         requires asked { IsWithinRanges 1 buffer delay }
+        // leaves: a sound day on the same link, in the same slot
         ensures machine { OnOk result (IsDayMachine self.new) }
         ensures kept { OnOk result (IsKept self.old self.new) }
         ensures heard { OnOk result (self.new.heard ≡ self.old.heard) }
+        // answers: what the definition of a `play` line says
         ensures line { IfOk result (λ told.
             IsPlayLine (link_on self.old) client (rest_at (link_on self.old) source buffer delay)
             (day_state_of self.old) (day_state_of self.new) (reply_text self.new.book.entries told)) }
@@ -144,6 +149,8 @@ impl<'r> DayMachine<'r> {
             IsResumeLine (link_on self.old) client (state_at (day_state_of self.old) client)
             (day_state_of self.old) (day_state_of self.new) (reply_text self.new.book.entries told)) }
     {
+        // A resume is a new play of what is left, with a new plan. So it can be refused as any
+        // play.
         match self.clients[client as usize].rest_left() {
             Some(rest) => self.ask(alloc, client, rest),
             None => Ok(LineAnswer::State),
@@ -163,6 +170,9 @@ impl<'r> DayMachine<'r> {
     {
         match plan_of(alloc, rest.medium, &rest.playback, &rest.run) {
             Ok(plan) => {
+                // The book takes the plan, and the client needs it to send and to pause. The copies
+                // are made before the play is booked: out of memory after that, a booking would
+                // stay behind.
                 let paced = plan.copy()?;
                 let kept = plan.copy()?;
                 Ok(self.book_play(client, rest, plan, kept, paced))
@@ -196,6 +206,7 @@ impl<'r> DayMachine<'r> {
         match self.book.play(u32::from(client), self.heard, plan) {
             Ok(noted) => {
                 if let Some(start) = start_of(noted.answer) {
+                    // Only where it was admitted: after an overflow the client stays as it was.
                     let play = begin_play(noted.place, rest, kept, paced, start);
                     self.clients[client as usize] = Client::Playing(play);
                 }
@@ -218,6 +229,7 @@ impl<'r> DayMachine<'r> {
     {
         match self.clients[client as usize].pause() {
             Some(halt) => {
+                // At once: the rest of the reservation is free for others from this slot on.
                 let noted = self.book.halt(u32::from(client), halt.number, halt.keep);
                 LineAnswer::Entry(noted.place)
             }
@@ -235,6 +247,7 @@ impl<'r> DayMachine<'r> {
             (day_state_of self.old) (day_state_of self.new) (reply_text self.new.book.entries
             result) }
     {
+        // An entry needs a maker, and a `look` line names no client: 0 stands for it.
         match self.book.look(0, slot) {
             Ok(noted) => LineAnswer::Entry(noted.place),
             Err(full) => LineAnswer::Full(full),
@@ -270,6 +283,9 @@ impl<'r> DayMachine<'r> {
         let Ok(mut offers) = Offers::new(alloc, wait) else {
             return Err(CurveRefused::NoMemory);
         };
+        // From the start that a play would get which is asked for in this slot: the slot after it,
+        // so that its first bytes have a complete slot. The book is only read: an offer reserves
+        // nothing.
         let calendar = self.book.calendar();
         offers.find(calendar, &plan, calendar.now().max(self.heard) + 1);
         Ok(offers)
@@ -277,21 +293,26 @@ impl<'r> DayMachine<'r> {
 
     /// The link comes to a slot: what is due is sent, and plays that are done are halted.
     pub(crate) fn slot(&mut self, slot: u64) -> SlotTotals
+        // needs: a sound day, and a later slot
         requires machine { IsDayMachine self.old }
         requires later { self.old.heard < slot }
         requires small { slot ≤ 2 ^ 62 }
+        // leaves: a sound day on the same link, in that slot
         ensures machine { IsDayMachine self.new }
         ensures kept { IsKept self.old self.new }
         ensures heard { self.new.heard ≡ slot }
         ensures moment { day_state_of self.new ≡ at_slot (day_state_of self.old) slot }
+        // answers: what was sent and booked in the slots that passed, also in those between
         ensures sent { result.sent ≡ sent_up_to (day_state_of self.old) slot }
         ensures booked { result.booked ≡ booked_up_to (day_state_of self.old) slot }
         ensures peak { result.peak ≡ most_up_to (day_state_of self.old) slot }
         ensures few { result.booked ≤ (slot - self.old.heard) * 2 ^ 42 }
     {
         let sent = step_clients(&mut self.clients, slot);
+        // Read here: a later play moves the calendar on, and it then forgets the slots that passed.
         let (booked, peak) = booked_between(&self.book, self.heard, slot);
         self.heard = slot;
+        // As a server does after the last byte of a play: its client can play again from here on.
         halt_plays(&mut self.book, &mut self.clients, HaltedPlays::Done);
         SlotTotals { sent, booked, peak }
     }
@@ -302,6 +323,7 @@ impl<'r> DayMachine<'r> {
         ensures kept { IsKept self.old self.new }
         ensures journal { self.new.book.entries ≡ last_journal (day_state_of self.old) }
     {
+        // So each admitted play has its halt, also one that the script left open.
         halt_plays(&mut self.book, &mut self.clients, HaltedPlays::Open);
     }
 

@@ -89,6 +89,8 @@ impl<'s> Media<'s> {
         match self {
             Media::Film(stored) => {
                 let end = stored.film.units.len();
+                // Does nothing at run time: the prover gets from it that the sizes add up to the
+                // track.
                 law_frame_and_report_sizes_are_exact();
                 Sending::Film(Frames::new(stored, 0, end, NOBODY))
             }

@@ -40,6 +40,8 @@ fn media_of<'s>(alloc: Global, source: &'s Source) -> Result<Media<'s>, NoMemory
 {
     match source {
         Source::Film(stored) => {
+            // These two calls do nothing at run time: the prover gets from them that the film can
+            // be played.
             law_film_is_well_formed(&stored.film);
             law_wire_size_of_film_is_bounded();
             Ok(Media::Film(stored))

@@ -14,6 +14,7 @@ impl Link for NullLink {
     ghost told = { λ _. None };
 
     fn next(&mut self, _into: &mut [u8]) -> Result<Heard, LinkFault> {
+        // Never called: the events of a day are the lines of its script.
         Ok(Heard::End)
     }
 

@@ -86,6 +86,7 @@ pub(crate) fn begin_play<'r>(
     ensures begun { result.pacer.passed ≡ 0 }
 {
     let pacer = Pacer::new(rest.medium.as_sending(), rest.run.sent, paced, start);
+    // The pacer's own invariant isn't visible here: only the clauses of a call say it.
     let _sent = pacer.sent();
     Play {
         number,

@@ -50,17 +50,20 @@ pub fn run_script(
     limit: u64,
     slot_units: u32,
 ) -> Result<Day, NoMemory>
+    // needs: settings in range, sound sources, and lines that may stand in their order
     requires some { 2 ≤ limit }
     requires few { limit ≤ 1048576 }
     requires some_slot_units { 1 ≤ slot_units }
     requires slot_units_fit { slot_units ≤ 360000 }
     requires sources { AreSources sources.now }
     requires lines { AreLines (length sources.now) script.now.lines.items }
+    // answers: the one text and the one journal that the definition of a day allows
     ensures day { IfOk result (λ day.
         IsDay (link_of profile limit slot_units sources.now) script.now.lines.items
         day.text.items day.journal.items) }
     ensures legal { IfOk result (λ day. IsLegal profile day.journal.items) }
     ensures within { IfOk result (λ day. places_taken day.journal.items ≤ limit) }
+    // what the lines and the link are, for laws that need it
     ensures clients { OnOk result (AreClients script.now.lines.items) }
     ensures link { OnOk result (IsLink (link_of profile limit slot_units sources.now)) }
 {
@@ -81,6 +84,7 @@ fn print_entries(book: &Book, from: usize, text: &mut Vec<u8>) -> Result<(), NoM
         (text.new.items ≡ text.old.items ++ journal_text from (drop from book.now.entries)) }
 {
     let entries = book.entries();
+    // Does nothing at run time: the prover gets the form of entries from it.
     law_answers_match_commands();
     journal_text(from, entries, text)
 }
@@ -109,6 +113,7 @@ fn run_slot(machine: &mut DayMachine<'_>, slot: u64, text: &mut Vec<u8>) -> Resu
         (IsLine (link_on machine.old) (Line.Slot slot) (day_state_of machine.old)
         (day_state_of machine.new))) }
 {
+    // The halts that the slot brings are printed after its own line.
     let from = machine.book.entries().len();
     let passed = machine.slot(slot);
     push_slot(text, slot, passed.sent, passed.booked)?;
@@ -155,6 +160,7 @@ fn run_line(
         }
         Line::Slot(slot) => run_slot(machine, slot, text),
         Line::Offer {
+            // An offer books nothing and changes no client, so it doesn't matter which one asks.
             client: _,
             source,
             buffer,
@@ -180,6 +186,7 @@ fn run_end(machine: &mut DayMachine<'_>, text: &mut Vec<u8>) -> Result<(), NoMem
     let from = machine.book.entries().len();
     machine.end();
     print_entries(&machine.book, from, text)?;
+    // As above: for the form of the calendar.
     law_calendar_text_matches_state();
     calendar_text(machine.book.calendar(), text)
 }

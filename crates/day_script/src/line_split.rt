@@ -19,6 +19,7 @@ pub(crate) fn first_line(text: &[u8]) -> Option<(&[u8], &[u8])>
     }
     match split_at_first(text, b'\n') {
         Some((line, rest)) => Some((without_return(line), rest)),
+        // No LF ended it. So a CR at its end is a byte of the line, and makes it bad.
         None => Some((text, &[])),
     }
 }
@@ -27,6 +28,7 @@ pub(crate) fn first_line(text: &[u8]) -> Option<(&[u8], &[u8])>
 pub(crate) fn split_words<'a>(line: &'a [u8], words: &mut Vec<&'a [u8]>) -> Result<(), NoMemory>
     ensures { OnOk result (texts_at words.new.items ≡ slice_split is_space line.now) }
 {
+    // The list keeps its memory, so all lines together take that of the longest.
     words.clear();
     let mut rest = line;
     while let Some((word, after)) = split_at_first(rest, b' ') {

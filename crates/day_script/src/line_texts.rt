@@ -15,6 +15,10 @@ use vod_base::{NoMemory, push, push_field};
 use wire_curve::CurveFault;
 
 /// Appends the line of a client that can't be asked in its state.
+///
+/// # Errors
+///
+/// [`NoMemory`] where there is no memory for the text. `out` may then hold a prefix of it.
 pub fn push_state(out: &mut Vec<u8>) -> Result<(), NoMemory>
     ensures { OnOk result (out.new.items ≡ out.old.items ++ state_text) }
 {
@@ -22,6 +26,10 @@ pub fn push_state(out: &mut Vec<u8>) -> Result<(), NoMemory>
 }
 
 /// Appends the line of curves that are refused.
+///
+/// # Errors
+///
+/// [`NoMemory`] where there is no memory for the text. `out` may then hold a prefix of it.
 #[tactic(auto, using(std::proofs::lemmas::List::append_assoc))]
 pub fn push_fault(out: &mut Vec<u8>, fault: CurveFault) -> Result<(), NoMemory>
     ensures { OnOk result (out.new.items ≡ out.old.items ++ (fault_text fault)) }
@@ -30,7 +38,11 @@ pub fn push_fault(out: &mut Vec<u8>, fault: CurveFault) -> Result<(), NoMemory>
     push(out, b"\n")
 }
 
-/// Appends the line of a full journal.
+/// Appends the line of a full journal, with its entries and the plays that are open.
+///
+/// # Errors
+///
+/// [`NoMemory`] where there is no memory for the text. `out` may then hold a prefix of it.
 #[tactic(auto, using(std::proofs::lemmas::List::append_assoc))]
 pub fn push_full(out: &mut Vec<u8>, full: Full) -> Result<(), NoMemory>
     ensures { OnOk result (out.new.items ≡ out.old.items ++ (full_text full)) }
@@ -40,7 +52,11 @@ pub fn push_full(out: &mut Vec<u8>, full: Full) -> Result<(), NoMemory>
     push(out, b"\n")
 }
 
-/// Appends the line of a slot.
+/// Appends the line of a slot, with the bytes that were sent and booked since the last one.
+///
+/// # Errors
+///
+/// [`NoMemory`] where there is no memory for the text. `out` may then hold a prefix of it.
 #[tactic(auto, using(std::proofs::lemmas::List::append_assoc))]
 pub fn push_slot(out: &mut Vec<u8>, slot: u64, sent: u64, booked: u64) -> Result<(), NoMemory>
     ensures { OnOk result (out.new.items ≡ out.old.items ++ (slot_text slot sent booked)) }
@@ -53,6 +69,10 @@ pub fn push_slot(out: &mut Vec<u8>, slot: u64, sent: u64, booked: u64) -> Result
 
 /// Appends the lines of an offer: one for each start that was tried in vain, and one for what is
 /// offered.
+///
+/// # Errors
+///
+/// [`NoMemory`] where there is no memory for the text. `out` may then hold a prefix of it.
 #[tactic(auto, using(std::proofs::lemmas::List::append_assoc))]
 pub fn push_offer(out: &mut Vec<u8>, offers: &Offers) -> Result<(), NoMemory>
     ensures { OnOk result (out.new.items ≡ out.old.items ++ (offer_text offers.now)) }
@@ -61,7 +81,11 @@ pub fn push_offer(out: &mut Vec<u8>, offers: &Offers) -> Result<(), NoMemory>
     push_offered(out, offers.start(), offers.tried().len() as u64)
 }
 
-/// Appends the line of a fair.
+/// Appends the line of a large day.
+///
+/// # Errors
+///
+/// [`NoMemory`] where there is no memory for the text. `out` may then hold a prefix of it.
 #[tactic(auto, using(std::proofs::lemmas::List::append_assoc))]
 pub fn push_fair(
     out: &mut Vec<u8>,

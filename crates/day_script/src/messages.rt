@@ -45,6 +45,7 @@ pub(crate) fn message_in(words: &[&[u8]]) -> Option<Message>
     ensures range { IfSome result IsInRange }
 {
     match words {
+        // By the number of words first: each verb has one.
         [verb, word] => pair_in(verb, word),
         [verb, client, kind, _, buffer, delay] => {
             play_in(verb, asked_in(client, kind, buffer, delay))

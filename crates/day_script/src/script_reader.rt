@@ -37,8 +37,10 @@ const MAX_LINES: u64 = 1_000_000;
 ///
 /// [`ScriptRefused::BadScript`] exactly where a line may not stand there, with the first such line.
 pub fn read_script(alloc: Global, text: &[u8]) -> Result<Script, ScriptRefused>
+    // answers: the script that the text spells, or the first line that may not stand there
     ensures script { IfOk result (IsScript text.now) }
     ensures refused { IfErr result (IsTextRefused text.now) }
+    // of the script: clients, places and names are in range, slots rise
     ensures lines { IfOk result (λ script.
         AreLines (length script.named.items) script.lines.items) }
     ensures clients { IfOk result (λ script. AreClients script.lines.items) }
@@ -49,6 +51,7 @@ pub fn read_script(alloc: Global, text: &[u8]) -> Result<Script, ScriptRefused>
     let mut rest = text;
     let mut number = 0;
     while let Some((line, next)) = first_line(rest) {
+        // Asked where a further line begins: that line is the one to name, whatever it says.
         if number == MAX_LINES {
             return Err(ScriptRefused::BadScript { line: number + 1 });
         }
@@ -165,6 +168,7 @@ impl ScriptBuilder {
             Message::Resume(client) => Ok(Some(Line::Resume(client))),
             Message::Look(slot) => Ok(Some(Line::Look(slot))),
             Message::Slot(slot) => {
+                // A link comes to each slot once, so the slots of these lines rise.
                 if slot <= self.slot {
                     return Ok(None);
                 }
@@ -199,6 +203,7 @@ impl ScriptBuilder {
         ensures draft { IfOk result (λ stands. stands ≡ true → IsDraft self.new) }
     {
         if line.is_empty() {
+            // Counted, so that the numbers of bad lines are those of an editor.
             return Ok(true);
         }
         split_words(line, words)?;
@@ -241,6 +246,7 @@ fn text_of(name: &[u8]) -> &str
 {
     match str::from_utf8(name) {
         Ok(text) => text,
+        // Can't come: a good name has ASCII bytes alone.
         Err(_) => unreachable!(),
     }
 }
@@ -251,6 +257,8 @@ pub(crate) struct NameTable {
     alloc: Global,
     /// Each once, in the order of the lines that name them first.
     named: Vec<Named>,
+    // Search trees: their bound holds for any names, where a hash table with a fixed seed can be
+    // attacked. Two, since a film and a trace may have the same name.
     /// The place of each film among them, by its name.
     films: BTreeMap<String, usize>,
     /// The place of each trace among them, by its name.
@@ -317,6 +325,7 @@ impl NameTable {
         ensures names { OnOk result (names_of self.new.named.items ≡
             names_of self.old.named.items ++ name_as kind name.now ∷ []) }
     {
+        // After an error the draft is dropped. So a name that was noted here alone does no harm.
         self.note(kind, name)?;
         let name = String::from_str(self.alloc, name)?;
         self.named.push(Named { kind, name })?;

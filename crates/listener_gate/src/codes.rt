@@ -13,8 +13,8 @@ const SHORTAGES: [i32; 4] = [12, 23, 24, 105];
 /// of the connection that it was to accept: accept(2) says to try again.
 const TRANSIENTS: [i32; 11] = [1, 4, 64, 71, 92, 95, 100, 101, 103, 112, 113];
 
-/// Why an `accept` failed, by the error number of Linux; None is an error that the system doesn't
-/// have.
+/// Returns why an `accept` failed, by the error number of Linux; None is an error that the system
+/// doesn't have.
 pub fn accept_error_of(code: Option<i32>) -> AcceptError
     ensures { result ≡ error_of_code code }
 {

@@ -21,7 +21,8 @@ use vod_base::{Gate, GateFault, Opening};
 /// The first wait, in milliseconds, where descriptors or memory are short.
 const FIRST_WAIT: u64 = 10;
 
-/// The longest wait, in milliseconds.
+/// The longest wait, in milliseconds. So a connection waits for a second at most once the shortage
+/// is over.
 const LONGEST_WAIT: u64 = 1_000;
 
 /// A gate that takes connections from a listener. It listens at 127.0.0.1, or at 0.0.0.0 where
@@ -51,8 +52,9 @@ pub struct ListenerGate<L: Listener> {
 }
 
 impl<L: Listener> ListenerGate<L> {
-    /// A gate that isn't open, over a listener that isn't bound.
+    /// Makes a gate that isn't open, over a listener that isn't bound.
     pub fn new(listener: L) -> ListenerGate<L>
+        // leaves: a gate that has done nothing
         ensures listener { result.listener ≡ listener }
         ensures closed { result.is_open ≡ false }
         ensures wait { result.wait ≡ first_wait }
@@ -73,7 +75,7 @@ impl<L: Listener> ListenerGate<L> {
         }
     }
 
-    /// The listener.
+    /// Returns the listener.
     pub fn listener(&self) -> &L
         ensures { result.now ≡ self.now.listener }
     {
@@ -83,11 +85,14 @@ impl<L: Listener> ListenerGate<L> {
     /// Tries to accept a connection. It skips one that failed before it was accepted, and waits
     /// once at a shortage.
     fn try_accept(&mut self) -> Result<Option<L::Conn>, ListenerFault>
+        // leaves: the gate's own counts as they were
         ensures same { (self.new.faults ≡ self.old.faults) × (self.new.is_open ≡ self.old.is_open)
             × (self.new.given ≡ self.old.given) × (self.new.most ≡ self.old.most)
             × (self.new.splits ≡ self.old.splits) × (self.new.own ≡ self.old.own)
             × (self.new.history ≡ self.old.history) }
         ensures count { L.faults self.old.listener ≤ L.faults self.new.listener }
+        // answers: a connection that has done nothing, or None after one wait or one lost
+        // connection
         ensures accepted { IfOk result (λ tried. IfSome tried (λ conn.
             (self.new.wait ≡ first_wait)
             × (IsTrue L.tells → L.did self.new.listener ≡ L.did self.old.listener
@@ -98,6 +103,7 @@ impl<L: Listener> ListenerGate<L> {
             × ((self.new.wait ≡ wait_after t self.old.wait)
             × (IsTrue L.tells → L.did self.new.listener ≡ L.did self.old.listener
             ++ failed_try self.old.wait t))) }
+        // faults: the listener's count rose
         ensures lost { OnErr result (IsTrue L.tells →
             (L.did self.new.listener ≡ L.did self.old.listener)
             ⊎ (L.did self.new.listener ≡ L.did self.old.listener ++ ListenerDoing.ShortageError ∷
@@ -107,11 +113,15 @@ impl<L: Listener> ListenerGate<L> {
     {
         match self.listener.accept() {
             Ok(conn) => {
+                // The shortage is over, so the next one begins with the shortest wait.
                 self.wait = FIRST_WAIT;
                 Ok(Some(conn))
             }
+            // The error is of that connection, not of the listener: accept(2) says to try again.
             Err(AcceptError::Transient) => Ok(None),
+            // A worker that gave up here would be lost until a restart, so it waits.
             Err(AcceptError::Shortage) => self.wait_out(),
+            // The listening socket can't be used any more.
             Err(AcceptError::Broken) => Err(ListenerFault),
         }
     }
@@ -135,6 +145,7 @@ impl<L: Listener> ListenerGate<L> {
     {
         match self.listener.wait(self.wait) {
             Ok(()) => {
+                // Cut before it is doubled, so that the result is 1 s at most and can't overflow.
                 self.wait = self.wait.min(LONGEST_WAIT / 2) * 2;
                 Ok(None)
             }
@@ -165,6 +176,7 @@ impl<L: Listener> ListenerGate<L> {
                 Err(fault) => return Err(fault),
             }
         }
+        // Never reached: a call must be proved to end, so the loop counts.
         Err(ListenerFault)
     }
 }
@@ -185,21 +197,25 @@ impl<L: Listener + Drop> Gate for ListenerGate<L> {
         (part_after L.Conn.faults L.Conn.told (fresh_part g.own.number) g.own.notes.items)) };
 
     fn open(&mut self, how: &Opening) -> Result<(), GateFault>
+        // faults: they are counted, and the history has them
         ensures count { self.old.faults ≤ self.new.faults }
         ensures fault { OnErr result (HasRisen self.old.faults self.new.faults) }
         ensures open { OnOk result (⟦<ListenerGate<L> as Gate>⟧.told self.new ≡
             option_map (after_open (Some how.now)) (⟦<ListenerGate<L> as Gate>⟧.told self.old)) }
         ensures lost { OnErr result (⟦<ListenerGate<L> as Gate>⟧.told self.new ≡
             option_map (after_open None) (⟦<ListenerGate<L> as Gate>⟧.told self.old)) }
+        // leaves: a bound listener, and a gate that has given nothing
         ensures bound { OnOk result (IsTrue L.tells →
             L.did self.new.listener ≡ L.did self.old.listener
             ++ ListenerDoing.Bound (address_of how.now) how.now.port how.now.slot_units ∷ []) }
         ensures begun { OnOk result ((self.new.is_open ≡ true)
             × (self.new.most ≡ how.now.connections) × (self.new.given ≡ 0)) }
         ensures closed { OnErr result (self.new.is_open ≡ false) }
+        // a fault comes of the listener alone
         ensures cause { OnErr result
             (HasRisen (L.faults self.old.listener) (L.faults self.new.listener)) }
     {
+        // Binding lets go of the old socket first. So a gate that can't be bound is closed.
         self.is_open = false;
         match self
             .listener
@@ -209,6 +225,7 @@ impl<L: Listener + Drop> Gate for ListenerGate<L> {
                 self.is_open = true;
                 self.most = how.connections;
                 self.given = 0;
+                // Parts are numbered anew from each opening.
                 self.splits = 0;
                 self.history = self.history.and(&None, &GateNote::Opened(*how));
                 Ok(())
@@ -223,9 +240,11 @@ impl<L: Listener + Drop> Gate for ListenerGate<L> {
     }
 
     fn split(&mut self) -> Result<ListenerGate<L>, GateFault>
+        // needs: in the history, an open gate that may be split
         requires may { IfSome (⟦<ListenerGate<L> as Gate>⟧.told self.old) MaySplit }
         ensures count { self.old.faults ≤ self.new.faults }
         ensures fault { OnErr result (HasRisen self.old.faults self.new.faults) }
+        // answers: a part that has given nothing, with a handle of its own
         ensures split { OnOk result (⟦<ListenerGate<L> as Gate>⟧.told self.new ≡ option_map
             split_off (⟦<ListenerGate<L> as Gate>⟧.told self.old)) }
         ensures part { IfOk result (λ part.
@@ -237,9 +256,11 @@ impl<L: Listener + Drop> Gate for ListenerGate<L> {
         ensures fresh { IfOk result (λ part. IsTrue L.tells → L.did part.listener ≡ []) }
         ensures begun { IfOk result (λ part. (part.is_open ≡ true)
             × (part.most ≡ self.old.most) × (part.given ≡ 0) × (part.wait ≡ first_wait)) }
+        // leaves: the gate as it was, open
         ensures same { (self.new.is_open ≡ self.old.is_open) × (self.new.most ≡ self.old.most)
             × (self.new.given ≡ self.old.given) }
         ensures was_open { OnOk result (self.old.is_open ≡ true) }
+        // a fault comes where the gate isn't open, or of the listener
         ensures cause { OnErr result ((self.old.is_open ≡ false)
             ⊎ HasRisen (L.faults self.old.listener) (L.faults self.new.listener)) }
     {
@@ -250,12 +271,15 @@ impl<L: Listener + Drop> Gate for ListenerGate<L> {
         match self.listener.copy() {
             Ok(listener) => {
                 let number = self.splits;
+                // The number names the part in proofs alone, and their count saturates, too
+                // (`counted`).
                 self.splits = number.saturating_add(1);
                 self.history = self.history.and(&None, &GateNote::Split);
                 Ok(ListenerGate {
                     listener,
                     is_open: true,
                     most: self.most,
+                    // `connections` limits each part by itself: it is a limit of each worker.
                     given: 0,
                     wait: FIRST_WAIT,
                     splits: 0,
@@ -272,6 +296,7 @@ impl<L: Listener + Drop> Gate for ListenerGate<L> {
     }
 
     fn take(&mut self) -> Result<Option<L::Conn>, GateFault>
+        // answers: the next connection, none, or a fault, each noted in the history
         ensures count { self.old.faults ≤ self.new.faults }
         ensures fault { OnErr result (HasRisen self.old.faults self.new.faults) }
         ensures gave { IfOk result (λ taken. IfSome taken (λ conn.
@@ -309,12 +334,14 @@ impl<L: Listener + Drop> Gate for ListenerGate<L> {
             self.own.note(&None, PartNote::Failed);
             return Err(GateFault);
         }
+        // Asked before the accept: else a connection would be accepted that can't be given.
         if self.most > 0 && self.given >= self.most {
             self.own.note(&None, PartNote::NoMore);
             return Ok(None);
         }
         match self.accept() {
             Ok(conn) => {
+                // Without a limit the count may stay at its end: only a limit is compared with it.
                 self.given = self.given.saturating_add(1);
                 self.own.note(&None, PartNote::Gave);
                 Ok(Some(conn))
@@ -339,6 +366,8 @@ impl<L: Listener + Drop> Gate for ListenerGate<L> {
             (L.did self.new.listener ≡ L.did self.old.listener)
             × (L.ended self.new.listener ≡ one_more (L.ended self.old.listener)) }
     {
+        // A note takes an `Option` by reference. So the connection is wrapped for it, and taken out
+        // again to be ended.
         let back = Some(conn);
         self.own.note(&back, PartNote::CameBack);
         if let Some(conn) = back {
@@ -347,8 +376,10 @@ impl<L: Listener + Drop> Gate for ListenerGate<L> {
     }
 
     fn rejoin(&mut self, part: ListenerGate<L>)
+        // needs: a part of this gate that isn't back yet
         requires out { IfSome (⟦<ListenerGate<L> as Gate>⟧.told self.old) (λ c.
             IfSome (⟦<ListenerGate<L> as Gate>⟧.told part) (λ p. IsPartOut p.own.number c)) }
+        // leaves: the part's faults and history added, and all else as it was
         ensures count { self.old.faults ≤ self.new.faults }
         ensures risen { 0 < part.faults → HasRisen self.old.faults self.new.faults }
         ensures joined { ⟦<ListenerGate<L> as Gate>⟧.told self.new ≡
@@ -359,6 +390,8 @@ impl<L: Listener + Drop> Gate for ListenerGate<L> {
             × (self.new.given ≡ self.old.given) × (self.new.wait ≡ self.old.wait) }
     {
         let ListenerGate { own, faults, .. } = part;
+        // The part's faults become the gate's, as the gate is what the caller still holds. The
+        // part's handle is closed here; the gate's own stays.
         self.faults = self.faults.saturating_add(faults);
         self.history = self.history.and(&Some(own), &GateNote::CameBack);
     }

@@ -38,7 +38,7 @@ pub struct PartHistory<C: Drop> {
 pub type GateHistory<C> = Log<Option<PartHistory<C>>, GateNote>;
 
 impl<C: Drop> PartHistory<C> {
-    /// The history of a part that did nothing yet.
+    /// Makes the history of a part that did nothing yet.
     pub fn new(number: u32) -> PartHistory<C>
         ensures number { result.number ≡ number }
         ensures notes { result.notes.items ≡ [] }

@@ -97,9 +97,11 @@ pub trait Listener: Sized {
     ///
     /// No connection was accepted, for the reason that the error names.
     fn accept(&mut self) -> Result<Self::Conn, AcceptError>
+        // faults: only `Broken` counts as one, since the other two errors pass
         ensures count { faults self.old ≤ faults self.new }
         ensures fault { IfErr result (λ error. IsBroken error →
             HasRisen (faults self.old) (faults self.new)) }
+        // answers: a connection that has done nothing, or an error that is noted
         ensures told { OnOk result (IsTrue tells →
             did self.new ≡ did self.old ++ ListenerDoing.Accepted ∷ []) }
         ensures lost { IfErr result (λ error. IsTrue tells →

@@ -28,7 +28,7 @@ pub struct MemoryListener {
 }
 
 impl MemoryListener {
-    /// A listener that isn't bound. `accepts` has the answers of its accepts, in order, and
+    /// Makes a listener that isn't bound. `accepts` has the answers of its accepts, in order, and
     /// `copies` those of each handle that is copied from it, in order; a copy past the last fails.
     /// `failing` has the numbers, from 1, of the calls of `bind`, `copy` and `wait` that are to
     /// fail.
@@ -53,14 +53,14 @@ impl MemoryListener {
         }
     }
 
-    /// What it did, in order.
+    /// Returns what it did, in order.
     pub fn doings(&self) -> &[ListenerDoing]
         ensures { result.now ≡ self.now.did.items }
     {
         self.did.as_slice()
     }
 
-    /// How many connections it ended.
+    /// Returns how many connections it ended.
     pub fn ended(&self) -> u64
         ensures { result ≡ self.now.ended }
     {
@@ -110,12 +110,14 @@ impl MemoryListener {
             AcceptError::Transient => ListenerDoing::TransientError,
             AcceptError::Shortage => ListenerDoing::ShortageError,
             AcceptError::Broken => {
+                // Nothing is noted of a broken listener: `failed_accept` has no doing for it.
                 let ListenerFault = self.fault();
                 return AcceptError::Broken;
             }
         };
         match self.note(doing) {
             Ok(()) => error,
+            // An error that passes must be noted; one that can't be counts as a fault.
             Err(ListenerFault) => AcceptError::Broken,
         }
     }
@@ -146,6 +148,7 @@ impl MemoryListener {
                 let no_send = Vec::new(self.alloc);
                 match MemoryLink::new(self.alloc, events, ROOM, no_send, none) {
                     Ok(link) => Ok(link),
+                    // What the system answers without memory for a connection (ENOMEM).
                     Err(NoMemory) => Err(AcceptError::Shortage),
                 }
             }

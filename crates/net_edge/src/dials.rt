@@ -25,7 +25,7 @@ pub struct DialGate<'a, R: Net<Listener = TcpListener, Stream = TcpStream> + Clo
 }
 
 impl<'a, R: Net<Listener = TcpListener, Stream = TcpStream> + Clock> DialGate<'a, R> {
-    /// A gate that isn't open.
+    /// Makes a gate that isn't open.
     pub fn new(rt: &'a R, alloc: Global) -> DialGate<'a, R> {
         DialGate {
             rt,
@@ -74,6 +74,7 @@ impl<'a, R: Net<Listener = TcpListener, Stream = TcpStream> + Clock> Gate for Di
         Ok(DialGate {
             rt: self.rt,
             alloc: self.alloc,
+            // The connection moves to the first part, so the gate and later parts have none.
             call: mem::replace(&mut self.call, Call::Given),
             faults: Faults::new(),
         })
@@ -132,12 +133,14 @@ fn dial<R: Net<Listener = TcpListener, Stream = TcpStream> + Clock>(
     alloc: Global,
     how: &Opening,
 ) -> Result<Dialed, GateFault> {
+    // Reserved before the call, so that no connection is made that can't be used.
     let Ok(resources) = LinkResources::reserve(rt, alloc) else {
         return Err(GateFault);
     };
     let Ok(stream) = connect(rt, how.port) else {
         return Err(GateFault);
     };
+    // A client's slots count from its connection: the server's own numbers aren't known here.
     let Ok(clock) = SlotClock::start(rt, how.slot_units) else {
         return Err(GateFault);
     };

@@ -26,6 +26,7 @@ impl Faults {
         ensures count { self.new.count ≡ one_more self.old.count }
         ensures risen { HasRisen self.old.count self.new.count }
     {
+        // A count at 2^64 - 1 counts as risen (`HasRisen`), so it may stay there.
         self.count = self.count.saturating_add(1);
     }
 
@@ -35,6 +36,7 @@ impl Faults {
         answer: Result<T, C>,
         fault: E,
     ) -> Result<T, E>
+        // leaves: a count that rises with each fault; the answer itself says nothing of the cause
         ensures count { self.old.count ≤ self.new.count }
         ensures value { IfOk result (λ value. answer ≡ Ok value) }
         ensures same { OnOk result (self.new ≡ self.old) }

@@ -22,7 +22,7 @@ pub struct FileLibrary<'a, R: Files> {
 }
 
 impl<'a, R: Files> FileLibrary<'a, R> {
-    /// A library of the current folder. This allocator has the memory for names.
+    /// Makes a library of the current folder. This allocator has the memory for names.
     pub fn new(rt: &'a R, alloc: Global) -> FileLibrary<'a, R> {
         FileLibrary {
             rt,
@@ -38,6 +38,8 @@ impl<'a, R: Files> FileLibrary<'a, R> {
         ensures named { IfOk result (λ file. string_bytes file.name ≡ name.now) }
         ensures place { IfOk result (λ file. file.place ≡ at) }
     {
+        // Films are read in chunks, one after the other. So most reads go on where the last one
+        // ended, and need neither an open nor a seek.
         match self.open.take() {
             Some(open) if open.name.as_str() == name && open.place == at => return Ok(open),
             _ => {}
@@ -58,6 +60,7 @@ impl<'a, R: Files> FileLibrary<'a, R> {
         let mut open = self.open_at(name, at)?;
         let count = read_some(&mut open.file, into)?;
         open.place = open.place.saturating_add(count as u64);
+        // Kept only after a read that went well: after an error its place in the file isn't known.
         self.open = Some(open);
         Ok(count)
     }

@@ -40,6 +40,8 @@ struct BoundPort {
 impl BoundPort {
     /// Another handle to the same socket, and what its first connection's link needs.
     fn copy<R: Net>(&self, rt: &R, alloc: Global) -> Result<BoundPort, ListenerFault> {
+        // Reserved at the server's start. With too few descriptors the server ends there with
+        // status 7, in place of closing connections later.
         let Ok(reserved) = LinkResources::reserve(rt, alloc) else {
             return Err(ListenerFault);
         };
@@ -61,6 +63,8 @@ impl BoundPort {
     ) -> Result<TcpLink<'a, R>, AcceptError>
         ensures { IfOk result (λ link. link.faults ≡ 0) }
     {
+        // Before the accept: where descriptors or memory are short the connection waits in the
+        // kernel's queue and isn't closed.
         let reserved = match self.reserved.take() {
             Some(reserved) => reserved,
             None => LinkResources::reserve(rt, alloc)?,
@@ -68,9 +72,12 @@ impl BoundPort {
         match accept_stream(&self.listener, &reserved) {
             Ok(stream) => match link_over(rt, stream, reserved, self.clock) {
                 Ok(link) => Ok(link),
+                // The kernel has no memory to watch the connection, or the clock failed. The
+                // connection is closed, and the worker tries the next one after a wait.
                 Err(_) => Err(AcceptError::Shortage),
             },
             Err(error) => {
+                // A failed accept used nothing of it, so it is there for the next try.
                 self.reserved = Some(reserved);
                 Err(error)
             }
@@ -79,7 +86,7 @@ impl BoundPort {
 }
 
 impl<'a, R: Net<Listener = TcpListener, Stream = TcpStream> + Clock> TcpPort<'a, R> {
-    /// A socket that isn't bound.
+    /// Makes a socket that isn't bound.
     pub fn new(rt: &'a R, alloc: Global) -> TcpPort<'a, R> {
         TcpPort {
             rt,
@@ -89,7 +96,8 @@ impl<'a, R: Net<Listener = TcpListener, Stream = TcpStream> + Clock> TcpPort<'a,
         }
     }
 
-    /// The port that it is bound to; None where it isn't, or where the system doesn't report it.
+    /// Returns the port that it is bound to; None where it isn't, or where the system doesn't
+    /// report it.
     pub fn port(&self) -> Option<u16> {
         let bound = self.bound.as_ref()?;
         Some(bound.listener.local_addr().ok()?.port())
@@ -108,6 +116,7 @@ impl<'a, R: Net<Listener = TcpListener, Stream = TcpStream> + Clock> Listener fo
     ghost ended = { λ _. 0 };
 
     fn bind(&mut self, address: [u8; 4], port: u16, slot_units: u32) -> Result<(), ListenerFault> {
+        // The old socket is closed first, since it may hold the same port.
         self.bound = None;
         let bound = bind_port(self.rt, address, port, slot_units);
         self.bound = Some(self.faults.pass_on(bound, ListenerFault)?);
@@ -137,6 +146,7 @@ impl<'a, R: Net<Listener = TcpListener, Stream = TcpStream> + Clock> Listener fo
             Ok(link) => return Ok(link),
             Err(error) => error,
         };
+        // The other two errors pass, so they aren't faults.
         if error == AcceptError::Broken {
             self.faults.add();
         }
@@ -161,8 +171,11 @@ fn bind_port<R: Net<Listener = TcpListener, Stream = TcpStream> + Clock>(
     slot_units: u32,
 ) -> io::Result<BoundPort> {
     Ok(BoundPort {
+        // In this order: slots count from the opening of the listener, for all its connections.
         listener: listen(rt, SocketAddr::from((Ipv4Addr::from(address), port)))?,
         clock: SlotClock::start(rt, slot_units)?,
+        // The gate's own handle gives no connection at a server: its copies do, and each reserves
+        // for itself.
         reserved: None,
     })
 }

@@ -106,9 +106,13 @@ fn new_poll<R: Net>(rt: &R) -> Result<Poll, AcceptError> {
 
 /// Makes a stream non-blocking, and has `poll` watch it. Without TCP_NODELAY it still works.
 fn watch_stream(stream: net::TcpStream, poll: &Poll) -> io::Result<TcpStream> {
+    // A link blocks in `wait` alone, which also ends when the next slot begins.
     stream.set_nonblocking(true)?;
+    // Nagle's algorithm would hold back the end of a slot until the peer acknowledges what came
+    // before it.
     let _ = stream.set_nodelay(true);
     let mut stream = TcpStream::from_std(stream);
+    // Writable, too: a write that took nothing goes on once the peer has made room.
     let both = Interest::READABLE | Interest::WRITABLE;
     poll.registry().register(&mut stream, Token(0), both)?;
     Ok(stream)
@@ -132,9 +136,13 @@ impl<R: Clock> Socket for TcpSocket<'_, R> {
     }
 
     fn wait(&mut self, most: u64) -> Result<bool, SocketFault> {
+        // mio rounds the time up to milliseconds. So a slot is noticed up to 1 ms late, and never
+        // waited for twice.
         let waited = self
             .poll
             .poll(&mut self.events, Some(Duration::from_nanos(most)));
+        // One socket is registered, so each event is of it. Which one it was doesn't matter: the
+        // link tries to write and to read after each wait.
         let waited = wait_outcome(waited, !self.events.is_empty());
         self.faults.pass_on(waited, SocketFault)
     }

@@ -26,6 +26,7 @@ pub(crate) fn read_outcome(read: io::Result<usize>) -> io::Result<ReadOutcome>
         (error_kind error ≡ ErrorKind.Interrupted → ⊥) → result ≡ Err error) }
 {
     match read {
+        // read(2): 0 is the end of the stream, as a socket is never read into an empty buffer.
         Ok(0) => Ok(ReadOutcome::End),
         Ok(count) => Ok(ReadOutcome::Bytes(count)),
         Err(error) => match error.kind() {
@@ -54,6 +55,8 @@ pub(crate) fn write_outcome(written: io::Result<usize>) -> io::Result<WriteOutco
         (error_kind error ≡ ErrorKind.Interrupted → ⊥) → result ≡ Err error) }
 {
     match written {
+        // write(2) answers 0 only if there is nothing to write. As an outcome it would make a flush
+        // repeat itself without end.
         Ok(0) => Err(io::Error::from(ErrorKind::WriteZero)),
         Ok(count) => Ok(WriteOutcome::Bytes(count)),
         Err(error) => match error.kind() {
@@ -115,6 +118,8 @@ pub(crate) fn size_outcome(size: io::Result<u64>) -> io::Result<Option<u64>>
     match size {
         Ok(size) => Ok(Some(size)),
         Err(error) => match error.kind() {
+            // A missing file is a fault of the input (status 3), and every other error one of the
+            // folder or the disk (status 4).
             ErrorKind::NotFound => Ok(None),
             _ => Err(error),
         },

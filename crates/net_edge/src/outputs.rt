@@ -15,7 +15,7 @@ pub struct OutSink<W: Write + Drop> {
 }
 
 impl<W: Write + Drop> OutSink<W> {
-    /// A sink over a stream.
+    /// Makes a sink over a stream.
     pub fn new(stream: W) -> OutSink<W> {
         OutSink {
             stream,
@@ -27,6 +27,8 @@ impl<W: Write + Drop> OutSink<W> {
     fn write_through(&mut self, bytes: &[u8]) -> io::Result<()>
         ensures { self.new.faults ≡ self.old.faults }
     {
+        // Flushed each time, so that a failure is this call's and the bytes of a watched film don't
+        // wait.
         self.stream.write_all(bytes)?;
         self.stream.flush()
     }

@@ -19,7 +19,7 @@ use plan_cert::{CertRead, read_cert};
 use std::alloc::Global;
 use vod_base::{Library, NoMemory, push_number};
 
-/// The verdict on a certificate of a trace or film.
+/// Returns the verdict on a certificate of a trace or film.
 ///
 /// # Errors
 ///
@@ -52,6 +52,7 @@ pub fn check_plan<'a, L: Library>(
     };
     match check(&curves, &certificate.segments) {
         Ok(()) => output_with_text(0, Vec::from_slice(alloc, b"least\n")),
+        // A refused certificate is a result and no error. So it goes to the output, with status 1.
         Err(fault) => output_with_text(1, refusal_text(alloc, &fault)),
     }
 }

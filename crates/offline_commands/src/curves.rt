@@ -44,6 +44,7 @@ pub(crate) fn client_curves<'a, L: Library>(
         slot_units: pictures.slot_units,
         buffer: viewer.buffer,
         delay: viewer.delay,
+        // The entire film, to a client that holds nothing of it yet.
         played: 0,
         sent: 0,
     };
@@ -84,6 +85,7 @@ fn trace_pictures<'a, L: Library>(
     let sizes = load_trace(alloc, library, name)?;
     Ok(Pictures {
         sizes,
+        // A trace has one picture a slot. Only the ratio of the two times counts.
         picture_units: 1,
         slot_units: 1,
     })
@@ -104,6 +106,7 @@ fn film_pictures<'a, L: Library>(
     ensures error { IfErr result (IsReadError (IsThatName name.entry.now) IsFilmRefused
         (L.files library.old) (L.faults library.old) (L.faults library.new)) }
 {
+    // Read in chunks: the sizes are all that a plan needs, so no byte of the film is held.
     let film = size_film(alloc, library, name)?;
     Ok(Pictures {
         picture_units: picture_time(film.rate),

@@ -31,7 +31,7 @@ use inputs::{load_script_film, read_input};
 use std::alloc::Global;
 use vod_base::{Library, NoMemory};
 
-/// The script of that name.
+/// Reads the script of that name.
 ///
 /// # Errors
 ///
@@ -43,12 +43,15 @@ pub fn load_script<'a, L: Library>(
     library: &mut L,
     name: &'a str,
 ) -> Result<Script, CliError<'a>>
+    // leaves: files that were only read
     ensures library { IsReadOnly L.files L.faults library.old library.new }
+    // answers: a script whose lines may stand where they stand
     ensures lines { IfOk result (λ script.
         AreLines (length script.named.items) script.lines.items) }
     ensures clients { IfOk result (λ script. AreClients script.lines.items) }
     ensures read { IfOk result (IsScriptOf (L.files library.old) name.entry.now) }
     ensures names { IfOk result (λ script. All HasGoodName script.named.items) }
+    // faults: of the script's name, each with its cause
     ensures error { IfErr result (IsReadError (IsThatName name.entry.now) IsScriptRefused
         (L.files library.old) (L.faults library.old) (L.faults library.new)) }
 {
@@ -63,7 +66,8 @@ pub fn load_script<'a, L: Library>(
     }
 }
 
-/// The films and traces that a script names, read and judged one by one in the order of its lines.
+/// Reads the films and traces that a script names, and judges them one by one in the order of its
+/// lines.
 ///
 /// # Errors
 ///
@@ -74,11 +78,14 @@ pub fn load_sources<'a, L: Library>(
     library: &mut L,
     named: &'a [Named],
 ) -> Result<Vec<Source>, CliError<'a>>
+    // leaves: files that were only read
     ensures library { IsReadOnly L.files L.faults library.old library.new }
+    // answers: a source for each name, which is the one that the file holds
     ensures count { IfOk result (λ sources. length sources.items ≡ length named.entry.now) }
     ensures sources { IfOk result (λ sources. AreSources sources.items) }
     ensures held { (held : List File) → L.files library.old ≡ Some held →
         IfOk result (λ sources. AreHeldAs held named.entry.now sources.items) }
+    // faults: of one of the names, the first that is refused
     ensures error { IfErr result (IsReadError (Contains (names_in named.entry.now))
         (IsFirstNamedRefused named.entry.now)
         (L.files library.old) (L.faults library.old) (L.faults library.new)) }
@@ -102,9 +109,11 @@ pub fn run_day(
     script: &Script,
     sources: &[Source],
 ) -> Result<Day, NoMemory>
+    // needs: settings in range, and lines that name these sources alone
     requires run { IsScriptRunInRange run.now }
     requires sources { AreSources sources.now }
     requires lines { AreLines (length sources.now) script.now.lines.items }
+    // answers: the day's one text and its journal, which is legal
     ensures day { IfOk result (λ day.
         IsDay (link_of run.now.capacity run.now.journal run.now.slot sources.now)
         script.now.lines.items day.text.items day.journal.items) }
@@ -156,6 +165,7 @@ fn load_source<'a, L: Library>(
     let name = named.name.as_str();
     match named.kind {
         SourceKind::Film => {
+            // Held in memory, so that the work of a slot makes no system call for the film.
             let film = load_script_film(alloc, library, name)?;
             Ok(Source::Film(film))
         }

@@ -8,7 +8,7 @@ use film_make::{make_film, make_system, make_trace};
 use std::alloc::Global;
 use vod_base::NoMemory;
 
-/// The trace, film or system stream of a number.
+/// Makes the trace, film or system stream of a number.
 ///
 /// # Errors
 ///

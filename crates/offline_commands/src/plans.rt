@@ -16,7 +16,7 @@ use std::alloc::Global;
 use taut_plan::plan;
 use vod_base::Library;
 
-/// The plan of a trace or film, and its certificate.
+/// Makes the plan of a trace or film, and its certificate.
 ///
 /// # Errors
 ///

@@ -34,6 +34,7 @@ pub fn list_units<'a, L: Library>(
         (IsInputRefused (scan_of film.entry.now))
         (L.files library.old) (L.faults library.old) (L.faults library.new)) }
 {
+    // The entire film is judged before a line of it is written: a refused film prints no units.
     let scanned = scan_film(alloc, library, film)?;
     output_with_text(
         0,

@@ -8,7 +8,8 @@ use std::alloc::{AllocError, Global};
 /// What `--version` prints.
 const VERSION: &[u8] = b"vodserve 0.1.0\n";
 
-/// What `--help` prints.
+/// What `--help` prints. `law_help_shows_each_command_and_key` ties it to the commands and keys of
+/// `cli_args`, so the prover refuses a key without a row here.
 const HELP: &[u8] = b"\
 vodserve - a video-on-demand server that sends each film by its smoothest plan
 
@@ -70,7 +71,7 @@ one line on standard error says what. 'vodserve: usage' is status 2: a command
 or key is unknown, missing or given twice, or a value is out of its range.
 ";
 
-/// The text of `--version`.
+/// Returns the text of `--version`.
 ///
 /// # Errors
 ///
@@ -82,7 +83,7 @@ pub fn version(alloc: Global) -> Result<Vec<u8>, AllocError>
     Vec::from_slice(alloc, VERSION)
 }
 
-/// The text of `--help`.
+/// Returns the text of `--help`.
 ///
 /// # Errors
 ///

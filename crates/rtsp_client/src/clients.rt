@@ -79,19 +79,23 @@ impl Client {
         link: &mut K,
         out: &mut O,
     ) -> ControlFlow<WatchEnd>
+        // needs: a wish in range, and an input that holds no complete element
         requires wish { IsWish wish.now }
         requires waits { list_length self.old.input ≤ 81920 }
         requires idle { IsFirst self.old.input (Ok More) }
         requires heard { IsWithin heard (list_length bytes.now) }
         requires short { list_length bytes.now ≤ MAX_READ_BYTES }
         requires few { bytes_in self.old + MAX_READ_BYTES < 2 ^ 62 }
+        // leaves: an input that is bounded again
         ensures few { OnOk (as_result result)
             (bytes_in self.new ≤ bytes_in self.old + MAX_READ_BYTES) }
         ensures waits { OnOk (as_result result) (list_length self.new.input ≤ 81920) }
+        // faults: of the link or the output, only where its count rose
         ensures count { K.faults link.old ≤ K.faults link.new }
         ensures count_out { O.faults out.old ≤ O.faults out.new }
         ensures cause { EndsWithCause (as_result result) (K.faults link.old) (K.faults link.new)
             (O.faults out.old) (O.faults out.new) }
+        // answers: one step of the definition, or its end
         ensures on { TakesEvent wish.now (io_event_of heard bytes.now) (as_result result)
             (stand self.old (K.told link.old) (O.written out.old))
             (stand self.new (K.told link.new) (O.written out.new)) }
@@ -105,12 +109,16 @@ impl Client {
                 ControlFlow::Break(WatchEnd::Fault(WatchFault::EndedEarly(units)))
             }
             Heard::Slot(slot) => {
+                // A block that isn't complete counts, too: its bytes are in the client's buffer
+                // already.
                 let cut = cut_bytes(self.input.waiting());
                 self.watching.hear_slot(wish, slot, cut as u64);
                 ControlFlow::Continue(())
             }
             Heard::Bytes(count) => match self.input.put(&bytes[..count]) {
                 Ok(()) => self.process_input(wish, link, out),
+                // Can't come: after each event at most 81,920 bytes wait (`waits`), and there is
+                // room for 131,072.
                 Err(_) => unreachable!(),
             },
         }
@@ -154,17 +162,20 @@ impl Client {
         out: &mut O,
     ) -> ControlFlow<WatchEnd, bool>
         requires few { bytes_in self.old < 2 ^ 62 }
+        // leaves: an input that is shorter, or one without a complete element
         ensures few { OnOk (as_result result) (bytes_in self.new ≤ bytes_in self.old) }
         ensures shorter { IfOk (as_result result) (λ more. more ≡ true →
             list_length self.new.input < list_length self.old.input) }
         ensures waits { IfOk (as_result result) (λ more. more ≡ false →
             list_length self.new.input ≤ 81920) }
+        // faults: of the link or the output, only where its count rose
         ensures count { K.faults link.old ≤ K.faults link.new }
         ensures count_out { O.faults out.old ≤ O.faults out.new }
         ensures cause { EndsWithCause (as_result result) (K.faults link.old) (K.faults link.new)
             (O.faults out.old) (O.faults out.new) }
         ensures idle { IfOk (as_result result) (λ more. more ≡ false →
             IsFirst self.new.input (Ok More)) }
+        // answers: one step of the definition, or its end
         ensures taken { TakesElements wish.now (as_result result)
             (stand self.old (K.told link.old) (O.written out.old))
             (stand self.new (K.told link.new) (O.written out.new)) }
@@ -180,6 +191,7 @@ impl Client {
                 ControlFlow::Continue(true)
             }
             Ok(Step::Block(channel, length)) => {
+                // The block stays in the input until it was processed, so its payload isn't copied.
                 self.take_block(wish, channel, length, link, out)?;
                 self.input.drop_front(length);
                 ControlFlow::Continue(true)
@@ -201,8 +213,10 @@ impl Client {
         link: &mut K,
         out: &mut O,
     ) -> ControlFlow<WatchEnd>
+        // needs: a complete block at the front of the input
         requires few { bytes_in self.old < 2 ^ 62 }
         requires block { IsFirst self.old.input (Ok (Block channel length)) }
+        // leaves: the input as it was, since the caller drops the block
         ensures input { self.new.input ≡ self.old.input }
         ensures few { OnOk (as_result result)
             (self.new.watching.received ≤ self.old.watching.received + length) }
@@ -210,6 +224,7 @@ impl Client {
         ensures count_out { O.faults out.old ≤ O.faults out.new }
         ensures cause { EndsWithCause (as_result result) (K.faults link.old) (K.faults link.new)
             (O.faults out.old) (O.faults out.new) }
+        // answers: one step of the definition, or its end
         ensures passed { PassesBlock wish.now channel length (as_result result)
             (stand self.old (K.told link.old) (O.written out.old))
             (stand self.new (K.told link.new) (O.written out.new)) }
@@ -223,6 +238,7 @@ impl Client {
                 self.watching.add_report(length as u64);
                 ControlFlow::Continue(())
             }
+            // SETUP asked for the channels 0 and 1, so a block on another one isn't the client's.
             _ => ControlFlow::Continue(()),
         }
     }
@@ -236,9 +252,11 @@ impl Client {
         link: &mut K,
         out: &mut O,
     ) -> Result<(), WatchEnd>
+        // needs: a complete block at the front of the input
         requires few { bytes_in self.old < 2 ^ 62 }
         requires least { 4 ≤ length }
         requires within { length ≤ list_length self.old.input }
+        // leaves: the input as it was, since the caller drops the block
         ensures input { self.new.input ≡ self.old.input }
         ensures few { OnOk result (self.new.watching.received ≤ self.old.watching.received
             + length) }
@@ -246,6 +264,7 @@ impl Client {
         ensures count_out { O.faults out.old ≤ O.faults out.new }
         ensures cause { EndsWithCause result (K.faults link.old) (K.faults link.new)
             (O.faults out.old) (O.faults out.new) }
+        // answers: one step of the definition, or its end
         ensures passed { PassesMoments wish.now (Frame (take length self.old.input) ∷ []) result
             (stand self.old (K.told link.old) (O.written out.old))
             (stand self.new (K.told link.new) (O.written out.new)) }
@@ -259,10 +278,13 @@ impl Client {
             return Err(WatchEnd::Fault(WatchFault::BadFrame(number)));
         };
         self.watching.add_frame(source, length as u64)?;
+        // Handed on frame by frame: what came before a fault is there, too.
         out.write_all(&block[HEADS..])?;
         if !self.watching.is_complete() {
             return Ok(());
         }
+        // The server gives no sign at a film's end, so the client counts the pictures. It asks with
+        // the last one, and waits for no further slot.
         let request = teardown_request(self.alloc, wish, self.session_id())?;
         link.send(request.as_slice())?;
         Ok(())
@@ -328,6 +350,7 @@ impl Client {
         ensures ended { EndsAtReply wish.now length (as_result result)
             (stand self.old (K.told link.old)) (stand self.new (K.told link.new)) }
     {
+        // A reply that nobody asked for is a fault: a test client must not pass over it.
         let Some(code) = self.awaited_code(&self.input.waiting()[..length]) else {
             let number = self.replies() + 1;
             return ControlFlow::Break(WatchEnd::Fault(WatchFault::BadReply(number)));
@@ -338,6 +361,8 @@ impl Client {
         match self.replies() {
             0 => flow_of(self.take_setup(wish, length, link)),
             1 => flow_of(self.take_play(wish, length)),
+            // The third reply is that to TEARDOWN: it is awaited only once all pictures are
+            // complete.
             _ => ControlFlow::Break(WatchEnd::Done(self.watching.tally())),
         }
     }
@@ -364,6 +389,7 @@ impl Client {
         let message = &self.input.waiting()[..length];
         let session = setup_session(message).ok_or(WatchFault::BadReply(1))?;
         let request = play_request(self.alloc, wish, session)?;
+        // Copied before PLAY is sent: where memory is out, nothing was asked for.
         let kept = Vec::from_slice(self.alloc, session)?;
         link.send(request.as_slice())?;
         self.session = Some(kept);
@@ -411,6 +437,7 @@ fn cut_bytes(waiting: &[u8]) -> usize
         return 0;
     }
     if waiting.len() >= 2 && waiting[1] >= 2 {
+        // Channels from 2 on aren't the film's, so their bytes don't count.
         return 0;
     }
     waiting.len()

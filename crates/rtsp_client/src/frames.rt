@@ -62,6 +62,7 @@ impl RtpSource {
         ensures same { IfSome result (λ source. (source.picture_time ≡ self.now.picture_time)
             × (source.units ≡ self.now.units)) }
     {
+        // Sequence numbers count on modulo 2^16 from any first one (RFC 3550 section 5.1).
         if head.ssrc != self.ssrc || head.sequence != self.sequence.wrapping_add(1) {
             return None;
         }
@@ -78,6 +79,8 @@ impl RtpSource {
 fn begins_film(payload: &[u8]) -> bool
     ensures { result ≡ begins_film payload.now }
 {
+    // A sequence header has 12 bytes before its matrices. The low half of byte 7 is the picture
+    // rate, whose codes are 1 to 8 (ISO/IEC 11172-2, 2.4.3.2).
     payload.len() >= 12
         && payload.starts_with(&[0, 0, 1, 0xb3])
         && payload[7] % 16 >= 1
@@ -91,5 +94,6 @@ fn units_until(end_ms: u128, picture_time: u32) -> u128
     requires short { end_ms < 2 ^ 100 }
     ensures { result ≡ units_until end_ms picture_time }
 {
+    // A millisecond has 360 units. The end was rounded down to it, so the count is rounded up.
     (end_ms * 360).div_ceil(u128::from(picture_time))
 }

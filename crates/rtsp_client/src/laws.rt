@@ -107,6 +107,7 @@ pub fn law_whole_film_ends_in_done()
         frames_of_film film identity ≡ frames_heard h → replies h ≡ 2 → IsAnswer message 3 200 →
         Gives wish h (Reply message) (Done (watched_in wish h)) }
 {
+    // These calls hand the prover the laws of the server's frames.
     law_sequence_numbers_are_consecutive();
     law_packets_respect_slices();
 }
@@ -137,6 +138,7 @@ pub fn law_output_is_film_bytes()
         OfUnit film.units.items (end_unit - 1) (λ last.
         payloads_of moments ≡ take (last.to - first.from) (drop first.from film.bytes.items)))) }
 {
+    // Hands the prover the law of the server's payloads.
     law_payloads_are_film_bytes();
 }
 

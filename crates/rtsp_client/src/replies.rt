@@ -59,6 +59,7 @@ pub(crate) fn play_start(message: &[u8]) -> Option<u64>
     ensures { result ≡ play_start message.now }
 {
     match number_in(message, b"x-Start") {
+        // A play begins in a later slot than its request, and slots count up to 2^62.
         Some(start) if 1 <= start && start <= (1 << 62) + 1 => Some(start),
         _ => None,
     }
@@ -90,6 +91,7 @@ fn id_end(value: &[u8]) -> usize
 fn session_id(value: &[u8]) -> &[u8]
     ensures { result.now ≡ session_id value.now }
 {
+    // A `;timeout=` may follow the id (RFC 2326 section 12.37), and isn't part of it.
     trim(&value[..id_end(value)])
 }
 
@@ -97,6 +99,7 @@ fn session_id(value: &[u8]) -> &[u8]
 fn usable_id(id: &[u8]) -> Option<&[u8]>
     ensures { option_map (λ id. id.now) result ≡ usable_id id.now }
 {
+    // A line end in the id would make the next request another one than the client means.
     if has_value_bytes(id) { Some(id) } else { None }
 }
 
@@ -149,6 +152,7 @@ fn range_end(value: &[u8]) -> Option<u128>
     ensures range { result ≡ range_end value.now }
     ensures short { IfSome result (λ end_ms. end_ms < 2 ^ 100) }
 {
+    // PLAY asked for the film from 0, so a range from elsewhere is no reply to it.
     let text = value.strip_prefix(b"npt=0.000-")?;
     time_in(text)
 }

@@ -30,6 +30,7 @@ pub(crate) fn setup_request(alloc: Global, wish: &Wish) -> Result<Vec<u8>, NoMem
 pub(crate) fn play_request(alloc: Global, wish: &Wish, session: &[u8]) -> Result<Vec<u8>, NoMemory>
     ensures { IfOk result (λ text. text.items ≡ play_text wish.now session.now) }
 {
+    // The number of the request, which its reply must repeat (RFC 2326 section 12.17).
     let fields = b" RTSP/1.0\r\nCSeq: 2\r\nSession: ";
     session_request(
         alloc,
@@ -57,6 +58,7 @@ pub(crate) fn teardown_request(
 fn push_url(text: &mut Vec<u8>, wish: &Wish) -> Result<(), NoMemory>
     ensures { OnOk result (text.new.items ≡ text.old.items ++ film_url wish.now) }
 {
+    // The gate that dials connects to this machine alone.
     push_field(text, b"rtsp://127.0.0.1:", u64::from(wish.port))?;
     push(text, b"/")?;
     push(text, wish.name.as_bytes())?;

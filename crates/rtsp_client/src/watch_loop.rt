@@ -24,11 +24,14 @@ use vod_base::{Link, MAX_EVENTS, MAX_READ_BYTES, Sink};
 /// the frame is complete. At each new slot from the play's first one on the meter of the client's
 /// buffer is read.
 pub fn watch<K: Link, O: Sink>(alloc: Global, wish: &Wish, link: &mut K, out: &mut O) -> WatchEnd
+    // needs: a wish in range
     requires wish { IsWish wish.now }
+    // faults: of the link or the output, only where its count rose
     ensures count { K.faults link.old ≤ K.faults link.new }
     ensures count_out { O.faults out.old ≤ O.faults out.new }
     ensures link { result ≡ LinkFault → HasRisen (K.faults link.old) (K.faults link.new) }
     ensures out { result ≡ SinkFault → HasRisen (O.faults out.old) (O.faults out.new) }
+    // answers: what the events lead to, by the definition of a watching
     ensures watched { HasWatched wish.now result
         (K.told link.old) (K.told link.new) (O.written out.old) (O.written out.new) }
 {
@@ -61,6 +64,7 @@ fn hear_all<K: Link, O: Sink>(
         (O.faults out.new) }
 {
     let mut bytes = [0; MAX_READ_BYTES];
+    // The limit on events keeps all sums below 2^62: each brings at most 16,384 bytes.
     'events: for _event in 0..MAX_EVENTS {
         let Ok(heard) = link.next(&mut bytes) else {
             return WatchEnd::LinkFault;

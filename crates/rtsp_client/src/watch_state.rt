@@ -124,6 +124,8 @@ impl WatchState {
         ensures long { IfSome result (λ source. 20 ≤ length block.now) }
     {
         let play = self.play?;
+        // Each frame is judged, and none repaired: a client that tests a server must show its
+        // faults.
         if self.is_complete() {
             return None;
         }
@@ -158,6 +160,7 @@ impl WatchState {
         self.watched.bytes += length - FRAME_HEAD_BYTES;
         self.received += length;
         self.taken += length;
+        // The last packet of a picture has the marker, and no other (RFC 2250 section 3.3).
         if source.marker {
             self.ends.push(self.taken)?;
             self.watched.units += 1;
@@ -182,6 +185,7 @@ impl WatchState {
         requires few { self.old.received + length < 2 ^ 63 }
         ensures { self.new ≡ after_report self.old length }
     {
+        // No play, so the report is of no picture that the meter counts.
         if self.play.is_none() {
             return;
         }
@@ -200,6 +204,7 @@ impl WatchState {
         let Some(source) = &self.source else {
             return 0;
         };
+        // Nothing is used before the start delay is over, and then picture by picture.
         let passed = u128::from(slot.saturating_sub(wish.startup)) * u128::from(wish.slot_units);
         let used = passed.div_ceil(u128::from(source.picture_time));
         let count = used.min(self.ends.len() as u128) as usize;
@@ -229,6 +234,7 @@ impl WatchState {
         requires under { self.old.watched.under < self.old.last_slot }
         ensures { self.new ≡ after_reading wish.now self.old slot cut }
     {
+        // Can't be negative: what was played was received (`most`).
         let waiting = self.received + cut - self.bytes_played(wish, slot);
         let lacking = self.is_lacking(wish, slot);
         self.watched.most = self.watched.most.max(waiting);
@@ -246,6 +252,8 @@ impl WatchState {
         ensures { result ≡ place_of self.now.play slot }
     {
         let play = self.play?;
+        // `x-Start` counts from the slot of the request. The two ends count slots from different
+        // times, so the client counts from the last slot that it received before the reply.
         (slot - play.slot_before).checked_sub(play.start)
     }
 
@@ -257,6 +265,7 @@ impl WatchState {
         ensures state { self.new ≡ after_slot wish.now self.old slot cut }
         ensures timed { IfSome self.old.source (λ source. 0 < source.picture_time) }
     {
+        // A link doesn't promise that slots rise. The meter is read once in each.
         if slot <= self.last_slot {
             return;
         }

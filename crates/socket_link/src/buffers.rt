@@ -55,12 +55,16 @@ impl WriteBuffer {
         ensures waiting { self.new ≡ self.old ++ take result bytes.now }
     {
         let count = bytes.len().min(ROOM - (self.bytes.len() - self.start));
+        // Bytes are moved only where the end of the buffer is too short for the new ones. Once all
+        // bytes are written the buffer is empty, so this is rare.
         if count > ROOM - self.bytes.len() {
             move_to_front(&mut self.bytes, self.start);
             self.start = 0;
         }
         match self.bytes.extend_from_slice(&bytes[..count]) {
             Ok(()) => count,
+            // Can't come: the buffer got room for ROOM bytes at its start, and here no more are in
+            // it.
             Err(_) => unreachable!(),
         }
     }

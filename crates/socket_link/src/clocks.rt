@@ -10,6 +10,8 @@ pub(crate) fn slot_at(time: u64, slot_units: u32) -> u64
     requires { 1 ≤ slot_units }
     ensures { result ≡ slot_of slot_units time }
 {
+    // A slot has `slot_units` / 360,000 s, which are 25,000 / 9 ns for each unit. The product with
+    // 9 can pass 64 bits.
     (time as u128 * 9 / (25_000 * slot_units as u128)).min(LATEST_SLOT as u128) as u64
 }
 
@@ -20,5 +22,6 @@ pub(crate) fn rest_of_slot(time: u64, slot_units: u32) -> u64
 {
     let length = 25_000 * slot_units as u64;
     let passed = (time as u128 * 9 % length as u128) as u64;
+    // Rounded up: a wait that ends before the slot begins would only be repeated.
     (length - passed).div_ceil(9)
 }

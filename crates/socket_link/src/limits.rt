@@ -6,13 +6,16 @@ ghost use Rattle.socket_link.specs.Limits.{clocked, watched, is_overdue, has_pas
 
 use crate::sockets::Purpose;
 
-/// For how long a peer may take nothing of the bytes that wait for it: 60 s.
+/// For how long a peer may take nothing of the bytes that wait for it: 60 s. A peer that reads
+/// again after a longer time would get all missed slots in one burst that nobody reserved.
 pub const STUCK_LIMIT: u64 = 60_000_000_000;
 
-/// Within what time after its accept something must be sent to a peer: 15 s.
+/// Within what time after its accept something must be sent to a peer: 15 s. Players ask within
+/// 0.1 s, and a silent connection holds a worker.
 pub const FIRST_SEND_LIMIT: u64 = 15_000_000_000;
 
-/// For how long a connection may be idle, on which no byte comes and none is taken: 3,600 s.
+/// For how long a connection may be idle, on which no byte comes and none is taken: 3,600 s. The
+/// 60 s of RFC 2326 section 12.37 are too short: some players send nothing while they are paused.
 pub const IDLE_LIMIT: u64 = 3_600_000_000_000;
 
 /// After how long a write is tried again while the peer takes nothing, at the latest: 1 s. The
@@ -57,6 +60,8 @@ impl Watch {
             },
             Purpose::Patience => Watch {
                 latest: time,
+                // The limit counts from the first write that took nothing, so later ones don't
+                // restart it.
                 stuck: Some(self.stuck.unwrap_or(time)),
                 ..self
             },
@@ -72,6 +77,8 @@ impl Watch {
         ensures { result ≡ watched self (GaveBytes []) }
     {
         Watch {
+            // The reading before the bytes stands for their time: each read follows a reading, so
+            // bytes need none of their own.
             active: self.latest,
             ..self
         }
@@ -82,6 +89,8 @@ impl Watch {
         ensures { result ≡ watched self (TookBytes []) }
     {
         Watch {
+            // Any byte that was taken shows that the peer reads, so both limits on sending end
+            // here.
             active: self.latest,
             unanswered: None,
             stuck: None,
@@ -94,6 +103,7 @@ impl Watch {
         ensures { result ≡ is_overdue self purpose time }
     {
         match purpose {
+            // The end of a connection has limits of its own, in `write_everything` and `linger`.
             Purpose::Accept | Purpose::Slot | Purpose::End => false,
             Purpose::Idle => {
                 has_passed(FIRST_SEND_LIMIT, self.unanswered, time)
@@ -108,5 +118,6 @@ impl Watch {
 fn has_passed(limit: u64, since: Option<u64>, time: u64) -> bool
     ensures { result ≡ has_passed limit since time }
 {
+    // A socket doesn't promise a clock that rises: to an earlier reading no time has passed.
     since.is_some_and(|since| time.saturating_sub(since) >= limit)
 }

@@ -94,6 +94,7 @@ impl<S: Socket + Drop> SocketLink<S> {
         ensures fresh { IfOk result (λ link. (link.faults ≡ 0) × (link.history.doings ≡ [])) }
         ensures units { IfOk result (λ link. link.slot_units ≡ max slot_units 1) }
     {
+        // The limit on the first send counts from here.
         let accept = match socket.time(Purpose::Accept) {
             Ok(accept) => accept,
             Err(fault) => return Err(fault),
@@ -101,8 +102,11 @@ impl<S: Socket + Drop> SocketLink<S> {
         Ok(SocketLink {
             socket,
             buffer: buffer.bytes,
+            // The slot of a time is a quotient, so a slot has at least one unit.
             slot_units: slot_units.max(1),
             slot: None,
+            // Bytes may have come before the socket was watched, so the first read waits for no
+            // event.
             readable: true,
             watch: Watch::NEW.at(Purpose::Accept, accept),
             history: History::new(),
@@ -112,7 +116,9 @@ impl<S: Socket + Drop> SocketLink<S> {
 
     /// Ends a connection that was given back: closes it if no call failed ([`SocketLink::close`]).
     pub fn end(mut self) {
+        // After a failed call nothing more is sent, so no last reply is on its way.
         if self.faults == 0 {
+            // The connection's record was made before: a close that fails changes nothing in it.
             let _ = self.close();
         }
     }
@@ -146,6 +152,8 @@ impl<S: Socket> SocketLink<S> {
     {
         match self.socket.wait(most) {
             Ok(ready) => {
+                // An arrival is reported once. So a wait that reports none must not clear an
+                // earlier report.
                 self.readable |= ready;
                 Ok(())
             }
@@ -184,6 +192,7 @@ impl<S: Socket> SocketLink<S> {
 
     /// Reads the clock, and returns the slot if it is newer than the last one.
     fn new_slot(&mut self) -> Result<Option<u64>, LinkFault>
+        // leaves: the waiting bytes as they were; a reading of the clock
         ensures same { (self.new.faults ≡ self.old.faults)
             × (self.new.slot_units ≡ self.old.slot_units) }
         ensures count { S.faults self.old.socket ≤ S.faults self.new.socket }
@@ -196,12 +205,14 @@ impl<S: Socket> SocketLink<S> {
             (S.did self.old.socket) (S.did self.new.socket)) }
         ensures waiting { (self.new.buffer ≡ self.old.buffer)
             × (self.new.watch.stuck ≡ self.old.watch.stuck) }
+        // answers: a slot that is one more event of the history, or None
         ensures told { IfOk result (λ slot. self.new.history.doings
             ≡ self.old.history.doings ++ doings_looked slot) }
         ensures none { IfOk result (λ slot. slot ≡ None →
             (self.new.history.doings ≡ self.old.history.doings)
             × (self.new.slot ≡ self.old.slot)) }
         ensures lost { OnErr result (self.new.history.doings ≡ self.old.history.doings) }
+        // faults: the socket failed
         ensures cause { OnErr result (IsTrue S.tells → IsCause
             (S.faults self.old.socket) (S.faults self.new.socket) (S.did self.new.socket)) }
     {
@@ -266,7 +277,10 @@ impl<S: Socket> SocketLink<S> {
             ≡ Some (ReadClock Purpose.Patience self.new.watch.latest)) }
     {
         for _ in 0..u64::MAX {
+            // After a signal the loop writes again at once, since no byte was taken.
             if let WriteOutcome::Nothing = self.write()? {
+                // The clock is read only for a peer that takes nothing. A peer that reads costs no
+                // reading.
                 self.check(Purpose::Patience)?;
                 return Ok(Flushed::Stuck);
             }
@@ -274,6 +288,7 @@ impl<S: Socket> SocketLink<S> {
                 return Ok(Flushed::Everything);
             }
         }
+        // Never reached: a call must be proved to end, so the loops of a link count.
         Err(LinkFault)
     }
 
@@ -355,6 +370,8 @@ impl<S: Socket> SocketLink<S> {
             if rest.is_empty() {
                 return Ok(());
             }
+            // `send` waits for the peer in place of growing the buffer. So a peer that reads
+            // nothing can't take memory, and all memory of a link is there before the accept.
             self.make_room()?;
         }
         Err(LinkFault)
@@ -362,7 +379,9 @@ impl<S: Socket> SocketLink<S> {
 
     /// Reads what came, in one call; None where nothing came.
     fn read(&mut self, into: &mut [u8]) -> Result<Option<Heard>, LinkFault>
+        // needs: room for a byte
         requires some { 0 < length into.now }
+        // leaves: the slot and the waiting bytes as they were; further calls of the socket
         ensures same { (self.new.faults ≡ self.old.faults)
             × (self.new.slot_units ≡ self.old.slot_units) }
         ensures count { S.faults self.old.socket ≤ S.faults self.new.socket }
@@ -375,6 +394,7 @@ impl<S: Socket> SocketLink<S> {
         ensures slot { self.new.slot ≡ self.old.slot }
         ensures waiting { (self.new.buffer ≡ self.old.buffer)
             × (self.new.watch.stuck ≡ self.old.watch.stuck) }
+        // answers: what came, which is one more event of the history, or None
         ensures within { IfOk result (λ read. IfSome read (λ heard.
             IsWithin heard (length into.new))) }
         ensures event { IfOk result (λ read. IfSome read (λ heard. IsNoSlot heard)) }
@@ -385,6 +405,7 @@ impl<S: Socket> SocketLink<S> {
         ensures ended { IfOk result (λ read. read ≡ Some Heard.End → IsTrue S.tells →
             HasFoundEnd (S.did self.new.socket)) }
         ensures lost { OnErr result (self.new.history.doings ≡ self.old.history.doings) }
+        // faults: the socket failed, or a limit is reached
         ensures cause { OnErr result (IsTrue S.tells → IsCause
             (S.faults self.old.socket) (S.faults self.new.socket) (S.did self.new.socket)) }
     {
@@ -412,9 +433,11 @@ impl<S: Socket> SocketLink<S> {
 
     /// Reads what came. If nothing can have come, waits at most so many nanoseconds.
     fn read_or_wait(&mut self, into: &mut [u8], most: u64) -> Result<Option<Heard>, LinkFault>
+        // needs: room for a byte, and a wait that ends with the slot
         requires some { 0 < length into.now }
         requires fits { IsTrue S.tells → FitsAfter self.old.slot_units
             (last_from None (S.did self.old.socket)) most }
+        // leaves: the slot and the waiting bytes as they were; further calls of the socket
         ensures same { (self.new.faults ≡ self.old.faults)
             × (self.new.slot_units ≡ self.old.slot_units) }
         ensures count { S.faults self.old.socket ≤ S.faults self.new.socket }
@@ -427,6 +450,7 @@ impl<S: Socket> SocketLink<S> {
         ensures slot { self.new.slot ≡ self.old.slot }
         ensures waiting { (self.new.buffer ≡ self.old.buffer)
             × (self.new.watch.stuck ≡ self.old.watch.stuck) }
+        // answers: what came, which is one more event of the history, or None
         ensures within { IfOk result (λ read. IfSome read (λ heard.
             IsWithin heard (length into.new))) }
         ensures event { IfOk result (λ read. IfSome read (λ heard. IsNoSlot heard)) }
@@ -437,6 +461,7 @@ impl<S: Socket> SocketLink<S> {
         ensures ended { IfOk result (λ read. read ≡ Some Heard.End → IsTrue S.tells →
             HasFoundEnd (S.did self.new.socket)) }
         ensures lost { OnErr result (self.new.history.doings ≡ self.old.history.doings) }
+        // faults: the socket failed, or a limit is reached
         ensures cause { OnErr result (IsTrue S.tells → IsCause
             (S.faults self.old.socket) (S.faults self.new.socket) (S.did self.new.socket)) }
     {
@@ -450,30 +475,38 @@ impl<S: Socket> SocketLink<S> {
     /// Waits for the next event. First what waits is written out, then a new slot is reported, and
     /// then what came.
     fn hear(&mut self, into: &mut [u8]) -> Result<Heard, LinkFault>
+        // needs: room for a byte
         requires some { 0 < length into.now }
         ensures same { (self.new.faults ≡ self.old.faults)
             × (self.new.slot_units ≡ self.old.slot_units) }
         ensures count { S.faults self.old.socket ≤ S.faults self.new.socket }
+        // answers: one event, and the history has it
         ensures within { IfOk result (λ heard. IsWithin heard (length into.new)) }
         ensures heard { IfOk result (λ heard. self.new.history.doings
             ≡ self.old.history.doings ++ io_event_of heard into.new ∷ []) }
         ensures lost { OnErr result (self.new.history.doings ≡ self.old.history.doings) }
+        // leaves: what waits is written, and slots come before bytes
         ensures left { OnOk result
             ((length self.new.buffer ≡ 0) ⊎ IsSome self.new.watch.stuck) }
         ensures order { IfOk result (λ heard. IsTrue S.tells → IsInOrder self.old.slot_units
             self.old.slot heard (S.did self.new.socket)) }
         ensures served { OnOk result (IsTrue S.tells →
             HasServed self.old.slot_units (S.did self.old.socket) (S.did self.new.socket)) }
+        // faults: the socket failed, or a limit is reached
         ensures cause { OnErr result (IsTrue S.tells → IsCause
             (S.faults self.old.socket) (S.faults self.new.socket) (S.did self.new.socket)) }
     {
         for _ in 0..u64::MAX {
+            // Written before the wait, since the peer may wait for just these bytes.
             self.write_out()?;
+            // A wait lasts a slot at most. So a limit is noticed within a slot after it is reached.
             self.check(Purpose::Idle)?;
             // a slot comes before bytes: a peer that sends without end can't hold up its film
             if let Some(slot) = self.new_slot()? {
                 return Ok(Heard::Slot(slot));
             }
+            // From the reading that found no new slot: a later one could lie in the next slot
+            // already, and the wait would then pass that slot's begin.
             let rest = rest_of_slot(self.watch.latest, self.slot_units);
             if let Some(heard) = self.read_or_wait(into, rest)? {
                 return Ok(heard);
@@ -495,6 +528,7 @@ impl<S: Socket> SocketLink<S> {
         ensures cause { OnErr result (IsTrue S.tells → IsCause
             (S.faults self.old.socket) (S.faults self.new.socket) (S.did self.new.socket)) }
     {
+        // A reading from before the writes, so that the time they take counts.
         self.check(Purpose::End)?;
         let begun = self.watch.latest;
         for _ in 0..u64::MAX {
@@ -552,6 +586,8 @@ impl<S: Socket> SocketLink<S> {
     {
         self.check(Purpose::End)?;
         let begun = self.watch.latest;
+        // Nobody reads these bytes. But a socket that is closed with unread bytes sends a reset
+        // (RFC 1122 section 4.2.2.13), and the peer would lose the last reply.
         let mut dropped = [0; 1024];
         for _ in 0..u64::MAX {
             self.check(Purpose::End)?;
@@ -584,6 +620,7 @@ impl<S: Socket> SocketLink<S> {
         ensures cause { OnErr result (IsTrue S.tells → IsCause
             (S.faults self.old.socket) (S.faults self.new.socket) (S.did self.new.socket)) }
     {
+        // The end of the stream stands after the last reply, so all is written first.
         self.write_everything()?;
         self.shut_down()?;
         self.linger()
@@ -603,19 +640,24 @@ impl<S: Socket> Link for SocketLink<S> {
     ghost told = { λ l. told_if S.tells l.history.doings };
 
     fn next(&mut self, into: &mut [u8]) -> Result<Heard, LinkFault>
+        // needs: room for a byte. A read into an empty buffer would look like the peer's end.
         requires some { 0 < length into.now }
+        // faults: a call blames the link only where the link's count rose
         ensures count { self.old.faults ≤ self.new.faults }
         ensures fault { OnErr result (HasRisen self.old.faults self.new.faults) }
+        // answers: an event, which is also the next one of the history
         ensures within { IfOk result (λ heard. IsWithin heard (length into.new)) }
         ensures heard { IfOk result (λ heard. told_if S.tells self.new.history.doings ≡
             told_more (told_if S.tells self.old.history.doings) (io_event_of heard into.new ∷ [])) }
         ensures lost { OnErr result (told_if S.tells self.new.history.doings
             ≡ told_if S.tells self.old.history.doings) }
+        // leaves: nothing unwritten, unless the peer takes nothing now; a slot came before bytes
         ensures units { self.new.slot_units ≡ self.old.slot_units }
         ensures left { OnOk result
             ((length self.new.buffer ≡ 0) ⊎ IsSome self.new.watch.stuck) }
         ensures order { IfOk result (λ heard. IsTrue S.tells → IsInOrder self.old.slot_units
             self.old.slot heard (S.did self.new.socket)) }
+        // the socket's calls: waits end in time, and each fault has a cause
         ensures served { OnOk result (IsTrue S.tells →
             HasServed self.old.slot_units (S.did self.old.socket) (S.did self.new.socket)) }
         ensures cause { OnErr result (IsTrue S.tells → IsCause
@@ -623,6 +665,7 @@ impl<S: Socket> Link for SocketLink<S> {
     {
         let heard = self.hear(into);
         if heard.is_err() {
+            // A count at 2^64 - 1 counts as risen, so it may stay there.
             self.faults = self.faults.saturating_add(1);
         }
         heard
@@ -631,10 +674,12 @@ impl<S: Socket> Link for SocketLink<S> {
     fn send(&mut self, bytes: &[u8]) -> Result<(), LinkFault>
         ensures count { self.old.faults ≤ self.new.faults }
         ensures fault { OnErr result (HasRisen self.old.faults self.new.faults) }
+        // answers: all bytes are in the history, or a prefix of them after a fault
         ensures whole { OnOk result (told_if S.tells self.new.history.doings
             ≡ told_more (told_if S.tells self.old.history.doings) (sends bytes.now)) }
         ensures front { OnErr result (IsSentPrefix (told_if S.tells self.old.history.doings)
             (told_if S.tells self.new.history.doings) bytes.now) }
+        // the socket's calls: waits end in time, and each fault has a cause
         ensures units { self.new.slot_units ≡ self.old.slot_units }
         ensures served { OnOk result (IsTrue S.tells →
             HasServed self.old.slot_units (S.did self.old.socket) (S.did self.new.socket)) }

@@ -69,7 +69,7 @@ pub struct MemorySocket {
 }
 
 impl MemorySocket {
-    /// A socket with these scripts. `time` is the clock's first reading, in nanoseconds.
+    /// Makes a socket with these scripts. `time` is the clock's first reading, in nanoseconds.
     pub fn new(
         alloc: Global,
         time: u64,
@@ -154,6 +154,7 @@ impl Socket for MemorySocket {
             Some(ScriptedRead::Bytes(bytes)) => {
                 let rest = &bytes[self.given.min(bytes.len())..];
                 let count = rest.len().min(into.len());
+                // The note needs a copy. It is made first, so a read without memory gave nothing.
                 let Ok(copy) = rest[..count].to_vec(self.alloc) else {
                     return Err(self.fail());
                 };
@@ -161,6 +162,8 @@ impl Socket for MemorySocket {
                 if count == rest.len() {
                     self.pass_read();
                 }
+                // A read of 0 bytes would mean the peer's end (read(2)), so an empty entry gives
+                // nothing.
                 if count == 0 {
                     self.note(NotedCall::Empty)?;
                     return Ok(ReadOutcome::Nothing);

@@ -70,9 +70,12 @@ pub trait Socket {
     ///
     /// A read that fails gave nothing.
     fn read(&mut self, into: &mut [u8]) -> Result<ReadOutcome, SocketFault>
+        // needs: room for a byte
         requires some { 0 < length into.now }
+        // faults: they are counted, so that a link can blame its socket
         ensures count { faults self.old ≤ faults self.new }
         ensures fault { OnErr result (HasRisen (faults self.old) (faults self.new)) }
+        // answers: what came, which is noted as one call; after a fault nothing is
         ensures within { IfOk result (λ read. IsReadWithin read (length into.new)) }
         ensures gave { IfOk result (λ read. IsTrue tells →
             did self.new ≡ did self.old ++ read_call read into.new ∷ []) }
@@ -84,9 +87,12 @@ pub trait Socket {
     ///
     /// A write that fails took nothing.
     fn write(&mut self, bytes: &[u8]) -> Result<WriteOutcome, SocketFault>
+        // needs: a byte to write
         requires some { 0 < length bytes.now }
+        // faults: they are counted, so that a link can blame its socket
         ensures count { faults self.old ≤ faults self.new }
         ensures fault { OnErr result (HasRisen (faults self.old) (faults self.new)) }
+        // answers: how much was taken, which is noted as one call; after a fault nothing is
         ensures within { IfOk result (λ written. IsWrittenWithin written (length bytes.now)) }
         ensures took { IfOk result (λ written. IsTrue tells →
             did self.new ≡ did self.old ++ write_call written bytes.now ∷ []) }

@@ -9,8 +9,8 @@ use std::io::ErrorKind;
 use std::rt::Env;
 use std::{env, io};
 
-/// The arguments of the command line, without the program's name. If one of them isn't UTF-8 there
-/// are none, and a command line without arguments means nothing.
+/// Returns the arguments of the command line, without the program's name. If one of them isn't
+/// UTF-8 there are none, and a command line without arguments means nothing.
 ///
 /// # Errors
 ///
@@ -31,6 +31,8 @@ fn without_name(alloc: Global, args: io::Result<Args<Global>>) -> Result<Vec<Str
         Ok(args) => args.skip(1).collect(alloc),
         Err(error) => match error.kind() {
             ErrorKind::OutOfMemory => Err(AllocError),
+            // No name and no value has such bytes. So it is a usage error (status 2), as any other
+            // word without a meaning.
             _ => Ok(Vec::new(alloc)),
         },
     }

@@ -5,7 +5,7 @@ ghost use Rattle.std.specs.Process.{exit_status};
 
 use std::process::ExitCode;
 
-/// The exit code of a program that ends with this status.
+/// Returns the exit code of a program that ends with this status.
 pub fn exit_code(status: u8) -> ExitCode
     ensures { exit_status result ≡ status }
 {

@@ -33,6 +33,7 @@ pub fn draw_seed<S: ByteSource>(source: &mut S) -> Result<[u8; 32], NoRandomByte
     ensures { IfOk result (λ seed. IsTrue S.tells →
         S.drawn source.new ≡ S.drawn source.old ++ seed) }
 {
+    // The size of a key of ChaCha20, from which the session ids are drawn.
     let mut seed = [0; 32];
     match source.fill(&mut seed) {
         Ok(()) => Ok(seed),
@@ -47,7 +48,7 @@ pub struct SystemBytes<'a, R: RandomSource> {
 }
 
 impl<'a, R: RandomSource> SystemBytes<'a, R> {
-    /// The random bytes of this runtime's system.
+    /// Makes a source of the random bytes of this runtime's system.
     pub fn new(rt: &'a R) -> SystemBytes<'a, R> {
         SystemBytes { rt }
     }

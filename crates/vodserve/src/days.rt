@@ -36,6 +36,7 @@ pub(crate) fn day<L: Library, O: Sink, E: Sink>(
         Ok(script) => script,
         Err(error) => return end_with(alloc, err, error),
     };
+    // After the script was judged: a bad line is reported before any film is read.
     let sources = match load_sources(alloc, library, &script.named) {
         Ok(sources) => sources,
         Err(error) => return end_with(alloc, err, error),
@@ -81,6 +82,7 @@ fn end_day<O: Sink, E: Sink>(alloc: Global, out: &mut O, err: &mut E, day: Day) 
         Ok(()) => Ended::with_status(alloc, 0),
         Err(_) => end_with(alloc, err, CliError::SinkFault),
     };
+    // Also where the output failed: the day was run.
     ended.journal = journal;
     ended
 }

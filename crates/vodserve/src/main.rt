@@ -26,6 +26,8 @@ fn main(rt: HostRuntime) -> ExitCode {
     let mut library = FileLibrary::new(&rt, rt.alloc());
     let mut out = OutSink::new(rt.stdout());
     let mut err = OutSink::new(rt.stderr());
+    // Neither gate opens a socket before it is opened, so both can be made for each command. Which
+    // one a command gets is decided below, where it is proved.
     let mut listening = TcpGate::new(TcpPort::new(&rt, rt.alloc()));
     let mut dialing = DialGate::new(&rt, rt.alloc());
     let mut random = SystemBytes::new(&rt);

@@ -21,7 +21,8 @@ use std::thread::Threads;
 use std::time::Clock;
 use vod_base::{Gate, Library, Sink};
 
-/// A gate that connections come to, as a server needs it.
+/// A gate that connections come to, as a server needs it. It and [`DialingGate`] are two traits, so
+/// that `main` can't exchange the two gates.
 pub trait ListeningGate {}
 
 /// A gate that makes a connection, as a client needs it.
@@ -82,11 +83,14 @@ where
     if is_watch(&words) {
         return run(rt, alloc, &words, library, out, err, dialing, NO_SEED);
     }
+    // Only a server draws: the other commands don't fail where there are no random bytes.
     if !is_serve(&words) {
         return run(rt, alloc, &words, library, out, err, listening, NO_SEED);
     }
     match draw_seed(random) {
         Ok(seed) => run(rt, alloc, &words, library, out, err, listening, seed),
+        // With a seed that is known the session ids could be guessed. So no server runs without
+        // one.
         Err(NoRandomBytes) => end_with(alloc, err, CliError::GateFault),
     }
 }

@@ -81,6 +81,7 @@ where
         }
         Invocation::Day(order) => day(alloc, library, out, err, &order),
         Invocation::Fair(order) => fair(alloc, out, err, &order),
+        // Not by `print`: the film's bytes are written as they come.
         Invocation::Watch(watching) => watch_film(alloc, out, err, gate, &watching),
         Invocation::Serve(serving) => serve(rt, alloc, library, out, err, gate, seed, &serving),
     }
@@ -112,6 +113,7 @@ where
 {
     let prepared = match prepare(alloc, library, gate, serving) {
         Ok(prepared) => prepared,
+        // Nothing was served, so nothing but the error's line is printed.
         Err(error) => return end_with(alloc, err, error),
     };
     match run_server(rt, alloc, gate, seed, serving, prepared) {

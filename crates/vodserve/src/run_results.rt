@@ -53,6 +53,7 @@ pub(crate) fn end_with<E: Sink>(alloc: Global, err: &mut E, error: CliError<'_>)
     ensures nothing { HasServedNothing result }
 {
     let status = status_of(&error);
+    // There is no further stream to report a fault of this one on.
     let _ = write_error(err, error);
     Ended::with_status(alloc, status)
 }
@@ -76,6 +77,7 @@ pub(crate) fn print<O: Sink, E: Sink>(
         Ok(done) => done,
         Err(error) => return end_with(alloc, err, error),
     };
+    // The text is complete here: a command that fails has printed no half of it.
     match out.write_all(&done.text) {
         Ok(()) => {
             let mut ended = Ended::with_status(alloc, done.status);

@@ -62,8 +62,10 @@ pub(crate) fn prepare<'a, L: Library, G: Gate>(
     serving: &ServeArgs<'a>,
 ) -> Result<ServerSetup, CliError<'a>>
     requires { AreServeArgsInRange serving.now }
+    // leaves: files that were only read
     ensures library { IsReadOnly L.files L.faults library.old library.new }
     ensures count { G.faults gate.old ≤ G.faults gate.new }
+    // answers: the films in the order of their arguments, and a station that is empty
     ensures films { IfOk result (λ prepared. AreFilms prepared.films.items) }
     ensures loaded { IfOk result (λ prepared. AreLoaded (L.files library.old)
         (serve_args_of serving.entry.now).films prepared.films.items) }
@@ -72,14 +74,17 @@ pub(crate) fn prepare<'a, L: Library, G: Gate>(
     ensures limit { IfOk result (λ prepared.
         prepared.station.limit ≡ serving.entry.now.journal) }
     ensures seat { IfOk result (λ prepared. prepared.seat ≡ first_seat prepared.station) }
+    // the gate: opened once, as the arguments say
     ensures opened { IfOk result (λ prepared.
         IsNewlyOpen (opening_of (serve_args_of serving.entry.now)) (G.told gate.new)) }
     ensures once { IfOk result (λ prepared.
         IfSome (G.told gate.new) (IsOpenedOnce (G.told gate.old))) }
+    // faults: of a film, of the gate, or out of memory
     ensures error { IfErr result (IsServeError (serve_args_of serving.entry.now)
         (io_state_of L.faults L.files library.old) (io_state_of L.faults L.files library.new)
         (gate_state_of G.faults G.told gate.old) (gate_state_of G.faults G.told gate.new)) }
 {
+    // Films first: where one is refused, no port was opened.
     let films = load_films(alloc, library, serving.words)?;
     let opening = Opening {
         port: serving.listening.port,
@@ -87,6 +92,7 @@ pub(crate) fn prepare<'a, L: Library, G: Gate>(
         connections: serving.listening.connections,
         slot_units: serving.planning.slot,
     };
+    // Slot 0 begins here, for the calendar as for all connections.
     gate.open(&opening)?;
     let (station, seat) = make_station(alloc, serving.capacity.as_slice(), serving.journal)?;
     Ok(ServerSetup {
@@ -108,6 +114,7 @@ pub(crate) fn run_server<R: Threads + Wait + Sync, G: Gate + Send + Drop>(
 ) -> Result<Closed, CliError<'static>>
 where
     G::Conn: Send,
+    // needs: what `prepare` made, with the gate newly open
     requires range { AreServeArgsInRange serving.now }
     requires films { AreFilms prepared.films.items }
     requires steps { prepared.station.steps ≡ serving.now.capacity }
@@ -115,12 +122,14 @@ where
     requires seat { prepared.seat ≡ first_seat prepared.station }
     requires opened { IsNewlyOpen (opening_of (serve_args_of serving.now)) (G.told gate.old) }
     ensures count { G.faults gate.old ≤ G.faults gate.new }
+    // answers: a journal within its limit, and what each worker did
     ensures closed { IfOk result (λ closed.
         IsJournal (serve_args_of serving.entry.now) closed.book.entries) }
     ensures worked { IfOk result (λ closed. IsWorkersResult
         (server_run prepared.films.items (serve_args_of serving.entry.now) seed closed.book.entries)
         (gate_state_of G.faults G.told gate.old) (gate_state_of G.faults G.told gate.new)
         closed.end closed.reports.items) }
+    // faults: a seat or a part couldn't be made. Then no worker ran.
     ensures error { IfErr result (IsMakeWorkersError (G.faults gate.old) (G.faults gate.new)) }
     ensures since { IfSome (G.told gate.new) (IsNotOpened (G.told gate.old)) }
     ensures few { IfErr result (λ error. IfSome (G.told gate.new)
@@ -139,6 +148,7 @@ where
     let mut workers = Vec::new(alloc);
     let mut reports = Vec::new(alloc);
     let count = serving.listening.workers;
+    // All workers are made before one runs. So a server serves with all of them, or nobody.
     if let Err(error) = make_workers(alloc, &station, &mut seat, gate, count, &mut workers) {
         // the seats and parts go back to their station and their gate before the error is returned
         let _ = join_workers(&station, &mut seat, gate, workers, &mut reports);
@@ -152,6 +162,7 @@ where
     };
     run_workers(rt, alloc, service, &mut workers);
     let end = join_workers(&station, &mut seat, gate, workers, &mut reports);
+    // Every other seat is joined by now, so nobody else can take the lock.
     let book = station.close(seat);
     // a book's own invariant isn't visible here: only `entries` says that the entries, with
     // the halts to come, are within its limit

@@ -41,6 +41,7 @@ pub(crate) fn end_server<O: Sink, E: Sink>(
         reports,
         end: _,
     } = closed;
+    // Also after an error: the laws on the journal hold with every status.
     ended.journal = book.into_entries();
     ended.reports = reports;
     ended
@@ -63,11 +64,14 @@ fn print_served<O: Sink>(
         (served_text closed.now.book.entries (length closed.now.reports.items))
         closed.now.end result }
 {
+    // The text is complete before any of it is written, so no half of it is printed where memory is
+    // out.
     let text = served_text(alloc, &closed.book, closed.reports.len() as u64)?;
     let written = out.write_all(&text);
     match closed.end {
         PartEnd::NoMemory => Err(CliError::NoMemory),
         PartEnd::GateFault => {
+            // A fault of the output has status 5, and comes before one of the gate (7).
             written?;
             Err(CliError::GateFault)
         }
@@ -90,6 +94,7 @@ fn served_text(alloc: Global, book: &Book, connections: u64) -> Result<Vec<u8>, 
 {
     let entries = book.entries();
     let calendar = book.calendar();
+    // These two calls do nothing at run time: the prover gets the laws from them.
     law_calendar_text_matches_state();
     law_answers_match_commands();
     let mut text = Vec::new(alloc);

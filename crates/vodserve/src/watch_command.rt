@@ -113,8 +113,10 @@ fn watch_part<O: Sink, G: Gate>(
     part: &mut G,
     wish: &Wish,
 ) -> Result<Option<WatchEnd>, GateFault>
+    // needs: a wish in range, and a part that gave nothing yet
     requires wish { IsWish wish.now }
     requires untouched { IfSome (G.told part.old) IsUntouched }
+    // faults: of the part, and then the output is as it was
     ensures count { G.faults part.old ≤ G.faults part.new }
     ensures output { O.faults out.old ≤ O.faults out.new }
     ensures fault { OnErr result (HasRisen (G.faults part.old) (G.faults part.new)) }
@@ -122,6 +124,7 @@ fn watch_part<O: Sink, G: Gate>(
         (io_state_of O.faults O.written out.new ≡ io_state_of O.faults O.written out.old) }
     ensures lost { OnErr result (G.told part.new ≡
         option_map (after_empty_take Failed) (G.told part.old)) }
+    // answers: how the watch ended, or that there was no connection
     ensures heard { IfOk result (HearsPart wish.entry.now (G.told part.old) (G.told part.new)
         (io_state_of O.faults O.written out.old) (io_state_of O.faults O.written out.new)) }
 {
@@ -142,27 +145,32 @@ fn watch_gate<O: Sink, G: Gate + Drop>(
     wish: &Wish,
 ) -> Result<Option<WatchEnd>, GateFault>
     requires { IsWish wish.now }
+    // faults: of the gate, and then the output is as it was
     ensures count { G.faults gate.old ≤ G.faults gate.new }
     ensures output { O.faults out.old ≤ O.faults out.new }
     ensures fault { OnErr result (HasRisen (G.faults gate.old) (G.faults gate.new)) }
     ensures kept { OnErr result
         (io_state_of O.faults O.written out.new ≡ io_state_of O.faults O.written out.old) }
+    // leaves: a gate that was opened once, as the wish says
     ensures opened { OnOk result (IsOpenAs (opening_at wish.entry.now.port
         wish.entry.now.slot_units) (G.told gate.new)) }
     ensures once { IfSome (G.told gate.new) (IsOpenedOnce (G.told gate.old)) }
     ensures few { OnErr result (IfSome (G.told gate.new) (HasTooFewParts 2)) }
+    // answers: how the watch ended, or that there was no connection
     ensures heard { IfOk result (Hears wish.entry.now (G.told gate.new)
         (io_state_of O.faults O.written out.old) (io_state_of O.faults O.written out.new)) }
 {
     let opening = Opening {
         port: wish.port,
         all: false,
+        // A session ends with its connection, so a watch needs no second one.
         connections: 1,
         slot_units: wish.slot_units,
     };
     gate.open(&opening)?;
     let mut part = gate.split()?;
     let heard = watch_part(alloc, out, &mut part, wish);
+    // Before the fault is passed on: the part's faults must count at the gate, which is blamed.
     gate.rejoin(part);
     heard
 }
@@ -174,6 +182,7 @@ fn end_with_meter<E: Sink>(alloc: Global, err: &mut E, watched: Watched) -> Ende
         (io_state_of E.faults E.written err.old) (io_state_of E.faults E.written err.new)
         watched result }
 {
+    // A fault of the error stream changes no status: the film has come.
     let _ = write_watched(err, watched);
     Ended::with_status(alloc, 0)
 }

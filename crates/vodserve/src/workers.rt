@@ -53,10 +53,12 @@ pub(crate) fn make_workers<G: Gate + Drop>(
     count: u32,
     workers: &mut Vec<Worker<G>>,
 ) -> Result<(), CliError<'static>>
+    // needs: the first seat, a gate that was just opened, and no worker yet
     requires seat { seat.old ≡ first_seat station.now }
     requires opened { (opening : Opening) × IsNewlyOpen opening (G.told gate.old) }
     requires few { count ≤ 256 }
     requires none { workers.old.items ≡ [] }
+    // leaves: the gate open, and as many seats and parts out as there are workers
     ensures count { G.faults gate.old ≤ G.faults gate.new }
     ensures opened { (opening : Opening) →
         IsOpenAs opening (G.told gate.old) → IsOpenAs opening (G.told gate.new) }
@@ -64,12 +66,15 @@ pub(crate) fn make_workers<G: Gate + Drop>(
     ensures workers { AreWorkers G.told G.faults station.now 0 workers.new.items }
     ensures fresh { All (IsFresh G.told G.faults) workers.new.items }
     ensures parts { IfSome (G.told gate.new) (ArePartsOut 0 (length workers.new.items)) }
+    // answers: all workers, or fewer and the cause
     ensures made { OnOk result (length workers.new.items ≡ count) }
     ensures error { IfErr result (IsMakeWorkersError (G.faults gate.old) (G.faults gate.new)) }
     ensures fewer { IfErr result (λ error. length workers.new.items < count) }
     ensures since { IfSome (G.told gate.new) (IsNotOpened (G.told gate.old)) }
 {
     for number in 0..count {
+        // Room first: a part that was split off and can't be stored would never come back to its
+        // gate.
         workers.reserve(1)?;
         let part = gate.split()?;
         workers.push_reserved(Worker {
@@ -94,16 +99,19 @@ pub(crate) fn run_workers<R: Threads + Wait + Sync, G: Gate + Send + Drop>(
 )
 where
     G::Conn: Send,
+    // needs: workers that served nothing yet, sound settings and films
     requires workers { AreWorkers G.told G.faults service.station.now 0 workers.old.items }
     requires each { All (IsWorker G.told G.faults service.station.now) workers.old.items }
     requires fresh { All (IsFresh G.told G.faults) workers.old.items }
     requires settings { AreSettings service.settings.now }
     requires films { AreFilms service.films.now }
+    // leaves: the same workers, each with its connections served
     ensures workers { AreWorkers G.told G.faults service.entry.station.now 0 workers.new.items }
     ensures finished { All (HasFinished G.told G.faults service.entry.films.now
         service.entry.settings.now service.entry.seed) workers.new.items }
     ensures count { length workers.new.items ≡ length workers.old.items }
 {
+    // A thread each: a worker that serves a connection is busy until that ends.
     let count = workers.len().max(1);
     thread::for_each_mut(
         rt,
@@ -130,10 +138,12 @@ pub(crate) fn join_workers<G: Gate + Drop>(
     workers: Vec<Worker<G>>,
     reports: &mut Vec<ConnReport>,
 ) -> PartEnd
+    // needs: the seats and parts of just these workers to be out
     requires seat { seat.old ≡ split_seat station.now (length workers.items) }
     requires workers { AreWorkers G.told G.faults station.now 0 workers.items }
     requires parts { IfSome (G.told gate.old) (ArePartsOut 0 (length workers.items)) }
     requires none { reports.old.items ≡ [] }
+    // leaves: one seat and one gate, which know what all workers did
     ensures joined { AreJoined G.told station.now (length workers.items) workers.items
         seat.new (G.told gate.new) }
     ensures left { AreLeft (map report_of workers.items) result reports.new.items }
@@ -188,6 +198,8 @@ fn worse_end(one: PartEnd, other: PartEnd) -> PartEnd
     ensures { IsWorse one other result }
 {
     match (one, other) {
+        // Reports may be missing then. `law_reports_match_journal` excepts status 6 alone, so no
+        // other end may hide it.
         (PartEnd::NoMemory, _) | (_, PartEnd::NoMemory) => PartEnd::NoMemory,
         (PartEnd::GateFault, _) => PartEnd::GateFault,
         (PartEnd::AllTaken, other) => other,
@@ -206,6 +218,7 @@ fn add_reports(end: PartEnd, report: PartReport, reports: &mut Vec<ConnReport>) 
     } = report;
     match reports.append(&mut more) {
         Ok(()) => worse_end(end, other),
+        // The reports that found no room are lost, and the end must say so.
         Err(_) => PartEnd::NoMemory,
     }
 }
