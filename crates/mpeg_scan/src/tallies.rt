@@ -110,6 +110,7 @@ pub(crate) struct Slices {
 
 impl Slices {
     /// Adds a slice at `place` to those of a unit.
+    #[inline(always)]
     fn add_to(slices: &mut Option<Slices>, place: u64)
         requires { count_of slices.old ≤ MAX_COUNTED_BYTES }
         ensures { slices.new ≡ Some (slices_with slices.old place) }
@@ -167,6 +168,7 @@ impl UnitTally {
     }
 
     /// Adds a code, which doesn't end it.
+    #[inline(always)]
     fn add(&mut self, code: &Code)
         requires { count_of self.old.slices ≤ MAX_COUNTED_BYTES }
         ensures { self.new ≡ unit_with self.old code.now }
@@ -188,6 +190,7 @@ impl UnitTally {
 
     /// Adds a code to the latest unit, or to the next one where it ends that. The film's first unit
     /// starts a group.
+    #[inline(always)]
     fn add_to(latest: &mut Option<UnitTally>, code: &Code)
         requires { count_of (unit_or_none latest.old).slices ≤ MAX_COUNTED_BYTES }
         ensures { latest.new ≡ Some (unit_after latest.old code.now) }
@@ -249,7 +252,9 @@ impl Tally {
     }
 
     /// Adds a code, whose header is complete. The tally is changed in place, since most codes change
-    /// little of it.
+    /// little of it; and without a call, since where the code is known to be a slice's little is
+    /// left to do.
+    #[inline(always)]
     #[tactic(auto, unfolding(crate::specs::CodeSteps::next))]
     pub(crate) fn add(&mut self, code: &Code)
         requires { HasCounts self.old MAX_COUNTED_BYTES }
