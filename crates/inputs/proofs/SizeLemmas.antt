@@ -10,7 +10,7 @@ use Rattle.mpeg_scan.specs.StartCodes.{read_after, codes_of}
 use Rattle.mpeg_scan.specs.UnitNumbering.{Count, counts_after, group_of, no_count}
 use Rattle.mpeg_scan.specs.Films.{IsFilm, refusal, slices_in, film_calls, units_in}
 use Rattle.mpeg_scan.specs.Layout.{unit_starts}
-use Rattle.mpeg_scan.specs.PartTiling.{Part, between, within, first_of, parts_after}
+use Rattle.mpeg_scan.specs.PartTiling.{PartStart, between, within, first_of, parts_after}
 use Rattle.mpeg_scan.specs.CodeFacts.{rate_of}
 use Rattle.mpeg_scan.proofs.FilmBoundLemmas.{film-bytes, film-pictures, film-rate, film-units}
 use Rattle.mpeg_scan.proofs.UnitNumberingLemmas.{film-numbered}
@@ -43,7 +43,7 @@ record IsMeasured (from head_end at n : ℕ) (past : List ℕ) (unit : Measure) 
   count : n ≡ length cur
   unit_is : unit ≡ measure_of (head_end - from) (lengths_to at cur)
 
-abbrev Measures : Part → List ℕ → Measure → Type 0
+abbrev Measures : PartStart → List ℕ → Measure → Type 0
 Measures (between at) past unit = Unit {0}
 Measures (within from head_end at n) past unit = IsMeasured from head_end at n past unit
 
@@ -70,11 +70,11 @@ unit-size {unit} {from} {head_end} {at} {past} {m} rest fits count so_far =
     open fits use {begin, head, end, slices}
 
 -- the places of all slices so far, and what was measured of the unit that the parts so far come to
-record MeasuredSoFar (part : Part) (k : Count) (past : List ℕ) (unit : Measure) : Type 0 where
+record MeasuredSoFar (part : PartStart) (k : Count) (past : List ℕ) (unit : Measure) : Type 0 where
   slices : k.slices ≡ length past
   measures : Measures part past unit
 
-sizes-told : (calls : List Call) (s : SizeState) {part : Part} {k : Count} {to : ℕ} {past : List ℕ} →
+sizes-told : (calls : List Call) (s : SizeState) {part : PartStart} {k : Count} {to : ℕ} {past : List ℕ} →
     parts_after (Some part) calls ≡ Some (between to) →
     IsSome (counts_after (Some k) calls) → MeasuredSoFar part k past s.unit →
     (size_state_after s calls).sizes ≡ s.sizes ++ map (λ u. wire_size (past ++ slices_in calls) u) (units_in calls)

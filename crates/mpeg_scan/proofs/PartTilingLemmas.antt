@@ -5,6 +5,7 @@ use Rattle.std.proofs.Common.{None, length, sym, ◌∙◌, ap, refl, subst, inl
 use Rattle.std.proofs.lemmas.Bool.{ltb-true, ltb-false, leb-true, eqb-true, ne_eqb}
 use Rattle.std.proofs.lemmas.Bool.{eq-eqb, lt-ltb, le-ltb, le-leb, true≢false, and_parts, and_from}
 use Rattle.std.proofs.lemmas.Bool.{cond-true, cond-false}
+use Rattle.mpeg_scan.specs.declared.units.TheConstants.{MAX_UNIT_HEAD_BYTES}
 use Rattle.mpeg_scan.specs.declared.codes.Code.{Code}
 use Rattle.mpeg_scan.specs.declared.faults.FilmFault.TheVariants.{SystemCode, Mpeg2}
 use Rattle.mpeg_scan.specs.declared.faults.FilmFault.TheVariants.{NoSequence, HeadTooLong}
@@ -19,7 +20,7 @@ use Rattle.mpeg_scan.specs.FilmFaults.{first_slice_fault, count_fault, code_faul
 use Rattle.mpeg_scan.specs.FilmFaults.{open_fault, last_fault, first_fault, end_fault, refusal_of}
 use Rattle.mpeg_scan.specs.Calls.{Call, head_call, slice_call, unit_call, unit_at, unit_end}
 use Rattle.mpeg_scan.specs.Calls.{calls_at, calls_of, all_calls}
-use Rattle.mpeg_scan.specs.PartTiling.{Part, between, within, next_part, parts_after, first_of, Tiles}
+use Rattle.mpeg_scan.specs.PartTiling.{PartStart, between, within, next_part, parts_after, first_of, Tiles}
 use Rattle.mpeg_scan.proofs.ScanStepLemmas.{accepted-older, code-accepted, otherwise-first}
 use Rattle.mpeg_scan.proofs.ScanStepLemmas.{otherwise-second, calls-cons}
 use Rattle.mpeg_scan.proofs.ScanStepLemmas.{accepted-whole, none-cond, some-cond-none}
@@ -29,7 +30,7 @@ use Rattle.mpeg_scan.proofs.CodeSpacingLemmas.{unit-before}
 -- ---- one code
 
 -- where the reported parts of codes end
-pub part_by : ℕ → ℕ → ℕ → ℕ → Part
+pub part_by : ℕ → ℕ → ℕ → ℕ → PartStart
 part_by n unit head_end slice = cond (eqb n 0) (between unit) (within unit head_end slice (n - 1))
 
 part_by-none : (n unit head_end slice : ℕ) → n ≡ 0 → part_by n unit head_end slice ≡ between unit
@@ -43,12 +44,12 @@ part_by-some n m unit head_end slice some =
     cond-false (eqb n 0) (between unit) (within unit head_end slice (n - 1)) (ne_eqb n 0 (λ none. absurd (omega arith)))
     ∙ ap (within unit head_end slice) (omega arith)
 
-takes-head : (unit place : ℕ) → unit < place → place - unit ≤ 1380
+takes-head : (unit place : ℕ) → unit < place → place - unit ≤ MAX_UNIT_HEAD_BYTES
     → parts_after (Some (between unit)) (head_call unit place ∷ []) ≡ Some (within unit place place 0)
 takes-head unit place below short =
     ap (λ b. parts_after (cond b (Some (within unit place place 0)) None) [])
-    (and_from (eqb unit unit) (ltb unit place && leb (place - unit) 1380) (eq-eqb unit unit refl)
-    (and_from (ltb unit place) (leb (place - unit) 1380) (lt-ltb unit place below) (le-leb (place - unit) 1380 short)))
+    (and_from (eqb unit unit) (ltb unit place && leb (place - unit) MAX_UNIT_HEAD_BYTES) (eq-eqb unit unit refl)
+    (and_from (ltb unit place) (leb (place - unit) MAX_UNIT_HEAD_BYTES) (lt-ltb unit place below) (le-leb (place - unit) MAX_UNIT_HEAD_BYTES short)))
 
 takes-slice : {place : ℕ} (unit head_end slice m : ℕ) (calls : List Call) → slice + 4 ≤ place
     → parts_after (Some (within unit head_end slice m)) (slice_call slice place ∷ calls)
@@ -96,7 +97,7 @@ raw_calls s h q e here =
 -- a code that may stand after a unit of n slices
 record MayStand (s h : Bool) (n head_end : ℕ) (here : CodeEnds) : Type 0 where
   apart : s ≡ true → h ≡ false
-  head : s ≡ true → n ≡ 0 → (here.unit < here.place) × (here.place - here.unit ≤ 1380)
+  head : s ≡ true → n ≡ 0 → (here.unit < here.place) × (here.place - here.unit ≤ MAX_UNIT_HEAD_BYTES)
   spaced : 0 < n → here.slice + 4 ≤ here.place
   ends : EndsAs here.ended here.unit head_end here.place n
 
@@ -108,18 +109,18 @@ raw-step : {s h : Bool} {n head_end : ℕ} {here : CodeEnds} → MayStand s h n 
     (cond (s && eqb n 0) here.place (cond h 0 head_end)) (cond s here.place (cond h 0 here.slice)))
 raw-step {s = true} {h = true} may count = absurd (true≢false (may.apart refl))
 raw-step {s = true} {h = false} {n} {head_end} {here} may (inl none) =
-    ap (λ (p : Part). parts_after (Some p)
+    ap (λ (p : PartStart). parts_after (Some p)
     (cond (eqb n 0) (head_call unit place ∷ []) (slice_call slice place ∷ [])))
     (part_by-none n unit head_end slice none)
     ∙ ap (λ b. parts_after (Some (between unit))
     (cond b (head_call unit place ∷ []) (slice_call slice place ∷ []))) (eq-eqb n 0 none)
     ∙ takes-head unit place (may.head refl none).0 (may.head refl none).1
     ∙ sym (ap (λ b. Some (part_by (n + 1) unit (cond b place head_end) place)) (eq-eqb n 0 none)
-    ∙ ap (λ (p : Part). Some p) (part_by-some (n + 1) 0 unit place place (omega arith)))
+    ∙ ap (λ (p : PartStart). Some p) (part_by-some (n + 1) 0 unit place place (omega arith)))
   where
     open here use {unit, slice, place}
 raw-step {s = true} {h = false} {n} {head_end} {here} may (inr some) =
-    ap (λ (p : Part). parts_after (Some p)
+    ap (λ (p : PartStart). parts_after (Some p)
     (cond (eqb n 0) (head_call unit place ∷ []) (slice_call slice place ∷ [])))
     (part_by-some n some.0 unit head_end slice some.1)
     ∙ ap (λ b. parts_after (Some (within unit head_end slice some.0))
@@ -128,27 +129,27 @@ raw-step {s = true} {h = false} {n} {head_end} {here} may (inr some) =
     ∙ takes-slice unit head_end slice some.0 [] (may.spaced (omega (arith, some.1)))
     ∙ sym (ap (λ b. Some (part_by (n + 1) unit (cond b place head_end) place))
     (ne_eqb n 0 (λ none. absurd (omega (arith, some.1))))
-    ∙ ap (λ (p : Part). Some p) (part_by-some (n + 1) (some.0 + 1) unit head_end place (omega (arith, some.1))))
+    ∙ ap (λ (p : PartStart). Some p) (part_by-some (n + 1) (some.0 + 1) unit head_end place (omega (arith, some.1))))
   where
     open here use {unit, slice, place}
 raw-step {s = false} {h = true} {n} {head_end} {here} may (inl none) =
-    ap (λ (p : Part). parts_after (Some p) (cond (ltb 0 n) (slice_call slice place ∷ unit_call u ∷ []) []))
+    ap (λ (p : PartStart). parts_after (Some p) (cond (ltb 0 n) (slice_call slice place ∷ unit_call u ∷ []) []))
     (part_by-none n unit head_end slice none)
     ∙ ap (λ b. parts_after (Some (between unit)) (cond b (slice_call slice place ∷ unit_call u ∷ []) []))
     (le-ltb 0 n (omega arith))
     ∙ sym (ap (λ b. Some (part_by 0 (cond b place unit) 0 0)) (le-ltb 0 n (omega arith))
-    ∙ ap (λ (p : Part). Some p) (part_by-none 0 unit 0 0 refl))
+    ∙ ap (λ (p : PartStart). Some p) (part_by-none 0 unit 0 0 refl))
   where
     open here use {unit, slice, place, ended as u}
 raw-step {s = false} {h = true} {n} {head_end} {here} may (inr some) =
-    ap (λ (p : Part). parts_after (Some p) (cond (ltb 0 n) (slice_call slice place ∷ unit_call u ∷ []) []))
+    ap (λ (p : PartStart). parts_after (Some p) (cond (ltb 0 n) (slice_call slice place ∷ unit_call u ∷ []) []))
     (part_by-some n some.0 unit head_end slice some.1)
     ∙ ap (λ b. parts_after (Some (within unit head_end slice some.0))
     (cond b (slice_call slice place ∷ unit_call u ∷ []) [])) (lt-ltb 0 n (omega (arith, some.1)))
     ∙ takes-slice unit head_end slice some.0 (unit_call u ∷ []) (may.spaced (omega (arith, some.1)))
     ∙ takes-unit some.0 may.ends some.1
     ∙ sym (ap (λ b. Some (part_by 0 (cond b place unit) 0 0)) (lt-ltb 0 n (omega (arith, some.1)))
-    ∙ ap (λ (p : Part). Some p) (part_by-none 0 place 0 0 refl))
+    ∙ ap (λ (p : PartStart). Some p) (part_by-none 0 place 0 0 refl))
   where
     open here use {unit, slice, place, ended as u}
 raw-step {s = false} {h = false} may count = refl
@@ -159,13 +160,13 @@ parts-none : (calls : List Call) → parts_after None calls ≡ None
 parts-none [] = refl
 parts-none (call ∷ calls) = refl
 
-parts-append : (o : Option Part) (a b : List Call) → parts_after o (a ++ b) ≡ parts_after (parts_after o a) b
+parts-append : (o : Option PartStart) (a b : List Call) → parts_after o (a ++ b) ≡ parts_after (parts_after o a) b
 parts-append None a b =
-    parts-none (a ++ b) ∙ sym (parts-none b) ∙ ap (λ (o : Option Part). parts_after o b) (sym (parts-none a))
+    parts-none (a ++ b) ∙ sym (parts-none b) ∙ ap (λ (o : Option PartStart). parts_after o b) (sym (parts-none a))
 parts-append (Some part) [] b = refl
 parts-append (Some part) (call ∷ a) b = parts-append (next_part part call) a b
 
-abbrev pub part_of : List Code → Part
+abbrev pub part_of : List Code → PartStart
 part_of past = part_by (slice_count past) (latest_unit past) (head_end_of past) (latest_slice past)
 
 pub slice-apart : (value : ℕ) → is_slice value ≡ true → is_head value ≡ false
@@ -181,13 +182,13 @@ count-cases : (n : ℕ) → (n ≡ 0) ⊎ ((m : ℕ) × (n ≡ m + 1))
 count-cases zero = inl refl
 count-cases (suc m) = inr (m, omega arith)
 
-head-short : (t : Tally) (place : ℕ) (o : Option Header) → head_fault t place o ≡ None → place - t.unit ≤ 1380
+head-short : (t : Tally) (place : ℕ) (o : Option Header) → head_fault t place o ≡ None → place - t.unit ≤ MAX_UNIT_HEAD_BYTES
 head-short t place None e = absurd (cc)
 head-short t place (Some p) e =
-    ltb-false 1380 (place - t.unit) (some-cond-none (ltb 1380 (place - t.unit)) (HeadTooLong t.unit) None e).0
+    ltb-false MAX_UNIT_HEAD_BYTES (place - t.unit) (some-cond-none (ltb MAX_UNIT_HEAD_BYTES (place - t.unit)) (HeadTooLong t.unit) None e).0
 
 pub first_slice-head : (t : Tally) (place value : ℕ) → first_slice_fault t place value ≡ None
-    → is_slice value ≡ true → t.slices ≡ 0 → place - t.unit ≤ 1380
+    → is_slice value ≡ true → t.slices ≡ 0 → place - t.unit ≤ MAX_UNIT_HEAD_BYTES
 first_slice-head t place value e slice none =
     head-short t place t.picture
     (sym (cond-true (is_slice value && eqb t.slices 0) (head_fault t place t.picture) None
@@ -265,10 +266,10 @@ calls-parts c [] accepted spaced =
     (calls-cons c [] ∙ ap (λ (l : List Call). l ++ calls_at (tally_of []) c.place c.value) calls-nil)
     ∙ first-step c.place c.value (first-is c accepted)
 calls-parts c (d ∷ past) accepted spaced =
-    let start : Option Part = Some (between (first_of (d ∷ past))) in
+    let start : Option PartStart = Some (between (first_of (d ∷ past))) in
     ap (parts_after start) (calls-cons c (d ∷ past))
     ∙ parts-append start (calls_of (d ∷ past)) (calls_at (tally_of (d ∷ past)) c.place c.value)
-    ∙ ap (λ (o : Option Part). parts_after o (calls_at (tally_of (d ∷ past)) c.place c.value))
+    ∙ ap (λ (o : Option PartStart). parts_after o (calls_at (tally_of (d ∷ past)) c.place c.value))
     (calls-parts d past (accepted-older c (d ∷ past) accepted) spaced.1)
     ∙ code-step c d past (code-accepted c (d ∷ past) accepted) spaced
 
@@ -288,7 +289,7 @@ end-step past n some apart = elim (count-cases (slice_count past)) [
   | inr more ↦
       (let ends : EndsAs (unit_at (tally_of past) n) (latest_unit past) (head_end_of past) n (slice_count past) =
       record { from = refl; head = refl; to = refl; slices = refl } in
-      ap (λ (p : Part). parts_after (Some p) (unit_end (tally_of past) n))
+      ap (λ (p : PartStart). parts_after (Some p) (unit_end (tally_of past) n))
       (part_by-some (slice_count past) more.0 (latest_unit past) (head_end_of past) (latest_slice past) more.1)
       ∙ takes-slice (latest_unit past) (head_end_of past) (latest_slice past) more.0
       (unit_call (unit_at (tally_of past) n) ∷ []) apart
@@ -304,7 +305,7 @@ whole-tiles (c ∷ past) n accepted ended spaced after =
     let some = ended-none (tally_of (c ∷ past))
     (otherwise-second (latest_fault (c ∷ past) n) (last_fault (tally_of (c ∷ past))) ended) in
     parts-append (Some (between (first_of (c ∷ past)))) (calls_of (c ∷ past)) (unit_end (tally_of (c ∷ past)) n)
-    ∙ ap (λ (o : Option Part). parts_after o (unit_end (tally_of (c ∷ past)) n)) (calls-parts c past accepted spaced)
+    ∙ ap (λ (o : Option PartStart). parts_after o (unit_end (tally_of (c ∷ past)) n)) (calls-parts c past accepted spaced)
     ∙ end-step (c ∷ past) n some (slice-before (c ∷ past) n spaced after some)
 
 -- an accepted film is its units, one after another

@@ -6,6 +6,7 @@ use Rattle.std.specs.Prelude.{option_map}
 use Rattle.std.proofs.lemmas.Bool.{cases_lt, eqb-true, eqb-false, eq-eqb, ne_eqb, not-true}
 use Rattle.std.proofs.lemmas.Bool.{leb-true, le-leb, ltb-true, lt-ltb, and_parts, and_from}
 use Rattle.std.proofs.lemmas.Bool.{and_cases, not_from_false, false≢true}
+use Rattle.mpeg_scan.specs.declared.units.TheConstants.{MAX_UNIT_HEAD_BYTES}
 use Rattle.mpeg_scan.specs.declared.codes.Code.{Code}
 use Rattle.mpeg_scan.specs.declared.faults.FilmFault.{FilmFault}
 use Rattle.mpeg_scan.specs.declared.faults.FilmFault.TheVariants.{NoSequence, PictureWithoutSlices}
@@ -194,21 +195,21 @@ head-decides {Has} {t_unit = unit} {at} past None is head none =
     ))
 head-decides {Has} {t_unit = unit} {at} past (Some h) is head picture =
     subst (λ u. Decides (Otherwise (LacksPicture Has at) (IsLongHead Has at))
-    (cond (ltb 1380 (at - u)) (Some (HeadTooLong u)) None)) (sym is)
+    (cond (ltb MAX_UNIT_HEAD_BYTES (at - u)) (Some (HeadTooLong u)) None)) (sym is)
     (only-second (LacksPicture Has at) (IsLongHead Has at)
-    (cond (ltb 1380 (at - unit)) (Some (HeadTooLong unit)) None)
+    (cond (ltb MAX_UNIT_HEAD_BYTES (at - unit)) (Some (HeadTooLong unit)) None)
     (λ f p. p.none h.place 0 picture.code (subst (λ u.
     u ≤ h.place)
     (one-head Has unit p.unit at head p.open_head) picture.after) picture.before refl)
-    (decide (IsLongHead Has at) (ltb 1380 (at - unit)) (HeadTooLong unit)
+    (decide (IsLongHead Has at) (ltb MAX_UNIT_HEAD_BYTES (at - unit)) (HeadTooLong unit)
     (λ e. record {
       unit = unit;
       open_head = head;
-      long = omega (arith, ltb-true 1380 (at - unit) e);
+      long = omega (arith, ltb-true MAX_UNIT_HEAD_BYTES (at - unit) e);
       is = refl;
     })
     (λ g p. let same = one-head Has p.unit unit at p.open_head head in
-    (lt-ltb 1380 (at - unit) (omega (arith, same, p.long)), p.is ∙ ap HeadTooLong same))))
+    (lt-ltb MAX_UNIT_HEAD_BYTES (at - unit) (omega (arith, same, p.long)), p.is ∙ ap HeadTooLong same))))
 
 lacks-none : (Has : ℕ → ℕ → Type 0) (at : ℕ) → ((unit : ℕ) → IsOpenHead Has unit at → ⊥) →
     (f : FilmFault) → Otherwise (LacksPicture Has at) (IsLongHead Has at) f → ⊥

@@ -5,6 +5,7 @@ use Rattle.std.proofs.Common.{ap, refl, subst, arith}
 use Rattle.std.specs.Option.{IsSome, option_map}
 use Rattle.std.proofs.lemmas.Option.{same_Some}
 use Rattle.std.proofs.lemmas.Bool.{true≢false, false≢true, ne_eqb, lt-leb, cond-false}
+use Rattle.mpeg_scan.specs.declared.units.TheConstants.{MAX_UNIT_HEAD_BYTES}
 use Rattle.mpeg_scan.specs.declared.codes.Code.{Code}
 use Rattle.mpeg_scan.specs.declared.codes.Prefix.{Prefix}
 use Rattle.mpeg_scan.specs.declared.codes.Prefix.TheVariants.{Nothing, Zero, Zeros, Whole}
@@ -132,7 +133,7 @@ head-some {t} {tally} {latest} {place} {value} taken room =
     omega (arith, unit, room.unit (sym begun ∙ slice-begun taken))
 
 pub head-short : {t tally : Tally} {latest : Option Code} {place value : ℕ}
-    → SliceTaken t latest tally place value → t.slices ≡ 0 → place ≤ t.unit + 1380
+    → SliceTaken t latest tally place value → t.slices ≡ 0 → place ≤ t.unit + MAX_UNIT_HEAD_BYTES
 head-short {t} {tally} {latest} {place} {value} taken none =
     let now = tally_with latest tally in
     let unit : t.unit ≡ now.unit = ap (λ (v : Tally). v.unit) taken.tally_is in

@@ -6,12 +6,13 @@ use Rattle.std.proofs.Common.{length-append}
 use Rattle.std.proofs.lemmas.List.{append-nil}
 use Rattle.std.proofs.Math.Seq.{drop-append_seam, take-append_seam}
 use Rattle.std.proofs.lemmas.Bool.{and_parts, false≢true, eqb-true, ltb-true, leb-true}
+use Rattle.mpeg_scan.specs.declared.units.TheConstants.{MAX_UNIT_HEAD_BYTES}
 use Rattle.mpeg_scan.specs.declared.units.Unit.{Unit as PictureUnit}
 use Rattle.mpeg_scan.specs.Calls.{Call, head_call, slice_call, unit_call, all_calls}
 use Rattle.mpeg_scan.specs.StartCodes.{read_after, codes_of}
 use Rattle.mpeg_scan.specs.UnitNumbering.{Count, counts_after, group_of, no_count}
 use Rattle.mpeg_scan.specs.Films.{IsFilm, slices_in, units_in}
-use Rattle.mpeg_scan.specs.PartTiling.{Part, between, within, first_of, parts_after}
+use Rattle.mpeg_scan.specs.PartTiling.{PartStart, between, within, first_of, parts_after}
 use Rattle.mpeg_scan.proofs.FilmLemmas.{length-read}
 use Rattle.mpeg_scan.proofs.UnitNumberingLemmas.{film-numbered}
 use Rattle.mpeg_scan.proofs.PartTilingLemmas.{film-tiles}
@@ -50,15 +51,15 @@ pub record Inside (from head_end at n : ℕ) (past : List ℕ) : Type 0 where
   pub past_is : past ≡ before ++ cur
   pub count : n ≡ length cur
   pub head : from < head_end
-  pub short : head_end ≤ from + 1380
+  pub short : head_end ≤ from + MAX_UNIT_HEAD_BYTES
   pub in_order : AreInOrder head_end cur at
 
-abbrev pub Stands : Part → List ℕ → Type 0
+abbrev pub Stands : PartStart → List ℕ → Type 0
 Stands (between at) past = Unit {0}
 Stands (within from head_end at n) past = Inside from head_end at n past
 
 -- where the parts go on to an end, the next one fits
-pub part-fits : (b : Bool) (p : Part) (calls : List Call) (to : ℕ)
+pub part-fits : (b : Bool) (p : PartStart) (calls : List Call) (to : ℕ)
     → parts_after (cond b (Some p) None) calls ≡ Some (between to)
     → (b ≡ true) × (parts_after (Some p) calls ≡ Some (between to))
 part-fits true p calls to e = (refl, e)
@@ -66,22 +67,22 @@ part-fits false p [] to e = cc
 part-fits false p (call ∷ calls) to e = cc
 
 -- the parts end, from the first on
-place_of : Part → ℕ
+place_of : PartStart → ℕ
 place_of (between at) = at
 place_of (within from head_end at n) = at
 
-part-below : (calls : List Call) (part : Part) (to : ℕ) → parts_after (Some part) calls ≡ Some (between to)
+part-below : (calls : List Call) (part : PartStart) (to : ℕ) → parts_after (Some part) calls ≡ Some (between to)
     → place_of part ≤ to
 unfolding place_of
 part-below [] (between at) to parts = let same : at ≡ to = cc in omega (arith, same)
 part-below [] (within from head_end at n) to parts = cc
 part-below (head_call a b ∷ calls) (between at) to parts =
-    let fits = part-fits (eqb a at && (ltb a b && leb (b - a) 1380)) (within a b b 0) calls to parts in
-    let first = and_parts (eqb a at) (ltb a b && leb (b - a) 1380) fits.0 in
+    let fits = part-fits (eqb a at && (ltb a b && leb (b - a) MAX_UNIT_HEAD_BYTES)) (within a b b 0) calls to parts in
+    let first = and_parts (eqb a at) (ltb a b && leb (b - a) MAX_UNIT_HEAD_BYTES) fits.0 in
     omega (
       arith,
       eqb-true a at first.0,
-      ltb-true a b (and_parts (ltb a b) (leb (b - a) 1380) first.1).0,
+      ltb-true a b (and_parts (ltb a b) (leb (b - a) MAX_UNIT_HEAD_BYTES) first.1).0,
       part-below calls (within a b b 0) to fits.1,
     )
 part-below (slice_call a b ∷ calls) (between at) to parts =
@@ -159,20 +160,20 @@ unit-laid {unit} {from} {head_end} {at} {past} rest fits count inside =
     }
 
 -- the places of all slices so far, where the parts so far come to this one
-record SoFar (part : Part) (k : Count) (past : List ℕ) : Type 0 where
+record SoFar (part : PartStart) (k : Count) (past : List ℕ) : Type 0 where
   slices : k.slices ≡ length past
   stands : Stands part past
 
-part-laid : (calls : List Call) {part : Part} {k : Count} {to : ℕ} {past : List ℕ} →
+part-laid : (calls : List Call) {part : PartStart} {k : Count} {to : ℕ} {past : List ℕ} →
     parts_after (Some part) calls ≡ Some (between to) → IsSome (counts_after (Some k) calls) → SoFar part k past →
     AreLaid to (past ++ slices_in calls) (units_in calls)
 unfolding place_of
 part-laid [] parts counts so_far = tt
 part-laid (head_call a b ∷ calls) {part = between at} {k} {to} {past} parts counts so_far =
-    let fits = part-fits (eqb a at && (ltb a b && leb (b - a) 1380)) (within a b b 0) calls to parts in
-    let head = and_parts (ltb a b) (leb (b - a) 1380) (and_parts (eqb a at) (ltb a b && leb (b - a) 1380) fits.0).1 in
+    let fits = part-fits (eqb a at && (ltb a b && leb (b - a) MAX_UNIT_HEAD_BYTES)) (within a b b 0) calls to parts in
+    let head = and_parts (ltb a b) (leb (b - a) MAX_UNIT_HEAD_BYTES) (and_parts (eqb a at) (ltb a b && leb (b - a) MAX_UNIT_HEAD_BYTES) fits.0).1 in
     let less = ltb-true a b head.0 in
-    let short = leb-true (b - a) 1380 head.1 in
+    let short = leb-true (b - a) MAX_UNIT_HEAD_BYTES head.1 in
     let next : SoFar (within a b b 0) k past = record {
       slices = so_far.slices;
       stands = record {
@@ -252,18 +253,18 @@ film-laid bytes rate units starts film =
 
 -- ---- units lie one after another
 
-begin_of_part : Part → ℕ
+begin_of_part : PartStart → ℕ
 begin_of_part (between at) = at
 begin_of_part (within from head_end at n) = from
 
-parts-chained : (calls : List Call) (part : Part) (to : ℕ) → parts_after (Some part) calls ≡ Some (between to)
+parts-chained : (calls : List Call) (part : PartStart) (to : ℕ) → parts_after (Some part) calls ≡ Some (between to)
     → AreChained (begin_of_part part) (units_in calls) to
 unfolding begin_of_part
 parts-chained [] (between at) to parts = cc
 parts-chained [] (within from head_end at n) to parts = cc
 parts-chained (head_call a b ∷ calls) (between at) to parts =
-    let fits = part-fits (eqb a at && (ltb a b && leb (b - a) 1380)) (within a b b 0) calls to parts in
-    let here = eqb-true a at (and_parts (eqb a at) (ltb a b && leb (b - a) 1380) fits.0).0 in
+    let fits = part-fits (eqb a at && (ltb a b && leb (b - a) MAX_UNIT_HEAD_BYTES)) (within a b b 0) calls to parts in
+    let here = eqb-true a at (and_parts (eqb a at) (ltb a b && leb (b - a) MAX_UNIT_HEAD_BYTES) fits.0).0 in
     subst (λ f. AreChained f (units_in calls) to) here (parts-chained calls (within a b b 0) to fits.1)
 parts-chained (slice_call a b ∷ calls) (between at) to parts =
     absurd (false≢true (part-fits false (between at) calls to parts).0)

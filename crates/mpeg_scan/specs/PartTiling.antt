@@ -8,14 +8,14 @@ use Rattle.mpeg_scan.specs.StartCodes.{codes_of}
 use Rattle.mpeg_scan.specs.Calls.{Call, head_call, slice_call, unit_call}
 
 -- where the next part begins: between two units, or in a unit after its head and n slices
-pub data Part : Type 0 where
-  between : ℕ → Part
-  within : ℕ → ℕ → ℕ → ℕ → Part
+pub data PartStart : Type 0 where
+  between : ℕ → PartStart
+  within : ℕ → ℕ → ℕ → ℕ → PartStart
 
 -- the part after one more is reported, if that one fits: a head of 1 to 1,380 bytes, a slice of at
 -- least 4 bytes that begins where the part before it ends, and a unit of that head and these
 -- slices, which are at least one
-abbrev pub next_part : Part → Call → Option Part
+abbrev pub next_part : PartStart → Call → Option PartStart
 next_part (between at) (head_call from to) =
     if from == at && (nat_lt from to && nat_le (to - from) MAX_UNIT_HEAD_BYTES)
     then Some (within from to to 0) else None
@@ -30,7 +30,7 @@ next_part (within from head_end at n) (unit_call unit) =
     else None
 
 -- the part after all these, if each fits
-abbrev pub parts_after : Option Part → List Call → Option Part
+abbrev pub parts_after : Option PartStart → List Call → Option PartStart
 parts_after None calls = None
 parts_after (Some part) [] = Some part
 parts_after (Some part) (call ∷ calls) = parts_after (next_part part call) calls

@@ -1,6 +1,6 @@
 //! How far a film was read, and what a further byte does.
 
-ghost use Rattle.std.specs.Prelude.{◌≡◌, ℕ, ◌+◌, ◌^◌, ◌<◌, ◌≤◌, List, [], ◌∷◌, ◌++◌, Some, None};
+ghost use Rattle.std.specs.Prelude.{◌≡◌, ℕ, ◌+◌, ◌<◌, ◌≤◌, List, [], ◌∷◌, ◌++◌, Some, None};
 ghost use Rattle.std.specs.Prelude.{length, take, slice_index, IsSome, IsTrue, true, IfOk, IfErr};
 ghost use Rattle.std.specs.Prelude.{MatchResult, OnOk, ◌≢◌};
 ghost use Rattle.std.specs.Option.{ForSome};
@@ -19,7 +19,7 @@ use crate::codes::{Code, Prefix};
 use crate::faults::{FilmFault, ScanRefused, code_fault, header_fault, last_fault};
 use crate::header_bytes::HeaderBytes;
 use crate::tallies::{Tally, is_slice};
-use crate::units::MAX_FILM_BYTES;
+use crate::units::{MAX_COUNTED_BYTES, MAX_FILM_BYTES};
 use crate::visitor::{Found, tell};
 use memchr::memchr;
 
@@ -54,7 +54,7 @@ impl Progress {
 
     /// A byte that isn't the value of a code.
     fn note(&mut self, byte: u8)
-        requires { self.old.fed < 2 ^ 41 }
+        requires { self.old.fed < MAX_COUNTED_BYTES }
         ensures { self.new ≡ scan_with_byte self.old byte }
     {
         if let Some(code) = &mut self.latest {
@@ -75,18 +75,19 @@ impl Progress {
 
     /// The tally with the latest code.
     fn tally_now(&self) -> Tally
-        requires { HasCounts self.now.tally (2 ^ 41) }
+        requires { HasCounts self.now.tally MAX_COUNTED_BYTES }
         ensures { result ≡ tally_now self.now }
     {
-        match &self.latest {
-            None => self.tally,
-            Some(code) => self.tally.next(code),
+        let mut tally = self.tally;
+        if let Some(code) = &self.latest {
+            tally.add(code);
         }
+        tally
     }
 
     /// Adds the latest code to the tally of those before it.
     fn add_latest(&mut self)
-        requires { HasCounts self.old.tally (2 ^ 41) }
+        requires { HasCounts self.old.tally MAX_COUNTED_BYTES }
         ensures tally { self.new.tally ≡ tally_now self.old }
         ensures fed { self.new.fed ≡ self.old.fed }
         ensures prefix { self.new.prefix ≡ self.old.prefix }
@@ -203,7 +204,7 @@ impl Progress {
     /// Reads the prefix 00 00 01, if `rest` begins with it. Returns how many bytes were read: 3 or
     /// none.
     fn take_prefix(&mut self, rest: &[u8]) -> usize
-        requires few { self.old.fed + length rest.now < 2 ^ 41 }
+        requires few { self.old.fed + length rest.now < MAX_COUNTED_BYTES }
         requires none { self.old.prefix ≡ Prefix.Nothing }
         ensures bound { result ≤ length rest.now }
         ensures skipped { HasSkipped self.old self.new rest.now result }
@@ -224,7 +225,7 @@ impl Progress {
     /// there. Returns how many: none where a part of a prefix stands at the end. No code ends in
     /// them, so they are of the latest header or are passed over.
     fn skip(&mut self, rest: &[u8]) -> usize
-        requires { self.old.fed + length rest.now < 2 ^ 41 }
+        requires { self.old.fed + length rest.now < MAX_COUNTED_BYTES }
         ensures bound { result ≤ length rest.now }
         ensures skipped { HasSkipped self.old self.new rest.now result }
         ensures fed { self.new.fed ≡ self.old.fed + result }

@@ -1,6 +1,6 @@
 //! What the start codes so far say of the latest unit: its picture header, counts and places.
 
-ghost use Rattle.std.specs.Prelude.{◌≡◌, ◌^◌, ◌≤◌, ℕ, List, []};
+ghost use Rattle.std.specs.Prelude.{◌≡◌, ◌≤◌, ℕ, List, [], Some};
 ghost use Rattle.mpeg_scan.specs.ScanBounds.{HasCounts};
 ghost use Rattle.mpeg_scan.specs.CodeFacts.{header_of, is_head, is_slice, rate_code, tally_of};
 ghost use Rattle.mpeg_scan.specs.CodeFacts.{type_of};
@@ -9,7 +9,7 @@ ghost use Rattle.mpeg_scan.specs.TallyFields.{count_of, ends_unit, new_unit, sli
 ghost use Rattle.mpeg_scan.specs.TallyFields.{unit_after, unit_or_none, unit_with};
 
 use crate::codes::Code;
-use crate::units::Kind;
+use crate::units::{Kind, MAX_COUNTED_BYTES};
 use std::marker::Model;
 
 /// The start code value of a picture (ISO/IEC 11172-2, table 2-D.1).
@@ -109,22 +109,24 @@ pub(crate) struct Slices {
 }
 
 impl Slices {
-    /// Those of `before`, and one more at `place`.
-    fn with(before: Option<Slices>, place: u64) -> Slices
-        requires { count_of before ≤ 2 ^ 41 }
-        ensures { result ≡ slices_with before place }
+    /// Adds a slice at `place` to those of a unit.
+    #[inline(always)]
+    fn add_to(slices: &mut Option<Slices>, place: u64)
+        requires { count_of slices.old ≤ MAX_COUNTED_BYTES }
+        ensures { slices.new ≡ Some (slices_with slices.old place) }
     {
-        match before {
-            None => Slices {
-                first: place,
-                last: place,
-                count: 1,
-            },
-            Some(slices) => Slices {
-                last: place,
-                count: slices.count + 1,
-                ..slices
-            },
+        match slices {
+            Some(slices) => {
+                slices.last = place;
+                slices.count += 1;
+            }
+            None => {
+                *slices = Some(Slices {
+                    first: place,
+                    last: place,
+                    count: 1,
+                });
+            }
         }
     }
 }
@@ -165,38 +167,41 @@ impl UnitTally {
         is_head(value) && self.slices.is_some()
     }
 
-    /// The same with one code more, which doesn't end it.
-    fn with(&self, code: &Code) -> UnitTally
-        requires { count_of self.now.slices ≤ 2 ^ 41 }
-        ensures { result ≡ unit_with self.now code.now }
+    /// Adds a code, which doesn't end it.
+    #[inline(always)]
+    fn add(&mut self, code: &Code)
+        requires { count_of self.old.slices ≤ MAX_COUNTED_BYTES }
+        ensures { self.new ≡ unit_with self.old code.now }
     {
-        UnitTally {
-            from: self.from,
+        if code.value == PICTURE {
             // A second picture in a head was refused before, so the unit has this one alone.
-            picture: if code.value == PICTURE {
-                Some(Header::of_picture(code))
-            } else {
-                self.picture
-            },
-            slices: if is_slice(code.value) {
-                Some(Slices::with(self.slices, code.place))
-            } else {
-                self.slices
-            },
-            has_sequence: code.value == SEQUENCE || self.has_sequence,
-            starts_group: code.value == GROUP || self.starts_group,
+            self.picture = Some(Header::of_picture(code));
+        }
+        if is_slice(code.value) {
+            Slices::add_to(&mut self.slices, code.place);
+        }
+        if code.value == SEQUENCE {
+            self.has_sequence = true;
+        }
+        if code.value == GROUP {
+            self.starts_group = true;
         }
     }
 
-    /// The unit of a code that comes after those of `latest`: that one, or the next. The film's
-    /// first unit starts a group.
-    fn after(latest: Option<UnitTally>, code: &Code) -> UnitTally
-        requires { count_of (unit_or_none latest).slices ≤ 2 ^ 41 }
-        ensures { result ≡ unit_after latest code.now }
+    /// Adds a code to the latest unit, or to the next one where it ends that. The film's first unit
+    /// starts a group.
+    #[inline(always)]
+    fn add_to(latest: &mut Option<UnitTally>, code: &Code)
+        requires { count_of (unit_or_none latest.old).slices ≤ MAX_COUNTED_BYTES }
+        ensures { latest.new ≡ Some (unit_after latest.old code.now) }
     {
         match latest {
-            Some(unit) if !unit.ends_at(code.value) => unit.with(code),
-            _ => UnitTally::new(code.place, latest.is_none()).with(code),
+            Some(unit) if !unit.ends_at(code.value) => unit.add(code),
+            _ => {
+                let mut unit = UnitTally::new(code.place, latest.is_none());
+                unit.add(code);
+                *latest = Some(unit);
+            }
         }
     }
 }
@@ -246,47 +251,26 @@ impl Tally {
         }
     }
 
-    /// The same with one code more, whose header is complete.
-    #[tactic(auto, unfolding(crate::specs::CodeSteps::next))]
-    pub(crate) fn next(&self, code: &Code) -> Tally
-        requires { HasCounts self.now (2 ^ 41) }
-        ensures { result ≡ next self.now code.now }
-    {
-        Tally {
-            rate: self.next_rate(code),
-            pictures: if code.value == PICTURE {
-                self.pictures + 1
-            } else {
-                self.pictures
-            },
-            before_group: if code.value == GROUP {
-                self.pictures
-            } else {
-                self.before_group
-            },
-            all_slices: if is_slice(code.value) {
-                self.all_slices + 1
-            } else {
-                self.all_slices
-            },
-            unit: Some(UnitTally::after(self.unit, code)),
-        }
-    }
-
-    /// Adds a code, whose header is complete.
+    /// Adds a code, whose header is complete. The tally is changed in place, since most codes change
+    /// little of it; and without a call, since where the code is known to be a slice's little is
+    /// left to do.
+    #[inline(always)]
     #[tactic(auto, unfolding(crate::specs::CodeSteps::next))]
     pub(crate) fn add(&mut self, code: &Code)
-        requires { HasCounts self.old (2 ^ 41) }
+        requires { HasCounts self.old MAX_COUNTED_BYTES }
         ensures { self.new ≡ next self.old code.now }
     {
-        match &mut self.unit {
-            // Most codes are slices. Such a code changes the slices alone, in place.
-            Some(unit) if is_slice(code.value) => {
-                unit.slices = Some(Slices::with(unit.slices, code.place));
-                self.all_slices += 1;
-            }
-            _ => *self = self.next(code),
+        self.rate = self.next_rate(code);
+        if code.value == GROUP {
+            self.before_group = self.pictures;
         }
+        if code.value == PICTURE {
+            self.pictures += 1;
+        }
+        if is_slice(code.value) {
+            self.all_slices += 1;
+        }
+        UnitTally::add_to(&mut self.unit, code);
     }
 
     /// The film's rate code with one code more.

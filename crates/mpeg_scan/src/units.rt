@@ -8,6 +8,10 @@ ghost use Rattle.mpeg_scan.specs.CodeFacts.{kind_of};
 /// The most bytes of a film, 2^40.
 pub const MAX_FILM_BYTES: u64 = 1 << 40;
 
+/// A bound on the counts of bytes and of codes in a scan: twice the bytes of the longest film. No
+/// scan reaches it, and below it no sum overflows.
+pub(crate) const MAX_COUNTED_BYTES: u64 = 1 << 41;
+
 /// The most bytes of a unit before its first slice: they go into one packet.
 pub const MAX_UNIT_HEAD_BYTES: u64 = 1380;
 

@@ -106,6 +106,14 @@ due-of-both plan a b keep due is =
 
 -- ---- a step that failed
 
+-- what went out is of one send
+seam-past : {pieces : List (List ℕ)} {whole : ℕ} {bytes : List ℕ} {told_old told_new : Option (List IoEvent)}
+    (before sent : ℕ) → (stopped : HasStopped (λ place. IsSeam pieces (before + sent + place)) bytes told_old told_new whole)
+    → (place : ℕ) → IsSeam pieces (before + place) → sent + whole < place → sent + stopped.out ≤ place
+seam-past {pieces} before sent stopped place seam less =
+    let same : before + place ≡ before + sent + (place - sent) = omega (arith, less) in
+    omega (arith, less, stopped.one_send (place - sent) (subst (IsSeam pieces) same seam) (omega (arith, less)))
+
 pub step-failed : {stop : Bool} {slot : ℕ} {old : PacerState} {to whole : ℕ} {told_old told_new : Option (List IoEvent)}
     (pacing : PacerState)
     → pacing ≡ at_slot slot old → to ≡ step_end stop pacing → pacing.sent ≤ to
@@ -133,23 +141,11 @@ step-failed {stop} {slot} {old} {to} {whole} {told_old} pacing are end order sto
       out_least = omega (arith, stopped.out_least);
       out_most = omega (arith, stopped.out_most, size, order, ends);
       one_piece = λ place boundary less.
-          let same : before + place ≡ before + sent + (place - sent) = omega (arith, less) in
           let there = subst (λ (p : PacerState). IsBoundary p.pieces (p.before + place)) (sym are) boundary in
-          omega (
-            arith,
-            less,
-            stopped.one_send (place - sent) (inl (subst (IsBoundary pieces) same there))
-                (omega (arith, less)),
-          );
+          seam-past before sent stopped place (inl there) less;
       one_send = λ place head less.
-          let same : before + place ≡ before + sent + (place - sent) = omega (arith, less) in
           let there = subst (λ (p : PacerState). IsHeadEnd p.pieces (p.before + place)) (sym are) head in
-          omega (
-            arith,
-            less,
-            stopped.one_send (place - sent) (inr (subst (IsHeadEnd pieces) same there))
-                (omega (arith, less)),
-          );
+          seam-past before sent stopped place (inr there) less;
       told = stopped.told ∙ ap (λ (l : List ℕ). told_more told_old (sends l)) cut
           ∙ ap (λ (p : PacerState). told_more told_old
           (sends (bytes_between p.pieces (p.before + p.sent) (p.before + (sent + stopped.out))))) are;

@@ -163,55 +163,79 @@ pub record IsPartAt (pieces : List (List ℕ)) (from to at : ℕ) (head payload 
   pub next : IsNext pieces at (head ++ payload)
   pub split : IsSplit pieces at (length head) (length payload)
 
+-- what went out of a part that failed, after the bytes before it
+part-out : {pieces : List (List ℕ)} {from to at : ℕ} {head payload : List ℕ} (out : ℕ)
+    → IsPartAt pieces from to at head payload → out ≤ length (take (to - at) (head ++ payload))
+    → bytes_between pieces from at ++ take out (take (to - at) (head ++ payload))
+    ≡ take (at - from + out) (bytes_between pieces from to)
+part-out {pieces} {from} {to} {at} {head} {payload} out part within =
+    let next = head ++ payload in
+    let most = to - at in
+    let end = at + min (length next) most in
+    let order : from ≤ at = part.order in
+    let then : at ≤ to = part.before_end in
+    let size : out ≤ most = omega (arith, within, length-take most next) in
+    let cut : take out (take most next) ≡ bytes_between pieces at (at + out) =
+    ap (λ (l : List ℕ). take out l) (next-are pieces at most next part.next)
+    ∙ take-take out (end - at) (drop at (framed_bytes pieces)) (omega (arith, within, length-take most next))
+    ∙ ap (λ n. take n (drop at (framed_bytes pieces))) (omega arith) in
+    ap (λ (l : List ℕ). bytes_between pieces from at ++ l) cut
+    ∙ between-join pieces from at (at + out) order (omega arith)
+    ∙ ap (λ n. take n (drop from (framed_bytes pieces))) (omega (arith, order))
+    ∙ sym (take-take (at - from + out) (to - from) (drop from (framed_bytes pieces)) (omega (arith, order, then, size)))
+
+-- where a part failed, it is within one send
+part-one_send : {pieces : List (List ℕ)} {from to at whole : ℕ} {head payload : List ℕ}
+    {middle new : Option (List IoEvent)} → IsPartAt pieces from to at head payload
+    → (stopped : HasStopped (λ place. place ≡ length head) (take (to - at) (head ++ payload)) middle new whole)
+    → (place : ℕ) → IsSeam pieces (from + place) → at - from + whole < place → at - from + stopped.out ≤ place
+part-one_send {from} {to} {at} {head} {payload} part stopped place (inl boundary) less =
+    let order : from ≤ at = part.order in
+    omega (
+      arith,
+      part.next.one_piece (from + place) boundary (omega (arith, order, less)),
+      stopped.out_most,
+      length-take (to - at) (head ++ payload),
+      order,
+    )
+part-one_send {from} {to} {at} {head} {payload} part stopped place (inr end) less =
+    let order : from ≤ at = part.order in
+    elim (cases_lt (from + place) (at + length head + length payload)) [
+      | inl l ↦
+          let here : from + place ≡ at + length head =
+          part.split.only (from + place) end (omega (arith, order, less)) l in
+          omega (arith, here, order, stopped.one_send (length head) refl (omega (arith, here, order, less)))
+      | inr g ↦
+          let next = head ++ payload in
+          omega (
+            arith,
+            g,
+            order,
+            length-append head payload,
+            stopped.out_most,
+            length-take (to - at) next,
+          )
+    ]
+
 -- a part failed
 pub part-stopped : {pieces : List (List ℕ)} {from to at : ℕ} {head payload : List ℕ}
     {old middle new : Option (List IoEvent)} {whole : ℕ} → IsPartAt pieces from to at head payload
     → middle ≡ told_more old (sends (bytes_between pieces from at))
     → HasStopped (λ place. place ≡ length head) (take (to - at) (head ++ payload)) middle new whole
     → HasStopped (λ place. IsSeam pieces (from + place)) (bytes_between pieces from to) old new (at - from + whole)
-part-stopped {pieces} {from} {to} {at} {head} {payload} {old} {whole} part first stopped =
-    let next = head ++ payload in
-    let most = to - at in
-    let end = at + min (length next) most in
-    let are = next-are pieces at most next part.next in
+part-stopped {pieces} {from} {to} {at} {head} {payload} {old} part first stopped =
+    let sent = take (to - at) (head ++ payload) in
+    let size : length sent ≤ to - at = omega (arith, length-take (to - at) (head ++ payload)) in
     let order : from ≤ at = part.order in
     let then : at ≤ to = part.before_end in
-    let size : length (take most next) ≤ most = omega (arith, length-take most next) in
     let all = between-length pieces from to (omega (arith, order, then)) part.within in
     let out = stopped.out in
-    let cut : take out (take most next) ≡ bytes_between pieces at (at + out) =
-    ap (λ (l : List ℕ). take out l) are
-    ∙ take-take out (end - at) (drop at (framed_bytes pieces)) (omega (arith, stopped.out_most, length-take most next))
-    ∙ ap (λ n. take n (drop at (framed_bytes pieces))) (omega arith) in
-    let joined : bytes_between pieces from at ++ take out (take most next)
-    ≡ take (at - from + out) (bytes_between pieces from to) =
-    ap (λ (l : List ℕ). bytes_between pieces from at ++ l) cut
-    ∙ between-join pieces from at (at + out) order (omega arith)
-    ∙ ap (λ n. take n (drop from (framed_bytes pieces))) (omega (arith, order))
-    ∙ sym (take-take (at - from + out) (to - from) (drop from (framed_bytes pieces))
-    (omega (arith, order, then, stopped.out_most, size))) in
     record {
       before_end = omega (arith, stopped.before_end, size, all, order, then);
       out = at - from + out;
       out_least = omega (arith, stopped.out_least);
       out_most = omega (arith, stopped.out_most, size, all, order, then);
-      one_send = λ place seam less. elim seam [
-        | inl boundary ↦
-            omega (
-              arith,
-              part.next.one_piece (from + place) boundary (omega (arith, order, less)),
-              stopped.out_most,
-              length-take most next,
-              order,
-            )
-        | inr end ↦ elim (cases_lt (from + place) (at + length head + length payload)) [
-          | inl l ↦
-              let here : from + place ≡ at + length head =
-              part.split.only (from + place) end (omega (arith, order, less)) l in
-              omega (arith, here, order, stopped.one_send (length head) refl (omega (arith, here, order, less)))
-          | inr g ↦ omega (arith, g, order, length-append head payload, stopped.out_most, length-take most next)
-        ]
-      ];
-      told = sends-more old (bytes_between pieces from at) (take out (take most next)) first stopped.told
-          ∙ ap (λ (l : List ℕ). told_more old (sends l)) joined;
+      one_send = part-one_send part stopped;
+      told = sends-more old (bytes_between pieces from at) (take out sent) first stopped.told
+          ∙ ap (λ (l : List ℕ). told_more old (sends l)) (part-out out part stopped.out_most);
     }

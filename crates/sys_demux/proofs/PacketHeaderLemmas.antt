@@ -140,6 +140,34 @@ stamp_of b count bytes video e field =
           ∙ ap (λ (v : List ℕ). b ∷ (take count bytes ++ v)) stands.rest;
     }
 
+-- a time stamp that isn't of five bytes: it has ten, or is the byte 15 alone
+other_stamp : (b : ℕ) (bytes video : List ℕ)
+    → cond (b / 16 == 3) (after_bytes 9 bytes) (cond (b == 15) (Some bytes) None) ≡ Some video
+    → HasStamp (b ∷ bytes) video
+other_stamp b bytes video e =
+    elim (cases_eq (b / 16) 3) [
+      | inl three ↦
+          stamp_of b 9 bytes video
+          (sym (cond-true (b / 16 == 3) (after_bytes 9 bytes) (cond (b == 15) (Some bytes) None)
+          (eq-eqb (b / 16) 3 three)) ∙ e)
+          (λ long. inr (inl (long, three)))
+      | inr none ↦
+          (let e1 : cond (b == 15) (Some bytes) None ≡ Some video =
+          sym (cond-false (b / 16 == 3) (after_bytes 9 bytes) (cond (b == 15) (Some bytes) None)
+          (ne_eqb (b / 16) 3 none)) ∙ e in
+          elim (cases_eq b 15) [
+            | inl is ↦ record {
+              stamp = 15 ∷ [];
+              stamp_is = inr (inr refl);
+              is = ap (λ k. k ∷ bytes) is
+                  ∙ ap (λ (v : List ℕ). 15 ∷ v)
+                  (same_Some bytes video (sym (cond-true (b == 15) (Some bytes) None (eq-eqb b 15 is)) ∙ e1));
+            }
+            | inr other15 ↦
+                absurd (none-some video (sym (cond-false (b == 15) (Some bytes) None (ne_eqb b 15 other15)) ∙ e1))
+          ])
+    ]
+
 stamp_stands : (bytes video : List ℕ) → from_stamp bytes ≡ Some video → HasStamp bytes video
 stamp_stands [] video e = absurd (none-some video e)
 stamp_stands (b ∷ bytes) video e =
@@ -150,32 +178,10 @@ stamp_stands (b ∷ bytes) video e =
           (cond (b / 16 == 3) (after_bytes 9 bytes) (cond (b == 15) (Some bytes) None)) (eq-eqb (b / 16) 2 two)) ∙ e)
           (λ long. inl (long, two))
       | inr other ↦
-          (let e1 : cond (b / 16 == 3) (after_bytes 9 bytes) (cond (b == 15) (Some bytes) None) ≡ Some video =
-          sym (cond-false (b / 16 == 2) (after_bytes 4 bytes)
+          other_stamp b bytes video
+          (sym (cond-false (b / 16 == 2) (after_bytes 4 bytes)
           (cond (b / 16 == 3) (after_bytes 9 bytes) (cond (b == 15) (Some bytes) None))
-          (ne_eqb (b / 16) 2 other)) ∙ e in
-          elim (cases_eq (b / 16) 3) [
-            | inl three ↦
-                stamp_of b 9 bytes video
-                (sym (cond-true (b / 16 == 3) (after_bytes 9 bytes) (cond (b == 15) (Some bytes) None)
-                (eq-eqb (b / 16) 3 three)) ∙ e1)
-                (λ long. inr (inl (long, three)))
-            | inr none ↦
-                (let e2 : cond (b == 15) (Some bytes) None ≡ Some video =
-                sym (cond-false (b / 16 == 3) (after_bytes 9 bytes) (cond (b == 15) (Some bytes) None)
-                (ne_eqb (b / 16) 3 none)) ∙ e1 in
-                elim (cases_eq b 15) [
-                  | inl is ↦ record {
-                    stamp = 15 ∷ [];
-                    stamp_is = inr (inr refl);
-                    is = ap (λ k. k ∷ bytes) is
-                        ∙ ap (λ (v : List ℕ). 15 ∷ v)
-                        (same_Some bytes video (sym (cond-true (b == 15) (Some bytes) None (eq-eqb b 15 is)) ∙ e2));
-                  }
-                  | inr other15 ↦
-                      absurd (none-some video (sym (cond-false (b == 15) (Some bytes) None (ne_eqb b 15 other15)) ∙ e2))
-                ])
-          ])
+          (ne_eqb (b / 16) 2 other)) ∙ e)
     ]
 
 -- the fields of a size and of a time stamp, and the video after them
