@@ -1,7 +1,8 @@
 //! What each command does to the calendar.
 
 ghost use Rattle.std.specs.Prelude.{◌≡◌, ◌+◌, ◌^◌, ◌<◌, ◌≤◌, ◌++◌, [], ◌∷◌, ℕ, length, vec_len};
-ghost use Rattle.std.specs.Prelude.{vec_capacity, if◌then◌else◌};
+ghost use Rattle.std.specs.Prelude.{vec_capacity, if◌then◌else◌, List, IsSomeAnd};
+ghost use Rattle.plan_cert.specs.declared.Segment.{Segment};
 ghost use Rattle.admission.specs.Machine.{State, CanHalt, IsAnswer, IsNeverOverbooked, next_state};
 ghost use Rattle.admission.specs.Histories.{IsLegal, is_admission, state_after};
 ghost use Rattle.admission.specs.BookInvariant.{MatchesState};
@@ -54,6 +55,19 @@ pub(crate) fn opened_count(answer: Answer) -> u64
     }
 }
 
+/// The plan and the start of the play that an entry admits, where it admits one.
+fn admission_of(entry: &Entry) -> Option<(&Plan, u64)>
+    ensures { (slot start : ℕ) (segments : List Segment) →
+        entry.now.command ≡ Command.Play slot segments →
+        entry.now.answer ≡ Answer.Admitted start →
+        IsSomeAnd result (λ found. (found.0.now ≡ segments) × (found.1 ≡ start)) }
+{
+    match (&entry.command, entry.answer) {
+        (Command::Play { plan, .. }, Answer::Admitted { start }) => Some((plan, start)),
+        _ => None,
+    }
+}
+
 /// Gives back what an open play has after its first `keep` bytes in the slots from now on. Its plan
 /// stands in the entry that admitted it.
 pub(crate) fn release_play(calendar: &mut Calendar, entries: &[Entry], number: u64, keep: u64)
@@ -66,14 +80,8 @@ pub(crate) fn release_play(calendar: &mut Calendar, entries: &[Entry], number: u
         MatchesState calendar.new
         (next_state (state_after entries.now) place (Command.Halt number keep) Answer.Halted) }
 {
-    let admitted = &entries[number as usize];
-    // Only the place of an admitted play can be halted (`CanHalt`), so neither case can come.
-    let Command::Play { plan, .. } = &admitted.command else {
-        unreachable!()
-    };
-    let Answer::Admitted { start } = admitted.answer else {
-        unreachable!()
-    };
+    // Only the place of an admitted play can be halted (`CanHalt`), so its entry has both.
+    let (plan, start) = admission_of(&entries[number as usize]).unwrap();
     // the contract of this call says that the segments make a plan; all of it is booked, so the law
     // says that it can be stopped early
     let _plan = plan.segments();

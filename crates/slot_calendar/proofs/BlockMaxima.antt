@@ -7,98 +7,142 @@ use Rattle.std.proofs.lemmas.Bool.{cases_lt, cases_eq}
 use Rattle.std.proofs.lemmas.List.{length-set, length-drop, length-take-le, get_or-set_same, get_or-set_other}
 use Rattle.std.proofs.lemmas.List.{get_or-take, get_or-drop}
 use Rattle.std.proofs.lemmas.Option.{none-some}
-use Rattle.slot_calendar.specs.Rings.{AreBlockMaxima, IsGreatest, AreZeros}
+use Rattle.slot_calendar.specs.Rings.{AreBlockMaxima, IsGreatest, IsReached, AreZeros}
 use Rattle.slot_calendar.specs.Totals.{ring_slots}
 
 pub block-in : (p : ℕ) → p < ring_slots → p / 1024 < 1024
 block-in p inside = omega (arith, inside)
 
--- a place whose number rises
-pub topped-raise : {places tops : List ℕ} {stale : Option ℕ} (p v : ℕ) → AreBlockMaxima places tops stale →
-    p < ring_slots → get_or places p 0 ≤ v →
-    AreBlockMaxima (set places p v) (set tops (p / 1024) (max (get_or tops (p / 1024) 0) v)) stale
-topped-raise {places} {tops} p v topped inside rises = record {
-  places_are = length-set places p v ∙ topped.places_are;
-  tops_are = length-set tops block top ∙ topped.tops_are;
-  bounded = λ i less. elim (cases_eq i p) [
-    | inl is ↦ (
-        let value : get_or (set places p v) i 0 ≡ v = ap (λ k. get_or (set places p v) k 0) is ∙ here in
-        let bound : get_or (set tops block top) (i / 1024) 0 ≡ top =
-        ap (λ k. get_or (set tops block top) (k / 1024) 0) is ∙ new_top in
-        omega (arith, value, bound)
-        )
-    | inr other ↦ (
-        let value : get_or (set places p v) i 0 ≡ get_or places i 0 = get_or-set_other places p i v 0 other in
-        let before : get_or places i 0 ≤ get_or tops (i / 1024) 0 = topped.bounded i less in
-        elim (cases_eq (i / 1024) block) [
-          | inl same ↦ (
-              let bound : get_or (set tops block top) (i / 1024) 0 ≡ top =
-              ap (λ k. get_or (set tops block top) k 0) same ∙ new_top in
-              let old : get_or tops (i / 1024) 0 ≡ get_or tops block 0 = ap (λ k. get_or tops k 0) same in
-              omega (arith, value, bound, before, old)
-              )
-          | inr apart ↦ (
-              let bound : get_or (set tops block top) (i / 1024) 0 ≡ get_or tops (i / 1024) 0 =
-              get_or-set_other tops block (i / 1024) top 0 apart in
-              omega (arith, value, bound, before)
-              )
-        ]
-        )
-  ];
-  reached = λ b less exact. elim (cases_eq b block) [
-    | inl is ↦ (
-        let bound : get_or (set tops block top) b 0 ≡ top = ap (λ k. get_or (set tops block top) k 0) is ∙ new_top in
-        elim (cases_lt v (get_or tops block 0)) [
-          | inl under ↦ (
-              let old = topped.reached b less exact in
-              let same : get_or tops b 0 ≡ get_or tops block 0 = ap (λ k. get_or tops k 0) is in
-              let apart : old.place ≢ p = λ e. (
-              let at : get_or places old.place 0 ≡ get_or places p 0 = ap (λ k. get_or places k 0) e in
-              omega (arith, at, old.holds, same, under, rises)
-              ) in
-              record {
-                place = old.place;
-                inside = old.inside;
-                of_block = old.of_block;
-                holds = get_or-set_other places p old.place v 0 apart ∙ old.holds ∙ omega (arith, same, bound, under);
-              }
-              )
-          | inr over ↦ record {
-            place = p;
-            inside = inside;
-            of_block = sym is;
-            holds = here ∙ omega (arith, bound, over);
-          }
-        ]
-        )
-    | inr apart ↦ (
-        let old = topped.reached b less exact in
-        let other : old.place ≢ p = λ e. apart (sym old.of_block ∙ ap (λ k. k / 1024) e) in
-        record {
-          place = old.place;
-          inside = old.inside;
-          of_block = old.of_block;
-          holds = get_or-set_other places p old.place v 0 other ∙ old.holds
-              ∙ sym (get_or-set_other tops block b top 0 apart);
-        }
-        )
-  ];
-  stale_in = topped.stale_in;
-}
+-- a place of a ring, and the number to which its own rises
+record Raise (places tops : List ℕ) (stale : Option ℕ) : Type 0 where
+  pub place : ℕ
+  pub value : ℕ
+  pub maxima : AreBlockMaxima places tops stale
+  pub inside : place < ring_slots
+  pub rises : get_or places place 0 ≤ value
+
+abbrev raised : {places tops : List ℕ} {stale : Option ℕ} → Raise places tops stale → List ℕ
+raised {places} raise = set places raise.place raise.value
+
+abbrev raised_top : {places tops : List ℕ} {stale : Option ℕ} → Raise places tops stale → ℕ
+raised_top {tops} raise = max (get_or tops (raise.place / 1024) 0) raise.value
+
+abbrev raised_tops : {places tops : List ℕ} {stale : Option ℕ} → Raise places tops stale → List ℕ
+raised_tops {tops} raise = set tops (raise.place / 1024) (raised_top raise)
+
+raise_here : {places tops : List ℕ} {stale : Option ℕ} (raise : Raise places tops stale)
+    → get_or (raised raise) raise.place 0 ≡ raise.value
+raise_here {places} raise =
+    get_or-set_same places raise.place raise.value 0 (omega (arith, raise.maxima.places_are, raise.inside))
+
+raise_top : {places tops : List ℕ} {stale : Option ℕ} (raise : Raise places tops stale)
+    → get_or (raised_tops raise) (raise.place / 1024) 0 ≡ raised_top raise
+raise_top {tops} raise = get_or-set_same tops (raise.place / 1024) (raised_top raise) 0
+    (omega (arith, raise.maxima.tops_are, block-in raise.place raise.inside))
+
+-- the new greatest number bounds each number of the block, and the other blocks are as before
+raise_bounded : {places tops : List ℕ} {stale : Option ℕ} (raise : Raise places tops stale) (i : ℕ) → i < ring_slots
+    → get_or (raised raise) i 0 ≤ get_or (raised_tops raise) (i / 1024) 0
+raise_bounded {places} {tops} raise i less = elim (cases_eq i p) [
+  | inl is ↦ (
+      let value : get_or (set places p v) i 0 ≡ v = ap (λ k. get_or (set places p v) k 0) is ∙ raise_here raise in
+      let bound : get_or (set tops block top) (i / 1024) 0 ≡ top =
+      ap (λ k. get_or (set tops block top) (k / 1024) 0) is ∙ raise_top raise in
+      omega (arith, value, bound)
+      )
+  | inr other ↦ (
+      let value : get_or (set places p v) i 0 ≡ get_or places i 0 = get_or-set_other places p i v 0 other in
+      let before : get_or places i 0 ≤ get_or tops (i / 1024) 0 = raise.maxima.bounded i less in
+      elim (cases_eq (i / 1024) block) [
+        | inl same ↦ (
+            let bound : get_or (set tops block top) (i / 1024) 0 ≡ top =
+            ap (λ k. get_or (set tops block top) k 0) same ∙ raise_top raise in
+            let old : get_or tops (i / 1024) 0 ≡ get_or tops block 0 = ap (λ k. get_or tops k 0) same in
+            omega (arith, value, bound, before, old)
+            )
+        | inr apart ↦ (
+            let bound : get_or (set tops block top) (i / 1024) 0 ≡ get_or tops (i / 1024) 0 =
+            get_or-set_other tops block (i / 1024) top 0 apart in
+            omega (arith, value, bound, before)
+            )
+      ]
+      )
+]
   where
+    open raise use {place as p, value as v}
+
     block : ℕ
     block = p / 1024
 
     top : ℕ
     top = max (get_or tops (p / 1024) 0) v
 
-    here : get_or (set places p v) p 0 ≡ v
-    here = get_or-set_same places p v 0 (omega (arith, topped.places_are, inside))
+-- some place of its block holds the new greatest number
+raise_in_block : {places tops : List ℕ} {stale : Option ℕ} (raise : Raise places tops stale) (b : ℕ)
+    → b ≡ raise.place / 1024 → IsReached places b (get_or tops b 0)
+    → IsReached (raised raise) b (get_or (raised_tops raise) b 0)
+raise_in_block {places} {tops} raise b is old =
+    let bound : get_or (set tops block top) b 0 ≡ top =
+    ap (λ k. get_or (set tops block top) k 0) is ∙ raise_top raise in
+    elim (cases_lt v (get_or tops block 0)) [
+      | inl under ↦ (
+          let same : get_or tops b 0 ≡ get_or tops block 0 = ap (λ k. get_or tops k 0) is in
+          let apart : old.place ≢ p = λ e. (
+          let at : get_or places old.place 0 ≡ get_or places p 0 = ap (λ k. get_or places k 0) e in
+          omega (arith, at, old.holds, same, under, raise.rises)
+          ) in
+          record {
+            place = old.place;
+            inside = old.inside;
+            of_block = old.of_block;
+            holds = get_or-set_other places p old.place v 0 apart ∙ old.holds ∙ omega (arith, same, bound, under);
+          }
+          )
+      | inr over ↦ record {
+        place = p;
+        inside = raise.inside;
+        of_block = sym is;
+        holds = raise_here raise ∙ omega (arith, bound, over);
+      }
+    ]
+  where
+    open raise use {place as p, value as v}
 
-    new_top : get_or (set tops (p / 1024) (max (get_or tops (p / 1024) 0) v)) (p / 1024) 0
-        ≡ max (get_or tops (p / 1024) 0) v
-    new_top = get_or-set_same tops (p / 1024) (max (get_or tops (p / 1024) 0) v) 0
-        (omega (arith, topped.tops_are, block-in p inside))
+    block : ℕ
+    block = p / 1024
+
+    top : ℕ
+    top = max (get_or tops (p / 1024) 0) v
+
+-- in another block some place still holds the greatest number
+raise_elsewhere : {places tops : List ℕ} {stale : Option ℕ} (raise : Raise places tops stale) (b : ℕ)
+    → b ≢ raise.place / 1024 → IsReached places b (get_or tops b 0)
+    → IsReached (raised raise) b (get_or (raised_tops raise) b 0)
+raise_elsewhere {places} {tops} raise b apart old =
+    let other : old.place ≢ raise.place = λ e. apart (sym old.of_block ∙ ap (λ k. k / 1024) e) in record {
+      place = old.place;
+      inside = old.inside;
+      of_block = old.of_block;
+      holds = get_or-set_other places raise.place old.place raise.value 0 other ∙ old.holds
+          ∙ sym (get_or-set_other tops (raise.place / 1024) b (raised_top raise) 0 apart);
+    }
+
+-- a place whose number rises
+pub topped-raise : {places tops : List ℕ} {stale : Option ℕ} (p v : ℕ) → AreBlockMaxima places tops stale →
+    p < ring_slots → get_or places p 0 ≤ v →
+    AreBlockMaxima (set places p v) (set tops (p / 1024) (max (get_or tops (p / 1024) 0) v)) stale
+topped-raise {places} {tops} {stale} p v topped inside rises =
+    let raise : Raise places tops stale =
+    record { place = p; value = v; maxima = topped; inside = inside; rises = rises } in record {
+      places_are = length-set places p v ∙ topped.places_are;
+      tops_are = length-set tops (p / 1024) (raised_top raise) ∙ topped.tops_are;
+      bounded = raise_bounded raise;
+      reached = λ b less exact. elim (cases_eq b (p / 1024)) [
+        | inl is ↦ raise_in_block raise b is (topped.reached b less exact)
+        | inr apart ↦ raise_elsewhere raise b apart (topped.reached b less exact)
+      ];
+      stale_in = topped.stale_in;
+    }
 
 -- a place of the stale block whose number falls
 pub topped-lower : {places tops : List ℕ} (p v : ℕ) → AreBlockMaxima places tops (Some (p / 1024)) → p < ring_slots →
@@ -136,73 +180,100 @@ topped-lower {places} {tops} p v topped inside falls = record {
     some_in : (x y : ℕ) → x < 1024 → Some x ≡ Some y → y < 1024
     some_in x y less is = let same : x ≡ y = cc in omega (arith, same, less)
 
+-- the stale block, and its greatest number as it is read again
+record Settle (places tops : List ℕ) (stale : Option ℕ) : Type 0 where
+  pub block : ℕ
+  pub top : ℕ
+  pub maxima : AreBlockMaxima places tops stale
+  pub is : stale ≡ Some block
+  pub greatest : IsGreatest (take 1024 (drop (block * 1024) places)) top
+
+settle_length : {places tops : List ℕ} {stale : Option ℕ} (settle : Settle places tops stale)
+    → length (take 1024 (drop (settle.block * 1024) places)) ≡ 1024
+settle_length {places} settle = length-take-le 1024 (drop (settle.block * 1024) places)
+    (omega (
+      arith,
+      length-drop (settle.block * 1024) places,
+      settle.maxima.places_are,
+      settle.maxima.stale_in settle.block settle.is,
+    ))
+
+settle_here : {places tops : List ℕ} {stale : Option ℕ} (settle : Settle places tops stale)
+    → get_or (set tops settle.block settle.top) settle.block 0 ≡ settle.top
+settle_here {tops} settle = get_or-set_same tops settle.block settle.top 0
+    (omega (arith, settle.maxima.tops_are, settle.maxima.stale_in settle.block settle.is))
+
+at_block : (places : List ℕ) (b r : ℕ) → r < 1024
+    → get_or (take 1024 (drop (b * 1024) places)) r 0 ≡ get_or places (b * 1024 + r) 0
+at_block places b r low = get_or-take 1024 (drop (b * 1024) places) r 0 low ∙ get_or-drop (b * 1024) places r 0
+
+settle_bounded : {places tops : List ℕ} {stale : Option ℕ} (settle : Settle places tops stale) (i : ℕ)
+    → i < ring_slots → get_or places i 0 ≤ get_or (set tops settle.block settle.top) (i / 1024) 0
+settle_bounded {places} {tops} settle i less = elim (cases_eq (i / 1024) b) [
+  | inl same ↦ (
+      let r = i - b * 1024 in
+      let parts : i / 1024 * 1024 + i % 1024 ≡ i = div-add-mod' i 1024 in
+      let low : r < 1024 = omega (arith, same) in
+      let at : b * 1024 + r ≡ i = omega (arith, same) in
+      let value : get_or (take 1024 (drop (b * 1024) places)) r 0 ≡ get_or places i 0 =
+      at_block places b r low ∙ ap (λ k. get_or places k 0) at in
+      let bound : get_or (take 1024 (drop (b * 1024) places)) r 0 ≤ top =
+      settle.greatest.bounded r (omega (arith, settle_length settle, low)) in
+      let new : get_or (set tops b top) (i / 1024) 0 ≡ top =
+      ap (λ k. get_or (set tops b top) k 0) same ∙ settle_here settle in
+      omega (arith, value, bound, new)
+      )
+  | inr apart ↦ (
+      let old = settle.maxima.bounded i less in
+      let new = get_or-set_other tops b (i / 1024) top 0 apart in
+      omega (arith, old, new)
+      )
+]
+  where
+    open settle use {block as b, top}
+
+settle_reached : {places tops : List ℕ} {stale : Option ℕ} (settle : Settle places tops stale) (k : ℕ)
+    → k < 1024 → IsReached places k (get_or (set tops settle.block settle.top) k 0)
+settle_reached {places} {tops} {stale} settle k less = elim (cases_eq k b) [
+  | inl same ↦ (
+      let low : greatest.index < 1024 = omega (arith, greatest.inside, settle_length settle) in
+      let new : get_or (set tops b top) k 0 ≡ top =
+      ap (λ x. get_or (set tops b top) x 0) same ∙ settle_here settle in
+      record {
+        place = b * 1024 + greatest.index;
+        inside = omega (arith, low, settle.maxima.stale_in b is);
+        of_block = div-mul-add b 1024 greatest.index low ∙ sym same;
+        holds = sym (at_block places b greatest.index low) ∙ greatest.holds ∙ sym new;
+      }
+      )
+  | inr apart ↦ (
+      let others : stale ≢ Some k =
+      λ e. (let both : Some b ≡ Some k = sym is ∙ e in apart (let same : k ≡ b = cc in same)) in
+      let old = settle.maxima.reached k less others in
+      record {
+        place = old.place;
+        inside = old.inside;
+        of_block = old.of_block;
+        holds = old.holds ∙ sym (get_or-set_other tops b k top 0 apart);
+      }
+      )
+]
+  where
+    open settle use {block as b, top, is, greatest}
+
 -- the stale block is read again
 pub topped-settle : {places tops : List ℕ} {stale : Option ℕ} {b top : ℕ} → AreBlockMaxima places tops stale
     → stale ≡ Some b →
     IsGreatest (take 1024 (drop (b * 1024) places)) top → AreBlockMaxima places (set tops b top) None
-topped-settle {places} {tops} {stale} {b} {top} topped is greatest = record {
-  places_are = topped.places_are;
-  tops_are = length-set tops b top ∙ topped.tops_are;
-  bounded = λ i less. elim (cases_eq (i / 1024) b) [
-    | inl same ↦ (
-        let r = i - b * 1024 in
-        let parts : i / 1024 * 1024 + i % 1024 ≡ i = div-add-mod' i 1024 in
-        let low : r < 1024 = omega (arith, same) in
-        let at : b * 1024 + r ≡ i = omega (arith, same) in
-        let value : get_or block r 0 ≡ get_or places i 0 = inside_is r low ∙ ap (λ k. get_or places k 0) at in
-        let bound : get_or block r 0 ≤ top = greatest.bounded r (omega (arith, block_len, low)) in
-        let new : get_or (set tops b top) (i / 1024) 0 ≡ top = ap (λ k. get_or (set tops b top) k 0) same ∙ here in
-        omega (arith, value, bound, new)
-        )
-    | inr apart ↦ (
-        let old = topped.bounded i less in
-        let new = get_or-set_other tops b (i / 1024) top 0 apart in
-        omega (arith, old, new)
-        )
-  ];
-  reached = λ k less exact. elim (cases_eq k b) [
-    | inl same ↦ (
-        let low : greatest.index < 1024 = omega (arith, greatest.inside, block_len) in
-        let value : get_or block greatest.index 0 ≡ get_or places (b * 1024 + greatest.index) 0 =
-        inside_is greatest.index low in
-        let new : get_or (set tops b top) k 0 ≡ top = ap (λ x. get_or (set tops b top) x 0) same ∙ here in
-        record {
-          place = b * 1024 + greatest.index;
-          inside = omega (arith, low, b_in);
-          of_block = div-mul-add b 1024 greatest.index low ∙ sym same;
-          holds = sym value ∙ greatest.holds ∙ sym new;
-        }
-        )
-    | inr apart ↦ (
-        let others : stale ≢ Some k =
-        λ e. (let both : Some b ≡ Some k = sym is ∙ e in apart (let same : k ≡ b = cc in same)) in
-        let old = topped.reached k less others in
-        record {
-          place = old.place;
-          inside = old.inside;
-          of_block = old.of_block;
-          holds = old.holds ∙ sym (get_or-set_other tops b k top 0 apart);
-        }
-        )
-  ];
-  stale_in = λ k e. absurd (none-some k e);
-}
-  where
-    block : List ℕ
-    block = take 1024 (drop (b * 1024) places)
-
-    b_in : b < 1024
-    b_in = topped.stale_in b is
-
-    block_len : length (take 1024 (drop (b * 1024) places)) ≡ 1024
-    block_len = length-take-le 1024 (drop (b * 1024) places)
-        (omega (arith, length-drop (b * 1024) places, topped.places_are, topped.stale_in b is))
-
-    inside_is : (r : ℕ) → r < 1024 → get_or (take 1024 (drop (b * 1024) places)) r 0 ≡ get_or places (b * 1024 + r) 0
-    inside_is r low = get_or-take 1024 (drop (b * 1024) places) r 0 low ∙ get_or-drop (b * 1024) places r 0
-
-    here : get_or (set tops b top) b 0 ≡ top
-    here = get_or-set_same tops b top 0 (omega (arith, topped.tops_are, topped.stale_in b is))
+topped-settle {places} {tops} {stale} {b} {top} topped is greatest =
+    let settle : Settle places tops stale =
+    record { block = b; top = top; maxima = topped; is = is; greatest = greatest } in record {
+      places_are = topped.places_are;
+      tops_are = length-set tops b top ∙ topped.tops_are;
+      bounded = settle_bounded settle;
+      reached = λ k less exact. settle_reached settle k less;
+      stale_in = λ k e. absurd (none-some k e);
+    }
 
 -- all places and all blocks hold 0
 pub topped-zeros : (places tops : List ℕ) → AreZeros places ring_slots → AreZeros tops 1024 → AreBlockMaxima places tops

@@ -1,8 +1,9 @@
 -- The step that counts in a slot, and the capacity that it gives.
-use Rattle.std.proofs.Common.{◌≡◌, ◌<◌, ◌≤◌, ◌+◌, ◌-◌, ◌^◌, ℕ, zero, suc, nat_le, List, [], ◌∷◌, length, arith}
+use Rattle.std.proofs.Common.{◌≡◌, ◌<◌, ◌≤◌, ◌+◌, ◌-◌, ℕ, zero, suc, nat_le, List, [], ◌∷◌, length, arith}
 use Rattle.std.proofs.Common.{refl, sym, ap, ◌∙◌, inl, inr}
 use Rattle.std.specs.List.{fold}
 use Rattle.std.proofs.lemmas.Bool.{le-leb, lt-leb, cond-true, cond-false, cases_lt, cases_cond}
+use Rattle.slot_calendar.specs.declared.profiles.TheConstants.{MAX_CAPACITY}
 use Rattle.slot_calendar.specs.declared.profiles.CapStep.{CapStep}
 use Rattle.slot_calendar.specs.Profiles.{IsProfile, IsCapacity, IsSpan, capacity_after, capacity_at, step_at}
 
@@ -108,7 +109,7 @@ span-is steps t bytes until some same = record {
 }
 
 pub capacity-small : (steps : List CapStep) (t bytes : ℕ) → IsProfile steps → IsCapacity steps t bytes
-    → bytes ≤ 2 ^ 42
+    → bytes ≤ MAX_CAPACITY
 capacity-small steps t bytes profile is = omega (arith, is.bytes_are, profile.small is.index is.inside)
 
 fold-most : (steps : List CapStep) (t bytes most : ℕ) → bytes ≤ most
@@ -124,5 +125,5 @@ fold-most (s ∷ steps) t bytes most small rest =
     fold-most steps t (capacity_after t bytes s) most next (λ i less. rest (suc i) (omega (arith, less)))
 
 -- no slot has more than the greatest capacity
-pub capacity-most : (steps : List CapStep) (t : ℕ) → IsProfile steps → capacity_at steps t ≤ 2 ^ 42
-capacity-most steps t profile = fold-most steps t 0 (2 ^ 42) (omega arith) profile.small
+pub capacity-most : (steps : List CapStep) (t : ℕ) → IsProfile steps → capacity_at steps t ≤ MAX_CAPACITY
+capacity-most steps t profile = fold-most steps t 0 MAX_CAPACITY (omega arith) profile.small

@@ -1,6 +1,7 @@
 -- Whether a plan fits, segment after segment.
-use Rattle.std.proofs.Common.{◌≡◌, ◌≤◌, ◌+◌, ◌^◌, ℕ, List, [], ◌∷◌, arith, sym, ◌∙◌, inl, inr}
+use Rattle.std.proofs.Common.{◌≡◌, ◌≤◌, ◌+◌, ℕ, List, [], ◌∷◌, arith, sym, ◌∙◌, inl, inr}
 use Rattle.std.proofs.lemmas.Bool.{cases_lt}
+use Rattle.slot_calendar.specs.declared.profiles.TheConstants.{MAX_CAPACITY}
 use Rattle.plan_cert.specs.declared.Segment.{Segment}
 use Rattle.plan_cert.specs.PlanSlots.{total_slots}
 use Rattle.slot_calendar.specs.declared.calendar.Overflow.{Overflow}
@@ -15,7 +16,7 @@ use Rattle.slot_calendar.proofs.PlanSlots.{IsSegmentFrom, asked-in, asked-after,
 -- a plan that fits leaves totals that can be counted
 pub room-small : {calendar : CalendarState} {segments : List Segment} {start : ℕ} (t : ℕ) → IsCalendar calendar →
     HasRoom calendar.first (booked_at calendar) (capacity_at calendar.steps) start segments → calendar.first ≤ t →
-    booked_at calendar t + asked_at segments start t ≤ 2 ^ 42
+    booked_at calendar t + asked_at segments start t ≤ MAX_CAPACITY
 room-small {calendar} {start} t is room from =
     omega (arith, room.each t from, capacity-most calendar.steps t is.profile)
 

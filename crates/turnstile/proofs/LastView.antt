@@ -4,7 +4,7 @@ use Rattle.std.proofs.Common.{ap, sym, ◌∙◌, subst, ⊎_elim, inl, inr}
 use Rattle.std.proofs.Common.{arith}
 use mathlib.Core.Logic.{dite}
 use mathlib.Core.List.{IsPrefix}
-use mathlib.Core.Option.{some}
+use mathlib.Core.Option.{some, some-injective}
 use native.Mathlib.Decide.{ℕ_discrete}
 use lib.ListN.{get_elem?}
 use Rattle.atomic_table.specs.Table.{Final, Me, Seen, State}
@@ -77,20 +77,21 @@ module _ {B : Type 0} (entries : B → List Entry) (terms_of : B → Terms) (ter
       live : IsLive s.views id v
       live = (at, left)
 
-  -- what the value in the last slot is
-  pub record IsLast (id : TableId) (v : View) (xs : List (Option B)) : Type 0 where
+  -- what the last slot has
+  pub record IsLast (id : TableId) (v : View) (slot : Option B) : Type 0 where
     pub value : B
-    pub slot : get_elem? xs 0 ≡ some (Some value)
+    pub slot_is : slot ≡ Some value
     pub terms_are : terms_of value ≡ v.terms
     pub whole : IsWholeList (state_of_view id v) (entries value)
 
   pub closes : (table : TableId) (id : ℕ) {v : View} → HasAll v
-      → (ws : List ℕ) (xs : List (Option B)) → Final (Seen Rule id v) ws xs → IsLast table v xs
-  closes table id {v} it ws xs last =
+      → (ws : List ℕ) (xs : List (Option B)) → Final (Seen Rule id v) ws xs
+      → {slot : Option B} → get_elem? xs 0 ≡ some slot → IsLast table v slot
+  closes table id {v} it ws xs last {slot} at =
       let s = last.0 in let r = last.1.0 in let live : IsLive s.views id v = (last.1.1, left) in
       let h = all_home s r id v last.1.1 it in let f = r.each id v live in let count = f.first head in record {
         value = h.value;
-        slot = last.4 0 (Some h.value) (ap (λ hs. get_elem? hs 0) h.home);
+        slot_is = some-injective _ _ (sym at ∙ last.4 0 (Some h.value) (ap (λ hs. get_elem? hs 0) h.home));
         terms_are = h.terms_are ∙ sym f.terms_are;
         whole = record {
           seen = subst (IsPrefix v.seen) (sym h.log_is) f.seen;

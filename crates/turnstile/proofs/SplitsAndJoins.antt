@@ -16,7 +16,8 @@ use Rattle.turnstile.specs.declared.view.PassStage.TheVariants.{Idle}
 use Rattle.turnstile.specs.declared.view.Terms.{Terms}
 use Rattle.turnstile.specs.declared.view.View.{View}
 use Rattle.admission.specs.Makers.{entries_by}
-use Rattle.turnstile.specs.TurnRule.{pass_count, ticket_count, has_ticket, IsLive, IsPast, Fits, Apart, HasFirst, IsRuled}
+use Rattle.turnstile.specs.TurnRule.{pass_count, ticket_count, has_ticket, total, IsLive, IsPast, Fits, Apart, HasFirst}
+use Rattle.turnstile.specs.TurnRule.{IsAway, IsHome, IsRuled}
 use Rattle.turnstile.specs.Passes.{longer_list}
 use Rattle.turnstile.specs.Steps.{shorter_list, first_view, view_after_split, split_view, joined_record}
 use Rattle.turnstile.specs.Steps.{view_after_join}
@@ -84,6 +85,22 @@ live_split P split mine new others =
     (live_set P views id w mine others)
   where
     open split use {views, id, old as w, new as x}
+
+-- a pass that was there when a number was given stands apart from the pass of that number
+new_apart : (v u : View) → ((k : ℕ) (j : Joined) → get_elem? u.joined k ≡ some j → j.number ≤ v.splits)
+    → u.number ≤ v.splits → Apart (split_view v) u × Apart u (split_view v)
+new_apart v u past few = (
+  record {
+    numbers = λ e. absurd (omega arith);
+    tickets = λ t here there. absurd here;
+    past = λ k j e. absurd (none_there k j e);
+  },
+  record {
+    numbers = λ e. absurd (omega arith);
+    tickets = λ t here there. absurd there;
+    past = λ k j at e. let a = past k j at in absurd (omega arith);
+  },
+)
 
 -- another pass, once one more number is given
 one_more : {terms : Terms} {log : List Entry} {count served drawn : ℕ} {u : View} → Fits terms log count served drawn u
@@ -169,16 +186,39 @@ record TwoLive (views : List View) : Type 0 where
   pub live : IsLive views id view
   pub other_live : IsLive views other other_view
 
--- two passes that have no ticket are joined
+-- the second of them is joined to the first
+abbrev join_of : {views : List View} → TwoLive views → Join
+join_of {views} two = record {
+  views = views;
+  id = two.id;
+  other = two.other;
+  joined = view_after_join two.view two.other_view;
+  remnant = spent_view;
+  gone = refl;
+}
+
+abbrev joined_views : {views : List View} → TwoLive views → List View
+joined_views {views} two =
+    set (set views two.id (view_after_join two.view two.other_view)) two.other spent_view
+
+-- what the passes add up to before and after a join
+total_join : (f : View → ℕ) {views : List View} (two : TwoLive views) → two.other ≢ two.id
+    → total f (joined_views two) + (f two.view + f two.other_view)
+    ≡ total f views + (f (view_after_join two.view two.other_view) + f spent_view)
+total_join f {views} two apart =
+    let b : View = view_after_join two.view two.other_view in
+    let there : get_elem? (set views two.id b) two.other ≡ some two.other_view =
+    set_else views two.id two.other b apart ∙ two.other_live.0 in
+    let first = total_set f views two.id two.view b two.live.0 in
+    let second = total_set f (set views two.id b) two.other two.other_view spent_view there in
+    omega arith
+
+-- neither has a ticket
 record IdleJoin (views : List View) : Type 0 where
   pub two : TwoLive views
   pub apart : two.other ≢ two.id
   pub idle : two.view.stage ≡ Idle
   pub other_idle : two.other_view.stage ≡ Idle
-  pub joined : View
-  pub joined_idle : joined.stage ≡ Idle
-  pub remnant : View
-  pub gone : remnant.spent ≡ true
 
 -- a pass that isn't spent and has no ticket
 pub record AtRest (v : View) : Type 0 where
@@ -225,21 +265,121 @@ module _ {B : Type 0} (entries : B → List Entry) (terms_of : B → Terms) (ter
     all = a.all;
   }
 
+  -- the first pass, which has no ticket, splits
+  record FirstSplit (s : St) : Type 0 where
+    pub id : ℕ
+    pub view : View
+    pub live : IsLive s.views id view
+    pub idle : view.stage ≡ Idle
+    pub head : view.number ≡ 0
+
+  abbrev split_of : {s : St} → FirstSplit s → Split
+  split_of {s} it = record { views = s.views; id = it.id; old = view_after_split it.view; new = split_view it.view }
+
+  abbrev views_split : {s : St} → FirstSplit s → List View
+  views_split {s} it = set s.views it.id (view_after_split it.view) ++ split_view it.view ∷ []
+
+  first_fits : (s : St) (r : Rule s) (it : FirstSplit s)
+      → Fits terms r.log (r.count + 1) r.served r.drawn (view_after_split it.view)
+  first_fits s r it = let f = r.each id v live in let count : v.splits ≡ r.count = f.first head in record {
+    terms_are = f.terms_are;
+    told_terms = f.told_terms;
+    seen = f.seen;
+    told = f.told;
+    mine = f.mine;
+    own = f.own;
+    past = λ k j at. let p = f.past k j at in
+        record { mine = p.mine; few = (let a = p.few in omega arith); other = p.other };
+    few = (let a = f.few in omega arith);
+    first = λ _. omega arith;
+    others = λ other. absurd (other head);
+    turn = f.turn;
+  }
+    where
+      open it use {id, view as v, live, head}
+
+  new_fits : (s : St) (r : Rule s) (it : FirstSplit s)
+      → Fits terms r.log (r.count + 1) r.served r.drawn (split_view it.view)
+  new_fits s r it =
+      let f = r.each id v live in let count : v.splits ≡ r.count = f.first head in
+      let new : r.count < v.splits + 1 = omega arith in record {
+        terms_are = f.terms_are;
+        told_terms = f.terms_are;
+        seen = f.seen;
+        told = (v.seen, refl);
+        mine = sym (r.makers (v.splits + 1) new);
+        own = sym (made_nothing (v.splits + 1) v.seen r.log f.seen (r.makers (v.splits + 1) new));
+        past = λ k j e. absurd (none_there k j e);
+        few = omega arith;
+        first = λ e. absurd (omega arith);
+        others = λ _. refl;
+        turn = tt;
+      }
+    where
+      open it use {id, view as v, live, head}
+
+  apart_of_new : (s : St) (r : Rule s) (it : FirstSplit s) (u : View) → u.number ≤ r.count
+      → ((k : ℕ) (j : Joined) → get_elem? u.joined k ≡ some j → IsPast r.log r.count u.number j)
+      → Apart (split_view it.view) u × Apart u (split_view it.view)
+  apart_of_new s r it u few past =
+      let count : it.view.splits ≡ r.count = (r.each it.id it.view it.live).first it.head in
+      new_apart it.view u (λ k j at. let p = past k j at in let a = p.few in omega arith) (omega arith)
+
+  apart_split : (s : St) (r : Rule s) (it : FirstSplit s) (i j : ℕ) (y z : View) → i ≢ j
+      → IsLive (views_split it) i y → IsLive (views_split it) j z → Apart y z
+  apart_split s r it i j y z ne ly lz = live_split (λ i y. i ≢ j → Apart y z) split
+      (λ ne. live_split (λ j z. id ≢ j → Apart w z) split
+      (λ same. absurd (same refl))
+      (λ _. (apart_of_new s r it w f.few f.past).1)
+      (λ j z other l same. let a =
+      r.apart id j v z same live l in record { numbers = a.numbers; tickets = a.tickets; past = a.past })
+      j z lz ne)
+      (λ ne. live_split (λ j z. length s.views ≢ j → Apart (split_view v) z) split
+      (λ _. (apart_of_new s r it w f.few f.past).0)
+      (λ same. absurd (same refl))
+      (λ j z other l _. let g = r.each j z l in (apart_of_new s r it z g.few g.past).0)
+      j z lz ne)
+      (λ i y other l ne. let g = r.each i y l in live_split (λ j z. i ≢ j → Apart y z) split
+      (λ _. let b =
+      r.apart i id y v other l live in record { numbers = b.numbers; tickets = b.tickets; past = b.past })
+      (λ _. (apart_of_new s r it y g.few g.past).1)
+      (λ j z _ k ne. r.apart i j y z ne l k)
+      j z lz ne)
+      i y ly ne
+    where
+      open it use {id, view as v, live}
+
+      w : View
+      w = view_after_split v
+
+      split : Split
+      split = split_of it
+
+      f : Fits terms r.log r.count r.served r.drawn v
+      f = r.each id v live
+
+  place_split : (s : St) (r : Rule s) (it : FirstSplit s)
+      → step.Place entries terms_of terms r.log record { words = s.words; homes = s.homes; views = views_split it }
+  place_split s r it =
+      let free : Free it.view.stage = idle_free it.view.stage it.idle in
+      let w : View = view_after_split it.view in
+      place_push r.log (record { words = s.words; homes = s.homes; views = set s.views it.id w }) (split_view it.view) refl
+      (place_other entries terms_of terms r.log s
+      (record { id = it.id; old = it.view; new = w; live = it.live; old_free = free; new_free = free })
+      s.words r.where_is)
+
   pub splits : (id : ℕ) (v : View) → AtRest v → v.number ≡ 0 → v.splits + 1 < 2 ^ 32
       → Splits Rule id v (view_after_split v) (split_view v)
   splits id v it head few s r at =
-      let w : View = view_after_split v in let x : View = split_view v in let f = r.each id v (at, left) in
-      let split : Split = record { views = s.views; id = id; old = w; new = x } in
-      let count : v.splits ≡ r.count = f.first head in
-      let new : r.count < v.splits + 1 = omega arith in
+      let w : View = view_after_split v in let x : View = split_view v in
+      let live : IsLive s.views id v = (at, left) in
+      let first : FirstSplit s = record { id = id; view = v; live = live; idle = idle; head = head } in
+      let count : v.splits ≡ r.count = (r.each id v live).first head in
       let sums = total_set pass_count s.views id v w at in let more = total_push pass_count (set s.views id w) x in
       let queues = total_set ticket_count s.views id v w at in
       let more_queues = total_push ticket_count (set s.views id w) x in
-      let q0 : ticket_count v ≡ ticket_count w = refl in
-      let a0 : pass_count v ≡ pass_count w = refl in
-      let queue = r.queue in let passes = r.passes in
-      let theirs : (j : ℕ) (u : View) → j ≢ id → IsLive s.views j u → u.number ≢ 0 =
-      λ j u other l e. (r.apart j id u v other l (at, left)).numbers (e ∙ sym head) in record {
+      let q0 : ticket_count v ≡ ticket_count w = refl in let a0 : pass_count v ≡ pass_count w = refl in
+      let queue = r.queue in let passes = r.passes in record {
         log = r.log;
         count = r.count + 1;
         drawn = r.drawn;
@@ -249,82 +389,12 @@ module _ {B : Type 0} (entries : B → List Entry) (terms_of : B → Terms) (ter
         queue = omega arith;
         passes = omega arith;
         makers = λ m h. r.makers m (omega arith);
-        each = live_split (λ _ u. Fits terms r.log (r.count + 1) r.served r.drawn u) split
-            (record {
-              terms_are = f.terms_are;
-              told_terms = f.told_terms;
-              seen = f.seen;
-              told = f.told;
-              mine = f.mine;
-              own = f.own;
-              past = λ k j j_at. let p =
-                  f.past k j j_at in record { mine = p.mine; few = (let a = p.few in omega arith); other = p.other };
-              few = (let a = f.few in omega arith);
-              first = λ _. omega arith;
-              others = λ other. absurd (other head);
-              turn = f.turn;
-            })
-            (record {
-              terms_are = f.terms_are;
-              told_terms = f.terms_are;
-              seen = f.seen;
-              told = (v.seen, refl);
-              mine = sym (r.makers (v.splits + 1) new);
-              own = sym (made_nothing (v.splits + 1) v.seen r.log f.seen (r.makers (v.splits + 1) new));
-              past = λ k j e. absurd (none_there k j e);
-              few = omega arith;
-              first = λ e. absurd (omega arith);
-              others = λ _. refl;
-              turn = tt;
-            })
-            (λ j u other l. one_more (r.each j u l) (theirs j u other l));
-        apart = λ i j y z ne ly lz. live_split (λ i y. i ≢ j → Apart y z) split
-            (λ ne. live_split (λ j z. id ≢ j → Apart w z) split
-            (λ same. absurd (same refl))
-            (λ _. record {
-              numbers = λ e. absurd (omega arith);
-              tickets = λ t here there. absurd there;
-              past = λ k j' k_at e. let p = f.past k j' k_at in let a = p.few in absurd (omega arith);
-            })
-            (λ j z other l same. let a =
-            r.apart id j v z same (at, left) l in record { numbers = a.numbers; tickets = a.tickets; past = a.past })
-            j z lz ne)
-            (λ ne. live_split (λ j z. length s.views ≢ j → Apart x z) split
-            (λ _. record {
-              numbers = λ e. absurd (omega arith);
-              tickets = λ t here there. absurd here;
-              past = λ k j' e. absurd (none_there k j' e);
-            })
-            (λ same. absurd (same refl))
-            (λ j z other l _. let g = r.each j z l in let a = g.few in record {
-              numbers = λ e. absurd (omega arith);
-              tickets = λ t here there. absurd here;
-              past = λ k j' e. absurd (none_there k j' e);
-            })
-            j z lz ne)
-            (λ i y other l ne. let g = r.each i y l in let a = g.few in live_split (λ j z. i ≢ j → Apart y z) split
-            (λ _. let b =
-            r.apart i id y v other l (at, left) in record { numbers = b.numbers; tickets = b.tickets; past = b.past })
-            (λ _. record {
-              numbers = λ e. absurd (omega arith);
-              tickets = λ t here there. absurd there;
-              past = λ k j' k_at e. let p = g.past k j' k_at in let c = p.few in absurd (omega arith);
-            })
-            (λ j z _ k ne. r.apart i j y z ne l k)
-            j z lz ne)
-            i y ly ne;
-        first_pass = first_push x (first_set id w (at, left) left refl r.first_pass);
-        where_is = place_push r.log (record { words = s.words; homes = s.homes; views = set s.views id w }) x refl
-            (place_other entries terms_of terms r.log s
-            (record {
-              id = id;
-              old = v;
-              new = w;
-              live = (at, left);
-              old_free = idle_free v.stage idle;
-              new_free = idle_free v.stage idle;
-            })
-            s.words r.where_is);
+        each = live_split (λ _ u. Fits terms r.log (r.count + 1) r.served r.drawn u) (split_of first)
+            (first_fits s r first) (new_fits s r first)
+            (λ j u other l. one_more (r.each j u l) (λ e. (r.apart j id u v other l live).numbers (e ∙ sym head)));
+        apart = apart_split s r first;
+        first_pass = first_push x (first_set id w live left refl r.first_pass);
+        where_is = place_split s r first;
       }
     where
       open it use {left, idle}
@@ -342,37 +412,33 @@ module _ {B : Type 0} (entries : B → List Entry) (terms_of : B → Terms) (ter
     where
       open two use {id as i, other as j, view as v, other_view as w, live as l, other_live as k}
 
-  place_join : (s : St) (log : List Entry) (join : IdleJoin s.views) → step.Place entries terms_of terms log s
-      → step.Place entries terms_of terms log
-      record {
-        words = s.words;
-        homes = s.homes;
-        views = set (set s.views join.two.id join.joined) join.two.other join.remnant;
-      }
-  place_join s log join (inl h) = inl record {
+  home_join : (s : St) (log : List Entry) (join : IdleJoin s.views) → IsHome entries terms_of terms log s
+      → IsHome entries terms_of terms log record { words = s.words; homes = s.homes; views = joined_views join.two }
+  home_join s log join h = record {
     value = h.value;
     home = h.home;
     log_is = h.log_is;
     terms_are = h.terms_are;
-    free = live_join (λ _ u. Free u.stage)
-        (record { views = s.views; id = id; other = other; joined = b; remnant = x; gone = gone })
-        (idle_free b.stage bidle) (λ j u _ _ l. h.free j u l);
+    free = live_join (λ _ u. Free u.stage) (join_of join.two) (idle_free join.two.view.stage join.idle)
+        (λ j u _ _ l. h.free j u l);
   }
-    where
-      open join use {two.{id, other}, joined as b, joined_idle as bidle, remnant as x, gone}
-  place_join s log join (inr a) =
+
+  away_join : (s : St) (log : List Entry) (join : IdleJoin s.views) → IsAway log s
+      → IsAway log record { words = s.words; homes = s.homes; views = joined_views join.two }
+  away_join s log join a =
+      let b : View = view_after_join v w in
       let one : a.place ≢ id =
       λ e. idle_free v.stage idle a.ticket (ap (λ (u : View). u.stage) (one_at s.views live.0 a.live.0 e) ∙ a.holds) in
       let two : a.place ≢ other =
       λ e. idle_free w.stage widle a.ticket (ap (λ (u : View). u.stage) (one_at s.views wlive.0 a.live.0 e)
       ∙ a.holds) in
-      inr record {
+      record {
         home = a.home;
         place = a.place;
         holder = a.holder;
         ticket = a.ticket;
         live = (
-          set_else (set s.views id b) other a.place x two
+          set_else (set s.views id b) other a.place spent_view two
               ∙ (set_else s.views id a.place b one ∙ a.live.0),
           a.live.1,
         );
@@ -380,13 +446,13 @@ module _ {B : Type 0} (entries : B → List Entry) (terms_of : B → Terms) (ter
         all = a.all;
       }
     where
-      open join use {
-        two.{id, other, view as v, other_view as w, live, other_live as wlive},
-        idle,
-        other_idle as widle,
-        joined as b,
-        remnant as x,
-      }
+      open join use {two.{id, other, view as v, other_view as w, live, other_live as wlive}, idle, other_idle as widle}
+
+  place_join : (s : St) (log : List Entry) (join : IdleJoin s.views) → step.Place entries terms_of terms log s
+      → step.Place entries terms_of terms log
+      record { words = s.words; homes = s.homes; views = joined_views join.two }
+  place_join s log join (inl h) = inl (home_join s log join h)
+  place_join s log join (inr a) = inr (away_join s log join a)
 
   fits_join : (s : St) (r : Rule s) (two : TwoLive s.views) → two.other ≢ two.id
       → Fits terms r.log r.count r.served r.drawn (view_after_join two.view two.other_view)
@@ -418,25 +484,36 @@ module _ {B : Type 0} (entries : B → List Entry) (terms_of : B → Terms) (ter
       at_past (suc i) j e = let g = r.each other w wlive in let p = g.past i j e in
           record { mine = p.mine; few = p.few; other = (r.apart other id w v apart wlive live).past i j e }
 
+  apart_joins : (s : St) (r : Rule s) (pair : TwoLive s.views) (i j : ℕ) (y z : View) → i ≢ j
+      → IsLive (joined_views pair) i y → IsLive (joined_views pair) j z → Apart y z
+  apart_joins s r pair i j y z ne ly lz = live_join (λ i y. i ≢ j → Apart y z) (join_of pair)
+      (λ ne. live_join (λ j z. id ≢ j → Apart (view_after_join v w) z) (join_of pair)
+      (λ same. absurd (same refl))
+      (λ j z one two l same. apart_join v w z (r.apart id j v z same live l)
+      (r.apart other j w z (λ e. two (sym e)) wlive l))
+      j z lz ne)
+      (λ i y one two l ne. live_join (λ j z. i ≢ j → Apart y z) (join_of pair)
+      (λ _. let a = r.apart i id y v one l live in
+      record { numbers = a.numbers; tickets = a.tickets; past = a.past })
+      (λ j z _ _ k ne. r.apart i j y z ne l k)
+      j z lz ne)
+      i y ly ne
+    where
+      open pair use {id, other, view as v, other_view as w, live, other_live as wlive}
+
   pub joins : (id : ℕ) (v : View) (other : ℕ) (w : View) → AtRest v → AtRest w → w.number ≢ 0
       → Joins Rule id v other w (view_after_join v w) spent_view
   joins id v other w rest other_rest not_first s r at apart wat =
-      let b : View = view_after_join v w in let x : View = spent_view in
+      let b : View = view_after_join v w in
       let w_at : get_elem? s.views other ≡ some w = sym (set_else s.views id other b apart) ∙ wat in
-      let live : IsLive s.views id v = (at, left) in let wlive : IsLive s.views other w = (w_at, wleft) in
-      let two : TwoLive s.views = record {
-        id = id;
-        other = other;
-        view = v;
-        other_view = w;
-        live = live;
-        other_live = wlive;
-      } in
-      let join : Join = record { views = s.views; id = id; other = other; joined = b; remnant = x; gone = refl } in
-      let sums = total_set pass_count s.views id v b at in
-      let sums' = total_set pass_count (set s.views id b) other w x wat in
-      let queues = total_set ticket_count s.views id v b at in let queues' =
-      total_set ticket_count (set s.views id b) other w x wat in
+      let live : IsLive s.views id v = (at, left) in
+      let two : TwoLive s.views =
+      record { id = id; other = other; view = v; other_view = w; live = live; other_live = (w_at, wleft) } in
+      let after : List View = set (set s.views id b) other spent_view in
+      let sums : total pass_count after + (pass_count v + pass_count w)
+      ≡ total pass_count s.views + (pass_count b + pass_count spent_view) = total_join pass_count two apart in
+      let queues : total ticket_count after + (ticket_count v + ticket_count w)
+      ≡ total ticket_count s.views + (ticket_count b + ticket_count spent_view) = total_join ticket_count two apart in
       let q0 : ticket_count v ≡ ticket_count b = refl in let a0 : pass_count v ≡ pass_count b = refl in
       let q1 : ticket_count w ≡ 0 = waits_in w wleft ∙ ap has_ticket widle in
       let a1 : pass_count w ≡ 1 = lives w wleft in
@@ -450,35 +527,15 @@ module _ {B : Type 0} (entries : B → List Entry) (terms_of : B → Terms) (ter
         queue = omega arith;
         passes = omega arith;
         makers = r.makers;
-        each = live_join (λ _ u. Fits terms r.log r.count r.served r.drawn u) join
+        each = live_join (λ _ u. Fits terms r.log r.count r.served r.drawn u) (join_of two)
             (fits_join s r two apart) (λ j u _ _ l. r.each j u l);
-        apart = λ i j y z ne ly lz. live_join (λ i y. i ≢ j → Apart y z) join
-            (λ ne. live_join (λ j z. id ≢ j → Apart b z) join
-            (λ same. absurd (same refl))
-            (λ j z one two l same. apart_join v w z (r.apart id j v z same live l)
-            (r.apart other j w z (λ e. two (sym e)) wlive l))
-            j z lz ne)
-            (λ i y one two l ne. live_join (λ j z. i ≢ j → Apart y z) join
-            (λ _. let a = r.apart i id y v one l live in
-            record { numbers = a.numbers; tickets = a.tickets; past = a.past })
-            (λ j z _ _ k ne. r.apart i j y z ne l k)
-            j z lz ne)
-            i y ly ne;
+        apart = apart_joins s r two;
         first_pass =
-            first_join join live left refl apart r.first_pass
+            first_join (join_of two) live left refl apart r.first_pass
             (λ e. not_first (ap (λ (u : View). u.number) (one_at s.views w_at r.first_pass.live.0 e)
             ∙ r.first_pass.number_is));
-        where_is = place_join s r.log
-            (record {
-              two = two;
-              apart = apart;
-              idle = idle;
-              other_idle = widle;
-              joined = b;
-              joined_idle = idle;
-              remnant = x;
-              gone = refl;
-            }) r.where_is;
+        where_is =
+            place_join s r.log (record { two = two; apart = apart; idle = idle; other_idle = widle }) r.where_is;
       }
     where
       open rest use {left, idle}

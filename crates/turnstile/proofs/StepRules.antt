@@ -12,6 +12,7 @@ use lib.Seq.{set-get_or}
 use Rattle.atomic_table.specs.Table.{State, Me, put_back, rest, keeps, takes, gives, Allows}
 use Rattle.atomic_table.proofs.Lists.{set_here, set_else, set_again, one_turn}
 use Rattle.admission.specs.declared.entries.Entry.{Entry}
+use Rattle.turnstile.specs.declared.view.Joined.{Joined}
 use Rattle.turnstile.specs.declared.view.PassStage.{PassStage}
 use Rattle.turnstile.specs.declared.view.PassStage.TheVariants.{Idle, Waits, Holds}
 use Rattle.turnstile.specs.declared.view.Terms.{Terms}
@@ -48,6 +49,7 @@ module _ {B : Type 0} (entries : B → List Entry) (terms_of : B → Terms) (ter
     pub live : IsLive s.views id old
     pub left : new.spent ≡ false
     pub same : new.number ≡ old.number
+    pub joined : new.joined ≡ old.joined
     pub log : List Entry
     pub drawn : ℕ
     pub served : ℕ
@@ -57,9 +59,20 @@ module _ {B : Type 0} (entries : B → List Entry) (terms_of : B → Terms) (ter
     pub queue : served + total ticket_count (set s.views id new) ≡ drawn
     pub makers : (m : ℕ) → r.count < m → entries_by m log ≡ []
     pub fits : Fits terms log r.count served drawn new
-    pub others : (j : ℕ) (u : View) → j ≢ id → IsLive s.views j u
-        → Fits terms log r.count served drawn u × Apart new u × Apart u new
+    pub others : (j : ℕ) (u : View) → j ≢ id → IsLive s.views j u → Fits terms log r.count served drawn u
+    pub tickets : (j : ℕ) (u : View) → j ≢ id → IsLive s.views j u
+        → (t : ℕ) → IsTicket new.stage t → IsTicket u.stage t → ⊥
     pub place : Place log record { words = words; homes = homes; views = set s.views id new }
+
+  -- the pass that has changed stands apart from each other one
+  apart_others : (s : St) (r : Rule s) (c : Change s r) (j : ℕ) (u : View) → j ≢ c.id → IsLive s.views j u
+      → Apart c.new u × Apart u c.new
+  apart_others s r c j u other l =
+      let a = r.apart c.id j c.old u (λ e. other (sym e)) c.live l in
+      let b = r.apart j c.id u c.old other l c.live in
+      apart_both {w = c.new} {u = u} (λ e. a.numbers (sym c.same ∙ e)) (c.tickets j u other l)
+      (λ k past at. a.past k past (sym (ap (λ (js : List Joined). get_elem? js k) c.joined) ∙ at))
+      (λ k past at e. b.past k past at (e ∙ c.same))
 
   pub changes : (s : St) (r : Rule s) (c : Change s r)
       → Rule record { words = c.words; homes = c.homes; views = set s.views c.id c.new }
@@ -75,12 +88,11 @@ module _ {B : Type 0} (entries : B → List Entry) (terms_of : B → Terms) (ter
         (let e = total_set pass_count s.views id v w live.0 in let a = lives v live.1 in let b =
         lives w left in let p = r.passes in omega arith);
     makers = makers;
-    each = live_set (λ _ u. Fits terms log r.count served drawn u) s.views id w fits
-        (λ j u other l. (others j u other l).0);
+    each = live_set (λ _ u. Fits terms log r.count served drawn u) s.views id w fits others;
     apart = λ i j x y ne lx ly. live_set (λ i x. i ≢ j → Apart x y) s.views id w
         (λ ne. live_set (λ j y. id ≢ j → Apart w y) s.views id w (λ same. absurd (same refl))
-        (λ j y other l _. (others j y other l).1) j y ly ne)
-        (λ i x other l ne. live_set (λ j y. i ≢ j → Apart x y) s.views id w (λ _. (others i x other l).2)
+        (λ j y other l _. (apart_others s r c j y other l).0) j y ly ne)
+        (λ i x other l ne. live_set (λ j y. i ≢ j → Apart x y) s.views id w (λ _. (apart_others s r c i x other l).1)
         (λ j y _ k ne. r.apart i j x y ne l k) j y ly ne)
         i x lx ne;
     first_pass = first_set id w live left same r.first_pass;
@@ -129,57 +141,66 @@ module _ {B : Type 0} (entries : B → List Entry) (terms_of : B → Terms) (ter
     (refl, record { own = f.own; told = f.told; terms = f.told_terms ∙ sym f.terms_are }),
   )
 
+  -- a pass that rests draws the next ticket, and the value stays where it is
+  place_drawn : (s : St) (r : Rule s) (id : ℕ) (v : View) → IsLive s.views id v → v.stage ≡ Idle → (words : List ℕ)
+      → Place r.log record { words = words; homes = s.homes; views = set s.views id (record v { stage = Waits r.drawn }) }
+  place_drawn s r id v live idle words = place_other r.log s
+      (record {
+        id = id;
+        old = v;
+        new = record v { stage = Waits r.drawn };
+        live = live;
+        old_free = idle_free v.stage idle;
+        new_free = waits_free (Waits r.drawn) r.drawn refl;
+      })
+      words r.where_is
+
+  drew : (s : St) (r : Rule s) (id : ℕ) (v : View) → IsLive s.views id v → v.stage ≡ Idle
+      → Rule record {
+        words = set s.words 0 ((get_or s.words 0 0 + 1) % 2 ^ 64);
+        homes = s.homes;
+        views = set s.views id (record v { stage = Waits r.drawn });
+      }
+  drew s r id v live idle =
+      let w : View = record v { stage = Waits r.drawn } in
+      let q0 : ticket_count v ≡ 0 = waits_in v live.1 ∙ ap has_ticket idle in
+      let q1 : ticket_count w ≡ 1 = waits_in w live.1 in
+      let sums = total_set ticket_count s.views id v w live.0 in
+      let queue = r.queue in
+      changes s r (record {
+        id = id;
+        old = v;
+        new = w;
+        live = live;
+        left = live.1;
+        same = refl;
+        joined = refl;
+        log = r.log;
+        drawn = r.drawn + 1;
+        served = r.served;
+        words = set s.words 0 ((get_or s.words 0 0 + 1) % 2 ^ 64);
+        homes = s.homes;
+        words_are = ap (λ (ws : List ℕ). set ws 0 ((get_or ws 0 0 + 1) % 2 ^ 64)) r.words
+            ∙ ap (λ (k : ℕ). k ∷ r.served % 2 ^ 64 ∷ length r.log % 2 ^ 64 ∷ []) (omega arith);
+        queue = omega arith;
+        makers = r.makers;
+        fits = restage (r.each id v live) (omega arith, omega arith);
+        others = λ j u other l. let g = r.each j u l in refit g (turn_more r.served r.drawn u.stage g.turn);
+        tickets = λ j u other l t here there. let h = ticket_low r.served r.drawn t u.stage (r.each j u l).turn there in
+            let e : r.drawn ≡ t = here in let z = h.1 in omega arith;
+        place = place_drawn s r id v live idle (set s.words 0 ((get_or s.words 0 0 + 1) % 2 ^ 64));
+      })
+
   pub draws : (id slots : ℕ) (me : Me (Option B) View) → IsFree me
       → Allows Rule slots id me 0 (λ n. (n + 1) % 2 ^ 64)
       (λ n next. (t : ℕ) × (n ≡ t % 2 ^ 64) × (next.0 ≡ record me.0 { stage = Waits t }) × (next.1 ≡ []))
-  draws id slots me it s r deep at low =
-      let v = me.0 in let w : View = record v { stage = Waits r.drawn } in let f = r.each id v (at, left) in
-      let q0 : ticket_count v ≡ 0 = waits_in v left ∙ ap has_ticket idle in
-      let q1 : ticket_count w ≡ 1 = waits_in w left in
-      let sums = total_set ticket_count s.views id v w at in
-      let queue = r.queue in (
-        w,
-        keeps,
-        tt,
-        changes s r (record {
-          id = id;
-          old = v;
-          new = w;
-          live = (at, left);
-          left = left;
-          same = refl;
-          log = r.log;
-          drawn = r.drawn + 1;
-          served = r.served;
-          words = set s.words 0 ((get_or s.words 0 0 + 1) % 2 ^ 64);
-          homes = s.homes;
-          words_are = ap (λ (ws : List ℕ). set ws 0 ((get_or ws 0 0 + 1) % 2 ^ 64)) r.words
-              ∙ ap (λ (k : ℕ). k ∷ r.served % 2 ^ 64 ∷ length r.log % 2 ^ 64 ∷ []) (omega arith);
-          queue = omega arith;
-          makers = r.makers;
-          fits = restage f (omega arith, omega arith);
-          others = λ j u other l. let g = r.each j u l in let a =
-              r.apart id j v u (λ e. other (sym e)) (at, left) l in
-              let b = r.apart j id u v other l (at, left) in let both =
-              apart_both {w = w} {u = u} a.numbers (λ t here there. let h =
-              ticket_low r.served r.drawn t u.stage g.turn there in let e : r.drawn ≡ t = here in let z =
-              h.1 in omega arith) a.past b.past in
-              (refit g (turn_more r.served r.drawn u.stage g.turn), both.0, both.1);
-          place = place_other r.log s
-              (record {
-                id = id;
-                old = v;
-                new = w;
-                live = (at, left);
-                old_free = idle_free v.stage idle;
-                new_free = waits_free w.stage r.drawn refl;
-              })
-              (set s.words 0 ((get_or s.words 0 0 + 1) % 2 ^ 64)) r.where_is;
-        }),
-        (r.drawn, ap (λ (ws : List ℕ). get_or ws 0 0) r.words, refl, free),
-      )
-    where
-      open it use {left, idle, empty as free}
+  draws id slots me it s r deep at low = (
+    record me.0 { stage = Waits r.drawn },
+    keeps,
+    tt,
+    drew s r id me.0 (at, it.left) it.idle,
+    (r.drawn, ap (λ (ws : List ℕ). get_or ws 0 0) r.words, refl, it.empty),
+  )
 
   -- who holds a ticket that is served finds the value at home, while nobody has the lock
   at_home : (s : St) (r : Rule s) (waiter : Waiter s.views) → waiter.ticket ≡ r.served
@@ -198,30 +219,77 @@ module _ {B : Type 0} (entries : B → List Entry) (terms_of : B → Terms) (ter
     where
       open waiter use {id, view as v, live, ticket as t, waits as is}
 
+  -- the value is away with the pass that has the lock and has seen the complete list
+  away_with : {log : List Entry} {words : List ℕ} {homes : Homes} {views : List View} (holder : Holder views)
+      → homes ≡ none ∷ [] → holder.view.seen ≡ log
+      → Place log record { words = words; homes = homes; views = views }
+  away_with holder home all = inr record {
+    home = home;
+    place = holder.id;
+    holder = holder.view;
+    ticket = holder.ticket;
+    live = holder.live;
+    holds = holder.holds;
+    all = all;
+  }
+
+  -- a live pass that has the lock once it has changed
+  abbrev holder_set : (views : List View) (id : ℕ) {v : View} (w : View) (t : ℕ) → IsLive views id v → w.spent ≡ false
+      → w.stage ≡ Holds t → Holder (set views id w)
+  holder_set views id {v} w t live left holds = record {
+    id = id;
+    view = w;
+    live = (set_here views id w (at_inside views id v live.0), left);
+    ticket = t;
+    holds = holds;
+  }
+
+  -- the pass as it takes the value
+  abbrev taken : {views : List View} → Waiter views → B → View
+  taken waiter value = record waiter.view { stage = Holds waiter.ticket; seen = entries value }
+
+  took_fits : (s : St) (r : Rule s) (waiter : Waiter s.views) (h : IsHome entries terms_of terms r.log s)
+      → waiter.ticket ≡ r.served → Fits terms r.log r.count r.served r.drawn (taken waiter h.value)
+  took_fits s r waiter h now =
+      let f = r.each id v live in
+      let low : (r.served ≤ t) × (t < r.drawn) =
+      ticket_low r.served r.drawn t v.stage f.turn (subst (λ (st : PassStage). IsTicket st t) (sym is) refl) in record {
+        terms_are = f.terms_are;
+        told_terms = f.told_terms;
+        seen = subst (λ (l : List Entry). IsPrefix l r.log) (sym h.log_is) (prefix_self r.log);
+        told = subst (IsPrefix v.told) (sym h.log_is) (prefix_trans v.told v.seen r.log f.told f.seen);
+        mine = f.mine;
+        own = f.mine ∙ ap (entries_by v.number) (sym h.log_is);
+        past = f.past;
+        few = f.few;
+        first = f.first;
+        others = f.others;
+        turn = (now, low.1);
+      }
+    where
+      open waiter use {id, view as v, live, ticket as t, waits as is}
+
   took : (s : St) (r : Rule s) (waiter : Waiter s.views) (h : IsHome entries terms_of terms r.log s)
       → waiter.ticket ≡ r.served
       → Rule record {
         words = set s.words 1 (get_or s.words 1 0);
         homes = set s.homes 0 none;
-        views = set s.views waiter.id (record waiter.view { stage = Holds waiter.ticket; seen = entries h.value });
+        views = set s.views waiter.id (taken waiter h.value);
       }
   took s r waiter h now =
-      let at = waiter.live.0 in let left = waiter.live.1 in
-      let w : View = record v { stage = Holds t; seen = entries h.value } in let f = r.each id v (at, left) in
-      let low : (r.served ≤ t) × (t < r.drawn) =
-      ticket_low r.served r.drawn t v.stage f.turn (subst (λ (st : PassStage). IsTicket st t) (sym is) refl) in
-      let q0 : ticket_count v ≡ 1 = waits_in v left ∙ ap has_ticket is in
-      let q1 : ticket_count w ≡ 1 = waits_in w left in
-      let sums = total_set ticket_count s.views id v w at in
+      let w : View = taken waiter h.value in
+      let q0 : ticket_count v ≡ 1 = waits_in v live.1 ∙ ap has_ticket is in
+      let q1 : ticket_count w ≡ 1 = waits_in w live.1 in
+      let sums = total_set ticket_count s.views id v w live.0 in
       let queue = r.queue in
-      let drawn = low.1 in
       changes s r (record {
         id = id;
         old = v;
         new = w;
-        live = (at, left);
-        left = left;
+        live = live;
+        left = live.1;
         same = refl;
+        joined = refl;
         log = r.log;
         drawn = r.drawn;
         served = r.served;
@@ -230,37 +298,28 @@ module _ {B : Type 0} (entries : B → List Entry) (terms_of : B → Terms) (ter
         words_are = set-get_or s.words 1 0 ∙ r.words;
         queue = omega arith;
         makers = r.makers;
-        fits = record {
-          terms_are = f.terms_are;
-          told_terms = f.told_terms;
-          seen = subst (λ (l : List Entry). IsPrefix l r.log) (sym h.log_is) (prefix_self r.log);
-          told = subst (IsPrefix v.told) (sym h.log_is) (prefix_trans v.told v.seen r.log f.told f.seen);
-          mine = f.mine;
-          own = f.mine ∙ ap (entries_by v.number) (sym h.log_is);
-          past = f.past;
-          few = f.few;
-          first = f.first;
-          others = f.others;
-          turn = (now, drawn);
-        };
-        others = λ j u other l. let g = r.each j u l in let a =
-            r.apart id j v u (λ e. other (sym e)) (at, left) l in
-            let b = r.apart j id u v other l (at, left) in let both =
-            apart_both {w = w} {u = u} a.numbers
-            (λ x here there. a.tickets x (subst (λ (st : PassStage). IsTicket st x) (sym is) here) there) a.past b.past in
-            (g, both.0, both.1);
-        place = inr record {
-          home = ap (λ (hs : Homes). set hs 0 none) h.home;
-          place = id;
-          holder = w;
-          ticket = t;
-          live = (set_here s.views id w (at_inside s.views id v at), left);
-          holds = refl;
-          all = h.log_is;
-        };
+        fits = took_fits s r waiter h now;
+        others = λ j u _ l. r.each j u l;
+        tickets = λ j u other l x here. (r.apart id j v u (λ e. other (sym e)) live l).tickets x
+            (subst (λ (st : PassStage). IsTicket st x) (sym is) here);
+        place = away_with (holder_set s.views id w t live live.1 refl) (ap (λ (hs : Homes). set hs 0 none) h.home) h.log_is;
       })
     where
-      open waiter use {id, view as v, ticket as t, waits as is}
+      open waiter use {id, view as v, live, ticket as t, waits as is}
+
+  -- what the pass has taken once its ticket is served
+  has_taken : (s : St) (r : Rule s) (id : ℕ) (me : Me (Option B) View) (it : EmptyWaiter me) → IsLive s.views id me.0
+      → (h : IsHome entries terms_of terms r.log s)
+      → HasTaken entries terms_of it.ticket me
+      (record me.0 { stage = Holds it.ticket; seen = entries h.value }, (0, Some h.value) ∷ me.1)
+  has_taken s r id me it live h = let f = r.each id me.0 live in record {
+    value = h.value;
+    view = refl;
+    slot = ap (λ (cs : List (ℕ × Option B)). (0, Some h.value) ∷ cs) it.empty;
+    terms = h.terms_are ∙ sym f.terms_are;
+    longer = subst (IsPrefix me.0.seen) (sym h.log_is) f.seen;
+    own = f.mine ∙ ap (entries_by me.0.number) (sym h.log_is);
+  }
 
   pub looks : (id slots : ℕ) (me : Me (Option B) View) → EmptyWaiter me
       → Allows Rule slots id me 1 (λ n. n) (λ n next. (u : ℕ) → me.0.stage ≡ Waits u
@@ -272,6 +331,7 @@ module _ {B : Type 0} (entries : B → List Entry) (terms_of : B → Terms) (ter
       ticket_low r.served r.drawn t v.stage f.turn (subst (λ (st : PassStage). IsTicket st t) (sym is) refl) in
       let queue = r.queue in let few = r.few in let passes = r.passes in let less = tickets_total s.views in
       let first = here.0 in let drawn = here.1 in
+      let one_ticket : (u : ℕ) → v.stage ≡ Waits u → t ≡ u = λ u is'. ap ticket_or (sym is ∙ is') in
       dite (ℕ_discrete (get_or s.words 1 0) (t % 2 ^ 64))
       (λ (hit : get_or s.words 1 0 ≡ t % 2 ^ 64).
       let same : r.served ≡ t = one_turn r.served t (2 ^ 64) first (omega arith) (sym word ∙ hit) in
@@ -282,15 +342,9 @@ module _ {B : Type 0} (entries : B → List Entry) (terms_of : B → Terms) (ter
         takes 0 (Some h.value),
         ap (λ (hs : Homes). get_elem? hs 0) h.home,
         took s r waiter h (sym same),
-        λ u is'. let e : t ≡ u = ap ticket_or (sym is ∙ is') in (
-          (λ _. subst (λ (x : ℕ). HasTaken entries terms_of x me (w, (0, Some h.value) ∷ me.1)) e record {
-            value = h.value;
-            view = refl;
-            slot = ap (λ (cs : List (ℕ × Option B)). (0, Some h.value) ∷ cs) free;
-            terms = h.terms_are ∙ sym f.terms_are;
-            longer = subst (IsPrefix v.seen) (sym h.log_is) f.seen;
-            own = f.mine ∙ ap (entries_by v.number) (sym h.log_is);
-          }),
+        λ u is'. let e = one_ticket u is' in (
+          (λ _. subst (λ (x : ℕ). HasTaken entries terms_of x me (w, (0, Some h.value) ∷ me.1)) e
+              (has_taken s r id me it (at, left) h)),
           (λ miss. absurd {A = (w, (0, Some h.value) ∷ me.1) ≡ me} (miss (hit ∙ ap (λ (x : ℕ). x % 2 ^ 64) e))),
         ),
       ))
@@ -299,13 +353,11 @@ module _ {B : Type 0} (entries : B → List Entry) (terms_of : B → Terms) (ter
         keeps,
         tt,
         unmoved s r 1 id v at,
-        λ u is'. let e : t ≡ u = ap ticket_or (sym is ∙ is') in (
-          (λ hit. absurd (miss (hit ∙ ap (λ (x : ℕ). x % 2 ^ 64) (sym e)))),
-          (λ _. refl),
-        ),
+        λ u is'.
+            ((λ hit. absurd (miss (hit ∙ ap (λ (x : ℕ). x % 2 ^ 64) (sym (one_ticket u is'))))), (λ _. refl)),
       ))
     where
-      open it use {ticket as t, left, waits as is, empty as free}
+      open it use {ticket as t, left, waits as is}
 
   -- who has the lock is the holder of the value that is away
   pub holder_here : (s : St) (r : Rule s) (holder : Holder s.views)
@@ -327,21 +379,47 @@ module _ {B : Type 0} (entries : B → List Entry) (terms_of : B → Terms) (ter
     where
       open holder use {id, view as v, live, ticket as t, holds as is}
 
+  -- the pass as it counts an entry of its own
+  abbrev noted : {views : List View} → Holder views → Entry → View
+  noted holder e = record holder.view
+      { seen = holder.view.seen ++ e ∷ []; mine = entries_by holder.view.number (holder.view.seen ++ e ∷ []) }
+
+  counted_fits : (s : St) (r : Rule s) (holder : Holder s.views) (e : Entry) → e.maker ≡ holder.view.number
+      → Fits terms (r.log ++ e ∷ []) r.count r.served r.drawn (noted holder e)
+  counted_fits s r holder e own =
+      let f = r.each id v live in
+      let log : List Entry = r.log ++ e ∷ [] in
+      let all : v.seen ++ e ∷ [] ≡ log = ap (λ (l : List Entry). l ++ e ∷ []) (holder_here s r holder).1 in record {
+        terms_are = f.terms_are;
+        told_terms = f.told_terms;
+        seen = subst (λ (l : List Entry). IsPrefix l log) (sym all) (prefix_self log);
+        told = prefix_longer v.told v.seen (e ∷ []) f.told;
+        mine = ap (entries_by v.number) all;
+        own = refl;
+        past = λ k j at. let p =
+            f.past k j at in
+            record {
+              mine = p.mine ∙ sym (made_other j.number r.log e (λ same. p.other (sym same ∙ own)));
+              few = p.few;
+              other = p.other;
+            };
+        few = f.few;
+        first = f.first;
+        others = f.others;
+        turn = f.turn;
+      }
+    where
+      open holder use {id, view as v, live}
+
   counted : (s : St) (r : Rule s) (holder : Holder s.views) (e : Entry) → e.maker ≡ holder.view.number
       → Rule record {
         words = set s.words 2 ((get_or s.words 2 0 + 1) % 2 ^ 64);
         homes = s.homes;
-        views = set s.views holder.id
-            (record holder.view
-            { seen = holder.view.seen ++ e ∷ []; mine = entries_by holder.view.number (holder.view.seen ++ e ∷ []) });
+        views = set s.views holder.id (noted holder e);
       }
   counted s r holder e own =
-      let w : View = record v { seen = v.seen ++ e ∷ []; mine = entries_by v.number (v.seen ++ e ∷ []) } in
-      let f = r.each id v live in let h = holder_here s r holder in
-      let log : List Entry = r.log ++ e ∷ [] in
-      let all : v.seen ++ e ∷ [] ≡ log = ap (λ (l : List Entry). l ++ e ∷ []) h.1 in
-      let queue = r.queue in
-      let q0 : ticket_count v ≡ ticket_count w = refl in
+      let w : View = noted holder e in let f = r.each id v live in let h = holder_here s r holder in
+      let queue = r.queue in let q0 : ticket_count v ≡ ticket_count w = refl in
       let sums = total_set ticket_count s.views id v w live.0 in
       changes s r (record {
         id = id;
@@ -350,7 +428,8 @@ module _ {B : Type 0} (entries : B → List Entry) (terms_of : B → Terms) (ter
         live = live;
         left = live.1;
         same = refl;
-        log = log;
+        joined = refl;
+        log = r.log ++ e ∷ [];
         drawn = r.drawn;
         served = r.served;
         words = set s.words 2 ((get_or s.words 2 0 + 1) % 2 ^ 64);
@@ -360,41 +439,12 @@ module _ {B : Type 0} (entries : B → List Entry) (terms_of : B → Terms) (ter
             omega arith);
         queue = omega arith;
         makers = λ m more. made_other m r.log e (λ same. let few = f.few in omega arith) ∙ r.makers m more;
-        fits = record {
-          terms_are = f.terms_are;
-          told_terms = f.told_terms;
-          seen = subst (λ (l : List Entry). IsPrefix l log) (sym all) (prefix_self log);
-          told = prefix_longer v.told v.seen (e ∷ []) f.told;
-          mine = ap (entries_by v.number) all;
-          own = refl;
-          past = λ k j at. let p =
-              f.past k j at in
-              record {
-                mine = p.mine ∙ sym (made_other j.number r.log e (λ same. p.other (sym same ∙ own)));
-                few = p.few;
-                other = p.other;
-              };
-          few = f.few;
-          first = f.first;
-          others = f.others;
-          turn = f.turn;
-        };
-        others = λ j u other l. let g = r.each j u l in let a =
-            r.apart id j v u (λ z. other (sym z)) live l in let b = r.apart j id u v other l live in let both =
-            apart_both {w = w} {u = u} a.numbers a.tickets a.past b.past in (
-              longer_list e g (λ same. a.numbers (sym own ∙ same)) (λ k j' at same. b.past k j' at (sym same ∙ own)),
-              both.0,
-              both.1,
-            );
-        place = inr record {
-          home = h.0;
-          place = id;
-          holder = w;
-          ticket = t;
-          live = (set_here s.views id w (at_inside s.views id v live.0), live.1);
-          holds = is;
-          all = all;
-        };
+        fits = counted_fits s r holder e own;
+        others = λ j u other l. let a = r.apart id j v u (λ z. other (sym z)) live l in
+            let b = r.apart j id u v other l live in
+            longer_list e (r.each j u l) (λ same. a.numbers (sym own ∙ same)) (λ k j' at same. b.past k j' at (sym same ∙ own));
+        tickets = λ j u other l. (r.apart id j v u (λ z. other (sym z)) live l).tickets;
+        place = away_with (holder_set s.views id w t live live.1 is) h.0 (ap (λ (l : List Entry). l ++ e ∷ []) h.1);
       })
     where
       open holder use {id, view as v, live, ticket as t, holds as is}
@@ -418,57 +468,80 @@ module _ {B : Type 0} (entries : B → List Entry) (terms_of : B → Terms) (ter
     where
       open it use {ticket as t, entry as e, left, holds as is, own, list_is as list}
 
+  -- no other pass has the ticket that is served
+  not_now : (s : St) (r : Rule s) (holder : Holder s.views) (j : ℕ) (u : View) → j ≢ holder.id → IsLive s.views j u
+      → IsTicket u.stage r.served → ⊥
+  not_now s r holder j u other l there = (r.apart j holder.id u holder.view other l holder.live).tickets r.served there
+      (subst (λ (st : PassStage). IsTicket st r.served) (sym holder.holds) (holder_here s r holder).2)
+
+  -- the value is back in its slot, and nobody has the lock
+  home_again : (s : St) (r : Rule s) (holder : Holder s.views) (words : List ℕ) (homes : Homes) (value : B)
+      → homes ≡ some (Some value) ∷ [] → entries value ≡ r.log → terms_of value ≡ terms
+      → Place r.log record { words = words; homes = homes; views = set s.views holder.id (record holder.view { stage = Idle }) }
+  home_again s r holder words homes value home list same = inl record {
+    value = value;
+    home = home;
+    log_is = list;
+    terms_are = same;
+    free = live_set (λ _ u. Free u.stage) s.views holder.id (record holder.view { stage = Idle }) (idle_free Idle refl)
+        (λ j u other l x holds. let theirs : InTurn r.served r.drawn (Holds x) =
+        subst (InTurn r.served r.drawn) holds (r.each j u l).turn in
+        not_now s r holder j u other l (subst (λ (st : PassStage). IsTicket st r.served) (sym holds) theirs.0));
+  }
+
+  left_with : (s : St) (r : Rule s) (holder : Holder s.views) (homes : Homes) (value : B)
+      → homes ≡ some (Some value) ∷ [] → entries value ≡ holder.view.seen → terms_of value ≡ holder.view.terms
+      → Rule record {
+        words = set s.words 1 ((get_or s.words 1 0 + 1) % 2 ^ 64);
+        homes = homes;
+        views = set s.views holder.id (record holder.view { stage = Idle });
+      }
+  left_with s r holder homes value home list same =
+      let w : View = record v { stage = Idle } in let f = r.each id v live in let h = holder_here s r holder in
+      let q0 : ticket_count v ≡ 1 = waits_in v live.1 ∙ ap has_ticket is in
+      let q1 : ticket_count w ≡ 0 = waits_in w live.1 in
+      let sums = total_set ticket_count s.views id v w live.0 in
+      let queue = r.queue in
+      let words : List ℕ = set s.words 1 ((get_or s.words 1 0 + 1) % 2 ^ 64) in
+      changes s r (record {
+        id = id;
+        old = v;
+        new = w;
+        live = live;
+        left = live.1;
+        same = refl;
+        joined = refl;
+        log = r.log;
+        drawn = r.drawn;
+        served = r.served + 1;
+        words = words;
+        homes = homes;
+        words_are = ap (λ (ws : List ℕ). set ws 1 ((get_or ws 1 0 + 1) % 2 ^ 64)) r.words
+            ∙ ap (λ (k : ℕ). r.drawn % 2 ^ 64 ∷ k ∷ length r.log % 2 ^ 64 ∷ []) (omega arith);
+        queue = omega arith;
+        makers = r.makers;
+        fits = restage f tt;
+        others = λ j u other l. let g = r.each j u l in
+            refit g (turn_next r.served r.drawn u.stage g.turn (not_now s r holder j u other l));
+        tickets = λ j u other l x here there. absurd here;
+        place = home_again s r holder words homes value home (list ∙ h.1) (same ∙ f.terms_are);
+      })
+    where
+      open holder use {id, view as v, live, holds as is}
+
   pub leaves : (id slots : ℕ) (me : Me (Option B) View) {value : B} → IsTurn me (Some value)
       → entries value ≡ me.0.seen → terms_of value ≡ me.0.terms
       → Allows Rule slots id me 1 (λ n. (n + 1) % 2 ^ 64) (λ n next. (next.0 ≡ record me.0 { stage = Idle })
       × (next.1 ≡ []))
   leaves id slots me {value} it list same s r deep at low =
-      let v = me.0 in let w : View = record v { stage = Idle } in let f = r.each id v (at, left) in let h =
-      holder_here s r (record { id = id; view = v; live = (at, left); ticket = number; holds = is }) in
-      let q0 : ticket_count v ≡ 1 = waits_in v left ∙ ap has_ticket is in
-      let q1 : ticket_count w ≡ 0 = waits_in w left in
-      let sums = total_set ticket_count s.views id v w at in
-      let queue = r.queue in
-      let not_now : (j : ℕ) (u : View) → j ≢ id → IsLive s.views j u → IsTicket u.stage r.served → ⊥ =
-      λ j u other l there. (r.apart j id u v other l (at, left)).tickets r.served there
-      (subst (λ (st : PassStage). IsTicket st r.served) (sym is) h.2) in (
-        w,
+      let holder : Holder s.views =
+      record { id = id; view = me.0; live = (at, it.left); ticket = it.number; holds = it.stage } in (
+        record me.0 { stage = Idle },
         gives,
         tt,
-        changes s r (record {
-          id = id;
-          old = v;
-          new = w;
-          live = (at, left);
-          left = left;
-          same = refl;
-          log = r.log;
-          drawn = r.drawn;
-          served = r.served + 1;
-          words = set s.words 1 ((get_or s.words 1 0 + 1) % 2 ^ 64);
-          homes = put_back s.homes me.1;
-          words_are = ap (λ (ws : List ℕ). set ws 1 ((get_or ws 1 0 + 1) % 2 ^ 64)) r.words
-              ∙ ap (λ (k : ℕ). r.drawn % 2 ^ 64 ∷ k ∷ length r.log % 2 ^ 64 ∷ []) (omega arith);
-          queue = omega arith;
-          makers = r.makers;
-          fits = restage f tt;
-          others = λ j u other l. let g = r.each j u l in let a =
-              r.apart id j v u (λ e. other (sym e)) (at, left) l in
-              let b = r.apart j id u v other l (at, left) in let both =
-              apart_both {w = w} {u = u} a.numbers (λ x here there. absurd here) a.past b.past in
-              (refit g (turn_next r.served r.drawn u.stage g.turn (not_now j u other l)), both.0, both.1);
-          place = inl record {
-            value = value;
-            home = ap (put_back s.homes) slot ∙ ap (λ (hs : Homes). set hs 0 (some (Some value))) h.0;
-            log_is = list ∙ h.1;
-            terms_are = same ∙ f.terms_are;
-            free = live_set (λ _ u. Free u.stage) s.views id w (idle_free Idle refl)
-                (λ j u other l x holds. let theirs : InTurn r.served r.drawn (Holds x) =
-                subst (InTurn r.served r.drawn) holds (r.each j u l).turn in
-                not_now j u other l (subst (λ (st : PassStage). IsTicket st r.served) (sym holds) theirs.0));
-          };
-        }),
-        (refl, ap rest slot),
+        left_with s r holder (put_back s.homes me.1) value
+            (ap (put_back s.homes) it.held
+            ∙ ap (λ (hs : Homes). set hs 0 (some (Some value))) (holder_here s r holder).0)
+            list same,
+        (refl, ap rest it.held),
       )
-    where
-      open it use {number, left, stage as is, held as slot}

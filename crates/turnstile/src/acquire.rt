@@ -39,8 +39,7 @@ pub(crate) fn take<B: Kept, R: Wait>(
     wait(rt, shared, wakers.waker_of(ticket), &mut place, ticket);
     let slot = shared.exchange(&mut place, VALUE, None);
     // by the invariant the value is in the slot until the pass whose ticket is served takes it
-    let Some(value) = slot else { unreachable!() };
-    Turn::begin(place, value)
+    Turn::begin(place, slot.unwrap())
 }
 
 /// Waits until the ticket is served, asleep at its bell. The pass that is next stays awake for a
@@ -69,7 +68,7 @@ fn wait<B: Kept, R: Wait>(
         };
         let serving = look(shared, place, ticket);
         if serving == ticket {
-            return;
+            break;
         }
         tries = match sleep {
             // Its bell rang, so this ticket is most likely next: it looks awake again.
@@ -86,6 +85,4 @@ fn wait<B: Kept, R: Wait>(
             None => SPINS,
         };
     }
-    // `forever` gives no end: the only way out is to be served.
-    unreachable!()
 }

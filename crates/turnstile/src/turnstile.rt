@@ -177,7 +177,6 @@ impl<B: Kept> Turnstile<B> {
         let slot = closed.take(VALUE);
         closed.free();
         // No other pass is left and this one holds no lock, so the value is in its slot.
-        let Some(value) = slot else { unreachable!() };
-        value
+        slot.unwrap()
     }
 }

@@ -1,25 +1,35 @@
-use Rattle.std.proofs.Common.{◌≡◌, arith, sym, ap, ◌∙◌}
+use Rattle.std.proofs.Common.{◌≡◌, Option, None, Some, arith, refl, sym, ap, subst, ◌∙◌}
+use Rattle.std.specs.Prelude.{IsSome, IsSomeAnd}
 use Rattle.plan_cert.specs.PlanSlots.{total_bytes}
 use Rattle.slot_calendar.specs.Plays.{whole_play}
 use Rattle.admission.specs.Histories.{state_after}
-use Rattle.admission.proofs.Admissions.{open-entry, open-inside}
+use Rattle.admission.proofs.Admissions.{IsOpenEntry, open-entry, open-inside}
 use Rattle.admission.proofs.Calendars.{HoldsWhole, cut-allowed, stands-halted}
 use Rattle.admission.proofs.operations.release_play.Goals as goal
 use Rattle.admission.proofs.operations.release_play.Goals.{After-law_booked_plan_can_be_released}
 
+some_there : {A : Type 0} (o : Option A) (P : A → Type 0) → IsSomeAnd o P → IsSome o
+some_there None P here = absurd here
+some_there (Some x) P here = refl
+
+-- the plan and the start that it says are the play's
+found : (c : After-law_booked_plan_can_be_released)
+    → (open_ : IsOpenEntry c.args.entries.now c.args.number c.args.keep c.index-entries-number.result)
+    → (c.unwrap-start.result.0.now ≡ open_.held.play.segments) × (c.unwrap-start.result.1 ≡ open_.held.play.start)
+found c open_ =
+    subst (λ o. IsSomeAnd o (λ p. (p.0.now ≡ open_.held.play.segments) × (p.1 ≡ open_.held.play.start)))
+    c.unwrap-start.ensures (c.admission_of.ensures _ _ _ open_.command_is open_.answer_is)
+
 -- the play has all its bytes, as its entry admitted it
 whole : (c : After-law_booked_plan_can_be_released)
-    → HoldsWhole (state_after c.args.entries.now) c.args.number c.in-Admitted.start c.in-Play.plan
+    → HoldsWhole (state_after c.args.entries.now) c.args.number c.unwrap-start.result.1 c.unwrap-start.result.0.now
 whole c =
-    let found = open-entry c.requires.legal c.requires.can c.index-entries-number.is in
-    let play = found.held.play in
-    let plan : c.in-Play.plan ≡ play.segments = cc (c.in-Play.is, found.command_is) in
-    let start : c.in-Admitted.start ≡ play.start = cc (c.in-Admitted.is, found.answer_is) in
-    record {
-      held = found.held;
-      is = found.is;
-      play_is = found.play_is ∙ ap (λ s. whole_play s play.segments) (sym start)
-          ∙ ap (λ p. whole_play c.in-Admitted.start p) (sym plan);
+    let open_ = open-entry c.requires.legal c.requires.can c.index-entries-number.is in
+    let play = open_.held.play in let is = found c open_ in record {
+      held = open_.held;
+      is = open_.is;
+      play_is = open_.play_is ∙ ap (λ s. whole_play s play.segments) (sym is.1)
+          ∙ ap (λ p. whole_play c.unwrap-start.result.1 p) (sym is.0);
     }
 
 pub offset_bounds-entries-number : goal.offset_bounds-entries-number
@@ -34,31 +44,23 @@ pub bounds-entries-number : goal.bounds-entries-number
 bounds-entries-number c =
     open-inside c.args.calendar.now.steps c.args.entries.now c.args.number c.args.keep c.requires.legal c.requires.can
 
-pub unreachable-requires : goal.unreachable-requires
-unreachable-requires c =
-    let entry = c.index-entries-number in
-    let found = open-entry c.requires.legal c.requires.can entry.is in
-    c.in_default.not-Play _ _ found.command_is
-
-pub unreachable-requires-in_default-answer : goal.unreachable-requires-in_default-answer
-unreachable-requires-in_default-answer c =
-    let entry = c.index-entries-number in
-    let found = open-entry c.requires.legal c.requires.can entry.is in
-    c.in_default-answer.not-Admitted _ found.answer_is
+pub unwrap-start-requires : goal.unwrap-start-requires
+unwrap-start-requires c =
+    let open_ = open-entry c.requires.legal c.requires.can c.index-entries-number.is in
+    some_there c.admission_of.result _ (c.admission_of.ensures _ _ _ open_.command_is open_.answer_is)
 
 pub release-requires-clause-keep : goal.release-requires-clause-keep
 release-requires-clause-keep c =
-    let entry = c.index-entries-number in
-    let found = open-entry c.requires.legal c.requires.can entry.is in
-    let plan : c.in-Play.plan ≡ found.held.play.segments = cc (c.in-Play.is, found.command_is) in
-    omega (arith, found.small, ap total_bytes plan)
+    let open_ = open-entry c.requires.legal c.requires.can c.index-entries-number.is in
+    let is = found (goal.at.release-requires-clause-keep c).After-law_booked_plan_can_be_released open_ in
+    omega (arith, open_.small, ap total_bytes is.0)
 
 pub release-requires-clause-booked : goal.release-requires-clause-booked
 release-requires-clause-booked c =
     cut-allowed c.args.keep (whole (goal.at.release-requires-clause-booked c).After-law_booked_plan_can_be_released)
     c.requires.follows.stands
-    (λ before after. c.law_booked_plan_can_be_released.ensures c.args.calendar.now before after c.in-Play.plan
-    c.in-Admitted.start c.args.keep)
+    (λ before after. c.law_booked_plan_can_be_released.ensures c.args.calendar.now before after
+    c.unwrap-start.result.0.now c.unwrap-start.result.1 c.args.keep)
 
 pub returns-clause-next : goal.returns-clause-next
 returns-clause-next c = λ place. record {
