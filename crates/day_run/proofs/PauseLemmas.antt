@@ -12,7 +12,7 @@ use Rattle.film_run.specs.declared.runs.Run.{Run}
 use Rattle.film_run.specs.Pauses.{IsHalt, IsRemainingRun}
 use Rattle.film_run.specs.Runs.{Fits, IsRun}
 use Rattle.pacer.specs.PacerStates.{IsPacerState, PacerState, first_slots, is_done, slots_through}
-use Rattle.day_run.specs.declared.clients.Play.{Play}
+use Rattle.day_run.specs.declared.clients.ClientPlay.{ClientPlay}
 use Rattle.day_run.specs.declared.clients.Rest.{Rest}
 use Rattle.day_run.specs.Clients.{IsPlaying, IsRest, IsStopping}
 use Rattle.day_run.specs.MediaPieces.{media_pieces, media_sizes}
@@ -24,7 +24,7 @@ undone-apart p undone some same =
     subst T e (eqb_refl p.keep)
 
 -- the halt of a play that isn't done
-pub halts : {play : Play} {keep : ℕ} (last : Option ℕ) → IsPlaying play → is_done play.pacer ≡ false
+pub halts : {play : ClientPlay} {keep : ℕ} (last : Option ℕ) → IsPlaying play → is_done play.pacer ≡ false
     → slots_through last ≡ play.pacer.passed
     → IsBoundaryAfter play.pacer.pieces (play.pacer.before + play.pacer.sent) (play.pacer.before + keep)
     → keep ≤ play.pacer.keep → IsHalt play.plan last keep
@@ -64,7 +64,7 @@ halts {play} (Some last) playing undone passed boundary most =
     (inside, omega (arith, through, boundary.after), omega (arith, most, playing.whole))
 
 -- what a halt leaves of a play, whose halt is at a boundary
-pub record LeftRun (play : Play) (keep : ℕ) (left : Run) : Type 0 where
+pub record LeftRun (play : ClientPlay) (keep : ℕ) (left : Run) : Type 0 where
   pub last : Option ℕ
   pub boundary : IsBoundary play.pacer.pieces (play.pacer.before + keep)
   pub left_is : IsRemainingRun (media_sizes play.rest.medium.now) play.rest.playback play.rest.run play.plan last keep
@@ -73,7 +73,7 @@ pub record LeftRun (play : Play) (keep : ℕ) (left : Run) : Type 0 where
   pub fits : Fits play.rest.playback.buffer left
 
 -- it can be sent on
-pub left-rest : {play : Play} {keep : ℕ} {left : Run} → IsPlaying play → LeftRun play keep left
+pub left-rest : {play : ClientPlay} {keep : ℕ} {left : Run} → IsPlaying play → LeftRun play keep left
     → IsRest (record play.rest { run = left })
 left-rest {play} {keep} {left} playing own = record {
   playback = playing.rest.playback;
@@ -87,7 +87,7 @@ left-rest {play} {keep} {left} playing own = record {
 }
 
 -- what a play that was halted goes on to send
-pub left-stopping : {play : Play} {p : PacerState} {keep : ℕ} {rest : Rest} → IsPlaying play → IsRest rest
+pub left-stopping : {play : ClientPlay} {p : PacerState} {keep : ℕ} {rest : Rest} → IsPlaying play → IsRest rest
     → p ≡ record play.pacer { keep = keep }
     → IsPacerState p → IsStopping (record { keep = keep; rest = rest; pacer = p })
 left-stopping playing is e pacing = record {

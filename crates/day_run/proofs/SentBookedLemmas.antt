@@ -24,7 +24,7 @@ use Rattle.admission.proofs.Halts.{plays-split, split}
 use Rattle.admission.proofs.HistoryPrefixes.{state-push}
 use Rattle.day_run.specs.BookingBalance.{AreHeldOf, IsBalanced, IsHeld, share_of}
 use Rattle.day_run.specs.Days.{entry_by, halt_by}
-use Rattle.day_run.specs.ClientStates.{Idle, Playing, Pausing, Paused, Play, ClientState, Rest}
+use Rattle.day_run.specs.ClientStates.{Idle, Playing, Pausing, Paused, ClientPlay, ClientState, Rest}
 use Rattle.day_run.specs.ClientStates.{booking_of, growth, is_playing, sent_between, sent_by}
 use Rattle.day_run.proofs.OwnHalts.{halts-none, halts-push}
 use Rattle.day_run.proofs.SlotSums.{sum-slots}
@@ -153,7 +153,7 @@ shut-held entries c (Playing play) shut = absurd shut
 shut-held entries c (Pausing stop rest) shut = tt
 shut-held entries c (Paused rest) shut = tt
 
-maker-more : (entries : List Entry) (e : Entry) (c : ℕ) (play : Play) → IsHeld entries c play
+maker-more : (entries : List Entry) (e : Entry) (c : ℕ) (play : ClientPlay) → IsHeld entries c play
     → play_numbered play.number (state_after (entries ++ e ∷ [])).held
     ≡ Some (admitted_play play.number play.start play.plan) → IsHeld (entries ++ e ∷ []) c play
 maker-more entries e c play its held = record {
@@ -227,7 +227,7 @@ record HaltedApart (c d : ℕ) (entries : List Entry) (number : ℕ) : Type 0 wh
   pub maker : (none : Entry) → (get_or entries number none).maker ≡ c
   pub other : d ≡ c → ⊥
 
-other-halted : {entries : List Entry} {c d : ℕ} {play : Play} (number keep : ℕ) → HaltedApart c d entries number
+other-halted : {entries : List Entry} {c d : ℕ} {play : ClientPlay} (number keep : ℕ) → HaltedApart c d entries number
     → IsHeld entries d play → IsHeld (entries ++ halt_by c number keep) d play
 other-halted {entries} {c} {d} {play} number keep halted its =
     let e = entry_by c (commands.Halt number keep) Halted in
@@ -280,7 +280,7 @@ pub record BalancedClient (heard c : ℕ) (entries : List Entry) (states : List 
   pub balanced : IsBalanced entries states heard
 
 -- a client's play was halted, and the client books what is kept of it
-pub balanced-halt : {entries : List Entry} {states : List ClientState} {heard : ℕ} {play : Play} (c keep : ℕ)
+pub balanced-halt : {entries : List Entry} {states : List ClientState} {heard : ℕ} {play : ClientPlay} (c keep : ℕ)
     (next : ClientState)
     → BalancedClient heard c entries states (Playing play) → IsShut next
     → ((t : ℕ) → heard < t → share_of t next ≡ share_at t (truncated_play play.start play.plan keep))
@@ -380,7 +380,7 @@ push-held entries next c (Paused rest) its = tt
 
 -- a client's play was admitted
 pub record ClientPlayed (entries : List Entry) (c : ℕ) : Type 0 where
-  pub play : Play
+  pub play : ClientPlay
   pub e : Entry
   pub number : play.number ≡ length entries
   pub maker : e.maker ≡ c

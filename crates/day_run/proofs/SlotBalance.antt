@@ -18,7 +18,7 @@ use Rattle.admission.specs.Machine.{AdmittedPlay, admitted_play, booked_in, play
 use Rattle.day_run.specs.BookingBalance.{AreHeldOf, IsBalanced, IsHeld, share_of}
 use Rattle.day_run.specs.Days.{DayState, at_slot, done_halt, halt_by, halt_entries, last_journal, open_halt}
 use Rattle.day_run.specs.Clients.{after_open}
-use Rattle.day_run.specs.ClientStates.{Idle, Playing, Pausing, Paused, Play, Rest, ClientState}
+use Rattle.day_run.specs.ClientStates.{Idle, Playing, Pausing, Paused, ClientPlay, Rest, ClientState}
 use Rattle.day_run.specs.ClientStates.{after_play, after_sending, booking_of, is_done}
 use Rattle.day_run.specs.ClientStates.{pausing_state}
 use Rattle.day_run.specs.ClientStates.{sent_by}
@@ -107,7 +107,7 @@ balanced-sending entries states heard slot le balanced = record {
 }
 
 -- a play that is done is halted
-done-shares : (t slot : ℕ) (play : Play) → slot < t → is_done slot play ≡ true
+done-shares : (t slot : ℕ) (play : ClientPlay) → slot < t → is_done slot play ≡ true
     → share_of t Idle ≡ share_at t (truncated_play play.start play.plan (total_bytes play.plan))
 done-shares t slot play later done =
     let all : (sent_by (booking_of play) slot == total_bytes play.plan) ≡ true =
@@ -148,7 +148,7 @@ past-share {slot} {start} {plan} t past kept =
       sent-rises plan start (t + 1) (slot + 1) (omega (arith, past)),
     )
 
-pub stays-halt : {slot : ℕ} (entries : List Entry) (c keep : ℕ) (play : Play)
+pub stays-halt : {slot : ℕ} (entries : List Entry) (c keep : ℕ) (play : ClientPlay)
     → play_numbered play.number (state_after entries).held ≡ Some (admitted_play play.number play.start play.plan)
     → KeepsSent slot play.start keep play.plan → Stays slot entries (entries ++ halt_by c play.number keep)
 stays-halt entries c keep play held kept t past =
@@ -185,12 +185,12 @@ kept-step {slot} {entries} c at balanced =
       places = ap places_taken (append-nil entries);
     }
 
-abbrev pub held-play : {entries : List Entry} (play : Play)
+abbrev pub held-play : {entries : List Entry} (play : ClientPlay)
     → play_numbered play.number (state_after entries).held ≡ Some (admitted_play play.number play.start play.plan)
     → HeldPlay entries
 held-play play held = record { number = play.number; start = play.start; plan = play.plan; held = held }
 
-pub its-held : {entries : List Entry} {states : List ClientState} {heard : ℕ} {play : Play} (c : ℕ)
+pub its-held : {entries : List Entry} {states : List ClientState} {heard : ℕ} {play : ClientPlay} (c : ℕ)
     → c < length states → get_or states c Idle ≡ Playing play → IsBalanced entries states heard
     → play_numbered play.number (state_after entries).held ≡ Some (admitted_play play.number play.start play.plan)
 its-held {entries} {play} c inside at balanced =
@@ -198,7 +198,7 @@ its-held {entries} {play} c inside at balanced =
     let its : IsHeld entries c play = subst H at (balanced.held c inside) in
     its.held
 
-step-play : {slot : ℕ} {entries : List Entry} {states : List ClientState} {play : Play} {done : Bool} (c : ℕ)
+step-play : {slot : ℕ} {entries : List Entry} {states : List ClientState} {play : ClientPlay} {done : Bool} (c : ℕ)
     → is_done slot play ≡ done
     → BalancedClient slot c entries states (Playing play)
     → IsStep slot entries (entries ++ cond done (halt_by c play.number (total_bytes play.plan)) [])

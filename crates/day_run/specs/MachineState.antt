@@ -13,7 +13,7 @@ use Rattle.day_run.specs.declared.machine.LineAnswer.{LineAnswer}
 use Rattle.day_run.specs.declared.machine.LineAnswer.TheVariants as tolds
 use Rattle.day_run.specs.Clients.{AreBooked, AreGoing, AreTimed, AreUndone, state_of}
 use Rattle.report.specs.JournalTexts.{journal_text}
-use Rattle.day_run.specs.Days.{AreLineSteps, Link, DayState, first_moment}
+use Rattle.day_run.specs.Days.{AreLineSteps, SharedLink, DayState, first_moment}
 use Rattle.day_script.specs.LineTexts.{fault_text, full_text, offer_text, state_text}
 use Rattle.day_run.specs.MediaContents.{media_content}
 
@@ -35,7 +35,7 @@ abbrev pub IsDayMachine : DayMachine → Type 0
 IsDayMachine r = IsSoundDay r.slot_units r.heard r.book.entries r.clients.items
 
 -- the link of a day, and how far the day has come
-abbrev pub link_on : DayMachine → Link
+abbrev pub link_on : DayMachine → SharedLink
 link_on r = record {
   steps = r.book.steps;
   limit = r.book.limit;
@@ -70,11 +70,11 @@ pub record IsPrinted (before after : List ℕ) (Is : List ℕ → Type 0) : Type
   pub is : Is text
 
 -- lines were run from a day's beginning on, and this is all that they printed
-pub record HasRun (link : Link) (lines : List Line) (text : List ℕ) (moment : DayState) : Type 0
-  where
-    pub texts : List (List ℕ)
-    pub text_is : text ≡ flat_map (λ (t : List ℕ). t) texts
-    pub run : AreLineSteps link lines texts first_moment moment
+pub record HasRun (link : SharedLink) (lines : List Line) (text : List ℕ) (moment : DayState)
+    : Type 0 where
+  pub texts : List (List ℕ)
+  pub text_is : text ≡ flat_map (λ (t : List ℕ). t) texts
+  pub run : AreLineSteps link lines texts first_moment moment
 
 -- the link and the sources stay
 pub record IsKept (old new : DayMachine) : Type 0 where

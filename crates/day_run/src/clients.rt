@@ -35,7 +35,7 @@ pub(crate) struct Rest<'r> {
 
 /// A play whose booking is open.
 #[derive(Drop)]
-pub(crate) struct Play<'r> {
+pub(crate) struct ClientPlay<'r> {
     /// The place of its admission.
     pub(crate) number: u64,
     /// What was to be sent as it began.
@@ -60,7 +60,7 @@ pub(crate) enum Client<'r> {
     /// It plays nothing.
     Idle,
     /// Its play is open.
-    Playing(Play<'r>),
+    Playing(ClientPlay<'r>),
     /// Its play was halted, and the frame or report in hand isn't sent to its end.
     Pausing(PausingPlay<'r>),
     /// Its play was halted, and this is left to be sent.
@@ -239,7 +239,7 @@ fn send(pacer: &mut Pacer<Sending<'_>>, slot: u64) -> u64
 
 /// A play as it is paused, and how it is to be halted. A pause is done at once where all that it
 /// keeps was sent.
-fn pause_play<'r>(play: Play<'r>) -> (Halt, Client<'r>)
+fn pause_play<'r>(play: ClientPlay<'r>) -> (Halt, Client<'r>)
     requires playing { IsPlaying play }
     requires undone { is_done play.pacer ≡ false }
     ensures number { result.0.number ≡ play.entry.number }
@@ -251,7 +251,7 @@ fn pause_play<'r>(play: Play<'r>) -> (Halt, Client<'r>)
     ensures timed { (heard : ℕ) → play.entry.pacer.passed ≡ heard + 1 - play.entry.pacer.start →
         IsTimed heard result.1 }
 {
-    let Play {
+    let ClientPlay {
         number,
         rest,
         plan,

@@ -170,7 +170,8 @@ fn advance(machine: &mut DayMachine<'_>, later: u64, counts: &mut FairTotals)
     ensures kept { IsKept machine.old machine.new }
     ensures heard { machine.new.heard ≡ machine.old.heard + later }
     ensures moment { day_state_of machine.new ≡ at_later (day_state_of machine.old) later }
-    ensures counts { counts.new ≡ with_slot counts.old (day_state_of machine.old) machine.new.heard }
+    ensures counts { counts.new ≡ with_slot counts.old (day_state_of machine.old)
+        machine.new.heard }
     ensures fitting { IsFitting machine.new.heard counts.new }
 {
     if later > 0 {

@@ -123,7 +123,8 @@ impl<'r> DayMachine<'r> {
         // answers: what the definition of a `play` line says
         ensures line { IfOk result (λ told.
             IsPlayLine (link_on self.old) client (rest_at (link_on self.old) source buffer delay)
-            (day_state_of self.old) (day_state_of self.new) (reply_text self.new.book.entries told)) }
+            (day_state_of self.old) (day_state_of self.new)
+            (reply_text self.new.book.entries told)) }
     {
         if self.clients[client as usize].is_busy() {
             return Ok(LineAnswer::State);
@@ -147,7 +148,8 @@ impl<'r> DayMachine<'r> {
         ensures heard { OnOk result (self.new.heard ≡ self.old.heard) }
         ensures line { IfOk result (λ told.
             IsResumeLine (link_on self.old) client (state_at (day_state_of self.old) client)
-            (day_state_of self.old) (day_state_of self.new) (reply_text self.new.book.entries told)) }
+            (day_state_of self.old) (day_state_of self.new)
+            (reply_text self.new.book.entries told)) }
     {
         // A resume is a new play of what is left, with a new plan. So it can be refused as any
         // play.
@@ -166,7 +168,8 @@ impl<'r> DayMachine<'r> {
         ensures heard { OnOk result (self.new.heard ≡ self.old.heard) }
         ensures asked { IfOk result (λ told.
             IsAsked (link_on self.old) client (rest_of rest.entry)
-            (day_state_of self.old) (day_state_of self.new) (reply_text self.new.book.entries told)) }
+            (day_state_of self.old) (day_state_of self.new)
+            (reply_text self.new.book.entries told)) }
     {
         match plan_of(alloc, rest.medium, &rest.playback, &rest.run) {
             Ok(plan) => {
