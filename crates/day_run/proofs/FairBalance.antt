@@ -14,6 +14,7 @@ use Rattle.admission.specs.Histories.{state_after}
 use Rattle.admission.specs.Machine.{booked_in}
 use Rattle.day_script.specs.declared.fair_totals.FairTotals.{FairTotals}
 use Rattle.day_script.specs.declared.fair_totals.EntryCounts.{EntryCounts}
+use Rattle.day_run.specs.declared.fairs.TheConstants.{BUFFER_SIZES, LEAST_BUFFER}
 use Rattle.day_run.specs.declared.clients.Client.{Client}
 use Rattle.day_run.specs.Clients.{state_of}
 use Rattle.day_run.specs.BookingBalance.{IsReady}
@@ -37,7 +38,7 @@ use Rattle.day_run.proofs.PeakLemmas.{peak-push}
 pub done-ready : {c : ℕ} {state : ClientState} (step : LineStep) (words : ℕ → ℕ) → ClientOf step.old c state
     → IsDone step.link (line_drawn words c state) step.old step.new step.text → IsReady step.old → IsReady step.new
 done-ready {c} {state = Idle} step words own is ready =
-    play-ready step (rest_at step.link (words 0 % 16) (16384 + words 1 % 16384) (words 2 % 26))
+    play-ready step (rest_at step.link (words 0 % 16) (LEAST_BUFFER + words 1 % BUFFER_SIZES) (words 2 % 26))
     (record { client = own.client; at = refl }) is ready
 done-ready {c} {state = Playing play} step words own is ready =
     pause-ready step (record { client = own.client; at = refl }) is ready

@@ -14,6 +14,7 @@ use Rattle.admission.specs.Histories.{IsLegal, booked_after, state_after}
 use Rattle.admission.specs.Machine.{booked_in}
 use Rattle.admission.proofs.HistoryPrefixes.{legal-take}
 use Rattle.admission.proofs.CapacityBounds.{sound-after}
+use Rattle.day_run.specs.declared.fairs.TheConstants.{BUFFER_SIZES, LEAST_BUFFER}
 use Rattle.day_run.specs.BookingBalance.{IsReady}
 use Rattle.day_run.specs.Days.{IsAsked, IsPauseLine, IsResumeLine, SharedLink, DayState}
 use Rattle.day_run.specs.Days.{at_slot, halts_at, last_halts, last_journal, rest_at, state_at}
@@ -117,7 +118,7 @@ done-grown : (step : LineStep) (words : ℕ → ℕ) (c : ℕ) (state : ClientSt
     → IsDone step.link (line_drawn words c state) step.old step.new step.text
     → HasGrown step.old.entries step.new.entries
 done-grown step words c Idle is =
-    play-grown step c (rest_at step.link (words 0 % 16) (16384 + words 1 % 16384) (words 2 % 26))
+    play-grown step c (rest_at step.link (words 0 % 16) (LEAST_BUFFER + words 1 % BUFFER_SIZES) (words 2 % 26))
     (state_at step.old c) is
 done-grown step words c (Playing play) is = pause-grown step c (state_at step.old c) is
 done-grown step words c (Pausing stop rest) is = kept-grown step.old step.new is.kept
@@ -213,7 +214,7 @@ evening-grown evening journal is = record { made = last_halts evening; new_is = 
 pub done-heard : (step : LineStep) (words : ℕ → ℕ) (c : ℕ) (state : ClientState)
     → IsDone step.link (line_drawn words c state) step.old step.new step.text → step.new.heard ≡ step.old.heard
 done-heard step words c Idle is =
-    play-heard step c (rest_at step.link (words 0 % 16) (16384 + words 1 % 16384) (words 2 % 26))
+    play-heard step c (rest_at step.link (words 0 % 16) (LEAST_BUFFER + words 1 % BUFFER_SIZES) (words 2 % 26))
     (state_at step.old c) is
 done-heard step words c (Playing play) is = pause-heard step c (state_at step.old c) is
 done-heard step words c (Pausing stop rest) is = ap (λ (m : DayState). m.heard) is.kept

@@ -5,6 +5,7 @@ use Rattle.std.proofs.lemmas.Nat.{mod_below}
 use Rattle.film_make.specs.Generator.{words_after}
 use Rattle.day_script.specs.declared.scripts.Line.{Line}
 use Rattle.day_script.specs.declared.scripts.Line.TheVariants.{Play, Pause, Resume}
+use Rattle.day_run.specs.declared.fairs.TheConstants.{BUFFER_SIZES, LEAST_BUFFER}
 use Rattle.day_run.specs.Days.{IsLine, IsTold, SharedLink, DayState}
 use Rattle.day_run.specs.DayLaws.{IsDrawnLine, IsDrawnTurn}
 use Rattle.day_run.specs.FairDays.{IsDone, IsTurn, FairTurn, line_drawn, state_in}
@@ -20,10 +21,10 @@ drawn-done : {link : SharedLink} {client : ℕ} {old new : DayState} {text : Lis
     → IsDone link (line_drawn words client state) old new text → HasDone link old new text
 drawn-done {client} {new} {text} words Idle small is =
     let source = mod_below (words 0) 16 (omega arith) in
-    let buffer = mod_below (words 1) 16384 (omega arith) in
+    let buffer = mod_below (words 1) BUFFER_SIZES (omega arith) in
     let delay = mod_below (words 2) 26 (omega arith) in
     inr (
-      Play client (words 0 % 16) (16384 + words 1 % 16384) (words 2 % 26),
+      Play client (words 0 % 16) (LEAST_BUFFER + words 1 % BUFFER_SIZES) (words 2 % 26),
       ((small, source, omega arith, omega (arith, buffer), omega (arith, delay)), is),
     )
 drawn-done {client} {new} {text} words (Playing play) small is = inr (Pause client, (small, is))

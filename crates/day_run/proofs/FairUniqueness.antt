@@ -10,6 +10,7 @@ use Rattle.film_run.specs.Units.{AreUnitSizes}
 use Rattle.slot_calendar.specs.declared.profiles.CapStep.{CapStep}
 use Rattle.admission.specs.declared.entries.Entry.{Entry}
 use Rattle.day_script.specs.declared.scripts.Line.{Line}
+use Rattle.day_run.specs.declared.fairs.TheConstants.{BUFFER_SIZES, SLOT_UNITS}
 use Rattle.day_run.specs.ClientStates.{ClientState, Idle, Playing, Pausing, Paused, MediaContent, trace_content}
 use Rattle.day_run.specs.DayLaws.{IsLink, IsSoundMedia}
 use Rattle.day_run.specs.Days.{SharedLink, DayState, at_slot, first_moment, last_journal, state_at}
@@ -34,26 +35,26 @@ trace-sizes words =
     let few = mod_below (words 0) 101 (omega arith) in
     drawn-trace (words_after 1 words) (100 + words 0 % 101) (omega (arith, few))
 
-trace-medium : (sizes : List ℕ) → AreUnitSizes sizes → IsSoundMedia (trace_content 14400 sizes)
+trace-medium : (sizes : List ℕ) → AreUnitSizes sizes → IsSoundMedia (trace_content SLOT_UNITS sizes)
 trace-medium sizes own = record { sizes = own; some_picture_units = omega arith; picture_units_fit = omega arith }
 
 medium-drawn : (words : ℕ → ℕ) (i : ℕ) (none : MediaContent) → i < 16
-    → IsSoundMedia (get_or (map (trace_content 14400) (traces_drawn 16 words)) i none)
+    → IsSoundMedia (get_or (map (trace_content SLOT_UNITS) (traces_drawn 16 words)) i none)
 medium-drawn words i none inside =
     let drawn = λ (k : ℕ). trace_drawn (after_traces k words) in
     let within : i < length (traces_drawn 16 words) = omega (arith, inside, length-map-range_with_len drawn 0 16) in
     let among : i < length (range_with_len 0 16) = omega (arith, inside, length-range_with_len 0 16) in
-    let at : get_or (map (trace_content 14400) (traces_drawn 16 words)) i none
-    ≡ trace_content 14400 (drawn (get_or (range_with_len 0 16) i 0)) =
-    get_or-map (trace_content 14400) (traces_drawn 16 words) i [] none within
-    ∙ ap (trace_content 14400) (get_or-map drawn (range_with_len 0 16) i 0 [] among) in
+    let at : get_or (map (trace_content SLOT_UNITS) (traces_drawn 16 words)) i none
+    ≡ trace_content SLOT_UNITS (drawn (get_or (range_with_len 0 16) i 0)) =
+    get_or-map (trace_content SLOT_UNITS) (traces_drawn 16 words) i [] none within
+    ∙ ap (trace_content SLOT_UNITS) (get_or-map drawn (range_with_len 0 16) i 0 [] among) in
     let R : MediaContent → Type 0 = λ r. IsSoundMedia r in
     subst R (sym at) (trace-medium _ (trace-sizes (after_traces (get_or (range_with_len 0 16) i 0) words)))
 
 fair-link : (steps : List CapStep) (words : ℕ → ℕ) → IsFairLink (fair_link steps words)
 fair-link steps words =
-    let count : length (map (trace_content 14400) (traces_drawn 16 words)) ≡ 16 =
-    length-map (traces_drawn 16 words) (trace_content 14400)
+    let count : length (map (trace_content SLOT_UNITS) (traces_drawn 16 words)) ≡ 16 =
+    length-map (traces_drawn 16 words) (trace_content SLOT_UNITS)
     ∙ length-map-range_with_len (λ i. trace_drawn (after_traces i words)) 0 16 in
     record {
       link_is = record {
@@ -78,7 +79,7 @@ drawn-stands : {link : SharedLink} {client : ℕ} (old : DayState) (words : ℕ 
     → client < 256 → MayStand link old (line_drawn words client state)
 drawn-stands old words Idle fair small =
     let source = mod_below (words 0) 16 (omega arith) in
-    let buffer = mod_below (words 1) 16384 (omega arith) in
+    let buffer = mod_below (words 1) BUFFER_SIZES (omega arith) in
     let delay = mod_below (words 2) 26 (omega arith) in
     record {
       client = small;

@@ -14,6 +14,7 @@ use Rattle.admission.specs.Histories.{open_count}
 use Rattle.report.specs.EntryLines.{entry_line}
 use Rattle.day_script.specs.declared.scripts.Line.{Line}
 use Rattle.day_script.specs.declared.scripts.Line.TheVariants as lines
+use Rattle.day_run.specs.declared.fairs.TheConstants.{BUFFER_SIZES, LEAST_BUFFER}
 use Rattle.day_run.specs.BookingBalance.{IsReady}
 use Rattle.day_run.specs.ClientStates.{ClientState, Idle, Playing, Pausing, Paused, Rest, is_playing}
 use Rattle.day_run.specs.Days.{IsAsked, IsFull, IsLine, IsLookLine, IsNoted, IsOfferLine, IsPauseLine, IsResumeLine}
@@ -144,7 +145,7 @@ full-line step line ready small is begins = elim (line-text step line small is) 
 pub done-text : (c : ℕ) (step : LineStep) (words : ℕ → ℕ) (state : ClientState) → length step.old.entries < 2 ^ 64
     → IsDone step.link (line_drawn words c state) step.old step.new step.text → OtherOrFull step 2
 done-text c step words Idle small is =
-    line-text step (lines.Play c (words 0 % 16) (16384 + words 1 % 16384) (words 2 % 26)) small is
+    line-text step (lines.Play c (words 0 % 16) (LEAST_BUFFER + words 1 % BUFFER_SIZES) (words 2 % 26)) small is
 done-text c step words (Playing play) small is = line-text step (lines.Pause c) small is
 done-text c step words (Pausing stop rest) small is = inl (told-other is refl)
 done-text c step words (Paused rest) small is = line-text step (lines.Resume c) small is

@@ -15,6 +15,7 @@ use Rattle.admission.proofs.HistoryPrefixes.{state-push}
 use Rattle.film_make.specs.Generator.{words_after}
 use Rattle.day_script.specs.declared.scripts.Line.{Line}
 use Rattle.day_script.specs.declared.scripts.Line.TheVariants as lines
+use Rattle.day_run.specs.declared.fairs.TheConstants.{BUFFER_SIZES, LEAST_BUFFER}
 use Rattle.day_run.specs.BookingBalance.{IsReady}
 use Rattle.day_run.specs.ClientStates.{ClientState, Idle, Playing, Pausing, Paused, ClientPlay, Rest}
 use Rattle.day_script.specs.Scripts.{AreClients}
@@ -200,7 +201,7 @@ done-places : {c : ℕ} {state : ClientState} (step : LineStep) (words : ℕ →
     → IsReady step.old → IsDone step.link (line_drawn words c state) step.old step.new step.text
     → TakesPlaces step.link.limit step.old.entries step.new.entries
 done-places {c} {state = Idle} step words own ready is =
-    play-places step c (rest_at step.link (words 0 % 16) (16384 + words 1 % 16384) (words 2 % 26))
+    play-places step c (rest_at step.link (words 0 % 16) (LEAST_BUFFER + words 1 % BUFFER_SIZES) (words 2 % 26))
     (state_at step.old c) is
 done-places {c} {state = Playing play} step words own ready is =
     pause-places step (record { client = own.client; at = refl }) ready is

@@ -17,6 +17,7 @@ use Rattle.admission.specs.Machine.{AdmittedPlay, State, booked_in}
 use Rattle.admission.proofs.HistoryPrefixes.{state-push}
 use Rattle.day_script.specs.declared.scripts.Line.{Line}
 use Rattle.day_script.specs.declared.scripts.Line.TheVariants as lines
+use Rattle.day_run.specs.declared.fairs.TheConstants.{BUFFER_SIZES, LEAST_BUFFER}
 use Rattle.day_run.specs.BookingBalance.{IsReady, share_of}
 use Rattle.day_run.specs.Clients.{after_open}
 use Rattle.day_run.specs.Days.{AskedPlay}
@@ -27,7 +28,8 @@ use Rattle.day_run.specs.FairDays.{AreTurns, IsDone, IsTurn, FairTurn, after_tur
 use Rattle.day_run.specs.FairDays.{line_drawn, turn_booked, turn_peak}
 use Rattle.day_run.specs.ClientStates.{Idle, Playing, Pausing, Paused, ClientPlay, Rest, ClientState, booking_of}
 use Rattle.day_run.specs.ClientStates.{sent_by}
-use Rattle.day_run.proofs.SlotBalance.{BegunPlay, its-held, last-halted, play-stays, slot-halted, stays-halt}
+use Rattle.day_run.proofs.SentBookedLemmas.{BegunPlay}
+use Rattle.day_run.proofs.SlotBalance.{its-held, last-halted, play-stays, slot-halted, stays-halt}
 use Rattle.day_run.proofs.LineBalance.{morning-ready, ready-sent, taken-ready}
 use Rattle.day_run.proofs.ScriptLineFacts.{ClientOf, IsPlayTaken, LineStep, LinesTaken, NextTaken, StandingLine}
 use Rattle.day_run.proofs.FairLaws.{done-heard, later-heard, turn-ready, later-ready}
@@ -166,7 +168,7 @@ done-past : {c : ℕ} {state : ClientState} (step : LineStep) (words : ℕ → �
     → IsReady step.old → IsDone step.link (line_drawn words c state) step.old step.new step.text
     → Past step.old step.new
 done-past {c} {state = Idle} step words own ready is =
-    play-past step c (rest_at step.link (words 0 % 16) (16384 + words 1 % 16384) (words 2 % 26))
+    play-past step c (rest_at step.link (words 0 % 16) (LEAST_BUFFER + words 1 % BUFFER_SIZES) (words 2 % 26))
     (state_at step.old c) is
 done-past {c} {state = Playing play} step words own ready is =
     pause-past step (record { client = own.client; at = refl }) ready is
@@ -272,6 +274,58 @@ pub record AreBooked (booked : ℕ → ℕ) (turns : List FairTurn) (from to : �
   pub peak_is : fold max 0 (map turn_peak turns) ≡ fold max 0 (map booked (range_with_len (from + 1) (to - from)))
   pub each : All (IsTurnBooked booked) turns
 
+-- a turn, and the turns after it up to a slot
+record FirstTurn (booked : ℕ → ℕ) (turn : FairTurn) (turns : List FairTurn) (last : ℕ) : Type 0 where
+  begun : IsReady turn.old
+  later : turn.old.heard ≤ turn.mid.heard
+  mid : turn.new.heard ≡ turn.mid.heard
+  here : (t : ℕ) → t ≤ turn.mid.heard → booked t ≡ booked_after turn.old.entries t
+  rest : AreBooked booked turns turn.new.heard last
+
+turns-cons : {turn : FairTurn} {turns : List FairTurn} {last : ℕ} (booked : ℕ → ℕ) → FirstTurn booked turn turns last
+    → AreBooked booked (turn ∷ turns) turn.old.heard last
+turns-cons {turn} {turns} {last} booked first =
+    let m = turn.mid.heard - turn.old.heard in
+    let n = last - turn.new.heard in
+    let from = turn.old.heard + 1 in
+    let order = rest.order in
+    let at : from + m ≡ turn.new.heard + 1 = omega (arith, later, mid) in
+    let whole : last - turn.old.heard ≡ m + n = omega (arith, later, mid, order) in
+    let f = booked_in (state_after turn.old.entries) in
+    let sums = sum-same booked f from m (λ t before. here t (omega (arith, before, later))) in
+    let peaks = peak-same booked f from m (λ t before. here t (omega (arith, before, later))) in
+    record {
+      order = omega (arith, later, mid, order);
+      sum_is =
+          omega (
+            arith,
+            sum_by-cons turn_booked turn turns,
+            sums,
+            rest.sum_is,
+            sum-join booked from m n,
+            ap (λ k. sum_by booked (range_with_len k n)) at,
+            ap (λ k. sum_by booked (range_with_len from k)) whole,
+          );
+      peak_is =
+          omega (
+            arith,
+            fold-top (max 0 (turn_peak turn)) (map turn_peak turns),
+            peaks,
+            rest.peak_is,
+            peak-join booked from m n,
+            ap (λ k. fold max 0 (map booked (range_with_len k n))) at,
+            ap (λ k. fold max 0 (map booked (range_with_len from k))) whole,
+          );
+      each = All-cons (IsTurnBooked booked) turn turns (record {
+        sent = λ slot after before.
+            ready-sent turn.old slot after begun
+            ∙ sym (sum-same booked f from (slot - turn.old.heard)
+            (λ t less. here t (omega (arith, less, after, before))));
+      }) rest.each;
+    }
+  where
+    open first use {begun, later, mid, here, rest}
+
 pub turns-past : {turns : List FairTurn} {old : DayState} {booked : ℕ → ℕ} (link : SharedLink) (words : ℕ → ℕ)
     (new : DayState) → AreTurns link words turns old new → IsReady old
     → ((t : ℕ) → t ≤ new.heard → booked t ≡ booked_after new.entries t)
@@ -302,44 +356,9 @@ turns-past {turns = turn ∷ turns} {old} {booked} link words new run ready same
     let here : (t : ℕ) → t ≤ turn.mid.heard → booked t ≡ booked_after turn.old.entries t =
     λ t past. rest.1 t (omega (arith, past, mid))
     ∙ turn-past {link = link} {words = words} {turn = turn} t is begun past in
-    let m = turn.mid.heard - turn.old.heard in
-    let n = new.heard - turn.new.heard in
-    let order = rest.0.order in
-    let at : turn.old.heard + 1 + m ≡ turn.new.heard + 1 = omega (arith, later, mid) in
-    let whole : new.heard - turn.old.heard ≡ m + n = omega (arith, later, mid, order) in
-    let f = booked_in (state_after turn.old.entries) in
-    let sums = sum-same booked f (turn.old.heard + 1) m (λ t before. here t (omega (arith, before, later))) in
-    let peaks = peak-same booked f (turn.old.heard + 1) m (λ t before. here t (omega (arith, before, later))) in
     let B : ℕ → Type 0 = λ h. AreBooked booked (turn ∷ turns) h new.heard in (
-      subst B from (record {
-        order = omega (arith, later, mid, order);
-        sum_is =
-            omega (
-              arith,
-              sum_by-cons turn_booked turn turns,
-              sums,
-              rest.0.sum_is,
-              sum-join booked (turn.old.heard + 1) m n,
-              ap (λ k. sum_by booked (range_with_len k n)) at,
-              ap (λ k. sum_by booked (range_with_len (turn.old.heard + 1) k)) whole,
-            );
-        peak_is =
-            omega (
-              arith,
-              fold-top (max 0 (turn_peak turn)) (map turn_peak turns),
-              peaks,
-              rest.0.peak_is,
-              peak-join booked (turn.old.heard + 1) m n,
-              ap (λ k. fold max 0 (map booked (range_with_len k n))) at,
-              ap (λ k. fold max 0 (map booked (range_with_len (turn.old.heard + 1) k))) whole,
-            );
-        each = All-cons (IsTurnBooked booked) turn turns (record {
-          sent = λ slot after before.
-              ready-sent turn.old slot after begun
-              ∙ sym (sum-same booked f (turn.old.heard + 1) (slot - turn.old.heard)
-              (λ t less. here t (omega (arith, less, after, before))));
-        }) rest.0.each;
-      }),
+      subst B from (turns-cons {turn = turn} {turns = turns} {last = new.heard} booked
+          (record { begun = begun; later = later; mid = mid; here = here; rest = rest.0 })),
       λ t past. here t (omega (arith, past, from, later)) ∙ ap (λ (x : DayState). booked_after x.entries t) run.0,
     )
 

@@ -23,6 +23,18 @@ undone-apart p undone some same =
     ap (λ n. n == p.keep) (sym same) ∙ ap (λ b. b && (p.sent == p.keep)) (sym (lt-ltb 0 p.passed some)) ∙ undone in
     subst T e (eqb_refl p.keep)
 
+-- the plan has through the last slot what was sent, where that isn't all
+sent-last : {play : ClientPlay} (last : ℕ) → IsPlaying play → (play.pacer.sent ≡ play.pacer.keep → ⊥)
+    → slots_through (Some last) ≡ play.pacer.passed → sum_through play.plan last ≡ play.pacer.sent
+sent-last {play} last playing apart passed =
+    let p = play.pacer in
+    let due : p.due ≡ min (sum_through p.plan last) p.keep =
+    playing.pacing.due ∙ ap (λ n. min (first_slots p.plan n) p.keep) (sym passed) in
+    ap (λ s. sum_through s last) (sym playing.plan_is) ∙ elim (cases_lt (sum_through p.plan last) p.keep) [
+      | inl below ↦ omega (arith, below, due, playing.all_sent)
+      | inr reached ↦ absurd (apart (omega (arith, reached, due, playing.all_sent)))
+    ]
+
 -- the halt of a play that isn't done
 pub halts : {play : ClientPlay} {keep : ℕ} (last : Option ℕ) → IsPlaying play → is_done play.pacer ≡ false
     → slots_through last ≡ play.pacer.passed
@@ -36,16 +48,9 @@ halts {play} {keep} None playing undone passed boundary most =
     omega (arith, le)
 halts {play} (Some last) playing undone passed boundary most =
     let p = play.pacer in
-    let due : p.due ≡ min (sum_through p.plan last) p.keep =
-    playing.pacing.due ∙ ap (λ n. min (first_slots p.plan n) p.keep) (sym passed) in
     let apart : p.sent ≡ p.keep → ⊥ = undone-apart p undone (omega (arith, passed)) in
-    let through : sum_through play.plan last ≡ p.sent =
-    ap (λ s. sum_through s last) (sym playing.plan_is) ∙ elim (cases_lt (sum_through p.plan last) p.keep) [
-      | inl below ↦ omega (arith, below, due, playing.all_sent)
-      | inr reached ↦ absurd (apart (omega (arith, reached, due, playing.all_sent)))
-    ] in
-    let P : List Segment → Type 0 = λ s. IsPlan s in
-    let plan : IsPlan play.plan = subst P playing.plan_is playing.pacing.plan in
+    let through = sent-last {play = play} last playing apart passed in
+    let plan : IsPlan play.plan = subst (λ (s : List Segment). IsPlan s) playing.plan_is playing.pacing.plan in
     let below : p.sent < p.keep = elim (cases_lt p.sent p.keep) [
       | inl less ↦ less
       | inr more ↦ absurd (apart (omega (arith, more, playing.pacing.sent, playing.pacing.due)))

@@ -19,6 +19,7 @@ use Rattle.day_script.specs.declared.fair_totals.EntryCounts.{EntryCounts}
 use Rattle.day_script.specs.declared.fair_totals.FairTotals.{FairTotals}
 use Rattle.plan_cert.specs.PlanSlots.{sum_through, total_bytes}
 use Rattle.film_run.specs.Units.{AreUnitSizes}
+use Rattle.admission.specs.declared.book.TheConstants.{MAX_ENTRIES}
 use Rattle.day_run.specs.Days.{AreLineSteps, IsLine, IsTold, SharedLink, DayState, booked_up_to}
 use Rattle.day_run.specs.Days.{first_moment}
 use Rattle.day_run.specs.Days.{sent_up_to}
@@ -175,7 +176,7 @@ pub record IsFairLine (steps : List CapStep) (plays : ℕ) (text : List ℕ) (jo
   pub text_is : text ≡ fair_text counts entries
   pub entries_are : AreEntryCounts entries journal
   pub turns_are : counts.turns ≡ plays
-  pub never_full : 2 * plays ≤ 1048576 → counts.full ≡ 0
+  pub never_full : 2 * plays ≤ MAX_ENTRIES → counts.full ≡ 0
   pub last : counts.last ≤ 3 * plays
   pub balanced : counts.sent ≡ counts.booked
   pub booked_is : counts.booked ≡ sum_by (booked_after journal) (range_with_len 1 counts.last)

@@ -1,6 +1,6 @@
 -- A link's day: what the lines of a script bring on one link, line by line. Client C is maker C of
 -- the link's machine, and maker 0 looks.
-use Rattle.std.specs.Prelude.{ℕ, ◌+◌, ◌-◌, ◌^◌, ◌≡◌, ◌<◌, ◌≤◌, ◌⊎◌, min, max, if◌then◌else◌, List}
+use Rattle.std.specs.Prelude.{ℕ, ◌+◌, ◌-◌, ◌≡◌, ◌<◌, ◌≤◌, ◌⊎◌, min, max, if◌then◌else◌, List}
 use Rattle.std.specs.Prelude.{[], ◌∷◌, ◌++◌, flat_map, length, map, replicate, sum_by}
 use Rattle.std.specs.Prelude.{slice_index_or, slice_set}
 use Rattle.std.specs.List.{range_with_len}
@@ -24,6 +24,7 @@ use Rattle.early_start.specs.StartSearch.{IsOffer, Offers}
 use Rattle.report.specs.CalendarTexts.{calendar_text}
 use Rattle.report.specs.EntryLines.{entry_line}
 use Rattle.report.specs.JournalTexts.{journal_text}
+use Rattle.vod_base.specs.declared.links.TheConstants.{LATEST_SLOT}
 use Rattle.day_run.specs.declared.media.Source.{Source}
 use Rattle.day_script.specs.declared.scripts.Line.{Line}
 use Rattle.day_script.specs.declared.scripts.Line.TheVariants as lines
@@ -258,7 +259,7 @@ IsLine link (lines.Pause client) old new text =
     IsPauseLine link client (state_at old client) old new text
 IsLine link (lines.Resume client) old new text =
     IsResumeLine link client (state_at old client) old new text
-IsLine link (lines.Look slot) old new text = IsLookLine link (min slot (2 ^ 62)) old new text
+IsLine link (lines.Look slot) old new text = IsLookLine link (min slot LATEST_SLOT) old new text
 IsLine link (lines.Slot slot) old new text = (new ≡ at_slot old slot) × (text ≡ slot_lines old slot)
 IsLine link (lines.Offer client source buffer delay wait) old new text =
     IsOfferLine link (rest_at link source buffer delay) wait old new text

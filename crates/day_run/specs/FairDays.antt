@@ -18,6 +18,8 @@ use Rattle.day_script.specs.declared.fair_totals.FairTotals.{FairTotals}
 use Rattle.day_script.specs.declared.fair_totals.EntryCounts.{EntryCounts}
 use Rattle.day_script.specs.declared.scripts.Line.{Line}
 use Rattle.day_script.specs.declared.scripts.Line.TheVariants as lines
+use Rattle.admission.specs.declared.book.TheConstants.{MAX_ENTRIES}
+use Rattle.day_run.specs.declared.fairs.TheConstants.{BUFFER_SIZES, LEAST_BUFFER, SLOT_UNITS}
 use Rattle.day_run.specs.Days.{IsLine, IsTold, SharedLink, DayState, at_slot, booked_up_to}
 use Rattle.day_run.specs.Days.{first_moment, last_journal, state_at, sent_up_to}
 use Rattle.day_script.specs.LineTexts.{fair_text}
@@ -45,9 +47,9 @@ traces_drawn k words = map (λ i. trace_drawn (after_traces i words)) (range_wit
 abbrev pub fair_link : List CapStep → (ℕ → ℕ) → SharedLink
 fair_link steps words = record {
   steps = steps;
-  limit = 1048576;
-  slot_units = 14400;
-  media = map (trace_content 14400) (traces_drawn 16 words);
+  limit = MAX_ENTRIES;
+  slot_units = SLOT_UNITS;
+  media = map (trace_content SLOT_UNITS) (traces_drawn 16 words);
 }
 
 -- ---- the turns
@@ -67,7 +69,7 @@ at_later moment later = if later == 0 then moment else at_slot moment (moment.he
 -- start delay; it pauses; nothing, as its pause isn't done; or it goes on.
 abbrev pub line_drawn : (ℕ → ℕ) → ℕ → ClientState → Option Line
 line_drawn words client Idle =
-    Some (lines.Play client (words 0 % 16) (16384 + words 1 % 16384) (words 2 % 26))
+    Some (lines.Play client (words 0 % 16) (LEAST_BUFFER + words 1 % BUFFER_SIZES) (words 2 % 26))
 line_drawn words client (Playing play) = Some (lines.Pause client)
 line_drawn words client (Pausing stop rest) = None
 line_drawn words client (Paused rest) = Some (lines.Resume client)

@@ -1,10 +1,11 @@
 -- A large day as far as it has been drawn.
-use Rattle.std.specs.Prelude.{ℕ, ◌≡◌, ◌+◌, ◌*◌, ◌^◌, ◌<◌, ◌≤◌, max, if◌then◌else◌, List, [], ◌∷◌}
+use Rattle.std.specs.Prelude.{ℕ, ◌≡◌, ◌+◌, ◌*◌, ◌<◌, ◌≤◌, max, if◌then◌else◌, List, [], ◌∷◌}
 use Rattle.std.specs.Prelude.{length, map, slice_index_or, Option, Some, None}
 use Rattle.std.specs.Global.{Vec}
 use Rattle.film_run.specs.Units.{AreUnitSizes}
 use Rattle.admission.specs.declared.entries.Entry.{Entry}
 use Rattle.day_script.specs.declared.fair_totals.FairTotals.{FairTotals}
+use Rattle.vod_base.specs.declared.limits.TheConstants.{MAX_BYTES}
 use Rattle.day_run.specs.declared.machine.LineAnswer.{LineAnswer}
 use Rattle.day_run.specs.Days.{SharedLink, DayState, booked_up_to, first_moment, sent_up_to}
 use Rattle.day_run.specs.FairDays.{AreTurns, IsTurn, FairTurn, after_turn, counts_of, is_refused}
@@ -51,8 +52,8 @@ with_turn counts turn = record {
 pub record IsFitting (heard : ℕ) (counts : FairTotals) : Type 0 where
   pub last_is : counts.last ≡ heard
   pub full : counts.full ≤ counts.turns
-  pub sent : counts.sent ≤ heard * 2 ^ 42
-  pub booked : counts.booked ≤ heard * 2 ^ 42
+  pub sent : counts.sent ≤ heard * MAX_BYTES
+  pub booked : counts.booked ≤ heard * MAX_BYTES
 
 -- a large day as far as it has come: the words that are left, what is counted of it, and the moment
 pub record Drawn : Type 0 where

@@ -1,5 +1,5 @@
 -- What is true for a day between its lines.
-use Rattle.std.specs.Prelude.{ℕ, ◌≡◌, ◌^◌, ◌≤◌, ◌++◌, List, Result, Ok, Err, length, map, drop}
+use Rattle.std.specs.Prelude.{ℕ, ◌≡◌, ◌≤◌, ◌++◌, List, Result, Ok, Err, length, map, drop}
 use Rattle.std.specs.Prelude.{flat_map}
 use Rattle.admission.specs.declared.entries.Entry.{Entry}
 use Rattle.admission.specs.Histories.{state_after}
@@ -7,6 +7,8 @@ use Rattle.early_start.specs.StartSearch.{Offers}
 use Rattle.wire_curve.specs.declared.film.CurveRefused.{CurveRefused}
 use Rattle.wire_curve.specs.declared.film.CurveRefused.TheVariants.{Fault, NoMemory}
 use Rattle.day_script.specs.declared.scripts.Line.{Line}
+use Rattle.vod_base.specs.declared.limits.TheConstants.{MAX_BYTES, MAX_DELAY}
+use Rattle.vod_base.specs.declared.links.TheConstants.{LATEST_SLOT}
 use Rattle.day_run.specs.declared.clients.Client.{Client}
 use Rattle.day_run.specs.declared.machine.DayMachine.{DayMachine}
 use Rattle.day_run.specs.declared.machine.LineAnswer.{LineAnswer}
@@ -24,7 +26,7 @@ pub record IsSoundDay (slot_units heard : ℕ) (entries : List Entry) (clients :
   pub count : length clients ≡ 256
   pub some_slot_units : 1 ≤ slot_units
   pub slot_units_fit : slot_units ≤ 360000
-  pub heard_fits : heard ≤ 2 ^ 62
+  pub heard_fits : heard ≤ LATEST_SLOT
   pub now_heard : (state_after entries).now ≤ heard
   pub going : AreGoing clients
   pub undone : AreUndone (length clients) clients
@@ -87,5 +89,5 @@ pub record IsWithinRanges (slot_units buffer delay : ℕ) : Type 0 where
   pub some_slot_units : 1 ≤ slot_units
   pub slot_units_fit : slot_units ≤ 360000
   pub some_buffer : 1 ≤ buffer
-  pub buffer_fits : buffer ≤ 2 ^ 42
-  pub delay_fits : delay ≤ 10000
+  pub buffer_fits : buffer ≤ MAX_BYTES
+  pub delay_fits : delay ≤ MAX_DELAY

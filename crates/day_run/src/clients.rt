@@ -1,6 +1,6 @@
 //! A client of a day: what it plays, and how far it has come.
 
-ghost use Rattle.std.specs.Prelude.{◌≡◌, ◌+◌, ◌-◌, ◌^◌, ◌≤◌, ◌<◌, ℕ, List, false, IfSome, IfNone};
+ghost use Rattle.std.specs.Prelude.{◌≡◌, ◌+◌, ◌-◌, ◌≤◌, ◌<◌, ℕ, List, false, IfSome, IfNone};
 ghost use Rattle.std.specs.Prelude.{OnSome, IsTrue};
 ghost use Rattle.plan_cert.specs.PlanSlots.{total_bytes};
 ghost use Rattle.pacer.specs.PacerStates.{IsPacerState, is_done, after_step};
@@ -23,6 +23,7 @@ use film_run::{Playback, Run, run_after};
 use pacer::Pacer;
 use plan_cert::Plan;
 use std::mem::replace;
+use vod_base::{LinkFault, MAX_BYTES};
 
 /// What is still to be sent of a source, and to what kind of client.
 #[derive(Clone, Copy)]
@@ -93,7 +94,7 @@ impl<'r> Client<'r> {
         ensures going { IsGoing self.new }
         ensures booked { (entries : List Entry) (client : ℕ) → IsBooked entries client self.old →
             IsBooked entries client self.new }
-        ensures few { result ≤ 2 ^ 42 }
+        ensures few { result ≤ MAX_BYTES }
         ensures step { (heard : ℕ) → heard ≤ slot → IsTimed heard self.old →
             IsStep heard slot self.old self.new result }
     {
@@ -232,8 +233,8 @@ fn send(pacer: &mut Pacer<Sending<'_>>, slot: u64) -> u64
 {
     match pacer.step(slot, false, &mut NullLink) {
         Ok(sending) => sending.sent,
-        // Can't come: `NullLink` counts no faults, and a step fails only where its link did.
-        Err(_) => unreachable!(),
+        // Never so: `NullLink` counts no faults, and a step fails only where its link did.
+        Err(LinkFault) => 0,
     }
 }
 
