@@ -338,6 +338,18 @@ pub record SlotSwept (n : ℕ) (ys : List Entry) (old xs ds zs : List Client) (h
   pub quiet : halt_entries (done_halt slot) 0 (map (after_sending slot) (map state_of old))
       ≡ halt_entries (done_halt slot) 0 (map state_of old)
 
+-- clients whose states follow from those of others are as many
+as-many : (f : ClientState → ClientState) (old new : List Client) → map state_of new ≡ map f (map state_of old)
+    → length new ≡ length old
+as-many f old new are =
+    omega (
+      arith,
+      ap length are,
+      length-map new state_of,
+      length-map (map state_of old) f,
+      length-map old state_of,
+    )
+
 -- a day at a slot
 pub slot-moment : {n : ℕ} {ys : List Entry} {old xs ds zs : List Client} {heard slot sent : ℕ} (entries : List Entry)
     (es : List Client) → SlotSwept n ys old xs ds zs heard slot sent entries es
@@ -353,15 +365,7 @@ slot-moment {n} {ys} {old} {ds} {zs} {heard} {slot} entries es swept =
     let steps = stepped heard le (subst T (sym x) timed) in
     let d-states : map state_of ds ≡ map (after_sending slot) (map state_of old) =
     steps.states_are ∙ ap (λ l. map (after_sending slot) (map state_of l)) x in
-    let d-len : length ds ≡ n =
-    omega (
-      arith,
-      ap length d-states,
-      length-map ds state_of,
-      length-map (map state_of old) (after_sending slot),
-      length-map old state_of,
-      len,
-    ) in
+    let d-len : length ds ≡ n = as-many (after_sending slot) old ds d-states ∙ sym len in
     let z-is : zs ≡ ds = z ∙ written n ds old d-len in
     let now : AreTimed slot zs = subst U (sym z-is) steps.timed in
     let states : map state_of zs ≡ map (after_sending slot) (map state_of old) = ap (map state_of) z-is ∙ d-states in
@@ -369,16 +373,7 @@ slot-moment {n} {ys} {old} {ds} {zs} {heard} {slot} entries es swept =
     ended slot now ∙ ap (λ l. entries ++ halt_entries (done_halt slot) 0 l) states ∙ ap (λ l. entries ++ l) quiet in
     let s : map state_of es ≡ map (after_play slot) (map (after_sending slot) (map state_of old)) =
     left slot now ∙ ap (map (after_play slot)) states in
-    let e-len : length es ≡ n =
-    omega (
-      arith,
-      ap length s,
-      length-map es state_of,
-      length-map (map (after_sending slot) (map state_of old)) (after_play slot),
-      length-map (map state_of old) (after_sending slot),
-      length-map old state_of,
-      len,
-    ) in
+    let e-len : length es ≡ n = as-many (after_play slot) zs es (left slot now) ∙ ap length z-is ∙ d-len in
     moment-same slot
     y
     (ap (map state_of) (written n es (take n (ds ++ drop (length ds) old)) e-len) ∙ s)

@@ -18,7 +18,7 @@ use Rattle.day_run.specs.ClientStates.{ClientState, Idle, IfBusy, Playing, Pausi
 use Rattle.day_run.specs.DayLaws.{SentIsBookedAfter}
 use Rattle.day_script.specs.Scripts.{AreClients, IsClient}
 use Rattle.day_run.specs.Days.{AreLineSteps, IsAsked, IsDay, IsLine, IsLookLine, IsNoted, IsOfferLine}
-use Rattle.day_run.specs.Days.{IsPauseLine, IsResumeLine, IsTold, Link, DayState}
+use Rattle.day_run.specs.Days.{IsPauseLine, IsResumeLine, IsTold, SharedLink, DayState}
 use Rattle.day_run.specs.Days.{halts_at, last_halts, rest_at, sent_up_to, state_at}
 use Rattle.day_script.specs.LineTexts.{state_text}
 use Rattle.day_script.specs.Scripts.{AreLines, StandsAfter, latest_slot}
@@ -42,11 +42,11 @@ grows-on {old} one other = record {
 told-grows : {told text : List ℕ} {old new : DayState} → IsTold told old new text → Grows old new
 told-grows is = grows-same is.kept
 
-noted-grows : {link : Link} {entry : Entry} {states : List ClientState} {old new : DayState} {text : List ℕ}
+noted-grows : {link : SharedLink} {entry : Entry} {states : List ClientState} {old new : DayState} {text : List ℕ}
     → IsNoted link entry states old new text → Grows old new
 noted-grows {entry} is = record { more = entry ∷ []; is = ap (λ (m : DayState). m.entries) is.new_is }
 
-asked-grows : {link : Link} {c : ℕ} {rest : Rest} {old new : DayState} {text : List ℕ}
+asked-grows : {link : SharedLink} {c : ℕ} {rest : Rest} {old new : DayState} {text : List ℕ}
     → IsAsked link c rest old new text → Grows old new
 asked-grows (inl faulty) = told-grows faulty.told
 asked-grows (inr planned) = elim planned.done [
@@ -54,38 +54,38 @@ asked-grows (inr planned) = elim planned.done [
   | inr answered ↦ noted-grows answered.noted
 ]
 
-play-grows : (link : Link) (c : ℕ) (rest : Rest) (text : List ℕ) {old new : DayState} (state : ClientState)
+play-grows : (link : SharedLink) (c : ℕ) (rest : Rest) (text : List ℕ) {old new : DayState} (state : ClientState)
     → IfBusy state (IsTold state_text old new text) (IsAsked link c rest old new text) → Grows old new
 play-grows link c rest text Idle is = asked-grows is
 play-grows link c rest text (Playing play) is = told-grows is
 play-grows link c rest text (Pausing stop left) is = told-grows is
 play-grows link c rest text (Paused left) is = asked-grows is
 
-resume-grows : (link : Link) (c : ℕ) (text : List ℕ) {old new : DayState} (state : ClientState)
+resume-grows : (link : SharedLink) (c : ℕ) (text : List ℕ) {old new : DayState} (state : ClientState)
     → IsResumeLine link c state old new text → Grows old new
 resume-grows link c text Idle is = told-grows is
 resume-grows link c text (Playing play) is = told-grows is
 resume-grows link c text (Pausing stop rest) is = told-grows is
 resume-grows link c text (Paused rest) is = asked-grows is
 
-pause-grows : (link : Link) (c : ℕ) (text : List ℕ) {old new : DayState} (state : ClientState)
+pause-grows : (link : SharedLink) (c : ℕ) (text : List ℕ) {old new : DayState} (state : ClientState)
     → IsPauseLine link c state old new text → Grows old new
 pause-grows link c text Idle is = told-grows is
 pause-grows link c text (Playing play) is = noted-grows is.noted
 pause-grows link c text (Pausing stop rest) is = told-grows is
 pause-grows link c text (Paused rest) is = told-grows is
 
-look-grows : {link : Link} {slot : ℕ} {old new : DayState} {text : List ℕ} → IsLookLine link slot old new text
+look-grows : {link : SharedLink} {slot : ℕ} {old new : DayState} {text : List ℕ} → IsLookLine link slot old new text
     → Grows old new
 look-grows (inl full) = told-grows full.told
 look-grows (inr answered) = noted-grows answered.noted
 
-offer-grows : {link : Link} {rest : Rest} {wait : ℕ} {old new : DayState} {text : List ℕ}
+offer-grows : {link : SharedLink} {rest : Rest} {wait : ℕ} {old new : DayState} {text : List ℕ}
     → IsOfferLine link rest wait old new text → Grows old new
 offer-grows (inl faulty) = told-grows faulty.told
 offer-grows (inr offered) = told-grows offered.told
 
-line-grows : (link : Link) (text : List ℕ) {old new : DayState} (line : Line) → IsLine link line old new text
+line-grows : (link : SharedLink) (text : List ℕ) {old new : DayState} (line : Line) → IsLine link line old new text
     → Grows old new
 line-grows link text {old} (Play client source buffer delay) is =
     play-grows link client (rest_at link source buffer delay) text (state_at old client) is
@@ -96,8 +96,8 @@ line-grows link text {old} (Slot slot) is =
     record { more = halts_at old slot; is = ap (λ (m : DayState). m.entries) is.0 }
 line-grows link text (Offer client source buffer delay wait) is = offer-grows is
 
-run-grows : (link : Link) (ls : List Line) (ts : List (List ℕ)) {old new : DayState} → AreLineSteps link ls ts old new
-    → Grows old new
+run-grows : (link : SharedLink) (ls : List Line) (ts : List (List ℕ)) {old new : DayState}
+    → AreLineSteps link ls ts old new → Grows old new
 run-grows link [] [] run = grows-same run
 run-grows link [] (t ∷ ts) run = absurd run
 run-grows link (l ∷ ls) [] run = absurd run
@@ -105,13 +105,13 @@ run-grows link (l ∷ ls) (t ∷ ts) {old} {new} run =
     grows-on (line-grows link t l run.1.0) (run-grows link ls ts {old = run.0} {new = new} run.1.1)
 
 -- the moment after so many lines of a run
-record FrontOf (link : Link) (ls : List Line) (count : ℕ) (old new : DayState) : Type 0 where
+record FrontOf (link : SharedLink) (ls : List Line) (count : ℕ) (old new : DayState) : Type 0 where
   texts : List (List ℕ)
   moment : DayState
   front : AreLineSteps link (take count ls) texts old moment
   grows : Grows moment new
 
-run-front : (link : Link) (ls : List Line) (ts : List (List ℕ)) (count : ℕ) {old new : DayState}
+run-front : (link : SharedLink) (ls : List Line) (ts : List (List ℕ)) (count : ℕ) {old new : DayState}
     → AreLineSteps link ls ts old new → FrontOf link ls count old new
 run-front link ls ts zero {old} run =
     record { texts = []; moment = old; front = refl; grows = run-grows link ls ts run }
@@ -148,7 +148,7 @@ front-legal {steps} xs ys legal =
     subst L (take_at xs ys (length xs) refl) (legal-take steps (xs ++ ys) (length xs) legal)
 
 -- what is sent is within the capacity
-pub day-within : {link : Link} {n : ℕ} (taken : LinesTaken link n) (slot : ℕ)
+pub day-within : {link : SharedLink} {n : ℕ} (taken : LinesTaken link n) (slot : ℕ)
     → IsLegal link.steps taken.moment.entries → taken.moment.heard ≤ slot
     → sent_up_to taken.moment slot
     ≤ sum_by (capacity_at link.steps) (range_with_len (taken.moment.heard + 1) (slot - taken.moment.heard))
@@ -160,7 +160,7 @@ day-within {link} taken slot legal later =
     (sum_by-le-sum_by (booked_in (state_after taken.moment.entries)) (capacity_at link.steps) slots
     (λ t. within.each t))
 
-pub day-keeps : {link : Link} {n : ℕ} {lines : List Line} {text : List ℕ} {journal : List Entry} (count : ℕ)
+pub day-keeps : {link : SharedLink} {n : ℕ} {lines : List Line} {text : List ℕ} {journal : List Entry} (count : ℕ)
     → AreClients lines → AreLines n lines
     → IsDay link lines text journal → IsLegal link.steps journal → SentIsBookedAfter link lines count
 day-keeps {link} {n} {lines} count clients are day legal =

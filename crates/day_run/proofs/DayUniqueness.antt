@@ -28,12 +28,12 @@ use Rattle.day_run.specs.DayLaws.{IsLink, IsSoundRest, IsSoundClient}
 use Rattle.day_script.specs.Scripts.{AreClients}
 use Rattle.day_run.specs.Days.{AreLineSteps, AskedPlay, IsAnsweredPlay, IsAsked, IsDay, IsFaulty, IsFull}
 use Rattle.day_run.specs.Days.{IsHaltedPlay, IsLine, IsLookLine, IsNoted, IsOfferLine, IsPauseLine}
-use Rattle.day_run.specs.Days.{IsResumeLine, IsTold, Link, DayState, entry_by}
+use Rattle.day_run.specs.Days.{IsResumeLine, IsTold, SharedLink, DayState, entry_by}
 use Rattle.day_run.specs.Days.{last_journal, last_lines, state_at, with_play}
 use Rattle.day_script.specs.LineTexts.{fault_text, offer_text, state_text}
 use Rattle.report.specs.EntryLines.{entry_line}
 use Rattle.day_script.specs.Scripts.{AreLines}
-use Rattle.day_run.specs.ClientStates.{Idle, IfBusy, Playing, Pausing, Paused, Play, Rest, ClientState}
+use Rattle.day_run.specs.ClientStates.{Idle, IfBusy, Playing, Pausing, Paused, ClientPlay, Rest, ClientState}
 use Rattle.day_run.specs.ClientStates.{pausing_state, slot_sent}
 use Rattle.day_run.proofs.LineBalance.{heard-after, morning-ready}
 use Rattle.day_run.proofs.SoundClients.{IsSound, idle-sound, line-sound, whole-sound}
@@ -57,7 +57,7 @@ pub one-told : {told : List ℕ} {old new new' : DayState} {text text' : List �
     → IsTold told old new' text' → IsOne new new' text text'
 one-told {new} {text} a b = record { new_is = a.kept ∙ sym b.kept; text_is = a.text_is ∙ sym b.text_is }
 
-one-noted : {link : Link} {one other : Entry} {states states' : List ClientState} {old new new' : DayState}
+one-noted : {link : SharedLink} {one other : Entry} {states states' : List ClientState} {old new new' : DayState}
     {text text' : List ℕ} → one ≡ other → states ≡ states'
     → IsNoted link one states old new text → IsNoted link other states' old new' text' → IsOne new new' text text'
 one-noted {one} {other} {states} {old} {new} {text} e s a b = record {
@@ -67,7 +67,7 @@ one-noted {one} {other} {states} {old} {new} {text} e s a b = record {
   text_is = a.text_is ∙ ap (entry_line (length old.entries)) e ∙ sym b.text_is;
 }
 
-one-planned : {link : Link} {ask : AskedPlay} {old new new' : DayState} {text text' : List ℕ}
+one-planned : {link : SharedLink} {ask : AskedPlay} {old new new' : DayState} {text text' : List ℕ}
     → (IsFull link 2 old new text ⊎ IsAnsweredPlay link ask old new text)
     → (IsFull link 2 old new' text' ⊎ IsAnsweredPlay link ask old new' text')
     → IsOne new new' text text'
@@ -89,7 +89,7 @@ one-fault {rest} {old} {new} {text} a b =
     let T : CurveFault → Type 0 = λ f. IsTold (fault_text f) old new text in
     one-told (subst T same a.told) b.told
 
-one-asked : {link : Link} {c : ℕ} {rest : Rest} {old new new' : DayState} {text text' : List ℕ}
+one-asked : {link : SharedLink} {c : ℕ} {rest : Rest} {old new new' : DayState} {text text' : List ℕ}
     → (0 < length (rest_sizes rest.sizes rest.run) → IsSoundRest rest)
     → IsAsked link c rest old new text → IsAsked link c rest old new' text' → IsOne new new' text text'
 one-asked {c} {new} {text} own (inl a) (inl b) = one-fault a b
@@ -111,7 +111,7 @@ one-asked {link} {c} {rest} {old} {new} {text} own (inr a) (inr b) =
 
 -- a client that asks for something at a moment
 record Asker : Type 0 where
-  pub link : Link
+  pub link : SharedLink
   pub c : ℕ
   pub old : DayState
 
@@ -133,7 +133,7 @@ one-resume {new} {text} asker (Playing play) own a b = one-told a b
 one-resume {new} {text} asker (Pausing stop rest) own a b = one-told a b
 one-resume {new} {text} asker (Paused rest) own a b = one-asked (λ some. own) a b
 
-one-halted : {link : Link} {c : ℕ} {play : Play} {old new new' : DayState} {text text' : List ℕ}
+one-halted : {link : SharedLink} {c : ℕ} {play : ClientPlay} {old new new' : DayState} {text text' : List ℕ}
     → IsHaltedPlay link c play old new text
     → IsHaltedPlay link c play old new' text' → IsOne new new' text text'
 one-halted {c} {play} {old} {new} {text} a b =
@@ -155,15 +155,15 @@ one-halted {c} {play} {old} {new} {text} a b =
     one-noted (ap (λ k. entry_by c (commands.Halt play.number k) Halted) keep)
     (ap (set old.states c) state) a.noted b.noted
 
-one-pause : {new new' : DayState} {text text' : List ℕ} (link : Link) (c : ℕ) (state : ClientState) (old : DayState)
-    → IsPauseLine link c state old new text
+one-pause : {new new' : DayState} {text text' : List ℕ} (link : SharedLink) (c : ℕ) (state : ClientState)
+    (old : DayState) → IsPauseLine link c state old new text
     → IsPauseLine link c state old new' text' → IsOne new new' text text'
 one-pause {new} {text} link c Idle old a b = one-told a b
 one-pause {new} {text} link c (Playing play) old a b = one-halted a b
 one-pause {new} {text} link c (Pausing stop rest) old a b = one-told a b
 one-pause {new} {text} link c (Paused rest) old a b = one-told a b
 
-one-look : {link : Link} {slot : ℕ} {old new new' : DayState} {text text' : List ℕ}
+one-look : {link : SharedLink} {slot : ℕ} {old new new' : DayState} {text text' : List ℕ}
     → IsLookLine link slot old new text → IsLookLine link slot old new' text'
     → IsOne new new' text text'
 one-look {slot} {new} {text} (inl a) (inl b) = one-told a.told b.told
@@ -181,7 +181,7 @@ one-found one other w s t =
     ∙ ap (λ n. record { wait = other.wait; start = n; tried = one.tried }) s
     ∙ ap (λ l. record { wait = other.wait; start = other.start; tried = l }) t
 
-one-offer : {link : Link} {rest : Rest} {wait : ℕ} {old new new' : DayState} {text text' : List ℕ}
+one-offer : {link : SharedLink} {rest : Rest} {wait : ℕ} {old new new' : DayState} {text text' : List ℕ}
     → (0 < length (rest_sizes rest.sizes rest.run) → IsSoundRest rest)
     → IsOfferLine link rest wait old new text → IsOfferLine link rest wait old new' text' → IsOne new new' text text'
 one-offer {new} {text} own (inl a) (inl b) = one-fault a b
@@ -207,7 +207,7 @@ one-offer {link} {rest} {old} {new} {text} own (inr a) (inr b) =
     let T : Offers → Type 0 = λ f. IsTold (offer_text f) old new text in
     one-told (subst T found a.told) b.told
 
-pub one-line : {link : Link} {old new new' : DayState} {text text' : List ℕ} (line : Line) → IsLink link
+pub one-line : {link : SharedLink} {old new new' : DayState} {text text' : List ℕ} (line : Line) → IsLink link
     → StandingLine old.heard (length link.media) line → IsSound old → IsLine link line old new text
     → IsLine link line old new' text' → IsOne new new' text text'
 one-line {link} {old} {new} {text} (lines.Play c source buffer delay) link-is standing sound a b =
@@ -227,7 +227,7 @@ pub record IsOneRun (new new' : DayState) (texts texts' : List (List ℕ)) : Typ
   pub new_is : new ≡ new'
   pub texts_are : texts ≡ texts'
 
-one-run : {link : Link} {texts texts' : List (List ℕ)} {old new new' : DayState} (ls : List Line) → IsLink link
+one-run : {link : SharedLink} {texts texts' : List (List ℕ)} {old new new' : DayState} (ls : List Line) → IsLink link
     → StandingLines old.heard (length link.media) ls → IsSound old → AreLineSteps link ls texts old new
     → AreLineSteps link ls texts' old new'
     → IsOneRun new new' texts texts'
@@ -247,7 +247,7 @@ one-run {link} {texts = t ∷ ts} {texts' = t' ∷ ts'} {old} {new} {new'} (l �
     link-is after next a.1.1 (subst R (sym one.new_is) b.1.1) in
     record { new_is = rest.new_is; texts_are = ap (λ x. x ∷ ts) one.text_is ∙ ap (λ xs. t' ∷ xs) rest.texts_are }
 
-pub one-day : {link : Link} {ls : List Line} {text text' : List ℕ} {journal journal' : List Entry} → IsLink link
+pub one-day : {link : SharedLink} {ls : List Line} {text text' : List ℕ} {journal journal' : List Entry} → IsLink link
     → AreClients ls → AreLines (length link.media) ls → IsDay link ls text journal → IsDay link ls text' journal'
     → (text ≡ text') × (journal ≡ journal')
 one-day {ls} link-is clients are a b =

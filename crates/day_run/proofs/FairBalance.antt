@@ -14,11 +14,12 @@ use Rattle.admission.specs.Histories.{state_after}
 use Rattle.admission.specs.Machine.{booked_in}
 use Rattle.day_script.specs.declared.fair_totals.FairTotals.{FairTotals}
 use Rattle.day_script.specs.declared.fair_totals.EntryCounts.{EntryCounts}
+use Rattle.day_run.specs.declared.fairs.TheConstants.{BUFFER_SIZES, LEAST_BUFFER}
 use Rattle.day_run.specs.declared.clients.Client.{Client}
 use Rattle.day_run.specs.Clients.{state_of}
 use Rattle.day_run.specs.BookingBalance.{IsReady}
-use Rattle.day_run.specs.Days.{Link, DayState, last_journal, IsPlayLine, first_moment, rest_at, state_at}
-use Rattle.day_run.specs.FairDays.{AreTurns, IsDone, IsTurn, Turn, after_traces, after_turn}
+use Rattle.day_run.specs.Days.{SharedLink, DayState, last_journal, IsPlayLine, first_moment, rest_at, state_at}
+use Rattle.day_run.specs.FairDays.{AreTurns, IsDone, IsTurn, FairTurn, after_traces, after_turn}
 use Rattle.day_run.specs.FairDays.{at_later, counts_of, fair_link, IsFair, is_full_line, is_refused}
 use Rattle.day_run.specs.FairDays.{line_drawn, line_in, entry_counts_of, turn_booked, turn_peak, turn_sent, words_for}
 use Rattle.day_run.specs.FairProgress.{AreTurnResults, IsTurnResult, after_turns, drawn_to, with_slot, with_turn}
@@ -37,7 +38,7 @@ use Rattle.day_run.proofs.PeakLemmas.{peak-push}
 pub done-ready : {c : ℕ} {state : ClientState} (step : LineStep) (words : ℕ → ℕ) → ClientOf step.old c state
     → IsDone step.link (line_drawn words c state) step.old step.new step.text → IsReady step.old → IsReady step.new
 done-ready {c} {state = Idle} step words own is ready =
-    play-ready step (rest_at step.link (words 0 % 16) (16384 + words 1 % 16384) (words 2 % 26))
+    play-ready step (rest_at step.link (words 0 % 16) (LEAST_BUFFER + words 1 % BUFFER_SIZES) (words 2 % 26))
     (record { client = own.client; at = refl }) is ready
 done-ready {c} {state = Playing play} step words own is ready =
     pause-ready step (record { client = own.client; at = refl }) is ready
@@ -85,8 +86,8 @@ same-counts counts moment last =
     })
 
 -- the steps of a turn, one after the other
-pub record TurnSteps (link here : Link) (w w1 w2 w3 : ℕ → ℕ) (later client : ℕ) (c c1 c2 : FairTotals) (full : Bool)
-    (turn : Turn)
+pub record TurnSteps (link here : SharedLink) (w w1 w2 w3 : ℕ → ℕ) (later client : ℕ) (c c1 c2 : FairTotals)
+    (full : Bool) (turn : FairTurn)
     : Type 0 where
   pub same : here ≡ link
   pub one : w1 ≡ words_after 1 w
@@ -109,8 +110,8 @@ pub record TurnSteps (link here : Link) (w w1 w2 w3 : ℕ → ℕ) (later client
       }
 
 -- ---- one turn
-pub turn-of : {link here : Link} {w w1 w2 w3 : ℕ → ℕ} {later client : ℕ} {c c1 c2 : FairTotals} {full : Bool} (turn :
-    Turn)
+pub turn-of : {link here : SharedLink} {w w1 w2 w3 : ℕ → ℕ} {later client : ℕ} {c c1 c2 : FairTotals} {full : Bool}
+    (turn : FairTurn)
     → TurnSteps link here w w1 w2 w3 later client c c1 c2 full turn
     → IsTurnResult link (drawn_to w c turn.old) (drawn_to w3 c2 turn.new)
 turn-of {here} {w} {w2} {later} {client} {c} {full} turn steps =
@@ -120,7 +121,7 @@ turn-of {here} {w} {w2} {later} {client} {c} {full} turn steps =
     let D : ℕ → Type 0 = λ k. IsDone here (line_drawn w2 k (state_at turn.mid k)) turn.mid turn.new turn.text in
     let W : (ℕ → ℕ) → Type 0 =
     λ f. IsDone here (line_drawn f (w 1 % 256) (state_at turn.mid (w 1 % 256))) turn.mid turn.new turn.text in
-    let L : Link → Type 0 =
+    let L : SharedLink → Type 0 =
     λ x. IsDone x (line_in w turn) turn.mid turn.new turn.text in
     record {
       turn = turn;
@@ -148,8 +149,8 @@ turn-of {here} {w} {w2} {later} {client} {c} {full} turn steps =
     open steps use {same, one, two, later_is as l, who, slot, done, left, counted as n, told, counts_are as m}
 
 -- ---- turns
-turns-more : {link : Link} {turn : Turn} {mid : DayState} (words : ℕ → ℕ) (turns : List Turn) (old : DayState)
-    → AreTurns link words turns old mid → turn.old ≡ mid
+turns-more : {link : SharedLink} {turn : FairTurn} {mid : DayState} (words : ℕ → ℕ) (turns : List FairTurn)
+    (old : DayState) → AreTurns link words turns old mid → turn.old ≡ mid
     → IsTurn link (after_turns words turns) turn → AreTurns link words (turns ++ turn ∷ []) old turn.new
 turns-more words [] old run at is = (at ∙ run, (is, refl))
 turns-more {link} {turn} {mid} words (t ∷ turns) old run at is = (
@@ -161,12 +162,12 @@ turns-more {link} {turn} {mid} words (t ∷ turns) old run at is = (
   ),
 )
 
-after-more : (words : ℕ → ℕ) (turns : List Turn) (turn : Turn)
+after-more : (words : ℕ → ℕ) (turns : List FairTurn) (turn : FairTurn)
     → after_turns words (turns ++ turn ∷ []) ≡ after_turn (after_turns words turns) turn
 after-more words [] turn = refl
 after-more words (t ∷ turns) turn = after-more (after_turn words t) turns turn
 
-counts-more : (turns : List Turn) (turn : Turn) (old new : DayState) → turn.mid.heard ≡ new.heard
+counts-more : (turns : List FairTurn) (turn : FairTurn) (old new : DayState) → turn.mid.heard ≡ new.heard
     → with_turn (counts_of turns old) turn ≡ counts_of (turns ++ turn ∷ []) new
 counts-more turns turn old new heard =
     counts-same (with_turn (counts_of turns old) turn) (counts_of (turns ++ turn ∷ []) new) (record {
@@ -179,21 +180,21 @@ counts-more turns turn old new heard =
           ∙ peak-push (map turn_peak turns) (turn_peak turn));
     })
 
-pub come-none : (link : Link) (words : ℕ → ℕ) (counts : FairTotals) (moment : DayState) → moment ≡ first_moment
+pub come-none : (link : SharedLink) (words : ℕ → ℕ) (counts : FairTotals) (moment : DayState) → moment ≡ first_moment
     → counts ≡ record { turns = 0; full = 0; last = 0; sent = 0; booked = 0; peak = 0 }
     → AreTurnResults link words words 0 counts moment
 come-none link words counts moment is c =
     record { turns = []; count = refl; run = is; left_is = refl; counts_are = c ∙ ap (counts_of []) (sym is) }
 
-pub come-next : {link here : Link} {words left next : ℕ → ℕ} {n : ℕ} {counts more : FairTotals} {old new : DayState}
-    → here ≡ link → AreTurnResults link words left n counts old
+pub come-next : {link here : SharedLink} {words left next : ℕ → ℕ} {n : ℕ} {counts more : FairTotals}
+    {old new : DayState} → here ≡ link → AreTurnResults link words left n counts old
     → IsTurnResult here (drawn_to left counts old) (drawn_to next more new) → more.last ≡ new.heard
     → AreTurnResults link words next (n + 1) more new
 come-next {link} {here} {words} {left} {next} {more} {old} {new} same come turned last =
     let turn = turned.turn in
     let all = come.turns ++ turn ∷ [] in
     let heard : turn.mid.heard ≡ new.heard = sym (ap (λ (c : FairTotals). c.last) turned.counts_are) ∙ last in
-    let L : Link → Type 0 = λ x. IsTurn x left turn in
+    let L : SharedLink → Type 0 = λ x. IsTurn x left turn in
     let W : (ℕ → ℕ) → Type 0 = λ w. IsTurn link w turn in
     let M : DayState → Type 0 = λ m. AreTurns link words all first_moment m in
     let is : IsTurn link (after_turns words come.turns) turn = subst W come.left_is (subst L same turned.turn_is) in
@@ -209,14 +210,14 @@ come-next {link} {here} {words} {left} {next} {more} {old} {new} same come turne
     }
 
 -- a day of turns
-pub fair-of : {here : Link} {steps : List CapStep} {number plays : ℕ} {words left : ℕ → ℕ} {counts : FairTotals}
+pub fair-of : {here : SharedLink} {steps : List CapStep} {number plays : ℕ} {words left : ℕ → ℕ} {counts : FairTotals}
     {entries : EntryCounts} {evening : DayState} {text : List ℕ} {journal : List Entry}
     → here ≡ fair_link steps (words_of number) → words ≡ after_traces 16 (words_of number)
     → AreTurnResults here words left plays counts evening
     → journal ≡ last_journal evening → entries ≡ entry_counts_of journal → text ≡ fair_text counts entries
     → IsFair steps number plays text journal
 fair-of {here} {steps} {number} {words} {left} {entries} {evening} {text} same w come j m t =
-    let L : Link → Type 0 = λ x. AreTurns x words come.turns first_moment evening in
+    let L : SharedLink → Type 0 = λ x. AreTurns x words come.turns first_moment evening in
     let W : (ℕ → ℕ) → Type 0 = λ x. AreTurns (fair_link steps (words_of number)) x come.turns first_moment evening in
     record {
       turns = come.turns;

@@ -19,8 +19,8 @@ use Rattle.admission.specs.Machine.{IsAnswer, State}
 use Rattle.admission.proofs.PlayCounts.{tally}
 use Rattle.day_run.specs.BookingBalance.{IsReady}
 use Rattle.day_run.specs.DayLaws.{AreEntryCounts, is_play}
-use Rattle.day_run.specs.Days.{Link, DayState}
-use Rattle.day_run.specs.FairDays.{AreTurns, IsTurn, Turn, after_turn, client_of, entry_counts_of, is_halted}
+use Rattle.day_run.specs.Days.{SharedLink, DayState}
+use Rattle.day_run.specs.FairDays.{AreTurns, IsTurn, FairTurn, after_turn, client_of, entry_counts_of, is_halted}
 use Rattle.day_run.specs.FairDays.{is_overflow, is_refused}
 use Rattle.day_run.proofs.FairLaws.{turn-ready}
 use Rattle.day_run.proofs.FullLineTexts.{done-other}
@@ -99,7 +99,7 @@ entry-counts {steps} journal legal closed =
     }
 
 -- ---- no turn finds the journal full
-pub never-full : {old : DayState} (link : Link) (words : ℕ → ℕ) (turns : List Turn) (new : DayState)
+pub never-full : {old : DayState} (link : SharedLink) (words : ℕ → ℕ) (turns : List FairTurn) (new : DayState)
     → AreTurns link words turns old new → IsReady old
     → places_taken old.entries + 2 * length turns ≤ link.limit → link.limit < 2 ^ 64
     → count_by is_refused turns ≡ 0

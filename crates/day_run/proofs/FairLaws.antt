@@ -14,10 +14,11 @@ use Rattle.admission.specs.Histories.{IsLegal, booked_after, state_after}
 use Rattle.admission.specs.Machine.{booked_in}
 use Rattle.admission.proofs.HistoryPrefixes.{legal-take}
 use Rattle.admission.proofs.CapacityBounds.{sound-after}
+use Rattle.day_run.specs.declared.fairs.TheConstants.{BUFFER_SIZES, LEAST_BUFFER}
 use Rattle.day_run.specs.BookingBalance.{IsReady}
-use Rattle.day_run.specs.Days.{IsAsked, IsPauseLine, IsResumeLine, Link, DayState}
+use Rattle.day_run.specs.Days.{IsAsked, IsPauseLine, IsResumeLine, SharedLink, DayState}
 use Rattle.day_run.specs.Days.{at_slot, halts_at, last_halts, last_journal, rest_at, state_at}
-use Rattle.day_run.specs.FairDays.{AreTurns, IsDone, IsTurn, Turn, after_turn, at_later, client_of}
+use Rattle.day_run.specs.FairDays.{AreTurns, IsDone, IsTurn, FairTurn, after_turn, at_later, client_of}
 use Rattle.day_run.specs.FairDays.{line_drawn, most_up_to, turn_booked, turn_peak, turn_sent}
 use Rattle.day_run.specs.ClientStates.{Rest, ClientState, Idle, Playing, Pausing, Paused}
 use Rattle.day_run.proofs.LineBalance.{pause-heard, play-heard, ready-sent, resume-heard, slot-ready}
@@ -39,7 +40,7 @@ later-heard old later = heard-if (later == 0)
     heard-if true = omega arith
     heard-if false = omega arith
 
-pub turn-ready : (link : Link) (words : ℕ → ℕ) (turn : Turn) → IsTurn link words turn → IsReady turn.old
+pub turn-ready : (link : SharedLink) (words : ℕ → ℕ) (turn : FairTurn) → IsTurn link words turn → IsReady turn.old
     → IsReady turn.new
 turn-ready link words turn is ready =
     let R : DayState → Type 0 = λ m. IsReady m in
@@ -47,13 +48,13 @@ turn-ready link words turn is ready =
     done-ready (record { link = link; old = turn.mid; new = turn.new; text = turn.text }) (words_after 2 words)
     (record { client = omega arith; at = refl }) is.done mid
 
-turn-balanced : (link : Link) (words : ℕ → ℕ) (turn : Turn) → IsTurn link words turn → IsReady turn.old
+turn-balanced : (link : SharedLink) (words : ℕ → ℕ) (turn : FairTurn) → IsTurn link words turn → IsReady turn.old
     → turn_sent turn ≡ turn_booked turn
 turn-balanced link words turn is ready =
     let M : DayState → Type 0 = λ m. turn.old.heard ≤ m.heard in
     ready-sent turn.old turn.mid.heard (subst M (sym is.slot) (later-heard turn.old (words 0 % 4))) ready
 
-pub turns-balanced : {old : DayState} (link : Link) (words : ℕ → ℕ) (turns : List Turn) (new : DayState)
+pub turns-balanced : {old : DayState} (link : SharedLink) (words : ℕ → ℕ) (turns : List FairTurn) (new : DayState)
     → AreTurns link words turns old new → IsReady old
     → sum_by turn_sent turns ≡ sum_by turn_booked turns
 turns-balanced link words [] new run ready = refl
@@ -84,7 +85,7 @@ grown-on a b c one two =
       new_is = two.new_is ∙ ap (λ l. l ++ two.made) one.new_is ∙ append_assoc a one.made two.made;
     }
 
-asked-grown : {link : Link} {c : ℕ} {rest : Rest} {old new : DayState} {text : List ℕ}
+asked-grown : {link : SharedLink} {c : ℕ} {rest : Rest} {old new : DayState} {text : List ℕ}
     → IsAsked link c rest old new text → HasGrown old.entries new.entries
 asked-grown {c} {old} {new} {text} (inl faulty) = kept-grown old new faulty.told.kept
 asked-grown {c} {old} {new} {text} (inr planned) = elim planned.done [
@@ -117,7 +118,7 @@ done-grown : (step : LineStep) (words : ℕ → ℕ) (c : ℕ) (state : ClientSt
     → IsDone step.link (line_drawn words c state) step.old step.new step.text
     → HasGrown step.old.entries step.new.entries
 done-grown step words c Idle is =
-    play-grown step c (rest_at step.link (words 0 % 16) (16384 + words 1 % 16384) (words 2 % 26))
+    play-grown step c (rest_at step.link (words 0 % 16) (LEAST_BUFFER + words 1 % BUFFER_SIZES) (words 2 % 26))
     (state_at step.old c) is
 done-grown step words c (Playing play) is = pause-grown step c (state_at step.old c) is
 done-grown step words c (Pausing stop rest) is = kept-grown step.old step.new is.kept
@@ -130,7 +131,7 @@ later-grown old later = grown-if (later == 0)
     grown-if true = kept-grown old old refl
     grown-if false = record { made = halts_at old (old.heard + later); new_is = refl }
 
-turn-grown : (link : Link) (words : ℕ → ℕ) (turn : Turn) → IsTurn link words turn
+turn-grown : (link : SharedLink) (words : ℕ → ℕ) (turn : FairTurn) → IsTurn link words turn
     → HasGrown turn.old.entries turn.new.entries
 turn-grown link words turn is =
     let G : DayState → Type 0 = λ m. HasGrown turn.old.entries m.entries in
@@ -139,7 +140,7 @@ turn-grown link words turn is =
     (done-grown (record { link = link; old = turn.mid; new = turn.new; text = turn.text }) (words_after 2 words)
     (client_of words) _ is.done)
 
-turns-grown : (link : Link) (words : ℕ → ℕ) (turns : List Turn) (old new : DayState)
+turns-grown : (link : SharedLink) (words : ℕ → ℕ) (turns : List FairTurn) (old new : DayState)
     → AreTurns link words turns old new → HasGrown old.entries new.entries
 turns-grown link words [] old new run = kept-grown old new run
 turns-grown link words (turn ∷ turns) old new run =
@@ -179,14 +180,14 @@ moment-within {steps} {journal} {m} {most} slot given =
     open given use {legal, grown, capacity}
 
 -- turns that came one after the other
-pub record TurnRun (turns : List Turn) : Type 0 where
-  pub link : Link
+pub record TurnRun (turns : List FairTurn) : Type 0 where
+  pub link : SharedLink
   pub words : ℕ → ℕ
   pub old : DayState
   pub new : DayState
   pub run : AreTurns link words turns old new
 
-pub turns-within : {steps : List CapStep} {journal : List Entry} {most : ℕ} (turns : List Turn)
+pub turns-within : {steps : List CapStep} {journal : List Entry} {most : ℕ} (turns : List FairTurn)
     (come : TurnRun turns) (top : ℕ)
     → GrownJournal steps journal come.new most → top ≤ most → fold max top (map turn_peak turns) ≤ most
 turns-within [] come top given small = small
@@ -213,7 +214,7 @@ evening-grown evening journal is = record { made = last_halts evening; new_is = 
 pub done-heard : (step : LineStep) (words : ℕ → ℕ) (c : ℕ) (state : ClientState)
     → IsDone step.link (line_drawn words c state) step.old step.new step.text → step.new.heard ≡ step.old.heard
 done-heard step words c Idle is =
-    play-heard step c (rest_at step.link (words 0 % 16) (16384 + words 1 % 16384) (words 2 % 26))
+    play-heard step c (rest_at step.link (words 0 % 16) (LEAST_BUFFER + words 1 % BUFFER_SIZES) (words 2 % 26))
     (state_at step.old c) is
 done-heard step words c (Playing play) is = pause-heard step c (state_at step.old c) is
 done-heard step words c (Pausing stop rest) is = ap (λ (m : DayState). m.heard) is.kept
@@ -226,7 +227,7 @@ later-most old later = most-if (later == 0)
     most-if true = omega arith
     most-if false = omega arith
 
-pub turns-heard : (link : Link) (words : ℕ → ℕ) (turns : List Turn) (old new : DayState)
+pub turns-heard : (link : SharedLink) (words : ℕ → ℕ) (turns : List FairTurn) (old new : DayState)
     → AreTurns link words turns old new → new.heard ≤ old.heard + 3 * length turns
 turns-heard link words [] old new run = omega (arith, ap (λ (m : DayState). m.heard) run)
 turns-heard link words (turn ∷ turns) old new run =
@@ -241,7 +242,7 @@ turns-heard link words (turn ∷ turns) old new run =
       turns-heard link (after_turn words turn) turns turn.new new run.1.1,
     )
 
-pub turns-ready : {old new : DayState} (link : Link) (words : ℕ → ℕ) (turns : List Turn)
+pub turns-ready : {old new : DayState} (link : SharedLink) (words : ℕ → ℕ) (turns : List FairTurn)
     → AreTurns link words turns old new → IsReady old → IsReady new
 turns-ready {new} link words [] run ready =
     let R : DayState → Type 0 = λ m. IsReady m in

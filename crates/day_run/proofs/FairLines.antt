@@ -12,7 +12,7 @@ use Rattle.admission.specs.Histories.{IsLegal, booked_after, open_count}
 use Rattle.admission.proofs.CapacityBounds.{sound-after}
 use Rattle.day_run.specs.Days.{first_moment}
 use Rattle.day_run.specs.DayLaws.{IsFairLine, IsTurnWithinCapacity, SentIsBookedEachTurn}
-use Rattle.day_run.specs.FairDays.{IsFair, Turn, after_traces, counts_of, entry_counts_of, fair_link}
+use Rattle.day_run.specs.FairDays.{IsFair, FairTurn, after_traces, counts_of, entry_counts_of, fair_link}
 use Rattle.day_run.proofs.FairCounts.{entry-counts, never-full}
 use Rattle.day_run.proofs.LineBalance.{morning-ready}
 use Rattle.day_run.proofs.FairLaws.{TurnRun, evening-grown, turns-balanced, turns-heard, turns-ready, turns-within}
@@ -57,7 +57,7 @@ fair-line {number} steps plays text journal fair legal =
     }
 
 -- ---- turn by turn
-turn-within : {steps : List CapStep} {journal : List Entry} (turn : Turn) → IsLegal steps journal
+turn-within : {steps : List CapStep} {journal : List Entry} (turn : FairTurn) → IsLegal steps journal
     → IsTurnBooked (booked_after journal) turn → IsTurnWithinCapacity steps journal turn
 turn-within {steps} {journal} turn legal is = record {
   sent = is.sent;

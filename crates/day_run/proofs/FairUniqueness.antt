@@ -10,10 +10,11 @@ use Rattle.film_run.specs.Units.{AreUnitSizes}
 use Rattle.slot_calendar.specs.declared.profiles.CapStep.{CapStep}
 use Rattle.admission.specs.declared.entries.Entry.{Entry}
 use Rattle.day_script.specs.declared.scripts.Line.{Line}
+use Rattle.day_run.specs.declared.fairs.TheConstants.{BUFFER_SIZES, SLOT_UNITS}
 use Rattle.day_run.specs.ClientStates.{ClientState, Idle, Playing, Pausing, Paused, MediaContent, trace_content}
 use Rattle.day_run.specs.DayLaws.{IsLink, IsSoundMedia}
-use Rattle.day_run.specs.Days.{Link, DayState, at_slot, first_moment, last_journal, state_at}
-use Rattle.day_run.specs.FairDays.{AreTurns, IsDone, IsFair, IsTurn, Turn, after_traces, after_turn, at_later}
+use Rattle.day_run.specs.Days.{SharedLink, DayState, at_slot, first_moment, last_journal, state_at}
+use Rattle.day_run.specs.FairDays.{AreTurns, IsDone, IsFair, IsTurn, FairTurn, after_traces, after_turn, at_later}
 use Rattle.day_run.specs.FairDays.{client_of, counts_of, entry_counts_of, fair_link, line_drawn, line_in}
 use Rattle.day_run.specs.FairDays.{state_in, trace_drawn, traces_drawn}
 use Rattle.day_script.specs.LineTexts.{fair_text}
@@ -25,7 +26,7 @@ use Rattle.day_run.proofs.SoundClients.{IsSound, idle-sound, line-sound, slot-so
 use Rattle.day_run.proofs.ScriptLineFacts.{LineStep, StandingLine}
 
 -- ---- the 16 traces can be played
-record IsFairLink (link : Link) : Type 0 where
+record IsFairLink (link : SharedLink) : Type 0 where
   link_is : IsLink link
   count : length link.media ≡ 16
 
@@ -34,26 +35,26 @@ trace-sizes words =
     let few = mod_below (words 0) 101 (omega arith) in
     drawn-trace (words_after 1 words) (100 + words 0 % 101) (omega (arith, few))
 
-trace-medium : (sizes : List ℕ) → AreUnitSizes sizes → IsSoundMedia (trace_content 14400 sizes)
+trace-medium : (sizes : List ℕ) → AreUnitSizes sizes → IsSoundMedia (trace_content SLOT_UNITS sizes)
 trace-medium sizes own = record { sizes = own; some_picture_units = omega arith; picture_units_fit = omega arith }
 
 medium-drawn : (words : ℕ → ℕ) (i : ℕ) (none : MediaContent) → i < 16
-    → IsSoundMedia (get_or (map (trace_content 14400) (traces_drawn 16 words)) i none)
+    → IsSoundMedia (get_or (map (trace_content SLOT_UNITS) (traces_drawn 16 words)) i none)
 medium-drawn words i none inside =
     let drawn = λ (k : ℕ). trace_drawn (after_traces k words) in
     let within : i < length (traces_drawn 16 words) = omega (arith, inside, length-map-range_with_len drawn 0 16) in
     let among : i < length (range_with_len 0 16) = omega (arith, inside, length-range_with_len 0 16) in
-    let at : get_or (map (trace_content 14400) (traces_drawn 16 words)) i none
-    ≡ trace_content 14400 (drawn (get_or (range_with_len 0 16) i 0)) =
-    get_or-map (trace_content 14400) (traces_drawn 16 words) i [] none within
-    ∙ ap (trace_content 14400) (get_or-map drawn (range_with_len 0 16) i 0 [] among) in
+    let at : get_or (map (trace_content SLOT_UNITS) (traces_drawn 16 words)) i none
+    ≡ trace_content SLOT_UNITS (drawn (get_or (range_with_len 0 16) i 0)) =
+    get_or-map (trace_content SLOT_UNITS) (traces_drawn 16 words) i [] none within
+    ∙ ap (trace_content SLOT_UNITS) (get_or-map drawn (range_with_len 0 16) i 0 [] among) in
     let R : MediaContent → Type 0 = λ r. IsSoundMedia r in
     subst R (sym at) (trace-medium _ (trace-sizes (after_traces (get_or (range_with_len 0 16) i 0) words)))
 
 fair-link : (steps : List CapStep) (words : ℕ → ℕ) → IsFairLink (fair_link steps words)
 fair-link steps words =
-    let count : length (map (trace_content 14400) (traces_drawn 16 words)) ≡ 16 =
-    length-map (traces_drawn 16 words) (trace_content 14400)
+    let count : length (map (trace_content SLOT_UNITS) (traces_drawn 16 words)) ≡ 16 =
+    length-map (traces_drawn 16 words) (trace_content SLOT_UNITS)
     ∙ length-map-range_with_len (λ i. trace_drawn (after_traces i words)) 0 16 in
     record {
       link_is = record {
@@ -66,19 +67,19 @@ fair-link steps words =
 
 -- ---- what a client does has one outcome
 -- a moment of a large day from which turns come
-record IsBegun (link : Link) (old : DayState) : Type 0 where
+record IsBegun (link : SharedLink) (old : DayState) : Type 0 where
   fair : IsFairLink link
   sound : IsSound old
 
 -- a line that may stand at a moment, or none
-abbrev MayStand : Link → DayState → Option Line → Type 0
+abbrev MayStand : SharedLink → DayState → Option Line → Type 0
 MayStand link old line = IfSome line (StandingLine old.heard (length link.media))
 
-drawn-stands : {link : Link} {client : ℕ} (old : DayState) (words : ℕ → ℕ) (state : ClientState) → IsFairLink link
+drawn-stands : {link : SharedLink} {client : ℕ} (old : DayState) (words : ℕ → ℕ) (state : ClientState) → IsFairLink link
     → client < 256 → MayStand link old (line_drawn words client state)
 drawn-stands old words Idle fair small =
     let source = mod_below (words 0) 16 (omega arith) in
-    let buffer = mod_below (words 1) 16384 (omega arith) in
+    let buffer = mod_below (words 1) BUFFER_SIZES (omega arith) in
     let delay = mod_below (words 2) 26 (omega arith) in
     record {
       client = small;
@@ -93,12 +94,12 @@ drawn-stands old words (Playing play) fair small = record { client = small; stan
 drawn-stands old words (Pausing stop rest) fair small = tt
 drawn-stands old words (Paused rest) fair small = record { client = small; stands = tt }
 
-line-stands : {link : Link} (words : ℕ → ℕ) (turn : Turn) → IsFairLink link
+line-stands : {link : SharedLink} (words : ℕ → ℕ) (turn : FairTurn) → IsFairLink link
     → MayStand link turn.mid (line_in words turn)
 line-stands words turn fair =
     drawn-stands turn.mid (words_after 2 words) (state_in words turn) fair (mod_below (words 1) 256 (omega arith))
 
-one-done : {link : Link} {old new new' : DayState} {text text' : List ℕ} (line : Option Line) → IsBegun link old
+one-done : {link : SharedLink} {old new new' : DayState} {text text' : List ℕ} (line : Option Line) → IsBegun link old
     → MayStand link old line → IsDone link line old new text → IsDone link line old new' text'
     → IsOne new new' text text'
 one-done {new} {text} (Some line) begun stands a b = one-line line begun.fair.link_is stands begun.sound a b
@@ -119,13 +120,13 @@ later-sound old later sound = sound-if (later == 0)
     sound-if true = sound
     sound-if false = slot-sound old (old.heard + later) (omega arith) sound
 
-mid-begun : {link : Link} {words : ℕ → ℕ} (turn : Turn) → IsBegun link turn.old → IsTurn link words turn
+mid-begun : {link : SharedLink} {words : ℕ → ℕ} (turn : FairTurn) → IsBegun link turn.old → IsTurn link words turn
     → IsBegun link turn.mid
 mid-begun {words} turn begun is =
     let S : DayState → Type 0 = λ m. IsSound m in
     record { fair = begun.fair; sound = subst S (sym is.slot) (later-sound turn.old (words 0 % 4) begun.sound) }
 
-next-begun : {link : Link} {words : ℕ → ℕ} (turn : Turn) → IsBegun link turn.old → IsTurn link words turn
+next-begun : {link : SharedLink} {words : ℕ → ℕ} (turn : FairTurn) → IsBegun link turn.old → IsTurn link words turn
     → IsBegun link turn.new
 next-begun {link} {words} turn begun is = record {
   fair = begun.fair;
@@ -134,7 +135,7 @@ next-begun {link} {words} turn begun is = record {
       (mid-begun turn begun is) (line-stands words turn begun.fair) is.done;
 }
 
-one-turn : {link : Link} {words : ℕ → ℕ} (turn other : Turn) → IsBegun link turn.old → turn.old ≡ other.old
+one-turn : {link : SharedLink} {words : ℕ → ℕ} (turn other : FairTurn) → IsBegun link turn.old → turn.old ≡ other.old
     → IsTurn link words turn → IsTurn link words other → turn ≡ other
 one-turn {link} {words} turn other begun old a b =
     let mid : turn.mid ≡ other.mid =
@@ -151,11 +152,11 @@ one-turn {link} {words} turn other begun old a b =
     ∙ ap (λ t. record { old = other.old; mid = other.mid; new = other.new; text = t }) one.text_is
 
 -- ---- turns have one outcome
-record AreOne (turns others : List Turn) (new new' : DayState) : Type 0 where
+record AreOne (turns others : List FairTurn) (new new' : DayState) : Type 0 where
   turns_are : turns ≡ others
   new_is : new ≡ new'
 
-one-turns : {new' : DayState} (turns others : List Turn) (come : TurnRun turns) → IsBegun come.link come.old
+one-turns : {new' : DayState} (turns others : List FairTurn) (come : TurnRun turns) → IsBegun come.link come.old
     → length turns ≡ length others → AreTurns come.link come.words others come.old new'
     → AreOne turns others come.new new'
 one-turns [] [] come begun count b = record { turns_are = refl; new_is = come.run ∙ sym b }
@@ -165,7 +166,7 @@ one-turns {new'} (turn ∷ turns) (other ∷ others) come begun count b =
     let B : DayState → Type 0 = λ m. IsBegun link m in
     let here : IsBegun link turn.old = subst B (sym run.0) begun in
     let one : turn ≡ other = one-turn turn other here (run.0 ∙ sym b.0) run.1.0 b.1.0 in
-    let R : Turn → Type 0 = λ t. AreTurns link (after_turn words t) others t.new new' in
+    let R : FairTurn → Type 0 = λ t. AreTurns link (after_turn words t) others t.new new' in
     let later : TurnRun turns =
     record { link = link; words = after_turn words turn; old = turn.new; new = new; run = run.1.1 } in
     let rest =
@@ -192,7 +193,8 @@ one-fair {steps} {number} {journal} a b =
       sound = record { ready = morning-ready; each = idle-sound };
     }) (a.count ∙ sym b.count) b.run in
     let journals = a.journal_is ∙ ap last_journal one.new_is ∙ sym b.journal_is in (
-      a.text_is ∙ ap (λ (ts : List Turn). fair_text (counts_of ts a.evening) (entry_counts_of journal)) one.turns_are
+      a.text_is
+          ∙ ap (λ (ts : List FairTurn). fair_text (counts_of ts a.evening) (entry_counts_of journal)) one.turns_are
           ∙ ap (λ (m : DayState). fair_text (counts_of b.turns m) (entry_counts_of journal)) one.new_is
           ∙ ap (λ (es : List Entry). fair_text (counts_of b.turns b.evening) (entry_counts_of es)) journals
           ∙ sym b.text_is,

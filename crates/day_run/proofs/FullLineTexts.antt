@@ -14,10 +14,11 @@ use Rattle.admission.specs.Histories.{open_count}
 use Rattle.report.specs.EntryLines.{entry_line}
 use Rattle.day_script.specs.declared.scripts.Line.{Line}
 use Rattle.day_script.specs.declared.scripts.Line.TheVariants as lines
+use Rattle.day_run.specs.declared.fairs.TheConstants.{BUFFER_SIZES, LEAST_BUFFER}
 use Rattle.day_run.specs.BookingBalance.{IsReady}
 use Rattle.day_run.specs.ClientStates.{ClientState, Idle, Playing, Pausing, Paused, Rest, is_playing}
 use Rattle.day_run.specs.Days.{IsAsked, IsFull, IsLine, IsLookLine, IsNoted, IsOfferLine, IsPauseLine, IsResumeLine}
-use Rattle.day_run.specs.Days.{IsTold, Link, DayState, rest_at, slot_lines, state_at}
+use Rattle.day_run.specs.Days.{IsTold, SharedLink, DayState, rest_at, slot_lines, state_at}
 use Rattle.day_run.specs.FairDays.{IsDone, is_full_line, line_drawn}
 use Rattle.day_run.specs.JournalLaws.{IsFullJournal, places_needed}
 use Rattle.day_script.specs.LineTexts.{fault_text, full_text, offer_text, state_text}
@@ -32,7 +33,7 @@ told-other : {told text : List ℕ} {old new : DayState} → IsTold told old new
     → is_full_line text ≡ false
 told-other is other = ap is_full_line is.text_is ∙ other
 
-noted-other : {link : Link} {entry : Entry} {states : List ClientState} {old new : DayState} {text : List ℕ}
+noted-other : {link : SharedLink} {entry : Entry} {states : List ClientState} {old new : DayState} {text : List ℕ}
     → length old.entries < 2 ^ 64 → IsNoted link entry states old new text → is_full_line text ≡ false
 noted-other {entry} {old} small is =
     let line = entry_line (length old.entries) entry in
@@ -116,7 +117,7 @@ text-parts entries open_plays =
     ap (λ t. t ++ end) (sym (append_assoc (first ++ decimal entries) second (decimal open_plays)))
 
 -- what a line says about a full journal is true
-pub record SaysFull (link : Link) (needed : ℕ) (old new : DayState) (text : List ℕ) : Type 0 where
+pub record SaysFull (link : SharedLink) (needed : ℕ) (old new : DayState) (text : List ℕ) : Type 0 where
   pub kept : new ≡ old
   pub says : IsFullJournal link needed old text
 
@@ -144,7 +145,7 @@ full-line step line ready small is begins = elim (line-text step line small is) 
 pub done-text : (c : ℕ) (step : LineStep) (words : ℕ → ℕ) (state : ClientState) → length step.old.entries < 2 ^ 64
     → IsDone step.link (line_drawn words c state) step.old step.new step.text → OtherOrFull step 2
 done-text c step words Idle small is =
-    line-text step (lines.Play c (words 0 % 16) (16384 + words 1 % 16384) (words 2 % 26)) small is
+    line-text step (lines.Play c (words 0 % 16) (LEAST_BUFFER + words 1 % BUFFER_SIZES) (words 2 % 26)) small is
 done-text c step words (Playing play) small is = line-text step (lines.Pause c) small is
 done-text c step words (Pausing stop rest) small is = inl (told-other is refl)
 done-text c step words (Paused rest) small is = line-text step (lines.Resume c) small is

@@ -13,7 +13,7 @@ use Rattle.admission.specs.Histories.{Halts, IsAdmission, IsHalt, IsLegal, IsUnh
 use Rattle.admission.specs.Machine.{AdmittedPlay, CanHalt, admitted_play}
 use Rattle.admission.proofs.OneHalt.{closed-halted, halts-once}
 use Rattle.day_run.specs.BookingBalance.{AreHeldOf, AreOwnHalts, IsHeld, IsReady}
-use Rattle.day_run.specs.ClientStates.{ClientState, Idle, Playing, Play as ClientPlay}
+use Rattle.day_run.specs.ClientStates.{ClientState, Idle, Playing, ClientPlay}
 use Rattle.day_run.specs.Days.{DayState, last_journal, state_at}
 use Rattle.day_run.specs.JournalLaws.{IsHaltedOnce, IsOpenPlayOf}
 use Rattle.day_run.proofs.SlotBalance.{last-halted, last-open}

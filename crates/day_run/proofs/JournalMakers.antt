@@ -8,7 +8,7 @@ use Rattle.admission.specs.Histories.{is_halt}
 use Rattle.day_script.specs.declared.scripts.Line.{Line}
 use Rattle.day_script.specs.declared.scripts.Line.TheVariants as lines
 use Rattle.day_run.specs.ClientStates.{ClientState, Idle, Playing, Pausing, Paused, Rest, is_done}
-use Rattle.day_run.specs.Days.{IsAsked, IsLine, IsLookLine, IsNoted, IsOfferLine, IsPauseLine, IsResumeLine, Link}
+use Rattle.day_run.specs.Days.{IsAsked, IsLine, IsLookLine, IsNoted, IsOfferLine, IsPauseLine, IsResumeLine, SharedLink}
 use Rattle.day_run.specs.Days.{DayState, done_halt, halt_by, halt_entries, halts_at, open_halt, rest_at, state_at}
 use Rattle.day_run.specs.JournalLaws.{AreHaltsMade, HasItsMaker, IsMadeBy}
 use Rattle.day_run.proofs.ScriptLineFacts.{IsPlayTaken, LineStep}
@@ -21,7 +21,7 @@ none-made {maker} {old} kept = record {
   makers = All-nil (λ (e : Entry). e.maker ≡ maker);
 }
 
-one-made : {link : Link} {entry : Entry} {states : List ClientState} {old new : DayState} {text : List ℕ}
+one-made : {link : SharedLink} {entry : Entry} {states : List ClientState} {old new : DayState} {text : List ℕ}
     → IsNoted link entry states old new text → IsMadeBy entry.maker old new
 one-made {entry} is = record {
   made = entry ∷ [];
@@ -31,7 +31,7 @@ one-made {entry} is = record {
       entry.maker));
 }
 
-asked-made : {link : Link} {c : ℕ} {rest : Rest} {old new : DayState} {text : List ℕ}
+asked-made : {link : SharedLink} {c : ℕ} {rest : Rest} {old new : DayState} {text : List ℕ}
     → IsAsked link c rest old new text → IsMadeBy c old new
 asked-made (inl faulty) = none-made faulty.told.kept
 asked-made (inr planned) = elim planned.done [
@@ -60,12 +60,12 @@ pause-made step c (Playing play) is = one-made is.noted
 pause-made step c (Pausing stop rest) is = none-made is.kept
 pause-made step c (Paused rest) is = none-made is.kept
 
-look-made : {link : Link} {slot : ℕ} {old new : DayState} {text : List ℕ} → IsLookLine link slot old new text
+look-made : {link : SharedLink} {slot : ℕ} {old new : DayState} {text : List ℕ} → IsLookLine link slot old new text
     → IsMadeBy 0 old new
 look-made (inl full) = none-made full.told.kept
 look-made (inr made) = one-made made.noted
 
-offer-made : {link : Link} {rest : Rest} {wait : ℕ} {old new : DayState} {text : List ℕ}
+offer-made : {link : SharedLink} {rest : Rest} {wait : ℕ} {old new : DayState} {text : List ℕ}
     → IsOfferLine link rest wait old new text → new ≡ old
 offer-made (inl faulty) = faulty.told.kept
 offer-made (inr offered) = offered.told.kept
@@ -106,7 +106,7 @@ slot-halts m slot = all-halts (done_halt slot) (done-halts slot) 0 m.states
 pub last-halts-made : (m : DayState) → All IsHaltEntry (halt_entries (open_halt m.heard) 0 m.states)
 last-halts-made m = all-halts (open_halt m.heard) (open-halts m.heard) 0 m.states
 
-pub line-made : (link : Link) (line : Line) (old new : DayState) (text : List ℕ) → IsLine link line old new text
+pub line-made : (link : SharedLink) (line : Line) (old new : DayState) (text : List ℕ) → IsLine link line old new text
     → HasItsMaker line old new
 line-made link (lines.Play c source buffer delay) old new text is =
     play-made (record { link = link; old = old; new = new; text = text }) c (rest_at link source buffer delay)

@@ -15,14 +15,15 @@ use Rattle.admission.proofs.HistoryPrefixes.{state-push}
 use Rattle.film_make.specs.Generator.{words_after}
 use Rattle.day_script.specs.declared.scripts.Line.{Line}
 use Rattle.day_script.specs.declared.scripts.Line.TheVariants as lines
+use Rattle.day_run.specs.declared.fairs.TheConstants.{BUFFER_SIZES, LEAST_BUFFER}
 use Rattle.day_run.specs.BookingBalance.{IsReady}
-use Rattle.day_run.specs.ClientStates.{ClientState, Idle, Playing, Pausing, Paused, Play, Rest}
+use Rattle.day_run.specs.ClientStates.{ClientState, Idle, Playing, Pausing, Paused, ClientPlay, Rest}
 use Rattle.day_script.specs.Scripts.{AreClients}
 use Rattle.day_script.specs.Scripts.{AreLines}
 use Rattle.day_run.specs.Days.{AreLineSteps, IsAsked, IsDay, IsHaltedPlay, IsLine, IsLookLine, IsOfferLine, IsPauseLine}
-use Rattle.day_run.specs.Days.{IsResumeLine, Link, DayState, at_slot, entry_by, first_moment, last_journal}
+use Rattle.day_run.specs.Days.{IsResumeLine, SharedLink, DayState, at_slot, entry_by, first_moment, last_journal}
 use Rattle.day_run.specs.Days.{rest_at, state_at}
-use Rattle.day_run.specs.FairDays.{AreTurns, IsDone, IsTurn, Turn, after_turn, at_later, client_of, line_drawn}
+use Rattle.day_run.specs.FairDays.{AreTurns, IsDone, IsTurn, FairTurn, after_turn, at_later, client_of, line_drawn}
 use Rattle.day_run.proofs.FairLaws.{later-ready, turn-ready}
 use Rattle.day_run.proofs.LineBalance.{heard-after, line-ready, morning-ready, taken-ready}
 use Rattle.day_run.proofs.ScriptLineFacts.{ClientOf, IsPlayTaken, LineStep, LinesTaken, StandingLine, StandingLines}
@@ -80,7 +81,7 @@ looked-places xs slot answer =
     let is : open_count (xs ++ e ∷ []) ≡ open_count xs = ap (λ (s : State). live s) (state-push xs e) in
     omega (arith, is, length-append xs (e ∷ []))
 
-asked-places : {link : Link} {c : ℕ} {rest : Rest} {text : List ℕ} (old new : DayState)
+asked-places : {link : SharedLink} {c : ℕ} {rest : Rest} {text : List ℕ} (old new : DayState)
     → IsAsked link c rest old new text → TakesPlaces link.limit old.entries new.entries
 asked-places old new (inl faulty) = kept-places old new faulty.told.kept
 asked-places {c} old new (inr planned) = elim planned.done [
@@ -107,7 +108,7 @@ resume-places step c (Playing play) is = kept-places step.old step.new is.kept
 resume-places step c (Pausing stop rest) is = kept-places step.old step.new is.kept
 resume-places step c (Paused rest) is = asked-places step.old step.new is
 
-halted-places : {link : Link} {c : ℕ} {play : Play} {text : List ℕ} (old new : DayState) → c < 256
+halted-places : {link : SharedLink} {c : ℕ} {play : ClientPlay} {text : List ℕ} (old new : DayState) → c < 256
     → get_or old.states c Idle ≡ Playing play → IsReady old → IsHaltedPlay link c play old new text
     → TakesPlaces link.limit old.entries new.entries
 halted-places {c} {play} old new client at ready is =
@@ -124,7 +125,7 @@ pause-places {state = Playing play} step own ready is = halted-places step.old s
 pause-places {state = Pausing stop rest} step own ready is = kept-places step.old step.new is.kept
 pause-places {state = Paused rest} step own ready is = kept-places step.old step.new is.kept
 
-look-places : {link : Link} {slot : ℕ} {text : List ℕ} (old new : DayState) → IsLookLine link slot old new text
+look-places : {link : SharedLink} {slot : ℕ} {text : List ℕ} (old new : DayState) → IsLookLine link slot old new text
     → TakesPlaces link.limit old.entries new.entries
 look-places old new (inl full) = kept-places old new full.told.kept
 look-places {slot} old new (inr made) =
@@ -132,7 +133,7 @@ look-places {slot} old new (inr made) =
     let most = looked-places old.entries slot made.answer in
     room-places 1 old.entries new.entries (omega arith) made.room (omega (arith, is, most))
 
-offer-places : {link : Link} {rest : Rest} {wait : ℕ} {text : List ℕ} (old new : DayState)
+offer-places : {link : SharedLink} {rest : Rest} {wait : ℕ} {text : List ℕ} (old new : DayState)
     → IsOfferLine link rest wait old new text → TakesPlaces link.limit old.entries new.entries
 offer-places old new (inl faulty) = kept-places old new faulty.told.kept
 offer-places old new (inr offered) = kept-places old new offered.told.kept
@@ -154,7 +155,7 @@ line-places step (lines.Offer c source buffer delay wait) standing ready is =
     offer-places step.old step.new is
 
 -- ---- the lines of a script
-run-places : {old : DayState} {n : ℕ} (link : Link) (ls : List Line) (ts : List (List ℕ)) (new : DayState)
+run-places : {old : DayState} {n : ℕ} (link : SharedLink) (ls : List Line) (ts : List (List ℕ)) (new : DayState)
     → StandingLines old.heard n ls → AreLineSteps link ls ts old new → IsReady old
     → places_taken old.entries ≤ link.limit → places_taken new.entries ≤ link.limit
 run-places link [] [] new standing run ready fits =
@@ -168,7 +169,8 @@ run-places {old} link (l ∷ ls) (t ∷ ts) new standing run ready fits =
     (line-ready step l here run.1.0 ready)
     ((line-places step l here ready run.1.0).within fits)
 
-pub taken-places : {link : Link} {n : ℕ} (taken : LinesTaken link n) → places_taken taken.moment.entries ≤ link.limit
+pub taken-places : {link : SharedLink} {n : ℕ} (taken : LinesTaken link n)
+    → places_taken taken.moment.entries ≤ link.limit
 taken-places {link} taken =
     run-places link taken.lines taken.texts taken.moment (standing-of taken) taken.run morning-ready (omega arith)
 
@@ -176,7 +178,7 @@ pub last-places : (m : DayState) → IsReady m → places_taken (last_journal m)
 last-places m ready = (last-halted m ready.balanced).places
 
 -- the journal of a script's day stays within its limit
-pub day-room : {link : Link} {n : ℕ} {lines : List Line} {text : List ℕ} {journal : List Entry} → AreClients lines
+pub day-room : {link : SharedLink} {n : ℕ} {lines : List Line} {text : List ℕ} {journal : List Entry} → AreClients lines
     → AreLines n lines → IsDay link lines text journal → places_taken journal ≤ link.limit
 day-room {link} {n} {lines} clients are day =
     let taken : LinesTaken link n = record {
@@ -199,7 +201,7 @@ done-places : {c : ℕ} {state : ClientState} (step : LineStep) (words : ℕ →
     → IsReady step.old → IsDone step.link (line_drawn words c state) step.old step.new step.text
     → TakesPlaces step.link.limit step.old.entries step.new.entries
 done-places {c} {state = Idle} step words own ready is =
-    play-places step c (rest_at step.link (words 0 % 16) (16384 + words 1 % 16384) (words 2 % 26))
+    play-places step c (rest_at step.link (words 0 % 16) (LEAST_BUFFER + words 1 % BUFFER_SIZES) (words 2 % 26))
     (state_at step.old c) is
 done-places {c} {state = Playing play} step words own ready is =
     pause-places step (record { client = own.client; at = refl }) ready is
@@ -216,11 +218,11 @@ later-places old later ready = places-if (later == 0)
     places-if false = (slot-halted old (old.heard + later) (omega arith) ready.balanced).places
 
 -- a turn, with the places that are taken before what its client does
-pub record TurnPlaces (limit : ℕ) (turn : Turn) : Type 0 where
+pub record TurnPlaces (limit : ℕ) (turn : FairTurn) : Type 0 where
   pub mid : places_taken turn.mid.entries ≡ places_taken turn.old.entries
   pub done : TakesPlaces limit turn.mid.entries turn.new.entries
 
-pub turn-places : {link : Link} {words : ℕ → ℕ} (turn : Turn) → IsTurn link words turn → IsReady turn.old
+pub turn-places : {link : SharedLink} {words : ℕ → ℕ} (turn : FairTurn) → IsTurn link words turn → IsReady turn.old
     → TurnPlaces link.limit turn
 turn-places {link} {words} turn is ready =
     let R : DayState → Type 0 = λ m. IsReady m in

@@ -16,7 +16,7 @@ use Rattle.admission.proofs.HistoryPrefixes.{state-push}
 use Rattle.day_run.specs.declared.clients.Client.{Client}
 use Rattle.day_run.specs.declared.clients.Client.TheVariants as clients
 use Rattle.day_run.specs.declared.clients.Halt.{Halt as ClientHalt}
-use Rattle.day_run.specs.declared.clients.Play.{Play as ClientPlay}
+use Rattle.day_run.specs.declared.clients.ClientPlay.{ClientPlay}
 use Rattle.day_run.specs.Clients.{AreUndone, IsBooked, IsGoing, IsHaltOf, IsOpenOf, IsPlaying}
 use Rattle.day_run.specs.Clients.{IsQuiet, IsTimed, IsUndone}
 use Rattle.day_run.specs.MachineState.{IsSoundDay}

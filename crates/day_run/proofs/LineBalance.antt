@@ -17,10 +17,10 @@ use Rattle.day_script.specs.declared.scripts.Line.{Line}
 use Rattle.day_script.specs.declared.scripts.Line.TheVariants as lines
 use Rattle.day_run.specs.Days.{AskedPlay}
 use Rattle.day_run.specs.Days.{AreLineSteps, IsAsked, IsHaltedPlay, IsLine, IsLookLine, IsOfferLine}
-use Rattle.day_run.specs.Days.{IsPauseLine, IsResumeLine, Link, DayState, at_slot}
+use Rattle.day_run.specs.Days.{IsPauseLine, IsResumeLine, SharedLink, DayState, at_slot}
 use Rattle.day_run.specs.Days.{booked_up_to, entry_by, first_moment, rest_at, state_at, sent_up_to, with_play}
 use Rattle.day_script.specs.Scripts.{slot_after}
-use Rattle.day_run.specs.ClientStates.{Idle, Playing, Pausing, Paused, Play, Rest, ClientState}
+use Rattle.day_run.specs.ClientStates.{Idle, Playing, Pausing, Paused, ClientPlay, Rest, ClientState}
 use Rattle.day_run.specs.ClientStates.{after_play, after_sending, sent_by}
 use Rattle.day_run.specs.BookingBalance.{AreHeldOf, IsBalanced, IsReady, share_of}
 use Rattle.day_run.proofs.OwnHalts.{none-halted}
@@ -50,7 +50,7 @@ answered : {old new : DayState} (answer : Answer) (ask : AskedPlay) → ask.clie
       heard = old.heard;
     } → IsReady old → IsReady new
 answered {old} {new} (Admitted start) ask client free is ready =
-    let play : Play = record { number = length old.entries; rest = ask.rest; plan = ask.plan; start = start } in
+    let play : ClientPlay = record { number = length old.entries; rest = ask.rest; plan = ask.plan; start = start } in
     let e = entry_by ask.client (commands.Play old.heard ask.plan) (Admitted start) in
     ready-made old e is (length-set old.states ask.client (Playing play) ∙ ready.count)
     (balanced-play
@@ -78,7 +78,7 @@ answered {old} {new} (Looked now at booked) ask client free is ready =
     (balanced-same old.entries old.states old.heard e
     (ap (λ (s : State). s.held) (state-push old.entries e)) refl ready.balanced)
 
-asked : {link : Link} {c : ℕ} {rest : Rest} {old new : DayState} {text : List ℕ} → c < 256
+asked : {link : SharedLink} {c : ℕ} {rest : Rest} {old new : DayState} {text : List ℕ} → c < 256
     → IsFree (get_or old.states c Idle)
     → IsAsked link c rest old new text → IsReady old → IsReady new
 asked {c} {old} {new} {text} client free (inl faulty) ready = ready-kept old new faulty.told.kept ready
@@ -106,7 +106,7 @@ shut-pause : (b : Bool) (stop : Booked) (rest : Rest) → IsShut (cond b (Paused
 shut-pause true stop rest = tt
 shut-pause false stop rest = tt
 
-paused : {link : Link} {c : ℕ} {play : Play} {old new : DayState} {text : List ℕ} → c < 256
+paused : {link : SharedLink} {c : ℕ} {play : ClientPlay} {old new : DayState} {text : List ℕ} → c < 256
     → get_or old.states c Idle ≡ Playing play
     → IsHaltedPlay link c play old new text → IsReady old → IsReady new
 paused {c} {play} {old} {new} {text} client at is ready =
@@ -140,12 +140,12 @@ looked answer slot old new is ready =
     (balanced-same old.entries old.states old.heard e
     (ap (λ (s : State). s.held) (state-push old.entries e)) refl ready.balanced)
 
-look-ready : {link : Link} {slot : ℕ} {old new : DayState} {text : List ℕ} → IsLookLine link slot old new text
+look-ready : {link : SharedLink} {slot : ℕ} {old new : DayState} {text : List ℕ} → IsLookLine link slot old new text
     → IsReady old → IsReady new
 look-ready {slot} {old} {new} {text} (inl full) ready = ready-kept old new full.told.kept ready
 look-ready {slot} {old} {new} {text} (inr made) ready = looked made.answer slot old new made.noted.new_is ready
 
-offer-ready : {link : Link} {rest : Rest} {wait : ℕ} {old new : DayState} {text : List ℕ}
+offer-ready : {link : SharedLink} {rest : Rest} {wait : ℕ} {old new : DayState} {text : List ℕ}
     → IsOfferLine link rest wait old new text → IsReady old → IsReady new
 offer-ready {old} {new} {text} (inl faulty) ready = ready-kept old new faulty.told.kept ready
 offer-ready {old} {new} {text} (inr offered) ready = ready-kept old new offered.told.kept ready
@@ -201,7 +201,7 @@ morning-ready = record {
 pub ready-sent : (m : DayState) (slot : ℕ) → m.heard ≤ slot → IsReady m → sent_up_to m slot ≡ booked_up_to m slot
 ready-sent m slot le ready = balanced-sent m.entries m.states m.heard slot le ready.balanced
 
-asked-heard : {link : Link} {c : ℕ} {rest : Rest} {old new : DayState} {text : List ℕ}
+asked-heard : {link : SharedLink} {c : ℕ} {rest : Rest} {old new : DayState} {text : List ℕ}
     → IsAsked link c rest old new text → new.heard ≡ old.heard
 asked-heard {c} {new} {text} (inl faulty) = ap (λ (m : DayState). m.heard) faulty.told.kept
 asked-heard {c} {new} {text} (inr planned) = elim planned.done [
@@ -230,12 +230,12 @@ pause-heard step c (Playing play) is = ap (λ (m : DayState). m.heard) is.noted.
 pause-heard step c (Pausing stop rest) is = ap (λ (m : DayState). m.heard) is.kept
 pause-heard step c (Paused rest) is = ap (λ (m : DayState). m.heard) is.kept
 
-look-heard : (link : Link) (slot : ℕ) (old new : DayState) (text : List ℕ) → IsLookLine link slot old new text
+look-heard : (link : SharedLink) (slot : ℕ) (old new : DayState) (text : List ℕ) → IsLookLine link slot old new text
     → new.heard ≡ old.heard
 look-heard link slot old new text (inl full) = ap (λ (m : DayState). m.heard) full.told.kept
 look-heard link slot old new text (inr made) = ap (λ (m : DayState). m.heard) made.noted.new_is
 
-offer-heard : {link : Link} {rest : Rest} {wait : ℕ} {old new : DayState} {text : List ℕ}
+offer-heard : {link : SharedLink} {rest : Rest} {wait : ℕ} {old new : DayState} {text : List ℕ}
     → IsOfferLine link rest wait old new text → new.heard ≡ old.heard
 offer-heard {new} {text} (inl faulty) = ap (λ (m : DayState). m.heard) faulty.told.kept
 offer-heard {new} {text} (inr offered) = ap (λ (m : DayState). m.heard) offered.told.kept
@@ -250,7 +250,7 @@ heard-after step (lines.Look slot) is = look-heard step.link _ step.old step.new
 heard-after step (lines.Slot slot) is = ap (λ (m : DayState). m.heard) is.0
 heard-after step (lines.Offer c source buffer delay wait) is = offer-heard is
 
-pub run-ready : {old new : DayState} {n : ℕ} (link : Link) (lines : List Line) (texts : List (List ℕ))
+pub run-ready : {old new : DayState} {n : ℕ} (link : SharedLink) (lines : List Line) (texts : List (List ℕ))
     → StandingLines old.heard n lines
     → AreLineSteps link lines texts old new → IsReady old → IsReady new
 run-ready {old} {new} link [] [] standing run ready = ready-kept old new run ready
@@ -262,10 +262,10 @@ run-ready {old} {new} link (l ∷ ls) (t ∷ texts) standing run ready =
     run-ready {old = run.0} {new = new} link ls texts (rest-standing standing (heard-after step l run.1.0)) run.1.1 ok
 
 -- the lines of a script leave a day ready
-pub taken-ready : {link : Link} {n : ℕ} (taken : LinesTaken link n) → IsReady taken.moment
+pub taken-ready : {link : SharedLink} {n : ℕ} (taken : LinesTaken link n) → IsReady taken.moment
 taken-ready {link} taken = run-ready link taken.lines taken.texts (standing-of taken) taken.run morning-ready
 
 -- after the lines of a script, what is sent up to a slot is what is booked up to there
-pub day-sent : {link : Link} {n : ℕ} (taken : LinesTaken link n) (slot : ℕ) → taken.moment.heard ≤ slot
+pub day-sent : {link : SharedLink} {n : ℕ} (taken : LinesTaken link n) (slot : ℕ) → taken.moment.heard ≤ slot
     → sent_up_to taken.moment slot ≡ booked_up_to taken.moment slot
 day-sent taken slot le = ready-sent taken.moment slot le (taken-ready taken)

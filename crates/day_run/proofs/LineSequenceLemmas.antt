@@ -5,13 +5,14 @@ use Rattle.std.proofs.lemmas.Grind.{flat_map-append}
 use Rattle.std.proofs.lemmas.List.{append-nil, take_more}
 use Rattle.admission.specs.declared.entries.Entry.{Entry}
 use Rattle.day_script.specs.declared.scripts.Line.{Line}
-use Rattle.day_run.specs.Days.{AreLineSteps, IsDay, IsLine, Link, DayState, last_journal, last_lines, first_moment}
+use Rattle.day_run.specs.Days.{AreLineSteps, IsDay, IsLine, SharedLink, DayState, last_journal, last_lines}
+use Rattle.day_run.specs.Days.{first_moment}
 use Rattle.day_run.specs.MachineState.{HasRun, IsPrinted}
 use Rattle.day_script.proofs.Places.{Place}
 
 -- the last line, after the others
 pub record LastLine : Type 0 where
-  pub link : Link
+  pub link : SharedLink
   pub line : Line
   pub text : List ℕ
   pub old : DayState
@@ -35,7 +36,7 @@ flat-push texts text =
     flat_map-append (λ (t : List ℕ). t) texts (text ∷ [])
     ∙ ap (λ l. flat_map (λ (t : List ℕ). t) texts ++ l) (append-nil text)
 
-pub run-push : {link : Link} {lines : List Line} {before after : List ℕ} {old new : DayState} (line : Line)
+pub run-push : {link : SharedLink} {lines : List Line} {before after : List ℕ} {old new : DayState} (line : Line)
     → HasRun link lines before old
     → IsPrinted before after (IsLine link line old new) → HasRun link (lines ++ line ∷ []) after new
 run-push {link} {lines} {old} {new} line run printed = record {
@@ -46,23 +47,23 @@ run-push {link} {lines} {old} {new} line run printed = record {
       run.texts first_moment run.run;
 }
 
-pub run-next : {link here : Link} {before after : List ℕ} {old new : DayState} (lines : List Line) (place : Place lines)
-    → here ≡ link → HasRun link (take place.index lines) before old
+pub run-next : {link here : SharedLink} {before after : List ℕ} {old new : DayState} (lines : List Line)
+    (place : Place lines) → here ≡ link → HasRun link (take place.index lines) before old
     → IsPrinted before after (IsLine here (get_or lines place.index place.none) old new)
     → HasRun link (take (place.index + 1) lines) after new
 run-next {link} {here} {before} {after} {old} {new} lines place same run printed =
-    let P : Link → Type 0 = λ l. IsPrinted before after (IsLine l (get_or lines i none) old new) in
+    let P : SharedLink → Type 0 = λ l. IsPrinted before after (IsLine l (get_or lines i none) old new) in
     let L : List Line → Type 0 = λ ls. HasRun link ls after new in
     subst L (sym (take_more lines i none inside)) (run-push (get_or lines i none) run (subst P same printed))
   where
     open place use {index as i, none, inside}
 
 -- an entire day
-pub day-of : {link here : Link} {lines : List Line} {text whole : List ℕ} {m : DayState} {journal : List Entry}
+pub day-of : {link here : SharedLink} {lines : List Line} {text whole : List ℕ} {m : DayState} {journal : List Entry}
     → here ≡ link → HasRun here lines text m
     → whole ≡ text ++ last_lines m → journal ≡ last_journal m → IsDay link lines whole journal
 day-of {here} {lines} {text} {whole} {m} same run w j =
-    let A : Link → Type 0 = λ l. AreLineSteps l lines run.texts first_moment m in
+    let A : SharedLink → Type 0 = λ l. AreLineSteps l lines run.texts first_moment m in
     record {
       evening = m;
       texts = run.texts;
@@ -72,7 +73,7 @@ day-of {here} {lines} {text} {whole} {m} same run w j =
     }
 
 -- a text for each line
-pub day-lines : (link : Link) (lines : List Line) (texts : List (List ℕ)) (old new : DayState)
+pub day-lines : (link : SharedLink) (lines : List Line) (texts : List (List ℕ)) (old new : DayState)
     → AreLineSteps link lines texts old new → length texts ≡ length lines
 day-lines link [] [] old new run = refl
 day-lines link [] (t ∷ texts) old new run = absurd run

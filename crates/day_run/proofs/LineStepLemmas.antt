@@ -15,7 +15,7 @@ use Rattle.report.specs.EntryLines.{entry_line}
 use Rattle.day_run.specs.declared.clients.Client.{Client}
 use Rattle.day_run.specs.declared.clients.Client.TheVariants as clients
 use Rattle.day_run.specs.declared.clients.Halt.{Halt}
-use Rattle.day_run.specs.declared.clients.Play.{Play as ClientPlay}
+use Rattle.day_run.specs.declared.clients.ClientPlay.{ClientPlay}
 use Rattle.day_run.specs.declared.clients.Rest.{Rest as ClientRest}
 use Rattle.slot_calendar.specs.declared.profiles.CapStep.{CapStep}
 use Rattle.admission.specs.Machine.{IsAnswer, State}
@@ -24,7 +24,7 @@ use Rattle.day_run.specs.declared.machine.LineAnswer.TheVariants as tolds
 use Rattle.vod_base.specs.declared.errors.NoMemory.{NoMemory}
 use Rattle.day_run.specs.Clients.{AreIdle, IsPauseOf, IsQuiet, IsTimed, play_of, rest_of, state_of}
 use Rattle.report.specs.JournalTexts.{journal_text}
-use Rattle.day_run.specs.Days.{IsAsked, IsFull, IsNoted, IsPauseLine, IsPlayLine, IsTold, Link}
+use Rattle.day_run.specs.Days.{IsAsked, IsFull, IsNoted, IsPauseLine, IsPlayLine, IsTold, SharedLink}
 use Rattle.day_run.specs.Days.{DayState, done_halt, entry_by, halt_entries, state_at, with_play}
 use Rattle.day_script.specs.LineTexts.{full_text, state_text}
 use Rattle.day_run.specs.MachineState.{reply_text}
@@ -44,7 +44,7 @@ told-entry place xs ys e at y =
     ap (λ n. journal_text n (drop n ys)) at ∙ ap (journal_text (length xs)) (more-entries xs ys (e ∷ []) y)
     ∙ append-nil (entry_line (length xs) e)
 
-pub told-full : {link : Link} {places : ℕ} {old new : DayState} (full : Full)
+pub told-full : {link : SharedLink} {places : ℕ} {old new : DayState} (full : Full)
     → link.limit < places_taken old.entries + places
     → full.entries ≡ length old.entries → full.live ≡ open_count old.entries → new ≡ old
     → IsFull link places old new (full_text full)
@@ -66,7 +66,7 @@ pub record EntryMade (old new : DayState) (place : ℕ) (e : Entry) (states : Li
   pub heard_is : new.heard ≡ old.heard
 
 -- an entry was made
-pub noted : {link : Link} {old new : DayState} {place : ℕ} {e : Entry} {states : List ClientState}
+pub noted : {link : SharedLink} {old new : DayState} {place : ℕ} {e : Entry} {states : List ClientState}
     → IsAnswered link.steps (state_after old.entries) e
     → EntryMade old new place e states → IsNoted link e states old new (reply_text new.entries (tolds.Entry place))
 noted {old} {new} {place} {e} {states} answered made = record {
@@ -87,8 +87,9 @@ pub record HaltEntry (c number keep : ℕ) (e : Entry) : Type 0 where
   pub command : e.command ≡ commands.Halt number keep
 
 -- the entry of a halt was made
-pub noted-halt : {link : Link} {old new : DayState} {place c number keep : ℕ} {e : Entry} {states : List ClientState}
-    → IsAnswered link.steps (state_after old.entries) e → EntryMade old new place e states → HaltEntry c number keep e
+pub noted-halt : {link : SharedLink} {old new : DayState} {place c number keep : ℕ} {e : Entry}
+    {states : List ClientState} → IsAnswered link.steps (state_after old.entries) e
+    → EntryMade old new place e states → HaltEntry c number keep e
     → IsNoted link (entry_by c (commands.Halt number keep) Halted) states old new
     (reply_text new.entries (tolds.Entry place))
 noted-halt {link} {old} {new} {place} {c} {number} {keep} {e} {states} answered made entry =
@@ -102,7 +103,7 @@ noted-halt {link} {old} {new} {place} {c} {number} {keep} {e} {states} answered 
     open entry use {maker, answer, command}
 
 -- the entry of a play was made
-pub noted-play : {link : Link} {old new : DayState} {place c slot maker : ℕ} {states : List ClientState}
+pub noted-play : {link : SharedLink} {old new : DayState} {place c slot maker : ℕ} {states : List ClientState}
     (plan : List Segment)
     (answer : Answer) → slot ≡ old.heard → maker ≡ c
     → IsAnswered link.steps (state_after old.entries) (entry_by maker (commands.Play slot plan) answer)
@@ -175,7 +176,7 @@ begun-timed {slot} {start} {steps} {state} {plan} play admitted at begun =
     omega (arith, its.0, admitted.late, at, begun)
 
 -- a client pauses
-pub pause-line : {link : Link} {c : ℕ} {halt : Halt} {old new : DayState} {text : List ℕ} (client next : Client)
+pub pause-line : {link : SharedLink} {c : ℕ} {halt : Halt} {old new : DayState} {text : List ℕ} (client next : Client)
     → IsPauseOf old.heard halt client next
     → IsNoted link (entry_by c (commands.Halt halt.number halt.keep) Halted)
     (set old.states c (state_of next)) old new text
@@ -188,7 +189,7 @@ pause-line {link} {c} {halt} {old} {new} {text} (clients.Playing play) next is n
 pause-line {c} {halt} {new} {text} (clients.Pausing stop) next is n = absurd is
 pause-line {c} {halt} {new} {text} (clients.Paused rest) next is n = absurd is
 
-pub no-pause : {old new : DayState} {text : List ℕ} (link : Link) (c : ℕ) (client : Client) → IsQuiet client
+pub no-pause : {old new : DayState} {text : List ℕ} (link : SharedLink) (c : ℕ) (client : Client) → IsQuiet client
     → IsTold state_text old new text
     → IsPauseLine link c (state_of client) old new text
 no-pause {new} {text} link c clients.Idle quiet told = told
@@ -204,7 +205,7 @@ if-free Busy (Playing play) free asked = cc free
 if-free Busy (Pausing stop left) free asked = cc free
 if-free Busy (Paused left) free asked = asked
 
-play-asked : {link : Link} {c : ℕ} {one rest : Rest} {own : ClientState} {old new : DayState} {text : List ℕ}
+play-asked : {link : SharedLink} {c : ℕ} {one rest : Rest} {own : ClientState} {old new : DayState} {text : List ℕ}
     → one ≡ rest → own ≡ state_at old c → is_busy own ≡ false
     → IsAsked link c one old new text → IsPlayLine link c rest old new text
 play-asked {link} {c} {one} {own} {old} {new} {text} r s free asked =

@@ -10,7 +10,7 @@ use Rattle.early_start.specs.declared.Tried.{Tried}
 use Rattle.early_start.specs.StartSearch.{AreRefusals, CanStart, IsStart}
 use Rattle.early_start.proofs.RefusedStarts.{no_room_tried}
 use Rattle.day_run.specs.DayLaws.{IsCount, IsLeast, IsOfferAnswer}
-use Rattle.day_run.specs.Days.{IsFaulty, IsOfferLine, Link, DayState}
+use Rattle.day_run.specs.Days.{IsFaulty, IsOfferLine, SharedLink, DayState}
 use Rattle.day_run.specs.ClientStates.{Rest}
 
 start-least : {booked capacity : ℕ → ℕ} {plan : List Segment} {first : ℕ} {tried : List Tried} (wait : ℕ)
@@ -31,7 +31,7 @@ start-count : (is_fit : ℕ → Type 0) (first wait tried : ℕ) (start : Option
 start-count is_fit first wait tried None is = omega (arith, is)
 start-count is_fit first wait tried (Some start) is = sym is.1
 
-pub offer-told : {link : Link} {rest : Rest} {wait : ℕ} {old new : DayState} {text : List ℕ}
+pub offer-told : {link : SharedLink} {rest : Rest} {wait : ℕ} {old new : DayState} {text : List ℕ}
     → IsOfferLine link rest wait old new text
     → IsFaulty rest old new text ⊎ IsOfferAnswer link rest wait old text
 offer-told {new} {text} (inl faulty) = inl faulty

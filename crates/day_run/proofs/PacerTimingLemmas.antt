@@ -8,7 +8,7 @@ use Rattle.film_frames.specs.Tracks.{IsBoundaryAfter}
 use Rattle.film_run.specs.declared.runs.Run.{Run}
 use Rattle.film_run.specs.Pauses.{IsRemainingRun}
 use Rattle.slot_calendar.specs.Plays.{Play as Booked, truncated_play}
-use Rattle.day_run.specs.declared.clients.Play.{Play}
+use Rattle.day_run.specs.declared.clients.ClientPlay.{ClientPlay}
 use Rattle.day_run.specs.Clients.{IsPlaying, play_of, rest_of}
 use Rattle.day_run.specs.Days.{done_halt}
 use Rattle.day_run.specs.MediaPieces.{media_pieces, media_sizes}
@@ -25,12 +25,12 @@ pub due-at : (p : PacerState) (heard : ℕ) → IsPacerState p → p.passed ≡ 
 due-at p heard pacing timed = pacing.due ∙ ap (λ n. min (first_slots p.plan n) p.keep) timed
 
 -- a play's pacer sends what the play books
-pub whole-paced : (play : Play) → IsPlaying play → paced play.pacer ≡ booking_of (play_of play)
+pub whole-paced : (play : ClientPlay) → IsPlaying play → paced play.pacer ≡ booking_of (play_of play)
 whole-paced play playing =
     ap (λ s. truncated_play play.pacer.start s play.pacer.keep) playing.plan_is
     ∙ ap (λ n. truncated_play play.pacer.start play.plan n) playing.whole
 
-pub sent-at : (play : Play) (heard : ℕ) → IsPlaying play → play.pacer.passed ≡ heard + 1 - play.pacer.start
+pub sent-at : (play : ClientPlay) (heard : ℕ) → IsPlaying play → play.pacer.passed ≡ heard + 1 - play.pacer.start
     → play.pacer.sent ≡ sent_by (booking_of (play_of play)) heard
 sent-at play heard playing timed =
     playing.all_sent ∙ due-at play.pacer heard playing.pacing timed
@@ -44,7 +44,7 @@ begun start slot = elim (cases_lt slot start) [
 ]
 
 -- a play that has come to a slot
-pub record TimedPlay (play : Play) (slot : ℕ) : Type 0 where
+pub record TimedPlay (play : ClientPlay) (slot : ℕ) : Type 0 where
   pub playing : IsPlaying play
   pub timed : play.pacer.passed ≡ slot + 1 - play.pacer.start
 
@@ -76,18 +76,18 @@ last-slot (Some last) start heard passed through timed =
     ap Some e ∙ sym (cond-false (nat_lt heard start) None (Some (heard - start)) from)
 
 -- what a pause keeps of a play: no less than was sent
-pub record KeptSent (play : Play) (keep : ℕ) : Type 0 where
+pub record KeptSent (play : ClientPlay) (keep : ℕ) : Type 0 where
   pub least : play.pacer.sent ≤ keep
   pub most : keep ≤ play.pacer.keep
 
 -- A play is paused: what it keeps, and its client.
-pub kept-sent : {play : Play} (heard keep : ℕ) → TimedPlay play heard → KeptSent play keep
+pub kept-sent : {play : ClientPlay} (heard keep : ℕ) → TimedPlay play heard → KeptSent play keep
     → sent_by (truncated_play play.pacer.start play.plan keep) heard ≡ play.pacer.sent
 kept-sent {play} heard keep own kept =
     omega (arith, sent-at play heard own.playing own.timed, own.playing.whole, kept.least, kept.most)
 
-pub pause-of : {play : Play} {heard keep : ℕ} {last : Option ℕ} {left : Run} {state : ClientState} → IsPlaying play
-    → play.pacer.passed ≡ heard + 1 - play.pacer.start → slots_through last ≡ play.pacer.passed
+pub pause-of : {play : ClientPlay} {heard keep : ℕ} {last : Option ℕ} {left : Run} {state : ClientState}
+    → IsPlaying play → play.pacer.passed ≡ heard + 1 - play.pacer.start → slots_through last ≡ play.pacer.passed
     → IsBoundaryAfter play.pacer.pieces (play.pacer.before + play.pacer.sent) (play.pacer.before + keep)
     → IsRemainingRun (media_sizes play.rest.medium.now) play.rest.playback play.rest.run play.plan last keep left
     → state ≡ pausing_state heard (truncated_play play.pacer.start play.plan keep) (record (rest_of play.rest) {
@@ -112,7 +112,7 @@ pause-of {play} {heard} {keep} {last} {left} playing timed through boundary is s
     }
 
 -- the client whose play keeps no more than was sent, and another one
-pub paused-state : {play : Play} {rest : Rest} (heard keep : ℕ) → TimedPlay play heard → KeptSent play keep
+pub paused-state : {play : ClientPlay} {rest : Rest} (heard keep : ℕ) → TimedPlay play heard → KeptSent play keep
     → (play.pacer.sent == keep) ≡ true
     → Paused rest ≡ pausing_state heard (truncated_play play.pacer.start play.plan keep) rest
 paused-state {play} {rest} heard keep own kept all =
@@ -120,7 +120,7 @@ paused-state {play} {rest} heard keep own kept all =
     sym (cond-true (sent_by b heard == keep) (Paused rest) (Pausing b rest)
     (ap (λ n. n == keep) (kept-sent heard keep own kept) ∙ all))
 
-pub pausing-state : {play : Play} {q : PacerState} {rest : Rest} (heard keep : ℕ) → TimedPlay play heard
+pub pausing-state : {play : ClientPlay} {q : PacerState} {rest : Rest} (heard keep : ℕ) → TimedPlay play heard
     → KeptSent play keep → (play.pacer.sent == keep) ≡ false → q ≡ record play.pacer { keep = keep }
     → Pausing (truncated_play q.start q.plan keep) rest ≡ pausing_state heard (truncated_play play.pacer.start play.plan
     keep) rest

@@ -17,16 +17,19 @@ use Rattle.admission.specs.Machine.{AdmittedPlay, State, booked_in}
 use Rattle.admission.proofs.HistoryPrefixes.{state-push}
 use Rattle.day_script.specs.declared.scripts.Line.{Line}
 use Rattle.day_script.specs.declared.scripts.Line.TheVariants as lines
+use Rattle.day_run.specs.declared.fairs.TheConstants.{BUFFER_SIZES, LEAST_BUFFER}
 use Rattle.day_run.specs.BookingBalance.{IsReady, share_of}
 use Rattle.day_run.specs.Clients.{after_open}
 use Rattle.day_run.specs.Days.{AskedPlay}
 use Rattle.day_run.specs.Days.{IsAsked, IsHaltedPlay, IsLine, IsLookLine, IsOfferLine, IsPauseLine}
-use Rattle.day_run.specs.Days.{IsResumeLine, Link, DayState, at_slot, entry_by}
+use Rattle.day_run.specs.Days.{IsResumeLine, SharedLink, DayState, at_slot, entry_by}
 use Rattle.day_run.specs.Days.{last_journal, first_moment, rest_at, sent_up_to, state_at, with_play}
-use Rattle.day_run.specs.FairDays.{AreTurns, IsDone, IsTurn, Turn, after_turn, at_later, client_of}
+use Rattle.day_run.specs.FairDays.{AreTurns, IsDone, IsTurn, FairTurn, after_turn, at_later, client_of}
 use Rattle.day_run.specs.FairDays.{line_drawn, turn_booked, turn_peak}
-use Rattle.day_run.specs.ClientStates.{Idle, Playing, Pausing, Paused, Play, Rest, ClientState, booking_of, sent_by}
-use Rattle.day_run.proofs.SlotBalance.{BegunPlay, its-held, last-halted, play-stays, slot-halted, stays-halt}
+use Rattle.day_run.specs.ClientStates.{Idle, Playing, Pausing, Paused, ClientPlay, Rest, ClientState, booking_of}
+use Rattle.day_run.specs.ClientStates.{sent_by}
+use Rattle.day_run.proofs.SentBookedLemmas.{BegunPlay}
+use Rattle.day_run.proofs.SlotBalance.{its-held, last-halted, play-stays, slot-halted, stays-halt}
 use Rattle.day_run.proofs.LineBalance.{morning-ready, ready-sent, taken-ready}
 use Rattle.day_run.proofs.ScriptLineFacts.{ClientOf, IsPlayTaken, LineStep, LinesTaken, NextTaken, StandingLine}
 use Rattle.day_run.proofs.FairLaws.{done-heard, later-heard, turn-ready, later-ready}
@@ -47,7 +50,7 @@ same-past old new e states is same t past =
     ap (λ (m : DayState). booked_after m.entries t) is ∙ ap (λ hs. booked_by (map (λ (h : AdmittedPlay). h.play) hs) t)
     same
 
-answered-past : {new : DayState} (answer : Answer) (link : Link) (ask : AskedPlay) (old : DayState)
+answered-past : {new : DayState} (answer : Answer) (link : SharedLink) (ask : AskedPlay) (old : DayState)
     → IsAnswered link.steps (state_after old.entries) (entry_by ask.client (commands.Play old.heard ask.plan) answer)
     → new ≡ record {
       entries = old.entries ++ entry_by ask.client (commands.Play old.heard ask.plan) answer ∷ [];
@@ -76,7 +79,7 @@ answered-past {new} (Looked now at booked) link ask old answered is =
     let e = entry_by ask.client (commands.Play old.heard ask.plan) (Looked now at booked) in
     same-past old new e old.states is (ap (λ (s : State). s.held) (state-push old.entries e))
 
-asked-past : {link : Link} {c : ℕ} {rest : Rest} {old new : DayState} {text : List ℕ}
+asked-past : {link : SharedLink} {c : ℕ} {rest : Rest} {old new : DayState} {text : List ℕ}
     → IsAsked link c rest old new text → Past old new
 asked-past {c} {old} {new} {text} (inl faulty) = kept-past old new faulty.told.kept
 asked-past {link} {c} {rest} {old} {new} {text} (inr planned) = elim planned.done [
@@ -100,7 +103,7 @@ resume-past step c (Playing play) is = kept-past step.old step.new is.kept
 resume-past step c (Pausing stop rest) is = kept-past step.old step.new is.kept
 resume-past step c (Paused rest) is = asked-past is
 
-halted-past : {link : Link} {c : ℕ} {play : Play} {old new : DayState} {text : List ℕ} → c < 256
+halted-past : {link : SharedLink} {c : ℕ} {play : ClientPlay} {old new : DayState} {text : List ℕ} → c < 256
     → get_or old.states c Idle ≡ Playing play → IsReady old
     → IsHaltedPlay link c play old new text → Past old new
 halted-past {c} {play} {old} {new} {text} client at ready is t past =
@@ -117,7 +120,7 @@ pause-past {c} {state = Playing play} step own ready is = halted-past own.client
 pause-past {c} {state = Pausing stop rest} step own ready is = kept-past step.old step.new is.kept
 pause-past {c} {state = Paused rest} step own ready is = kept-past step.old step.new is.kept
 
-look-past : (link : Link) (slot : ℕ) (old new : DayState) (text : List ℕ) → IsLookLine link slot old new text
+look-past : (link : SharedLink) (slot : ℕ) (old new : DayState) (text : List ℕ) → IsLookLine link slot old new text
     → Past old new
 look-past link slot old new text (inl full) = kept-past old new full.told.kept
 look-past link slot old new text (inr made) =
@@ -129,7 +132,7 @@ look-past link slot old new text (inr made) =
     look-held answer slot entries =
         ap (λ (s : State). s.held) (state-push entries (entry_by 0 (commands.Look slot) answer))
 
-offer-past : {link : Link} {rest : Rest} {wait : ℕ} {old new : DayState} {text : List ℕ}
+offer-past : {link : SharedLink} {rest : Rest} {wait : ℕ} {old new : DayState} {text : List ℕ}
     → IsOfferLine link rest wait old new text → Past old new
 offer-past {old} {new} {text} (inl faulty) = kept-past old new faulty.told.kept
 offer-past {old} {new} {text} (inr offered) = kept-past old new offered.told.kept
@@ -149,14 +152,14 @@ line-past step (lines.Slot slot) standing ready is = λ t past.
 line-past step (lines.Offer c source buffer delay wait) standing ready is =
     offer-past is
 
-pub day-past : {link : Link} {n : ℕ} (taken : LinesTaken link n) (next : NextTaken link n taken) (t : ℕ)
+pub day-past : {link : SharedLink} {n : ℕ} (taken : LinesTaken link n) (next : NextTaken link n taken) (t : ℕ)
     → t ≤ taken.moment.heard
     → booked_after next.new.entries t ≡ booked_after taken.moment.entries t
 day-past {link} taken next t past =
     let step : LineStep = record { link = link; old = taken.moment; new = next.new; text = next.text } in
     line-past step next.line next.standing (taken-ready taken) next.is t past
 
-pub end-past : {link : Link} {n : ℕ} (taken : LinesTaken link n) (t : ℕ) → t ≤ taken.moment.heard
+pub end-past : {link : SharedLink} {n : ℕ} (taken : LinesTaken link n) (t : ℕ) → t ≤ taken.moment.heard
     → booked_after (last_journal taken.moment) t ≡ booked_after taken.moment.entries t
 end-past taken t past = (last-halted taken.moment (taken-ready taken).balanced).stays t past
 
@@ -165,7 +168,7 @@ done-past : {c : ℕ} {state : ClientState} (step : LineStep) (words : ℕ → �
     → IsReady step.old → IsDone step.link (line_drawn words c state) step.old step.new step.text
     → Past step.old step.new
 done-past {c} {state = Idle} step words own ready is =
-    play-past step c (rest_at step.link (words 0 % 16) (16384 + words 1 % 16384) (words 2 % 26))
+    play-past step c (rest_at step.link (words 0 % 16) (LEAST_BUFFER + words 1 % BUFFER_SIZES) (words 2 % 26))
     (state_at step.old c) is
 done-past {c} {state = Playing play} step words own ready is =
     pause-past step (record { client = own.client; at = refl }) ready is
@@ -182,7 +185,7 @@ later-past old later t ready = past-if (later == 0)
     past-if true past = refl
     past-if false past = (slot-halted old (old.heard + later) (omega arith) ready.balanced).stays t past
 
-turn-past : {link : Link} {words : ℕ → ℕ} {turn : Turn} (t : ℕ) → IsTurn link words turn → IsReady turn.old
+turn-past : {link : SharedLink} {words : ℕ → ℕ} {turn : FairTurn} (t : ℕ) → IsTurn link words turn → IsReady turn.old
     → t ≤ turn.mid.heard
     → booked_after turn.new.entries t ≡ booked_after turn.old.entries t
 turn-past {link} {words} {turn} t is ready past =
@@ -261,17 +264,69 @@ fold-top top [] = omega arith
 fold-top top (x ∷ xs) = omega (arith, fold-top (max top x) xs, fold-top (max 0 x) xs)
 
 -- ---- what the turns bring is what the journal books in their slots
-pub record IsTurnBooked (booked : ℕ → ℕ) (turn : Turn) : Type 0 where
+pub record IsTurnBooked (booked : ℕ → ℕ) (turn : FairTurn) : Type 0 where
   pub sent : (slot : ℕ) → turn.old.heard ≤ slot → slot ≤ turn.mid.heard
       → sent_up_to turn.old slot ≡ sum_by booked (range_with_len (turn.old.heard + 1) (slot - turn.old.heard))
 
-pub record AreBooked (booked : ℕ → ℕ) (turns : List Turn) (from to : ℕ) : Type 0 where
+pub record AreBooked (booked : ℕ → ℕ) (turns : List FairTurn) (from to : ℕ) : Type 0 where
   pub order : from ≤ to
   pub sum_is : sum_by turn_booked turns ≡ sum_by booked (range_with_len (from + 1) (to - from))
   pub peak_is : fold max 0 (map turn_peak turns) ≡ fold max 0 (map booked (range_with_len (from + 1) (to - from)))
   pub each : All (IsTurnBooked booked) turns
 
-pub turns-past : {turns : List Turn} {old : DayState} {booked : ℕ → ℕ} (link : Link) (words : ℕ → ℕ)
+-- a turn, and the turns after it up to a slot
+record FirstTurn (booked : ℕ → ℕ) (turn : FairTurn) (turns : List FairTurn) (last : ℕ) : Type 0 where
+  begun : IsReady turn.old
+  later : turn.old.heard ≤ turn.mid.heard
+  mid : turn.new.heard ≡ turn.mid.heard
+  here : (t : ℕ) → t ≤ turn.mid.heard → booked t ≡ booked_after turn.old.entries t
+  rest : AreBooked booked turns turn.new.heard last
+
+turns-cons : {turn : FairTurn} {turns : List FairTurn} {last : ℕ} (booked : ℕ → ℕ) → FirstTurn booked turn turns last
+    → AreBooked booked (turn ∷ turns) turn.old.heard last
+turns-cons {turn} {turns} {last} booked first =
+    let m = turn.mid.heard - turn.old.heard in
+    let n = last - turn.new.heard in
+    let from = turn.old.heard + 1 in
+    let order = rest.order in
+    let at : from + m ≡ turn.new.heard + 1 = omega (arith, later, mid) in
+    let whole : last - turn.old.heard ≡ m + n = omega (arith, later, mid, order) in
+    let f = booked_in (state_after turn.old.entries) in
+    let sums = sum-same booked f from m (λ t before. here t (omega (arith, before, later))) in
+    let peaks = peak-same booked f from m (λ t before. here t (omega (arith, before, later))) in
+    record {
+      order = omega (arith, later, mid, order);
+      sum_is =
+          omega (
+            arith,
+            sum_by-cons turn_booked turn turns,
+            sums,
+            rest.sum_is,
+            sum-join booked from m n,
+            ap (λ k. sum_by booked (range_with_len k n)) at,
+            ap (λ k. sum_by booked (range_with_len from k)) whole,
+          );
+      peak_is =
+          omega (
+            arith,
+            fold-top (max 0 (turn_peak turn)) (map turn_peak turns),
+            peaks,
+            rest.peak_is,
+            peak-join booked from m n,
+            ap (λ k. fold max 0 (map booked (range_with_len k n))) at,
+            ap (λ k. fold max 0 (map booked (range_with_len from k))) whole,
+          );
+      each = All-cons (IsTurnBooked booked) turn turns (record {
+        sent = λ slot after before.
+            ready-sent turn.old slot after begun
+            ∙ sym (sum-same booked f from (slot - turn.old.heard)
+            (λ t less. here t (omega (arith, less, after, before))));
+      }) rest.each;
+    }
+  where
+    open first use {begun, later, mid, here, rest}
+
+pub turns-past : {turns : List FairTurn} {old : DayState} {booked : ℕ → ℕ} (link : SharedLink) (words : ℕ → ℕ)
     (new : DayState) → AreTurns link words turns old new → IsReady old
     → ((t : ℕ) → t ≤ new.heard → booked t ≡ booked_after new.entries t)
     → AreBooked booked turns old.heard new.heard × ((t : ℕ) → t ≤ old.heard → booked t ≡ booked_after old.entries t)
@@ -301,48 +356,13 @@ turns-past {turns = turn ∷ turns} {old} {booked} link words new run ready same
     let here : (t : ℕ) → t ≤ turn.mid.heard → booked t ≡ booked_after turn.old.entries t =
     λ t past. rest.1 t (omega (arith, past, mid))
     ∙ turn-past {link = link} {words = words} {turn = turn} t is begun past in
-    let m = turn.mid.heard - turn.old.heard in
-    let n = new.heard - turn.new.heard in
-    let order = rest.0.order in
-    let at : turn.old.heard + 1 + m ≡ turn.new.heard + 1 = omega (arith, later, mid) in
-    let whole : new.heard - turn.old.heard ≡ m + n = omega (arith, later, mid, order) in
-    let f = booked_in (state_after turn.old.entries) in
-    let sums = sum-same booked f (turn.old.heard + 1) m (λ t before. here t (omega (arith, before, later))) in
-    let peaks = peak-same booked f (turn.old.heard + 1) m (λ t before. here t (omega (arith, before, later))) in
     let B : ℕ → Type 0 = λ h. AreBooked booked (turn ∷ turns) h new.heard in (
-      subst B from (record {
-        order = omega (arith, later, mid, order);
-        sum_is =
-            omega (
-              arith,
-              sum_by-cons turn_booked turn turns,
-              sums,
-              rest.0.sum_is,
-              sum-join booked (turn.old.heard + 1) m n,
-              ap (λ k. sum_by booked (range_with_len k n)) at,
-              ap (λ k. sum_by booked (range_with_len (turn.old.heard + 1) k)) whole,
-            );
-        peak_is =
-            omega (
-              arith,
-              fold-top (max 0 (turn_peak turn)) (map turn_peak turns),
-              peaks,
-              rest.0.peak_is,
-              peak-join booked (turn.old.heard + 1) m n,
-              ap (λ k. fold max 0 (map booked (range_with_len k n))) at,
-              ap (λ k. fold max 0 (map booked (range_with_len (turn.old.heard + 1) k))) whole,
-            );
-        each = All-cons (IsTurnBooked booked) turn turns (record {
-          sent = λ slot after before.
-              ready-sent turn.old slot after begun
-              ∙ sym (sum-same booked f (turn.old.heard + 1) (slot - turn.old.heard)
-              (λ t less. here t (omega (arith, less, after, before))));
-        }) rest.0.each;
-      }),
+      subst B from (turns-cons {turn = turn} {turns = turns} {last = new.heard} booked
+          (record { begun = begun; later = later; mid = mid; here = here; rest = rest.0 })),
       λ t past. here t (omega (arith, past, from, later)) ∙ ap (λ (x : DayState). booked_after x.entries t) run.0,
     )
 
-pub fair-past : {turns : List Turn} {evening : DayState} {journal : List Entry} (link : Link) (words : ℕ → ℕ)
+pub fair-past : {turns : List FairTurn} {evening : DayState} {journal : List Entry} (link : SharedLink) (words : ℕ → ℕ)
     → AreTurns link words turns first_moment evening
     → journal ≡ last_journal evening → IsReady evening → AreBooked (booked_after journal) turns 0 evening.heard
 fair-past {evening} link words run is ready =
@@ -350,7 +370,7 @@ fair-past {evening} link words run is ready =
     (λ t past. ap (λ es. booked_after es t) is ∙ (last-halted evening ready.balanced).stays t past)).0
 
 -- ---- looks and offers
-pub look-leaves : (link : Link) (slot : ℕ) (old new : DayState) (text : List ℕ)
+pub look-leaves : (link : SharedLink) (slot : ℕ) (old new : DayState) (text : List ℕ)
     → IsLine link (lines.Look slot) old new text
     → (new.states ≡ old.states) × (new.heard ≡ old.heard) × (state_after new.entries ≡ state_after old.entries)
 look-leaves link slot old new text (inl full) = (
@@ -365,11 +385,11 @@ look-leaves link slot old new text (inr made) = (
       ∙ state-push old.entries (entry_by 0 (commands.Look _) made.answer),
 )
 
-pub offer-leaves : {link : Link} {wait : ℕ} {old new : DayState} {text : List ℕ} (client source buffer delay : ℕ)
+pub offer-leaves : {link : SharedLink} {wait : ℕ} {old new : DayState} {text : List ℕ} (client source buffer delay : ℕ)
     → IsLine link (lines.Offer client source buffer delay wait) old new text → new ≡ old
 offer-leaves client source buffer delay (inl faulty) = faulty.told.kept
 offer-leaves client source buffer delay (inr offered) = offered.told.kept
 
-pub end-later : {link : Link} {n : ℕ} (taken : LinesTaken link n) (t : ℕ) → taken.moment.heard < t
+pub end-later : {link : SharedLink} {n : ℕ} (taken : LinesTaken link n) (t : ℕ) → taken.moment.heard < t
     → booked_after (last_journal taken.moment) t ≡ sum_by (share_of t) (map after_open taken.moment.states)
 end-later taken t later = (last-halted taken.moment (taken-ready taken).balanced).balanced.each t later

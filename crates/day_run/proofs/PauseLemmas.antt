@@ -12,7 +12,7 @@ use Rattle.film_run.specs.declared.runs.Run.{Run}
 use Rattle.film_run.specs.Pauses.{IsHalt, IsRemainingRun}
 use Rattle.film_run.specs.Runs.{Fits, IsRun}
 use Rattle.pacer.specs.PacerStates.{IsPacerState, PacerState, first_slots, is_done, slots_through}
-use Rattle.day_run.specs.declared.clients.Play.{Play}
+use Rattle.day_run.specs.declared.clients.ClientPlay.{ClientPlay}
 use Rattle.day_run.specs.declared.clients.Rest.{Rest}
 use Rattle.day_run.specs.Clients.{IsPlaying, IsRest, IsStopping}
 use Rattle.day_run.specs.MediaPieces.{media_pieces, media_sizes}
@@ -23,8 +23,20 @@ undone-apart p undone some same =
     ap (λ n. n == p.keep) (sym same) ∙ ap (λ b. b && (p.sent == p.keep)) (sym (lt-ltb 0 p.passed some)) ∙ undone in
     subst T e (eqb_refl p.keep)
 
+-- the plan has through the last slot what was sent, where that isn't all
+sent-last : {play : ClientPlay} (last : ℕ) → IsPlaying play → (play.pacer.sent ≡ play.pacer.keep → ⊥)
+    → slots_through (Some last) ≡ play.pacer.passed → sum_through play.plan last ≡ play.pacer.sent
+sent-last {play} last playing apart passed =
+    let p = play.pacer in
+    let due : p.due ≡ min (sum_through p.plan last) p.keep =
+    playing.pacing.due ∙ ap (λ n. min (first_slots p.plan n) p.keep) (sym passed) in
+    ap (λ s. sum_through s last) (sym playing.plan_is) ∙ elim (cases_lt (sum_through p.plan last) p.keep) [
+      | inl below ↦ omega (arith, below, due, playing.all_sent)
+      | inr reached ↦ absurd (apart (omega (arith, reached, due, playing.all_sent)))
+    ]
+
 -- the halt of a play that isn't done
-pub halts : {play : Play} {keep : ℕ} (last : Option ℕ) → IsPlaying play → is_done play.pacer ≡ false
+pub halts : {play : ClientPlay} {keep : ℕ} (last : Option ℕ) → IsPlaying play → is_done play.pacer ≡ false
     → slots_through last ≡ play.pacer.passed
     → IsBoundaryAfter play.pacer.pieces (play.pacer.before + play.pacer.sent) (play.pacer.before + keep)
     → keep ≤ play.pacer.keep → IsHalt play.plan last keep
@@ -36,16 +48,9 @@ halts {play} {keep} None playing undone passed boundary most =
     omega (arith, le)
 halts {play} (Some last) playing undone passed boundary most =
     let p = play.pacer in
-    let due : p.due ≡ min (sum_through p.plan last) p.keep =
-    playing.pacing.due ∙ ap (λ n. min (first_slots p.plan n) p.keep) (sym passed) in
     let apart : p.sent ≡ p.keep → ⊥ = undone-apart p undone (omega (arith, passed)) in
-    let through : sum_through play.plan last ≡ p.sent =
-    ap (λ s. sum_through s last) (sym playing.plan_is) ∙ elim (cases_lt (sum_through p.plan last) p.keep) [
-      | inl below ↦ omega (arith, below, due, playing.all_sent)
-      | inr reached ↦ absurd (apart (omega (arith, reached, due, playing.all_sent)))
-    ] in
-    let P : List Segment → Type 0 = λ s. IsPlan s in
-    let plan : IsPlan play.plan = subst P playing.plan_is playing.pacing.plan in
+    let through = sent-last {play = play} last playing apart passed in
+    let plan : IsPlan play.plan = subst (λ (s : List Segment). IsPlan s) playing.plan_is playing.pacing.plan in
     let below : p.sent < p.keep = elim (cases_lt p.sent p.keep) [
       | inl less ↦ less
       | inr more ↦ absurd (apart (omega (arith, more, playing.pacing.sent, playing.pacing.due)))
@@ -64,7 +69,7 @@ halts {play} (Some last) playing undone passed boundary most =
     (inside, omega (arith, through, boundary.after), omega (arith, most, playing.whole))
 
 -- what a halt leaves of a play, whose halt is at a boundary
-pub record LeftRun (play : Play) (keep : ℕ) (left : Run) : Type 0 where
+pub record LeftRun (play : ClientPlay) (keep : ℕ) (left : Run) : Type 0 where
   pub last : Option ℕ
   pub boundary : IsBoundary play.pacer.pieces (play.pacer.before + keep)
   pub left_is : IsRemainingRun (media_sizes play.rest.medium.now) play.rest.playback play.rest.run play.plan last keep
@@ -73,7 +78,7 @@ pub record LeftRun (play : Play) (keep : ℕ) (left : Run) : Type 0 where
   pub fits : Fits play.rest.playback.buffer left
 
 -- it can be sent on
-pub left-rest : {play : Play} {keep : ℕ} {left : Run} → IsPlaying play → LeftRun play keep left
+pub left-rest : {play : ClientPlay} {keep : ℕ} {left : Run} → IsPlaying play → LeftRun play keep left
     → IsRest (record play.rest { run = left })
 left-rest {play} {keep} {left} playing own = record {
   playback = playing.rest.playback;
@@ -87,7 +92,7 @@ left-rest {play} {keep} {left} playing own = record {
 }
 
 -- what a play that was halted goes on to send
-pub left-stopping : {play : Play} {p : PacerState} {keep : ℕ} {rest : Rest} → IsPlaying play → IsRest rest
+pub left-stopping : {play : ClientPlay} {p : PacerState} {keep : ℕ} {rest : Rest} → IsPlaying play → IsRest rest
     → p ≡ record play.pacer { keep = keep }
     → IsPacerState p → IsStopping (record { keep = keep; rest = rest; pacer = p })
 left-stopping playing is e pacing = record {

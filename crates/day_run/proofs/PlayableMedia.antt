@@ -1,5 +1,5 @@
 -- Films and traces that can be played.
-use Rattle.std.proofs.Common.{◌≡◌, ◌≤◌, ◌+◌, ◌^◌, ◌∷◌, [], ℕ, List, length, sum, take}
+use Rattle.std.proofs.Common.{◌≡◌, ◌≤◌, ◌+◌, ◌∷◌, [], ℕ, List, length, sum, take}
 use Rattle.std.proofs.Common.{get_or, Result, Ok, Err, arith, sym, subst}
 use Rattle.std.specs.Prelude.{All, OnOk}
 use Rattle.std.specs.Global.{Vec}
@@ -11,6 +11,7 @@ use Rattle.film_frames.specs.declared.stored_films.Stored.{Stored}
 use Rattle.film_frames.specs.Pieces.{wire_size}
 use Rattle.film_run.specs.Units.{AreUnitSizes, stored_sizes}
 use Rattle.vod_base.specs.declared.errors.NoMemory.{NoMemory}
+use Rattle.vod_base.specs.declared.limits.TheConstants.{MAX_BYTES, MAX_FILM_PICTURES}
 use Rattle.day_run.specs.declared.media.Media.{Media}
 use Rattle.day_run.specs.declared.media.Source.{Source}
 use Rattle.day_run.specs.declared.media.Source.TheVariants.{Film, Trace}
@@ -23,7 +24,7 @@ use Rattle.day_script.proofs.Places.{Place}
 -- a film, of a code from 1 to 8, whose units have the sizes that a trace may have
 pub film-playable : {source : Source} (stored : Stored) → source ≡ Film stored → 1 ≤ stored.film.rate
     → stored.film.rate ≤ 8
-    → length stored.film.units.items ≤ 4194304 → sum (stored_sizes stored) ≤ 2 ^ 42 → IsPlayable source
+    → length stored.film.units.items ≤ MAX_FILM_PICTURES → sum (stored_sizes stored) ≤ MAX_BYTES → IsPlayable source
 film-playable stored is low high few small =
     let time = time-bounds stored.film.rate low high in
     let sizes : AreUnitSizes (stored_sizes stored) = record {

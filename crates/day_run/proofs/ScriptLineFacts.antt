@@ -4,14 +4,14 @@ use Rattle.std.specs.List.{fold}
 use Rattle.admission.specs.declared.entries.Entry.{Entry}
 use Rattle.day_run.specs.ClientStates.{ClientState, Idle, IfBusy, Rest}
 use Rattle.day_script.specs.Scripts.{AreClients, IsClient}
-use Rattle.day_run.specs.Days.{AreLineSteps, IsAsked, IsLine, IsTold, Link, DayState, first_moment}
+use Rattle.day_run.specs.Days.{AreLineSteps, IsAsked, IsLine, IsTold, SharedLink, DayState, first_moment}
 use Rattle.day_script.specs.LineTexts.{state_text}
 use Rattle.day_script.specs.Scripts.{AreLines, StandsAfter, slot_after}
 use Rattle.day_script.specs.declared.scripts.Line.{Line}
 
 -- a line that is taken on a link: the day before and after it, and what is printed
 pub record LineStep : Type 0 where
-  pub link : Link
+  pub link : SharedLink
   pub old : DayState
   pub new : DayState
   pub text : List ℕ
@@ -23,7 +23,7 @@ IsPlayTaken step c rest state =
 
 -- what a client asks for on a link: the day before and after it, and the journal that reports it
 pub record ClientAsks : Type 0 where
-  pub link : Link
+  pub link : SharedLink
   pub client : ℕ
   pub old : DayState
   pub new : DayState
@@ -46,7 +46,7 @@ pub record StandingLines (heard n : ℕ) (lines : List Line) : Type 0 where
       → StandsAfter (fold slot_after heard (take i lines)) n (get_or lines i none)
 
 -- the lines of a script, which were all taken on a link
-pub record LinesTaken (link : Link) (n : ℕ) : Type 0 where
+pub record LinesTaken (link : SharedLink) (n : ℕ) : Type 0 where
   pub lines : List Line
   pub texts : List (List ℕ)
   pub moment : DayState
@@ -55,7 +55,7 @@ pub record LinesTaken (link : Link) (n : ℕ) : Type 0 where
   pub run : AreLineSteps link lines texts first_moment moment
 
 -- one line more
-pub record NextTaken (link : Link) (n : ℕ) (taken : LinesTaken link n) : Type 0 where
+pub record NextTaken (link : SharedLink) (n : ℕ) (taken : LinesTaken link n) : Type 0 where
   pub line : Line
   pub new : DayState
   pub text : List ℕ
@@ -78,5 +78,5 @@ rest-standing {n} {lines} standing is =
       stands = λ i none inside. standing.stands (suc i) none (omega (arith, inside));
     })
 
-pub standing-of : {link : Link} {n : ℕ} (taken : LinesTaken link n) → StandingLines 0 n taken.lines
+pub standing-of : {link : SharedLink} {n : ℕ} (taken : LinesTaken link n) → StandingLines 0 n taken.lines
 standing-of taken = record { clients = taken.clients.each; stands = taken.are.each }

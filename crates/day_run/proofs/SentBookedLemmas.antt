@@ -24,7 +24,7 @@ use Rattle.admission.proofs.Halts.{plays-split, split}
 use Rattle.admission.proofs.HistoryPrefixes.{state-push}
 use Rattle.day_run.specs.BookingBalance.{AreHeldOf, IsBalanced, IsHeld, share_of}
 use Rattle.day_run.specs.Days.{entry_by, halt_by}
-use Rattle.day_run.specs.ClientStates.{Idle, Playing, Pausing, Paused, Play, ClientState, Rest}
+use Rattle.day_run.specs.ClientStates.{Idle, Playing, Pausing, Paused, ClientPlay, ClientState, Rest}
 use Rattle.day_run.specs.ClientStates.{booking_of, growth, is_playing, sent_between, sent_by}
 use Rattle.day_run.proofs.OwnHalts.{halts-none, halts-push}
 use Rattle.day_run.proofs.SlotSums.{sum-slots}
@@ -153,7 +153,7 @@ shut-held entries c (Playing play) shut = absurd shut
 shut-held entries c (Pausing stop rest) shut = tt
 shut-held entries c (Paused rest) shut = tt
 
-maker-more : (entries : List Entry) (e : Entry) (c : ℕ) (play : Play) → IsHeld entries c play
+maker-more : (entries : List Entry) (e : Entry) (c : ℕ) (play : ClientPlay) → IsHeld entries c play
     → play_numbered play.number (state_after (entries ++ e ∷ [])).held
     ≡ Some (admitted_play play.number play.start play.plan) → IsHeld (entries ++ e ∷ []) c play
 maker-more entries e c play its held = record {
@@ -227,7 +227,7 @@ record HaltedApart (c d : ℕ) (entries : List Entry) (number : ℕ) : Type 0 wh
   pub maker : (none : Entry) → (get_or entries number none).maker ≡ c
   pub other : d ≡ c → ⊥
 
-other-halted : {entries : List Entry} {c d : ℕ} {play : Play} (number keep : ℕ) → HaltedApart c d entries number
+other-halted : {entries : List Entry} {c d : ℕ} {play : ClientPlay} (number keep : ℕ) → HaltedApart c d entries number
     → IsHeld entries d play → IsHeld (entries ++ halt_by c number keep) d play
 other-halted {entries} {c} {d} {play} number keep halted its =
     let e = entry_by c (commands.Halt number keep) Halted in
@@ -279,8 +279,24 @@ pub record BalancedClient (heard c : ℕ) (entries : List Entry) (states : List 
   pub at : get_or states c Idle ≡ state
   pub balanced : IsBalanced entries states heard
 
+-- what the machine holds for the clients, one of which is set
+set-held : (entries : List Entry) (states : List ClientState) (c : ℕ) (next : ClientState) → c < length states
+    → AreHeldOf entries c next
+    → ((d : ℕ) → d < length states → (d ≡ c → ⊥) → AreHeldOf entries d (get_or states d Idle))
+    → (d : ℕ) → d < length (set states c next) → AreHeldOf entries d (get_or (set states c next) d Idle)
+set-held entries states c next inside own others d within = elim (cases_eq d c) [
+  | inl same ↦
+      let B : ℕ → Type 0 = λ k. AreHeldOf entries k (get_or (set states c next) k Idle) in
+      let C : ClientState → Type 0 = λ x. AreHeldOf entries c x in
+      subst B (sym same) (subst C (sym (get_or-set_same states c next Idle inside)) own)
+  | inr other ↦
+      let C : ClientState → Type 0 = λ x. AreHeldOf entries d x in
+      subst C (sym (get_or-set_other states c d next Idle other))
+      (others d (omega (arith, within, length-set states c next)) other)
+]
+
 -- a client's play was halted, and the client books what is kept of it
-pub balanced-halt : {entries : List Entry} {states : List ClientState} {heard : ℕ} {play : Play} (c keep : ℕ)
+pub balanced-halt : {entries : List Entry} {states : List ClientState} {heard : ℕ} {play : ClientPlay} (c keep : ℕ)
     (next : ClientState)
     → BalancedClient heard c entries states (Playing play) → IsShut next
     → ((t : ℕ) → heard < t → share_of t next ≡ share_at t (truncated_play play.start play.plan keep))
@@ -297,21 +313,11 @@ balanced-halt {entries} {states} {play} c keep next own shut shares =
           let was : share_of t (get_or states c Idle) ≡ share_at t (whole_play play.start play.plan) =
           ap (share_of t) at in
           omega (arith, b, s, was, shares t later, balanced.each t later);
-      held = λ d within. elim (cases_eq d c) [
-        | inl same ↦
-            let B : ℕ → Type 0 =
-            λ n. AreHeldOf (entries ++ halt_by c play.number keep) n (get_or (set states c next) n Idle) in
-            let C : ClientState → Type 0 = λ x. AreHeldOf (entries ++ halt_by c play.number keep) c x in
-            subst B (sym same)
-            (subst C (sym (get_or-set_same states c next Idle inside))
-            (shut-held (entries ++ halt_by c play.number keep) c next shut))
-        | inr other ↦
-            let C : ClientState → Type 0 = λ x. AreHeldOf (entries ++ halt_by c play.number keep) d x in
-            subst C (sym (get_or-set_other states c d next Idle other))
-            (others-halted entries play.number keep (get_or states d Idle)
-            (record { inside = its.inside; maker = its.maker; other = other })
-            (balanced.held d (omega (arith, within, length-set states c next))))
-      ];
+      held =
+          set-held (entries ++ halt_by c play.number keep) states c next inside
+          (shut-held (entries ++ halt_by c play.number keep) c next shut)
+          (λ d within other. others-halted entries play.number keep (get_or states d Idle)
+          (record { inside = its.inside; maker = its.maker; other = other }) (balanced.held d within));
       fresh =
           let A : State → Type 0 =
           λ s. All (λ (h : AdmittedPlay). h.number < length (entries ++ halt_by c play.number keep)) s.held in
@@ -378,15 +384,56 @@ push-held entries next c (Playing play) its =
 push-held entries next c (Pausing stop rest) its = tt
 push-held entries next c (Paused rest) its = tt
 
+-- the entry of a play that begins
+pub record BegunPlay (entries : List Entry) : Type 0 where
+  pub e : Entry
+  pub number : ℕ
+  pub start : ℕ
+  pub plan : List Segment
+  pub is : (state_after (entries ++ e ∷ [])).held ≡ (state_after entries).held ++ admitted_play number start plan ∷ []
+
+-- it books its plan
+pub booked-begun : (entries : List Entry) (t : ℕ) (begun : BegunPlay entries)
+    → booked_in (state_after (entries ++ begun.e ∷ [])) t
+    ≡ booked_in (state_after entries) t + share_at t (whole_play begun.start begun.plan)
+booked-begun entries t begun =
+    let held = (state_after entries).held in
+    ap (λ hs. sum_by (share_at t) (map (λ (x : AdmittedPlay). x.play) hs)) is
+    ∙ ap (sum_by (share_at t)) (map-append (λ (x : AdmittedPlay). x.play) held (admitted_play number start plan ∷ []))
+    ∙ sum_by_push (share_at t) (map (λ (x : AdmittedPlay). x.play) held) (whole_play start plan)
+  where
+    open begun use {number, start, plan, is}
+
 -- a client's play was admitted
 pub record ClientPlayed (entries : List Entry) (c : ℕ) : Type 0 where
-  pub play : Play
+  pub play : ClientPlay
   pub e : Entry
   pub number : play.number ≡ length entries
   pub maker : e.maker ≡ c
   pub no_halt : is_halt e.command ≡ false
   pub is : (state_after (entries ++ e ∷ [])).held
       ≡ (state_after entries).held ++ admitted_play play.number play.start play.plan ∷ []
+
+-- the machine holds that play
+played-held : {entries : List Entry} {c : ℕ} (played : ClientPlayed entries c)
+    → All (λ (h : AdmittedPlay). h.number < length entries) (state_after entries).held
+    → IsHeld (entries ++ played.e ∷ []) c played.play
+played-held {entries} {c} played fresh =
+    let held = (state_after entries).held in
+    record {
+      inside = omega (arith, number, length-append entries (e ∷ []));
+      maker = λ none.
+          let z : play.number - play.number ≡ 0 = omega arith in
+          ap (λ (x : Entry). x.maker)
+          (get_or-append_right entries (e ∷ []) play.number play.number none (sym number) (omega arith)
+          ∙ ap (λ k. get_or (e ∷ []) k none) z) ∙ maker;
+      held =
+          let A : ℕ → Type 0 = λ k. All (λ (h : AdmittedPlay). h.number < k) held in
+          ap (play_numbered play.number) is
+          ∙ found-new play.number play.start play.plan held (subst A (sym number) fresh);
+    }
+  where
+    open played use {play, e, number, maker, is}
 
 -- a client's play was admitted, which booked nothing before
 pub balanced-play : {entries : List Entry} {states : List ClientState} {heard c : ℕ} (played : ClientPlayed entries c)
@@ -396,38 +443,17 @@ balanced-play {entries} {states} {c} played inside free balanced =
     let new = admitted_play play.number play.start play.plan in
     let held = (state_after entries).held in
     let n : length (entries ++ e ∷ []) ≡ length entries + 1 = omega (arith, length-append entries (e ∷ [])) in
-    let own : IsHeld (entries ++ e ∷ []) c play = record {
-      inside = omega (arith, number, n);
-      maker = λ none.
-          let z : play.number - play.number ≡ 0 = omega arith in
-          ap (λ (x : Entry). x.maker)
-          (get_or-append_right entries (e ∷ []) play.number play.number none (sym number) (omega arith)
-          ∙ ap (λ k. get_or (e ∷ []) k none) z) ∙ maker;
-      held =
-          let A : ℕ → Type 0 = λ k. All (λ (h : AdmittedPlay). h.number < k) held in
-          ap (play_numbered play.number) is
-          ∙ found-new play.number play.start play.plan held (subst A (sym number) balanced.fresh);
-    } in
     record {
       each = λ t later.
-          let b : booked_in (state_after (entries ++ e ∷ [])) t
-          ≡ booked_in (state_after entries) t + share_at t (whole_play play.start play.plan) =
-          ap (λ hs. sum_by (share_at t) (map (λ (x : AdmittedPlay). x.play) hs)) is
-          ∙ ap (sum_by (share_at t)) (map-append (λ (x : AdmittedPlay). x.play) held (new ∷ []))
-          ∙ sum_by_push (share_at t) (map (λ (x : AdmittedPlay). x.play) held) (whole_play play.start play.plan) in
+          let b = booked-begun entries t
+          (record { e = e; number = play.number; start = play.start; plan = play.plan; is = is }) in
           let s = sum_by-set (share_of t) states c (Playing play) Idle inside in
           omega (arith, b, s, free.shares t, balanced.each t later);
-      held = λ d within. elim (cases_eq d c) [
-        | inl same ↦
-            let B : ℕ → Type 0 = λ k. AreHeldOf (entries ++ e ∷ []) k (get_or (set states c (Playing play)) k Idle) in
-            let C : ClientState → Type 0 = λ x. AreHeldOf (entries ++ e ∷ []) c x in
-            subst B (sym same) (subst C (sym (get_or-set_same states c (Playing play) Idle inside)) own)
-        | inr other ↦
-            let C : ClientState → Type 0 = λ x. AreHeldOf (entries ++ e ∷ []) d x in
-            subst C (sym (get_or-set_other states c d (Playing play) Idle other))
-            (push-held entries (record { e = e; new = new; is = is }) d (get_or states d Idle)
-            (balanced.held d (omega (arith, within, length-set states c (Playing play)))))
-      ];
+      held =
+          set-held (entries ++ e ∷ []) states c (Playing play) inside
+          (played-held played balanced.fresh)
+          (λ d within other. push-held entries (record { e = e; new = new; is = is }) d (get_or states d Idle)
+          (balanced.held d within));
       fresh =
           let P : AdmittedPlay → Type 0 = λ h. h.number < length (entries ++ e ∷ []) in
           let A : List AdmittedPlay → Type 0 = λ l. All P l in
@@ -446,4 +472,4 @@ balanced-play {entries} {states} {c} played inside free balanced =
       halts = halts-none entries e no_halt balanced.halts;
     }
   where
-    open played use {play, e, number, maker, no_halt, is}
+    open played use {play, e, number, no_halt, is}

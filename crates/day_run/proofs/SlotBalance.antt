@@ -6,26 +6,26 @@ use Rattle.std.proofs.Common.{sum, Some, arith, refl, sym, ap, subst, ◌∙◌}
 use Rattle.slot_calendar.proofs.PlanSlots.{sent-rises}
 use Rattle.std.specs.Prelude.{sum_by}
 use Rattle.std.proofs.lemmas.Bool.{eqb-true, and_parts}
-use Rattle.std.proofs.lemmas.List.{append-nil, get_or-map, length-append, length-map, map-append, set-get_or, take_all}
-use Rattle.std.proofs.lemmas.List.Sums.{sum_by-cons, sum_by_push}
+use Rattle.std.proofs.lemmas.List.{append-nil, get_or-map, length-append, length-map, set-get_or, take_all}
+use Rattle.std.proofs.lemmas.List.Sums.{sum_by-cons}
 use Rattle.plan_cert.specs.declared.Segment.{Segment}
 use Rattle.plan_cert.specs.PlanSlots.{plan_slots, total_bytes}
 use Rattle.slot_calendar.specs.Plays.{Play as Booked, truncated_play, sent_before, share_at, whole_play}
 use Rattle.admission.specs.declared.entries.Entry.{Entry}
 use Rattle.admission.specs.Books.{places_taken}
 use Rattle.admission.specs.Histories.{open_count, state_after}
-use Rattle.admission.specs.Machine.{AdmittedPlay, admitted_play, booked_in, play_numbered}
+use Rattle.admission.specs.Machine.{admitted_play, booked_in, play_numbered}
 use Rattle.day_run.specs.BookingBalance.{AreHeldOf, IsBalanced, IsHeld, share_of}
 use Rattle.day_run.specs.Days.{DayState, at_slot, done_halt, halt_by, halt_entries, last_journal, open_halt}
 use Rattle.day_run.specs.Clients.{after_open}
-use Rattle.day_run.specs.ClientStates.{Idle, Playing, Pausing, Paused, Play, Rest, ClientState}
+use Rattle.day_run.specs.ClientStates.{Idle, Playing, Pausing, Paused, ClientPlay, Rest, ClientState}
 use Rattle.day_run.specs.ClientStates.{after_play, after_sending, booking_of, is_done}
 use Rattle.day_run.specs.ClientStates.{pausing_state}
 use Rattle.day_run.specs.ClientStates.{sent_by}
 use Rattle.day_run.proofs.LineStepLemmas.{halt_entries-sent}
 use Rattle.day_run.proofs.ClientSweepLemmas.{IsSwept, entries-more, swept-all, swept-none, swept-set}
-use Rattle.day_run.proofs.SentBookedLemmas.{BalancedClient, HeldPlay, balanced-halt, booked-halted, open-less, playing_one}
-use Rattle.day_run.proofs.SentBookedLemmas.{share-done}
+use Rattle.day_run.proofs.SentBookedLemmas.{BalancedClient, BegunPlay, HeldPlay, balanced-halt, booked-begun}
+use Rattle.day_run.proofs.SentBookedLemmas.{booked-halted, open-less, playing_one, share-done}
 
 -- ---- a slot comes
 pause-share : (b : Bool) (t : ℕ) (stop : Booked) (rest : Rest) → (b ≡ true → share_at t stop ≡ 0)
@@ -107,7 +107,7 @@ balanced-sending entries states heard slot le balanced = record {
 }
 
 -- a play that is done is halted
-done-shares : (t slot : ℕ) (play : Play) → slot < t → is_done slot play ≡ true
+done-shares : (t slot : ℕ) (play : ClientPlay) → slot < t → is_done slot play ≡ true
     → share_of t Idle ≡ share_at t (truncated_play play.start play.plan (total_bytes play.plan))
 done-shares t slot play later done =
     let all : (sent_by (booking_of play) slot == total_bytes play.plan) ≡ true =
@@ -148,7 +148,7 @@ past-share {slot} {start} {plan} t past kept =
       sent-rises plan start (t + 1) (slot + 1) (omega (arith, past)),
     )
 
-pub stays-halt : {slot : ℕ} (entries : List Entry) (c keep : ℕ) (play : Play)
+pub stays-halt : {slot : ℕ} (entries : List Entry) (c keep : ℕ) (play : ClientPlay)
     → play_numbered play.number (state_after entries).held ≡ Some (admitted_play play.number play.start play.plan)
     → KeepsSent slot play.start keep play.plan → Stays slot entries (entries ++ halt_by c play.number keep)
 stays-halt entries c keep play held kept t past =
@@ -185,12 +185,12 @@ kept-step {slot} {entries} c at balanced =
       places = ap places_taken (append-nil entries);
     }
 
-abbrev pub held-play : {entries : List Entry} (play : Play)
+abbrev pub held-play : {entries : List Entry} (play : ClientPlay)
     → play_numbered play.number (state_after entries).held ≡ Some (admitted_play play.number play.start play.plan)
     → HeldPlay entries
 held-play play held = record { number = play.number; start = play.start; plan = play.plan; held = held }
 
-pub its-held : {entries : List Entry} {states : List ClientState} {heard : ℕ} {play : Play} (c : ℕ)
+pub its-held : {entries : List Entry} {states : List ClientState} {heard : ℕ} {play : ClientPlay} (c : ℕ)
     → c < length states → get_or states c Idle ≡ Playing play → IsBalanced entries states heard
     → play_numbered play.number (state_after entries).held ≡ Some (admitted_play play.number play.start play.plan)
 its-held {entries} {play} c inside at balanced =
@@ -198,7 +198,7 @@ its-held {entries} {play} c inside at balanced =
     let its : IsHeld entries c play = subst H at (balanced.held c inside) in
     its.held
 
-step-play : {slot : ℕ} {entries : List Entry} {states : List ClientState} {play : Play} {done : Bool} (c : ℕ)
+step-play : {slot : ℕ} {entries : List Entry} {states : List ClientState} {play : ClientPlay} {done : Bool} (c : ℕ)
     → is_done slot play ≡ done
     → BalancedClient slot c entries states (Playing play)
     → IsStep slot entries (entries ++ cond done (halt_by c play.number (total_bytes play.plan)) [])
@@ -252,6 +252,30 @@ record Ending (slot n : ℕ) (halt : ℕ → ClientState → List Entry) (after 
   stays : Stays slot begun entries
   places : places_taken entries ≡ places_taken begun
 
+-- the next client's play is halted too
+ending-next : {slot n : ℕ} {halt : ℕ → ClientState → List Entry} {after : ClientState → ClientState}
+    {begun : List Entry} {old : List ClientState} → IsStepOf slot halt after → n < length old
+    → Ending slot n halt after begun old → Ending slot (n + 1) halt after begun old
+ending-next {n} {halt} {after} {begun} {old} step inside e =
+    let state = get_or old n Idle in
+    let next = step n e.entries e.states state (record {
+      inside = omega (arith, inside, e.swept.count);
+      at = e.swept.later n (omega arith);
+      balanced = e.balanced;
+    }) in
+    record {
+      entries = e.entries ++ halt n state;
+      states = set e.states n (after state);
+      swept = swept-set {f = after} {i = n} {old = old} {new = e.states} {state = after state} inside refl e.swept;
+      entries_are =
+          entries-more {i = n} {before = e.entries} {after = e.entries ++ halt n state} {more = halt n state}
+          halt old begun inside
+          (record { before_is = e.entries_are; after_is = refl; here = refl });
+      balanced = next.balanced;
+      stays = λ t past. next.stays t past ∙ e.stays t past;
+      places = next.places ∙ e.places;
+    }
+
 ending : {slot : ℕ} {halt : ℕ → ClientState → List Entry} {after : ClientState → ClientState}
     {begun : List Entry} {old : List ClientState}
     {n : ℕ} → IsStepOf slot halt after → n ≤ length old
@@ -268,27 +292,11 @@ ending {slot} {halt} {after} {begun} {old} {n = zero} step most balanced = recor
 ending {slot} {halt} {after} {begun} {old} {n = suc n} step most balanced =
     let e = ending {slot = slot} {halt = halt} {after = after} {begun = begun} {old = old} {n = n} step
     (omega (arith, most)) balanced in
-    let state = get_or old n Idle in
     let one : n + 1 ≡ suc n = omega arith in
-    let inside : n < length old = omega (arith, most) in
-    let next = step n e.entries e.states state (record {
-      inside = omega (arith, inside, e.swept.count);
-      at = e.swept.later n (omega arith);
-      balanced = e.balanced;
-    }) in
     let E : ℕ → Type 0 = λ k. Ending slot k halt after begun old in
-    subst E one (record {
-      entries = e.entries ++ halt n state;
-      states = set e.states n (after state);
-      swept = swept-set {f = after} {i = n} {old = old} {new = e.states} {state = after state} inside refl e.swept;
-      entries_are =
-          entries-more {i = n} {before = e.entries} {after = e.entries ++ halt n state} {more = halt n state}
-          halt old begun inside
-          (record { before_is = e.entries_are; after_is = refl; here = refl });
-      balanced = next.balanced;
-      stays = λ t past. next.stays t past ∙ e.stays t past;
-      places = next.places ∙ e.places;
-    })
+    subst E one
+    (ending-next {slot = slot} {n = n} {halt = halt} {after = after} {begun = begun} {old = old} step
+    (omega (arith, most)) e)
 
 -- what the halts of a slot, or of a day's end, leave: the balance, what is booked in past slots, and the places that
 -- are taken
@@ -347,26 +355,12 @@ none-plays (state ∷ states) =
 pub last-open : (m : DayState) → IsBalanced m.entries m.states m.heard → open_count (last_journal m) ≡ 0
 last-open m balanced = (last-halted m balanced).balanced.playing ∙ none-plays m.states
 
--- the entry of a play that begins
-pub record BegunPlay (entries : List Entry) : Type 0 where
-  pub e : Entry
-  pub number : ℕ
-  pub start : ℕ
-  pub plan : List Segment
-  pub is : (state_after (entries ++ e ∷ [])).held ≡ (state_after entries).held ++ admitted_play number start plan ∷ []
-
 -- a play was admitted after the slot that was received last
 pub play-stays : (entries : List Entry) (heard t : ℕ) (begun : BegunPlay entries) → heard < begun.start → t ≤ heard
     → booked_in (state_after (entries ++ begun.e ∷ [])) t ≡ booked_in (state_after entries) t
 play-stays entries heard t begun early past =
-    let held = (state_after entries).held in
     let none : t + 1 - start ≡ 0 = omega (arith, early, past) in
     let sent : sent_before plan start (t + 1) ≡ 0 = ap (λ n. sum (take n (plan_slots plan))) none in
-    let b : booked_in (state_after (entries ++ e ∷ [])) t
-    ≡ booked_in (state_after entries) t + share_at t (whole_play start plan) =
-    ap (λ hs. sum_by (share_at t) (map (λ (x : AdmittedPlay). x.play) hs)) is
-    ∙ ap (sum_by (share_at t)) (map-append (λ (x : AdmittedPlay). x.play) held (admitted_play number start plan ∷ []))
-    ∙ sum_by_push (share_at t) (map (λ (x : AdmittedPlay). x.play) held) (whole_play start plan) in
-    omega (arith, b, sent)
+    omega (arith, booked-begun entries t begun, sent)
   where
-    open begun use {e, number, start, plan, is}
+    open begun use {start, plan}

@@ -4,21 +4,23 @@ use Rattle.std.specs.Prelude.{sum_by}
 use Rattle.std.specs.List.{range_with_len}
 use Rattle.std.proofs.lemmas.List.FromFn.{map-range_with_len_more}
 use Rattle.std.proofs.lemmas.List.Sums.{sum-map, sum_by_push}
+use Rattle.vod_base.specs.declared.limits.TheConstants.{MAX_BYTES}
+use Rattle.slot_calendar.specs.declared.ring.TheConstants.{RING_SLOTS}
 
 -- what is booked in one slot more
 pub record NextSlot (booked here slot from : ℕ) : Type 0 where
   pub begun : from + 1 ≤ slot
-  pub few : booked ≤ (slot - (from + 1)) * 2 ^ 42
-  pub small : here ≤ 2 ^ 42
+  pub few : booked ≤ (slot - (from + 1)) * MAX_BYTES
+  pub small : here ≤ MAX_BYTES
 
 pub booked-more : (booked here slot from : ℕ) → NextSlot booked here slot from
-    → booked + here ≤ (slot + 1 - (from + 1)) * 2 ^ 42
+    → booked + here ≤ (slot + 1 - (from + 1)) * MAX_BYTES
 booked-more booked here slot from more = omega arith
 
 -- the slots of a ring up to an end
 pub record RingSlots (slot from end now : ℕ) : Type 0 where
   pub before : slot < end + 1
-  pub ring : end ≤ now + 1048576
+  pub ring : end ≤ now + RING_SLOTS
   pub first : now ≤ from
 
 pub booked-fits : {booked here slot from end now : ℕ} → NextSlot booked here slot from → RingSlots slot from end now

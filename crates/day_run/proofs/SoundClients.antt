@@ -30,10 +30,10 @@ use Rattle.day_script.specs.declared.scripts.Line.TheVariants as lines
 use Rattle.day_run.specs.BookingBalance.{AreHeldOf, IsHeld, IsReady}
 use Rattle.day_run.specs.DayLaws.{IsLink, IsSoundPlay, IsSoundRest, IsSoundClient}
 use Rattle.day_run.specs.Days.{AreLineSteps, IsAsked, IsHaltedPlay, IsLine, IsLookLine, IsOfferLine}
-use Rattle.day_run.specs.Days.{IsPauseLine, IsResumeLine, Link, DayState, at_slot}
+use Rattle.day_run.specs.Days.{IsPauseLine, IsResumeLine, SharedLink, DayState, at_slot}
 use Rattle.day_run.specs.Days.{entry_by, first_moment, rest_at, state_at, with_play}
 use Rattle.day_script.specs.Scripts.{IsWish}
-use Rattle.day_run.specs.ClientStates.{Idle, Playing, Pausing, Paused, IsPause, Play, Rest}
+use Rattle.day_run.specs.ClientStates.{Idle, Playing, Pausing, Paused, IsPause, ClientPlay, Rest}
 use Rattle.day_run.specs.ClientStates.{ClientState, after_play, after_sending, booking_of, is_done}
 use Rattle.day_run.specs.ClientStates.{no_medium, sent_by, slot_sent}
 use Rattle.day_run.proofs.LineBalance.{heard-after, line-ready, morning-ready, slot-ready}
@@ -80,12 +80,12 @@ record SoundAsking (rest : Rest) (plan : List Segment) (c : ℕ) : Type 0 where
   plan_is : IsPlanOf rest.sizes rest.playback rest.run plan
 
 -- ---- a play that begins
-answered-states : {rest : Rest} {plan : List Segment} {old : DayState} {c : ℕ} (answer : Answer) (link : Link)
+answered-states : {rest : Rest} {plan : List Segment} {old : DayState} {c : ℕ} (answer : Answer) (link : SharedLink)
     → SoundAsking rest plan c → IsSound old
     → IsAnswered link.steps (state_after old.entries) (entry_by c (commands.Play old.heard plan) answer)
     → AreStates old.heard (with_play c rest plan (length old.entries) answer old.states)
 answered-states {rest} {plan} {old} {c} (Admitted start) link ask sound answer =
-    let play : Play = record { number = length old.entries; rest = rest; plan = plan; start = start } in
+    let play : ClientPlay = record { number = length old.entries; rest = rest; plan = plan; start = start } in
     let early : old.heard < start = omega (arith, answer.0) in
     let own : IsSoundPlay old.heard play =
     record { rest = ask.rest_is; plan = ask.plan_is; left = λ begun. absurd (omega (arith, begun, early)) } in
@@ -94,7 +94,7 @@ answered-states (Overflow over booked asked) link ask sound answer = sound.each
 answered-states Halted link ask sound answer = sound.each
 answered-states (Looked now at booked) link ask sound answer = sound.each
 
-asked-states : {link : Link} {c : ℕ} {rest : Rest} {old new : DayState} {text : List ℕ} → c < 256
+asked-states : {link : SharedLink} {c : ℕ} {rest : Rest} {old new : DayState} {text : List ℕ} → c < 256
     → (0 < length (rest_sizes rest.sizes rest.run) → IsSoundRest rest)
     → IsSound old → IsAsked link c rest old new text → AreStates new.heard new.states
 asked-states {c} {old} {new} {text} client own sound (inl faulty) = kept-states old new faulty.told.kept sound.each
@@ -111,7 +111,7 @@ asked-states {link} {c} {old} {new} {text} client own sound (inr planned) = elim
 ]
 
 -- ---- a play that is halted
-none-sent : (play : Play) (heard : ℕ) → heard < play.start → sent_by (booking_of play) heard ≡ 0
+none-sent : (play : ClientPlay) (heard : ℕ) → heard < play.start → sent_by (booking_of play) heard ≡ 0
 none-sent play heard early =
     let none : heard + 1 - play.start ≡ 0 = omega (arith, early) in
     let sent : sent_before play.plan play.start (heard + 1) ≡ 0 = ap (λ n. sum (take n (plan_slots play.plan))) none in
@@ -131,7 +131,7 @@ both-sides true b is left = left
 both-sides false b is left = cc is
 
 -- a play that isn't done has bytes to send
-some-left : (play : Play) (heard : ℕ) → is_done heard play ≡ false → play.start ≤ heard
+some-left : (play : ClientPlay) (heard : ℕ) → is_done heard play ≡ false → play.start ≤ heard
     → sum_through play.plan (heard - play.start) < total_bytes play.plan
 some-left play heard undone begun =
     let e : heard + 1 - play.start ≡ heard - play.start + 1 = omega (arith, begun) in
@@ -147,7 +147,7 @@ some-left play heard undone begun =
       | inr reached ↦ absurd (apart (omega (arith, reached, sent)))
     ]
 
-sent-through : (play : Play) (heard : ℕ) → play.start ≤ heard
+sent-through : (play : ClientPlay) (heard : ℕ) → play.start ≤ heard
     → sum_through play.plan (heard - play.start) < total_bytes play.plan
     → sent_by (booking_of play) heard ≡ sum_through play.plan (heard - play.start)
 sent-through play heard begun below =
@@ -156,7 +156,7 @@ sent-through play heard begun below =
     ap (λ n. sum (take n (plan_slots play.plan))) e in
     omega (arith, below, sent)
 
-halt-if : {b : Bool} {play : Play} {heard keep : ℕ} {state : ClientState} → nat_lt heard play.start ≡ b
+halt-if : {b : Bool} {play : ClientPlay} {heard keep : ℕ} {state : ClientState} → nat_lt heard play.start ≡ b
     → IsSoundPlay heard play → IsPause play heard keep state
     → keep ≤ total_bytes play.plan → IsHalt play.plan (cond b None (Some (heard - play.start))) keep
 halt-if {b = true} {play} {heard} {keep} early sound pause most =
@@ -183,7 +183,7 @@ halt-if {b = false} {play} {heard} late sound pause most =
     (inside, omega (arith, sent, pause.boundary.after), most)
 
 -- the bytes that are kept are those of the plan at most
-pub kept-most : (entries : List Entry) (play : Play) (keep : ℕ)
+pub kept-most : (entries : List Entry) (play : ClientPlay) (keep : ℕ)
     → play_numbered play.number (state_after entries).held ≡ Some (admitted_play play.number play.start play.plan)
     → CanHalt (state_after entries) play.number keep → keep ≤ total_bytes play.plan
 kept-most entries play keep held can =
@@ -191,7 +191,7 @@ kept-most entries play keep held can =
     λ o. IsSomeAnd o (λ (h : AdmittedPlay). IsTrue h.is_open × (keep ≤ total_bytes h.play.segments)) in
     (subst P held can).1
 
-left-sound : {play : Play} {heard keep : ℕ} {state : ClientState} → IsSoundPlay heard play
+left-sound : {play : ClientPlay} {heard keep : ℕ} {state : ClientState} → IsSoundPlay heard play
     → (pause : IsPause play heard keep state) → keep ≤ total_bytes play.plan
     → IsSoundRest (record play.rest { run = pause.left })
 left-sound {play} {heard} {keep} sound pause most =
@@ -211,7 +211,7 @@ pausing-sound : (heard slot : ℕ) (b : Bool) (stop : Booked) (rest : Rest) → 
 pausing-sound heard slot true stop rest own = own
 pausing-sound heard slot false stop rest own = own
 
-halted-states : {link : Link} {c : ℕ} {play : Play} {old new : DayState} {text : List ℕ} → c < 256
+halted-states : {link : SharedLink} {c : ℕ} {play : ClientPlay} {old new : DayState} {text : List ℕ} → c < 256
     → get_or old.states c Idle ≡ Playing play → IsSound old
     → IsHaltedPlay link c play old new text → AreStates new.heard new.states
 halted-states {c} {play} {old} {new} {text} client at sound is =
@@ -229,7 +229,7 @@ halted-states {c} {play} {old} {new} {text} client at sound is =
     (set-sound old.states sound.ready.count (record { client = client; sound = state }) sound.each)
 
 -- ---- a slot comes
-done-if : (slot : ℕ) (play : Play) (b : Bool) → is_done slot play ≡ b → IsSoundRest play.rest
+done-if : (slot : ℕ) (play : ClientPlay) (b : Bool) → is_done slot play ≡ b → IsSoundRest play.rest
     → IsPlanOf play.rest.sizes play.rest.playback play.rest.run play.plan
     → IsSoundClient slot (cond b Idle (Playing play))
 done-if slot play true done rest plan = tt
@@ -264,7 +264,8 @@ slot-sound old slot later sound = record {
 }
 
 -- ---- all of a reel
-pub whole-sound : {link : Link} {source buffer delay : ℕ} → IsLink link → IsWish (length link.media) source buffer delay
+pub whole-sound : {link : SharedLink} {source buffer delay : ℕ} → IsLink link
+    → IsWish (length link.media) source buffer delay
     → 0 < length (rest_sizes (rest_at link source buffer delay).sizes (rest_at link source buffer delay).run)
     → IsSoundRest (rest_at link source buffer delay)
 whole-sound {link} {source} {buffer} {delay} link-is wish some =
@@ -323,14 +324,14 @@ pause-states {c} {state = Playing play} step own sound is = halted-states own.cl
 pause-states {c} {state = Pausing stop rest} step own sound is = kept-states step.old step.new is.kept sound.each
 pause-states {c} {state = Paused rest} step own sound is = kept-states step.old step.new is.kept sound.each
 
-look-states : {link : Link} {slot : ℕ} {old new : DayState} {text : List ℕ} → IsSound old
+look-states : {link : SharedLink} {slot : ℕ} {old new : DayState} {text : List ℕ} → IsSound old
     → IsLookLine link slot old new text → AreStates new.heard new.states
 look-states {slot} {old} {new} {text} sound (inl full) = kept-states old new full.told.kept sound.each
 look-states {slot} {new} {text} sound (inr made) =
     let M : DayState → Type 0 = λ m. AreStates m.heard m.states in
     subst M (sym made.noted.new_is) sound.each
 
-offer-states : {link : Link} {rest : Rest} {wait : ℕ} {old new : DayState} {text : List ℕ} → IsSound old
+offer-states : {link : SharedLink} {rest : Rest} {wait : ℕ} {old new : DayState} {text : List ℕ} → IsSound old
     → IsOfferLine link rest wait old new text → AreStates new.heard new.states
 offer-states {old} {new} {text} sound (inl faulty) = kept-states old new faulty.told.kept sound.each
 offer-states {old} {new} {text} sound (inr offered) = kept-states old new offered.told.kept sound.each
@@ -361,7 +362,7 @@ line-sound step line link-is standing sound is = record {
 }
 
 -- after lines, all clients are sound
-run-sound : {link : Link} {old new : DayState} (ls : List Line) (texts : List (List ℕ)) → IsLink link
+run-sound : {link : SharedLink} {old new : DayState} (ls : List Line) (texts : List (List ℕ)) → IsLink link
     → StandingLines old.heard (length link.media) ls → IsSound old → AreLineSteps link ls texts old new → IsSound new
 run-sound {new} [] [] link-is standing sound run =
     let S : DayState → Type 0 = λ m. IsSound m in
@@ -379,7 +380,7 @@ idle-sound c client =
     let S : ClientState → Type 0 = λ s. IsSoundClient 0 s in
     subst S (sym (get_or-replicate 256 c Idle Idle client)) tt
 
-pub day-sound : {link : Link} (taken : LinesTaken link (length link.media)) (c : ℕ) → IsLink link → c < 256
+pub day-sound : {link : SharedLink} (taken : LinesTaken link (length link.media)) (c : ℕ) → IsLink link → c < 256
     → IsSoundClient taken.moment.heard (state_at taken.moment c)
 day-sound taken c link-is inside =
     let morning : IsSound first_moment = record { ready = morning-ready; each = idle-sound } in

@@ -1,12 +1,13 @@
 -- What the clients book is what the link's machine has booked.
-use Rattle.std.specs.Prelude.{ℕ, ◌≡◌, ◌<◌, List, All, count_by, length, slice_index_or, sum_by, Some}
+use Rattle.std.specs.Prelude.{ℕ, ◌≡◌, ◌<◌, List, All, count_by, length, slice_index_or, sum_by}
+use Rattle.std.specs.Prelude.{Some}
 use Rattle.slot_calendar.specs.Plays.{share_at}
 use Rattle.admission.specs.declared.entries.Entry.{Entry}
 use Rattle.admission.specs.Histories.{IsHalt, open_count, state_after}
 use Rattle.admission.specs.Machine.{AdmittedPlay, admitted_play, booked_in, play_numbered}
 use Rattle.admission.specs.Makers.{AreHaltsOwn}
 use Rattle.day_run.specs.Days.{DayState}
-use Rattle.day_run.specs.ClientStates.{ClientState, Idle, Playing, Pausing, Paused, Play}
+use Rattle.day_run.specs.ClientStates.{ClientState, Idle, Playing, Pausing, Paused, ClientPlay}
 use Rattle.day_run.specs.ClientStates.{booking_of, is_playing}
 
 -- the bytes that a client books in a slot
@@ -17,7 +18,7 @@ share_of t (Pausing stop rest) = share_at t stop
 share_of t (Paused rest) = 0
 
 -- the plays that the machine has open for the clients
-pub record IsHeld (entries : List Entry) (client : ℕ) (play : Play) : Type 0 where
+pub record IsHeld (entries : List Entry) (client : ℕ) (play : ClientPlay) : Type 0 where
   pub inside : play.number < length entries
   pub maker : (none : Entry) → (slice_index_or entries play.number none).maker ≡ client
   pub held : play_numbered play.number (state_after entries).held

@@ -67,14 +67,14 @@ whole_rest slot_units medium buffer delay = record {
 
 -- a play that was admitted and isn't halted: the place of its admission, what was to be sent as it
 -- began, by which plan, and the plan's first slot
-pub record Play : Type 0 where
+pub record ClientPlay : Type 0 where
   pub number : ℕ
   pub rest : Rest
   pub plan : List Segment
   pub start : ℕ
 
 -- what it books
-abbrev pub booking_of : Play → Booked
+abbrev pub booking_of : ClientPlay → Booked
 booking_of play = whole_play play.start play.plan
 
 -- What a client does: nothing; it plays; it has paused, and the frame or report in hand is sent to
@@ -82,7 +82,7 @@ booking_of play = whole_play play.start play.plan
 -- the rest.
 pub data ClientState : Type 0 where
   Idle : ClientState
-  Playing : (play : Play) → ClientState
+  Playing : (play : ClientPlay) → ClientState
   Pausing : (stop : Booked) → (rest : Rest) → ClientState
   Paused : (rest : Rest) → ClientState
 
@@ -135,7 +135,7 @@ after_sending slot (Pausing stop rest) = pausing_state slot stop rest
 after_sending slot (Paused rest) = Paused rest
 
 -- a play is done once its first slot has come and all its bytes were sent
-abbrev pub is_done : ℕ → Play → Bool
+abbrev pub is_done : ℕ → ClientPlay → Bool
 is_done slot play = nat_le play.start slot
     && (sent_by (booking_of play) slot == total_bytes play.plan)
 
@@ -152,7 +152,7 @@ slot_sent start heard = if nat_lt heard start then None else Some (heard - start
 
 -- A play is paused: it keeps the bytes up to the least boundary at or after what was sent. The
 -- pictures that are used in the slot in which that is reached, or later, are left.
-pub record IsPause (play : Play) (heard keep : ℕ) (state : ClientState) : Type 0 where
+pub record IsPause (play : ClientPlay) (heard keep : ℕ) (state : ClientState) : Type 0 where
   pub boundary : IsBoundaryAfter play.rest.pieces (play.rest.run.sent
       + sent_by (booking_of play) heard) (play.rest.run.sent + keep)
   pub left : Run

@@ -16,7 +16,7 @@ use Rattle.admission.specs.Machine.{CanHalt}
 use Rattle.day_run.specs.declared.clients.Client.{Client}
 use Rattle.day_run.specs.declared.clients.Client.TheVariants.{Idle, Playing, Pausing, Paused}
 use Rattle.day_run.specs.declared.clients.Halt.{Halt}
-use Rattle.day_run.specs.declared.clients.Play.{Play}
+use Rattle.day_run.specs.declared.clients.ClientPlay.{ClientPlay}
 use Rattle.day_run.specs.declared.clients.Rest.{Rest}
 use Rattle.day_run.specs.declared.clients.PausingPlay.{PausingPlay}
 use Rattle.day_run.specs.declared.clients.HaltedPlays.{HaltedPlays}
@@ -41,7 +41,7 @@ pub record IsPlanFor (rest : Rest) (plan : List Segment) : Type 0 where
   pub whole : rest.run.sent + total_bytes plan ≡ sum (media_sizes rest.medium.now)
 
 -- a play sends the plan of its rest, and has sent all that is due
-pub record IsPlaying (play : Play) : Type 0 where
+pub record IsPlaying (play : ClientPlay) : Type 0 where
   pub rest : IsRest play.rest
   pub plan : IsPlanOf (media_sizes play.rest.medium.now) play.rest.playback play.rest.run play.plan
   pub plan_is : play.pacer.plan ≡ play.plan
@@ -132,7 +132,7 @@ rest_of rest = record {
   run = rest.run;
 }
 
-abbrev pub play_of : Play → states.Play
+abbrev pub play_of : ClientPlay → states.ClientPlay
 play_of play = record {
   number = play.number;
   rest = rest_of play.rest;

@@ -1,7 +1,7 @@
 -- What is true for every day.
 use Rattle.std.specs.Prelude.{ℕ, ◌≡◌, ◌+◌, ◌-◌, ◌*◌, ◌<◌, ◌≤◌, ◌⊎◌, ◌++◌, List, [], Option, Some}
-use Rattle.std.specs.Prelude.{Bool, true, false, None, All, codes, count_by, flat_map, fold, length, map, max}
-use Rattle.std.specs.Prelude.{slice_index_or, sum_by, take}
+use Rattle.std.specs.Prelude.{Bool, true, false, None, All, codes, count_by, flat_map, fold}
+use Rattle.std.specs.Prelude.{length, map, max, slice_index_or, sum_by, take}
 use Rattle.std.specs.List.{range_with_len}
 use Rattle.admission.specs.Histories.{booked_after, is_admission, is_halt, state_after}
 use Rattle.film_make.specs.Generator.{words_of}
@@ -19,19 +19,21 @@ use Rattle.day_script.specs.declared.fair_totals.EntryCounts.{EntryCounts}
 use Rattle.day_script.specs.declared.fair_totals.FairTotals.{FairTotals}
 use Rattle.plan_cert.specs.PlanSlots.{sum_through, total_bytes}
 use Rattle.film_run.specs.Units.{AreUnitSizes}
-use Rattle.day_run.specs.Days.{AreLineSteps, IsLine, IsTold, Link, DayState, booked_up_to}
+use Rattle.admission.specs.declared.book.TheConstants.{MAX_ENTRIES}
+use Rattle.day_run.specs.Days.{AreLineSteps, IsLine, IsTold, SharedLink, DayState, booked_up_to}
 use Rattle.day_run.specs.Days.{first_moment}
 use Rattle.day_run.specs.Days.{sent_up_to}
 use Rattle.film_frames.specs.Tracks.{IsBoundary}
 use Rattle.film_run.specs.Plans.{CanPlay, IsPlanOf}
 use Rattle.day_run.specs.ClientStates.{ClientState, Idle, Playing, Pausing, Paused}
-use Rattle.day_run.specs.ClientStates.{Play as ClientPlay, Rest}
+use Rattle.day_run.specs.ClientStates.{ClientPlay, Rest}
 use Rattle.day_run.specs.ClientStates.{MediaContent, source_content}
-use Rattle.day_run.specs.FairDays.{AreTurns, Turn, after_traces, at_later, fair_link}
+use Rattle.day_run.specs.FairDays.{AreTurns, FairTurn, after_traces, at_later, fair_link}
 use Rattle.day_script.specs.LineTexts.{fair_text, start_words, tried_text}
 use Rattle.day_run.specs.declared.media.Source.{Source}
 use Rattle.day_script.specs.declared.scripts.Line.{Line}
-use Rattle.day_script.specs.declared.scripts.Line.TheVariants.{Play, Pause, Resume, Look, Slot, Offer}
+use Rattle.day_script.specs.declared.scripts.Line.TheVariants.{Play, Pause, Resume, Look, Slot}
+use Rattle.day_script.specs.declared.scripts.Line.TheVariants.{Offer}
 
 -- a reel that can be played: its sizes are those of a trace, and its pictures have a time
 pub record IsSoundMedia (medium : MediaContent) : Type 0 where
@@ -45,7 +47,7 @@ IsPlayable source = (slot_units : ℕ) → 1 ≤ slot_units → slot_units ≤ 3
     IsSoundMedia (source_content slot_units source)
 
 -- a link whose slots are from 1/360,000 s to 1 s, and whose reels can be played
-pub record IsLink (link : Link) : Type 0 where
+pub record IsLink (link : SharedLink) : Type 0 where
   pub some_slot_units : 1 ≤ link.slot_units
   pub slot_units_fit : link.slot_units ≤ 360000
   pub media : (i : ℕ) (none : MediaContent) → i < length link.media →
@@ -72,7 +74,7 @@ IsSoundClient heard (Paused rest) = IsSoundRest rest
 -- A day's moment after so many of its lines: what the clients are sent in the slots up to any later
 -- one, after the slot that was received last, is what is booked there, and within the capacity of
 -- those slots.
-pub record SentIsBookedAfter (link : Link) (lines : List Line) (count : ℕ) : Type 0 where
+pub record SentIsBookedAfter (link : SharedLink) (lines : List Line) (count : ℕ) : Type 0 where
   pub texts : List (List ℕ)
   pub moment : DayState
   pub run : AreLineSteps link (take count lines) texts first_moment moment
@@ -81,12 +83,12 @@ pub record SentIsBookedAfter (link : Link) (lines : List Line) (count : ℕ) : T
       sum_by (capacity_at link.steps) (range_with_len (moment.heard + 1) (slot - moment.heard))
 
 -- a plan that begins in a slot has room in each slot, beside all that is booked at a moment
-abbrev pub HasRoomFor : Link → DayState → List Segment → ℕ → Type 0
+abbrev pub HasRoomFor : SharedLink → DayState → List Segment → ℕ → Type 0
 HasRoomFor link moment plan start =
     HasRoom 0 (booked_after moment.entries) (capacity_at link.steps) start plan
 
 -- a start at which it has none, with the first slot without room
-pub record IsWithoutRoom (link : Link) (moment : DayState) (plan : List Segment) (start : ℕ)
+pub record IsWithoutRoom (link : SharedLink) (moment : DayState) (plan : List Segment) (start : ℕ)
     (tried : Tried) : Type 0 where
   pub start_is : tried.start ≡ start
   pub over : IsFirstOverflow 0 (booked_after moment.entries) (capacity_at link.steps) start plan
@@ -109,8 +111,8 @@ IsCount first last None count = first + count ≡ last + 1
 -- asked for in the slot that was received last, up to the wait, the least at which the entire plan
 -- has room beside all that is booked; and for each earlier one, in order, the first slot without
 -- room.
-pub record IsOfferAnswer (link : Link) (rest : Rest) (wait : ℕ) (moment : DayState) (text : List ℕ)
-    : Type 0 where
+pub record IsOfferAnswer (link : SharedLink) (rest : Rest) (wait : ℕ) (moment : DayState)
+    (text : List ℕ) : Type 0 where
   pub plan : List Segment
   pub plan_is : IsPlanOf rest.sizes rest.playback rest.run plan
   pub first : ℕ
@@ -127,7 +129,7 @@ pub record IsOfferAnswer (link : Link) (rest : Rest) (wait : ℕ) (moment : DayS
 -- The bytes that are sent in the slots of a turn, up to any of them, are those that the day's
 -- journal books there, and no more than the capacity of those slots. In each one of these slots
 -- exactly the bytes that the journal books in it are sent, within its own capacity.
-pub record IsTurnWithinCapacity (steps : List CapStep) (journal : List Entry) (turn : Turn)
+pub record IsTurnWithinCapacity (steps : List CapStep) (journal : List Entry) (turn : FairTurn)
     : Type 0 where
   pub sent : (slot : ℕ) → turn.old.heard ≤ slot → slot ≤ turn.mid.heard →
       sent_up_to turn.old slot ≡ sum_by (booked_after journal)
@@ -142,7 +144,7 @@ pub record IsTurnWithinCapacity (steps : List CapStep) (journal : List Entry) (t
 -- a number's turns, in each of which what is sent is what the journal books, within the capacity
 pub record SentIsBookedEachTurn (steps : List CapStep) (number plays : ℕ) (journal : List Entry)
     : Type 0 where
-  pub turns : List Turn
+  pub turns : List FairTurn
   pub evening : DayState
   pub count : length turns ≡ plays
   pub run : AreTurns (fair_link steps (words_of number)) (after_traces 16 (words_of number)) turns
@@ -174,7 +176,7 @@ pub record IsFairLine (steps : List CapStep) (plays : ℕ) (text : List ℕ) (jo
   pub text_is : text ≡ fair_text counts entries
   pub entries_are : AreEntryCounts entries journal
   pub turns_are : counts.turns ≡ plays
-  pub never_full : 2 * plays ≤ 1048576 → counts.full ≡ 0
+  pub never_full : 2 * plays ≤ MAX_ENTRIES → counts.full ≡ 0
   pub last : counts.last ≤ 3 * plays
   pub balanced : counts.sent ≡ counts.booked
   pub booked_is : counts.booked ≡ sum_by (booked_after journal) (range_with_len 1 counts.last)
@@ -194,7 +196,7 @@ IsDrawnLine (Offer client source buffer delay wait) = ⊥
 
 -- a turn of a large day: the link comes to a slot that is at most three later, or stays at its own;
 -- then such a line is run, or nothing is done
-pub record IsDrawnTurn (link : Link) (turn : Turn) : Type 0 where
+pub record IsDrawnTurn (link : SharedLink) (turn : FairTurn) : Type 0 where
   pub later : ℕ
   pub few : later ≤ 3
   pub mid_is : turn.mid ≡ at_later turn.old later

@@ -1,6 +1,6 @@
 -- A link's day: what the lines of a script bring on one link, line by line. Client C is maker C of
 -- the link's machine, and maker 0 looks.
-use Rattle.std.specs.Prelude.{ℕ, ◌+◌, ◌-◌, ◌^◌, ◌≡◌, ◌<◌, ◌≤◌, ◌⊎◌, min, max, if◌then◌else◌, List}
+use Rattle.std.specs.Prelude.{ℕ, ◌+◌, ◌-◌, ◌≡◌, ◌<◌, ◌≤◌, ◌⊎◌, min, max, if◌then◌else◌, List}
 use Rattle.std.specs.Prelude.{[], ◌∷◌, ◌++◌, flat_map, length, map, replicate, sum_by}
 use Rattle.std.specs.Prelude.{slice_index_or, slice_set}
 use Rattle.std.specs.List.{range_with_len}
@@ -24,24 +24,25 @@ use Rattle.early_start.specs.StartSearch.{IsOffer, Offers}
 use Rattle.report.specs.CalendarTexts.{calendar_text}
 use Rattle.report.specs.EntryLines.{entry_line}
 use Rattle.report.specs.JournalTexts.{journal_text}
+use Rattle.vod_base.specs.declared.links.TheConstants.{LATEST_SLOT}
 use Rattle.day_run.specs.declared.media.Source.{Source}
 use Rattle.day_script.specs.declared.scripts.Line.{Line}
 use Rattle.day_script.specs.declared.scripts.Line.TheVariants as lines
 use Rattle.day_script.specs.LineTexts.{fault_text, full_text, offer_text, slot_text, state_text}
 use Rattle.day_run.specs.ClientStates.{ClientState, Idle, Playing, Pausing, Paused, IfBusy}
-use Rattle.day_run.specs.ClientStates.{IsPause, MediaContent, Rest, Play}
+use Rattle.day_run.specs.ClientStates.{IsPause, MediaContent, Rest, ClientPlay}
 use Rattle.day_run.specs.ClientStates.{after_play, after_sending, booking_of, is_done, no_medium}
 use Rattle.day_run.specs.ClientStates.{sent_between, sent_by, source_content, whole_rest}
 
 -- the steps of the link's capacity, the most entries of its journal, the time of a slot in
 -- 1/360,000 s, and what can be played
-pub record Link : Type 0 where
+pub record SharedLink : Type 0 where
   pub steps : List CapStep
   pub limit : ℕ
   pub slot_units : ℕ
   pub media : List MediaContent
 
-abbrev pub link_of : List CapStep → ℕ → ℕ → List Source → Link
+abbrev pub link_of : List CapStep → ℕ → ℕ → List Source → SharedLink
 link_of steps limit slot_units sources =
     record {
       steps = steps;
@@ -67,7 +68,7 @@ abbrev pub entry_by : ℕ → Command → Answer → Entry
 entry_by maker command answer = record { maker = maker; command = command; answer = answer }
 
 -- all of a reel, the one at this place
-abbrev pub rest_at : Link → ℕ → ℕ → ℕ → Rest
+abbrev pub rest_at : SharedLink → ℕ → ℕ → ℕ → Rest
 rest_at link source buffer delay =
     whole_rest link.slot_units (slice_index_or link.media source no_medium) buffer delay
 
@@ -77,8 +78,8 @@ pub record IsTold (told : List ℕ) (old new : DayState) (text : List ℕ) : Typ
   pub text_is : text ≡ told
 
 -- The machine's answer is noted and printed, and the clients are then these.
-pub record IsNoted (link : Link) (entry : Entry) (states : List ClientState) (old new : DayState)
-    (text : List ℕ) : Type 0 where
+pub record IsNoted (link : SharedLink) (entry : Entry) (states : List ClientState)
+    (old new : DayState) (text : List ℕ) : Type 0 where
   pub answered : IsAnswered link.steps (state_after old.entries) entry
   pub new_is : new ≡ record {
     entries = old.entries ++ entry ∷ [];
@@ -91,7 +92,8 @@ pub record IsNoted (link : Link) (entry : Entry) (states : List ClientState) (ol
 abbrev pub full_of : List Entry → Full
 full_of entries = record { entries = length entries; live = open_count entries }
 
-pub record IsFull (link : Link) (places : ℕ) (old new : DayState) (text : List ℕ) : Type 0 where
+pub record IsFull (link : SharedLink) (places : ℕ) (old new : DayState) (text : List ℕ)
+    : Type 0 where
   pub full : link.limit < places_taken old.entries + places
   pub told : IsTold (full_text (full_of old.entries)) old new text
 
@@ -120,8 +122,8 @@ pub record AskedPlay : Type 0 where
   pub plan : List Segment
 
 -- the machine answers a play, for whose entry and whose halt's the journal has room
-pub record IsAnsweredPlay (link : Link) (asked : AskedPlay) (old new : DayState) (text : List ℕ)
-    : Type 0 where
+pub record IsAnsweredPlay (link : SharedLink) (asked : AskedPlay) (old new : DayState)
+    (text : List ℕ) : Type 0 where
   pub room : places_taken old.entries + 2 ≤ link.limit
   pub answer : Answer
   pub noted : IsNoted link (entry_by asked.client (commands.Play old.heard asked.plan) answer)
@@ -129,36 +131,35 @@ pub record IsAnsweredPlay (link : Link) (asked : AskedPlay) (old new : DayState)
       old new text
 
 -- there is a plan, and the journal has no room or the play is answered
-pub record IsPlanned (link : Link) (client : ℕ) (rest : Rest) (old new : DayState) (text : List ℕ)
-    : Type 0 where
+pub record IsPlanned (link : SharedLink) (client : ℕ) (rest : Rest) (old new : DayState)
+    (text : List ℕ) : Type 0 where
   pub plan : List Segment
   pub plan_is : IsPlanOf rest.sizes rest.playback rest.run plan
   pub done : IsFull link 2 old new text
       ⊎ IsAnsweredPlay link (record { client = client; rest = rest; plan = plan }) old new text
 
 -- a client asks for what is to be sent: the curves are judged first, then the journal
-abbrev pub IsAsked : Link → ℕ → Rest → DayState → DayState → List ℕ → Type 0
+abbrev pub IsAsked : SharedLink → ℕ → Rest → DayState → DayState → List ℕ → Type 0
 IsAsked link client rest old new text = IsFaulty rest old new text
     ⊎ IsPlanned link client rest old new text
 
 -- a client that plays, or whose pause isn't done, can't ask for a play; one that is paused begins
 -- anew
-abbrev pub IsPlayLine : Link → ℕ → Rest → DayState → DayState → List ℕ → Type 0
+abbrev pub IsPlayLine : SharedLink → ℕ → Rest → DayState → DayState → List ℕ → Type 0
 IsPlayLine link client rest old new text =
     IfBusy (state_at old client) (IsTold state_text old new text)
     (IsAsked link client rest old new text)
 
 -- a client that is paused goes on with what is left
-abbrev pub IsResumeLine : Link → ℕ → ClientState → DayState → DayState → List ℕ → Type 0
+abbrev pub IsResumeLine : SharedLink → ℕ → ClientState → DayState → DayState → List ℕ → Type 0
 IsResumeLine link client Idle old new text = IsTold state_text old new text
 IsResumeLine link client (Playing play) old new text = IsTold state_text old new text
 IsResumeLine link client (Pausing stop rest) old new text = IsTold state_text old new text
 IsResumeLine link client (Paused rest) old new text = IsAsked link client rest old new text
 
 -- a play is halted at the boundary where its pause ends
-pub record IsHaltedPlay (link : Link) (client : ℕ) (play : Play) (old new : DayState) (text : List
-    ℕ)
-    : Type 0 where
+pub record IsHaltedPlay (link : SharedLink) (client : ℕ) (play : ClientPlay) (old new : DayState)
+    (text : List ℕ) : Type 0 where
   pub keep : ℕ
   pub state : ClientState
   pub pause : IsPause play old.heard keep state
@@ -166,27 +167,27 @@ pub record IsHaltedPlay (link : Link) (client : ℕ) (play : Play) (old new : Da
       (slice_set old.states client state) old new text
 
 -- a client that plays can be paused
-abbrev pub IsPauseLine : Link → ℕ → ClientState → DayState → DayState → List ℕ → Type 0
+abbrev pub IsPauseLine : SharedLink → ℕ → ClientState → DayState → DayState → List ℕ → Type 0
 IsPauseLine link client Idle old new text = IsTold state_text old new text
 IsPauseLine link client (Playing play) old new text = IsHaltedPlay link client play old new text
 IsPauseLine link client (Pausing stop rest) old new text = IsTold state_text old new text
 IsPauseLine link client (Paused rest) old new text = IsTold state_text old new text
 
 -- the machine answers a look, for whose entry the journal has room
-pub record IsAnsweredLook (link : Link) (slot : ℕ) (old new : DayState) (text : List ℕ) : Type 0
-  where
-    pub room : places_taken old.entries + 1 ≤ link.limit
-    pub answer : Answer
-    pub noted : IsNoted link (entry_by 0 (commands.Look slot) answer) old.states old new text
+pub record IsAnsweredLook (link : SharedLink) (slot : ℕ) (old new : DayState) (text : List ℕ)
+    : Type 0 where
+  pub room : places_taken old.entries + 1 ≤ link.limit
+  pub answer : Answer
+  pub noted : IsNoted link (entry_by 0 (commands.Look slot) answer) old.states old new text
 
-abbrev pub IsLookLine : Link → ℕ → DayState → DayState → List ℕ → Type 0
+abbrev pub IsLookLine : SharedLink → ℕ → DayState → DayState → List ℕ → Type 0
 IsLookLine link slot old new text = IsFull link 1 old new text
     ⊎ IsAnsweredLook link slot old new text
 
 -- The earliest start within a wait is reported: of the starts after now and after the slot that was
 -- received last. Nothing is booked.
-pub record IsOffered (link : Link) (rest : Rest) (wait : ℕ) (old new : DayState) (text : List ℕ)
-    : Type 0 where
+pub record IsOffered (link : SharedLink) (rest : Rest) (wait : ℕ) (old new : DayState)
+    (text : List ℕ) : Type 0 where
   pub plan : List Segment
   pub plan_is : IsPlanOf rest.sizes rest.playback rest.run plan
   pub found : Offers
@@ -195,7 +196,7 @@ pub record IsOffered (link : Link) (rest : Rest) (wait : ℕ) (old new : DayStat
       (max (state_after old.entries).now old.heard + 1) found
   pub told : IsTold (offer_text found) old new text
 
-abbrev pub IsOfferLine : Link → Rest → ℕ → DayState → DayState → List ℕ → Type 0
+abbrev pub IsOfferLine : SharedLink → Rest → ℕ → DayState → DayState → List ℕ → Type 0
 IsOfferLine link rest wait old new text = IsFaulty rest old new text
     ⊎ IsOffered link rest wait old new text
 
@@ -251,20 +252,20 @@ slot_lines moment slot =
     ++ journal_text (length moment.entries) (halts_at moment slot)
 
 -- what a line makes of a moment, and what it prints
-abbrev pub IsLine : Link → Line → DayState → DayState → List ℕ → Type 0
+abbrev pub IsLine : SharedLink → Line → DayState → DayState → List ℕ → Type 0
 IsLine link (lines.Play client source buffer delay) old new text =
     IsPlayLine link client (rest_at link source buffer delay) old new text
 IsLine link (lines.Pause client) old new text =
     IsPauseLine link client (state_at old client) old new text
 IsLine link (lines.Resume client) old new text =
     IsResumeLine link client (state_at old client) old new text
-IsLine link (lines.Look slot) old new text = IsLookLine link (min slot (2 ^ 62)) old new text
+IsLine link (lines.Look slot) old new text = IsLookLine link (min slot LATEST_SLOT) old new text
 IsLine link (lines.Slot slot) old new text = (new ≡ at_slot old slot) × (text ≡ slot_lines old slot)
 IsLine link (lines.Offer client source buffer delay wait) old new text =
     IsOfferLine link (rest_at link source buffer delay) wait old new text
 
 -- what lines make of a moment, one after the other, and what each of them prints
-abbrev pub AreLineSteps : Link → List Line → List (List ℕ) → DayState → DayState → Type 0
+abbrev pub AreLineSteps : SharedLink → List Line → List (List ℕ) → DayState → DayState → Type 0
 AreLineSteps link [] [] old new = new ≡ old
 AreLineSteps link (line ∷ lines) (text ∷ texts) old new =
     (next : DayState) × (IsLine link line old next text × AreLineSteps link lines texts next new)
@@ -286,7 +287,7 @@ last_lines moment =
 
 -- A script's day: the journal, and the text that is printed, which is that of each line, in order,
 -- and the end's.
-pub record IsDay (link : Link) (lines : List Line) (text : List ℕ) (journal : List Entry)
+pub record IsDay (link : SharedLink) (lines : List Line) (text : List ℕ) (journal : List Entry)
     : Type 0 where
   pub evening : DayState
   pub texts : List (List ℕ)

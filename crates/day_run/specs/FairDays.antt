@@ -18,8 +18,10 @@ use Rattle.day_script.specs.declared.fair_totals.FairTotals.{FairTotals}
 use Rattle.day_script.specs.declared.fair_totals.EntryCounts.{EntryCounts}
 use Rattle.day_script.specs.declared.scripts.Line.{Line}
 use Rattle.day_script.specs.declared.scripts.Line.TheVariants as lines
-use Rattle.day_run.specs.Days.{IsLine, IsTold, Link, DayState, at_slot, booked_up_to, last_journal}
-use Rattle.day_run.specs.Days.{first_moment, state_at, sent_up_to}
+use Rattle.admission.specs.declared.book.TheConstants.{MAX_ENTRIES}
+use Rattle.day_run.specs.declared.fairs.TheConstants.{BUFFER_SIZES, LEAST_BUFFER, SLOT_UNITS}
+use Rattle.day_run.specs.Days.{IsLine, IsTold, SharedLink, DayState, at_slot, booked_up_to}
+use Rattle.day_run.specs.Days.{first_moment, last_journal, state_at, sent_up_to}
 use Rattle.day_script.specs.LineTexts.{fair_text}
 use Rattle.day_run.specs.ClientStates.{ClientState, Idle, Playing, Pausing, Paused, trace_content}
 
@@ -42,18 +44,18 @@ abbrev pub traces_drawn : ℕ → (ℕ → ℕ) → List (List ℕ)
 traces_drawn k words = map (λ i. trace_drawn (after_traces i words)) (range_with_len 0 k)
 
 -- a link of that capacity with 16 traces to play, in slots of 40 ms, and the longest journal
-abbrev pub fair_link : List CapStep → (ℕ → ℕ) → Link
+abbrev pub fair_link : List CapStep → (ℕ → ℕ) → SharedLink
 fair_link steps words = record {
   steps = steps;
-  limit = 1048576;
-  slot_units = 14400;
-  media = map (trace_content 14400) (traces_drawn 16 words);
+  limit = MAX_ENTRIES;
+  slot_units = SLOT_UNITS;
+  media = map (trace_content SLOT_UNITS) (traces_drawn 16 words);
 }
 
 -- ---- the turns
 -- a turn as it came: the moments before it, after its slot, and at its end, and what the client was
 -- answered
-pub record Turn : Type 0 where
+pub record FairTurn : Type 0 where
   pub old : DayState
   pub mid : DayState
   pub new : DayState
@@ -67,13 +69,13 @@ at_later moment later = if later == 0 then moment else at_slot moment (moment.he
 -- start delay; it pauses; nothing, as its pause isn't done; or it goes on.
 abbrev pub line_drawn : (ℕ → ℕ) → ℕ → ClientState → Option Line
 line_drawn words client Idle =
-    Some (lines.Play client (words 0 % 16) (16384 + words 1 % 16384) (words 2 % 26))
+    Some (lines.Play client (words 0 % 16) (LEAST_BUFFER + words 1 % BUFFER_SIZES) (words 2 % 26))
 line_drawn words client (Playing play) = Some (lines.Pause client)
 line_drawn words client (Pausing stop rest) = None
 line_drawn words client (Paused rest) = Some (lines.Resume client)
 
 -- such a line is run, or nothing is done
-abbrev pub IsDone : Link → Option Line → DayState → DayState → List ℕ → Type 0
+abbrev pub IsDone : SharedLink → Option Line → DayState → DayState → List ℕ → Type 0
 IsDone link (Some line) old new text = IsLine link line old new text
 IsDone link None old new text = IsTold [] old new text
 
@@ -88,23 +90,23 @@ words_for (Paused rest) = 0
 abbrev pub client_of : (ℕ → ℕ) → ℕ
 client_of words = words 1 % 256
 
-abbrev pub state_in : (ℕ → ℕ) → Turn → ClientState
+abbrev pub state_in : (ℕ → ℕ) → FairTurn → ClientState
 state_in words turn = state_at turn.mid (client_of words)
 
-abbrev pub line_in : (ℕ → ℕ) → Turn → Option Line
+abbrev pub line_in : (ℕ → ℕ) → FairTurn → Option Line
 line_in words turn = line_drawn (words_after 2 words) (client_of words) (state_in words turn)
 
 -- a turn by the next words: how many slots later, 0 to 3, and one of 256 clients
-pub record IsTurn (link : Link) (words : ℕ → ℕ) (turn : Turn) : Type 0 where
+pub record IsTurn (link : SharedLink) (words : ℕ → ℕ) (turn : FairTurn) : Type 0 where
   pub slot : turn.mid ≡ at_later turn.old (words 0 % 4)
   pub done : IsDone link (line_in words turn) turn.mid turn.new turn.text
 
 -- the words that a turn leaves
-abbrev pub after_turn : (ℕ → ℕ) → Turn → ℕ → ℕ
+abbrev pub after_turn : (ℕ → ℕ) → FairTurn → ℕ → ℕ
 after_turn words turn = words_after (2 + words_for (state_in words turn)) words
 
 -- turns one after the other
-abbrev pub AreTurns : Link → (ℕ → ℕ) → List Turn → DayState → DayState → Type 0
+abbrev pub AreTurns : SharedLink → (ℕ → ℕ) → List FairTurn → DayState → DayState → Type 0
 AreTurns link words [] old new = new ≡ old
 AreTurns link words (turn ∷ turns) old new =
     (turn.old ≡ old) × (IsTurn link words turn
@@ -112,10 +114,10 @@ AreTurns link words (turn ∷ turns) old new =
 
 -- ---- what is printed
 -- the bytes sent in a turn's slots, those booked there, and the most in one of them
-abbrev pub turn_sent : Turn → ℕ
+abbrev pub turn_sent : FairTurn → ℕ
 turn_sent turn = sent_up_to turn.old turn.mid.heard
 
-abbrev pub turn_booked : Turn → ℕ
+abbrev pub turn_booked : FairTurn → ℕ
 turn_booked turn = booked_up_to turn.old turn.mid.heard
 
 abbrev pub most_up_to : DayState → ℕ → ℕ
@@ -123,19 +125,19 @@ most_up_to moment slot =
     fold max 0 (map (booked_in (state_after moment.entries)) (range_with_len (moment.heard
     + 1) (slot - moment.heard)))
 
-abbrev pub turn_peak : Turn → ℕ
+abbrev pub turn_peak : FairTurn → ℕ
 turn_peak turn = most_up_to turn.old turn.mid.heard
 
 -- a client was answered that the journal is full
 abbrev pub is_full_line : List ℕ → Bool
 is_full_line text = bytes_eq (take 15 text) (codes "refused journal")
 
-abbrev pub is_refused : Turn → Bool
+abbrev pub is_refused : FairTurn → Bool
 is_refused turn = is_full_line turn.text
 
 -- the turns, those in which a full journal refused a play, the last slot, all bytes that were sent,
 -- all that were booked in the slots up to it, and the most in one of these
-abbrev pub counts_of : List Turn → DayState → FairTotals
+abbrev pub counts_of : List FairTurn → DayState → FairTotals
 counts_of turns evening = record {
   turns = length turns;
   full = count_by is_refused turns;
@@ -165,7 +167,7 @@ entry_counts_of entries = record {
 -- are open, and the one line that is printed.
 pub record IsFair (steps : List CapStep) (number plays : ℕ) (text : List ℕ)
     (journal : List Entry) : Type 0 where
-  pub turns : List Turn
+  pub turns : List FairTurn
   pub evening : DayState
   pub count : length turns ≡ plays
   pub run : AreTurns (fair_link steps (words_of number)) (after_traces 16 (words_of number)) turns

@@ -1,14 +1,15 @@
 -- What a day's journal says: whose its entries are, that each play is halted, and how full it is.
-use Rattle.std.specs.Prelude.{ℕ, ◌≡◌, ◌+◌, ◌<◌, ◌≤◌, ◌++◌, List, All, codes, count_by, decimal, length}
-use Rattle.std.specs.Prelude.{slice_index_or, take, true}
+use Rattle.std.specs.Prelude.{ℕ, ◌≡◌, ◌+◌, ◌<◌, ◌≤◌, ◌++◌, List, All, codes, count_by, decimal}
+use Rattle.std.specs.Prelude.{length, slice_index_or, take, true}
 use Rattle.admission.specs.declared.entries.Entry.{Entry}
 use Rattle.admission.specs.Histories.{IsHalt, is_halt, state_after}
 use Rattle.admission.specs.Machine.{CanHalt}
 use Rattle.plan_cert.specs.PlanSlots.{total_bytes}
-use Rattle.day_run.specs.ClientStates.{Play as ClientPlay, is_playing}
-use Rattle.day_run.specs.Days.{Link, DayState}
+use Rattle.day_run.specs.ClientStates.{ClientPlay, is_playing}
+use Rattle.day_run.specs.Days.{SharedLink, DayState}
 use Rattle.day_script.specs.declared.scripts.Line.{Line}
-use Rattle.day_script.specs.declared.scripts.Line.TheVariants.{Play, Pause, Resume, Look, Slot, Offer}
+use Rattle.day_script.specs.declared.scripts.Line.TheVariants.{Play, Pause, Resume, Look, Slot}
+use Rattle.day_script.specs.declared.scripts.Line.TheVariants.{Offer}
 
 -- one entry was made, by this maker, or none
 pub record IsMadeBy (maker : ℕ) (old new : DayState) : Type 0 where
@@ -33,8 +34,8 @@ HasItsMaker (Look slot) old new = IsMadeBy 0 old new
 HasItsMaker (Slot slot) old new = AreHaltsMade old new
 HasItsMaker (Offer client source buffer delay wait) old new = new ≡ old
 
--- the play of a client that plays: its entry is the client's, and it can be halted with any bytes of
--- its plan, as an open play can
+-- the play of a client that plays: its entry is the client's, and it can be halted with any bytes
+-- of its plan, as an open play can
 pub record IsOpenPlayOf (entries : List Entry) (client : ℕ) (play : ClientPlay) : Type 0 where
   pub maker : (none : Entry) → (slice_index_or entries play.number none).maker ≡ client
   pub open_is : (keep : ℕ) → keep ≤ total_bytes play.plan →
@@ -60,8 +61,8 @@ SaysFull text = take 15 text ≡ codes "refused journal"
 
 -- the journal has no room for so many entries more beside those for the halts of the plays that go
 -- on; the text says how many entries it has, and how many clients play
-pub record IsFullJournal (link : Link) (needed : ℕ) (moment : DayState) (text : List ℕ) : Type 0
-  where
-    pub full : link.limit < length moment.entries + count_by is_playing moment.states + needed
-    pub text_is : text ≡ codes "refused journal entries=" ++ decimal (length moment.entries)
-        ++ codes " open=" ++ decimal (count_by is_playing moment.states) ++ codes "\n"
+pub record IsFullJournal (link : SharedLink) (needed : ℕ) (moment : DayState) (text : List ℕ)
+    : Type 0 where
+  pub full : link.limit < length moment.entries + count_by is_playing moment.states + needed
+  pub text_is : text ≡ codes "refused journal entries=" ++ decimal (length moment.entries)
+      ++ codes " open=" ++ decimal (count_by is_playing moment.states) ++ codes "\n"

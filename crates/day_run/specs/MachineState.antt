@@ -1,5 +1,5 @@
 -- What is true for a day between its lines.
-use Rattle.std.specs.Prelude.{ℕ, ◌≡◌, ◌^◌, ◌≤◌, ◌++◌, List, Result, Ok, Err, length, map, drop}
+use Rattle.std.specs.Prelude.{ℕ, ◌≡◌, ◌≤◌, ◌++◌, List, Result, Ok, Err, length, map, drop}
 use Rattle.std.specs.Prelude.{flat_map}
 use Rattle.admission.specs.declared.entries.Entry.{Entry}
 use Rattle.admission.specs.Histories.{state_after}
@@ -7,13 +7,15 @@ use Rattle.early_start.specs.StartSearch.{Offers}
 use Rattle.wire_curve.specs.declared.film.CurveRefused.{CurveRefused}
 use Rattle.wire_curve.specs.declared.film.CurveRefused.TheVariants.{Fault, NoMemory}
 use Rattle.day_script.specs.declared.scripts.Line.{Line}
+use Rattle.vod_base.specs.declared.limits.TheConstants.{MAX_BYTES, MAX_DELAY}
+use Rattle.vod_base.specs.declared.links.TheConstants.{LATEST_SLOT}
 use Rattle.day_run.specs.declared.clients.Client.{Client}
 use Rattle.day_run.specs.declared.machine.DayMachine.{DayMachine}
 use Rattle.day_run.specs.declared.machine.LineAnswer.{LineAnswer}
 use Rattle.day_run.specs.declared.machine.LineAnswer.TheVariants as tolds
 use Rattle.day_run.specs.Clients.{AreBooked, AreGoing, AreTimed, AreUndone, state_of}
 use Rattle.report.specs.JournalTexts.{journal_text}
-use Rattle.day_run.specs.Days.{AreLineSteps, Link, DayState, first_moment}
+use Rattle.day_run.specs.Days.{AreLineSteps, SharedLink, DayState, first_moment}
 use Rattle.day_script.specs.LineTexts.{fault_text, full_text, offer_text, state_text}
 use Rattle.day_run.specs.MediaContents.{media_content}
 
@@ -24,7 +26,7 @@ pub record IsSoundDay (slot_units heard : ℕ) (entries : List Entry) (clients :
   pub count : length clients ≡ 256
   pub some_slot_units : 1 ≤ slot_units
   pub slot_units_fit : slot_units ≤ 360000
-  pub heard_fits : heard ≤ 2 ^ 62
+  pub heard_fits : heard ≤ LATEST_SLOT
   pub now_heard : (state_after entries).now ≤ heard
   pub going : AreGoing clients
   pub undone : AreUndone (length clients) clients
@@ -35,7 +37,7 @@ abbrev pub IsDayMachine : DayMachine → Type 0
 IsDayMachine r = IsSoundDay r.slot_units r.heard r.book.entries r.clients.items
 
 -- the link of a day, and how far the day has come
-abbrev pub link_on : DayMachine → Link
+abbrev pub link_on : DayMachine → SharedLink
 link_on r = record {
   steps = r.book.steps;
   limit = r.book.limit;
@@ -70,11 +72,11 @@ pub record IsPrinted (before after : List ℕ) (Is : List ℕ → Type 0) : Type
   pub is : Is text
 
 -- lines were run from a day's beginning on, and this is all that they printed
-pub record HasRun (link : Link) (lines : List Line) (text : List ℕ) (moment : DayState) : Type 0
-  where
-    pub texts : List (List ℕ)
-    pub text_is : text ≡ flat_map (λ (t : List ℕ). t) texts
-    pub run : AreLineSteps link lines texts first_moment moment
+pub record HasRun (link : SharedLink) (lines : List Line) (text : List ℕ) (moment : DayState)
+    : Type 0 where
+  pub texts : List (List ℕ)
+  pub text_is : text ≡ flat_map (λ (t : List ℕ). t) texts
+  pub run : AreLineSteps link lines texts first_moment moment
 
 -- the link and the sources stay
 pub record IsKept (old new : DayMachine) : Type 0 where
@@ -87,5 +89,5 @@ pub record IsWithinRanges (slot_units buffer delay : ℕ) : Type 0 where
   pub some_slot_units : 1 ≤ slot_units
   pub slot_units_fit : slot_units ≤ 360000
   pub some_buffer : 1 ≤ buffer
-  pub buffer_fits : buffer ≤ 2 ^ 42
-  pub delay_fits : delay ≤ 10000
+  pub buffer_fits : buffer ≤ MAX_BYTES
+  pub delay_fits : delay ≤ MAX_DELAY

@@ -37,7 +37,7 @@ pub(crate) fn step_clients(clients: &mut [Client<'_>], slot: u64) -> u64
 {
     let mut sent = 0;
     for client in clients.iter_mut() {
-        // Can't overflow: at most 256 clients, and at most 2^42 bytes for each.
+        // Can't overflow: at most 256 clients, and at most `MAX_BYTES` for each.
         sent += client.step(slot);
     }
     sent

@@ -1,6 +1,6 @@
 //! A client of a day: what it plays, and how far it has come.
 
-ghost use Rattle.std.specs.Prelude.{◌≡◌, ◌+◌, ◌-◌, ◌^◌, ◌≤◌, ◌<◌, ℕ, List, false, IfSome, IfNone};
+ghost use Rattle.std.specs.Prelude.{◌≡◌, ◌+◌, ◌-◌, ◌≤◌, ◌<◌, ℕ, List, false, IfSome, IfNone};
 ghost use Rattle.std.specs.Prelude.{OnSome, IsTrue};
 ghost use Rattle.plan_cert.specs.PlanSlots.{total_bytes};
 ghost use Rattle.pacer.specs.PacerStates.{IsPacerState, is_done, after_step};
@@ -23,6 +23,7 @@ use film_run::{Playback, Run, run_after};
 use pacer::Pacer;
 use plan_cert::Plan;
 use std::mem::replace;
+use vod_base::{LinkFault, MAX_BYTES};
 
 /// What is still to be sent of a source, and to what kind of client.
 #[derive(Clone, Copy)]
@@ -35,7 +36,7 @@ pub(crate) struct Rest<'r> {
 
 /// A play whose booking is open.
 #[derive(Drop)]
-pub(crate) struct Play<'r> {
+pub(crate) struct ClientPlay<'r> {
     /// The place of its admission.
     pub(crate) number: u64,
     /// What was to be sent as it began.
@@ -60,7 +61,7 @@ pub(crate) enum Client<'r> {
     /// It plays nothing.
     Idle,
     /// Its play is open.
-    Playing(Play<'r>),
+    Playing(ClientPlay<'r>),
     /// Its play was halted, and the frame or report in hand isn't sent to its end.
     Pausing(PausingPlay<'r>),
     /// Its play was halted, and this is left to be sent.
@@ -93,7 +94,7 @@ impl<'r> Client<'r> {
         ensures going { IsGoing self.new }
         ensures booked { (entries : List Entry) (client : ℕ) → IsBooked entries client self.old →
             IsBooked entries client self.new }
-        ensures few { result ≤ 2 ^ 42 }
+        ensures few { result ≤ MAX_BYTES }
         ensures step { (heard : ℕ) → heard ≤ slot → IsTimed heard self.old →
             IsStep heard slot self.old self.new result }
     {
@@ -232,14 +233,14 @@ fn send(pacer: &mut Pacer<Sending<'_>>, slot: u64) -> u64
 {
     match pacer.step(slot, false, &mut NullLink) {
         Ok(sending) => sending.sent,
-        // Can't come: `NullLink` counts no faults, and a step fails only where its link did.
-        Err(_) => unreachable!(),
+        // Never so: `NullLink` counts no faults, and a step fails only where its link did.
+        Err(LinkFault) => 0,
     }
 }
 
 /// A play as it is paused, and how it is to be halted. A pause is done at once where all that it
 /// keeps was sent.
-fn pause_play<'r>(play: Play<'r>) -> (Halt, Client<'r>)
+fn pause_play<'r>(play: ClientPlay<'r>) -> (Halt, Client<'r>)
     requires playing { IsPlaying play }
     requires undone { is_done play.pacer ≡ false }
     ensures number { result.0.number ≡ play.entry.number }
@@ -251,7 +252,7 @@ fn pause_play<'r>(play: Play<'r>) -> (Halt, Client<'r>)
     ensures timed { (heard : ℕ) → play.entry.pacer.passed ≡ heard + 1 - play.entry.pacer.start →
         IsTimed heard result.1 }
 {
-    let Play {
+    let ClientPlay {
         number,
         rest,
         plan,

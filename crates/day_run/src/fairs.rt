@@ -38,6 +38,15 @@ const TRACES: usize = 16;
 /// A slot in 1/360,000 second.
 const SLOT_UNITS: u32 = 14_400;
 
+/// The least buffer that is drawn for a client.
+const LEAST_BUFFER: u64 = 16_384;
+
+/// How many sizes of a buffer are drawn, from the least one on.
+const BUFFER_SIZES: u32 = 16_384;
+
+/// No turn begins after this slot: 100,000 turns come to at most 300,000 slots.
+const LATEST_TURN_SLOT: u64 = 1 << 20;
+
 /// Runs a large day that a number determines: 16 drawn traces, 256 clients and so many turns, at
 /// most 100,000, on a link of this capacity in slots of 40 ms, whose journal has room for 1,048,576
 /// entries.
@@ -51,7 +60,7 @@ pub fn fair(alloc: Global, seed: u64, plays: u32, profile: Profile) -> Result<Da
     ensures fair { IfOk result (λ day.
         IsFair profile seed plays day.text.items day.journal.items) }
     ensures legal { IfOk result (λ day. IsLegal profile day.journal.items) }
-    ensures within { IfOk result (λ day. places_taken day.journal.items ≤ 1048576) }
+    ensures within { IfOk result (λ day. places_taken day.journal.items ≤ MAX_ENTRIES) }
 {
     let mut draws = Draws::new(seed);
     let traces = draw_traces(alloc, &mut draws)?;
@@ -91,8 +100,8 @@ fn draw_traces(alloc: Global, draws: &mut Draws) -> Result<Vec<Vec<u64>>, NoMemo
 fn trace_media<'s>(alloc: Global, traces: &'s [Vec<u64>]) -> Result<Vec<Media<'s>>, NoMemory>
     requires { AreTraces traces.now }
     ensures count { IfOk result (λ media. length media.items ≡ length traces.entry.now) }
-    ensures contents { IfOk result (λ media. map (media_content 14400) media.items
-        ≡ map (trace_content 14400) (sizes_in traces.entry.now)) }
+    ensures contents { IfOk result (λ media. map (media_content SLOT_UNITS) media.items
+        ≡ map (trace_content SLOT_UNITS) (sizes_in traces.entry.now)) }
 {
     let mut media = Vec::with_capacity(alloc, traces.len())?;
     for trace in traces {
@@ -115,13 +124,13 @@ fn play_drawn(
     ensures heard { OnOk result (machine.new.heard ≡ machine.old.heard) }
     ensures line { IfOk result (λ told.
         IsPlayLine (link_on machine.old) client (rest_at (link_on machine.old)
-        (words_left draws.old 0 % 16) (16384 + words_left draws.old 1 % 16384)
+        (words_left draws.old 0 % 16) (LEAST_BUFFER + words_left draws.old 1 % BUFFER_SIZES)
         (words_left draws.old 2 % 26)) (day_state_of machine.old) (day_state_of machine.new)
         (reply_text machine.new.book.entries told)) }
     ensures left { OnOk result (words_left draws.new ≡ words_after 3 (words_left draws.old)) }
 {
     let source = draws.draw(TRACES as u32) as usize;
-    let buffer = 16_384 + u64::from(draws.draw(16_384));
+    let buffer = LEAST_BUFFER + u64::from(draws.draw(BUFFER_SIZES));
     let delay = u64::from(draws.draw(26));
     machine.play(alloc, client, source, buffer, delay)
 }
@@ -162,7 +171,7 @@ fn advance(machine: &mut DayMachine<'_>, later: u64, counts: &mut FairTotals)
     requires machine { IsDayMachine machine.old }
     requires ready { IsReady (day_state_of machine.old) }
     requires few { later ≤ 3 }
-    requires early { machine.old.heard ≤ 2 ^ 20 }
+    requires early { machine.old.heard ≤ LATEST_TURN_SLOT }
     requires fitting { IsFitting machine.old.heard counts.old }
     // leaves: a sound day in the later slot, and its sums
     ensures machine { IsDayMachine machine.new }
@@ -170,11 +179,12 @@ fn advance(machine: &mut DayMachine<'_>, later: u64, counts: &mut FairTotals)
     ensures kept { IsKept machine.old machine.new }
     ensures heard { machine.new.heard ≡ machine.old.heard + later }
     ensures moment { day_state_of machine.new ≡ at_later (day_state_of machine.old) later }
-    ensures counts { counts.new ≡ with_slot counts.old (day_state_of machine.old) machine.new.heard }
+    ensures counts { counts.new ≡ with_slot counts.old (day_state_of machine.old)
+        machine.new.heard }
     ensures fitting { IsFitting machine.new.heard counts.new }
 {
     if later > 0 {
-        // The sums below can't overflow: at most 2^20 slots of at most 2^42 bytes.
+        // The sums below can't overflow: at most 2^20 slots of at most `MAX_BYTES`.
         let slot = machine.heard + later;
         let passed = machine.slot(slot);
         counts.last = slot;
@@ -242,7 +252,7 @@ fn run_turn(
     requires machine { IsDayMachine machine.old }
     requires ready { IsReady (day_state_of machine.old) }
     requires media { length machine.old.media.now ≡ 16 }
-    requires early { machine.old.heard ≤ 2 ^ 20 }
+    requires early { machine.old.heard ≤ LATEST_TURN_SLOT }
     requires turns { counts.old.turns < 2 ^ 32 }
     requires fitting { IsFitting machine.old.heard counts.old }
     // leaves: a sound day, at most 3 slots later, with counts that fit
@@ -266,7 +276,7 @@ fn run_turn(
 
 /// Counts the entries of a journal by their answers.
 fn count_entries(entries: &[Entry]) -> EntryCounts
-    requires { length entries.now ≤ 1048576 }
+    requires { length entries.now ≤ MAX_ENTRIES }
     ensures { result ≡ entry_counts_of entries.now }
 {
     let mut counts = EntryCounts {

@@ -16,13 +16,13 @@ ghost use Rattle.admission.specs.Makers.{AreHaltsOwn};
 ghost use Rattle.day_run.specs.BookingBalance.{share_of};
 ghost use Rattle.day_run.specs.Clients.{after_open};
 ghost use Rattle.day_run.specs.DayLaws.{IsDrawnTurn, IsFairLine, IsLink};
-ghost use Rattle.day_run.specs.ClientStates.{Play, Playing, is_playing};
+ghost use Rattle.day_run.specs.ClientStates.{ClientPlay, Playing, is_playing};
 ghost use Rattle.day_run.specs.DayLaws.{IsOfferAnswer, IsSoundClient, SentIsBookedAfter};
 ghost use Rattle.day_run.specs.DayLaws.{SentIsBookedEachTurn};
-ghost use Rattle.day_run.specs.Days.{AreLineSteps, IsDay, IsFaulty, IsLine, Link, DayState};
+ghost use Rattle.day_run.specs.Days.{AreLineSteps, IsDay, IsFaulty, IsLine, SharedLink, DayState};
 ghost use Rattle.day_run.specs.Days.{booked_up_to};
 ghost use Rattle.day_run.specs.Days.{last_journal, first_moment, rest_at, state_at, sent_up_to};
-ghost use Rattle.day_run.specs.FairDays.{IsFair, IsTurn, Turn};
+ghost use Rattle.day_run.specs.FairDays.{IsFair, IsTurn, FairTurn};
 ghost use Rattle.day_run.specs.JournalLaws.{HasItsMaker, IsFullJournal, IsHaltedOnce};
 ghost use Rattle.day_run.specs.JournalLaws.{IsOpenPlayOf, SaysFull, places_needed};
 ghost use Rattle.day_script.specs.Scripts.{AreClients, AreLines, IsClient, StandsAfter};
@@ -30,7 +30,7 @@ ghost use Rattle.day_script.specs.Scripts.{AreClients, AreLines, IsClient, Stand
 /// After lines of a script, what the clients are sent in the slots after the last one, up to any
 /// later one, is what is booked in those slots.
 pub fn law_sent_is_what_is_booked()
-    ensures { (link : Link) (sources : ℕ) (lines : List Line) (texts : List (List ℕ))
+    ensures { (link : SharedLink) (sources : ℕ) (lines : List Line) (texts : List (List ℕ))
         (moment : DayState) (slot : ℕ) → AreClients lines → AreLines sources lines →
         AreLineSteps link lines texts first_moment moment → moment.heard ≤ slot →
         sent_up_to moment slot ≡ booked_up_to moment slot }
@@ -39,7 +39,7 @@ pub fn law_sent_is_what_is_booked()
 /// After lines of a script, where the journal is legal, what the clients are sent in the slots
 /// after the last one, up to any later one, is no more than the capacity of those slots.
 pub fn law_sent_is_within_capacity()
-    ensures { (link : Link) (sources : ℕ) (lines : List Line) (texts : List (List ℕ))
+    ensures { (link : SharedLink) (sources : ℕ) (lines : List Line) (texts : List (List ℕ))
         (moment : DayState) (slot : ℕ) → AreClients lines → AreLines sources lines →
         AreLineSteps link lines texts first_moment moment → IsLegal link.steps moment.entries →
         moment.heard ≤ slot → sent_up_to moment slot ≤ sum_by (capacity_at link.steps)
@@ -50,7 +50,7 @@ pub fn law_sent_is_within_capacity()
 /// clients are sent in the slots after the last one, up to any later one, is what is booked there,
 /// and no more than the capacity of those slots.
 pub fn law_each_line_sends_what_is_booked()
-    ensures { (link : Link) (sources count : ℕ) (lines : List Line) (text : List ℕ)
+    ensures { (link : SharedLink) (sources count : ℕ) (lines : List Line) (text : List ℕ)
         (journal : List Entry) → AreClients lines → AreLines sources lines →
         IsDay link lines text journal → IsLegal link.steps journal → SentIsBookedAfter link lines
         count }
@@ -58,7 +58,7 @@ pub fn law_each_line_sends_what_is_booked()
 
 /// A day prints one text for each line of its script.
 pub fn law_one_text_per_line()
-    ensures { (link : Link) (lines : List Line) (texts : List (List ℕ)) (old new : DayState) →
+    ensures { (link : SharedLink) (lines : List Line) (texts : List (List ℕ)) (old new : DayState) →
         AreLineSteps link lines texts old new → length texts ≡ length lines }
 {}
 
@@ -82,16 +82,16 @@ pub fn law_fair_turns_send_what_is_booked()
 /// Each turn of a large day is a script's: at most one slot, of the next three, and then at most
 /// one line, by which one of 256 clients plays, pauses or goes on.
 pub fn law_fair_turns_are_script_lines()
-    ensures { (link : Link) (words : ℕ → ℕ) (turn : Turn) → IsTurn link words turn →
+    ensures { (link : SharedLink) (words : ℕ → ℕ) (turn : FairTurn) → IsTurn link words turn →
         IsDrawnTurn link turn }
 {}
 
 /// A look changes no client, no booking and no slot, only the journal; an offer changes nothing.
 pub fn law_looks_and_offers_book_nothing()
-    ensures look { (link : Link) (slot : ℕ) (old new : DayState) (text : List ℕ) →
+    ensures look { (link : SharedLink) (slot : ℕ) (old new : DayState) (text : List ℕ) →
         IsLine link (Lines.Look slot) old new text → (new.states ≡ old.states)
         × (new.heard ≡ old.heard) × (state_after new.entries ≡ state_after old.entries) }
-    ensures offer { (link : Link) (client source buffer delay wait : ℕ) (old new : DayState)
+    ensures offer { (link : SharedLink) (client source buffer delay wait : ℕ) (old new : DayState)
         (text : List ℕ) → IsLine link (Lines.Offer client source buffer delay wait) old new text →
         new ≡ old }
 {}
@@ -100,7 +100,7 @@ pub fn law_looks_and_offers_book_nothing()
 /// is booked, from the start on that a play would get which is asked for in the last slot; or the
 /// fault of the curves. For each earlier start it names the first slot without room.
 pub fn law_offer_is_the_earliest_start()
-    ensures { (link : Link) (client source buffer delay wait : ℕ) (old new : DayState)
+    ensures { (link : SharedLink) (client source buffer delay wait : ℕ) (old new : DayState)
         (text : List ℕ) → IsLine link (Lines.Offer client source buffer delay wait) old new text →
         IsFaulty (rest_at link source buffer delay) old new text
         ⊎ IsOfferAnswer link (rest_at link source buffer delay) wait old text }
@@ -108,12 +108,13 @@ pub fn law_offer_is_the_earliest_start()
 
 /// What is booked in past slots stays: no line of a script changes it, nor does the end of the day.
 pub fn law_past_slots_never_change()
-    ensures line { (link : Link) (sources slot : ℕ) (lines : List Line) (texts : List (List ℕ))
-        (moment next : DayState) (line : Line) (text : List ℕ) → AreClients lines →
+    ensures line { (link : SharedLink) (sources slot : ℕ) (lines : List Line)
+        (texts : List (List ℕ)) (moment next : DayState) (line : Line) (text : List ℕ) →
+        AreClients lines →
         AreLines sources lines → AreLineSteps link lines texts first_moment moment → IsClient line →
         StandsAfter moment.heard sources line → IsLine link line moment next text →
         slot ≤ moment.heard → booked_after next.entries slot ≡ booked_after moment.entries slot }
-    ensures end { (link : Link) (sources slot : ℕ) (lines : List Line) (texts : List (List ℕ))
+    ensures end { (link : SharedLink) (sources slot : ℕ) (lines : List Line) (texts : List (List ℕ))
         (moment : DayState) → AreClients lines → AreLines sources lines →
         AreLineSteps link lines texts first_moment moment → slot ≤ moment.heard →
         booked_after (last_journal moment) slot ≡ booked_after moment.entries slot }
@@ -122,18 +123,18 @@ pub fn law_past_slots_never_change()
 /// At the day's end no play is open, and each play that was admitted has one halt, by its own
 /// client. The slots to come have only what is still sent to clients whose pause isn't done.
 pub fn law_no_play_is_open_at_the_end()
-    ensures open { (link : Link) (sources : ℕ) (lines : List Line) (texts : List (List ℕ))
+    ensures open { (link : SharedLink) (sources : ℕ) (lines : List Line) (texts : List (List ℕ))
         (moment : DayState) → AreClients lines → AreLines sources lines →
         AreLineSteps link lines texts first_moment moment →
         open_count (last_journal moment) ≡ 0 }
-    ensures halted { (link : Link) (sources number start : ℕ) (lines : List Line)
+    ensures halted { (link : SharedLink) (sources number start : ℕ) (lines : List Line)
         (texts : List (List ℕ)) (moment : DayState) (plan : List Segment) → AreClients lines →
         AreLines sources lines → AreLineSteps link lines texts first_moment moment →
         IsLegal link.steps (last_journal moment) →
         IsAdmission (last_journal moment) number start plan →
         IsHaltedOnce (last_journal moment) number }
-    ensures booked { (link : Link) (sources slot : ℕ) (lines : List Line) (texts : List (List ℕ))
-        (moment : DayState) → AreClients lines → AreLines sources lines →
+    ensures booked { (link : SharedLink) (sources slot : ℕ) (lines : List Line)
+        (texts : List (List ℕ)) (moment : DayState) → AreClients lines → AreLines sources lines →
         AreLineSteps link lines texts first_moment moment → moment.heard < slot →
         booked_after (last_journal moment) slot
         ≡ sum_by (share_of slot) (map after_open moment.states) }
@@ -142,12 +143,13 @@ pub fn law_no_play_is_open_at_the_end()
 /// After lines of a script as many plays are open as clients play, and each of these clients has
 /// its own open play.
 pub fn law_open_plays_are_those_of_clients()
-    ensures count { (link : Link) (sources : ℕ) (lines : List Line) (texts : List (List ℕ))
+    ensures count { (link : SharedLink) (sources : ℕ) (lines : List Line) (texts : List (List ℕ))
         (moment : DayState) → AreClients lines → AreLines sources lines →
         AreLineSteps link lines texts first_moment moment →
         open_count moment.entries ≡ count_by is_playing moment.states }
-    ensures own { (link : Link) (sources client : ℕ) (lines : List Line) (texts : List (List ℕ))
-        (moment : DayState) (play : Play) → AreClients lines → AreLines sources lines →
+    ensures own { (link : SharedLink) (sources client : ℕ) (lines : List Line)
+        (texts : List (List ℕ)) (moment : DayState) (play : ClientPlay) → AreClients lines →
+        AreLines sources lines →
         AreLineSteps link lines texts first_moment moment → client < 256 →
         state_at moment client ≡ Playing play → IsOpenPlayOf moment.entries client play }
 {}
@@ -155,12 +157,12 @@ pub fn law_open_plays_are_those_of_clients()
 /// The entries that a line makes have its client's number as their maker, and a look's entry has 0.
 /// Each halt, also those of a slot and of the day's end, is by the maker of its play.
 pub fn law_entries_have_their_makers()
-    ensures line { (link : Link) (line : Line) (old new : DayState) (text : List ℕ) →
+    ensures line { (link : SharedLink) (line : Line) (old new : DayState) (text : List ℕ) →
         IsLine link line old new text → HasItsMaker line old new }
-    ensures halts { (link : Link) (sources : ℕ) (lines : List Line) (texts : List (List ℕ))
+    ensures halts { (link : SharedLink) (sources : ℕ) (lines : List Line) (texts : List (List ℕ))
         (moment : DayState) → AreClients lines → AreLines sources lines →
         AreLineSteps link lines texts first_moment moment → AreHaltsOwn moment.entries }
-    ensures end { (link : Link) (sources : ℕ) (lines : List Line) (texts : List (List ℕ))
+    ensures end { (link : SharedLink) (sources : ℕ) (lines : List Line) (texts : List (List ℕ))
         (moment : DayState) → AreClients lines → AreLines sources lines →
         AreLineSteps link lines texts first_moment moment → AreHaltsOwn (last_journal moment) }
 {}
@@ -168,11 +170,11 @@ pub fn law_entries_have_their_makers()
 /// A day's journal stays within its limit: its entries, and one more for the halt of each open
 /// play, are never more than that. So all halts of the day's end find room.
 pub fn law_day_journal_stays_within_limit()
-    ensures lines { (link : Link) (sources : ℕ) (lines : List Line) (texts : List (List ℕ))
+    ensures lines { (link : SharedLink) (sources : ℕ) (lines : List Line) (texts : List (List ℕ))
         (moment : DayState) → AreClients lines → AreLines sources lines →
         AreLineSteps link lines texts first_moment moment →
         places_taken moment.entries ≤ link.limit }
-    ensures end { (link : Link) (sources : ℕ) (lines : List Line) (texts : List (List ℕ))
+    ensures end { (link : SharedLink) (sources : ℕ) (lines : List Line) (texts : List (List ℕ))
         (moment : DayState) → AreClients lines → AreLines sources lines →
         AreLineSteps link lines texts first_moment moment →
         places_taken (last_journal moment) ≤ link.limit }
@@ -181,7 +183,7 @@ pub fn law_day_journal_stays_within_limit()
 /// A line that says that the journal is full says how many entries it has at that line and how many
 /// clients then play, and there is no room for what the line asks. It changes nothing.
 pub fn law_full_journal_line_is_true()
-    ensures { (link : Link) (sources : ℕ) (lines : List Line) (texts : List (List ℕ))
+    ensures { (link : SharedLink) (sources : ℕ) (lines : List Line) (texts : List (List ℕ))
         (moment next : DayState) (line : Line) (text : List ℕ) → link.limit < 2 ^ 64 →
         AreClients lines → AreLines sources lines →
         AreLineSteps link lines texts first_moment moment → IsLine link line moment next text →
@@ -193,7 +195,7 @@ pub fn law_full_journal_line_is_true()
 /// as it began, and isn't done; what a pause leaves can be played, and what was sent before it are
 /// complete frames and reports.
 pub fn law_every_client_is_sound()
-    ensures { (link : Link) (lines : List Line) (texts : List (List ℕ)) (moment : DayState)
+    ensures { (link : SharedLink) (lines : List Line) (texts : List (List ℕ)) (moment : DayState)
         (client : ℕ) → IsLink link → AreClients lines → AreLines (length link.media) lines →
         AreLineSteps link lines texts first_moment moment → client < 256 →
         IsSoundClient moment.heard (state_at moment client) }
@@ -201,7 +203,7 @@ pub fn law_every_client_is_sound()
 
 /// A script has one text and one journal.
 pub fn law_script_run_is_unique()
-    ensures { (link : Link) (lines : List Line) (text other : List ℕ)
+    ensures { (link : SharedLink) (lines : List Line) (text other : List ℕ)
         (journal others : List Entry) → IsLink link → AreClients lines →
         AreLines (length link.media) lines → IsDay link lines text journal →
         IsDay link lines other others → (text ≡ other) × (journal ≡ others) }

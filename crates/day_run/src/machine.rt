@@ -1,6 +1,6 @@
 //! A day as it runs: what clients ask and slots, one after the other, on one book.
 
-ghost use Rattle.std.specs.Prelude.{◌≡◌, ◌-◌, ◌*◌, ◌^◌, ◌≤◌, ◌<◌, length, map, min, IfOk, OnOk};
+ghost use Rattle.std.specs.Prelude.{◌≡◌, ◌-◌, ◌*◌, ◌≤◌, ◌<◌, length, map, min, IfOk, OnOk};
 ghost use Rattle.admission.specs.Histories.{IsLegal};
 ghost use Rattle.admission.specs.Books.{places_taken};
 ghost use Rattle.day_run.specs.Clients.{IsPlanFor, IsRest, rest_of};
@@ -18,13 +18,13 @@ use crate::client_set::{halt_plays, idle_clients, step_clients};
 use crate::clients::{Client, HaltedPlays, Rest};
 use crate::media::Media;
 use crate::play_start::{begin_play, medium_at, start_of, whole_of};
-use admission::{Book, Entry, Full};
-use early_start::Offers;
+use admission::{Book, Entry, Full, MAX_ENTRIES};
+use early_start::{MAX_WAIT, Offers};
 use film_run::plan_of;
 use plan_cert::Plan;
 use slot_calendar::Profile;
 use std::alloc::Global;
-use vod_base::NoMemory;
+use vod_base::{LATEST_SLOT, MAX_BYTES, NoMemory};
 use wire_curve::{CurveFault, CurveRefused};
 
 /// What is answered to a client.
@@ -76,7 +76,7 @@ impl<'r> DayMachine<'r> {
     ) -> Result<DayMachine<'r>, NoMemory>
         // needs: a limit and a slot length in range
         requires some { 2 ≤ limit }
-        requires few { limit ≤ 1048576 }
+        requires few { limit ≤ MAX_ENTRIES }
         requires some_slot_units { 1 ≤ slot_units }
         requires slot_units_fit { slot_units ≤ 360000 }
         // answers: a day at slot 0 on that link, whose clients play nothing
@@ -123,7 +123,8 @@ impl<'r> DayMachine<'r> {
         // answers: what the definition of a `play` line says
         ensures line { IfOk result (λ told.
             IsPlayLine (link_on self.old) client (rest_at (link_on self.old) source buffer delay)
-            (day_state_of self.old) (day_state_of self.new) (reply_text self.new.book.entries told)) }
+            (day_state_of self.old) (day_state_of self.new)
+            (reply_text self.new.book.entries told)) }
     {
         if self.clients[client as usize].is_busy() {
             return Ok(LineAnswer::State);
@@ -147,7 +148,8 @@ impl<'r> DayMachine<'r> {
         ensures heard { OnOk result (self.new.heard ≡ self.old.heard) }
         ensures line { IfOk result (λ told.
             IsResumeLine (link_on self.old) client (state_at (day_state_of self.old) client)
-            (day_state_of self.old) (day_state_of self.new) (reply_text self.new.book.entries told)) }
+            (day_state_of self.old) (day_state_of self.new)
+            (reply_text self.new.book.entries told)) }
     {
         // A resume is a new play of what is left, with a new plan. So it can be refused as any
         // play.
@@ -166,7 +168,8 @@ impl<'r> DayMachine<'r> {
         ensures heard { OnOk result (self.new.heard ≡ self.old.heard) }
         ensures asked { IfOk result (λ told.
             IsAsked (link_on self.old) client (rest_of rest.entry)
-            (day_state_of self.old) (day_state_of self.new) (reply_text self.new.book.entries told)) }
+            (day_state_of self.old) (day_state_of self.new)
+            (reply_text self.new.book.entries told)) }
     {
         match plan_of(alloc, rest.medium, &rest.playback, &rest.run) {
             Ok(plan) => {
@@ -243,7 +246,7 @@ impl<'r> DayMachine<'r> {
         ensures machine { IsDayMachine self.new }
         ensures kept { IsKept self.old self.new }
         ensures heard { self.new.heard ≡ self.old.heard }
-        ensures line { IsLookLine (link_on self.old) (min slot (2 ^ 62))
+        ensures line { IsLookLine (link_on self.old) (min slot LATEST_SLOT)
             (day_state_of self.old) (day_state_of self.new) (reply_text self.new.book.entries
             result) }
     {
@@ -266,7 +269,7 @@ impl<'r> DayMachine<'r> {
         requires machine { IsDayMachine self.now }
         requires source { source < length self.now.media.now }
         requires asked { IsWithinRanges 1 buffer delay }
-        requires wait { wait ≤ 255 }
+        requires wait { wait ≤ MAX_WAIT }
         ensures { IfSaid result
             (IsOfferLine (link_on self.now) (rest_at (link_on self.now) source buffer delay) wait
             (day_state_of self.now) (day_state_of self.now)) }
@@ -296,7 +299,7 @@ impl<'r> DayMachine<'r> {
         // needs: a sound day, and a later slot
         requires machine { IsDayMachine self.old }
         requires later { self.old.heard < slot }
-        requires small { slot ≤ 2 ^ 62 }
+        requires small { slot ≤ LATEST_SLOT }
         // leaves: a sound day on the same link, in that slot
         ensures machine { IsDayMachine self.new }
         ensures kept { IsKept self.old self.new }
@@ -306,7 +309,7 @@ impl<'r> DayMachine<'r> {
         ensures sent { result.sent ≡ sent_up_to (day_state_of self.old) slot }
         ensures booked { result.booked ≡ booked_up_to (day_state_of self.old) slot }
         ensures peak { result.peak ≡ most_up_to (day_state_of self.old) slot }
-        ensures few { result.booked ≤ (slot - self.old.heard) * 2 ^ 42 }
+        ensures few { result.booked ≤ (slot - self.old.heard) * MAX_BYTES }
     {
         let sent = step_clients(&mut self.clients, slot);
         // Read here: a later play moves the calendar on, and it then forgets the slots that passed.
@@ -332,7 +335,7 @@ impl<'r> DayMachine<'r> {
         ensures value { result.items ≡ self.entry.book.entries }
         ensures legal { IsLegal self.entry.book.steps self.entry.book.entries }
         ensures within { places_taken self.entry.book.entries ≤ self.entry.book.limit }
-        ensures few { self.entry.book.limit ≤ 1048576 }
+        ensures few { self.entry.book.limit ≤ MAX_ENTRIES }
     {
         let DayMachine {
             media: _,

@@ -11,7 +11,7 @@ ghost use Rattle.day_run.specs.MachineState.{IsWithinRanges};
 ghost use Rattle.day_run.specs.ClientStates.{MediaContent, whole_rest};
 ghost use Rattle.day_run.specs.MediaContents.{media_content};
 
-use crate::clients::{Play, Rest};
+use crate::clients::{ClientPlay, Rest};
 use crate::media::Media;
 use admission::Answer;
 use film_run::{Playback, full_run};
@@ -73,7 +73,7 @@ pub(crate) fn begin_play<'r>(
     plan: Plan,
     paced: Plan,
     start: u64,
-) -> Play<'r>
+) -> ClientPlay<'r>
     requires rest { IsRest rest }
     requires plan { IsPlanFor rest plan }
     requires paced { paced ≡ plan }
@@ -88,7 +88,7 @@ pub(crate) fn begin_play<'r>(
     let pacer = Pacer::new(rest.medium.as_sending(), rest.run.sent, paced, start);
     // The pacer's own invariant isn't visible here: only the clauses of a call say it.
     let _sent = pacer.sent();
-    Play {
+    ClientPlay {
         number,
         rest,
         plan,

@@ -1,6 +1,6 @@
 //! Scripts, run from their first line to the day's end.
 
-ghost use Rattle.std.specs.Prelude.{◌≡◌, ◌^◌, ◌≤◌, ◌<◌, ◌++◌, [], drop, length, IfOk, OnOk};
+ghost use Rattle.std.specs.Prelude.{◌≡◌, ◌≤◌, ◌<◌, ◌++◌, [], drop, length, IfOk, OnOk};
 ghost use Rattle.admission.specs.Books.{places_taken};
 ghost use Rattle.admission.specs.Histories.{IsLegal};
 ghost use Rattle.report.specs.JournalTexts.{journal_text};
@@ -17,13 +17,13 @@ ghost use Rattle.day_run.specs.Sources.{AreSources};
 use crate::machine::{DayMachine, LineAnswer};
 use crate::media::Source;
 use crate::media_sources::all_media_of;
-use admission::{Book, Entry};
+use admission::{Book, Entry, MAX_ENTRIES};
 use day_script::{Line, Script, push_fault, push_full, push_offer, push_slot, push_state};
 use report::laws::{law_answers_match_commands, law_calendar_text_matches_state};
 use report::{calendar_text, journal_text};
 use slot_calendar::Profile;
 use std::alloc::Global;
-use vod_base::NoMemory;
+use vod_base::{LATEST_SLOT, NoMemory};
 use wire_curve::CurveRefused;
 
 /// What a day leaves.
@@ -52,7 +52,7 @@ pub fn run_script(
 ) -> Result<Day, NoMemory>
     // needs: settings in range, sound sources, and lines that may stand in their order
     requires some { 2 ≤ limit }
-    requires few { limit ≤ 1048576 }
+    requires few { limit ≤ MAX_ENTRIES }
     requires some_slot_units { 1 ≤ slot_units }
     requires slot_units_fit { slot_units ≤ 360000 }
     requires sources { AreSources sources.now }
@@ -105,7 +105,7 @@ fn print_answer(book: &Book, told: LineAnswer, text: &mut Vec<u8>) -> Result<(),
 fn run_slot(machine: &mut DayMachine<'_>, slot: u64, text: &mut Vec<u8>) -> Result<(), NoMemory>
     requires machine { IsDayMachine machine.old }
     requires later { machine.old.heard < slot }
-    requires small { slot ≤ 2 ^ 62 }
+    requires small { slot ≤ LATEST_SLOT }
     ensures machine { OnOk result (IsDayMachine machine.new) }
     ensures kept { OnOk result (IsKept machine.old machine.new) }
     ensures heard { OnOk result (machine.new.heard ≡ slot) }

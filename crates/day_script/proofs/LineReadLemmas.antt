@@ -11,6 +11,7 @@ use Rattle.std.specs.List.{list_all}
 use Rattle.std.specs.Option.{option_and_then}
 use Rattle.std.specs.Str.{IsUtf8}
 use Rattle.vod_base.specs.Names.{good_name, is_name_byte}
+use Rattle.day_script.specs.declared.script_reader.TheConstants.{MAX_LINES}
 use Rattle.day_script.specs.TextLines.{lines_of_script}
 use Rattle.day_script.specs.ScriptReading.{Reading, line_read, lines_read, nothing_read, IsBadLine}
 
@@ -85,7 +86,7 @@ read-next {line} {k} {r} {next} text at h read =
 
 -- the next line may not stand there
 pub bad-next : {text line : List ℕ} {rest : List (List ℕ)} {k : ℕ} {r : Reading}
-    → NextLine (lines_of_script text) k line rest → k ≤ 1000000
+    → NextLine (lines_of_script text) k line rest → k ≤ MAX_LINES
     → lines_read nothing_read (take k (lines_of_script text)) ≡ Some r
     → ((k + 1 ≡ 1000001) ⊎ (line_read r line ≡ None)) → IsBadLine text (k + 1)
 bad-next {text} {line} {k} {r} at few h here =

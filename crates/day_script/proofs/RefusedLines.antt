@@ -1,5 +1,5 @@
 -- A line that is spelled and may not stand there is refused, and so is one whose verb is unknown.
-use Rattle.std.proofs.Common.{◌≡◌, ◌<◌, ◌-◌, ◌+◌, ◌^◌, ◌&&◌, ◌||◌, ℕ, Bool, true, false, nat_lt}
+use Rattle.std.proofs.Common.{◌≡◌, ◌<◌, ◌-◌, ◌+◌, ◌&&◌, ◌||◌, ℕ, Bool, true, false, nat_lt}
 use Rattle.std.proofs.Common.{List, [], ◌∷◌, ◌++◌, codes}
 use Rattle.std.proofs.Common.{decimal, length, map, take, get_or, Some, None, arith, refl, ap, ◌∙◌, inl, inr}
 use Rattle.std.specs.Prelude.{◌⊎◌}
@@ -9,6 +9,9 @@ use Rattle.std.specs.Str.{bytes_eq}
 use Rattle.std.proofs.lemmas.Bool.{cases_Bool, false_from_ne_true, ltb-true}
 use Rattle.std.proofs.lemmas.List.{get_or_at, length-append, length-map, take_at}
 use Rattle.vod_base.specs.Names.{good_name}
+use Rattle.vod_base.specs.declared.links.TheConstants.{LATEST_SLOT}
+use Rattle.vod_base.specs.declared.limits.TheConstants.{MAX_BYTES, MAX_DELAY}
+use Rattle.early_start.specs.declared.TheConstants.{MAX_WAIT}
 use Rattle.day_script.specs.declared.scripts.Line.{Line}
 use Rattle.day_script.specs.declared.scripts.Line.TheVariants.{Play, Pause, Resume, Look, Slot, Offer}
 use Rattle.day_script.specs.TextLines.{lines_of_script}
@@ -37,9 +40,9 @@ asked-or : (name : Name) (client buffer delay : ℕ) → IsAskedInWords name cli
     × (asked_in (decimal client) (kind_text name.kind) (decimal buffer) (decimal delay) ≡ None))
 asked-or name client buffer delay own = elim (read-or 0 255 client own.client_small) [
   | inr c ↦ inr (λ may. c.0 (omega arith) may.client_fits, rw c.1 refl)
-  | inl c ↦ elim (read-or 1 (2 ^ 42) buffer own.buffer_small) [
+  | inl c ↦ elim (read-or 1 MAX_BYTES buffer own.buffer_small) [
     | inr b ↦ inr (λ may. b.0 may.some_buffer may.buffer_fits, rw c.2 (rw (kind-back name.kind) (rw b.1 refl)))
-    | inl b ↦ elim (read-or 0 10000 delay own.delay_small) [
+    | inl b ↦ elim (read-or 0 MAX_DELAY delay own.delay_small) [
       | inr d ↦ inr (λ may. d.0 (omega arith) may.delay_fits, rw c.2 (rw (kind-back name.kind) (rw b.2 (rw d.1 refl))))
       | inl d ↦ inl (
         λ good. record { client_fits = c.1; some_buffer = b.0; buffer_fits = b.1; delay_fits = d.1; good = good },
@@ -67,11 +70,11 @@ pair-bad r names (Resume client) own not = elim (read-or 0 255 client own) [
   | inl fits ↦ absurd (not fits.1)
   | inr out ↦ rw out.1 refl
 ]
-pair-bad r names (Look slot) own not = elim (read-or 0 (2 ^ 62) slot own) [
+pair-bad r names (Look slot) own not = elim (read-or 0 LATEST_SLOT slot own) [
   | inl fits ↦ absurd (not fits.1)
   | inr out ↦ rw out.1 refl
 ]
-pair-bad r names (Slot slot) own not = elim (read-or 1 (2 ^ 62) slot own) [
+pair-bad r names (Slot slot) own not = elim (read-or 1 LATEST_SLOT slot own) [
   | inl fits ↦
       rw fits.2 (rw (false_from_ne_true (nat_lt r.slot slot) (λ later. not (ltb-true r.slot slot later, fits.1))) refl)
   | inr out ↦ rw out.1 refl
@@ -79,7 +82,7 @@ pair-bad r names (Slot slot) own not = elim (read-or 1 (2 ^ 62) slot own) [
 pair-bad r names (Offer client source buffer delay wait) own not =
     elim (asked-or (name_at names source) client buffer delay own.0) [
       | inr bad ↦ rw bad.1 refl
-      | inl asked ↦ elim (read-or 0 255 wait own.1) [
+      | inl asked ↦ elim (read-or 0 MAX_WAIT wait own.1) [
         | inr out ↦ rw asked.1 (rw out.1 refl)
         | inl fits ↦ elim (cases_Bool (good_name (name_at names source).name)) [
           | inl good ↦ absurd (not (asked.0 good, fits.1))

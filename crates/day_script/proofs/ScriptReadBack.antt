@@ -1,5 +1,5 @@
 -- Lines that are spelled are read back, and the script that they make.
-use Rattle.std.proofs.Common.{◌≡◌, ◌≢◌, ◌<◌, ◌≤◌, ◌+◌, ◌^◌, ◌==◌, ℕ, max, true, nat_lt, List}
+use Rattle.std.proofs.Common.{◌≡◌, ◌≢◌, ◌<◌, ◌≤◌, ◌+◌, ◌==◌, ℕ, max, true, nat_lt, List}
 use Rattle.std.proofs.Common.{[], ◌∷◌, ◌++◌, codes}
 use Rattle.std.proofs.Common.{decimal, length, map, take, get_or, Some, None, arith, refl, sym, ap, ◌∙◌, inl, inr}
 use Rattle.std.specs.List.{fold, list_all, slice_split}
@@ -14,6 +14,9 @@ use Rattle.std.proofs.lemmas.List.{take_more}
 use Rattle.std.proofs.lemmas.List.Sums.{position_or_len_is}
 use Rattle.std.proofs.lemmas.Slice.Eq.{bytes_eq-Decides}
 use Rattle.vod_base.specs.Names.{good_name}
+use Rattle.vod_base.specs.declared.links.TheConstants.{LATEST_SLOT}
+use Rattle.vod_base.specs.declared.limits.TheConstants.{MAX_BYTES, MAX_DELAY}
+use Rattle.early_start.specs.declared.TheConstants.{MAX_WAIT}
 use Rattle.day_script.specs.declared.scripts.Line.{Line}
 use Rattle.day_script.specs.declared.scripts.Line.TheVariants.{Play, Pause, Resume, Look, Slot, Offer}
 use Rattle.day_script.specs.declared.scripts.SourceKind.{SourceKind}
@@ -51,8 +54,8 @@ asked-back : (name : Name) (client buffer delay : ℕ) → IsAsking name client 
     ≡ Some (asked-of name client buffer delay)
 asked-back name client buffer delay may =
     let c = number-back 0 255 client (omega (arith, may.client_fits)) (omega arith) may.client_fits in
-    let b = number-back 1 (2 ^ 42) buffer (omega (arith, may.buffer_fits)) may.some_buffer may.buffer_fits in
-    let d = number-back 0 10000 delay (omega (arith, may.delay_fits)) (omega arith) may.delay_fits in
+    let b = number-back 1 MAX_BYTES buffer (omega (arith, may.buffer_fits)) may.some_buffer may.buffer_fits in
+    let d = number-back 0 MAX_DELAY delay (omega (arith, may.delay_fits)) (omega arith) may.delay_fits in
     rw c (rw (kind-back name.kind) (rw b (rw d refl)))
 
 -- a name and its place
@@ -203,14 +206,14 @@ line-back read (Play client source buffer delay) next may =
     (named-read read source (λ s. Play client s buffer delay) next may.good)
 line-back read (Pause client) next may = rw (number-back 0 255 client (omega (arith, may)) (omega arith) may) refl
 line-back read (Resume client) next may = rw (number-back 0 255 client (omega (arith, may)) (omega arith) may) refl
-line-back read (Look slot) next may = rw (number-back 0 (2 ^ 62) slot (omega (arith, may)) (omega arith) may) refl
+line-back read (Look slot) next may = rw (number-back 0 LATEST_SLOT slot (omega (arith, may)) (omega arith) may) refl
 line-back read (Slot slot) next may =
-    rw (number-back 1 (2 ^ 62) slot (omega (arith, may.1)) (omega (arith, may.0)) may.1)
+    rw (number-back 1 LATEST_SLOT slot (omega (arith, may.1)) (omega (arith, may.0)) may.1)
     (rw (lt-ltb read.slot slot may.0) refl)
 line-back read (Offer client source buffer delay wait) next may =
     let name = name_at read.names source in
     rw (asked-back name client buffer delay may.0)
-    (rw (number-back 0 255 wait (omega (arith, may.1)) (omega arith) may.1)
+    (rw (number-back 0 MAX_WAIT wait (omega (arith, may.1)) (omega arith) may.1)
     (named-read read source (λ s. Offer client s buffer delay wait) next may.0.good))
 
 -- ---- lines

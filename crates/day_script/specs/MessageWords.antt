@@ -1,8 +1,11 @@
 -- What the words of a line say.
-use Rattle.std.specs.Prelude.{ℕ, ◌≤◌, ◌^◌, if◌then◌else◌, List, []}
+use Rattle.std.specs.Prelude.{ℕ, ◌≤◌, if◌then◌else◌, List, []}
 use Rattle.std.specs.Prelude.{◌∷◌, codes, Option, Some, None, option_map}
 use Rattle.std.specs.Option.{option_and_then}
 use Rattle.std.specs.Str.{bytes_eq}
+use Rattle.vod_base.specs.declared.links.TheConstants.{LATEST_SLOT}
+use Rattle.vod_base.specs.declared.limits.TheConstants.{MAX_BYTES, MAX_DELAY}
+use Rattle.early_start.specs.declared.TheConstants.{MAX_WAIT}
 use Rattle.vod_base.specs.Limits.{in_range}
 use Rattle.vod_base.specs.Numbers.{number_of}
 use Rattle.day_script.specs.declared.messages.PlayParams.{PlayParams}
@@ -29,15 +32,16 @@ abbrev pub asked_in : List ℕ → List ℕ → List ℕ → List ℕ → Option
 asked_in client kind buffer delay =
     option_and_then (λ c. option_and_then (λ k. option_and_then (λ b. option_map (λ d.
     record { client = c; kind = k; buffer = b; delay = d })
-    (number_in 0 10000 delay)) (number_in 1 (2 ^ 42) buffer)) (kind_in kind)) (client_in client)
+    (number_in 0 MAX_DELAY delay)) (number_in 1 MAX_BYTES buffer)) (kind_in kind))
+    (client_in client)
 
 -- the lines of two words
 abbrev pub pair_in : List ℕ → List ℕ → Option Message
 pair_in verb word =
     if bytes_eq verb (codes "pause") then option_map Pause (client_in word)
     else (if bytes_eq verb (codes "resume") then option_map Resume (client_in word)
-    else (if bytes_eq verb (codes "look") then option_map Look (number_in 0 (2 ^ 62) word)
-    else (if bytes_eq verb (codes "slot") then option_map Slot (number_in 1 (2 ^ 62) word)
+    else (if bytes_eq verb (codes "look") then option_map Look (number_in 0 LATEST_SLOT word)
+    else (if bytes_eq verb (codes "slot") then option_map Slot (number_in 1 LATEST_SLOT word)
     else None)))
 
 -- the lines of six words, and those of seven
@@ -47,7 +51,7 @@ play_in verb asked = if bytes_eq verb (codes "play") then option_map Play asked 
 abbrev pub offer_in : List ℕ → Option PlayParams → List ℕ → Option Message
 offer_in verb asked wait =
     if bytes_eq verb (codes "offer")
-    then option_and_then (λ a. option_map (Offer a) (number_in 0 255 wait)) asked
+    then option_and_then (λ a. option_map (Offer a) (number_in 0 MAX_WAIT wait)) asked
     else None
 
 -- what a line of these words says; None where it says nothing
@@ -62,13 +66,13 @@ message_in _ = None
 -- what is asked for is in its ranges
 pub record ArePlayParamsInRange (asked : PlayParams) : Type 0 where
   pub some_buffer : 1 ≤ asked.buffer
-  pub buffer_fits : asked.buffer ≤ 2 ^ 42
-  pub delay_fits : asked.delay ≤ 10000
+  pub buffer_fits : asked.buffer ≤ MAX_BYTES
+  pub delay_fits : asked.delay ≤ MAX_DELAY
 
 abbrev pub IsInRange : Message → Type 0
 IsInRange (Play asked) = ArePlayParamsInRange asked
 IsInRange (Pause client) = Unit {0}
 IsInRange (Resume client) = Unit {0}
 IsInRange (Look slot) = Unit {0}
-IsInRange (Slot slot) = slot ≤ 2 ^ 62
-IsInRange (Offer asked wait) = ArePlayParamsInRange asked × (wait ≤ 255)
+IsInRange (Slot slot) = slot ≤ LATEST_SLOT
+IsInRange (Offer asked wait) = ArePlayParamsInRange asked × (wait ≤ MAX_WAIT)

@@ -7,6 +7,7 @@ use Rattle.std.specs.List.{position_or_len, slice_split}
 use Rattle.std.specs.Option.{option_and_then}
 use Rattle.std.specs.Str.{bytes_eq}
 use Rattle.vod_base.specs.Names.{good_name}
+use Rattle.day_script.specs.declared.script_reader.TheConstants.{MAX_LINES}
 use Rattle.day_script.specs.declared.messages.PlayParams.{PlayParams}
 use Rattle.day_script.specs.declared.messages.Message.{Message}
 use Rattle.day_script.specs.declared.messages.Message.TheVariants.{Play, Pause, Resume, Look, Slot}
@@ -161,7 +162,7 @@ pub record IsDraft (draft : ScriptBuilder) : Type 0 where
 
 -- a text is this script
 pub record IsScript (text : List ℕ) (script : Script) : Type 0 where
-  pub few : length (lines_of_script text) ≤ 1000000
+  pub few : length (lines_of_script text) ≤ MAX_LINES
   pub slot : ℕ
   pub read : lines_read nothing_read (lines_of_script text)
       ≡ Some (record {

@@ -4,9 +4,13 @@ use Rattle.std.specs.Prelude.{true, List, [], ◌∷◌, ◌++◌, codes, decima
 use Rattle.std.specs.Prelude.{slice_index_or}
 use Rattle.std.specs.List.{fold, list_all}
 use Rattle.std.specs.Str.{bytes_eq}
+use Rattle.vod_base.specs.declared.links.TheConstants.{LATEST_SLOT}
+use Rattle.vod_base.specs.declared.limits.TheConstants.{MAX_BYTES, MAX_DELAY}
+use Rattle.early_start.specs.declared.TheConstants.{MAX_WAIT}
 use Rattle.vod_base.specs.Names.{good_name}
 use Rattle.day_script.specs.declared.scripts.Line.{Line}
-use Rattle.day_script.specs.declared.scripts.Line.TheVariants.{Play, Pause, Resume, Look, Slot, Offer}
+use Rattle.day_script.specs.declared.scripts.Line.TheVariants.{Play, Pause, Resume, Look, Slot}
+use Rattle.day_script.specs.declared.scripts.Line.TheVariants.{Offer}
 use Rattle.day_script.specs.declared.scripts.SourceKind.{SourceKind}
 use Rattle.day_script.specs.declared.scripts.SourceKind.TheVariants.{Film, Trace}
 use Rattle.day_script.specs.ScriptReading.{Name, name_as}
@@ -80,8 +84,8 @@ IsNextName count (Offer client source buffer delay wait) = source ≤ count
 pub record IsAsking (name : Name) (client buffer delay : ℕ) : Type 0 where
   pub client_fits : client ≤ 255
   pub some_buffer : 1 ≤ buffer
-  pub buffer_fits : buffer ≤ 2 ^ 42
-  pub delay_fits : delay ≤ 10000
+  pub buffer_fits : buffer ≤ MAX_BYTES
+  pub delay_fits : delay ≤ MAX_DELAY
   pub good : good_name name.name ≡ true
 
 abbrev pub MayStand : ℕ → List Name → Line → Type 0
@@ -89,10 +93,10 @@ MayStand heard names (Play client source buffer delay) =
     IsAsking (name_at names source) client buffer delay
 MayStand heard names (Pause client) = client ≤ 255
 MayStand heard names (Resume client) = client ≤ 255
-MayStand heard names (Look slot) = slot ≤ 2 ^ 62
-MayStand heard names (Slot slot) = (heard < slot) × (slot ≤ 2 ^ 62)
+MayStand heard names (Look slot) = slot ≤ LATEST_SLOT
+MayStand heard names (Slot slot) = (heard < slot) × (slot ≤ LATEST_SLOT)
 MayStand heard names (Offer client source buffer delay wait) =
-    IsAsking (name_at names source) client buffer delay × (wait ≤ 255)
+    IsAsking (name_at names source) client buffer delay × (wait ≤ MAX_WAIT)
 
 -- lines may stand one after the other, where so many names stand before them and a slot was
 -- received last; each new name is the next one

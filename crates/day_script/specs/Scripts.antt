@@ -1,8 +1,12 @@
 -- What is true for a script's lines.
-use Rattle.std.specs.Prelude.{ℕ, ◌<◌, ◌≤◌, ◌^◌, List, length, take, slice_index_or}
+use Rattle.std.specs.Prelude.{ℕ, ◌<◌, ◌≤◌, List, length, take, slice_index_or}
 use Rattle.std.specs.List.{fold}
+use Rattle.vod_base.specs.declared.links.TheConstants.{LATEST_SLOT}
+use Rattle.vod_base.specs.declared.limits.TheConstants.{MAX_BYTES, MAX_DELAY}
+use Rattle.early_start.specs.declared.TheConstants.{MAX_WAIT}
 use Rattle.day_script.specs.declared.scripts.Line.{Line}
-use Rattle.day_script.specs.declared.scripts.Line.TheVariants.{Play, Pause, Resume, Look, Slot, Offer}
+use Rattle.day_script.specs.declared.scripts.Line.TheVariants.{Play, Pause, Resume, Look, Slot}
+use Rattle.day_script.specs.declared.scripts.Line.TheVariants.{Offer}
 
 -- the slot that was received last, after a line
 abbrev pub slot_after : ℕ → Line → ℕ
@@ -21,8 +25,8 @@ latest_slot lines = fold slot_after 0 lines
 pub record IsWish (sources source buffer delay : ℕ) : Type 0 where
   pub inside : source < sources
   pub some_buffer : 1 ≤ buffer
-  pub buffer_fits : buffer ≤ 2 ^ 42
-  pub delay_fits : delay ≤ 10000
+  pub buffer_fits : buffer ≤ MAX_BYTES
+  pub delay_fits : delay ≤ MAX_DELAY
 
 -- a line may stand where a slot was received last
 abbrev pub StandsAfter : ℕ → ℕ → Line → Type 0
@@ -30,9 +34,9 @@ StandsAfter heard sources (Play client source buffer delay) = IsWish sources sou
 StandsAfter heard sources (Pause client) = Unit {0}
 StandsAfter heard sources (Resume client) = Unit {0}
 StandsAfter heard sources (Look slot) = Unit {0}
-StandsAfter heard sources (Slot slot) = (heard < slot) × (slot ≤ 2 ^ 62)
+StandsAfter heard sources (Slot slot) = (heard < slot) × (slot ≤ LATEST_SLOT)
 StandsAfter heard sources (Offer client source buffer delay wait) =
-    IsWish sources source buffer delay × (wait ≤ 255)
+    IsWish sources source buffer delay × (wait ≤ MAX_WAIT)
 
 -- the lines of a script that names so many films and traces
 pub record AreLines (sources : ℕ) (lines : List Line) : Type 0 where

@@ -8,18 +8,17 @@ ghost use Rattle.day_script.specs.MessageWords.{client_in};
 ghost use Rattle.day_script.specs.MessageWords.{pair_in, play_in, offer_in, message_in};
 
 use crate::scripts::{CLIENTS, SourceKind};
-use admission::LATEST_SLOT;
 use early_start::MAX_WAIT;
-use vod_base::{MAX_BYTES, MAX_DELAY, number_within};
+use vod_base::{LATEST_SLOT, MAX_BYTES, MAX_DELAY, number_within};
 
 /// What a play or an offer asks for; its film or trace is the line's fourth word.
 #[derive(Clone, Copy)]
 pub(crate) struct PlayParams {
     pub(crate) client: u8,
     pub(crate) kind: SourceKind,
-    /// The bytes that the client's buffer holds, 1 to 2^42.
+    /// The bytes that the client's buffer holds, 1 to [`MAX_BYTES`].
     pub(crate) buffer: u64,
-    /// The slots before the first picture is used, at most 10,000.
+    /// The slots before the first picture is used, at most [`MAX_DELAY`].
     pub(crate) delay: u64,
 }
 
@@ -31,11 +30,11 @@ pub(crate) enum Message {
     Pause(u8),
     /// The client.
     Resume(u8),
-    /// The slot, at most 2^62.
+    /// The slot, at most [`LATEST_SLOT`].
     Look(u64),
-    /// The slot, from 1 to 2^62.
+    /// The slot, from 1 to [`LATEST_SLOT`].
     Slot(u64),
-    /// What is asked for, and the wait in slots, at most 255.
+    /// What is asked for, and the wait in slots, at most [`MAX_WAIT`].
     Offer(PlayParams, u64),
 }
 

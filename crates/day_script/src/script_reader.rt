@@ -126,10 +126,13 @@ impl ScriptBuilder {
         ensures lines { OnOk result (self.new.lines.items ≡ self.old.lines.items) }
     {
         match words {
-            [_, _, _, name, ..] if good_name(name) => {
-                let place = self.roster.source_of(asked.kind, text_of(name))?;
-                Ok(Some(place))
-            }
+            [_, _, _, word, ..] => match name_in(word) {
+                Some(name) => {
+                    let place = self.roster.source_of(asked.kind, name)?;
+                    Ok(Some(place))
+                }
+                None => Ok(None),
+            },
             _ => Ok(None),
         }
     }
@@ -239,15 +242,19 @@ fn offer_line(asked: PlayParams, source: usize, wait: u64) -> Line
     }
 }
 
-/// A name as a text.
-fn text_of(name: &[u8]) -> &str
-    requires { good_name name.now ≡ true }
-    ensures { result.now ≡ name.now }
+/// The name of a film or trace that a word is; None where it is no good name.
+fn name_in(word: &[u8]) -> Option<&str>
+    ensures name { IfSome result (λ name. name.now ≡ word.now) }
+    ensures good { IfSome result (λ _. good_name word.now ≡ true) }
+    ensures none { IfNone result (good_name word.now ≡ false) }
 {
-    match str::from_utf8(name) {
-        Ok(text) => text,
-        // Can't come: a good name has ASCII bytes alone.
-        Err(_) => unreachable!(),
+    if !good_name(word) {
+        return None;
+    }
+    match str::from_utf8(word) {
+        Ok(name) => Some(name),
+        // Never so: a good name has ASCII bytes alone.
+        Err(_) => None,
     }
 }
 

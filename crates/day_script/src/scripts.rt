@@ -15,19 +15,19 @@ pub enum Line {
         client: u8,
         /// The place of the film or trace in the script's list of names.
         source: usize,
-        /// The bytes that its buffer holds, 1 to 2^42.
+        /// The bytes that its buffer holds, 1 to 2^42 ([`vod_base::MAX_BYTES`]).
         buffer: u64,
-        /// The slots before the first picture is used, at most 10,000.
+        /// The slots before the first picture is used, at most 10,000 ([`vod_base::MAX_DELAY`]).
         delay: u64,
     },
     /// `pause C`: a client pauses its play, which ends with the frame or report in hand.
     Pause(u8),
     /// `resume C`: a client goes on where it was paused.
     Resume(u8),
-    /// `look T`: what is booked in a slot, at most 2^62.
+    /// `look T`: what is booked in a slot, at most 2^62 ([`vod_base::LATEST_SLOT`]).
     Look(u64),
-    /// `slot T`: the link comes to a slot, from 1 to 2^62, later than that of each `slot` line
-    /// before.
+    /// `slot T`: the link comes to a slot, from 1 to 2^62 ([`vod_base::LATEST_SLOT`]), later than
+    /// that of each `slot` line before.
     Slot(u64),
     /// `offer C film NAME B D W` or `offer C trace NAME B D W`: from when on a play would be
     /// admitted.
@@ -36,11 +36,12 @@ pub enum Line {
         client: u8,
         /// The place of the film or trace in the script's list of names.
         source: usize,
-        /// The bytes that its buffer holds, 1 to 2^42.
+        /// The bytes that its buffer holds, 1 to 2^42 ([`vod_base::MAX_BYTES`]).
         buffer: u64,
-        /// The slots before the first picture is used, at most 10,000.
+        /// The slots before the first picture is used, at most 10,000 ([`vod_base::MAX_DELAY`]).
         delay: u64,
-        /// How many slots later than the first one the play may start, at most 255.
+        /// How many slots later than the first one the play may start, at most 255
+        /// ([`early_start::MAX_WAIT`]).
         wait: u64,
     },
 }

@@ -1,5 +1,5 @@
 -- The curves of a run's play, and what its taut plan keeps to.
-use Rattle.std.proofs.Common.{◌≡◌, ℕ, ◌+◌, ◌-◌, ◌^◌, ◌<◌, ◌≤◌, List, length, get_or, sum, sym, ap, subst, ◌∙◌, inl, inr}
+use Rattle.std.proofs.Common.{◌≡◌, ℕ, ◌+◌, ◌-◌, ◌<◌, ◌≤◌, List, length, get_or, sum, sym, ap, subst, ◌∙◌, inl, inr}
 use Rattle.std.proofs.Common.{arith}
 use Rattle.std.proofs.lemmas.Bool.{cases_eq}
 use Rattle.std.proofs.lemmas.List.FromFn.{fill_by_all, get_or-map-range_with_len, length-map-range_with_len}
@@ -14,6 +14,7 @@ use Rattle.wire_curve.proofs.SlotUsageLemmas.{used_before-all, used_before-more}
 use Rattle.cert_check.specs.CertFaults.{IsTaut}
 use Rattle.cert_check.specs.Optimality.{IsBestPlan}
 use Rattle.cert_check.proofs.OptimalityProof.{best}
+use Rattle.vod_base.specs.declared.limits.TheConstants.{MAX_BYTES, MAX_FILM_PICTURES}
 use Rattle.film_run.specs.declared.runs.Run.{Run}
 use Rattle.film_run.specs.declared.plans.Playback.{Playback}
 use Rattle.film_run.specs.Runs.{Fits, IsRun, bytes_between}
@@ -33,7 +34,8 @@ total-of-rest sizes playback run is =
 -- a run has what its curves ask
 pub limits : {sizes : List ℕ} {playback : Playback} {run : Run} → IsPlayback playback → IsRun sizes run
     → Fits playback.buffer run
-    → length sizes ≤ 4194304 → sum sizes ≤ 2 ^ 42 → IsWithinLimits (rest_sizes sizes run) (timing_of playback run)
+    → length sizes ≤ MAX_FILM_PICTURES → sum sizes ≤ MAX_BYTES
+    → IsWithinLimits (rest_sizes sizes run) (timing_of playback run)
 limits {sizes} {playback} {run} plays is fits few small =
     let count = length-between sizes run.from_unit run.end_unit is.within in
     let all = total-of-rest sizes playback run is in

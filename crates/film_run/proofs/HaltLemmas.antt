@@ -1,5 +1,5 @@
 -- What a halt leaves: what was sent is ahead of what was played, and the rest fits in the buffer.
-use Rattle.std.proofs.Common.{◌≡◌, ℕ, ◌+◌, ◌-◌, ◌^◌, ◌<◌, ◌≤◌, List, Option, Some, None, length, sum, sym, ap, subst}
+use Rattle.std.proofs.Common.{◌≡◌, ℕ, ◌+◌, ◌-◌, ◌<◌, ◌≤◌, List, Option, Some, None, length, sum, sym, ap, subst}
 use Rattle.std.proofs.Common.{◌∙◌, inl, inr, arith}
 use Rattle.std.proofs.lemmas.Bool.{cases_lt}
 use Rattle.plan_cert.specs.declared.Segment.{Segment}
@@ -8,6 +8,7 @@ use Rattle.plan_cert.proofs.PlanSlotLemmas.{sum_through_rises}
 use Rattle.wire_curve.specs.declared.film.Timing.{Timing}
 use Rattle.wire_curve.specs.FilmCurves.{IsWithinLimits, due_slot, used_before}
 use Rattle.wire_curve.proofs.SlotUsageLemmas.{used_before-none}
+use Rattle.vod_base.specs.declared.limits.TheConstants.{MAX_BYTES, MAX_FILM_PICTURES}
 use Rattle.film_run.specs.declared.runs.Run.{Run}
 use Rattle.film_run.specs.declared.plans.Playback.{Playback}
 use Rattle.film_run.specs.Runs.{Fits, IsRun, bytes_between}
@@ -79,8 +80,8 @@ pub record IsHalting (sizes : List ℕ) (playback : Playback) (run : Run) (plan 
   pub plays : IsPlayback playback
   pub is : IsRun sizes run
   pub fits : Fits playback.buffer run
-  pub few : length sizes ≤ 4194304
-  pub small : sum sizes ≤ 2 ^ 42
+  pub few : length sizes ≤ MAX_FILM_PICTURES
+  pub small : sum sizes ≤ MAX_BYTES
   pub planned : IsPlanOf sizes playback run plan
   pub halt : IsHalt plan last keep
 
@@ -108,7 +109,7 @@ kept-whole {sizes} {playback} {run} {plan} {last} {keep} h = omega (
 
 pub kept-small : {sizes : List ℕ} {playback : Playback} {run : Run} {plan : List Segment} {last : Option ℕ}
     {keep : ℕ}
-    → IsHalting sizes playback run plan last keep → run.sent + keep ≤ 2 ^ 42
+    → IsHalting sizes playback run plan last keep → run.sent + keep ≤ MAX_BYTES
 kept-small {sizes} {run} {last} h = omega (
   arith,
   kept-whole h,

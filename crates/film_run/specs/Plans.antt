@@ -1,7 +1,8 @@
 -- The plan of a play: the taut one between the two curves of what a run hasn't played (Salehi,
 -- Zhang, Kurose and Towsley 1998).
-use Rattle.std.specs.Prelude.{ℕ, ◌^◌, ◌≤◌, List, map}
+use Rattle.std.specs.Prelude.{ℕ, ◌≤◌, List, map}
 use Rattle.std.specs.List.{range_with_len}
+use Rattle.vod_base.specs.declared.limits.TheConstants.{MAX_BYTES, MAX_DELAY}
 use Rattle.plan_cert.specs.declared.Segment.{Segment}
 use Rattle.wire_curve.specs.declared.film.Timing.{Timing}
 use Rattle.wire_curve.specs.FilmCurves.{low_at, slot_count, up_at}
@@ -20,8 +21,8 @@ pub record IsPlayback (playback : Playback) : Type 0 where
   pub some_slot_units : 1 ≤ playback.slot_units
   pub slot_units_fit : playback.slot_units ≤ 360000
   pub some_buffer : 1 ≤ playback.buffer
-  pub buffer_fits : playback.buffer ≤ 2 ^ 42
-  pub delay_fits : playback.delay ≤ 10000
+  pub buffer_fits : playback.buffer ≤ MAX_BYTES
+  pub delay_fits : playback.delay ≤ MAX_DELAY
 
 -- when the pictures of a run's play are used, counted from its first unplayed unit and the play's
 -- first slot

@@ -1,5 +1,6 @@
 -- The sizes on the wire of what is sent unit by unit.
-use Rattle.std.specs.Prelude.{ℕ, ◌^◌, ◌≤◌, List, length, map, sum}
+use Rattle.std.specs.Prelude.{ℕ, ◌≤◌, List, length, map, sum}
+use Rattle.vod_base.specs.declared.limits.TheConstants.{MAX_BYTES, MAX_FILM_PICTURES}
 use Rattle.mpeg_scan.specs.declared.units.Unit.{Unit as PictureUnit}
 use Rattle.film_frames.specs.declared.stored_films.Stored.{Stored}
 use Rattle.film_frames.specs.Pieces.{wire_size}
@@ -13,5 +14,5 @@ stored_sizes stored = film_sizes stored.film.slice_starts.items stored.film.unit
 
 -- what a trace keeps to
 pub record AreUnitSizes (sizes : List ℕ) : Type 0 where
-  pub few : length sizes ≤ 4194304
-  pub small : sum sizes ≤ 2 ^ 42
+  pub few : length sizes ≤ MAX_FILM_PICTURES
+  pub small : sum sizes ≤ MAX_BYTES

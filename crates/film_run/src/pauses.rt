@@ -12,6 +12,7 @@ use crate::plans::{Playback, timing_of};
 use crate::runs::Run;
 use crate::units::Units;
 use plan_cert::Plan;
+use vod_base::MAX_FILM_PICTURES;
 
 /// Returns what a halt leaves of a run: its play by `plan` stepped the plan's slot `last` last, or
 /// none, isn't done, and keeps `keep` bytes of its plan, at least those that were due.
@@ -38,7 +39,8 @@ pub fn run_after<U: Units>(
     requires plan { IsPlanOf (U.sizes units.now) playback.now run.now plan.now }
     requires halt { IsHalt plan.now last keep }
     // answers: a run that can be played, and fits in the buffer
-    ensures left { IsRemainingRun (U.sizes units.now) playback.now run.now plan.now last keep result }
+    ensures left { IsRemainingRun (U.sizes units.now) playback.now run.now plan.now last keep
+        result }
     ensures run { IsRun (U.sizes units.now) result }
     ensures fits { Fits playback.now.buffer result }
 {
@@ -98,7 +100,7 @@ fn stop_slot(plan: &Plan, last: Option<u64>, keep: u64) -> u64
 /// The slot of a play in which its picture of that number is used.
 fn due_slot(playback: &Playback, run: &Run, picture: u64) -> u64
     requires playback { IsPlayback playback.now }
-    requires picture { picture < 4194304 }
+    requires picture { picture < MAX_FILM_PICTURES }
     ensures { result ≡ due_slot (timing_of playback.now run.now) picture }
 {
     timing_of(playback, run).due_slot(picture)

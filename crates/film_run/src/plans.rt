@@ -27,9 +27,9 @@ pub struct Playback {
     pub picture_units: u32,
     /// The time of one slot, 1 to 360,000 units.
     pub slot_units: u32,
-    /// The bytes that the client's buffer holds, 1 to 2^42.
+    /// The bytes that the client's buffer holds, 1 to 2^42 ([`vod_base::MAX_BYTES`]).
     pub buffer: u64,
-    /// The slots before the first picture is used, at most 10,000.
+    /// The slots before the first picture is used, at most 10,000 ([`vod_base::MAX_DELAY`]).
     pub delay: u64,
 }
 

@@ -12,6 +12,7 @@ ghost use Rattle.film_run.specs.Seeks.{IsGroupFrom, IsPlaceAfter, IsReversed, St
 use crate::runs::{Run, new_run};
 use mpeg_scan::laws::{law_film_is_well_formed, law_units_tile_the_film};
 use mpeg_scan::{Film, Unit};
+use vod_base::MAX_FILM_PICTURES;
 
 /// This many nanoseconds are as long as [`UNITS`] units of 1/360,000 second.
 const NANOSECONDS: u128 = 25_000;
@@ -114,7 +115,7 @@ fn end_place(units: usize, first: usize, time: u64, picture_units: u64) -> usize
 /// The last group that begins at or before a time in nanoseconds. None exactly where the units have
 /// ended then.
 fn last_group_by(units: &[Unit], picture_units: u64, time: u128) -> Option<usize>
-    requires few { length units.now ≤ 4194304 }
+    requires few { length units.now ≤ MAX_FILM_PICTURES }
     requires some { 1 ≤ picture_units }
     requires fits { picture_units ≤ 360000 }
     requires first { StartsGroup units.now 0 }
@@ -134,7 +135,7 @@ fn last_group_by(units: &[Unit], picture_units: u64, time: u128) -> Option<usize
 
 /// The first group after a unit that begins at or after a time in nanoseconds, or the units' end.
 fn group_from(units: &[Unit], picture_units: u64, time: u128, after: usize) -> usize
-    requires few { length units.now ≤ 4194304 }
+    requires few { length units.now ≤ MAX_FILM_PICTURES }
     requires some { 1 ≤ picture_units }
     requires fits { picture_units ≤ 360000 }
     requires after { after < length units.now }
@@ -148,7 +149,7 @@ fn group_from(units: &[Unit], picture_units: u64, time: u128, after: usize) -> u
 /// The unit at which a run ends that begins with a unit, and is to end by a time in nanoseconds or
 /// with the units.
 fn end_of(units: &[Unit], picture_units: u64, time: Option<u128>, first: usize) -> usize
-    requires few { length units.now ≤ 4194304 }
+    requires few { length units.now ≤ MAX_FILM_PICTURES }
     requires some { 1 ≤ picture_units }
     requires fits { picture_units ≤ 360000 }
     requires first { first < length units.now }

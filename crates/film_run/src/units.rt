@@ -1,22 +1,23 @@
 //! What is sent unit by unit: films and traces.
 
-ghost use Rattle.std.specs.Prelude.{◌≡◌, ◌^◌, ◌<◌, ◌≤◌, ℕ, List, length, sum, slice_index};
+ghost use Rattle.std.specs.Prelude.{◌≡◌, ◌<◌, ◌≤◌, ℕ, List, length, sum, slice_index};
 
 use film_frames::Stored;
 use film_frames::laws::law_wire_size_of_film_is_bounded;
 use mpeg_scan::laws::law_film_is_well_formed;
 use std::marker::Model;
+use vod_base::{MAX_BYTES, MAX_FILM_PICTURES};
 
 /// Units that are sent one after another, by the bytes that each has on the wire.
 pub trait Units {
     ghost sizes: { Self → List ℕ };
 
-    /// Returns the number of the units, at most 4,194,304. All together they have at most 2^42
-    /// bytes on the wire.
+    /// Returns the number of the units, at most [`MAX_FILM_PICTURES`]. All together they have at
+    /// most [`MAX_BYTES`] on the wire.
     fn count(&self) -> usize
         ensures count { result ≡ length (sizes self.now) }
-        ensures few { length (sizes self.now) ≤ 4194304 }
-        ensures small { sum (sizes self.now) ≤ 2 ^ 42 };
+        ensures few { length (sizes self.now) ≤ MAX_FILM_PICTURES }
+        ensures small { sum (sizes self.now) ≤ MAX_BYTES };
 
     /// Returns the bytes of a unit on the wire.
     fn wire_size(&self, unit: usize) -> u64
@@ -62,7 +63,8 @@ impl<'a> Model for Trace<'a> {
 impl<'a> Trace<'a> {
     ghost use Rattle.film_run.specs.Units.{AreUnitSizes};
 
-    /// Makes the trace of these sizes: at most 4,194,304, which add up to at most 2^42.
+    /// Makes the trace of these sizes: at most 4,194,304, which add up to at most 2^42
+    /// ([`MAX_FILM_PICTURES`], [`MAX_BYTES`]).
     pub fn new(sizes: &'a [u64]) -> Trace<'a>
         requires { AreUnitSizes sizes.now }
         ensures { result ≡ sizes.now }

@@ -16,7 +16,7 @@ use Rattle.admission.specs.declared.entries.Entry.{Entry}
 use Rattle.cli_args.specs.Invocations.{ScriptRun}
 use Rattle.inputs.proofs.VideoLemmas.{held_once}
 use Rattle.day_run.specs.ClientStates.{MediaContent, source_content, trace_content}
-use Rattle.day_run.specs.Days.{IsDay, Link, link_of}
+use Rattle.day_run.specs.Days.{IsDay, SharedLink, link_of}
 use Rattle.day_script.specs.ScriptReading.{Name, name_of, names_of}
 use Rattle.day_run.specs.MediaPieces.{no_identity}
 use Rattle.day_script.specs.Scripts.{AreLines}
@@ -127,8 +127,8 @@ reels_once {held} {name} {a} {b} {sources} {others} slot p q are others_are =
 day_once : {held : List File} {run : ScriptRun} {text text' : List ℕ} {journal journal' : List Entry} →
     IsScriptDay held run text journal → IsScriptDay held run text' journal' → (text ≡ text') × (journal ≡ journal')
 day_once {held} {run} {text'} {journal'} p q =
-    let link : Link = link_of run.capacity run.journal run.slot p.sources in
-    let other : Link = link_of run.capacity run.journal run.slot q.sources in
+    let link : SharedLink = link_of run.capacity run.journal run.slot p.sources in
+    let other : SharedLink = link_of run.capacity run.journal run.slot q.sources in
     let lines : q.script.lines.items ≡ p.script.lines.items =
     lines_once held run.script q.script p.script q.read p.read in
     let links : other ≡ link =
@@ -141,7 +141,7 @@ day_once {held} {run} {text'} {journal'} p q =
     one-day {link = link} p.link p.clients
     (subst (λ (n : ℕ). AreLines n p.script.lines.items) (sym (length-map p.sources (source_content run.slot))) p.lines)
     p.day
-    (subst (λ (l : Link). IsDay l p.script.lines.items text' journal') links
+    (subst (λ (l : SharedLink). IsDay l p.script.lines.items text' journal') links
     (subst (λ (ls : List Line). IsDay other ls text' journal') lines q.day))
 
 pub has_one_day : DayIsUnique

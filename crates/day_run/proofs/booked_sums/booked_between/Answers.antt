@@ -1,4 +1,4 @@
-use Rattle.std.proofs.Common.{◌≡◌, ◌≤◌, ◌+◌, ◌^◌, ◌-◌, ◌∙◌, ℕ, map, max, ap, sym, inl, inr, arith}
+use Rattle.std.proofs.Common.{◌≡◌, ◌≤◌, ◌+◌, ◌-◌, ◌∙◌, ℕ, map, max, ap, sym, inl, inr, arith}
 use Rattle.std.specs.Prelude.{sum_by}
 use Rattle.std.specs.List.{fold, range_with_len}
 use Rattle.std.proofs.lemmas.Bool.{cases_lt}
@@ -6,6 +6,7 @@ use Rattle.slot_calendar.specs.Calendars.{booked_at}
 use Rattle.admission.specs.Histories.{state_after}
 use Rattle.admission.specs.Machine.{booked_in}
 use Rattle.slot_calendar.proofs.CapacitySteps.{capacity-most}
+use Rattle.vod_base.specs.declared.limits.TheConstants.{MAX_BYTES}
 use Rattle.day_run.proofs.PeakLemmas.{max-by-order, peak-next, peak-past}
 use Rattle.day_run.proofs.SlotSums.{booked-fits, booked-more, booked-next, sum-past}
 use Rattle.day_run.proofs.booked_sums.booked_between.Goals as goal
@@ -13,7 +14,7 @@ use Rattle.day_run.proofs.booked_sums.booked_between.Goals as goal
 pub overflow_add-booked : goal.overflow_add-booked
 overflow_add-booked c =
     let calendar = c.calendar-calendar.result.now in
-    let small : c.booked-here.result ≤ 2 ^ 42 =
+    let small : c.booked-here.result ≤ MAX_BYTES =
     omega (
       arith,
       c.booked-here.ensures.within,
@@ -34,7 +35,7 @@ overflow_add-booked c =
 pub loop-slot-preserved : goal.loop-slot-preserved
 loop-slot-preserved c =
     let calendar = c.calendar-calendar.result.now in
-    let small : c.booked-here.result ≤ 2 ^ 42 =
+    let small : c.booked-here.result ≤ MAX_BYTES =
     omega (
       arith,
       c.booked-here.ensures.within,

@@ -1,5 +1,7 @@
 use Rattle.std.proofs.Common.{◌≡◌, ◌++◌, ℕ, List, map, ap, ◌∙◌}
 use Rattle.film_make.specs.Generator.{words_of}
+use Rattle.admission.specs.declared.book.TheConstants.{MAX_ENTRIES}
+use Rattle.day_run.specs.declared.fairs.TheConstants.{SLOT_UNITS}
 use Rattle.day_run.specs.FairDays.{after_traces, entry_counts_of, fair_link, traces_drawn}
 use Rattle.day_run.specs.FairProgress.{sizes_in}
 use Rattle.day_script.specs.LineTexts.{fair_text}
@@ -11,15 +13,15 @@ use Rattle.day_run.proofs.fairs.fair.Goals as goal
 
 pub returns-clause-fair : goal.returns-clause-fair
 returns-clause-fair c =
-    let contents : map (media_content 14400) c.deref-2.result.now
-    ≡ map (trace_content 14400) (traces_drawn 16 (words_of c.args.seed)) =
-    ap (map (media_content 14400)) c.deref-2.ensures.value ∙ c.in_ok-media.ensures.contents
-    ∙ ap (map (trace_content 14400))
+    let contents : map (media_content SLOT_UNITS) c.deref-2.result.now
+    ≡ map (trace_content SLOT_UNITS) (traces_drawn 16 (words_of c.args.seed)) =
+    ap (map (media_content SLOT_UNITS)) c.deref-2.ensures.value ∙ c.in_ok-media.ensures.contents
+    ∙ ap (map (trace_content SLOT_UNITS))
     (ap sizes_in c.deref.ensures.value ∙ c.in_ok-traces.ensures.sizes ∙ ap (traces_drawn 16) c.new-draws.ensures) in
     let link : link_on c.in_ok-machine.machine ≡ fair_link c.args.profile (words_of c.args.seed) =
     c.in_ok-machine.ensures.link
     ∙ ap (λ (t : List MediaContent).
-    record { steps = c.args.profile; limit = 1048576; slot_units = 14400; media = t }) contents in
+    record { steps = c.args.profile; limit = MAX_ENTRIES; slot_units = SLOT_UNITS; media = t }) contents in
     fair-of
     link
     (c.in_ok-traces.ensures.left ∙ ap (after_traces 16) c.new-draws.ensures) c.in_ok-counts.ensures.come

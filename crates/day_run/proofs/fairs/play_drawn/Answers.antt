@@ -1,5 +1,6 @@
 use Rattle.std.proofs.Common.{◌+◌, ◌%◌, ap, ◌∙◌}
 use Rattle.film_make.specs.Generator.{words_left}
+use Rattle.day_run.specs.declared.fairs.TheConstants.{BUFFER_SIZES, LEAST_BUFFER}
 use Rattle.day_run.specs.MachineState.{link_on, day_state_of}
 use Rattle.day_run.proofs.FairBalance.{play-drawn, ok-of, second-word, third-word, three-left}
 use Rattle.day_run.proofs.fairs.play_drawn.Goals as goal
@@ -18,8 +19,8 @@ returns-clause-line c =
     }) (record {
       sources_are = c.draw-source.ensures.value;
       buffers_are =
-          ap (λ n. 16384 + n) (c.from-buffer.ensures ∙ c.draw.ensures.value
-          ∙ ap (λ n. n % 16384) (second-word w _ one));
+          ap (λ n. LEAST_BUFFER + n) (c.from-buffer.ensures ∙ c.draw.ensures.value
+          ∙ ap (λ n. n % BUFFER_SIZES) (second-word w _ one));
       delays_are = c.from-delay.ensures ∙ c.draw-2.ensures.value ∙ ap (λ n. n % 26) (third-word w _ _ one two);
     }) c.play.ensures.line
 

@@ -1,6 +1,6 @@
 use Rattle.std.proofs.Common.{◌<◌, refl, ◌∙◌, arith}
 use Rattle.film_make.specs.Generator.{words_left}
-use Rattle.day_run.specs.FairDays.{Turn}
+use Rattle.day_run.specs.FairDays.{FairTurn}
 use Rattle.day_run.specs.FairProgress.{said_text}
 use Rattle.day_run.specs.MachineState.{link_on, day_state_of}
 use Rattle.day_run.proofs.FairBalance.{done-ready, turn-of}
@@ -22,7 +22,7 @@ pub returns-clause-turned : goal.returns-clause-turned
 returns-clause-turned c =
     let mid = c.advance.new.machine in
     let new = c.turn_client.new.machine in
-    let turn : Turn =
+    let turn : FairTurn =
     record {
       old = day_state_of c.args.machine.now;
       mid = day_state_of mid;

@@ -1,7 +1,7 @@
 use Rattle.std.proofs.Common.{◌≡◌, List, map, ap, subst, ◌∙◌}
 use Rattle.day_run.specs.declared.media.Media.{Media}
 use Rattle.day_script.specs.declared.scripts.Line.{Line}
-use Rattle.day_run.specs.Days.{Link, link_of}
+use Rattle.day_run.specs.Days.{SharedLink, link_of}
 use Rattle.day_run.specs.MachineState.{HasRun, link_on, day_state_of}
 use Rattle.day_run.specs.ClientStates.{MediaContent}
 use Rattle.day_run.specs.MediaContents.{media_content}
@@ -16,7 +16,7 @@ returns-clause-day c =
     let here = link_on c.in_ok-machine.machine in
     let m = day_state_of c.run_lines.new.machine in
     let text = c.run_lines.new.text.items in
-    let on : List MediaContent → Link =
+    let on : List MediaContent → SharedLink =
     λ ts. record { steps = c.args.profile; limit = c.args.limit; slot_units = units; media = ts } in
     let R : List Line → Type 0 = λ l. HasRun here l text m in
     let same : here ≡ link =

@@ -1,4 +1,4 @@
-use Rattle.std.proofs.Common.{◌≡◌, ◌<◌, ◌^◌, ◌++◌, ◌∷◌, [], ℕ, List, min, length, map, set, ap}
+use Rattle.std.proofs.Common.{◌≡◌, ◌<◌, ◌++◌, ◌∷◌, [], ℕ, List, min, length, map, set, ap}
 use Rattle.std.proofs.Common.{refl, sym, subst, inl, inr, ◌∙◌, arith}
 use Rattle.plan_cert.specs.PlanSlots.{total_bytes}
 use Rattle.admission.specs.declared.entries.Command.TheVariants.{Play}
@@ -6,6 +6,7 @@ use Rattle.admission.specs.declared.entries.Entry.{Entry}
 use Rattle.admission.specs.Books.{Journal}
 use Rattle.admission.specs.Histories.{state_after}
 use Rattle.admission.specs.Machine.{CanHalt}
+use Rattle.vod_base.specs.declared.links.TheConstants.{LATEST_SLOT}
 use Rattle.day_run.specs.declared.clients.Client.TheVariants.{Playing}
 use Rattle.day_run.specs.Clients.{rest_of, state_of}
 use Rattle.day_run.specs.Days.{DayState}
@@ -20,7 +21,7 @@ returns-in-Some-clause-machine c =
     let day = c.requires.machine in
     let noted = c.in-Ok.ensures.noted in
     let play = c.begin_play-play.result in
-    let slot = min old.heard (2 ^ 62) in
+    let slot = min old.heard LATEST_SLOT in
     let late : slot ≡ old.heard = omega (arith, day.heard_fits) in
     let e : Entry = record { maker = c.from.result; command = Play slot c.args.plan; answer = c.in-Ok.noted.answer } in
     let y : c.play.new.self.entries ≡ old.book.entries ++ e ∷ [] = ap (λ (j : Journal). j.entries) noted.journal_is in
@@ -56,7 +57,7 @@ returns-in-Some-clause-planned c =
     let day = c.requires.machine in
     let made = c.in-Ok.ensures.noted in
     let play = c.begin_play-play.result in
-    let slot = min old.heard (2 ^ 62) in
+    let slot = min old.heard LATEST_SLOT in
     let late : slot ≡ old.heard = omega (arith, day.heard_fits) in
     let new : DayState = record {
       entries = c.play.new.self.entries;
@@ -91,7 +92,7 @@ returns-in_default c =
     let old = c.args.self.now in
     let day = c.requires.machine in
     let made = c.in-Ok.ensures.noted in
-    let slot = min old.heard (2 ^ 62) in
+    let slot = min old.heard LATEST_SLOT in
     let late : slot ≡ old.heard = omega (arith, day.heard_fits) in
     let e : Entry = record { maker = c.from.result; command = Play slot c.args.plan; answer = c.in-Ok.noted.answer } in
     let y : c.play.new.self.entries ≡ old.book.entries ++ e ∷ [] = ap (λ (j : Journal). j.entries) made.journal_is in

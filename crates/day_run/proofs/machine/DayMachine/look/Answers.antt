@@ -1,7 +1,8 @@
-use Rattle.std.proofs.Common.{◌^◌, min, ap, refl, inl, inr, arith}
+use Rattle.std.proofs.Common.{min, ap, refl, inl, inr, arith}
 use Rattle.admission.specs.declared.entries.Command.TheVariants.{Look}
 use Rattle.admission.specs.declared.entries.Entry.{Entry}
 use Rattle.admission.specs.Books.{Journal}
+use Rattle.vod_base.specs.declared.links.TheConstants.{LATEST_SLOT}
 use Rattle.day_run.specs.MachineState.{day_state_of}
 use Rattle.day_run.proofs.JournalStepLemmas.{day-noted, looked-now}
 use Rattle.day_run.proofs.LineStepLemmas.{noted, told-full}
@@ -11,8 +12,8 @@ pub returns-in-Ok-clause-machine : goal.returns-in-Ok-clause-machine
 returns-in-Ok-clause-machine c =
     let old = c.args.self.now in
     let noted = c.in-Ok.ensures.noted in
-    let e : Entry = record { maker = 0; command = Look (min c.args.slot (2 ^ 62)); answer = c.in-Ok.noted.answer } in
-    let now = looked-now old.book.entries e (min c.args.slot (2 ^ 62)) refl in
+    let e : Entry = record { maker = 0; command = Look (min c.args.slot LATEST_SLOT); answer = c.in-Ok.noted.answer } in
+    let now = looked-now old.book.entries e (min c.args.slot LATEST_SLOT) refl in
     day-noted e c.requires.machine
     (ap (λ (j : Journal). j.entries) noted.journal_is) (λ number halts. halts)
     (omega (arith, now, c.requires.machine.now_heard))
@@ -21,7 +22,7 @@ pub returns-in-Ok-clause-line : goal.returns-in-Ok-clause-line
 returns-in-Ok-clause-line c =
     let old = c.args.self.now in
     let made = c.in-Ok.ensures.noted in
-    let e : Entry = record { maker = 0; command = Look (min c.args.slot (2 ^ 62)); answer = c.in-Ok.noted.answer } in
+    let e : Entry = record { maker = 0; command = Look (min c.args.slot LATEST_SLOT); answer = c.in-Ok.noted.answer } in
     inr (record {
       room = c.in-Ok.ensures.room;
       answer = c.in-Ok.noted.answer;
