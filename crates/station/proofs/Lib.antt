@@ -7,3 +7,4 @@ mod SeatJoins
 pub mod SameSeats
 pub mod LongerJournals
 mod Offers
+mod BookAnswers

@@ -1,8 +1,9 @@
 //! What a station answers.
 
-ghost use Rattle.std.specs.Prelude.{◌≡◌};
+ghost use Rattle.std.specs.Prelude.{◌≡◌, ℕ, IfSome, IsSome};
+ghost use Rattle.admission.specs.declared.entries.Answer.{Answer};
 
-use admission::PlayFull;
+use admission::{Answer, Noted, PlayFull};
 use plan_cert::Plan;
 use std::marker::Model;
 use thiserror::Error;
@@ -26,6 +27,21 @@ impl Model for Booking {
 }
 
 impl Booking {
+    /// The booking of an entry that admitted a play.
+    pub(crate) fn of(noted: Noted) -> Option<Booking>
+        ensures value { IfSome result (λ booking. (booking.number ≡ noted.place)
+            × (noted.answer ≡ Answer.Admitted booking.start)) }
+        ensures some { (start : ℕ) → noted.answer ≡ Answer.Admitted start → IsSome result }
+    {
+        match noted.answer {
+            Answer::Admitted { start } => Some(Booking {
+                number: noted.place,
+                start,
+            }),
+            _ => None,
+        }
+    }
+
     /// Returns the play's number: the place of its entry in the journal, from 0 on.
     pub fn number(&self) -> u64
         ensures { result ≡ self.now.number }
@@ -96,6 +112,26 @@ pub struct Looked {
     pub at: u64,
     /// The bytes that are booked in it.
     pub booked: u64,
+}
+
+impl Looked {
+    /// What the entry of a look says.
+    pub(crate) fn of(noted: Noted) -> Option<Looked>
+        ensures value { IfSome result (λ looked. (looked.place ≡ noted.place)
+            × (noted.answer ≡ Answer.Looked looked.now looked.at looked.booked)) }
+        ensures some { (now at booked : ℕ) → noted.answer ≡ Answer.Looked now at booked →
+            IsSome result }
+    {
+        match noted.answer {
+            Answer::Looked { now, at, booked } => Some(Looked {
+                place: noted.place,
+                now,
+                at,
+                booked,
+            }),
+            _ => None,
+        }
+    }
 }
 
 /// When an offer was made.

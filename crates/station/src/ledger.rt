@@ -88,10 +88,6 @@ impl Ledger {
     {
         let noted = self.note_play(maker, heard, plan)?;
         match noted.answer {
-            Answer::Admitted { start } => Ok(Booking {
-                number: noted.place,
-                start,
-            }),
             Answer::Overflow {
                 slot,
                 booked,
@@ -102,8 +98,8 @@ impl Ledger {
                 booked,
                 asked,
             }),
-            // A play is answered by one of these two alone.
-            _ => unreachable!(),
+            // The only other answer to a play is that it is admitted.
+            _ => Ok(Booking::of(noted).unwrap()),
         }
     }
 
@@ -129,16 +125,8 @@ impl Ledger {
             IsFullFor self.old self.new 1 full.entries full.live) }
     {
         let noted = self.book.look(maker, slot)?;
-        // A look that has room has this answer alone.
-        let Answer::Looked { now, at, booked } = noted.answer else {
-            unreachable!()
-        };
-        Ok(Looked {
-            place: noted.place,
-            now,
-            at,
-            booked,
-        })
+        // An entry of a look has the answer to a look alone.
+        Ok(Looked::of(noted).unwrap())
     }
 
     /// Finds the earliest start of a plan within a wait. It makes no entry.
