@@ -29,10 +29,10 @@ use Rattle.session.specs.declared.refusals.Task.TheVariants.{Setup as ToSetup, P
 use Rattle.session.specs.declared.refusals.Task.TheVariants.{Pause as ToPause}
 use Rattle.session.specs.declared.refusals.Task.TheVariants.{Teardown as ToTeardown}
 use Rattle.session.specs.declared.refusals.Task.TheVariants.{GetParameter as ToGetParameter}
-use Rattle.session.specs.declared.states.Setup.{Setup}
+use Rattle.film_streams.specs.declared.setups.Setup.{Setup}
 use Rattle.session.specs.declared.states.State.{State}
 use Rattle.session.specs.declared.states.State.TheVariants.{Init, Ready, Playing, Stopping}
-use Rattle.session.specs.Films.{Names}
+use Rattle.film_streams.specs.Films.{Names}
 use Rattle.session_laws.specs.MethodLaws.{NamesNoOwnFilm, NamesNoSession, NamesSession, setup_in}
 use Rattle.session.specs.Methods.{AsksOfferOr, AsksPlayOr, Gets, GetsOffer, IsRefused, IsSetUp, Looks, Pauses}
 use Rattle.session.specs.Methods.{PlayCall, Plays, Takes, TearsDown}

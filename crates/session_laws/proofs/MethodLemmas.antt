@@ -22,7 +22,7 @@ use Rattle.rtsp_replies.specs.declared.methods.Topic.{Topic}
 use Rattle.rtsp_replies.specs.declared.methods.Topic.TheVariants.{Nothing, Booked, Offer as OfferTopic}
 use Rattle.rtsp_replies.specs.declared.methods.Topic.TheVariants.{Unknown as OtherTopic}
 use Rattle.session.specs.declared.plans.Planned.{Planned}
-use Rattle.session.specs.declared.refusals.Asked.{Asked}
+use Rattle.film_streams.specs.declared.films.Asked.{Asked}
 use Rattle.rtsp_replies.specs.declared.refusals.Refusal.{Refusal}
 use Rattle.rtsp_replies.specs.declared.refusals.Refusal.TheVariants.{BadRequest, Version}
 use Rattle.rtsp_replies.specs.declared.refusals.Refusal.TheVariants.{Method as Unknown}
@@ -38,11 +38,12 @@ use Rattle.session.specs.declared.refusals.Task.TheVariants.{Teardown as ToTeard
 use Rattle.session.specs.declared.refusals.Task.TheVariants.{GetParameter as ToGetParameter}
 use Rattle.session.specs.declared.states.Awaited.TheVariants.{Play as ToAwaitPlay}
 use Rattle.session.specs.declared.states.Play.{Play as Played}
-use Rattle.session.specs.declared.states.Setup.{Setup}
+use Rattle.film_streams.specs.declared.setups.Setup.{Setup}
 use Rattle.session.specs.declared.states.State.{State}
 use Rattle.session.specs.declared.states.State.TheVariants.{Init, Ready, Playing, Stopping}
 use Rattle.session_laws.specs.EndLaws.{HasSessionInReply}
-use Rattle.session.specs.Films.{Names, identity_of}
+use Rattle.film_streams.specs.Films.{Names}
+use Rattle.film_streams.specs.StreamNumbers.{identity_of}
 use Rattle.session_laws.specs.MethodLaws.{AnswersAlone, GivesChannels, GivesNumber, HasBadNumber}
 use Rattle.session_laws.specs.MethodLaws.{IsDescribeRequest, IsFilmDescribed, IsFilmMethod, IsLookAsked}
 use Rattle.session_laws.specs.MethodLaws.{IsOfferAskedOf, IsOptionsAnswered, IsParameterRequest, IsPlainMessage}
@@ -67,8 +68,9 @@ use Rattle.rtsp_replies.specs.Replies.{session_text}
 use Rattle.session.specs.RequestedPlans.{HasNoPlan, IsPlanned, IsPlannedRun}
 use Rattle.session.specs.RequestSteps.{Hears}
 use Rattle.rtsp_replies.specs.Refusals.{curve_refusal}
-use Rattle.session.specs.SettingRanges.{AreFilms}
-use Rattle.session.specs.Setups.{AreChannelsOf, HasChannels, IsChosen, IsSetupRead}
+use Rattle.film_streams.specs.SettingRanges.{AreFilms}
+use Rattle.session.specs.Setups.{IsSetupRead}
+use Rattle.film_streams.specs.Setups.{AreChannelsOf, HasChannels, IsChosen}
 use Rattle.session.specs.SessionStates.{SessionState, has_session_in, with_reply}
 use Rattle.session.proofs.InitialStateLemmas.{HeardMessage}
 use Rattle.session_laws.proofs.OfferLemmas.{least_told, offer_asked}

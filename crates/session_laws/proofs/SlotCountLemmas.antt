@@ -9,7 +9,7 @@ use Rattle.wire_curve.proofs.PictureSums.{sum_by-range_more}
 use Rattle.session.specs.declared.states.Awaited.TheVariants.{Halt}
 use Rattle.session.specs.declared.states.AfterHalt.TheVariants.{Done}
 use Rattle.session.specs.declared.states.Play.{Play as Played}
-use Rattle.session.specs.declared.states.Setup.{Setup}
+use Rattle.film_streams.specs.declared.setups.Setup.{Setup}
 use Rattle.session.specs.declared.states.State.TheVariants.{Playing}
 use Rattle.session_laws.specs.PlayLaws.{slots_missed}
 use Rattle.session.specs.SlotSteps.{after_play, finished_in, is_between, is_sending, is_taken}
