@@ -14,6 +14,7 @@ use Rattle.std.proofs.lemmas.List.{length-drop, length-take}
 use Rattle.std.proofs.lemmas.List.Elements.{All-get_or}
 use Rattle.std.proofs.lemmas.List.Sums.{sum_by-take-drop, sum_by-take-le}
 use Rattle.std.proofs.lemmas.Option.{get_or_from_slice_get, same_Some, slice_get_within}
+use Rattle.vod_base.specs.declared.limits.TheConstants.{MAX_BYTES}
 use Rattle.vod_base.specs.Blanks.{without_blanks}
 use Rattle.vod_base.specs.Names.{good_name}
 use Rattle.vod_base.specs.Numbers.{is_decimal, number_of}
@@ -197,7 +198,7 @@ used_fits sizes timing t =
     (λ k l u. cond_le (eqb (due_slot timing k) t) (get_or sizes k 0)) in
     omega (arith, below, sum_by-range-all sizes)
 
-rest_fits : (stored : Stored) (run : Run) → sum (rest_sizes (stored_sizes stored) run) ≤ 2 ^ 42
+rest_fits : (stored : Stored) (run : Run) → sum (rest_sizes (stored_sizes stored) run) ≤ MAX_BYTES
 rest_fits stored run =
     let sizes = stored_sizes stored in
     omega (

@@ -1,7 +1,8 @@
 -- What each method does for a request that nothing refuses.
 use Rattle.std.specs.Prelude.{⊤}
-use Rattle.std.proofs.Common.{◌≡◌, ◌≢◌, ℕ, ◌^◌, ◌⊎◌, Bool, true, false, List, [], ◌∷◌, codes, string_bytes, Option, Some, None}
+use Rattle.std.proofs.Common.{◌≡◌, ◌≢◌, ℕ, ◌⊎◌, Bool, true, false, List, [], ◌∷◌, codes, string_bytes, Option, Some, None}
 use Rattle.std.proofs.Common.{is_some, Result, Ok, Err, refl, sym, ap, subst, ◌∙◌, inl, inr, arith}
+use Rattle.vod_base.specs.declared.limits.TheConstants.{MAX_BYTES, MAX_DELAY}
 use Rattle.vod_base.specs.Names.{good_name}
 use Rattle.wire_curve.specs.declared.film.CurveRefused.{CurveRefused}
 use Rattle.wire_curve.specs.declared.film.CurveRefused.TheVariants.{Fault, NoMemory as CurveMemory}
@@ -410,8 +411,8 @@ setup_answered h request film setup films is settles =
     settled_setup request up.other setup up.alike (setup_read request up.other (Ok setup) up.alike t (record {
       film_is = settles.film_is ∙ same.film_is;
       channels = has_channels settles.channels;
-      buffer = chosen h.old.settings.buffer 1 (2 ^ 42) setup.buffer (header_value request.head.now (codes "x-Buffer")) settles.buffer;
-      delay = chosen h.old.settings.startup 0 10000 setup.delay (header_value request.head.now (codes "x-Startup")) settles.delay;
+      buffer = chosen h.old.settings.buffer 1 MAX_BYTES setup.buffer (header_value request.head.now (codes "x-Buffer")) settles.buffer;
+      delay = chosen h.old.settings.startup 0 MAX_DELAY setup.delay (header_value request.head.now (codes "x-Startup")) settles.delay;
     }))
 
 pub setup_transport : (h : HeardMessage) (request : Request) (film : ℕ) → IsSetupRequest h.old h.message request film
@@ -432,8 +433,8 @@ setup_number h request film is bad =
     (setup_read request up.other (Err Parameter) up.alike t (record {
       channels = (bad.channels, has_channels bad.given);
       none = elim bad.bad [
-        | inl buffer ↦ inl (λ n has. buffer n (unchosen h.old.settings.buffer 1 (2 ^ 42) n (header_value request.head.now (codes "x-Buffer")) has))
-        | inr delay ↦ inr (λ n has. delay n (unchosen h.old.settings.startup 0 10000 n (header_value request.head.now (codes "x-Startup")) has))
+        | inl buffer ↦ inl (λ n has. buffer n (unchosen h.old.settings.buffer 1 MAX_BYTES n (header_value request.head.now (codes "x-Buffer")) has))
+        | inr delay ↦ inr (λ n has. delay n (unchosen h.old.settings.startup 0 MAX_DELAY n (header_value request.head.now (codes "x-Startup")) has))
       ];
     })))
 
