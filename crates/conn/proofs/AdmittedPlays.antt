@@ -7,7 +7,7 @@ use Rattle.admission.specs.Makers.{IsOpenAmong, PlacedEntry}
 use Rattle.plan_cert.specs.declared.Segment.{Segment}
 use Rattle.plan_cert.specs.PlanSlots.{total_bytes}
 use Rattle.session.specs.declared.commands.Ask.TheVariants.{Play as AskPlay}
-use Rattle.session.specs.declared.notes.Receipt.TheVariants.{Entry as EntryReceipt}
+use Rattle.session_records.specs.declared.notes.Receipt.TheVariants.{Entry as EntryReceipt}
 use Rattle.session.specs.RequestSteps.{after_admission}
 use Rattle.session.specs.SessionStates.{IsAnswerRecorded, OpenBooking, PlayAnswer, SessionState, awaited_answer}
 use Rattle.session.specs.SessionStates.{booking_of}

@@ -6,7 +6,7 @@ use Rattle.interleave.specs.Elements.{IsFirst}
 use Rattle.interleave.specs.declared.elements.Step.TheVariants.{Request}
 use Rattle.pacer.specs.PacerStates.{PacerState}
 use Rattle.session.specs.declared.states.Play.{Play as Played}
-use Rattle.session.specs.declared.states.Setup.{Setup}
+use Rattle.film_streams.specs.declared.setups.Setup.{Setup}
 use Rattle.session.specs.declared.states.State.TheVariants.{Playing}
 use Rattle.session.specs.SessionStates.{SessionState}
 use Rattle.conn.specs.Films.{HasSent}

@@ -4,7 +4,7 @@ use Rattle.std.specs.Prelude.{slice_get}
 use Rattle.std.proofs.lemmas.Option.{slice_get_cases}
 use borrow.Author.Count.{below_more}
 use Rattle.film_frames.specs.declared.stored_films.Stored.{Stored}
-use Rattle.session.specs.Films.{IsFilmAt, OfFilm}
+use Rattle.film_streams.specs.Films.{IsFilmAt, OfFilm}
 use Rattle.conn.specs.Plays.{IsShown}
 
 -- the first films are shown

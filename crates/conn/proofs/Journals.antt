@@ -13,7 +13,7 @@ use Rattle.admission.specs.declared.entries.Entry.{Entry}
 use Rattle.admission.specs.Histories.{booked_after, open_count, state_after}
 use Rattle.admission.specs.Machine.{start_after}
 use Rattle.admission.specs.Makers.{PlacedEntry, entries_by}
-use Rattle.session.specs.declared.notes.OfferNote.{OfferNote}
+use Rattle.session_records.specs.declared.notes.OfferNote.{OfferNote}
 use Rattle.station.specs.Answers.{IsFull, HasMadeEntry}
 use Rattle.station.specs.Ledgers.{IsOffered}
 use Rattle.station.specs.declared.answers.Offered.{Offered as Told}

@@ -6,7 +6,7 @@ use Rattle.vod_base.specs.Gates.{Content, ReturnedConn, LastTake, after_empty_ta
 use Rattle.vod_base.specs.Links.{IoEvent, told_more}
 use Rattle.vod_base.specs.IoState.{HasRisen}
 use Rattle.film_frames.specs.declared.stored_films.Stored.{Stored}
-use Rattle.session.specs.declared.settings.Settings.{Settings}
+use Rattle.film_streams.specs.declared.settings.Settings.{Settings}
 use Rattle.session.specs.RequestSteps.{new_session_state}
 use Rattle.session.specs.SessionStates.{SessionState}
 use Rattle.station.specs.Seats.{SeatState}

@@ -11,14 +11,14 @@ use Rattle.film_run.specs.Units.{stored_sizes}
 use Rattle.plan_cert.specs.Plan.{IsPlan}
 use Rattle.vod_base.specs.Links.{IoEvent, HeardBytes, HeardEnd, HeardSlot, Sent}
 use Rattle.pacer.specs.PacerStates.{first_slots}
-use Rattle.session.specs.declared.settings.Settings.{Settings}
+use Rattle.film_streams.specs.declared.settings.Settings.{Settings}
 use Rattle.session.specs.declared.states.Play.{Play as Played}
-use Rattle.session.specs.declared.states.Setup.{Setup}
+use Rattle.film_streams.specs.declared.setups.Setup.{Setup}
 use Rattle.session.specs.declared.states.State.{State}
 use Rattle.session.specs.declared.states.State.TheVariants.{Init, Playing, Ready, Stopping}
 use Rattle.session.specs.declared.states.Stop.{Stop}
 use Rattle.session.specs.RequestSteps.{new_session_state}
-use Rattle.session.specs.SettingRanges.{AreSettings}
+use Rattle.film_streams.specs.SettingRanges.{AreSettings}
 use Rattle.session.specs.SlotSteps.{after_play, is_between, is_sending, is_taken, sent_due}
 use Rattle.session.specs.SlotSteps.{sent_slot, after_slot, stepped_in}
 use Rattle.session.specs.SessionStates.{SessionState, last_heard_slot}

@@ -13,7 +13,7 @@ use Rattle.session.specs.declared.commands.Ask.TheVariants.{Offer as AskOffer}
 use Rattle.session.specs.declared.states.Awaited.{Awaited}
 use Rattle.pacer.specs.PacerStates.{PacerState, plan_bytes, at_slot, stands_at_boundary, step_end, after_step}
 use Rattle.session.specs.declared.states.Play.{Play as Played}
-use Rattle.session.specs.declared.states.Setup.{Setup}
+use Rattle.film_streams.specs.declared.setups.Setup.{Setup}
 use Rattle.session.specs.declared.states.State.{State}
 use Rattle.session.specs.declared.states.State.TheVariants.{Playing}
 use Rattle.session.specs.SlotSteps.{admitted_in, can_reply, due_state, after_play, is_between}

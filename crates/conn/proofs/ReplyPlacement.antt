@@ -10,7 +10,7 @@ use Rattle.pacer.proofs.PacerStateLemmas.{boundary-from}
 use Rattle.pacer.proofs.SendLemmas.{between-length}
 use Rattle.vod_base.specs.Links.{IoEvent, HeardBytes, HeardEnd, HeardSlot, Sent}
 use Rattle.session.specs.declared.states.Play.{Play as Played}
-use Rattle.session.specs.declared.states.Setup.{Setup}
+use Rattle.film_streams.specs.declared.setups.Setup.{Setup}
 use Rattle.session.specs.declared.states.State.{State}
 use Rattle.session.specs.declared.states.State.TheVariants.{Playing}
 use Rattle.session.specs.SlotSteps.{can_reply, is_between, is_sending, is_taken, step_bytes}

@@ -11,28 +11,29 @@ use Rattle.session.specs.declared.commands.Ask.{Ask}
 use Rattle.session.specs.declared.commands.Ask.TheVariants.{Reply as AskReply, Play as AskPlay}
 use Rattle.session.specs.declared.commands.Ask.TheVariants.{Halt as AskHalt, Look as AskLook}
 use Rattle.session.specs.declared.commands.Ask.TheVariants.{Offer as AskOffer}
-use Rattle.session.specs.declared.notes.PlayNote.{PlayNote}
-use Rattle.session.specs.declared.settings.Settings.{Settings}
+use Rattle.session_records.specs.declared.notes.PlayNote.{PlayNote}
+use Rattle.film_streams.specs.declared.settings.Settings.{Settings}
 use Rattle.session.specs.declared.states.Awaited.{Awaited}
 use Rattle.session.specs.declared.states.Awaited.TheVariants.{Play}
-use Rattle.session.specs.declared.states.Counts.{Counts}
+use Rattle.film_streams.specs.declared.stream_numbers.Counts.{Counts}
 use Rattle.session.specs.declared.states.AfterHalt.{AfterHalt}
 use Rattle.session.specs.declared.states.AfterHalt.TheVariants.{Done, Paused, Torn}
 use Rattle.session.specs.declared.states.Play.{Play as Played}
 use Rattle.session.specs.declared.states.Prepared.{Prepared}
-use Rattle.session.specs.declared.states.Setup.{Setup}
-use Rattle.session.specs.declared.states.StreamSource.{StreamSource}
+use Rattle.film_streams.specs.declared.setups.Setup.{Setup}
+use Rattle.film_streams.specs.declared.stream_numbers.StreamSource.{StreamSource}
 use Rattle.session.specs.declared.states.State.{State}
 use Rattle.session.specs.declared.states.State.TheVariants.{Init, Ready, Playing, Stopping}
 use Rattle.session.specs.declared.states.Stop.{Stop}
 use Rattle.session.specs.RequestEffects.{AwaitsNoStop, ChangesState, IsHaltAsked, IsPlayAsked, IsSameContext}
 use Rattle.session.specs.RequestEffects.{IsSetUpBy}
-use Rattle.session.specs.Films.{IsFilmAt, OfFilm, sending_of}
+use Rattle.session.specs.RunRequests.{sending_of}
+use Rattle.film_streams.specs.Films.{IsFilmAt, OfFilm}
 use Rattle.session.specs.RequestSteps.{Hears}
 use Rattle.session.specs.Laws.{AsksNoHalt}
 use Rattle.session.specs.Methods.{prepared_of}
 use Rattle.session.specs.RunRequests.{playback_of}
-use Rattle.session.specs.SettingRanges.{AreSettings, IsSetup}
+use Rattle.film_streams.specs.SettingRanges.{AreSettings, IsSetup}
 use Rattle.session.specs.SlotSteps.{kept_of, next_of, note_of}
 use Rattle.session.specs.SessionStates.{SessionState}
 use Rattle.session.proofs.RequestEffectLemmas.{hears_ground, hears_state, hears_unstopped}

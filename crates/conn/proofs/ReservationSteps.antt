@@ -10,9 +10,9 @@ use Rattle.admission.specs.declared.entries.Command.TheVariants.{Play, Halt, Loo
 use Rattle.admission.specs.declared.entries.Answer.TheVariants.{Admitted, Overflow, Halted, Looked}
 use Rattle.admission.specs.Histories.{Halts}
 use Rattle.admission.specs.Makers.{PlacedEntry, Admits, IsOpenAmong}
-use Rattle.session.specs.declared.notes.Receipt.{Receipt}
-use Rattle.session.specs.declared.notes.Receipt.TheVariants.{Entry as EntryReceipt}
-use Rattle.session.specs.declared.notes.Receipt.TheVariants.{Full as FullReceipt}
+use Rattle.session_records.specs.declared.notes.Receipt.{Receipt}
+use Rattle.session_records.specs.declared.notes.Receipt.TheVariants.{Entry as EntryReceipt}
+use Rattle.session_records.specs.declared.notes.Receipt.TheVariants.{Full as FullReceipt}
 use Rattle.plan_cert.specs.declared.Segment.{Segment}
 use Rattle.plan_cert.specs.PlanSlots.{total_bytes}
 use Rattle.session.specs.SessionStates.{OpenBooking, IsSameBooking}

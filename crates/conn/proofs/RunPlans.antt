@@ -6,12 +6,12 @@ use Rattle.film_run.specs.declared.runs.Run.{Run}
 use Rattle.film_run.specs.Laws.{IsSending}
 use Rattle.film_run.specs.Plans.{IsPlanOf, IsPlayback}
 use Rattle.film_run.specs.Units.{stored_sizes}
-use Rattle.session.specs.declared.settings.Settings.{Settings}
-use Rattle.session.specs.declared.states.Counts.{Counts}
-use Rattle.session.specs.declared.states.Setup.{Setup}
-use Rattle.session.specs.declared.states.StreamSource.{StreamSource}
+use Rattle.film_streams.specs.declared.settings.Settings.{Settings}
+use Rattle.film_streams.specs.declared.stream_numbers.Counts.{Counts}
+use Rattle.film_streams.specs.declared.setups.Setup.{Setup}
+use Rattle.film_streams.specs.declared.stream_numbers.StreamSource.{StreamSource}
 use Rattle.session.specs.RunRequests.{IsRunOf, playback_of}
-use Rattle.session.specs.SettingRanges.{AreSettings, IsSetup}
+use Rattle.film_streams.specs.SettingRanges.{AreSettings, IsSetup}
 use Rattle.conn.specs.Plays.{IsShown}
 
 playback_fits : {stored : Stored} {settings : Settings} {setup : Setup} {films : ℕ} → IsShown stored →

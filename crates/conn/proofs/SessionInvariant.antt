@@ -20,19 +20,20 @@ use Rattle.session.specs.declared.commands.Ask.TheVariants.{Halt as AskHalt, Loo
 use Rattle.session.specs.declared.commands.Ask.TheVariants.{Offer as AskOffer}
 use Rattle.session.specs.declared.states.Awaited.{Awaited}
 use Rattle.session.specs.declared.states.Awaited.TheVariants.{Halt}
-use Rattle.session.specs.declared.states.Counts.{Counts}
+use Rattle.film_streams.specs.declared.stream_numbers.Counts.{Counts}
 use Rattle.session.specs.declared.states.AfterHalt.{AfterHalt}
 use Rattle.session.specs.declared.states.AfterHalt.TheVariants.{Done, Paused, Torn}
 use Rattle.session.specs.declared.states.Play.{Play as Played}
-use Rattle.session.specs.declared.states.Setup.{Setup}
+use Rattle.film_streams.specs.declared.setups.Setup.{Setup}
 use Rattle.session.specs.declared.states.State.{State}
 use Rattle.session.specs.declared.states.State.TheVariants.{Init, Playing, Ready, Stopping}
 use Rattle.session.specs.declared.states.Stop.{Stop}
 use Rattle.session.specs.RequestEffects.{AwaitsNoStop, IsSameContext}
-use Rattle.session.specs.Films.{sending_of}
-use Rattle.session.specs.RequestSteps.{after_admission, counts_done, counts_next, counts_of, halted_counts}
+use Rattle.session.specs.RunRequests.{sending_of}
+use Rattle.session.specs.RequestSteps.{after_admission, counts_done, counts_next, counts_of}
+use Rattle.session.specs.RequestSteps.{halted_counts}
 use Rattle.session.specs.RunRequests.{playback_of}
-use Rattle.session.specs.SettingRanges.{AreSettings, IsSetup}
+use Rattle.film_streams.specs.SettingRanges.{AreSettings, IsSetup}
 use Rattle.session.specs.SlotSteps.{after_play, after_slot, can_reply, halted_in, halted_notes}
 use Rattle.session.specs.SlotSteps.{is_between, is_done_in, is_sending, is_taken, kept_of, next_of}
 use Rattle.session.specs.SlotSteps.{note_of, sent_due, sent_in, sent_reply, sent_slot}

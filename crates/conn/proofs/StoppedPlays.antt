@@ -7,11 +7,11 @@ use Rattle.film_run.proofs.PlanLemmas.{sending-best}
 use Rattle.film_run.specs.Units.{stored_sizes}
 use Rattle.pacer.specs.PacerStates.{PacerState, after_step, at_slot, first_slots, plan_bytes, stands_at_boundary}
 use Rattle.pacer.specs.PacerStates.{step_end}
-use Rattle.session.specs.declared.states.Setup.{Setup}
+use Rattle.film_streams.specs.declared.setups.Setup.{Setup}
 use Rattle.session.specs.declared.states.State.{State}
 use Rattle.session.specs.declared.states.State.TheVariants.{Ready, Stopping}
 use Rattle.session.specs.declared.states.Stop.{Stop}
-use Rattle.session.specs.SettingRanges.{IsSetup}
+use Rattle.film_streams.specs.SettingRanges.{IsSetup}
 use Rattle.session.specs.SlotSteps.{after_play, after_slot, is_between, is_sending, note_of, sent_due, sent_slot}
 use Rattle.session.specs.SlotSteps.{stepped_in}
 use Rattle.session.specs.SessionStates.{SessionState}

@@ -13,7 +13,7 @@ use Rattle.admission.specs.Histories.{IsLegal, booked_after, state_after}
 use Rattle.admission.specs.Machine.{start_after}
 use Rattle.slot_calendar.specs.Calendars.{IsFirstOverflow}
 use Rattle.slot_calendar.specs.Profiles.{capacity_at}
-use Rattle.session.specs.declared.settings.Settings.{Settings}
+use Rattle.film_streams.specs.declared.settings.Settings.{Settings}
 use Rattle.session.specs.RequestSteps.{new_session_state}
 use Rattle.session.specs.SessionStates.{SessionState}
 use Rattle.station.specs.Seats.{IsSameSeat, SeatState}

@@ -10,7 +10,7 @@ use Rattle.std.proofs.lemmas.Bool.{cases_lt}
 use Rattle.vod_base.specs.Gates.{Content, ReturnedConn, LastTake, HasConnOut, after_take, after_empty_take}
 use Rattle.vod_base.specs.Gates.{after_return}
 use Rattle.admission.specs.Makers.{PlacedEntry}
-use Rattle.session.specs.declared.notes.Receipt.{Receipt}
+use Rattle.session_records.specs.declared.notes.Receipt.{Receipt}
 use Rattle.station.specs.Bookings.{Booking}
 use Rattle.conn.specs.declared.reports.ConnReport.{ConnReport}
 use Rattle.conn.specs.ReservationInvariant.{HasAdvanced, Closed, at_rest, open_play_from, open_play_of, open_play_with}

@@ -6,7 +6,7 @@ use Rattle.vod_base.specs.IoState.{HasRisen}
 use Rattle.film_frames.specs.declared.stored_films.Stored.{Stored}
 use Rattle.admission.specs.declared.entries.Entry.{Entry}
 use Rattle.admission.specs.Histories.{IsLegal}
-use Rattle.session.specs.declared.settings.Settings.{Settings}
+use Rattle.film_streams.specs.declared.settings.Settings.{Settings}
 use Rattle.session.specs.RequestSteps.{new_session_state}
 use Rattle.session.specs.SessionStates.{SessionState, open_of}
 use Rattle.conn.specs.EventSteps.{Ending, Ends, Round, RunsAll, ending_doings, ending_events}

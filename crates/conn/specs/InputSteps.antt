@@ -13,7 +13,7 @@ use Rattle.session.specs.declared.commands.Ask.{Ask}
 use Rattle.session.specs.declared.commands.Ask.TheVariants.{Reply as AskReply, Play as AskPlay}
 use Rattle.session.specs.declared.commands.Ask.TheVariants.{Halt as AskHalt, Look as AskLook}
 use Rattle.session.specs.declared.commands.Ask.TheVariants.{Offer as AskOffer}
-use Rattle.session.specs.declared.notes.OfferNote.{OfferNote}
+use Rattle.session_records.specs.declared.notes.OfferNote.{OfferNote}
 use Rattle.session.specs.RequestSteps.{Halts, Hears, after_admission, after_full, after_look}
 use Rattle.session.specs.RequestSteps.{after_offer, after_overflow}
 use Rattle.session.specs.SlotSteps.{after_slot, can_reply, is_between, is_sending, is_taken}

@@ -10,7 +10,7 @@ use Rattle.admission.specs.Histories.{booked_after, open_count, state_after}
 use Rattle.admission.specs.Machine.{start_after}
 use Rattle.admission.specs.Makers.{PlacedEntry}
 use Rattle.early_start.specs.StartSearch.{IsOffer}
-use Rattle.session.specs.declared.notes.OfferNote.{OfferNote}
+use Rattle.session_records.specs.declared.notes.OfferNote.{OfferNote}
 use Rattle.station.specs.Seats.{SeatState}
 use Rattle.conn.specs.InputSteps.{Outcome, Unasked, Entered, WasFull, Offered}
 

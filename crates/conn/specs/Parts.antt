@@ -7,8 +7,8 @@ use Rattle.vod_base.specs.Gates.{Content, ReturnedConn, NoMore, Failed}
 use Rattle.vod_base.specs.Links.{IoEvent}
 use Rattle.admission.specs.Makers.{PlacedEntry}
 use Rattle.film_frames.specs.declared.stored_films.Stored.{Stored}
-use Rattle.session.specs.declared.notes.Receipt.{Receipt}
-use Rattle.session.specs.declared.settings.Settings.{Settings}
+use Rattle.session_records.specs.declared.notes.Receipt.{Receipt}
+use Rattle.film_streams.specs.declared.settings.Settings.{Settings}
 use Rattle.session.specs.RequestSteps.{new_session_state}
 use Rattle.station.specs.Seats.{SeatState, IsSameSeat}
 use Rattle.conn.specs.declared.reports.ConnReport.{ConnReport}

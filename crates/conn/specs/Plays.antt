@@ -13,13 +13,14 @@ use Rattle.film_run.specs.Plans.{IsBestPlanOf}
 use Rattle.film_run.specs.Units.{AreUnitSizes, stored_sizes}
 use Rattle.admission.specs.Histories.{is_admission}
 use Rattle.pacer.specs.PacerStates.{first_slots}
-use Rattle.session.specs.declared.notes.PlayNote.{PlayNote}
+use Rattle.session_records.specs.declared.notes.PlayNote.{PlayNote}
 use Rattle.session.specs.declared.states.Play.{Play as Played}
-use Rattle.session.specs.declared.states.Setup.{Setup}
+use Rattle.film_streams.specs.declared.setups.Setup.{Setup}
 use Rattle.session.specs.declared.states.State.{State}
 use Rattle.session.specs.declared.states.State.TheVariants.{Init, Playing, Ready, Stopping}
 use Rattle.session.specs.declared.states.Stop.{Stop}
-use Rattle.session.specs.Films.{IsFilmAt, sending_of}
+use Rattle.session.specs.RunRequests.{sending_of}
+use Rattle.film_streams.specs.Films.{IsFilmAt}
 use Rattle.session.specs.RunRequests.{playback_of}
 use Rattle.session.specs.SlotSteps.{is_sending, note_of}
 use Rattle.session.specs.SessionStates.{SessionState, last_heard_slot}

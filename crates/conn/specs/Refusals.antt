@@ -3,9 +3,9 @@ use Rattle.admission.specs.declared.entries.Answer.TheVariants.{Overflow}
 use Rattle.station.specs.declared.answers.PlayRefused.{PlayRefused}
 use Rattle.station.specs.declared.answers.PlayRefused.TheVariants.{JournalFull}
 use Rattle.station.specs.declared.answers.PlayRefused.TheVariants.{Overflow as PlayOverflow}
-use Rattle.session.specs.declared.notes.Receipt.{Receipt}
-use Rattle.session.specs.declared.notes.Receipt.TheVariants.{Entry as EntryReceipt}
-use Rattle.session.specs.declared.notes.Receipt.TheVariants.{Full as FullReceipt}
+use Rattle.session_records.specs.declared.notes.Receipt.{Receipt}
+use Rattle.session_records.specs.declared.notes.Receipt.TheVariants.{Entry as EntryReceipt}
+use Rattle.session_records.specs.declared.notes.Receipt.TheVariants.{Full as FullReceipt}
 use Rattle.session.specs.RequestSteps.{after_full, after_overflow}
 use Rattle.session.specs.SessionStates.{SessionState}
 

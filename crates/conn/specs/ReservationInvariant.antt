@@ -9,9 +9,9 @@ use Rattle.admission.specs.declared.entries.Command.TheVariants.{Play, Halt, Loo
 use Rattle.admission.specs.declared.entries.Answer.{Answer}
 use Rattle.admission.specs.declared.entries.Answer.TheVariants.{Admitted, Overflow, Halted, Looked}
 use Rattle.admission.specs.Makers.{PlacedEntry, IsOpenAmong}
-use Rattle.session.specs.declared.notes.Receipt.{Receipt}
-use Rattle.session.specs.declared.notes.Receipt.TheVariants.{Entry as EntryReceipt}
-use Rattle.session.specs.declared.notes.Receipt.TheVariants.{Full as FullReceipt}
+use Rattle.session_records.specs.declared.notes.Receipt.{Receipt}
+use Rattle.session_records.specs.declared.notes.Receipt.TheVariants.{Entry as EntryReceipt}
+use Rattle.session_records.specs.declared.notes.Receipt.TheVariants.{Full as FullReceipt}
 use Rattle.session.specs.SessionStates.{OpenBooking, AwaitsNoAnswer, open_of}
 use Rattle.station.specs.Bookings.{Booking}
 use Rattle.station.specs.Seats.{SeatState, IsSameSeat}

@@ -6,7 +6,7 @@ ghost use Rattle.vod_base.specs.Gates.{ReturnedConn};
 ghost use Rattle.film_frames.specs.declared.stored_films.Stored.{Stored};
 ghost use Rattle.admission.specs.declared.entries.Entry.{Entry};
 ghost use Rattle.admission.specs.Histories.{IsLegal};
-ghost use Rattle.session.specs.declared.settings.Settings.{Settings};
+ghost use Rattle.film_streams.specs.declared.settings.Settings.{Settings};
 ghost use Rattle.station.specs.Seats.{SeatState};
 ghost use Rattle.conn.specs.Agreement.{Agrees, AgreesIfObserved, Visit, visit};
 ghost use Rattle.conn.specs.Journals.{Terms, terms_of};

@@ -2,7 +2,7 @@
 
 ghost use Rattle.std.specs.Prelude.{◌≡◌, ◌<◌, ◌≤◌, ℕ, Some, length, slice_get};
 ghost use Rattle.film_frames.specs.declared.stored_films.Stored.{Stored};
-ghost use Rattle.session.specs.Films.{OfFilm};
+ghost use Rattle.film_streams.specs.Films.{OfFilm};
 ghost use Rattle.conn.specs.Plays.{IsShown};
 
 use film_frames::Stored;

@@ -14,7 +14,7 @@ ghost use Rattle.session.specs.declared.commands.Ask.{Ask};
 ghost use Rattle.session.specs.declared.states.Awaited.TheVariants.{Play};
 ghost use Rattle.session.specs.declared.states.Play.{Play as Played};
 ghost use Rattle.session.specs.declared.states.Prepared.{Prepared};
-ghost use Rattle.session.specs.declared.states.Setup.{Setup};
+ghost use Rattle.film_streams.specs.declared.setups.Setup.{Setup};
 ghost use Rattle.session.specs.RequestEffects.{CanBePlayed};
 ghost use Rattle.session.specs.RequestSteps.{new_session_state};
 ghost use Rattle.session.specs.SessionStates.{AreSettings, SessionState};

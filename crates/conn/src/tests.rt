@@ -1,7 +1,7 @@
 //! A connection in memory, byte by byte, and its report.
 
 ghost use Rattle.std.specs.Prelude.{IfOk, ◌∷◌, []};
-ghost use Rattle.session.specs.SettingRanges.{AreFilms};
+ghost use Rattle.film_streams.specs.SettingRanges.{AreFilms};
 
 use super::*;
 use admission::Answer;

@@ -19,7 +19,7 @@ use Rattle.film_frames.specs.Laws.{frames_among}
 use Rattle.film_frames.specs.Pieces.{pieces_of}
 use Rattle.film_frames.specs.FramedRuns.{blocks_from}
 use Rattle.film_frames.specs.Tracks.{framed_bytes}
-use Rattle.session.specs.Films.{length_ms}
+use Rattle.film_streams.specs.Films.{length_ms}
 use Rattle.rtsp_client.specs.declared.watch_request.Wish.{Wish}
 use Rattle.rtsp_client.specs.declared.watch_request.WatchEnd.TheVariants.{Done}
 use Rattle.rtsp_client.specs.Answers.{Gives, GoesOn, events_of_elements, element_events, has_fields}

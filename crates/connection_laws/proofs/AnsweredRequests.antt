@@ -2,7 +2,7 @@
 -- reads them.
 use Rattle.std.proofs.Common.{◌≡◌, ℕ, ◌^◌, ◌+◌, ◌≤◌, List, [], ◌∷◌, ◌++◌, map, sym, ap, subst, ◌∙◌, arith}
 use Rattle.film_frames.specs.declared.stored_films.Stored.{Stored}
-use Rattle.session.specs.Films.{length_ms}
+use Rattle.film_streams.specs.Films.{length_ms}
 use Rattle.rtsp_client.specs.declared.watch_request.Wish.{Wish}
 use Rattle.connection_laws.specs.ClientRequests.{AreInRange, IsAskedFor}
 use Rattle.connection_laws.specs.Courses.{Course}

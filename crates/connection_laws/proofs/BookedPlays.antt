@@ -10,7 +10,7 @@ use Rattle.admission.specs.Histories.{play_admitted}
 use Rattle.admission.specs.Makers.{PlacedEntry}
 use Rattle.admission.specs.declared.entries.Answer.TheVariants.{Admitted}
 use Rattle.station.specs.Ledgers.{play_of}
-use Rattle.session.specs.declared.settings.Settings.{Settings}
+use Rattle.film_streams.specs.declared.settings.Settings.{Settings}
 use Rattle.session.specs.declared.states.Awaited.{Awaited}
 use Rattle.session.specs.declared.states.Awaited.TheVariants.{Nothing, Play, Halt, Look, Offer}
 use Rattle.session.specs.SlotSteps.{after_slot}

@@ -31,11 +31,11 @@ use Rattle.rtsp_fields.proofs.TransportTexts.{transport_read}
 use Rattle.rtsp_text.specs.Fields.{header_value}
 use Rattle.rtsp_text.specs.Replies.{value_named}
 use Rattle.rtsp_text.specs.RequestTexts.{request_head}
-use Rattle.session.specs.declared.settings.Settings.{Settings}
-use Rattle.session.specs.declared.states.Setup.{Setup}
-use Rattle.session.specs.Films.{IsFilmAt, Names}
+use Rattle.film_streams.specs.declared.settings.Settings.{Settings}
+use Rattle.film_streams.specs.declared.setups.Setup.{Setup}
+use Rattle.film_streams.specs.Films.{IsFilmAt, Names}
 use Rattle.vod_base.specs.Limits.{WritesNumber}
-use Rattle.session.specs.Setups.{AreChannelsOf, AsksForSetup, IsChosen}
+use Rattle.film_streams.specs.Setups.{AreChannelsOf, AsksForSetup, IsChosen}
 use Rattle.session_laws.proofs.SetupLemmas.{IsSetupRequest}
 
 -- ---- the film that a URL names

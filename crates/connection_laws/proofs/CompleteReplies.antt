@@ -31,7 +31,7 @@ use Rattle.session_laws.specs.MethodLaws.{setup_in}
 use Rattle.rtsp_replies.specs.Replies.{session_text}
 use Rattle.session.specs.RequestSteps.{Hears, after_admission}
 use Rattle.session.specs.Laws.{InitStage, PlayingStage, ReadyStage, StateKind as SessionStage, stage_of}
-use Rattle.session.specs.SettingRanges.{AreFilms}
+use Rattle.film_streams.specs.SettingRanges.{AreFilms}
 use Rattle.session.specs.SessionStates.{SessionState}
 use Rattle.session_laws.specs.CompleteReplies.{HasValidIds, LeavesRoom, RepliesAreComplete}
 use Rattle.rtsp_replies.specs.Messages.{IsMessage}

@@ -8,7 +8,7 @@ use Rattle.vod_base.specs.Links.{IoEvent, HeardBytes, HeardEnd, HeardSlot, Sent}
 use Rattle.film_frames.specs.declared.stored_films.Stored.{Stored}
 use Rattle.plan_cert.specs.PlanSlots.{total_bytes}
 use Rattle.pacer.specs.PacerStates.{PacerState, first_slots}
-use Rattle.session.specs.declared.settings.Settings.{Settings}
+use Rattle.film_streams.specs.declared.settings.Settings.{Settings}
 use Rattle.session.specs.declared.states.Awaited.TheVariants.{Nothing}
 use Rattle.session.specs.SlotSteps.{after_slot}
 use Rattle.conn.specs.Films.{rounds_parts, takings_parts}

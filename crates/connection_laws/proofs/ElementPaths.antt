@@ -17,7 +17,7 @@ use Rattle.interleave.proofs.ElementUniqueness.{clash_block_request, total_once}
 use Rattle.film_frames.specs.declared.stored_films.Stored.{Stored}
 use Rattle.session.specs.declared.commands.Ask.{Ask}
 use Rattle.session.specs.RequestSteps.{Hears}
-use Rattle.session.specs.SettingRanges.{AreFilms}
+use Rattle.film_streams.specs.SettingRanges.{AreFilms}
 use Rattle.session.specs.SessionStates.{SessionState}
 use Rattle.session.proofs.RequestEffectLemmas.{hears_ground}
 use Rattle.conn.proofs.CourseSteps.{stage_is}

@@ -5,7 +5,7 @@ use Rattle.std.proofs.lemmas.Bool.{ltb-true, ltb-false}
 use Rattle.std.proofs.lemmas.List.{append-nil}
 use Rattle.vod_base.specs.Links.{IoEvent, HeardBytes, HeardEnd, HeardSlot, Sent}
 use Rattle.film_frames.specs.declared.stored_films.Stored.{Stored}
-use Rattle.session.specs.declared.settings.Settings.{Settings}
+use Rattle.film_streams.specs.declared.settings.Settings.{Settings}
 use Rattle.session.specs.declared.states.Awaited.TheVariants.{Nothing}
 use Rattle.session.specs.SlotSteps.{can_reply, after_play, is_between, is_sending, sent_due, sent_reply, sent_slot}
 use Rattle.session.specs.SlotSteps.{after_slot, stepped_in}

@@ -4,7 +4,7 @@ use Rattle.std.proofs.lemmas.Bool.{true≢false}
 use Rattle.std.proofs.lemmas.List.{append-nil, append_assoc}
 use Rattle.vod_base.specs.Links.{IoEvent, HeardBytes, HeardEnd, HeardSlot, Sent}
 use Rattle.film_frames.specs.declared.stored_films.Stored.{Stored}
-use Rattle.session.specs.SettingRanges.{AreFilms}
+use Rattle.film_streams.specs.SettingRanges.{AreFilms}
 use Rattle.conn.specs.EventSteps.{Round, Runs, RunsAll, IsStopped, rounds_outcomes, takings_bytes, takings_outcomes}
 use Rattle.conn.specs.InputSteps.{HasStepped, Outcome, SentPart, Stage, parts_bytes, stage}
 use Rattle.conn.specs.declared.reports.ConnEnd.{ConnEnd}

@@ -10,7 +10,7 @@ use Rattle.admission.specs.declared.entries.Answer.TheVariants.{Admitted, Halted
 use Rattle.session.specs.declared.commands.Ask.{Ask}
 use Rattle.session.specs.declared.commands.Ask.TheVariants.{Reply as AskReply, Play as AskPlay, Halt as AskHalt}
 use Rattle.session.specs.declared.commands.Ask.TheVariants.{Look as AskLook, Offer as AskOffer}
-use Rattle.session.specs.declared.settings.Settings.{Settings}
+use Rattle.film_streams.specs.declared.settings.Settings.{Settings}
 use Rattle.session_laws.specs.PlayLaws.{slots_missed}
 use Rattle.session.specs.SlotSteps.{can_reply, after_play, is_between, is_sending, is_taken}
 use Rattle.session.specs.SlotSteps.{missed_between, sent_due, sent_reply, sent_slot, after_slot}

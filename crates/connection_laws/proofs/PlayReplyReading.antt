@@ -14,7 +14,7 @@ use Rattle.mpeg_scan.specs.declared.films.Film.{Film}
 use Rattle.mpeg_scan.specs.StartCodes.{read_after}
 use Rattle.mpeg_scan.specs.PictureRates.{picture_time}
 use Rattle.mpeg_scan.proofs.FilmBoundLemmas.{film-rate}
-use Rattle.session.specs.Films.{length_ms}
+use Rattle.film_streams.specs.Films.{length_ms}
 use Rattle.rtsp_replies.specs.Replies.{field, joined_parts, play_fields, play_text}
 use Rattle.connection_laws.specs.PlayReplies.{IsPlayRead}
 use Rattle.plan_cert.proofs.DecimalLemmas.{no_leading_zero}

@@ -23,16 +23,19 @@ use Rattle.session.specs.declared.states.AfterHalt.{AfterHalt}
 use Rattle.session.specs.declared.states.AfterHalt.TheVariants.{Done, Paused, Torn}
 use Rattle.session.specs.declared.states.Awaited.{Awaited}
 use Rattle.session.specs.declared.states.Awaited.TheVariants.{Nothing, Play, Halt, Look, Offer}
-use Rattle.session.specs.declared.states.Counts.{Counts}
+use Rattle.film_streams.specs.declared.stream_numbers.Counts.{Counts}
 use Rattle.session.specs.declared.states.Play.{Play as Played}
 use Rattle.session.specs.declared.states.Prepared.{Prepared}
-use Rattle.session.specs.declared.states.Setup.{Setup}
+use Rattle.film_streams.specs.declared.setups.Setup.{Setup}
 use Rattle.session.specs.declared.states.State.{State}
 use Rattle.session.specs.declared.states.State.TheVariants.{Init, Ready, Playing, Stopping}
-use Rattle.session.specs.declared.states.StreamSource.{StreamSource}
-use Rattle.session.specs.Films.{IsFilmAt, counts_after, identity_of, sending_of}
+use Rattle.film_streams.specs.declared.stream_numbers.StreamSource.{StreamSource}
+use Rattle.session.specs.RunRequests.{sending_of}
+use Rattle.film_streams.specs.Films.{IsFilmAt}
+use Rattle.film_streams.specs.StreamNumbers.{counts_after, identity_of}
 use Rattle.session.specs.Laws.{GoesOn}
-use Rattle.session.specs.RequestSteps.{after_admission, after_halt, counts_done, source_of}
+use Rattle.session.specs.RequestSteps.{after_admission, after_halt, counts_done}
+use Rattle.film_streams.specs.StreamNumbers.{source_of}
 use Rattle.session.specs.RunRequests.{counts_before}
 use Rattle.session.specs.SessionStates.{NoAnswer, SessionState, awaited_answer, awaited_answer_of}
 use Rattle.session.specs.SlotSteps.{admitted_in, after_play, after_slot, can_reply, due_state, finished_in, is_between, is_sending}

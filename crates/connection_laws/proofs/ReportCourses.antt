@@ -5,7 +5,7 @@ use Rattle.std.specs.Prelude.{Option}
 use Rattle.vod_base.specs.Links.{IoEvent}
 use Rattle.film_frames.specs.declared.stored_films.Stored.{Stored}
 use Rattle.station.specs.Seats.{SeatState}
-use Rattle.session.specs.declared.settings.Settings.{Settings}
+use Rattle.film_streams.specs.declared.settings.Settings.{Settings}
 use Rattle.session.specs.RequestSteps.{new_session_state}
 use Rattle.conn.specs.Agreement.{Activity, HasDone}
 use Rattle.conn.specs.ConnectionService.{HasServedFrom}

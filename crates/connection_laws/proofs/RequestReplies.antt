@@ -14,10 +14,11 @@ use Rattle.rtsp_client.proofs.RequestGrammar.{play-asked, setup-asked, teardown-
 use Rattle.session.specs.declared.commands.Ask.{Ask}
 use Rattle.session.specs.declared.states.Awaited.TheVariants.{Play}
 use Rattle.session.specs.declared.states.Prepared.{Prepared}
-use Rattle.session.specs.declared.states.Setup.{Setup}
+use Rattle.film_streams.specs.declared.setups.Setup.{Setup}
 use Rattle.session.specs.declared.states.State.{State}
 use Rattle.session.specs.declared.states.State.TheVariants.{Init, Ready, Playing, Stopping}
-use Rattle.session.specs.Films.{IsFilmAt, Names, length_ms, milliseconds_at, timestamp_at}
+use Rattle.film_streams.specs.Films.{IsFilmAt, Names, length_ms, milliseconds_at}
+use Rattle.film_streams.specs.StreamNumbers.{timestamp_at}
 use Rattle.session.specs.Methods.{first_number}
 use Rattle.session_laws.specs.MethodLaws.{setup_in}
 use Rattle.session.specs.RefusalOrder.{IsOwnSession, first_of}

@@ -15,10 +15,10 @@ use Rattle.film_run.specs.Units.{stored_sizes}
 use Rattle.rtsp_client.specs.declared.watch_request.Wish.{Wish}
 use Rattle.rtsp_client.specs.WatchRequests.{IsWish}
 use Rattle.rtsp_client.proofs.PictureTimes.{time_bounds}
-use Rattle.session.specs.declared.settings.Settings.{Settings}
-use Rattle.session.specs.declared.states.Counts.{Counts}
-use Rattle.session.specs.declared.states.Setup.{Setup}
-use Rattle.session.specs.declared.states.StreamSource.{StreamSource}
+use Rattle.film_streams.specs.declared.settings.Settings.{Settings}
+use Rattle.film_streams.specs.declared.stream_numbers.Counts.{Counts}
+use Rattle.film_streams.specs.declared.setups.Setup.{Setup}
+use Rattle.film_streams.specs.declared.stream_numbers.StreamSource.{StreamSource}
 use Rattle.session.specs.RunRequests.{IsPlayable, playback_of as session_playback}
 use Rattle.connection_laws.specs.WholePlays.{IsSetUpFor, playback_of, whole_run}
 

@@ -28,7 +28,7 @@ use Rattle.connection_laws.proofs.NoPlays.{AreNoPlays, IsNoPlay, rounds_none}
 use Rattle.connection_laws.proofs.OnePlay.{IsPlayedWhole, Outlook, rounds_walk, setup_no_play}
 use Rattle.connection_laws.proofs.ReplyOrder.{replies_in_order}
 use Rattle.connection_laws.proofs.CompleteReplies.{AreTeardowns, AreWhole, texts_whole}
-use Rattle.session.specs.RequestSteps.{source_of}
+use Rattle.film_streams.specs.StreamNumbers.{source_of}
 use Rattle.session_laws.proofs.CompleteReplyLemmas.{begins_named}
 use Rattle.connection_laws.proofs.EndToEndMeter.{rest_all}
 use Rattle.connection_laws.proofs.CourseReplies.{replies_sent}

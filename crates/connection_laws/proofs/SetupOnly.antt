@@ -13,13 +13,13 @@ use Rattle.rtsp_client.specs.WatchRequests.{IsWish}
 use Rattle.rtsp_client.specs.declared.watch_request.Wish.{Wish}
 use Rattle.session.specs.declared.commands.Ask.{Ask}
 use Rattle.session.specs.declared.commands.Ask.TheVariants.{Reply}
-use Rattle.session.specs.declared.settings.Settings.{Settings}
+use Rattle.film_streams.specs.declared.settings.Settings.{Settings}
 use Rattle.session.specs.declared.states.Awaited.{Awaited}
 use Rattle.session.specs.declared.states.Awaited.TheVariants.{Nothing}
 use Rattle.session.specs.declared.states.State.{State}
-use Rattle.session.specs.declared.states.StreamSource.{StreamSource}
+use Rattle.film_streams.specs.declared.stream_numbers.StreamSource.{StreamSource}
 use Rattle.session.specs.declared.states.State.TheVariants.{Init, Ready, Playing, Stopping}
-use Rattle.session.specs.Films.{Names}
+use Rattle.film_streams.specs.Films.{Names}
 use Rattle.session.specs.SlotSteps.{after_play, after_slot, can_reply, is_sending, is_taken, sent_reply, sent_slot}
 use Rattle.session.specs.SessionStates.{NoAnswer, SessionState, awaited_answer_of}
 use Rattle.session.specs.SlotTransitions.{after_stop}

@@ -10,7 +10,7 @@ use Rattle.pacer.specs.PacerStates.{after_step}
 use Rattle.pacer.proofs.PacerStateLemmas.{boundary-from}
 use Rattle.session.specs.declared.states.Play.{Play as Played}
 use Rattle.session.specs.declared.states.Stop.{Stop}
-use Rattle.session.specs.declared.states.Setup.{Setup}
+use Rattle.film_streams.specs.declared.setups.Setup.{Setup}
 use Rattle.session.specs.declared.states.State.{State}
 use Rattle.session.specs.declared.states.State.TheVariants.{Init, Ready, Playing, Stopping}
 use Rattle.session.specs.SlotSteps.{is_between, is_sending, step_bytes, stepped_in}

@@ -11,7 +11,7 @@ use Rattle.session.specs.declared.commands.Ask.TheVariants.{Reply as AskReply, P
 use Rattle.session.specs.declared.commands.Ask.TheVariants.{Look as AskLook, Offer as AskOffer}
 use Rattle.session.specs.RequestSteps.{Hears}
 use Rattle.session.specs.Laws.{IsOneAnswer}
-use Rattle.session.specs.SettingRanges.{AreFilms}
+use Rattle.film_streams.specs.SettingRanges.{AreFilms}
 use Rattle.session_laws.proofs.AnswerUniqueness.{hears_once}
 use Rattle.session.specs.SlotSteps.{can_reply, after_play, is_between, is_sending, is_taken, sent_due, sent_reply}
 use Rattle.session.specs.SlotSteps.{sent_slot, after_slot, stepped_in}

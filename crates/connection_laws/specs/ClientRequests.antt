@@ -11,8 +11,8 @@ use Rattle.rtsp_client.specs.declared.watch_request.Watched.{Watched}
 use Rattle.rtsp_client.specs.declared.watch_request.WatchEnd.{WatchEnd}
 use Rattle.rtsp_client.specs.declared.watch_request.WatchEnd.TheVariants.{Done}
 use Rattle.rtsp_client.specs.declared.watch_request.Wish.{Wish}
-use Rattle.session.specs.Films.{IsFilmAt}
-use Rattle.session.specs.SettingRanges.{AreFilms}
+use Rattle.film_streams.specs.Films.{IsFilmAt}
+use Rattle.film_streams.specs.SettingRanges.{AreFilms}
 use Rattle.conn.specs.EventSteps.{IsPrefixOf}
 use Rattle.connection_laws.specs.Courses.{Course, course_plays}
 use Rattle.connection_laws.specs.ReplyPlaces.{slots_from}

@@ -3,7 +3,7 @@
 use Rattle.std.specs.Prelude.{ℕ, ◌≡◌, ◌^◌, if◌then◌else◌, max, nat_le, List, [], ◌∷◌, ◌++◌}
 use Rattle.vod_base.specs.Links.{IoEvent, HeardBytes, HeardEnd, HeardSlot, Sent}
 use Rattle.film_frames.specs.declared.stored_films.Stored.{Stored}
-use Rattle.session.specs.declared.settings.Settings.{Settings}
+use Rattle.film_streams.specs.declared.settings.Settings.{Settings}
 use Rattle.session.specs.declared.states.Awaited.{Awaited}
 use Rattle.session.specs.declared.states.Awaited.TheVariants.{Nothing}
 use Rattle.session.specs.RequestSteps.{new_session_state}

@@ -6,10 +6,10 @@ use Rattle.slot_calendar.specs.Plays.{Play as Booked, truncated_play}
 use Rattle.film_run.specs.declared.runs.Run.{Run}
 use Rattle.admission.specs.Histories.{play_admitted}
 use Rattle.admission.specs.Makers.{PlacedEntry}
-use Rattle.session.specs.declared.notes.PlayNote.{PlayNote}
+use Rattle.session_records.specs.declared.notes.PlayNote.{PlayNote}
 use Rattle.session.specs.declared.states.Awaited.{Awaited}
 use Rattle.session.specs.declared.states.Awaited.TheVariants.{Play}
-use Rattle.session.specs.declared.states.Setup.{Setup}
+use Rattle.film_streams.specs.declared.setups.Setup.{Setup}
 use Rattle.session.specs.declared.states.State.{State}
 use Rattle.session.specs.declared.states.State.TheVariants.{Ready}
 use Rattle.session_laws.specs.PlayLaws.{slots_missed}
@@ -24,7 +24,7 @@ use Rattle.conn.specs.Agreement.{Activity, HasDone}
 use Rattle.connection_laws.specs.Courses.{first_stage}
 use Rattle.connection_laws.specs.Plays.{booked_by, kept_with}
 use Rattle.film_frames.specs.declared.stored_films.Stored.{Stored}
-use Rattle.session.specs.declared.settings.Settings.{Settings}
+use Rattle.film_streams.specs.declared.settings.Settings.{Settings}
 use Rattle.conn.specs.declared.reports.ConnEnd.{ConnEnd}
 use Rattle.conn.specs.declared.reports.ConnReport.{ConnReport}
 

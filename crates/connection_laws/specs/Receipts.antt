@@ -1,9 +1,9 @@
 -- What a connection's report notes of the station's answers: a receipt of each entry and of each
 -- full journal, and the offers.
 use Rattle.std.specs.Prelude.{List, [], ◌∷◌, ◌++◌}
-use Rattle.session.specs.declared.notes.OfferNote.{OfferNote}
-use Rattle.session.specs.declared.notes.Receipt.{Receipt}
-use Rattle.session.specs.declared.notes.Receipt.TheVariants.{Entry, Full}
+use Rattle.session_records.specs.declared.notes.OfferNote.{OfferNote}
+use Rattle.session_records.specs.declared.notes.Receipt.{Receipt}
+use Rattle.session_records.specs.declared.notes.Receipt.TheVariants.{Entry, Full}
 use Rattle.conn.specs.InputSteps.{Outcome, Unasked, Entered, WasFull, Offered}
 
 -- an entry's receipt has its place in the journal and the answer; that of a full journal has how

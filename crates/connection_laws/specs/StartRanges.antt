@@ -3,7 +3,7 @@ use Rattle.std.specs.Prelude.{◌≡◌, ℕ, ◌+◌, ◌^◌, ◌≤◌, All, 
 use Rattle.film_frames.specs.declared.stored_films.Stored.{Stored}
 use Rattle.admission.specs.declared.entries.Entry.{Entry}
 use Rattle.admission.specs.Makers.{PlacedEntry}
-use Rattle.session.specs.declared.settings.Settings.{Settings}
+use Rattle.film_streams.specs.declared.settings.Settings.{Settings}
 use Rattle.conn.specs.Agreement.{Activity, Agrees, HasDone, Visit, doings_outcomes}
 use Rattle.conn.specs.EventSteps.{entries_in}
 use Rattle.conn.specs.Journals.{Terms}

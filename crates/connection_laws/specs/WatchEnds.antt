@@ -1,7 +1,7 @@
 -- What a client reads in the replies to its requests, and how a watching may then end.
 use Rattle.std.specs.Prelude.{◌≡◌, ℕ, ⊤, true, List, [], ◌∷◌, Some, is_some}
 use Rattle.mpeg_scan.specs.declared.films.Film.{Film}
-use Rattle.session.specs.Films.{length_ms}
+use Rattle.film_streams.specs.Films.{length_ms}
 use Rattle.rtsp_client.specs.Replies.{IsAnswer, play_range, play_start, setup_session}
 use Rattle.rtsp_client.specs.declared.watch_request.WatchEnd.{WatchEnd}
 use Rattle.rtsp_client.specs.declared.watch_request.WatchEnd.TheVariants.{Done, Fault, LinkFault}

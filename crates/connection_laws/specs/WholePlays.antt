@@ -11,8 +11,8 @@ use Rattle.film_run.specs.declared.runs.Run.{Run}
 use Rattle.film_run.specs.Laws.{IsSending}
 use Rattle.film_run.specs.Units.{stored_sizes}
 use Rattle.rtsp_client.specs.declared.watch_request.Wish.{Wish}
-use Rattle.session.specs.declared.states.Setup.{Setup}
-use Rattle.session.specs.declared.settings.Settings.{Settings}
+use Rattle.film_streams.specs.declared.setups.Setup.{Setup}
+use Rattle.film_streams.specs.declared.settings.Settings.{Settings}
 use Rattle.rtsp_replies.specs.Messages.{IsMessage}
 use Rattle.connection_laws.specs.Courses.{Course, course_plays}
 use Rattle.connection_laws.specs.Plays.{FilmPlay}

@@ -4,7 +4,7 @@ use Rattle.std.specs.Prelude.{All, slice_index_or}
 use Rattle.std.proofs.lemmas.List.Elements.{All-cons, All-nil}
 use Rattle.vod_base.specs.Names.{good_name}
 use Rattle.film_frames.specs.declared.stored_films.Stored.{Stored}
-use Rattle.session.specs.SettingRanges.{AreFilms, names_of}
+use Rattle.film_streams.specs.SettingRanges.{AreFilms, names_of}
 
 one_apart : (x : List ℕ) → (i j : ℕ) → i < j → j < 1 → slice_index_or (x ∷ []) i [] ≢ slice_index_or (x ∷ []) j []
 one_apart x i j before inside = absurd (omega (arith, before, inside))

@@ -1,7 +1,7 @@
 //! Complete connections: every byte that is sent, how each ends, and the journal and calendar that
 //! they leave.
 
-ghost use Rattle.session.specs.SettingRanges.{AreFilms};
+ghost use Rattle.film_streams.specs.SettingRanges.{AreFilms};
 
 use crate::films::server_films;
 use crate::link_scripts::{Failing, Visit, serve_all, station_of};

@@ -1,7 +1,7 @@
 //! The films of the tests.
 
 ghost use Rattle.std.specs.Prelude.{◌≡◌, IfOk, string_bytes, true};
-ghost use Rattle.session.specs.SettingRanges.{AreFilms};
+ghost use Rattle.film_streams.specs.SettingRanges.{AreFilms};
 
 use crate::script_text::bytes_of;
 use film_frames::Stored;

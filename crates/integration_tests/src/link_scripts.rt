@@ -1,7 +1,7 @@
 //! Connections over links in memory by a script, one after another at one station.
 
 ghost use Rattle.std.specs.Prelude.{◌≡◌, IfOk};
-ghost use Rattle.session.specs.SettingRanges.{AreFilms};
+ghost use Rattle.film_streams.specs.SettingRanges.{AreFilms};
 ghost use Rattle.station.specs.Seats.{IsSameSeat, first_seat};
 
 use crate::script_text::{bytes_of, compare_front, message_of, numbers_of, word_and_rest};

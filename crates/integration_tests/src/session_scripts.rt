@@ -2,7 +2,7 @@
 
 ghost use Rattle.std.specs.Prelude.{◌≡◌, IfOk, length, true};
 ghost use Rattle.interleave.specs.Elements.{IsMessageLength};
-ghost use Rattle.session.specs.SettingRanges.{AreFilms};
+ghost use Rattle.film_streams.specs.SettingRanges.{AreFilms};
 ghost use Rattle.session.specs.SessionStates.{AsksFor, AwaitsNoAnswer, IsHalt, IsLook, IsOffer};
 ghost use Rattle.session.specs.SessionStates.{IsPlay};
 ghost use Rattle.session.specs.SessionStates.{awaited_answer, open_of};

@@ -2,7 +2,7 @@
 //! watched film are met by both ends' links.
 
 ghost use Rattle.std.specs.Prelude.{◌≤◌};
-ghost use Rattle.session.specs.SettingRanges.{AreFilms};
+ghost use Rattle.film_streams.specs.SettingRanges.{AreFilms};
 
 use crate::films::film_of;
 use crate::session_scripts::{SETTINGS, WORDS};

@@ -13,6 +13,7 @@ use Rattle.std.proofs.lemmas.Bool.{and_parts}
 use Rattle.std.proofs.lemmas.Bool.Decides.{nat_tests}
 use Rattle.std.proofs.lemmas.List.{length-append}
 use Rattle.std.proofs.lemmas.List.Elements.{All-head, All-tail}
+use Rattle.interleave.specs.declared.content_lengths.TheConstants.{MAX_BODY_BYTES}
 use Rattle.vod_base.specs.Blanks.{without_blanks}
 use Rattle.vod_base.specs.Names.{good_name, is_name_byte}
 use Rattle.vod_base.proofs.TextLemmas.{decimal_read}
@@ -76,7 +77,7 @@ unavailable = record { known = refl; phrase_short = omega arith }
 
 -- a reply of this code
 coded_whole : {code sequence : ℕ} {fields : List Field} (body : List ℕ) → IsStatus code → sequence < 2 ^ 64
-    → AreWritten 16256 fields → HasGivenLength fields body → length body ≤ 65536
+    → AreWritten 16256 fields → HasGivenLength fields body → length body ≤ MAX_BODY_BYTES
     → IsMessage (reply_text code (Some sequence) fields body)
 coded_whole {code} {sequence} {fields} body status number written given small =
     whole_of (record { code = code; sequence = Some sequence; fields = fields; body = body }) (record {
@@ -89,7 +90,7 @@ coded_whole {code} {sequence} {fields} body status number written given small =
     })
 
 says_whole : {sequence : ℕ} {fields : List Field} (body : List ℕ) → sequence < 2 ^ 64 → AreWritten 16256 fields
-    → HasGivenLength fields body → length body ≤ 65536 → IsMessage (reply_text 200 (Some sequence) fields body)
+    → HasGivenLength fields body → length body ≤ MAX_BODY_BYTES → IsMessage (reply_text 200 (Some sequence) fields body)
 says_whole body number written given small = coded_whole body ok number written given small
 
 pub public_whole : (sequence : ℕ) → sequence < 2 ^ 64 → IsMessage (public_text sequence)
@@ -111,7 +112,7 @@ pub plain_whole : (sequence : ℕ) → sequence < 2 ^ 64 → IsMessage (plain_te
 unfolding value_named
 plain_whole sequence number = says_whole [] number (written-within (omega arith) written-nil) refl (omega arith)
 
-pub parameters_whole : (sequence : ℕ) (body : List ℕ) → sequence < 2 ^ 64 → length body ≤ 65536
+pub parameters_whole : (sequence : ℕ) (body : List ℕ) → sequence < 2 ^ 64 → length body ≤ MAX_BODY_BYTES
     → IsMessage (parameters_text sequence body)
 unfolding value_named
 parameters_whole sequence body number small =
@@ -341,7 +342,7 @@ play_whole p slots small =
 
 -- the bodies of the replies to GET_PARAMETER
 pub look_short : (now at booked : ℕ) → now < 2 ^ 64 → at < 2 ^ 64 → booked < 2 ^ 64 → length
-    (look_body now at booked) ≤ 65536
+    (look_body now at booked) ≤ MAX_BODY_BYTES
 look_short now at booked one two three =
     omega (
       arith,
@@ -375,7 +376,7 @@ overs_short (one ∷ tried) all =
     let rest = overs_short tried (All-tail IsTriedInWords one tried all) in
     omega (arith, length-append (over_line one) (flat_map over_line tried), first, rest)
 
-pub offer_short : (offers : Offers) → AreOffersInWords offers → length (offer_body offers.start offers.tried) ≤ 65536
+pub offer_short : (offers : Offers) → AreOffersInWords offers → length (offer_body offers.start offers.tried) ≤ MAX_BODY_BYTES
 offer_short offers are =
     let start = offers.start in
     let tried = offers.tried in

@@ -13,6 +13,8 @@ use Rattle.std.proofs.lemmas.List.{get_or-reverse, length-append, length-reverse
 use Rattle.std.proofs.lemmas.List.Elements.{All-cons, All-nil}
 use Rattle.std.proofs.lemmas.List.Folds.{list_all_at}
 use Rattle.hex.specs.Hex.{encode_lower, encode_with, lower_digits}
+use Rattle.interleave.specs.declared.content_lengths.TheConstants.{MAX_BODY_BYTES}
+use Rattle.interleave.specs.declared.message_heads.TheConstants.{MAX_HEAD_BYTES}
 use Rattle.vod_base.specs.Blanks.{is_blank, without_blanks, without_leading_blanks}
 use Rattle.vod_base.proofs.DigitLemmas.{decimal_numerals}
 use Rattle.rtsp_text.specs.Grammar.{is_token, is_url_byte}
@@ -177,7 +179,7 @@ pub record AreWhole (parts : ReplyParts) : Type 0 where
   pub number : IfSome parts.sequence (λ n. n < 2 ^ 64)
   pub written : AreWritten 16256 parts.fields
   pub given : HasGivenLength parts.fields parts.body
-  pub small : length parts.body ≤ 65536
+  pub small : length parts.body ≤ MAX_BODY_BYTES
 
 status_short : (code : ℕ) → is_code code ≡ true → length (phrase code) ≤ 30 → length (status_line code) ≤ 62
 unfolding status_line
@@ -206,7 +208,7 @@ sequence_short (Some n) number =
     )
 
 front_short : (parts : ReplyParts) → AreWhole parts
-    → length (reply_front parts.code parts.sequence parts.fields ++ codes "\r\n") ≤ 16384
+    → length (reply_front parts.code parts.sequence parts.fields ++ codes "\r\n") ≤ MAX_HEAD_BYTES
 unfolding reply_front
 front_short parts are =
     let front = status_line parts.code ++ sequence_line parts.sequence in

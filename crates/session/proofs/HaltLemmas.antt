@@ -1,11 +1,11 @@
 -- What a halt leaves.
 use Rattle.std.proofs.Common.{◌≡◌, Bool, true, false, ◌||◌, if◌then◌else◌, refl, subst}
 use Rattle.session.specs.declared.states.Awaited.TheVariants.{Nothing}
-use Rattle.session.specs.declared.states.Counts.{Counts}
+use Rattle.film_streams.specs.declared.stream_numbers.Counts.{Counts}
 use Rattle.session.specs.declared.states.AfterHalt.{AfterHalt}
 use Rattle.session.specs.declared.states.AfterHalt.TheVariants.{Done, Paused, Torn}
 use Rattle.session.specs.declared.states.Play.{Play as Played}
-use Rattle.session.specs.declared.states.Setup.{Setup}
+use Rattle.film_streams.specs.declared.setups.Setup.{Setup}
 use Rattle.session.specs.declared.states.State.TheVariants.{Playing}
 use Rattle.session.specs.RequestSteps.{counts_next, is_answered, is_torn}
 use Rattle.session.specs.SessionInvariant.{SessionContext, IsAwaitedInvariant, IsGoing, IsSessionInvariant, IsNextIn}

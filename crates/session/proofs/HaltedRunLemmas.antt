@@ -15,15 +15,16 @@ use Rattle.film_run.specs.Runs.{Fits, IsRun}
 use Rattle.film_run.specs.Units.{stored_sizes}
 use Rattle.plan_cert.specs.declared.Segment.{Segment}
 use Rattle.pacer.specs.PacerStates.{IsPacerState, PacerState, first_slots, is_done, next_boundary, slots_through}
-use Rattle.session.specs.Films.{identity_of, sending_of}
+use Rattle.session.specs.RunRequests.{sending_of}
+use Rattle.film_streams.specs.StreamNumbers.{identity_of}
 use Rattle.session.specs.SessionInvariant.{IsPlaying, IsPlayUnfinished}
 use Rattle.session.specs.ResumedPlays.{IsPacedPlay}
 use Rattle.session.specs.RunRequests.{IsRunOf, playback_of}
-use Rattle.session.specs.declared.settings.Settings.{Settings}
-use Rattle.session.specs.declared.states.Counts.{Counts}
+use Rattle.film_streams.specs.declared.settings.Settings.{Settings}
+use Rattle.film_streams.specs.declared.stream_numbers.Counts.{Counts}
 use Rattle.session.specs.declared.states.Play.{Play as Played}
-use Rattle.session.specs.declared.states.Setup.{Setup}
-use Rattle.session.specs.declared.states.StreamSource.{StreamSource}
+use Rattle.film_streams.specs.declared.setups.Setup.{Setup}
+use Rattle.film_streams.specs.declared.stream_numbers.StreamSource.{StreamSource}
 
 -- a pacing that is halted at a boundary before all that it keeps was sent
 pub record HaltedPacing (p : PacerState) (keep : ℕ) : Type 0 where

@@ -3,12 +3,12 @@ use Rattle.std.proofs.Common.{◌≡◌, ℕ, List}
 use Rattle.film_frames.specs.declared.stored_films.Stored.{Stored}
 use Rattle.rtsp_text.specs.declared.requests.Request.{Request}
 use Rattle.session.specs.RequestSteps.{Hears}
-use Rattle.session.specs.SettingRanges.{AreFilms}
+use Rattle.film_streams.specs.SettingRanges.{AreFilms}
 use Rattle.session.specs.SessionStates.{SessionState}
 use Rattle.session.specs.declared.commands.Ask.{Ask}
-use Rattle.session.specs.declared.settings.Settings.{Settings}
+use Rattle.film_streams.specs.declared.settings.Settings.{Settings}
 use Rattle.session.specs.declared.states.Play.{Play as Played}
-use Rattle.session.specs.declared.states.Setup.{Setup}
+use Rattle.film_streams.specs.declared.setups.Setup.{Setup}
 use Rattle.session.specs.declared.states.State.TheVariants.{Playing}
 
 -- what a session begins with: the server's films and settings, and the connection's words

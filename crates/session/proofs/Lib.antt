@@ -2,8 +2,6 @@ pub mod InitialStateLemmas
 pub mod StopBoundaryLemmas
 pub mod HaltLemmas
 pub mod SlotBytesLemmas
-pub mod FilmUrlLemmas
-pub mod ModularSums
 pub mod ResumedPlayLemmas
 pub mod HaltedRunLemmas
 pub mod StepInvariantLemmas

@@ -9,7 +9,8 @@ use Rattle.film_run.specs.declared.runs.Run.{Run}
 use Rattle.film_run.specs.Runs.{bytes_between}
 use Rattle.film_run.specs.Units.{stored_sizes}
 use Rattle.pacer.specs.PacerStates.{IsPacerState, PacerState, is_done, next_boundary, new_pacer_state}
-use Rattle.session.specs.Films.{IsFilmAt, OfFilm, sending_of}
+use Rattle.session.specs.RunRequests.{sending_of}
+use Rattle.film_streams.specs.Films.{IsFilmAt, OfFilm}
 use Rattle.session.specs.SessionInvariant.{SessionContext, IsAwaitedInvariant, IsGoing, IsSessionInvariant, IsNextIn}
 use Rattle.session.specs.SessionInvariant.{IsPlayUnfinished}
 use Rattle.session.specs.SessionInvariant.{IsPreparedAs, IsPreparedIn, IsStateInvariant, session_context_of}
@@ -17,17 +18,17 @@ use Rattle.session.specs.SessionInvariant.{open_receipts}
 use Rattle.session.specs.SessionInvariant.{session_state_of}
 use Rattle.session.specs.ResumedPlays.{IsPrepared}
 use Rattle.session.specs.RunRequests.{IsPlayable}
-use Rattle.session.specs.SettingRanges.{IsSetup}
+use Rattle.film_streams.specs.SettingRanges.{IsSetup}
 use Rattle.session.specs.SlotSteps.{next_of}
 use Rattle.session.specs.SessionStates.{CanHandleRequest, IsReadyIn}
-use Rattle.session.specs.declared.settings.Settings.{Settings}
+use Rattle.film_streams.specs.declared.settings.Settings.{Settings}
 use Rattle.session.specs.declared.states.Awaited.{Awaited}
 use Rattle.session.specs.declared.states.Awaited.TheVariants.{Nothing, Play, Halt, Look, Offer}
 use Rattle.session.specs.declared.states.AfterHalt.{AfterHalt}
 use Rattle.session.specs.declared.states.Play.{Play as Played}
 use Rattle.session.specs.declared.states.Prepared.{Prepared}
-use Rattle.session.specs.declared.states.Setup.{Setup}
-use Rattle.session.specs.declared.states.StreamSource.{StreamSource}
+use Rattle.film_streams.specs.declared.setups.Setup.{Setup}
+use Rattle.film_streams.specs.declared.stream_numbers.StreamSource.{StreamSource}
 use Rattle.session.specs.declared.states.State.{State}
 use Rattle.session.specs.declared.states.State.TheVariants.{Init, Ready, Playing, Stopping}
 use Rattle.session.specs.declared.sessions.Session.TheInside.{Inside}

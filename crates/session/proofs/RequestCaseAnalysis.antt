@@ -29,12 +29,12 @@ use Rattle.session.specs.declared.refusals.Task.TheVariants.{Setup as ToSetup, P
 use Rattle.session.specs.declared.refusals.Task.TheVariants.{Pause as ToPause}
 use Rattle.session.specs.declared.refusals.Task.TheVariants.{Teardown as ToTeardown}
 use Rattle.session.specs.declared.refusals.Task.TheVariants.{GetParameter as ToGetParameter}
-use Rattle.session.specs.declared.settings.Settings.{Settings}
+use Rattle.film_streams.specs.declared.settings.Settings.{Settings}
 use Rattle.session.specs.declared.states.Awaited.TheVariants.{Play}
 use Rattle.session.specs.declared.states.AfterHalt.{AfterHalt}
 use Rattle.session.specs.declared.states.AfterHalt.TheVariants.{Paused, Torn}
 use Rattle.session.specs.declared.states.Play.{Play as Played}
-use Rattle.session.specs.declared.states.Setup.{Setup}
+use Rattle.film_streams.specs.declared.setups.Setup.{Setup}
 use Rattle.session.specs.declared.states.State.{State}
 use Rattle.session.specs.declared.states.State.TheVariants.{Init, Ready, Playing, Stopping}
 use Rattle.session.specs.Laws.{IsTeardown}
@@ -47,9 +47,10 @@ use Rattle.session.specs.Methods.{AsksHalt, AsksLook, AsksOffer, AsksOfferOr, As
 use Rattle.session.specs.Methods.{GetsOffer, IsRefused, IsReplied, IsSetUp, Looks, Pauses, Plays}
 use Rattle.session.specs.Methods.{Takes, TearsDown, play_front, prepared_of}
 use Rattle.session.specs.RequestedPlans.{IsPlanned, IsPlannedRun}
-use Rattle.session.specs.SettingRanges.{AreSettings, IsSetup}
+use Rattle.film_streams.specs.SettingRanges.{AreSettings, IsSetup}
 use Rattle.rtsp_replies.specs.Replies.{setup_text}
-use Rattle.session.specs.Setups.{AsksForSetup, IsChosen, IsSetupRead}
+use Rattle.session.specs.Setups.{IsSetupRead}
+use Rattle.film_streams.specs.Setups.{AsksForSetup, IsChosen}
 use Rattle.session.specs.SessionStates.{IsReadyIn, SessionState, has_session_in, with_reply}
 use Rattle.session.proofs.ResumedPlayLemmas.{of_film}
 use Rattle.session.proofs.RequestUniqueness.{first_sequence_is}

@@ -17,7 +17,7 @@ use Rattle.session.specs.declared.refusals.Task.TheVariants.{Pause as ToPause}
 use Rattle.session.specs.declared.refusals.Task.TheVariants.{Teardown as ToTeardown}
 use Rattle.session.specs.declared.refusals.Task.TheVariants.{GetParameter as ToGetParameter}
 use Rattle.session.specs.declared.states.Awaited.TheVariants.{Play}
-use Rattle.session.specs.declared.states.Setup.{Setup}
+use Rattle.film_streams.specs.declared.setups.Setup.{Setup}
 use Rattle.session.specs.declared.states.State.{State}
 use Rattle.session.specs.declared.states.State.TheVariants.{Ready}
 use Rattle.session.specs.RequestEffects.{AsksOrLacks, AwaitsNoStop, CanBePlayed, ChangesState, IsGoodPlay}

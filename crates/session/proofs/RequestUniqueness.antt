@@ -19,14 +19,16 @@ use Rattle.rtsp_replies.specs.declared.refusals.Refusal.TheVariants.{Method as U
 use Rattle.rtsp_replies.specs.declared.refusals.Refusal.TheVariants.{Option as Required, Session, Film}
 use Rattle.rtsp_replies.specs.declared.refusals.Refusal.TheVariants.{State as NotNow, Transport}
 use Rattle.rtsp_replies.specs.declared.refusals.Refusal.TheVariants.{Parameter, Buffer, Range, Memory}
-use Rattle.session.specs.declared.states.Setup.{Setup}
-use Rattle.session.specs.declared.settings.Settings.{Settings}
-use Rattle.session.specs.Films.{Names}
+use Rattle.film_streams.specs.declared.setups.Setup.{Setup}
+use Rattle.film_streams.specs.declared.settings.Settings.{Settings}
+use Rattle.film_streams.specs.Films.{Names}
 use Rattle.rtsp_replies.specs.Methods.{IsTopic, IsWord}
 use Rattle.session.specs.Methods.{IsWaitOf}
-use Rattle.session.specs.SettingRanges.{AreFilms}
-use Rattle.session.specs.Setups.{AreChannelsOf, AsksForSetup, HasChannels, IsChosen, HasNoMeaning, IsSetupRead}
-use Rattle.session.proofs.FilmUrlLemmas.{film_once, named_once}
+use Rattle.film_streams.specs.SettingRanges.{AreFilms}
+use Rattle.session.specs.Setups.{IsSetupRead}
+use Rattle.film_streams.specs.Setups.{AreChannelsOf, AsksForSetup, HasChannels, IsChosen}
+use Rattle.film_streams.specs.Setups.{HasNoMeaning}
+use Rattle.film_streams.proofs.FilmUrlLemmas.{film_once, named_once}
 
 -- what a SETUP asks for
 chosen_once : {a b : ℕ} (value : Option (List ℕ)) (own least most : ℕ) → IsChosen value own least most a

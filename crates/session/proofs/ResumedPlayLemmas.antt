@@ -9,12 +9,13 @@ use Rattle.rtsp_fields.proofs.FieldUniqueness.{span_once}
 use Rattle.rtsp_fields.specs.declared.ranges.Span.{Span}
 use Rattle.rtsp_fields.specs.declared.ranges.Origin.{Origin}
 use Rattle.rtsp_fields.specs.declared.ranges.Origin.TheVariants.{Now, At}
-use Rattle.session.specs.Films.{IsFilmAt, OfFilm, identity_of}
+use Rattle.film_streams.specs.Films.{IsFilmAt, OfFilm}
+use Rattle.film_streams.specs.StreamNumbers.{identity_of}
 use Rattle.session.specs.RunRequests.{IsAskedRun, IsNoRange, IsRunOf, IsSpanOf, IsRequestFor, RequestsNothing}
 use Rattle.session.specs.RunRequests.{counts_for, run_of}
-use Rattle.session.specs.declared.states.Counts.{Counts}
-use Rattle.session.specs.declared.states.Setup.{Setup}
-use Rattle.session.specs.declared.states.StreamSource.{StreamSource}
+use Rattle.film_streams.specs.declared.stream_numbers.Counts.{Counts}
+use Rattle.film_streams.specs.declared.setups.Setup.{Setup}
+use Rattle.film_streams.specs.declared.stream_numbers.StreamSource.{StreamSource}
 use Rattle.session.specs.declared.play_requests.PlayRequest.{PlayRequest}
 use Rattle.session.specs.declared.play_requests.PlayRequest.TheVariants.{Resumed, New}
 

@@ -5,7 +5,7 @@ use Rattle.plan_cert.specs.PlanSlots.{total_bytes}
 use Rattle.film_frames.specs.declared.stored_films.Stored.{Stored}
 use Rattle.film_frames.specs.FramedRuns.{run_pieces}
 use Rattle.film_run.specs.declared.runs.Run.{Run}
-use Rattle.session.specs.Films.{sending_of}
+use Rattle.session.specs.RunRequests.{sending_of}
 use Rattle.session.specs.SessionInvariant.{SessionContext, IsAwaitedInvariant, IsGoing, IsPlaying, IsStateInvariant}
 use Rattle.session.specs.SessionInvariant.{IsStopAnswered, coming_of, open_receipts}
 use Rattle.session.specs.RequestedPlans.{IsPausedIn}
@@ -14,14 +14,14 @@ use Rattle.session.specs.RunRequests.{IsPlayable}
 use Rattle.session.specs.SlotSteps.{HaltsIfDone, is_done_in}
 use Rattle.session.specs.SessionStates.{NoAnswer, awaited_answer_of}
 use Rattle.session.specs.SlotTransitions.{IsCarried, IsEven, IsSamePacing, after_stop}
-use Rattle.session.specs.declared.settings.Settings.{Settings}
+use Rattle.film_streams.specs.declared.settings.Settings.{Settings}
 use Rattle.session.specs.declared.states.Awaited.{Awaited}
 use Rattle.session.specs.declared.states.Awaited.TheVariants.{Nothing, Play, Halt, Look, Offer}
-use Rattle.session.specs.declared.states.Counts.{Counts}
+use Rattle.film_streams.specs.declared.stream_numbers.Counts.{Counts}
 use Rattle.session.specs.declared.states.AfterHalt.{AfterHalt}
 use Rattle.session.specs.declared.states.Play.{Play as Played}
-use Rattle.session.specs.declared.states.Setup.{Setup}
-use Rattle.session.specs.declared.states.StreamSource.{StreamSource}
+use Rattle.film_streams.specs.declared.setups.Setup.{Setup}
+use Rattle.film_streams.specs.declared.stream_numbers.StreamSource.{StreamSource}
 use Rattle.session.specs.declared.states.State.{State}
 use Rattle.session.specs.declared.states.State.TheVariants.{Init, Ready, Playing, Stopping}
 

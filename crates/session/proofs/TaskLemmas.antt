@@ -8,7 +8,7 @@ use Rattle.session.specs.RefusalOrder.{IsOnFilm, IsOwnTalk, IsTaken, IsTimely, t
 use Rattle.rtsp_replies.specs.declared.methods.Method.{Method}
 use Rattle.rtsp_replies.specs.declared.methods.Method.TheVariants.{Options, Describe, Setup, Play, Pause, Teardown}
 use Rattle.rtsp_replies.specs.declared.methods.Method.TheVariants.{GetParameter}
-use Rattle.session.specs.declared.refusals.Asked.{Asked}
+use Rattle.film_streams.specs.declared.films.Asked.{Asked}
 use Rattle.session.specs.declared.states.State.{State as StateKind}
 
 pub taken : {films : List Stored} {id : List ℕ} {stage : StateKind} {request : Request} {method : Method} (asked :

@@ -1,6 +1,3 @@
-pub mod RecordLists
-pub mod SettingRanges
-pub mod Films
 pub mod RunRequests
 pub mod ResumedPlays
 pub mod Tasks

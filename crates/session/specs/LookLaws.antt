@@ -5,9 +5,11 @@ use Rattle.rtsp_text.specs.declared.requests.Request.{Request}
 use Rattle.session.specs.declared.commands.Ask.{Ask}
 use Rattle.session.specs.declared.commands.Ask.TheVariants.{Reply, Play as AskPlay, Halt as AskHalt}
 use Rattle.session.specs.declared.commands.Ask.TheVariants.{Look as AskLook, Offer as AskOffer}
-use Rattle.session.specs.declared.notes.OfferNote.{OfferNote}
-use Rattle.session.specs.declared.settings.Settings.{Settings}
-use Rattle.session.specs.RequestSteps.{Hears, after_admission, after_full, after_halt, after_look}
+use Rattle.session_records.specs.declared.notes.OfferNote.{OfferNote}
+use Rattle.session_records.specs.declared.records.TheConstants.{RESERVED_LOOKS}
+use Rattle.film_streams.specs.declared.settings.Settings.{Settings}
+use Rattle.session.specs.RequestSteps.{Hears, after_admission, after_full, after_halt}
+use Rattle.session.specs.RequestSteps.{after_look}
 use Rattle.session.specs.RequestSteps.{after_offer, after_overflow, new_session_state}
 use Rattle.session.specs.RefusalOrder.{IsReadAs}
 use Rattle.rtsp_replies.specs.Methods.{IsWord}
@@ -73,4 +75,4 @@ pub record HasLooksLeft (films : List Stored) (settings : Settings) (words : Lis
     (now : SessionState) : Type 0 where
   pub happenings : List SessionEvent
   pub are : AreAfter (new_session_state films settings words) happenings now
-  pub few : looks_asked happenings < 1024
+  pub few : looks_asked happenings < RESERVED_LOOKS

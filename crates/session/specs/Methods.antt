@@ -5,6 +5,7 @@ use Rattle.rtsp_text.specs.Fields.{header_value}
 use Rattle.rtsp_text.specs.Replies.{reply_front}
 use Rattle.vod_base.specs.Limits.{WritesNumber}
 use Rattle.early_start.specs.StartSearch.{Offers}
+use Rattle.early_start.specs.declared.TheConstants.{MAX_WAIT}
 use Rattle.rtsp_text.specs.declared.requests.Request.{Request}
 use Rattle.film_frames.specs.declared.stored_films.Stored.{Stored}
 use Rattle.pacer.specs.PacerStates.{next_boundary, slots_through}
@@ -37,11 +38,12 @@ use Rattle.session.specs.declared.states.Awaited.TheVariants.{Play, Halt, Look, 
 use Rattle.session.specs.declared.states.AfterHalt.{AfterHalt}
 use Rattle.session.specs.declared.states.AfterHalt.TheVariants.{Torn, Paused}
 use Rattle.session.specs.declared.states.Play.{Play as Played}
-use Rattle.session.specs.declared.states.Setup.{Setup}
+use Rattle.film_streams.specs.declared.setups.Setup.{Setup}
 use Rattle.session.specs.declared.states.State.{State}
 use Rattle.session.specs.declared.states.State.TheVariants.{Init, Ready, Playing, Stopping}
-use Rattle.session.specs.Films.{IsFilmAt, counts_after, identity_of, length_ms, milliseconds_at}
-use Rattle.session.specs.Films.{sending_of, timestamp_at}
+use Rattle.film_streams.specs.Films.{IsFilmAt, length_ms, milliseconds_at}
+use Rattle.film_streams.specs.StreamNumbers.{counts_after, identity_of, timestamp_at}
+use Rattle.session.specs.RunRequests.{sending_of}
 use Rattle.session.specs.RefusalOrder.{IsJudged, option_of}
 use Rattle.rtsp_replies.specs.Methods.{IsTopic}
 use Rattle.rtsp_replies.specs.Replies.{describe_text, plain_text, play_fields, public_text}
@@ -222,7 +224,7 @@ Pauses (Stopping setup stop) old sequence ask new = ⊥
 -- for its start
 abbrev pub IsWaitOf : Option (List ℕ) → ℕ → Type 0
 IsWaitOf None wait = ⊥
-IsWaitOf (Some value) wait = WritesNumber 0 255 value wait
+IsWaitOf (Some value) wait = WritesNumber 0 MAX_WAIT value wait
 
 abbrev pub HasWait : List ℕ → ℕ → Type 0
 HasWait head wait = IsWaitOf (header_value head (codes "x-Wait")) wait

@@ -7,7 +7,7 @@ use Rattle.rtsp_text.specs.declared.requests.Request.{Request}
 use Rattle.rtsp_fields.specs.SessionIds.{IsSession}
 use Rattle.film_frames.specs.declared.stored_films.Stored.{Stored}
 use Rattle.rtsp_replies.specs.Methods.{name_of}
-use Rattle.session.specs.Films.{Names}
+use Rattle.film_streams.specs.Films.{Names}
 use Rattle.session.specs.SessionStates.{has_session_in, is_playing_in}
 use Rattle.session.specs.declared.states.State.{State as StateKind}
 use Rattle.session.specs.declared.states.State.TheVariants.{Init, Ready, Playing, Stopping}
@@ -15,7 +15,7 @@ use Rattle.rtsp_replies.specs.declared.methods.Method.{Method}
 use Rattle.rtsp_replies.specs.declared.methods.Method.TheVariants.{Options, Describe, Setup, Play}
 use Rattle.rtsp_replies.specs.declared.methods.Method.TheVariants.{Pause}
 use Rattle.rtsp_replies.specs.declared.methods.Method.TheVariants.{Teardown, GetParameter}
-use Rattle.session.specs.declared.refusals.Asked.{Asked}
+use Rattle.film_streams.specs.declared.films.Asked.{Asked}
 use Rattle.rtsp_replies.specs.declared.refusals.Refusal.{Refusal}
 use Rattle.rtsp_replies.specs.declared.refusals.Refusal.TheVariants.{BadRequest, Version}
 use Rattle.rtsp_replies.specs.declared.refusals.Refusal.TheVariants.{Method as Unknown}

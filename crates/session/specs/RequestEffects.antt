@@ -18,14 +18,14 @@ use Rattle.session.specs.declared.states.Awaited.TheVariants.{Play, Halt}
 use Rattle.session.specs.declared.states.AfterHalt.{AfterHalt}
 use Rattle.session.specs.declared.states.AfterHalt.TheVariants.{Done}
 use Rattle.session.specs.declared.states.Play.{Play as Played}
-use Rattle.session.specs.declared.states.Setup.{Setup}
+use Rattle.film_streams.specs.declared.setups.Setup.{Setup}
 use Rattle.session.specs.declared.states.State.TheVariants.{Ready, Playing}
 use Rattle.session.specs.RefusalOrder.{IsJudged}
 use Rattle.rtsp_replies.specs.Methods.{name_of}
 use Rattle.rtsp_replies.specs.declared.methods.Method.TheVariants.{Play as PlayMethod}
 use Rattle.session.specs.Methods.{IsRefused, play_front, prepared_of}
 use Rattle.session.specs.RequestedPlans.{IsPlanned, IsPlannedRun}
-use Rattle.session.specs.SettingRanges.{AreSettings, IsSetup}
+use Rattle.film_streams.specs.SettingRanges.{AreSettings, IsSetup}
 use Rattle.session.specs.SlotSteps.{next_of}
 use Rattle.session.specs.SessionStates.{SessionState}
 

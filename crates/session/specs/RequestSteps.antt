@@ -1,9 +1,9 @@
 -- What each call of a session makes of it.
 use Rattle.std.specs.Int.{w64, to_be_bytes}
 use Rattle.hex.specs.Hex.{encode_lower}
-use Rattle.session.specs.declared.settings.Settings.{Settings}
-use Rattle.session.specs.declared.states.StreamSource.{StreamSource}
-use Rattle.std.specs.Prelude.{ℕ, ◌≡◌, ◌+◌, ◌-◌, ◌*◌, ◌%◌, ◌^◌, slice_index, ◌++◌, ◌⊎◌}
+use Rattle.film_streams.specs.declared.settings.Settings.{Settings}
+use Rattle.film_streams.specs.declared.stream_numbers.StreamSource.{StreamSource}
+use Rattle.std.specs.Prelude.{ℕ, ◌≡◌, ◌+◌, ◌-◌, ◌*◌, ◌^◌, slice_index, ◌++◌, ◌⊎◌}
 use Rattle.std.specs.Prelude.{if◌then◌else◌, Bool, true, false, List, [], ◌∷◌, Option, Some, None}
 use Rattle.std.specs.Prelude.{slice_get}
 use Rattle.rtsp_text.specs.Fields.{first_sequence}
@@ -12,11 +12,12 @@ use Rattle.rtsp_text.specs.declared.requests.Request.{Request}
 use Rattle.rtsp_text.specs.declared.requests.RequestFault.{RequestFault}
 use Rattle.admission.specs.declared.entries.Answer.TheVariants.{Admitted, Halted, Overflow, Looked}
 use Rattle.session.specs.declared.commands.Ask.{Ask}
-use Rattle.session.specs.declared.notes.OfferNote.{OfferNote}
-use Rattle.session.specs.declared.notes.Receipt.TheVariants.{Entry, Full}
+use Rattle.session_records.specs.declared.notes.OfferNote.{OfferNote}
+use Rattle.session_records.specs.declared.records.TheConstants.{RESERVED_LOOKS}
+use Rattle.session_records.specs.declared.notes.Receipt.TheVariants.{Entry, Full}
 use Rattle.session.specs.declared.states.Awaited.{Awaited}
 use Rattle.session.specs.declared.states.Awaited.TheVariants.{Nothing, Play, Halt, Look, Offer}
-use Rattle.session.specs.declared.states.Counts.{Counts}
+use Rattle.film_streams.specs.declared.stream_numbers.Counts.{Counts}
 use Rattle.session.specs.RefusalOrder.{IsReadAs}
 use Rattle.rtsp_replies.specs.Refusals.{fault_refusal}
 use Rattle.session.specs.Methods.{HearsRequest, IsRefused}
@@ -25,23 +26,14 @@ use Rattle.rtsp_replies.specs.Replies.{parameters_text, started_text}
 use Rattle.session.specs.declared.states.AfterHalt.{AfterHalt}
 use Rattle.session.specs.declared.states.AfterHalt.TheVariants.{Done, Paused, Torn}
 use Rattle.film_run.specs.declared.runs.Run.{Run}
-use Rattle.session.specs.declared.states.Setup.{Setup}
+use Rattle.film_streams.specs.declared.setups.Setup.{Setup}
 use Rattle.session.specs.declared.states.State.{State}
 use Rattle.session.specs.declared.states.State.TheVariants.{Init, Ready, Playing, Stopping}
-use Rattle.session.specs.Films.{counts_after, sending_of}
+use Rattle.session.specs.RunRequests.{sending_of}
+use Rattle.film_streams.specs.StreamNumbers.{counts_after, source_of}
 use Rattle.film_frames.specs.declared.stored_films.Stored.{Stored}
 use Rattle.session.specs.SlotSteps.{admitted_in, halted_in, halted_notes, kept_of, next_of}
 use Rattle.session.specs.SessionStates.{SessionState, after_answer, sequence_of}
-
--- a session of a new connection, with the connection's random words: two for the session's id, the
--- SSRC, the sequence number of the first frame in 16 bits, and the timestamp of the film's
--- beginning (RFC 3550 section 5.1)
-abbrev pub source_of : List ℕ → StreamSource
-source_of words = record {
-  ssrc = slice_index words 2;
-  sequence = slice_index words 3 % 65536;
-  timestamp = slice_index words 4;
-}
 
 abbrev pub new_session_state : List Stored → Settings → List ℕ → SessionState
 new_session_state films settings words = record {
@@ -59,7 +51,7 @@ new_session_state films settings words = record {
   lost = false;
   heard = 0;
   late = 0;
-  looks_left = 1024;
+  looks_left = RESERVED_LOOKS;
   receipts = [];
   plays = [];
   offers = [];

@@ -6,7 +6,7 @@ use Rattle.mpeg_scan.specs.PictureRates.{picture_time}
 use Rattle.mpeg_scan.specs.declared.films.Film.{Film}
 use Rattle.film_frames.specs.declared.stored_films.Stored.{Stored}
 use Rattle.film_frames.specs.Tracks.{IsBoundary}
-use Rattle.film_frames.specs.FramedRuns.{run_pieces}
+use Rattle.film_frames.specs.FramedRuns.{FramedRun, run_pieces, run_of as framed_run}
 use Rattle.film_run.specs.declared.plans.Playback.{Playback}
 use Rattle.film_run.specs.declared.runs.Run.{Run}
 use Rattle.film_run.specs.Plans.{IsPlanOf}
@@ -17,13 +17,18 @@ use Rattle.rtsp_fields.specs.Ranges.{IsSpan}
 use Rattle.rtsp_fields.specs.declared.ranges.Origin.{Origin}
 use Rattle.rtsp_fields.specs.declared.ranges.Origin.TheVariants.{Now, At}
 use Rattle.rtsp_fields.specs.declared.ranges.Span.{Span}
-use Rattle.session.specs.declared.settings.Settings.{Settings}
-use Rattle.session.specs.declared.states.Counts.{Counts}
-use Rattle.session.specs.declared.states.Setup.{Setup}
-use Rattle.session.specs.declared.states.StreamSource.{StreamSource}
+use Rattle.film_streams.specs.declared.settings.Settings.{Settings}
+use Rattle.film_streams.specs.declared.stream_numbers.Counts.{Counts}
+use Rattle.film_streams.specs.declared.setups.Setup.{Setup}
+use Rattle.film_streams.specs.declared.stream_numbers.StreamSource.{StreamSource}
 use Rattle.session.specs.declared.play_requests.PlayRequest.{PlayRequest}
 use Rattle.session.specs.declared.play_requests.PlayRequest.TheVariants.{Resumed, New}
-use Rattle.session.specs.Films.{counts_after, sending_of}
+use Rattle.film_streams.specs.StreamNumbers.{counts_after, identity_of}
+
+-- a run as it is sent
+abbrev pub sending_of : Film → StreamSource → Setup → Counts → Run → FramedRun
+sending_of film source setup counts run =
+    framed_run film run.first_unit run.end_unit (identity_of source setup counts)
 
 -- the span of play that a Range gives; from now on, where there is none
 abbrev pub IsSpanOf : Option (List ℕ) → Span → Type 0

@@ -1,23 +1,26 @@
 -- How a session is kept.
-use Rattle.std.specs.Prelude.{ℕ, ◌≡◌, ◌+◌, ◌≤◌, ◌^◌, ⊤, true, false, Bool, List, length}
+use Rattle.std.specs.Prelude.{ℕ, ◌≡◌, ◌+◌, ◌≤◌, ⊤, true, false, Bool, List, length}
 use Rattle.plan_cert.specs.PlanSlots.{total_bytes}
 use Rattle.film_frames.specs.declared.stored_films.Stored.{Stored}
 use Rattle.film_frames.specs.FramedRuns.{run_pieces}
 use Rattle.film_run.specs.declared.runs.Run.{Run}
 use Rattle.pacer.specs.PacerStates.{IsPacerState, is_done}
 use Rattle.rtsp_text.specs.Lines.{is_one_line}
-use Rattle.session.specs.Films.{OfFilm, sending_of}
+use Rattle.session.specs.RunRequests.{sending_of}
+use Rattle.film_streams.specs.Films.{OfFilm}
 use Rattle.session.specs.ResumedPlays.{IsPacedPlay, IsPrepared}
 use Rattle.session.specs.RequestedPlans.{IsPausedIn}
 use Rattle.session.specs.RunRequests.{IsPlayable, IsRunOf}
-use Rattle.session.specs.SettingRanges.{AreFilms, AreSettings, IsSetup}
+use Rattle.film_streams.specs.SettingRanges.{AreFilms, AreSettings, IsSetup}
 use Rattle.session.specs.SessionStates.{SessionState}
 use Rattle.session.specs.Teardowns.{is_tearing, is_torn_down}
 use Rattle.session.specs.SlotTransitions.{IsHaltIn}
-use Rattle.session.specs.declared.settings.Settings.{Settings}
-use Rattle.session.specs.declared.states.Counts.{Counts}
-use Rattle.session.specs.declared.states.Setup.{Setup}
-use Rattle.session.specs.declared.states.StreamSource.{StreamSource}
+use Rattle.session_records.specs.declared.records.TheConstants.{RESERVED_LOOKS}
+use Rattle.vod_base.specs.declared.links.TheConstants.{LATEST_SLOT}
+use Rattle.film_streams.specs.declared.settings.Settings.{Settings}
+use Rattle.film_streams.specs.declared.stream_numbers.Counts.{Counts}
+use Rattle.film_streams.specs.declared.setups.Setup.{Setup}
+use Rattle.film_streams.specs.declared.stream_numbers.StreamSource.{StreamSource}
 use Rattle.session.specs.declared.states.Play.{Play as Played}
 use Rattle.session.specs.declared.states.Prepared.{Prepared}
 use Rattle.session.specs.declared.states.Awaited.{Awaited}
@@ -190,11 +193,11 @@ pub record IsSessionInvariant (session : Inside) : Type 0 where
   pub play_room : open_receipts session.state
       + awaited_plays session.awaited ≤ session.log.play_room
   pub offer_room : awaited_offers session.awaited ≤ session.log.offer_room
-  pub looks : session.looks_left ≤ 1024
+  pub looks : session.looks_left ≤ RESERVED_LOOKS
   pub torn : is_tearing session.teardown ≡ true → session.waits ≡ false
       → is_torn_down session.teardown ≡ true
   pub late : session.late ≤ session.heard
-  pub heard : session.heard ≤ 2 ^ 62
+  pub heard : session.heard ≤ LATEST_SLOT
   pub front : awaited_plays session.awaited ≡ 1 → length session.reply ≤ 20000
 
 -- what every session satisfies, whatever happened to it: the films and the settings are in their

@@ -1,13 +1,14 @@
 -- What contracts see of a session, and the terms that its callers need.
-use Rattle.std.specs.Prelude.{ℕ, ◌≡◌, ◌≤◌, ◌^◌, ◌&&◌, ◌++◌, ◌∷◌, Bool, true, false, if◌then◌else◌}
+use Rattle.std.specs.Prelude.{ℕ, ◌≡◌, ◌≤◌, ◌&&◌, ◌++◌, ◌∷◌, Bool, true, false, if◌then◌else◌}
 use Rattle.std.specs.Prelude.{nat_lt, nat_le, List, [], Option, Some, None, ⊤}
+use Rattle.vod_base.specs.declared.links.TheConstants.{LATEST_SLOT}
 use Rattle.plan_cert.specs.declared.Segment.{Segment}
 use Rattle.film_frames.specs.declared.stored_films.Stored.{Stored}
-pub use Rattle.session.specs.SettingRanges.{AreFilms, AreSettings}
-use Rattle.session.specs.declared.settings.Settings.{Settings}
-use Rattle.session.specs.declared.notes.Receipt.{Receipt}
-use Rattle.session.specs.declared.notes.PlayNote.{PlayNote}
-use Rattle.session.specs.declared.notes.OfferNote.{OfferNote}
+pub use Rattle.film_streams.specs.SettingRanges.{AreFilms, AreSettings}
+use Rattle.film_streams.specs.declared.settings.Settings.{Settings}
+use Rattle.session_records.specs.declared.notes.Receipt.{Receipt}
+use Rattle.session_records.specs.declared.notes.PlayNote.{PlayNote}
+use Rattle.session_records.specs.declared.notes.OfferNote.{OfferNote}
 use Rattle.plan_cert.specs.PlanSlots.{total_bytes}
 use Rattle.session.specs.declared.commands.Ask.{Ask}
 use Rattle.session.specs.declared.commands.Ask.TheVariants.{Reply, Play as AskPlay, Halt as AskHalt}
@@ -18,9 +19,9 @@ use Rattle.session.specs.declared.states.Awaited.{Awaited}
 use Rattle.session.specs.declared.states.Awaited.TheVariants.{Nothing, Play, Halt, Look, Offer}
 use Rattle.session.specs.declared.states.State.{State}
 use Rattle.session.specs.declared.states.State.TheVariants.{Init, Ready, Playing, Stopping}
-use Rattle.session.specs.declared.states.Counts.{Counts}
-use Rattle.session.specs.declared.states.Setup.{Setup}
-use Rattle.session.specs.declared.states.StreamSource.{StreamSource}
+use Rattle.film_streams.specs.declared.stream_numbers.Counts.{Counts}
+use Rattle.film_streams.specs.declared.setups.Setup.{Setup}
+use Rattle.film_streams.specs.declared.stream_numbers.StreamSource.{StreamSource}
 
 pub record SessionState : Type 0 where
   -- the server's films and settings, the session's id, and what its stream begins with
@@ -111,7 +112,7 @@ AsksFor (AskOffer plan offers) new = (awaited_answer new ≡ OfferAnswer) × (ne
 
 -- a slot that is processed: a later one than the last, and none above 2^62
 abbrev pub last_heard_slot : ℕ → ℕ → ℕ
-last_heard_slot heard slot = if nat_lt heard slot && nat_le slot (2 ^ 62) then slot else heard
+last_heard_slot heard slot = if nat_lt heard slot && nat_le slot LATEST_SLOT then slot else heard
 
 -- what a slot brought
 abbrev pub BringsIn : Slotted → Awaited → State → Type 0

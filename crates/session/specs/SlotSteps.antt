@@ -1,19 +1,20 @@
 -- What a session sends: in a slot, and as a reply, and what stands after it.
-use Rattle.std.specs.Prelude.{ℕ, ◌≡◌, ◌+◌, ◌-◌, ◌^◌, ◌++◌, ◌&&◌, nat_lt, nat_le, max, true, false}
+use Rattle.std.specs.Prelude.{ℕ, ◌≡◌, ◌+◌, ◌-◌, ◌++◌, ◌&&◌, nat_lt, nat_le, max, true, false}
 use Rattle.std.specs.Prelude.{Bool, if◌then◌else◌, List, [], ◌∷◌, Option, Some, None}
 use Rattle.vod_base.specs.Links.{IoEvent, IsSentPrefix, sends, told_more}
+use Rattle.vod_base.specs.declared.links.TheConstants.{LATEST_SLOT}
 use Rattle.film_frames.specs.FramedRuns.{run_pieces}
 use Rattle.pacer.specs.PacerStates.{after_step, at_slot, is_done, plan_bytes, stands_at_boundary}
 use Rattle.pacer.specs.PacerStates.{step_end, new_pacer_state}
 use Rattle.session.specs.declared.states.Play.{Play as Played}
-use Rattle.session.specs.declared.states.Setup.{Setup}
+use Rattle.film_streams.specs.declared.setups.Setup.{Setup}
 use Rattle.session.specs.declared.states.AfterHalt.{AfterHalt}
 use Rattle.session.specs.declared.states.AfterHalt.TheVariants.{Done, Paused, Torn}
 use Rattle.session.specs.declared.states.Awaited.{Awaited}
 use Rattle.session.specs.declared.states.Awaited.TheVariants.{Nothing, Play, Halt, Look, Offer}
 use Rattle.session.specs.declared.states.State.{State}
 use Rattle.session.specs.declared.states.State.TheVariants.{Init, Ready, Playing, Stopping}
-use Rattle.session.specs.declared.notes.PlayNote.{PlayNote}
+use Rattle.session_records.specs.declared.notes.PlayNote.{PlayNote}
 use Rattle.session.specs.SlotTransitions.{IsCarried, IsHaltIn, after_stop}
 use Rattle.session.specs.SessionStates.{SessionState, open_in, open_of}
 
@@ -199,7 +200,7 @@ sent_slot old slot =
 
 -- a slot is processed: it is later than the last, and none above 2^62
 abbrev pub is_taken : SessionState → ℕ → Bool
-is_taken old slot = nat_lt old.heard slot && nat_le slot (2 ^ 62)
+is_taken old slot = nat_lt old.heard slot && nat_le slot LATEST_SLOT
 
 -- the session after a slot
 abbrev pub after_slot : SessionState → ℕ → SessionState

@@ -1,7 +1,8 @@
 -- What is known of a request that is processed.
 use Rattle.std.specs.Prelude.{ℕ, ◌≡◌, ◌<◌, ◌≤◌, ⊤, false, true, Bool, length}
+use Rattle.interleave.specs.declared.message_heads.TheConstants.{MAX_HEAD_BYTES}
 use Rattle.rtsp_text.specs.Lines.{is_one_line}
-use Rattle.session.specs.declared.refusals.Asked.{Asked}
+use Rattle.film_streams.specs.declared.films.Asked.{Asked}
 use Rattle.session.specs.SessionStates.{has_session_in, is_playing_in}
 use Rattle.session.specs.declared.refusals.Task.{Task}
 use Rattle.session.specs.declared.refusals.Task.TheVariants.{Options as ToOptions}
@@ -19,7 +20,7 @@ use Rattle.rtsp_replies.specs.declared.methods.Method.TheVariants.{Teardown, Get
 -- a film of the server, under an authority that a reply repeats
 pub record IsAsked (films : ℕ) (asked : Asked) : Type 0 where
   pub film : asked.film < films
-  pub short : length asked.authority.now ≤ 16384
+  pub short : length asked.authority.now ≤ MAX_HEAD_BYTES
   pub line : is_one_line asked.authority.now ≡ true
 
 -- a PLAY, a PAUSE and a TEARDOWN need a session

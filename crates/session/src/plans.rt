@@ -2,20 +2,19 @@
 
 ghost use Rattle.std.specs.Prelude.{◌≡◌, ℕ, List, Option, length, option_map, IfOk, IfSome};
 ghost use Rattle.film_run.specs.Plans.{IsPlayback};
-ghost use Rattle.session.specs.Films.{OfFilm};
+ghost use Rattle.film_streams.specs.Films.{OfFilm};
 ghost use Rattle.session.specs.RequestedPlans.{IsPausedIn, IsPlanned};
 ghost use Rattle.session.specs.RunRequests.{IsAskedRun, IsPlayable, IsRunOf, counts_before};
 ghost use Rattle.session.specs.RunRequests.{counts_for};
 ghost use Rattle.session.specs.RunRequests.{playback_of, run_of};
-ghost use Rattle.session.specs.SettingRanges.{AreSettings, IsSetup};
+ghost use Rattle.film_streams.specs.SettingRanges.{AreSettings, IsSetup};
 
-use crate::films::{counts_after, frames_of, stored_at};
+use crate::films::{frames_of, stored_at};
 use crate::play_requests::{PlayRequest, requested_run};
 use crate::sessions::Session;
-use crate::settings::Settings;
-use crate::states::{Counts, Setup, StreamSource};
 use film_frames::Stored;
 use film_run::{Playback, Run, plan_of};
+use film_streams::{Counts, Settings, Setup, StreamSource, counts_after};
 use mpeg_scan::Film;
 use plan_cert::Plan;
 use rtsp_replies::Refusal;

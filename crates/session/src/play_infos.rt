@@ -2,11 +2,12 @@
 
 ghost use Rattle.std.specs.Prelude.{◌≡◌, ◌≤◌, string_bytes};
 ghost use Rattle.vod_base.specs.declared.limits.TheConstants.{MAX_FILM_PICTURES};
-ghost use Rattle.session.specs.Films.{counts_after, identity_of, milliseconds_at, timestamp_at};
+ghost use Rattle.film_streams.specs.Films.{milliseconds_at};
+ghost use Rattle.film_streams.specs.StreamNumbers.{counts_after, identity_of, timestamp_at};
 
-use crate::films::{counts_after, identity_of, milliseconds_at, timestamp_at};
-use crate::states::{Prepared, Setup, StreamSource};
+use crate::states::Prepared;
 use film_frames::Stored;
+use film_streams::{Setup, StreamSource, counts_after, identity_of, milliseconds_at, timestamp_at};
 use rtsp_replies::PlayInfo;
 
 /// Where a play begins and ends in time, and from which frame it goes on.

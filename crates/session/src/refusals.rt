@@ -1,33 +1,23 @@
 //! Whether a request can be done, and the refusal where it can't.
 
-ghost use Rattle.std.specs.Prelude.{◌≡◌, ◌<◌, ◌≤◌, ℕ, true, List, length};
+ghost use Rattle.std.specs.Prelude.{◌≡◌, ◌≤◌, true, List, length};
 ghost use Rattle.std.specs.Prelude.{IfOk, IsTrue, IfSome, MatchOption, ◌↔◌};
 ghost use Rattle.std.specs.Prelude.{option_map, IfErr, Err};
 ghost use Rattle.film_frames.specs.declared.stored_films.Stored.{Stored};
-ghost use Rattle.session.specs.Films.{IsFilmNamed, Names};
 ghost use Rattle.session.specs.RefusalOrder.{FitsFilm, FitsSession, FitsState, HasFilm, IsJudged};
-ghost use Rattle.session.specs.RefusalOrder.{IsOnFilm, IsOwnTalk, option_of};
-ghost use Rattle.session.specs.RefusalOrder.{required_of};
-ghost use Rattle.session.specs.RefusalOrder.{task_for};
-ghost use Rattle.session.specs.SettingRanges.{AreFilms};
+ghost use Rattle.session.specs.RefusalOrder.{IsOnFilm, IsOwnTalk, option_of, required_of, task_for};
+ghost use Rattle.film_streams.specs.SettingRanges.{AreFilms};
 ghost use Rattle.session.specs.SessionStates.{has_session_in};
 ghost use Rattle.rtsp_text.specs.Lines.{is_one_line};
 ghost use Rattle.session.specs.Tasks.{IsAsked, IsTask, IsValid, NeedsSession};
 
 use crate::states::State;
 use film_frames::Stored;
-use rtsp_fields::{read_url, session_matches};
+use film_streams::{Asked, asked_film};
+use interleave::MAX_HEAD_BYTES;
+use rtsp_fields::session_matches;
 use rtsp_replies::{Method, Refusal, read_method};
 use rtsp_text::{Request, header};
-
-/// The film that a request names, and how its URL names it.
-#[derive(Clone, Copy)]
-pub struct Asked<'m> {
-    /// The number of the film.
-    pub(crate) film: usize,
-    /// The authority of the URL.
-    pub(crate) authority: &'m [u8],
-}
 
 /// A request that is processed.
 #[derive(Clone, Copy)]
@@ -66,7 +56,7 @@ pub(crate) fn check_request<'m>(
     request: &Request<'m>,
 ) -> Result<Task<'m>, Refusal>
     requires films { AreFilms films.now }
-    requires url { length request.now.url.now ≤ 16384 }
+    requires url { length request.now.url.now ≤ MAX_HEAD_BYTES }
     ensures task { IfOk result (IsTask (length films.now) state.now) }
     ensures judged { IsJudged films.now id.now state.now request.now result }
 {
@@ -108,7 +98,7 @@ fn own_film<'m>(
     url: &'m [u8],
 ) -> Option<Asked<'m>>
     requires films { AreFilms films.now }
-    requires short { length url.now ≤ 16384 }
+    requires short { length url.now ≤ MAX_HEAD_BYTES }
     ensures film { MatchOption result (¬ HasFilm films.now state.now url.now method)
         (λ asked. IsOnFilm films.now state.now url.now method asked.authority.now asked.film) }
     ensures asked { IfSome result (IsAsked (length films.now)) }
@@ -151,41 +141,6 @@ fn fits_session(method: Method, exists: bool, id: &[u8; 16], named: Option<&[u8]
         Method::Setup | Method::GetParameter => named.is_none() || matches,
         Method::Play | Method::Pause | Method::Teardown => matches,
     }
-}
-
-/// The number of the film of that name.
-fn find(films: &[Stored], name: &[u8]) -> Option<usize>
-    ensures found { MatchOption result ((film : ℕ) →
-        ¬ IsFilmNamed films.now name.now film) (IsFilmNamed films.now name.now) }
-    ensures within { IfSome result (λ film. film < length films.now) }
-{
-    for (number, film) in films.iter().enumerate() {
-        if film.name.as_bytes() == name {
-            return Some(number);
-        }
-    }
-    None
-}
-
-/// The film that a URL names.
-fn asked_film<'m>(films: &[Stored], url: &'m [u8]) -> Option<Asked<'m>>
-    requires { AreFilms films.now }
-    ensures asked { MatchOption result ((authority : List ℕ) (film : ℕ) →
-        ¬ Names films.now url.now authority film)
-        (λ asked. Names films.now url.now asked.authority.now asked.film) }
-    ensures one { IfSome result (λ asked. (authority : List ℕ) (film : ℕ) →
-        Names films.now url.now authority film → film ≡ asked.film) }
-    ensures within { IfSome result (λ asked. asked.film < length films.now) }
-    ensures authority { IfSome result (λ asked. length asked.authority.now ≤ length url.now) }
-    ensures authority_line { IfSome result (λ asked. is_one_line asked.authority.now ≡ true) }
-{
-    let read = read_url(url)?;
-    let name = read.name?;
-    let film = find(films, name)?;
-    Some(Asked {
-        film,
-        authority: read.authority,
-    })
 }
 
 /// Whether a method may be asked of that film: it is the session's, or there is none, or it is to

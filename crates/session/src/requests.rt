@@ -1,15 +1,14 @@
 //! Requests, method by method.
 
-ghost use Rattle.std.specs.Prelude.{◌≡◌, ◌<◌, ◌≤◌, ℕ, true, false, length, IfOk, IfSome};
-ghost use Rattle.std.specs.Prelude.{MatchOption, IfNone, OnOk, Ok, None, [], ◌+◌};
+ghost use Rattle.std.specs.Prelude.{◌≡◌, ◌<◌, ◌≤◌, ℕ, true, false, length, IfSome};
+ghost use Rattle.std.specs.Prelude.{MatchOption, IfNone, Ok, []};
 ghost use Rattle.interleave.specs.Elements.{IsMessageLength};
 ghost use Rattle.rtsp_text.specs.Lines.{is_one_line};
 ghost use Rattle.session.specs.declared.commands.Ask.{Ask};
 ghost use Rattle.session.specs.RequestSteps.{Hears};
 ghost use Rattle.session.specs.RunRequests.{IsPlayable};
-ghost use Rattle.session.specs.SettingRanges.{IsSetup};
-ghost use Rattle.session.specs.Films.{OfFilm};
-ghost use Rattle.session.specs.RecordLists.{IsSameLists};
+ghost use Rattle.film_streams.specs.SettingRanges.{IsSetup};
+ghost use Rattle.film_streams.specs.Films.{OfFilm};
 ghost use Rattle.session.specs.Methods.{AsksOfferOr, AsksPlayOr, Describes, GetsParameter, HasWait};
 ghost use Rattle.session.specs.Methods.{HearsRequest, Looks, GetsOffer, OffersReady};
 ghost use Rattle.session.specs.Methods.{Pauses, Plays, SetsUp, Takes, TearsDown, play_call};
@@ -23,27 +22,25 @@ ghost use Rattle.session.specs.SessionInvariant.{IsGoing};
 ghost use Rattle.session.specs.HaltSteps.{KeepsToBoundary};
 
 use crate::commands::Ask;
-use crate::films::{frames_of, length_ms, stored_at};
+use crate::films::{frames_of, stored_at};
 use crate::plans::{Planned, playback_of};
 use crate::play_infos::info_of;
-use crate::records::Records;
 use crate::refusals::{Task, check_request, option_of};
 use crate::sessions::Session;
 use crate::setups::read_setup;
-use crate::states::{AfterHalt, Awaited, Prepared, Setup, State};
-use early_start::Offers;
+use crate::states::{AfterHalt, Awaited, Prepared, State};
+use early_start::MAX_WAIT;
 use film_run::{Run, run_after};
+use film_streams::{Setup, length_ms};
+use interleave::MAX_HEAD_BYTES;
 use mpeg_scan::laws::law_film_is_well_formed;
-use plan_cert::Plan;
 use rtsp_fields::{Channels, read_wait};
 use rtsp_replies::{
     Refusal, Topic, put_description, put_plain, put_play, put_public, put_refusal, put_session,
     put_setup, read_topic,
 };
 use rtsp_text::{Request, header, read_request, sequence_of};
-use std::alloc::Global;
 use std::mem;
-use vod_base::NoMemory;
 
 impl<'a> Session<'a> {
     /// Processes a complete request: answers it, or asks for what its answer needs.
@@ -77,8 +74,8 @@ impl<'a> Session<'a> {
     /// Answers a request that could be read: it is refused, or processed by its method.
     fn hear_request(&mut self, request: &Request<'_>) -> Ask
         requires hear { CanHandleRequest self.old }
-        requires head { length request.now.head.now ≤ 16384 }
-        requires url { length request.now.url.now ≤ 16384 }
+        requires head { length request.now.head.now ≤ MAX_HEAD_BYTES }
+        requires url { length request.now.url.now ≤ MAX_HEAD_BYTES }
         ensures hears { HearsRequest self.old request.now result self.new }
         ensures asks { AsksFor result self.new }
         ensures same { IsSameStationState self.old self.new }
@@ -136,7 +133,7 @@ impl<'a> Session<'a> {
     /// Refuses a request. The option is the one that it requires, if any.
     fn refuse_option(&mut self, sequence: Option<u64>, refusal: Refusal, option: &[u8]) -> Ask
         requires rest { AwaitsNoAnswer self.old }
-        requires short { length option.now ≤ 16384 }
+        requires short { length option.now ≤ MAX_HEAD_BYTES }
         requires line { is_one_line option.now ≡ true }
         ensures ask { result ≡ Ask.Reply }
         ensures exact { self.new ≡ with_reply self.old (refusal_text sequence refusal option.now) }
@@ -151,7 +148,7 @@ impl<'a> Session<'a> {
     fn describe(&mut self, sequence: u64, film: usize, authority: &[u8]) -> Ask
         requires hear { CanHandleRequest self.old }
         requires film { film < length self.old.films }
-        requires authority { length authority.now ≤ 16384 }
+        requires authority { length authority.now ≤ MAX_HEAD_BYTES }
         requires authority_line { is_one_line authority.now ≡ true }
         ensures exact { Describes self.old sequence film authority.now result self.new }
         ensures asks { AsksFor result self.new }
@@ -202,7 +199,7 @@ impl<'a> Session<'a> {
     fn play(&mut self, request: &Request<'_>, authority: &[u8]) -> Ask
         requires hear { CanHandleRequest self.old }
         requires session { has_session_in self.old.state ≡ true }
-        requires authority { length authority.now ≤ 16384 }
+        requires authority { length authority.now ≤ MAX_HEAD_BYTES }
         requires authority_line { is_one_line authority.now ≡ true }
         ensures exact { Plays self.old.state self.old request.now authority.now result self.new }
         ensures asks { AsksFor result self.new }
@@ -225,7 +222,7 @@ impl<'a> Session<'a> {
     fn ask_play(&mut self, sequence: u64, authority: &[u8], setup: &Setup, planned: Planned) -> Ask
         requires hear { CanHandleRequest self.old }
         requires ready { IsReadyIn self.old.state setup.now }
-        requires authority { length authority.now ≤ 16384 }
+        requires authority { length authority.now ≤ MAX_HEAD_BYTES }
         requires authority_line { is_one_line authority.now ≡ true }
         requires run { OfFilm self.old.films setup.now.film (λ stored.
             IsPlayable stored self.old.source self.old.settings setup.now
@@ -237,7 +234,7 @@ impl<'a> Session<'a> {
     {
         // Memory comes before the question: once the station has admitted the play, nothing can
         // fail any more. Three plans are needed: for the journal, for the note and for the sender.
-        let Ok((own, paced)) = plans_with_room(&mut self.log, self.looks_left, &planned.plan) else {
+        let Ok((own, paced)) = self.log.plans_with_room(self.looks_left, &planned.plan) else {
             return self.refuse(Some(sequence), Refusal::Memory);
         };
         let films = self.films;
@@ -374,7 +371,7 @@ impl<'a> Session<'a> {
         requires setup { IsSetup (length self.old.films) setup.now }
         requires paused { IsPausedIn
             self.old.films self.old.source self.old.counts setup.now paused }
-        requires wait { wait ≤ 255 }
+        requires wait { wait ≤ MAX_WAIT }
         ensures exact { OffersReady self.old sequence wait setup.now paused result self.new }
         ensures asks { AsksFor result self.new }
         ensures same { IsSameStationState self.old self.new }
@@ -389,13 +386,13 @@ impl<'a> Session<'a> {
     /// Asks for an offer, once there is memory for it and for its note.
     fn ask_offer(&mut self, sequence: u64, wait: u64, planned: Planned) -> Ask
         requires hear { CanHandleRequest self.old }
-        requires wait { wait ≤ 255 }
+        requires wait { wait ≤ MAX_WAIT }
         ensures exact { AsksOfferOr self.old sequence wait (Ok planned) result self.new }
         ensures asks { AsksFor result self.new }
         ensures same { IsSameStationState self.old self.new }
     {
         // Memory first, as for a play. An offer makes no entry, so it needs no receipt.
-        let Ok(offers) = offers_with_room(self.alloc, &mut self.log, wait) else {
+        let Ok(offers) = self.log.offers_with_room(self.alloc, wait) else {
             return self.refuse(Some(sequence), Refusal::Memory);
         };
         self.awaited.set(Awaited::Offer(sequence));
@@ -422,43 +419,7 @@ fn ask_halt(state: &mut State<'_>) -> Option<u64>
 fn wait_of(request: &Request<'_>) -> Option<u64>
     ensures read { MatchOption result ((wait : ℕ) →
         ¬ HasWait request.now.head.now wait) (HasWait request.now.head.now) }
-    ensures most { IfSome result (λ wait. wait ≤ 255) }
+    ensures most { IfSome result (λ wait. wait ≤ MAX_WAIT) }
 {
     read_wait(header(request, b"x-Wait")?)
-}
-
-/// The plan of a play twice more, once there is room for what the play leaves for the report beside
-/// so many looks.
-fn plans_with_room(log: &mut Records, looks: usize, plan: &Plan) -> Result<(Plan, Plan), NoMemory>
-    requires { looks ≤ 1024 }
-    ensures lists { IsSameLists log.old log.new }
-    ensures room { OnOk result (looks + 2 ≤ log.new.receipt_room) }
-    ensures plays { OnOk result (1 ≤ log.new.play_room) }
-    ensures more { (log.old.receipt_room ≤ log.new.receipt_room)
-        × (log.old.play_room ≤ log.new.play_room) }
-    ensures others { log.new.offer_room ≡ log.old.offer_room }
-    ensures own { IfOk result (λ both. both.0 ≡ plan.now) }
-    ensures paced { IfOk result (λ both. both.1 ≡ plan.now) }
-{
-    log.reserve_for_play(looks)?;
-    let own = plan.copy()?;
-    let paced = plan.copy()?;
-    Ok((own, paced))
-}
-
-/// The offers of a wait, once there is room for their note.
-fn offers_with_room(alloc: Global, log: &mut Records, wait: u64) -> Result<Offers, NoMemory>
-    requires { wait ≤ 255 }
-    ensures lists { IsSameLists log.old log.new }
-    ensures room { OnOk result (1 ≤ log.new.offer_room) }
-    ensures more { log.old.offer_room ≤ log.new.offer_room }
-    ensures others { (log.new.receipt_room ≡ log.old.receipt_room)
-        × (log.new.play_room ≡ log.old.play_room) }
-    ensures wait { IfOk result (λ offers. offers.wait ≡ wait) }
-    ensures start { IfOk result (λ offers. offers.start ≡ None) }
-    ensures tried { IfOk result (λ offers. offers.tried ≡ []) }
-{
-    let offers = Offers::new(alloc, wait)?;
-    log.reserve_offer()?;
-    Ok(offers)
 }

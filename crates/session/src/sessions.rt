@@ -1,21 +1,20 @@
 //! A session as its connection sees it: how it begins, what waits, and what it leaves.
 
-ghost use Rattle.std.specs.Prelude.{◌≡◌, ◌≤◌, ◌^◌, [], false, None, IfOk, IfSome, MatchOption};
-ghost use Rattle.session.specs.SettingRanges.{AreFilms, AreSettings};
+ghost use Rattle.std.specs.Prelude.{◌≡◌, ◌≤◌, [], false, None, IfOk, IfSome, MatchOption};
+ghost use Rattle.film_streams.specs.SettingRanges.{AreFilms, AreSettings};
 ghost use Rattle.session.specs.RequestSteps.{new_session_state};
 ghost use Rattle.session.specs.SessionStates.{CanKeep, AwaitsNoAnswer, IsDue, open_of};
 
-use crate::notes::Notes;
-use crate::records::{RESERVED_LOOKS, Records};
-use crate::settings::Settings;
-use crate::states::{Awaited, Counts, NOTHING_SENT, State, StreamSource, Teardown, source_of};
+use crate::states::{Awaited, State, Teardown};
 use film_frames::Stored;
+use film_streams::{Counts, NOTHING_SENT, Settings, StreamSource, source_of};
 use rtsp_fields::session_id;
 use rtsp_replies::Text;
 use rtsp_text::Reply;
+use session_records::{Notes, RESERVED_LOOKS, Records};
 use std::alloc::Global;
 use std::marker::Model;
-use vod_base::NoMemory;
+use vod_base::{LATEST_SLOT, NoMemory};
 
 /// One RTSP session of a connection (RFC 2326): what it asked of the station, and the play that it
 /// sends.
@@ -168,7 +167,7 @@ impl<'a> Session<'a> {
     /// Returns the greatest slot up to 2^62 that arrived, at first 0.
     pub fn heard_slot(&self) -> u64
         ensures slot { result ≡ self.now.heard }
-        ensures most { result ≤ 2 ^ 62 }
+        ensures most { result ≤ LATEST_SLOT }
     {
         self.heard
     }

@@ -1,15 +1,12 @@
 //! What a SETUP asks for.
 
-ghost use Rattle.std.specs.Prelude.{◌<◌, ◌≤◌, ◌^◌, ℕ, IfOk, IfSome, MatchOption};
-ghost use Rattle.session.specs.SettingRanges.{AreSettings, IsSetup};
-ghost use Rattle.session.specs.Setups.{HasChannels, IsBuffer, IsDelay, IsSetupRead};
-ghost use Rattle.rtsp_fields.specs.declared.transports.Channels.{Channels};
+ghost use Rattle.std.specs.Prelude.{◌<◌, ℕ, IfOk};
+ghost use Rattle.film_streams.specs.SettingRanges.{AreSettings, IsSetup};
+ghost use Rattle.session.specs.Setups.{IsSetupRead};
 
-use crate::settings::Settings;
-use crate::states::Setup;
-use rtsp_fields::{Channels, read_buffer, read_delay, read_transport};
+use film_streams::{Settings, Setup, buffer_of, channels_of, delay_of};
 use rtsp_replies::Refusal;
-use rtsp_text::{Request, header};
+use rtsp_text::Request;
 
 /// What a SETUP asks for: the transport first, then the client's buffer and the start delay.
 pub(crate) fn read_setup(
@@ -32,39 +29,4 @@ pub(crate) fn read_setup(
         buffer,
         delay,
     })
-}
-
-/// The channels of the first transport that can be taken.
-fn channels_of(request: &Request<'_>) -> Option<Channels>
-    ensures { MatchOption result ((channels : Channels) →
-        ¬ HasChannels request.now.head.now channels) (HasChannels request.now.head.now) }
-{
-    read_transport(header(request, b"Transport")?)
-}
-
-/// The client's buffer.
-fn buffer_of(request: &Request<'_>, settings: &Settings) -> Option<u64>
-    requires { AreSettings settings.now }
-    ensures read { MatchOption result ((n : ℕ) → ¬ IsBuffer settings.now request.now.head.now n)
-        (IsBuffer settings.now request.now.head.now) }
-    ensures some { IfSome result (λ buffer. 1 ≤ buffer) }
-    ensures most { IfSome result (λ buffer. buffer ≤ 2 ^ 42) }
-{
-    match header(request, b"x-Buffer") {
-        Some(value) => read_buffer(value),
-        None => Some(settings.buffer),
-    }
-}
-
-/// The slots before the first picture is used.
-fn delay_of(request: &Request<'_>, settings: &Settings) -> Option<u64>
-    requires { AreSettings settings.now }
-    ensures read { MatchOption result ((n : ℕ) → ¬ IsDelay settings.now request.now.head.now n)
-        (IsDelay settings.now request.now.head.now) }
-    ensures most { IfSome result (λ delay. delay ≤ 10000) }
-{
-    match header(request, b"x-Startup") {
-        Some(value) => read_delay(value),
-        None => Some(settings.startup),
-    }
 }

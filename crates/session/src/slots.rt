@@ -19,10 +19,9 @@ ghost use Rattle.session.specs.SessionStates.{last_heard_slot};
 use crate::commands::Slotted;
 use crate::sessions::Session;
 use crate::states::{AfterHalt, Awaited, State};
-use admission::LATEST_SLOT;
 use rtsp_text::Reply;
 use std::mem;
-use vod_base::{Link, LinkFault};
+use vod_base::{LATEST_SLOT, Link, LinkFault};
 
 impl<'a> Session<'a> {
     /// Processes a slot, if it is a later one than the last and none above 2^62, and sends what is

@@ -2,57 +2,16 @@
 
 ghost use Rattle.std.specs.Prelude.{◌≡◌, true, if◌then◌else◌};
 ghost use Rattle.session.specs.Teardowns.{is_tearing, is_torn_down};
-ghost use Rattle.session.specs.RequestSteps.{is_torn, source_of};
+ghost use Rattle.session.specs.RequestSteps.{is_torn};
 ghost use Rattle.session.specs.SessionStates.{has_session_in, is_playing_in, sequence_of};
 ghost use Rattle.session.specs.declared.states.Awaited.TheVariants.{Nothing};
 
 use film_frames::Frames;
 use film_run::Run;
+use film_streams::{Counts, Setup};
 use pacer::Pacer;
 use plan_cert::Plan;
 use std::mem;
-
-/// What SETUP settled.
-#[derive(Clone, Copy)]
-pub(crate) struct Setup {
-    /// The number of the film.
-    pub(crate) film: usize,
-    /// The channel of the frames.
-    pub(crate) media: u8,
-    /// The channel of the reports.
-    pub(crate) control: u8,
-    /// The client's buffer in bytes.
-    pub(crate) buffer: u64,
-    /// The slots before the first picture is used.
-    pub(crate) delay: u64,
-}
-
-/// The frames that a session sent, and their octets, both modulo 2^32.
-#[derive(Clone, Copy)]
-pub(crate) struct Counts {
-    /// The frames.
-    pub(crate) frames: u32,
-    /// Their octets.
-    pub(crate) octets: u32,
-}
-
-/// Nothing was sent.
-pub(crate) const NOTHING_SENT: Counts = Counts {
-    frames: 0,
-    octets: 0,
-};
-
-/// The source of the stream that a connection sends, and where its numbers begin, from the
-/// connection's random words (RFC 3550 section 5.1).
-#[derive(Clone, Copy)]
-pub(crate) struct StreamSource {
-    /// The SSRC.
-    pub(crate) ssrc: u32,
-    /// The sequence number of the first frame.
-    pub(crate) sequence: u16,
-    /// The timestamp of the film's beginning, in 1/90,000 second.
-    pub(crate) timestamp: u32,
-}
 
 /// A play whose booking is open.
 #[derive(Drop)]
@@ -215,17 +174,5 @@ impl<'a> Awaited<'a> {
         ensures { self.new ≡ awaited.entry }
     {
         *self = awaited;
-    }
-}
-
-/// What a connection's words give its stream.
-pub(crate) fn source_of(words: &[u32; 5]) -> StreamSource
-    ensures { result ≡ source_of words.now }
-{
-    StreamSource {
-        ssrc: words[2],
-        // RFC 3550 section 5.1: sequence number and timestamp begin at random values.
-        sequence: (words[3] % 65_536) as u16,
-        timestamp: words[4],
     }
 }

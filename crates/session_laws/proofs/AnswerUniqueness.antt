@@ -35,10 +35,10 @@ use Rattle.session.specs.declared.states.Awaited.TheVariants.{Play, Halt}
 use Rattle.session.specs.declared.states.AfterHalt.{AfterHalt}
 use Rattle.session.specs.declared.states.AfterHalt.TheVariants.{Paused, Torn}
 use Rattle.session.specs.declared.states.Play.{Play as Played}
-use Rattle.session.specs.declared.states.Setup.{Setup}
+use Rattle.film_streams.specs.declared.setups.Setup.{Setup}
 use Rattle.session.specs.declared.states.State.{State}
 use Rattle.session.specs.declared.states.State.TheVariants.{Init, Ready, Playing, Stopping}
-use Rattle.session.specs.Films.{Names, length_ms}
+use Rattle.film_streams.specs.Films.{Names, length_ms}
 use Rattle.session.specs.RequestSteps.{AnswersGoodRequest, Hears}
 use Rattle.session.specs.RefusalOrder.{IsJudged, IsTaskOf, method_of, option_of}
 use Rattle.rtsp_replies.specs.Methods.{IsTopic}
@@ -50,7 +50,7 @@ use Rattle.session.specs.Methods.{IsSetUp, Looks, OffersReady, Pauses, PausesPla
 use Rattle.session.specs.Methods.{Takes, TearsDown, prepared_of, play_front}
 use Rattle.session.specs.RequestedPlans.{IsPlanned}
 use Rattle.session.specs.RunRequests.{playback_of}
-use Rattle.session.specs.SettingRanges.{AreFilms}
+use Rattle.film_streams.specs.SettingRanges.{AreFilms}
 use Rattle.rtsp_replies.specs.Replies.{describe_text, plain_text, public_text, refusal_text, session_text}
 use Rattle.session.specs.Setups.{IsSetupRead}
 use Rattle.session.specs.SessionStates.{SessionState, with_reply}

@@ -29,10 +29,10 @@ use Rattle.session.specs.declared.refusals.Task.TheVariants.{Setup as ToSetup, P
 use Rattle.session.specs.declared.refusals.Task.TheVariants.{Pause as ToPause}
 use Rattle.session.specs.declared.refusals.Task.TheVariants.{Teardown as ToTeardown}
 use Rattle.session.specs.declared.refusals.Task.TheVariants.{GetParameter as ToGetParameter}
-use Rattle.session.specs.declared.states.Setup.{Setup}
+use Rattle.film_streams.specs.declared.setups.Setup.{Setup}
 use Rattle.session.specs.declared.states.State.{State}
 use Rattle.session.specs.declared.states.State.TheVariants.{Init, Ready, Playing, Stopping}
-use Rattle.session.specs.Films.{Names}
+use Rattle.film_streams.specs.Films.{Names}
 use Rattle.session_laws.specs.MethodLaws.{NamesNoOwnFilm, NamesNoSession, NamesSession, setup_in}
 use Rattle.session.specs.Methods.{AsksOfferOr, AsksPlayOr, Gets, GetsOffer, IsRefused, IsSetUp, Looks, Pauses}
 use Rattle.session.specs.Methods.{PlayCall, Plays, Takes, TearsDown}
@@ -103,45 +103,19 @@ IsLate (Buffer least) = ⊤
 IsLate Range = ⊤
 IsLate Memory = ⊤
 
-late_455 : IsOtherCode 455
-late_455 = record {
-  no_method = λ is. omega (arith, is);
-  no_option = λ is. omega (arith, is);
-  no_session = λ is. omega (arith, is);
-  no_film = λ is. omega (arith, is);
+late_code : (code : ℕ) → 404 < code → code < 501 → (code ≡ 454 → ⊥) → IsOtherCode code
+late_code code above below no_session = record {
+  no_method = λ is. omega (arith, is, below);
+  no_option = λ is. omega (arith, is, below);
+  no_session = no_session;
+  no_film = λ is. omega (arith, is, above);
 }
 
-late_461 : IsOtherCode 461
-late_461 = record {
-  no_method = λ is. omega (arith, is);
-  no_option = λ is. omega (arith, is);
-  no_session = λ is. omega (arith, is);
-  no_film = λ is. omega (arith, is);
-}
+late_455 : IsOtherCode 455
+late_455 = late_code 455 (omega arith) (omega arith) (λ is. omega (arith, is))
 
 late_451 : IsOtherCode 451
-late_451 = record {
-  no_method = λ is. omega (arith, is);
-  no_option = λ is. omega (arith, is);
-  no_session = λ is. omega (arith, is);
-  no_film = λ is. omega (arith, is);
-}
-
-late_457 : IsOtherCode 457
-late_457 = record {
-  no_method = λ is. omega (arith, is);
-  no_option = λ is. omega (arith, is);
-  no_session = λ is. omega (arith, is);
-  no_film = λ is. omega (arith, is);
-}
-
-late_500 : IsOtherCode 500
-late_500 = record {
-  no_method = λ is. omega (arith, is);
-  no_option = λ is. omega (arith, is);
-  no_session = λ is. omega (arith, is);
-  no_film = λ is. omega (arith, is);
-}
+late_451 = late_code 451 (omega arith) (omega arith) (λ is. omega (arith, is))
 
 late_other : (refusal : Refusal) → IsLate refusal → IsOtherCode (code_of refusal)
 late_other BadRequest late = absurd late
@@ -151,11 +125,11 @@ late_other Required late = absurd late
 late_other Session late = absurd late
 late_other Film late = absurd late
 late_other NotNow late = late_455
-late_other Transport late = late_461
+late_other Transport late = late_code 461 (omega arith) (omega arith) (λ is. omega (arith, is))
 late_other Parameter late = late_451
 late_other (Buffer least) late = late_451
-late_other Range late = late_457
-late_other Memory late = late_500
+late_other Range late = late_code 457 (omega arith) (omega arith) (λ is. omega (arith, is))
+late_other Memory late = late_code 500 (omega arith) (omega arith) (λ is. omega (arith, is))
 
 late_curve : (refusal : Refusal) → CurveCause refusal → IsLate refusal
 late_curve refusal (IsRange is) = subst IsLate (sym is) tt

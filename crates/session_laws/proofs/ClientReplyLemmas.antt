@@ -21,10 +21,10 @@ use Rattle.session.specs.declared.refusals.Task.TheVariants.{Teardown as ToTeard
 use Rattle.session.specs.declared.refusals.Task.TheVariants.{GetParameter as ToGetParameter}
 use Rattle.session.specs.declared.states.Awaited.TheVariants.{Nothing, Play}
 use Rattle.session.specs.declared.states.Prepared.{Prepared}
-use Rattle.session.specs.declared.states.Setup.{Setup}
+use Rattle.film_streams.specs.declared.setups.Setup.{Setup}
 use Rattle.session.specs.declared.states.State.{State}
 use Rattle.session.specs.declared.states.State.TheVariants.{Init, Ready, Playing, Stopping}
-use Rattle.session.specs.Films.{IsFilmAt, Names}
+use Rattle.film_streams.specs.Films.{IsFilmAt, Names}
 use Rattle.session.specs.Methods.{AsksPlayOr, Ends, IsSetUp, Plays, Takes, TearsDown, play_call, play_front}
 use Rattle.session_laws.specs.MethodLaws.{setup_in}
 use Rattle.session.specs.RefusalOrder.{IsJudged, IsOwnFilm, IsOwnSession, required_of}
@@ -32,7 +32,8 @@ use Rattle.rtsp_replies.specs.Replies.{session_text, setup_text}
 use Rattle.session.specs.RequestSteps.{Hears}
 use Rattle.session.specs.RequestedPlans.{IsPlanned, IsPlannedRun}
 use Rattle.session.specs.SessionStates.{SessionState, has_session_in, with_reply}
-use Rattle.session.specs.Setups.{AsksForSetup, IsSetupRead}
+use Rattle.session.specs.Setups.{IsSetupRead}
+use Rattle.film_streams.specs.Setups.{AsksForSetup}
 use Rattle.session_laws.proofs.VerdictUniqueness.{not_both}
 
 -- two names that differ in a byte

@@ -14,6 +14,7 @@ use Rattle.std.proofs.lemmas.List.{length-drop, length-take}
 use Rattle.std.proofs.lemmas.List.Elements.{All-get_or}
 use Rattle.std.proofs.lemmas.List.Sums.{sum_by-take-drop, sum_by-take-le}
 use Rattle.std.proofs.lemmas.Option.{get_or_from_slice_get, same_Some, slice_get_within}
+use Rattle.vod_base.specs.declared.limits.TheConstants.{MAX_BYTES}
 use Rattle.vod_base.specs.Blanks.{without_blanks}
 use Rattle.vod_base.specs.Names.{good_name}
 use Rattle.vod_base.specs.Numbers.{is_decimal, number_of}
@@ -67,13 +68,14 @@ use Rattle.session.specs.declared.refusals.Task.TheVariants.{Setup as ToSetup, P
 use Rattle.session.specs.declared.refusals.Task.TheVariants.{Pause as ToPause}
 use Rattle.session.specs.declared.refusals.Task.TheVariants.{Teardown as ToTeardown}
 use Rattle.session.specs.declared.refusals.Task.TheVariants.{GetParameter as ToGetParameter}
-use Rattle.session.specs.declared.settings.Settings.{Settings}
+use Rattle.film_streams.specs.declared.settings.Settings.{Settings}
 use Rattle.session.specs.declared.states.AfterHalt.{AfterHalt}
 use Rattle.session.specs.declared.states.Play.{Play as Played}
-use Rattle.session.specs.declared.states.Setup.{Setup}
+use Rattle.film_streams.specs.declared.setups.Setup.{Setup}
 use Rattle.session.specs.declared.states.State.{State}
 use Rattle.session.specs.declared.states.State.TheVariants.{Init, Ready, Playing, Stopping}
-use Rattle.session.specs.Films.{IsFilmAt, length_ms, milliseconds_at, timestamp_at}
+use Rattle.film_streams.specs.Films.{IsFilmAt, length_ms, milliseconds_at}
+use Rattle.film_streams.specs.StreamNumbers.{timestamp_at}
 use Rattle.session.specs.RequestSteps.{Hears, after_offer, new_session_state}
 use Rattle.session.specs.RefusalOrder.{IsJudged, IsReadAs, first_of, option_of, or_nothing}
 use Rattle.rtsp_replies.specs.Refusals.{fault_refusal}
@@ -85,11 +87,12 @@ use Rattle.session.specs.Methods.{first_number, play_call}
 use Rattle.session.specs.RequestedPlans.{IsPlanned, IsPlannedRun}
 use Rattle.session.specs.RunRequests.{playback_of, run_of}
 use Rattle.rtsp_replies.specs.Refusals.{curve_refusal}
-use Rattle.session.specs.SettingRanges.{AreFilms}
+use Rattle.film_streams.specs.SettingRanges.{AreFilms}
 use Rattle.rtsp_replies.specs.Replies.{describe_text, look_body, offer_body}
 use Rattle.rtsp_replies.specs.Replies.{plain_text, public_text}
 use Rattle.rtsp_replies.specs.Replies.{refusal_text, session_text}
-use Rattle.session.specs.Setups.{AreChannelsOf, IsSetupRead}
+use Rattle.session.specs.Setups.{IsSetupRead}
+use Rattle.film_streams.specs.Setups.{AreChannelsOf}
 use Rattle.session.specs.SessionStates.{SessionState}
 use Rattle.session_laws.specs.CompleteReplies.{AnswersLook, AnswersPlay}
 use Rattle.rtsp_replies.specs.Messages.{IsMessage}
@@ -195,7 +198,7 @@ used_fits sizes timing t =
     (λ k l u. cond_le (eqb (due_slot timing k) t) (get_or sizes k 0)) in
     omega (arith, below, sum_by-range-all sizes)
 
-rest_fits : (stored : Stored) (run : Run) → sum (rest_sizes (stored_sizes stored) run) ≤ 2 ^ 42
+rest_fits : (stored : Stored) (run : Run) → sum (rest_sizes (stored_sizes stored) run) ≤ MAX_BYTES
 rest_fits stored run =
     let sizes = stored_sizes stored in
     omega (

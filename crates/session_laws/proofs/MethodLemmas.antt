@@ -1,7 +1,8 @@
 -- What each method does for a request that nothing refuses.
 use Rattle.std.specs.Prelude.{⊤}
-use Rattle.std.proofs.Common.{◌≡◌, ◌≢◌, ℕ, ◌^◌, ◌⊎◌, Bool, true, false, List, [], ◌∷◌, codes, string_bytes, Option, Some, None}
+use Rattle.std.proofs.Common.{◌≡◌, ◌≢◌, ℕ, ◌⊎◌, Bool, true, false, List, [], ◌∷◌, codes, string_bytes, Option, Some, None}
 use Rattle.std.proofs.Common.{is_some, Result, Ok, Err, refl, sym, ap, subst, ◌∙◌, inl, inr, arith}
+use Rattle.vod_base.specs.declared.limits.TheConstants.{MAX_BYTES, MAX_DELAY}
 use Rattle.vod_base.specs.Names.{good_name}
 use Rattle.wire_curve.specs.declared.film.CurveRefused.{CurveRefused}
 use Rattle.wire_curve.specs.declared.film.CurveRefused.TheVariants.{Fault, NoMemory as CurveMemory}
@@ -22,7 +23,7 @@ use Rattle.rtsp_replies.specs.declared.methods.Topic.{Topic}
 use Rattle.rtsp_replies.specs.declared.methods.Topic.TheVariants.{Nothing, Booked, Offer as OfferTopic}
 use Rattle.rtsp_replies.specs.declared.methods.Topic.TheVariants.{Unknown as OtherTopic}
 use Rattle.session.specs.declared.plans.Planned.{Planned}
-use Rattle.session.specs.declared.refusals.Asked.{Asked}
+use Rattle.film_streams.specs.declared.films.Asked.{Asked}
 use Rattle.rtsp_replies.specs.declared.refusals.Refusal.{Refusal}
 use Rattle.rtsp_replies.specs.declared.refusals.Refusal.TheVariants.{BadRequest, Version}
 use Rattle.rtsp_replies.specs.declared.refusals.Refusal.TheVariants.{Method as Unknown}
@@ -38,11 +39,12 @@ use Rattle.session.specs.declared.refusals.Task.TheVariants.{Teardown as ToTeard
 use Rattle.session.specs.declared.refusals.Task.TheVariants.{GetParameter as ToGetParameter}
 use Rattle.session.specs.declared.states.Awaited.TheVariants.{Play as ToAwaitPlay}
 use Rattle.session.specs.declared.states.Play.{Play as Played}
-use Rattle.session.specs.declared.states.Setup.{Setup}
+use Rattle.film_streams.specs.declared.setups.Setup.{Setup}
 use Rattle.session.specs.declared.states.State.{State}
 use Rattle.session.specs.declared.states.State.TheVariants.{Init, Ready, Playing, Stopping}
 use Rattle.session_laws.specs.EndLaws.{HasSessionInReply}
-use Rattle.session.specs.Films.{Names, identity_of}
+use Rattle.film_streams.specs.Films.{Names}
+use Rattle.film_streams.specs.StreamNumbers.{identity_of}
 use Rattle.session_laws.specs.MethodLaws.{AnswersAlone, GivesChannels, GivesNumber, HasBadNumber}
 use Rattle.session_laws.specs.MethodLaws.{IsDescribeRequest, IsFilmDescribed, IsFilmMethod, IsLookAsked}
 use Rattle.session_laws.specs.MethodLaws.{IsOfferAskedOf, IsOptionsAnswered, IsParameterRequest, IsPlainMessage}
@@ -67,8 +69,9 @@ use Rattle.rtsp_replies.specs.Replies.{session_text}
 use Rattle.session.specs.RequestedPlans.{HasNoPlan, IsPlanned, IsPlannedRun}
 use Rattle.session.specs.RequestSteps.{Hears}
 use Rattle.rtsp_replies.specs.Refusals.{curve_refusal}
-use Rattle.session.specs.SettingRanges.{AreFilms}
-use Rattle.session.specs.Setups.{AreChannelsOf, HasChannels, IsChosen, IsSetupRead}
+use Rattle.film_streams.specs.SettingRanges.{AreFilms}
+use Rattle.session.specs.Setups.{IsSetupRead}
+use Rattle.film_streams.specs.Setups.{AreChannelsOf, HasChannels, IsChosen}
 use Rattle.session.specs.SessionStates.{SessionState, has_session_in, with_reply}
 use Rattle.session.proofs.InitialStateLemmas.{HeardMessage}
 use Rattle.session_laws.proofs.OfferLemmas.{least_told, offer_asked}
@@ -408,8 +411,8 @@ setup_answered h request film setup films is settles =
     settled_setup request up.other setup up.alike (setup_read request up.other (Ok setup) up.alike t (record {
       film_is = settles.film_is ∙ same.film_is;
       channels = has_channels settles.channels;
-      buffer = chosen h.old.settings.buffer 1 (2 ^ 42) setup.buffer (header_value request.head.now (codes "x-Buffer")) settles.buffer;
-      delay = chosen h.old.settings.startup 0 10000 setup.delay (header_value request.head.now (codes "x-Startup")) settles.delay;
+      buffer = chosen h.old.settings.buffer 1 MAX_BYTES setup.buffer (header_value request.head.now (codes "x-Buffer")) settles.buffer;
+      delay = chosen h.old.settings.startup 0 MAX_DELAY setup.delay (header_value request.head.now (codes "x-Startup")) settles.delay;
     }))
 
 pub setup_transport : (h : HeardMessage) (request : Request) (film : ℕ) → IsSetupRequest h.old h.message request film
@@ -430,8 +433,8 @@ setup_number h request film is bad =
     (setup_read request up.other (Err Parameter) up.alike t (record {
       channels = (bad.channels, has_channels bad.given);
       none = elim bad.bad [
-        | inl buffer ↦ inl (λ n has. buffer n (unchosen h.old.settings.buffer 1 (2 ^ 42) n (header_value request.head.now (codes "x-Buffer")) has))
-        | inr delay ↦ inr (λ n has. delay n (unchosen h.old.settings.startup 0 10000 n (header_value request.head.now (codes "x-Startup")) has))
+        | inl buffer ↦ inl (λ n has. buffer n (unchosen h.old.settings.buffer 1 MAX_BYTES n (header_value request.head.now (codes "x-Buffer")) has))
+        | inr delay ↦ inr (λ n has. delay n (unchosen h.old.settings.startup 0 MAX_DELAY n (header_value request.head.now (codes "x-Startup")) has))
       ];
     })))
 

@@ -23,11 +23,11 @@ use Rattle.rtsp_fields.specs.declared.ranges.Span.{Span}
 use Rattle.session.specs.declared.plans.Planned.{Planned}
 use Rattle.rtsp_replies.specs.declared.refusals.Refusal.{Refusal}
 use Rattle.rtsp_replies.specs.declared.refusals.Refusal.TheVariants.{Memory}
-use Rattle.session.specs.declared.states.Counts.{Counts}
-use Rattle.session.specs.declared.states.Setup.{Setup}
+use Rattle.film_streams.specs.declared.stream_numbers.Counts.{Counts}
+use Rattle.film_streams.specs.declared.setups.Setup.{Setup}
 use Rattle.session.specs.declared.play_requests.PlayRequest.{PlayRequest}
 use Rattle.session.specs.declared.play_requests.PlayRequest.TheVariants.{Resumed, New}
-use Rattle.session.specs.Films.{IsFilmAt}
+use Rattle.film_streams.specs.Films.{IsFilmAt}
 use Rattle.session.specs.RequestedPlans.{HasNoPlan, HasNoRun, IsPlanned, IsPlannedRun}
 use Rattle.session.specs.RunRequests.{IsAskedRun, IsNoRange, IsRequestFor, RequestsNothing, counts_for}
 use Rattle.rtsp_replies.specs.Refusals.{curve_refusal}

@@ -18,16 +18,19 @@ use Rattle.film_run.specs.declared.runs.Run.{Run}
 use Rattle.session.specs.declared.plans.Planned.{Planned}
 use Rattle.session.specs.declared.states.Awaited.{Awaited}
 use Rattle.session.specs.declared.states.Awaited.TheVariants.{Nothing, Play, Halt, Look, Offer}
-use Rattle.session.specs.declared.states.Counts.{Counts}
+use Rattle.film_streams.specs.declared.stream_numbers.Counts.{Counts}
 use Rattle.session.specs.declared.states.AfterHalt.{AfterHalt}
 use Rattle.session.specs.declared.states.AfterHalt.TheVariants.{Done, Paused, Torn}
 use Rattle.session.specs.declared.states.Play.{Play as Played}
-use Rattle.session.specs.declared.states.Setup.{Setup}
+use Rattle.film_streams.specs.declared.setups.Setup.{Setup}
 use Rattle.session.specs.declared.states.State.{State}
 use Rattle.session.specs.declared.states.State.TheVariants.{Init, Ready, Playing, Stopping}
-use Rattle.session.specs.Films.{IsFilmAt, counts_after, identity_of, sending_of}
+use Rattle.session.specs.RunRequests.{sending_of}
+use Rattle.film_streams.specs.Films.{IsFilmAt}
+use Rattle.film_streams.specs.StreamNumbers.{counts_after, identity_of}
 use Rattle.session.specs.RequestEffects.{IsPlayAsked}
-use Rattle.session.specs.RequestSteps.{after_admission, after_halt, counts_of, counts_done, counts_next, halted_counts}
+use Rattle.session.specs.RequestSteps.{after_admission, after_halt, counts_of, counts_done}
+use Rattle.session.specs.RequestSteps.{counts_next, halted_counts}
 use Rattle.session.specs.RequestSteps.{is_answered}
 use Rattle.session.specs.Laws.{GoesOn}
 use Rattle.session.specs.Methods.{prepared_of}

@@ -25,7 +25,7 @@ use Rattle.rtsp_replies.specs.declared.refusals.Refusal.{Refusal}
 use Rattle.rtsp_replies.specs.declared.refusals.Refusal.TheVariants.{Method as Unknown, Option as Required}
 use Rattle.rtsp_replies.specs.declared.refusals.Refusal.TheVariants.{Session, Film as NoFilm, State as NotNow}
 use Rattle.session.specs.declared.refusals.Task.{Task}
-use Rattle.session.specs.declared.states.Setup.{Setup as SetupIs}
+use Rattle.film_streams.specs.declared.setups.Setup.{Setup as SetupIs}
 use Rattle.session.specs.Laws.{Resumes}
 use Rattle.session.specs.Methods.{Takes}
 use Rattle.session_laws.specs.PlayLaws.{PassesEarlierChecks}

@@ -36,9 +36,11 @@ use Rattle.rtsp_text.proofs.ReplyTexts.{front_field, whole_reply}
 use Rattle.rtsp_text.proofs.UrlBytes.{name_in_url}
 use Rattle.session.specs.declared.commands.Ask.{Ask}
 use Rattle.session.specs.declared.plans.Planned.{Planned}
-use Rattle.session.specs.declared.states.Setup.{Setup}
-use Rattle.session.specs.Films.{begins_at, identity_of, length_ms, milliseconds_at, sending_of}
-use Rattle.session.specs.Films.{timestamp_at}
+use Rattle.film_streams.specs.declared.setups.Setup.{Setup}
+use Rattle.session.specs.RunRequests.{sending_of}
+use Rattle.film_streams.specs.Films.{begins_at, length_ms, milliseconds_at}
+use Rattle.film_streams.specs.StreamNumbers.{identity_of}
+use Rattle.film_streams.specs.StreamNumbers.{timestamp_at}
 use Rattle.session.specs.RequestSteps.{after_admission, after_full, after_look, after_overflow}
 use Rattle.session.specs.Methods.{Describes, IsSetUp, first_number, play_front}
 use Rattle.session.specs.declared.states.State.TheVariants.{Ready}
@@ -47,12 +49,12 @@ use Rattle.rtsp_replies.specs.Replies.{transport_value}
 use Rattle.session.specs.SessionStates.{SessionState, sequence_of}
 use Rattle.std.specs.Int.{w32, to_be_bytes}
 use Rattle.hex.specs.Hex.{encode_lower}
-use Rattle.session.specs.declared.states.Counts.{Counts}
+use Rattle.film_streams.specs.declared.stream_numbers.Counts.{Counts}
 use Rattle.session_laws.specs.ReplyContents.{AreTicks, IsDescribeReply, IsFullReply, IsLookReply, IsOverflowReply}
 use Rattle.session_laws.specs.ReplyContents.{IsPlayReply, IsSetupReply, IsShort, HasStartInReply, IsPrintable}
 use Rattle.session_laws.specs.ReplyContents.{HasRtpInfo, HasRangeOf}
 use Rattle.session_laws.proofs.RtpNumberLemmas.{number_goes_on}
-use Rattle.session.proofs.ModularSums.{sum_mod}
+use Rattle.film_streams.proofs.ModularSums.{sum_mod}
 
 ticks_360 : (units : ℕ) → AreTicks (units / 360) 360 units
 ticks_360 units = record { passed = div-mul-le_self units 360; no_more = omega arith }

@@ -25,10 +25,11 @@ use Rattle.session.specs.declared.refusals.Task.TheVariants.{GetParameter as ToG
 use Rattle.session.specs.declared.states.AfterHalt.{AfterHalt}
 use Rattle.session.specs.declared.states.AfterHalt.TheVariants.{Paused, Torn}
 use Rattle.session.specs.declared.states.Play.{Play as Played}
-use Rattle.session.specs.declared.states.Setup.{Setup}
+use Rattle.film_streams.specs.declared.setups.Setup.{Setup}
 use Rattle.session.specs.declared.states.State.{State}
 use Rattle.session.specs.declared.states.State.TheVariants.{Init, Ready, Playing, Stopping}
-use Rattle.session.specs.Films.{length_ms, milliseconds_at, timestamp_at}
+use Rattle.film_streams.specs.Films.{length_ms, milliseconds_at}
+use Rattle.film_streams.specs.StreamNumbers.{timestamp_at}
 use Rattle.session.specs.Methods.{AsksHalt, AsksOffer, AsksOfferOr, AsksPlay, AsksPlayOr, Ends, Gets, GetsOffer}
 use Rattle.session.specs.Methods.{IsRefused, IsReplied, IsSetUp, Looks, Pauses, Plays, Takes, TearsDown, first_number}
 use Rattle.session.specs.Methods.{play_call}

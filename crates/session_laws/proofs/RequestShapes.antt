@@ -11,7 +11,7 @@ use Rattle.session.specs.declared.states.Awaited.TheVariants.{Play, Halt, Look, 
 use Rattle.session.specs.declared.states.AfterHalt.{AfterHalt}
 use Rattle.session.specs.declared.states.Play.{Play as Played}
 use Rattle.session.specs.declared.states.Prepared.{Prepared}
-use Rattle.session.specs.declared.states.Setup.{Setup}
+use Rattle.film_streams.specs.declared.setups.Setup.{Setup}
 use Rattle.session.specs.declared.states.State.TheVariants.{Init, Ready, Playing}
 use Rattle.session.specs.RequestSteps.{Hears, is_answered}
 use Rattle.session.specs.Methods.{prepared_of}

@@ -1,15 +1,16 @@
 -- The slots that are missed, and a play that is done.
-use Rattle.std.proofs.Common.{◌≡◌, ℕ, zero, suc, ◌+◌, ◌-◌, ◌^◌, ◌<◌, ◌≤◌, ◌&&◌, Bool, true, false}
+use Rattle.std.proofs.Common.{◌≡◌, ℕ, zero, suc, ◌+◌, ◌-◌, ◌<◌, ◌≤◌, ◌&&◌, Bool, true, false}
 use Rattle.std.proofs.Common.{cond, eqb, ltb, leb, max, sum_by, refl, ap, ◌∙◌, add-one, arith, inl}
 use Rattle.std.proofs.Common.{inr}
 use Rattle.std.specs.List.{range_with_len}
 use Rattle.std.proofs.lemmas.Bool.{cases_lt}
 use Rattle.std.proofs.lemmas.Bool.Decides.{nat_tests}
+use Rattle.vod_base.specs.declared.links.TheConstants.{LATEST_SLOT}
 use Rattle.wire_curve.proofs.PictureSums.{sum_by-range_more}
 use Rattle.session.specs.declared.states.Awaited.TheVariants.{Halt}
 use Rattle.session.specs.declared.states.AfterHalt.TheVariants.{Done}
 use Rattle.session.specs.declared.states.Play.{Play as Played}
-use Rattle.session.specs.declared.states.Setup.{Setup}
+use Rattle.film_streams.specs.declared.setups.Setup.{Setup}
 use Rattle.session.specs.declared.states.State.TheVariants.{Playing}
 use Rattle.session_laws.specs.PlayLaws.{slots_missed}
 use Rattle.session.specs.SlotSteps.{after_play, finished_in, is_between, is_sending, is_taken}
@@ -91,16 +92,16 @@ slot_heard true true old slot is =
 slot_heard true false old slot is = refl
 slot_heard false sending old slot is = absurd (let no : ⊥ = cc in no)
 
-later_taken : (heard slot : ℕ) → heard < slot → slot ≤ 2 ^ 62 → (ltb heard slot && leb slot (2 ^ 62)) ≡ true
+later_taken : (heard slot : ℕ) → heard < slot → slot ≤ LATEST_SLOT → (ltb heard slot && leb slot LATEST_SLOT) ≡ true
 later_taken heard slot later most = grind (arith, nat_tests)
 
-past_taken : (heard slot : ℕ) → slot ≤ heard → (ltb heard slot && leb slot (2 ^ 62)) ≡ false
+past_taken : (heard slot : ℕ) → slot ≤ heard → (ltb heard slot && leb slot LATEST_SLOT) ≡ false
 past_taken heard slot past = grind (arith, nat_tests)
 
-above_taken : (heard slot : ℕ) → 2 ^ 62 < slot → (ltb heard slot && leb slot (2 ^ 62)) ≡ false
+above_taken : (heard slot : ℕ) → LATEST_SLOT < slot → (ltb heard slot && leb slot LATEST_SLOT) ≡ false
 above_taken heard slot above = grind (arith, nat_tests)
 
-pub later_slot : (old : SessionState) (slot : ℕ) → old.heard < slot → slot ≤ 2 ^ 62 → (after_slot old slot).heard ≡ slot
+pub later_slot : (old : SessionState) (slot : ℕ) → old.heard < slot → slot ≤ LATEST_SLOT → (after_slot old slot).heard ≡ slot
 later_slot old slot later most =
     slot_heard (is_taken old slot) (is_sending old.state) old slot (later_taken old.heard slot later most)
 
@@ -112,7 +113,7 @@ not_taken old slot is =
 pub past_slot : (old : SessionState) (slot : ℕ) → slot ≤ old.heard → after_slot old slot ≡ old
 past_slot old slot past = not_taken old slot (past_taken old.heard slot past)
 
-pub slot_above : (old : SessionState) (slot : ℕ) → 2 ^ 62 < slot → after_slot old slot ≡ old
+pub slot_above : (old : SessionState) (slot : ℕ) → LATEST_SLOT < slot → after_slot old slot ≡ old
 slot_above old slot above = not_taken old slot (above_taken old.heard slot above)
 
 -- ---- a play that is done

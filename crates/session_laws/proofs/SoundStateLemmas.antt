@@ -8,10 +8,11 @@ use Rattle.pacer.specs.PacerStates.{IsPacerState}
 use Rattle.session.specs.declared.states.Awaited.{Awaited}
 use Rattle.session.specs.declared.states.Awaited.TheVariants.{Nothing, Play, Halt, Look, Offer}
 use Rattle.session.specs.declared.states.Play.{Play as Played}
-use Rattle.session.specs.declared.states.Setup.{Setup}
+use Rattle.film_streams.specs.declared.setups.Setup.{Setup}
 use Rattle.session.specs.declared.states.State.{State}
 use Rattle.session.specs.declared.states.State.TheVariants.{Playing}
-use Rattle.session.specs.Films.{IsFilmAt, sending_of}
+use Rattle.session.specs.RunRequests.{sending_of}
+use Rattle.film_streams.specs.Films.{IsFilmAt}
 use Rattle.session.specs.ResumedPlays.{IsPacedPlay}
 use Rattle.session.specs.RunRequests.{IsPlayable}
 use Rattle.session.specs.SessionInvariant.{IsAwaitedInvariant, IsSoundState, IsStateInvariant}

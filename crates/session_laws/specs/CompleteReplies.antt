@@ -7,10 +7,10 @@ use Rattle.rtsp_replies.specs.Messages.{AreOffersInWords, IsMessage}
 use Rattle.session.specs.declared.commands.Ask.{Ask}
 use Rattle.session.specs.declared.commands.Ask.TheVariants.{Reply, Play as AskPlay, Halt as AskHalt}
 use Rattle.session.specs.declared.commands.Ask.TheVariants.{Look as AskLook, Offer as AskOffer}
-use Rattle.session.specs.declared.notes.OfferNote.{OfferNote}
+use Rattle.session_records.specs.declared.notes.OfferNote.{OfferNote}
 use Rattle.session.specs.RequestSteps.{after_admission, after_full, after_look, after_offer}
 use Rattle.session.specs.RequestSteps.{after_overflow}
-use Rattle.session.specs.SettingRanges.{AreFilms}
+use Rattle.film_streams.specs.SettingRanges.{AreFilms}
 use Rattle.session.specs.SessionStates.{SessionState}
 
 -- what a session keeps from its beginning: films of good names, and an id of 64 bits in hexadecimal

@@ -13,9 +13,9 @@ use Rattle.session.specs.declared.commands.Ask.TheVariants.{Reply, Play as AskPl
 use Rattle.session.specs.declared.commands.Ask.TheVariants.{Look as AskLook, Offer as AskOffer}
 use Rattle.rtsp_replies.specs.declared.methods.Method.TheVariants.{Pause, Teardown}
 use Rattle.session.specs.declared.states.Play.{Play as Played}
-use Rattle.session.specs.declared.states.Setup.{Setup}
+use Rattle.film_streams.specs.declared.setups.Setup.{Setup}
 use Rattle.session.specs.declared.states.State.TheVariants.{Ready, Playing}
-use Rattle.session.specs.Films.{IsFilmAt}
+use Rattle.film_streams.specs.Films.{IsFilmAt}
 use Rattle.session.specs.RequestSteps.{after_halt}
 use Rattle.session.specs.RefusalOrder.{IsReadAs}
 use Rattle.session.specs.Laws.{IsTeardown}

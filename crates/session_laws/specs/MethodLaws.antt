@@ -17,13 +17,14 @@ use Rattle.session.specs.declared.commands.Ask.TheVariants.{Reply, Play as AskPl
 use Rattle.session.specs.declared.commands.Ask.TheVariants.{Offer as AskOffer}
 use Rattle.session.specs.declared.plans.Planned.{Planned}
 use Rattle.rtsp_replies.specs.declared.refusals.Refusal.TheVariants.{Buffer, Range}
-use Rattle.session.specs.declared.settings.Settings.{Settings}
+use Rattle.film_streams.specs.declared.settings.Settings.{Settings}
 use Rattle.session.specs.declared.states.Awaited.TheVariants.{Play, Look}
-use Rattle.session.specs.declared.states.Setup.{Setup}
+use Rattle.film_streams.specs.declared.setups.Setup.{Setup}
 use Rattle.session.specs.declared.states.State.{State}
 use Rattle.session.specs.declared.states.State.TheVariants.{Init, Ready, Playing, Stopping}
 use Rattle.session_laws.specs.EndLaws.{HasSessionInReply}
-use Rattle.session.specs.Films.{IsFilmAt, Names, identity_of}
+use Rattle.film_streams.specs.Films.{IsFilmAt, Names}
+use Rattle.film_streams.specs.StreamNumbers.{identity_of}
 use Rattle.session.specs.Methods.{play_front, prepared_of}
 use Rattle.session.specs.OfferLaws.{IsLeastBufferReply, IsOfferAsked}
 use Rattle.rtsp_replies.specs.PublicLaws.{IsPublicTold}

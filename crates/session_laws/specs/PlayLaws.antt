@@ -19,16 +19,16 @@ use Rattle.rtsp_text.specs.declared.requests.Request.{Request}
 use Rattle.session.specs.declared.commands.Ask.{Ask}
 use Rattle.session.specs.declared.commands.Ask.TheVariants.{Reply}
 use Rattle.rtsp_replies.specs.declared.methods.Method.{Method}
-use Rattle.session.specs.declared.notes.PlayNote.{PlayNote}
+use Rattle.session_records.specs.declared.notes.PlayNote.{PlayNote}
 use Rattle.session.specs.declared.plans.Planned.{Planned}
-use Rattle.session.specs.declared.settings.Settings.{Settings}
+use Rattle.film_streams.specs.declared.settings.Settings.{Settings}
 use Rattle.session.specs.declared.states.Play.{Play as Played}
-use Rattle.session.specs.declared.states.Setup.{Setup}
+use Rattle.film_streams.specs.declared.setups.Setup.{Setup}
 use Rattle.session.specs.declared.states.State.TheVariants.{Playing}
 use Rattle.session.specs.RequestEffects.{HasCode}
 use Rattle.session.specs.RefusalOrder.{HasFilm, IsOwnTalk, IsReadAs}
 use Rattle.session.specs.Laws.{GoesOn}
-use Rattle.session.specs.Films.{sending_of}
+use Rattle.session.specs.RunRequests.{sending_of}
 use Rattle.session.specs.SessionStates.{HaltAnswer, AwaitsNoAnswer, SessionState, awaited_answer}
 use Rattle.session.specs.SessionStates.{with_reply}
 

@@ -16,7 +16,7 @@ use Rattle.rtsp_replies.specs.declared.methods.Method.{Method}
 use Rattle.rtsp_replies.specs.declared.methods.Method.TheVariants.{Options, Describe, Setup, Play}
 use Rattle.rtsp_replies.specs.declared.methods.Method.TheVariants.{Pause}
 use Rattle.rtsp_replies.specs.declared.methods.Method.TheVariants.{Teardown, GetParameter}
-use Rattle.session.specs.Films.{Names}
+use Rattle.film_streams.specs.Films.{Names}
 use Rattle.session.specs.RefusalOrder.{IsOwnTalk}
 use Rattle.rtsp_replies.specs.Methods.{name_of}
 use Rattle.session.specs.SessionStates.{SessionState, has_session_in, is_playing_in, with_reply}

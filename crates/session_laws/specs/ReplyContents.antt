@@ -17,9 +17,9 @@ use Rattle.rtsp_text.specs.Replies.{Field, reply_front, reply_text, value_named}
 use Rattle.film_run.specs.declared.runs.Run.{Run}
 use Rattle.session.specs.declared.commands.Ask.{Ask}
 use Rattle.session.specs.declared.plans.Planned.{Planned}
-use Rattle.session.specs.declared.states.Setup.{Setup}
-use Rattle.session.specs.declared.states.StreamSource.{StreamSource}
-use Rattle.session.specs.Films.{sending_of}
+use Rattle.film_streams.specs.declared.setups.Setup.{Setup}
+use Rattle.film_streams.specs.declared.stream_numbers.StreamSource.{StreamSource}
+use Rattle.session.specs.RunRequests.{sending_of}
 use Rattle.session.specs.Methods.{Describes}
 use Rattle.session.specs.RequestedPlans.{IsPlannedRun}
 use Rattle.session.specs.SessionStates.{SessionState}

@@ -4,7 +4,7 @@ use Rattle.rtsp_text.specs.Replies.{Field, reply_text}
 use Rattle.session.specs.declared.commands.Ask.{Ask}
 use Rattle.session.specs.declared.commands.Ask.TheVariants.{Reply, Play as AskPlay, Halt as AskHalt}
 use Rattle.session.specs.declared.commands.Ask.TheVariants.{Look as AskLook, Offer as AskOffer}
-use Rattle.session.specs.declared.notes.OfferNote.{OfferNote}
+use Rattle.session_records.specs.declared.notes.OfferNote.{OfferNote}
 use Rattle.session.specs.RequestSteps.{after_admission, after_full, after_look, after_offer}
 use Rattle.session.specs.RequestSteps.{after_overflow}
 use Rattle.session.specs.SessionStates.{SessionState}

@@ -3,7 +3,7 @@
 ghost use Rattle.std.specs.Prelude.{◌≡◌, ◌⊎◌, ℕ, List, true};
 ghost use Rattle.film_frames.specs.declared.stored_films.Stored.{Stored};
 ghost use Rattle.session.specs.declared.commands.Ask.{Ask};
-ghost use Rattle.session.specs.declared.settings.Settings.{Settings};
+ghost use Rattle.film_streams.specs.declared.settings.Settings.{Settings};
 ghost use Rattle.session_laws.specs.EndLaws.{CanBePaused, CanBeTornDown, HasTeardown, IsPause};
 ghost use Rattle.session_laws.specs.EndLaws.{IsPausedPlay, IsTornDown};
 ghost use Rattle.session.specs.Laws.{IsTeardown};

@@ -11,7 +11,7 @@ ghost use Rattle.rtsp_text.specs.declared.requests.Request.{Request};
 ghost use Rattle.session.specs.declared.commands.Ask.{Ask};
 ghost use Rattle.session.specs.declared.plans.Planned.{Planned};
 ghost use Rattle.session.specs.declared.states.Play.{Play as Played};
-ghost use Rattle.session.specs.declared.states.Setup.{Setup};
+ghost use Rattle.film_streams.specs.declared.setups.Setup.{Setup};
 ghost use Rattle.session.specs.declared.states.State.TheVariants.{Init, Playing, Ready};
 ghost use Rattle.session_laws.specs.MethodLaws.{AnswersAlone, GivesChannels, HasBadNumber};
 ghost use Rattle.session_laws.specs.MethodLaws.{IsDescribeRequest, IsFilmDescribed, IsFilmMethod};
@@ -29,7 +29,7 @@ ghost use Rattle.rtsp_replies.specs.Methods.{IsWord};
 ghost use Rattle.session.specs.RequestEffects.{HasCode};
 ghost use Rattle.session.specs.RequestedPlans.{IsPlannedRun};
 ghost use Rattle.session.specs.RequestSteps.{Hears};
-ghost use Rattle.session.specs.SettingRanges.{AreFilms};
+ghost use Rattle.film_streams.specs.SettingRanges.{AreFilms};
 ghost use Rattle.session.specs.SessionStates.{SessionState};
 
 /// An OPTIONS that requires no option is answered 200 with the list of methods, in any state,

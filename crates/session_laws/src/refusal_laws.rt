@@ -11,7 +11,7 @@ ghost use Rattle.rtsp_text.specs.declared.requests.Request.{Request};
 ghost use Rattle.session.specs.declared.commands.Ask.{Ask};
 ghost use Rattle.rtsp_replies.specs.declared.methods.Method.{Method};
 ghost use Rattle.session.specs.declared.plans.Planned.{Planned};
-ghost use Rattle.session.specs.declared.states.Setup.{Setup};
+ghost use Rattle.film_streams.specs.declared.setups.Setup.{Setup};
 ghost use Rattle.session.specs.Laws.{Resumes};
 ghost use Rattle.session_laws.specs.PlayLaws.{PassesEarlierChecks};
 ghost use Rattle.session_laws.specs.RefusalLaws.{BeginsFilm, IsInvalidMethod, IsKnownMethod, IsOfNoFilm};

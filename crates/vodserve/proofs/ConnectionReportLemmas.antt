@@ -9,9 +9,9 @@ use Rattle.film_frames.specs.declared.stored_films.Stored.{Stored}
 use Rattle.admission.specs.declared.entries.Entry.{Entry}
 use Rattle.admission.specs.Histories.{IsLegal}
 use Rattle.admission.specs.Makers.{PlacedEntry, entries_by}
-use Rattle.session.specs.declared.notes.Receipt.{Receipt}
-use Rattle.session.specs.declared.notes.Receipt.TheVariants.{Entry as EntryReceipt, Full as FullReceipt}
-use Rattle.session.specs.declared.settings.Settings.{Settings}
+use Rattle.session_records.specs.declared.notes.Receipt.{Receipt}
+use Rattle.session_records.specs.declared.notes.Receipt.TheVariants.{Entry as EntryReceipt, Full as FullReceipt}
+use Rattle.film_streams.specs.declared.settings.Settings.{Settings}
 use Rattle.station.specs.Seats.{SeatState}
 use Rattle.station.proofs.Makers.{IsAt, all_at}
 use Rattle.turnstile.proofs.Prefixes.{prefix_self, prefix_trans}

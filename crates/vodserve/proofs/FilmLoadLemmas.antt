@@ -11,7 +11,7 @@ use Rattle.std.proofs.lemmas.List.{length-map}
 use Rattle.std.proofs.lemmas.List.Elements.{All-map}
 use Rattle.vod_base.specs.Names.{good_name}
 use Rattle.film_frames.specs.declared.stored_films.Stored.{Stored}
-use Rattle.session.specs.SettingRanges.{AreFilms, names_of}
+use Rattle.film_streams.specs.SettingRanges.{AreFilms, names_of}
 use Rattle.turnstile.specs.declared.view.Joined.{Joined}
 use Rattle.conn.specs.Parts.{WorkerGate}
 use Rattle.conn.specs.declared.reports.ConnReport.{ConnReport}

@@ -8,9 +8,9 @@ use Rattle.vod_base.specs.Gates.{Content, Failed, NoMore, Part, ReturnedConn}
 use Rattle.film_frames.specs.declared.stored_films.Stored.{Stored}
 use Rattle.admission.specs.declared.entries.Entry.{Entry}
 use Rattle.admission.specs.Makers.{entries_by}
-use Rattle.session.specs.declared.notes.Receipt.{Receipt}
-use Rattle.session.specs.declared.notes.Receipt.TheVariants.{Entry as EntryReceipt}
-use Rattle.session.specs.declared.notes.Receipt.TheVariants.{Full as FullReceipt}
+use Rattle.session_records.specs.declared.notes.Receipt.{Receipt}
+use Rattle.session_records.specs.declared.notes.Receipt.TheVariants.{Entry as EntryReceipt}
+use Rattle.session_records.specs.declared.notes.Receipt.TheVariants.{Full as FullReceipt}
 use Rattle.station.specs.Seats.{SeatState}
 use Rattle.conn.specs.Agreement.{AgreesIfObserved, visit}
 use Rattle.conn.specs.Journals.{terms_of}

@@ -8,8 +8,8 @@ use Rattle.vod_base.specs.declared.gates.Opening.{Opening}
 use Rattle.film_frames.specs.declared.stored_films.Stored.{Stored}
 use Rattle.admission.specs.declared.entries.Entry.{Entry}
 use Rattle.admission.specs.Makers.{entries_by}
-use Rattle.session.specs.SettingRanges.{names_of}
-use Rattle.session.specs.declared.settings.Settings.{Settings}
+use Rattle.film_streams.specs.SettingRanges.{names_of}
+use Rattle.film_streams.specs.declared.settings.Settings.{Settings}
 use Rattle.station.specs.Seats.{SeatState}
 use Rattle.conn.specs.Journals.{Terms, terms_of}
 use Rattle.conn.specs.Parts.{WorkerInput, WorkerSpec, IsUntouched, WorkerGate, worker_input}

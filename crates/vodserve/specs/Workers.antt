@@ -5,7 +5,7 @@ use mathlib.Core.List.{IsPrefix}
 use Rattle.vod_base.specs.IoState.{HasRisen}
 use Rattle.vod_base.specs.Gates.{Content}
 use Rattle.film_frames.specs.declared.stored_films.Stored.{Stored}
-use Rattle.session.specs.declared.settings.Settings.{Settings}
+use Rattle.film_streams.specs.declared.settings.Settings.{Settings}
 use Rattle.turnstile.specs.declared.view.Joined.{Joined}
 use Rattle.station.specs.Seats.{StationState, SeatState, first_seat}
 use Rattle.conn.specs.Parts.{WorkerSpec, IsUntouched, worker_input, worker_gate}

@@ -6,7 +6,7 @@ ghost use Rattle.std.specs.List.{Contains};
 ghost use Rattle.std.specs.Option.{option_to_list};
 ghost use Rattle.vod_base.specs.IoState.{HasRisen};
 ghost use Rattle.slot_calendar.specs.Profiles.{IsProfile};
-ghost use Rattle.session.specs.SettingRanges.{AreFilms, names_of};
+ghost use Rattle.film_streams.specs.SettingRanges.{AreFilms, names_of};
 ghost use Rattle.station.specs.Seats.{first_seat};
 ghost use Rattle.cli_args.specs.Settings.{setting_value, texts, values_of};
 ghost use Rattle.cli_args.specs.Invocations.{are_films};

@@ -1,6 +1,6 @@
 use Rattle.std.proofs.Common.{◌<◌, ℕ}
 use Rattle.film_frames.specs.declared.stored_films.Stored.{Stored}
-use Rattle.session.specs.Films.{IsFilmAt}
+use Rattle.film_streams.specs.Films.{IsFilmAt}
 use Rattle.conn.specs.Plays.{IsShown}
 use Rattle.conn.proofs.film_laws.law_all_films_are_traces.Given as goal
 

@@ -1,7 +1,7 @@
 use Rattle.std.proofs.Common.{sym, subst}
 use Rattle.session.proofs.ResumedPlayLemmas.{goes_on}
 use Rattle.session.specs.RunRequests.{IsRunOf, counts_for, run_of}
-use Rattle.session.specs.declared.states.Counts.{Counts}
+use Rattle.film_streams.specs.declared.stream_numbers.Counts.{Counts}
 use Rattle.session.specs.declared.play_requests.PlayRequest.{PlayRequest}
 use Rattle.session.proofs.plans.run_and_counts.Goals as goal
 

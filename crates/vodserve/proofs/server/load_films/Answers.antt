@@ -5,7 +5,7 @@ use Rattle.vodserve.specs.WorkerResults.{IsHeld}
 use Rattle.std.specs.List.{Contains}
 use Rattle.std.specs.Option.{option_to_list}
 use Rattle.std.proofs.lemmas.List.{append-nil, append_assoc, drop_all}
-use Rattle.session.specs.SettingRanges.{names_of}
+use Rattle.film_streams.specs.SettingRanges.{names_of}
 use Rattle.cli_args.specs.Settings.{setting_value, texts, values_of}
 use Rattle.cli_errors.proofs.ReadErrorLemmas.{trouble_map}
 use Rattle.inputs.specs.LoadErrors.{IsServedFilmRefused}

@@ -1,6 +1,6 @@
 use Rattle.std.proofs.Common.{◌≡◌, ◌++◌, drop}
 use Rattle.std.specs.Prelude.{All, codes}
-use Rattle.session.specs.SettingRanges.{names_of}
+use Rattle.film_streams.specs.SettingRanges.{names_of}
 use Rattle.cli_args.specs.Settings.{texts, values_of}
 use Rattle.cli_errors.specs.ReadErrors.{IsLibraryUnchanged}
 use Rattle.vodserve.specs.WorkerResults.{IsHeld}

@@ -2,7 +2,7 @@ use Rattle.std.proofs.Common.{refl, rules, ap, subst, ◌∙◌}
 use Rattle.admission.specs.declared.entries.Answer.TheVariants.{Admitted}
 use Rattle.station.specs.Answers.{IsSeatRefused, HasMadeEntry}
 use Rattle.station.specs.Ledgers.{play_of}
-use Rattle.session.specs.declared.notes.Receipt.TheVariants.{Entry}
+use Rattle.session_records.specs.declared.notes.Receipt.TheVariants.{Entry}
 use Rattle.session.specs.RequestSteps.{after_admission}
 use Rattle.session.specs.SessionStates.{IsAnswerRecorded, awaited_answer, booking_of}
 use Rattle.conn.proofs.AdmittedPlays.{answered_admitted, answered_refused, kept_admitted, kept_refused}

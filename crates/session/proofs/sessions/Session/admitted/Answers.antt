@@ -4,7 +4,7 @@ use Rattle.pacer.specs.PacerStates.{IsPacerState, new_pacer_state}
 use Rattle.session.specs.SessionInvariant.{SessionContext, IsAwaitedInvariant, IsPreparedIn, IsStateInvariant}
 use Rattle.session.specs.SessionInvariant.{awaited_offers}
 use Rattle.session.specs.SessionInvariant.{awaited_plays, awaited_receipts, session_context_of, open_receipts}
-use Rattle.session.specs.RecordLists.{SessionRecords}
+use Rattle.session_records.specs.RecordLists.{SessionRecords}
 use Rattle.session.specs.declared.states.Awaited.{Awaited}
 use Rattle.session.specs.declared.states.Awaited.TheVariants.{Nothing, Play}
 use Rattle.session.specs.declared.states.Play.{Play as Played}

@@ -5,16 +5,18 @@ use Rattle.film_frames.specs.FramedRuns.{FramedRun}
 use Rattle.mpeg_scan.specs.declared.units.Unit.{Unit as PictureUnit}
 use Rattle.rtsp_text.specs.Lines.{is_one_line}
 use Rattle.rtsp_text.proofs.SingleLineTexts.{one_line-name}
-use Rattle.session.specs.Films.{IsFilmAt, OfFilm, counts_after, identity_of, sending_of}
+use Rattle.session.specs.RunRequests.{sending_of}
+use Rattle.film_streams.specs.Films.{IsFilmAt, OfFilm}
+use Rattle.film_streams.specs.StreamNumbers.{counts_after, identity_of}
 use Rattle.session.specs.SessionInvariant.{open_receipts, session_state_of}
 use Rattle.session.specs.Methods.{AsksPlayOr, first_number, play_call, play_front}
 use Rattle.session.specs.declared.commands.Ask.TheVariants.{Play as AskPlay}
 use Rattle.session.specs.RunRequests.{IsPlayable}
 use Rattle.session.specs.SessionStates.{IsReadyIn, SessionState}
 use Rattle.plan_cert.specs.declared.Segment.{Segment}
-use Rattle.session.specs.declared.notes.OfferNote.{OfferNote}
-use Rattle.session.specs.declared.notes.PlayNote.{PlayNote}
-use Rattle.session.specs.declared.notes.Receipt.{Receipt}
+use Rattle.session_records.specs.declared.notes.OfferNote.{OfferNote}
+use Rattle.session_records.specs.declared.notes.PlayNote.{PlayNote}
+use Rattle.session_records.specs.declared.notes.Receipt.{Receipt}
 use Rattle.session.specs.declared.states.Awaited.TheVariants.{Play}
 use Rattle.session.proofs.PlayRequestLemmas.{PlayPrepared, prepared_in, ready_closed}
 use Rattle.session.proofs.sessions.Session.ask_play.Goals as goal
@@ -133,7 +135,7 @@ returns-clause-exact c =
     let front = play_front old stored setup planned sequence authority in
     let own = c.in-Ok.own in
     let paced = c.in-Ok.paced in
-    let log = c.plans_with_room.new.log in
+    let log = c.plans_with_room.new.self in
     let lists = c.plans_with_room.ensures.lists in
     rw c.set.ensures (subst (λ (s : SessionState). AsksPlayOr s (play_call sequence authority setup) (Ok planned)
     (AskPlay plan)

@@ -5,11 +5,11 @@ use Rattle.session.specs.SessionInvariant.{SessionContext, IsAwaitedInvariant, I
 use Rattle.session.specs.SessionInvariant.{IsStopAnswered}
 use Rattle.session.specs.SessionInvariant.{awaited_offers, awaited_plays, awaited_receipts, session_context_of}
 use Rattle.session.specs.SessionInvariant.{open_receipts}
-use Rattle.session.specs.RecordLists.{SessionRecords}
+use Rattle.session_records.specs.RecordLists.{SessionRecords}
 use Rattle.session.specs.SlotSteps.{next_of, state_once_halted}
 use Rattle.session.specs.declared.states.Awaited.{Awaited}
 use Rattle.session.specs.declared.states.Awaited.TheVariants.{Nothing}
-use Rattle.session.specs.declared.states.Counts.{Counts}
+use Rattle.film_streams.specs.declared.stream_numbers.Counts.{Counts}
 use Rattle.session.specs.declared.states.AfterHalt.{AfterHalt}
 use Rattle.session.specs.declared.states.State.{State}
 use Rattle.session.specs.declared.states.State.TheVariants.{Playing}

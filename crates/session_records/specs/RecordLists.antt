@@ -1,8 +1,8 @@
 -- The lists of receipts and notes, and for how many more each has room.
 use Rattle.std.specs.Prelude.{ℕ, ◌≡◌, List}
-use Rattle.session.specs.declared.notes.Receipt.{Receipt}
-use Rattle.session.specs.declared.notes.PlayNote.{PlayNote}
-use Rattle.session.specs.declared.notes.OfferNote.{OfferNote}
+use Rattle.session_records.specs.declared.notes.Receipt.{Receipt}
+use Rattle.session_records.specs.declared.notes.PlayNote.{PlayNote}
+use Rattle.session_records.specs.declared.notes.OfferNote.{OfferNote}
 
 pub record SessionRecords : Type 0 where
   pub receipts : List Receipt

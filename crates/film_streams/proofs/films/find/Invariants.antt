@@ -1,6 +1,6 @@
 use Rattle.std.proofs.Common.{ℕ, ◌<◌}
-use Rattle.session.specs.Films.{IsFilmNamed}
-use Rattle.session.proofs.refusals.find.Given as goal
+use Rattle.film_streams.specs.Films.{IsFilmNamed}
+use Rattle.film_streams.proofs.films.find.Given as goal
 
 abbrev pub invariant-loop-number : goal.invariant-loop-number
 invariant-loop-number l = (k : ℕ) → k < l.number → IsFilmNamed l.films l.name k → ⊥

@@ -8,8 +8,8 @@ use Rattle.film_frames.specs.declared.stored_films.Stored.{Stored}
 use Rattle.rtsp_fields.specs.Urls.{IsRead, NamesFilm}
 use Rattle.rtsp_fields.proofs.FieldUniqueness.{name_once}
 use Rattle.rtsp_fields.proofs.PartPlaces.{end_once}
-use Rattle.session.specs.Films.{IsFilmNamed, Names}
-use Rattle.session.specs.SettingRanges.{AreFilms, names_of}
+use Rattle.film_streams.specs.Films.{IsFilmNamed, Names}
+use Rattle.film_streams.specs.SettingRanges.{AreFilms, names_of}
 
 name_at : (films : List Stored) (name : List ℕ) (i : ℕ) → IsFilmNamed films name i → get_or (names_of films) i [] ≡ name
 name_at films name i named =

@@ -2,9 +2,12 @@
 //! offers.
 
 ghost use Rattle.std.specs.Prelude.{◌≡◌, ◌+◌, ◌-◌, ◌≤◌, ◌++◌, [], ◌∷◌, IfOk, OnOk, IsOk};
-ghost use Rattle.session.specs.RecordLists.{IsSameLists};
+ghost use Rattle.std.specs.Prelude.{None};
+ghost use Rattle.session_records.specs.RecordLists.{IsSameLists};
 
 use crate::notes::{Notes, OfferNote, PlayNote, Receipt};
+use early_start::{MAX_WAIT, Offers};
+use plan_cert::Plan;
 use std::alloc::Global;
 use std::marker::Model;
 use vod_base::NoMemory;
@@ -12,18 +15,18 @@ use vod_base::NoMemory;
 /// Receipts and notes, with the room that is reserved for more. Contracts see the three lists and
 /// how many more each has room for.
 #[derive(Drop)]
-pub(crate) struct Records {
+pub struct Records {
     /// The station's answers.
-    pub(crate) receipts: Vec<Receipt>,
+    receipts: Vec<Receipt>,
     /// The plays that were admitted and are halted.
-    pub(crate) plays: Vec<PlayNote>,
+    plays: Vec<PlayNote>,
     /// The offers.
-    pub(crate) offers: Vec<OfferNote>,
+    offers: Vec<OfferNote>,
 }
 
 impl Model for Records {
     ghost use Rattle.std.specs.Prelude.{◌-◌, vec_capacity, vec_len};
-    ghost use Rattle.session.specs.RecordLists.{SessionRecords};
+    ghost use Rattle.session_records.specs.RecordLists.{SessionRecords};
 
     ghost Value = { SessionRecords };
 
@@ -37,17 +40,17 @@ impl Model for Records {
     } };
 }
 
-/// For so many looks there is room from the beginning.
-pub(crate) const RESERVED_LOOKS: usize = 1024;
+/// The looks for whose receipts a session has room from the beginning: 1,024, of its own choice.
+pub const RESERVED_LOOKS: usize = 1_024;
 
 impl Records {
     /// Empty lists, with room for [`RESERVED_LOOKS`] receipts.
-    pub(crate) fn new(alloc: Global) -> Result<Records, NoMemory>
+    pub fn new(alloc: Global) -> Result<Records, NoMemory>
         ensures { IfOk result (λ log. log ≡ record {
           receipts = [];
           plays = [];
           offers = [];
-          receipt_room = 1024;
+          receipt_room = RESERVED_LOOKS;
           play_room = log.play_room;
           offer_room = log.offer_room;
         }) }
@@ -62,7 +65,7 @@ impl Records {
     }
 
     /// Makes room for so many more receipts; it can't fail where there is room.
-    pub(crate) fn reserve_receipts(&mut self, count: usize) -> Result<(), NoMemory>
+    pub fn reserve_receipts(&mut self, count: usize) -> Result<(), NoMemory>
         ensures lists { IsSameLists self.old self.new }
         ensures room { OnOk result (count ≤ self.new.receipt_room) }
         ensures more { self.old.receipt_room ≤ self.new.receipt_room }
@@ -75,7 +78,7 @@ impl Records {
     }
 
     /// Makes room for one more play.
-    pub(crate) fn reserve_play(&mut self) -> Result<(), NoMemory>
+    fn reserve_play(&mut self) -> Result<(), NoMemory>
         ensures lists { IsSameLists self.old self.new }
         ensures room { OnOk result (1 ≤ self.new.play_room) }
         ensures more { self.old.play_room ≤ self.new.play_room }
@@ -88,8 +91,8 @@ impl Records {
 
     /// Makes room for the receipts of so many looks, and for the two receipts and the note of a
     /// play.
-    pub(crate) fn reserve_for_play(&mut self, looks: usize) -> Result<(), NoMemory>
-        requires { looks ≤ 1024 }
+    fn reserve_for_play(&mut self, looks: usize) -> Result<(), NoMemory>
+        requires { looks ≤ RESERVED_LOOKS }
         ensures lists { IsSameLists self.old self.new }
         ensures room { OnOk result (looks + 2 ≤ self.new.receipt_room) }
         ensures plays { OnOk result (1 ≤ self.new.play_room) }
@@ -103,7 +106,7 @@ impl Records {
     }
 
     /// Makes room for one more offer.
-    pub(crate) fn reserve_offer(&mut self) -> Result<(), NoMemory>
+    fn reserve_offer(&mut self) -> Result<(), NoMemory>
         ensures lists { IsSameLists self.old self.new }
         ensures room { OnOk result (1 ≤ self.new.offer_room) }
         ensures more { self.old.offer_room ≤ self.new.offer_room }
@@ -114,8 +117,44 @@ impl Records {
         Ok(())
     }
 
+    /// The plan of a play twice more, once there is room for what the play leaves for the report
+    /// beside so many looks.
+    pub fn plans_with_room(&mut self, looks: usize, plan: &Plan) -> Result<(Plan, Plan), NoMemory>
+        requires { looks ≤ RESERVED_LOOKS }
+        ensures lists { IsSameLists self.old self.new }
+        ensures room { OnOk result (looks + 2 ≤ self.new.receipt_room) }
+        ensures plays { OnOk result (1 ≤ self.new.play_room) }
+        ensures more { (self.old.receipt_room ≤ self.new.receipt_room)
+            × (self.old.play_room ≤ self.new.play_room) }
+        ensures others { self.new.offer_room ≡ self.old.offer_room }
+        ensures own { IfOk result (λ both. both.0 ≡ plan.now) }
+        ensures paced { IfOk result (λ both. both.1 ≡ plan.now) }
+    {
+        self.reserve_for_play(looks)?;
+        let own = plan.copy()?;
+        let paced = plan.copy()?;
+        Ok((own, paced))
+    }
+
+    /// The offers of a wait, once there is room for their note.
+    pub fn offers_with_room(&mut self, alloc: Global, wait: u64) -> Result<Offers, NoMemory>
+        requires { wait ≤ MAX_WAIT }
+        ensures lists { IsSameLists self.old self.new }
+        ensures room { OnOk result (1 ≤ self.new.offer_room) }
+        ensures more { self.old.offer_room ≤ self.new.offer_room }
+        ensures others { (self.new.receipt_room ≡ self.old.receipt_room)
+            × (self.new.play_room ≡ self.old.play_room) }
+        ensures wait { IfOk result (λ offers. offers.wait ≡ wait) }
+        ensures start { IfOk result (λ offers. offers.start ≡ None) }
+        ensures tried { IfOk result (λ offers. offers.tried ≡ []) }
+    {
+        let offers = Offers::new(alloc, wait)?;
+        self.reserve_offer()?;
+        Ok(offers)
+    }
+
     /// Notes a receipt, for which there is room.
-    pub(crate) fn note(&mut self, receipt: Receipt)
+    pub fn note(&mut self, receipt: Receipt)
         requires { 1 ≤ self.old.receipt_room }
         ensures { self.new ≡ record self.old {
           receipts = self.old.receipts ++ receipt ∷ [];
@@ -127,7 +166,7 @@ impl Records {
     }
 
     /// Notes a play, for which there is room.
-    pub(crate) fn note_play(&mut self, play: PlayNote)
+    pub fn note_play(&mut self, play: PlayNote)
         requires { 1 ≤ self.old.play_room }
         ensures { self.new ≡ record self.old {
           plays = self.old.plays ++ play ∷ [];
@@ -138,7 +177,7 @@ impl Records {
     }
 
     /// Notes an offer, for which there is room.
-    pub(crate) fn note_offer(&mut self, offer: OfferNote)
+    pub fn note_offer(&mut self, offer: OfferNote)
         requires { 1 ≤ self.old.offer_room }
         ensures { self.new ≡ record self.old {
           offers = self.old.offers ++ offer ∷ [];
@@ -149,7 +188,7 @@ impl Records {
     }
 
     /// The lists, with the slots that were missed.
-    pub(crate) fn into_notes(self, late: u64) -> Notes
+    pub fn into_notes(self, late: u64) -> Notes
         ensures receipts { result.receipts.items ≡ self.receipts }
         ensures plays { result.plays.items ≡ self.plays }
         ensures offers { result.offers.items ≡ self.offers }

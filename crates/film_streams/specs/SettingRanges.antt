@@ -1,18 +1,19 @@
 -- What a server is set to, and what SETUP settles: in their ranges.
-use Rattle.std.specs.Prelude.{ℕ, ◌≡◌, ◌≢◌, ◌^◌, ◌<◌, ◌≤◌, true, List, [], All, length, map}
+use Rattle.std.specs.Prelude.{ℕ, ◌≡◌, ◌≢◌, ◌<◌, ◌≤◌, true, List, [], All, length, map}
 use Rattle.std.specs.Prelude.{string_bytes, slice_index_or}
 use Rattle.vod_base.specs.Names.{good_name}
+use Rattle.vod_base.specs.declared.limits.TheConstants.{MAX_BYTES, MAX_DELAY}
 use Rattle.film_frames.specs.declared.stored_films.Stored.{Stored}
-use Rattle.session.specs.declared.settings.Settings.{Settings}
-use Rattle.session.specs.declared.states.Setup.{Setup}
+use Rattle.film_streams.specs.declared.settings.Settings.{Settings}
+use Rattle.film_streams.specs.declared.setups.Setup.{Setup}
 
 -- the settings are in their ranges
 pub record AreSettings (settings : Settings) : Type 0 where
   pub long_slots : 360 ≤ settings.slot_units
   pub short_slots : settings.slot_units ≤ 360000
   pub some_buffer : 1 ≤ settings.buffer
-  pub most_buffer : settings.buffer ≤ 2 ^ 42
-  pub most_delay : settings.startup ≤ 10000
+  pub most_buffer : settings.buffer ≤ MAX_BYTES
+  pub most_delay : settings.startup ≤ MAX_DELAY
 
 abbrev pub names_of : List Stored → List (List ℕ)
 names_of films = map (λ film. string_bytes film.name) films
@@ -28,5 +29,5 @@ pub record AreFilms (films : List Stored) : Type 0 where
 pub record IsSetup (films : ℕ) (setup : Setup) : Type 0 where
   pub film : setup.film < films
   pub some_buffer : 1 ≤ setup.buffer
-  pub most_buffer : setup.buffer ≤ 2 ^ 42
-  pub most_delay : setup.delay ≤ 10000
+  pub most_buffer : setup.buffer ≤ MAX_BYTES
+  pub most_delay : setup.delay ≤ MAX_DELAY

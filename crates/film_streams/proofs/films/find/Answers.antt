@@ -2,8 +2,8 @@ use Rattle.std.proofs.Common.{◌<◌, length, refl, sym, ap, ◌∙◌, string_
 use Rattle.std.proofs.lemmas.Option.{get_or_from_slice_get, slice_get_read, slice_get_within}
 use Rattle.std.specs.Cmp.Lexicographic.{same_text, other_text}
 use Rattle.film_frames.specs.declared.stored_films.Stored.{Stored}
-use Rattle.session.specs.Films.{IsFilmNamed}
-use Rattle.session.proofs.refusals.find.Goals as goal
+use Rattle.film_streams.specs.Films.{IsFilmNamed}
+use Rattle.film_streams.proofs.films.find.Goals as goal
 
 pub returns-then-eq-clause-found : goal.returns-then-eq-clause-found
 returns-then-eq-clause-found c = record {

@@ -2,8 +2,8 @@ use Rattle.std.proofs.Common.{ℕ, List, Option, subst}
 use Rattle.std.specs.Borrow.{Bor}
 use Rattle.std.specs.Option.{option_copied}
 use Rattle.rtsp_fields.specs.Urls.{IsRead}
-use Rattle.session.proofs.FilmUrlLemmas.{film_once, named_once, read_none}
-use Rattle.session.proofs.refusals.asked_film.Goals as goal
+use Rattle.film_streams.proofs.FilmUrlLemmas.{film_once, named_once, read_none}
+use Rattle.film_streams.proofs.films.asked_film.Goals as goal
 
 pub returns-in_err-name-clause-asked : goal.returns-in_err-name-clause-asked
 returns-in_err-name-clause-asked c =

@@ -1,0 +1,2 @@
+pub mod FilmUrlLemmas
+pub mod ModularSums

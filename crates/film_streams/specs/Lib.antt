@@ -1,0 +1,4 @@
+pub mod SettingRanges
+pub mod Films
+pub mod StreamNumbers
+pub mod Setups
