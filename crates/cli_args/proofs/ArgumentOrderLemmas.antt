@@ -3,6 +3,11 @@ use Rattle.std.proofs.Common.{◌≡◌, ℕ, ◌^◌, ◌-◌, ◌&&◌, ◌⊎
 use Rattle.std.proofs.Common.{None, Bool, true, false, refl, codes, inl, inr}
 use Rattle.std.specs.List.{list_all}
 use Rattle.std.proofs.lemmas.List.Folds.{list_all-append}
+use Rattle.vod_base.specs.declared.limits.TheConstants.{MAX_BYTES, MAX_DELAY}
+use Rattle.cli_args.specs.declared.key_values.TheConstants.{DEFAULT_BUFFER_BYTES, DEFAULT_DELAY, DEFAULT_SLOT_UNITS}
+use Rattle.cli_args.specs.declared.key_values.TheConstants.{MIN_SLOT_UNITS, MAX_SLOT_UNITS, DEFAULT_JOURNAL_ENTRIES}
+use Rattle.cli_args.specs.declared.key_values.TheConstants.{MIN_JOURNAL_ENTRIES, MAX_JOURNAL_ENTRIES, DEFAULT_PORT}
+use Rattle.cli_args.specs.declared.key_values.TheConstants.{MAX_PORT, DEFAULT_WORKERS, MAX_WORKERS}
 use Rattle.cli_args.specs.Settings.{number_or, setting_value, values_of}
 use Rattle.cli_args.specs.Capacities.{one_capacity}
 use Rattle.cli_args.specs.KeyValues.{one_bind}
@@ -32,14 +37,14 @@ give_same words words' same = record {
   seed = same (codes "seed");
   pictures = same (codes "pictures");
   plays = same (codes "plays");
-  buffer = ap (number_or 1048576 1 (2 ^ 42)) (same (codes "buffer"));
-  delay = ap (number_or 25 0 10000) (same (codes "startup"));
-  slot = ap (number_or 14400 360 360000) (same (codes "slot"));
+  buffer = ap (number_or DEFAULT_BUFFER_BYTES 1 MAX_BYTES) (same (codes "buffer"));
+  delay = ap (number_or DEFAULT_DELAY 0 MAX_DELAY) (same (codes "startup"));
+  slot = ap (number_or DEFAULT_SLOT_UNITS MIN_SLOT_UNITS MAX_SLOT_UNITS) (same (codes "slot"));
   capacity = ap one_capacity (same (codes "capacity"));
-  journal = ap (number_or 65536 2 1048576) (same (codes "journal"));
-  port = ap (number_or 8554 1 65535) (same (codes "port"));
+  journal = ap (number_or DEFAULT_JOURNAL_ENTRIES MIN_JOURNAL_ENTRIES MAX_JOURNAL_ENTRIES) (same (codes "journal"));
+  port = ap (number_or DEFAULT_PORT 1 MAX_PORT) (same (codes "port"));
   bind = ap one_bind (same (codes "bind"));
-  workers = ap (number_or 32 1 256) (same (codes "workers"));
+  workers = ap (number_or DEFAULT_WORKERS 1 MAX_WORKERS) (same (codes "workers"));
   connections = ap (number_or 0 0 (2 ^ 64 - 1)) (same (codes "connections"));
 }
 

@@ -1,11 +1,11 @@
 -- Arguments with a meaning have the form of their command.
-use Rattle.std.proofs.Common.{◌≡◌, ℕ, ◌+◌, ◌^◌, ◌-◌, ◌<◌, ◌≤◌, ◌&&◌, ◌==◌, All, List, [], ◌∷◌, ◌++◌}
-use Rattle.std.proofs.Common.{length, sym, ap, ◌∙◌, arith, Option, Some, None, Bool, true, false}
+use Rattle.std.proofs.Common.{◌≡◌, ℕ, ◌+◌, ◌-◌, ◌<◌, ◌≤◌, ◌&&◌, ◌==◌, All, List, [], ◌∷◌, ◌++◌}
+use Rattle.std.proofs.Common.{length, sym, ap, ◌∙◌, arith, Some, None, Bool, true, false}
 use Rattle.std.proofs.Common.{refl, codes, if◌then◌else◌, nat_lt, get_or, inl, inr}
 use Rattle.std.specs.List.{after_first, before_first, list_all, position_or_len}
 use Rattle.std.specs.Option.{is_some, option_and_then}
 use Rattle.std.specs.Str.{bytes_eq}
-use Rattle.std.proofs.lemmas.Bool.{and_parts, cases_Bool, cond-false, cond-true, eqb-true, ltb-true}
+use Rattle.std.proofs.lemmas.Bool.{and_parts, eqb-true, ltb-true}
 use Rattle.std.proofs.lemmas.List.Elements.{All-cons, All-from_recursion, All-nil}
 use Rattle.std.proofs.lemmas.List.Folds.{Any-from_list_any}
 use Rattle.std.proofs.lemmas.List.Sums.{passes_at_first, split_at_first}
@@ -23,7 +23,7 @@ use Rattle.cli_args.specs.declared.subcommands.Subcommand.TheVariants.{Plan, Che
 use Rattle.cli_args.specs.ArgumentSyntax.{HasFilms, HasSource, AreArgsOf, AreValidArgs, IsOneSource}
 use Rattle.cli_args.specs.ArgumentSyntax.{IsSettingOf, most_times, needed_keys, times}
 use Rattle.cli_args.specs.ArgumentText.{AreApart, setting_text}
-use Rattle.cli_args.specs.Invocations.{Source, ClientParams, Invocation, help, version, plan_of}
+use Rattle.cli_args.specs.Invocations.{PlanSource, ClientParams, Invocation, help, version, plan_of}
 use Rattle.cli_args.specs.Invocations.{scan_of, day_of, fair_of, serve_of, watch_of}
 use Rattle.cli_args.specs.Invocations.{command_invocation, lone_invocation, source_of}
 use Rattle.cli_args.specs.Invocations.{client_given, script_run_given, fair_run_given}
@@ -78,8 +78,8 @@ pub record HasClient (words : List (List ℕ)) : Type 0 where
 client_form : (words : List (List ℕ)) (bytes slots : ℕ) → buffer_given words ≡ Some bytes
     → delay_given words ≡ Some slots → HasClient words
 client_form words bytes slots buffer delay = record {
-  buffer = few_of_number 1048576 1 (2 ^ 42) bytes (values_of (codes "buffer") words) buffer;
-  delay = few_of_number 25 0 10000 slots (values_of (codes "startup") words) delay;
+  buffer = few_of_number _ _ _ _ (values_of (codes "buffer") words) buffer;
+  delay = few_of_number _ _ _ _ (values_of (codes "startup") words) delay;
 }
 
 pub record HasPace (words : List (List ℕ)) : Type 0 where
@@ -91,7 +91,7 @@ pace_form words planning e =
     let read = pace_keys words planning e in
     record {
       client = client_form words planning.buffer planning.delay read.buffer read.delay;
-      slot = few_of_number 14400 360 360000 planning.slot (values_of (codes "slot") words) read.slot;
+      slot = few_of_number _ _ _ _ (values_of (codes "slot") words) read.slot;
     }
 
 pub record HasListening (words : List (List ℕ)) : Type 0 where
@@ -105,11 +105,10 @@ listening_form : (words : List (List ℕ)) (listening : ListenSettings) → list
 listening_form words listening e =
     let read = listening_keys words listening e in
     record {
-      port = few_of_number 8554 1 65535 listening.port (values_of (codes "port") words) read.port;
+      port = few_of_number _ _ _ _ (values_of (codes "port") words) read.port;
       bind = few_of_bind listening.all (values_of (codes "bind") words) read.bind;
-      workers = few_of_number 32 1 256 listening.workers (values_of (codes "workers") words) read.workers;
-      connections = few_of_number 0 0 (2 ^ 64 - 1) listening.connections (values_of (codes "connections") words)
-          read.connections;
+      workers = few_of_number _ _ _ _ (values_of (codes "workers") words) read.workers;
+      connections = few_of_number _ _ _ _ (values_of (codes "connections") words) read.connections;
     }
 
 -- a source of these values: one name, and at most one slot, of a film
@@ -118,15 +117,15 @@ pub record HasOneSource (traces films slots : List (List ℕ)) : Type 0 where
   pub slot : 0 < length slots → length traces ≡ 0
   pub few : length slots ≤ 1
 
-source_form : (traces films slots : List (List ℕ)) (source : Source)
+source_form : (traces films slots : List (List ℕ)) (source : PlanSource)
     → source_of traces films slots ≡ Some source → HasOneSource traces films slots
 source_form [] films slots source e =
     let film = step_found _ (one_name films) source e in
-    let slot = last_step_found _ (number_or 14400 360 360000 slots) source film.2 in
+    let slot = last_step_found _ _ source film.2 in
     record {
       one = omega (arith, one_of_name film.0 films film.1);
       slot = λ some. refl;
-      few = few_of_number 14400 360 360000 slot.0 slots slot.1;
+      few = few_of_number _ _ _ _ slots slot.1;
     }
 source_form (trace ∷ traces) [] [] source e =
     let name = last_step_found _ (one_name (trace ∷ traces)) source e in
@@ -223,8 +222,8 @@ make_form : (words : List (List ℕ)) (order : Invocation) → invocation_given 
 make_form words order e =
     let read = make_keys words order e in
     let kind = one_of_kind read.kind (values_of (codes "kind") words) read.kind_is in
-    let seed = one_of_number 0 (2 ^ 64 - 1) read.seed (values_of (codes "seed") words) read.seed_is in
-    let pictures = one_of_number 1 100000 read.pictures (values_of (codes "pictures") words) read.pictures_are in
+    let seed = one_of_number _ _ _ (values_of (codes "seed") words) read.seed_is in
+    let pictures = one_of_number _ _ _ (values_of (codes "pictures") words) read.pictures_are in
     record {
       few = All-from_recursion (IsFew Make words) (keys_of Make)
           (omega (arith, kind), (omega (arith, seed), (omega (arith, pictures), tt)));
@@ -239,8 +238,8 @@ day_form words order e =
     let read = script_run_keys words run.0 run.1 in
     let one = one_of_name run.0.script (values_of (codes "script") words) read.script in
     let capacity = few_of_capacity run.0.capacity (values_of (codes "capacity") words) read.capacity in
-    let journal = few_of_number 65536 2 1048576 run.0.journal (values_of (codes "journal") words) read.journal in
-    let slot = few_of_number 14400 360 360000 run.0.slot (values_of (codes "slot") words) read.slot in
+    let journal = few_of_number _ _ _ _ (values_of (codes "journal") words) read.journal in
+    let slot = few_of_number _ _ _ _ (values_of (codes "slot") words) read.slot in
     record {
       few = All-from_recursion (IsFew Day words) (keys_of Day)
           (omega (arith, one), (capacity, (journal, (slot, tt))));
@@ -253,8 +252,8 @@ fair_form : (words : List (List ℕ)) (order : Invocation) → invocation_given 
 fair_form words order e =
     let run = last_step_found fair_of (fair_run_given words) order e in
     let read = fair_run_keys words run.0 run.1 in
-    let seed = one_of_number 0 (2 ^ 64 - 1) run.0.seed (values_of (codes "seed") words) read.seed in
-    let plays = one_of_number 1 100000 run.0.plays (values_of (codes "plays") words) read.plays in
+    let seed = one_of_number _ _ _ (values_of (codes "seed") words) read.seed in
+    let plays = one_of_number _ _ _ (values_of (codes "plays") words) read.plays in
     let capacity = few_of_capacity run.0.capacity (values_of (codes "capacity") words) read.capacity in
     record {
       few = All-from_recursion (IsFew Fair words) (keys_of Fair)
@@ -271,7 +270,7 @@ watch_form words order e =
     let read = watching_keys words watching.0 watching.1 in
     let planning = pace_form words watching.0.planning read.planning in
     let one = one_of_name watching.0.film (values_of (codes "film") words) read.film in
-    let port = few_of_number 8554 1 65535 watching.0.port (values_of (codes "port") words) read.port in
+    let port = few_of_number _ _ _ _ (values_of (codes "port") words) read.port in
     record {
       few = All-from_recursion (IsFew Watch words) (keys_of Watch)
           (omega (arith, one), (port, (planning.client.buffer, (planning.client.delay, (planning.slot, tt)))));
@@ -290,7 +289,7 @@ serve_form words order e =
     let port = listening.port in
     let bind = listening.bind in
     let capacity = few_of_capacity serving.0.capacity (values_of (codes "capacity") words) read.capacity in
-    let journal = few_of_number 65536 2 1048576 serving.0.journal (values_of (codes "journal") words) read.journal in
+    let journal = few_of_number _ _ _ _ (values_of (codes "journal") words) read.journal in
     let buffer = planning.client.buffer in
     let delay = planning.client.delay in
     let slot = planning.slot in
@@ -397,43 +396,27 @@ pub meaning_form : (words : List (List ℕ)) (order : Invocation) → invocation
     words
 meaning_form [] order e = absurd (none-some _ e)
 meaning_form (first ∷ words) order e =
-    let helps = bytes_eq first (codes "--help") in
-    let tells = bytes_eq first (codes "--version") in
-    let command : Option Invocation = option_and_then (command_invocation words) (subcommand_named first) in
-    elim (cases_Bool (bytes_eq first (codes "--help"))) [
-      | inl is ↦ (
-          let name = (bytes_eq-Decides first (codes "--help")).0 is in
-          let none = alone help words order
-          (sym (cond-true helps (lone_invocation help words) (if tells then lone_invocation version words else command)
-          is)
-          ∙ e) in
-          inl (ap (λ (w : List ℕ). w ∷ words) name ∙ ap (λ (ws : List (List ℕ)). codes "--help" ∷ ws) none)
-          )
-      | inr not_help ↦ (
-          let more : (if tells then lone_invocation version words else command) ≡ Some order =
-          sym (cond-false helps (lone_invocation help words) (if tells then lone_invocation version words else command)
-          not_help)
-          ∙ e in
-          elim (cases_Bool (bytes_eq first (codes "--version"))) [
-            | inl is ↦ (
-                let name = (bytes_eq-Decides first (codes "--version")).0 is in
-                let none =
-                alone version words order (sym (cond-true tells (lone_invocation version words) command is) ∙ more) in
-                inr (inl (ap (λ (w : List ℕ). w ∷ words) name
-                ∙ ap (λ (ws : List (List ℕ)). codes "--version" ∷ ws) none))
-                )
-            | inr not_version ↦ (
-                let named = step_found (command_invocation words) (subcommand_named first) order
-                (sym (cond-false tells (lone_invocation version words) command not_version) ∙ more) in
-                inr (inr (record {
-                  name = first;
-                  rest = words;
-                  command = named.0;
-                  parts = refl;
-                  named = named.1;
-                  form = words_form first named.0 words order named.1 e;
-                }))
-                )
-          ]
-          )
-    ]
+    by (bytes_eq first (codes "--help")) (bytes_eq first (codes "--version")) refl refl e
+  where
+    lone : (word : List ℕ) (is : Invocation) → bytes_eq first word ≡ true → lone_invocation is words ≡ Some order
+        → first ∷ words ≡ word ∷ []
+    lone word is same only =
+        ap (λ (w : List ℕ). w ∷ words) ((bytes_eq-Decides first word).0 same)
+        ∙ ap (λ (ws : List (List ℕ)). word ∷ ws) (alone is words order only)
+
+    by : (helps tells : Bool) → bytes_eq first (codes "--help") ≡ helps → bytes_eq first (codes "--version") ≡ tells →
+        (if helps then lone_invocation help words else if tells then lone_invocation version words else option_and_then
+        (command_invocation words) (subcommand_named first)) ≡ Some order →
+        AreValidArgs (first ∷ words)
+    by true tells helped told only = inl (lone (codes "--help") help helped only)
+    by false true helped told only = inr (inl (lone (codes "--version") version told only))
+    by false false helped told command =
+        let named = step_found (command_invocation words) (subcommand_named first) order command in
+        inr (inr (record {
+          name = first;
+          rest = words;
+          command = named.0;
+          parts = refl;
+          named = named.1;
+          form = words_form first named.0 words order named.1 e;
+        }))

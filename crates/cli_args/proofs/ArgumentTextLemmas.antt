@@ -21,6 +21,8 @@ use Rattle.vod_base.proofs.TextLemmas.{decimal_read}
 use Rattle.slot_calendar.specs.declared.profiles.CapStep.{CapStep}
 use Rattle.slot_calendar.specs.Profiles.{no_step, step_at}
 use Rattle.vod_base.specs.Limits.{in_range}
+use Rattle.vod_base.specs.declared.links.TheConstants.{LATEST_SLOT}
+use Rattle.slot_calendar.specs.declared.profiles.TheConstants.{MAX_CAPACITY, MAX_STEPS}
 use Rattle.cli_args.specs.Settings.{one_name, one_number, number_or}
 use Rattle.cli_args.specs.Capacities.{step_of, is_later_step, may_follow, add_step, add_step_text}
 use Rattle.cli_args.specs.Capacities.{steps_of, one_capacity}
@@ -132,16 +134,17 @@ step_may front step rest capacity =
     let profile = capacity.0 in
     let long = length-append front (step ∷ rest) in
     let here : step_at (front ++ step ∷ rest) (length front) ≡ step = get_or-append_seam front step rest no_step in
-    let few : nat_lt (length front) 64 ≡ true = lt-ltb (length front) 64 (omega (arith, profile.few, long)) in
-    let late : nat_le step.from (2 ^ 62) ≡ true = le-leb step.from (2 ^ 62)
-    (subst (λ (s : CapStep). s.from ≤ 2 ^ 62) here (capacity.1 (length front) no_step (omega (arith, long)))) in
-    let small : nat_le step.bytes (2 ^ 42) ≡ true = le-leb step.bytes (2 ^ 42)
-    (subst (λ (s : CapStep). s.bytes ≤ 2 ^ 42) here (profile.small (length front) (omega (arith, long)))) in
+    let few : nat_lt (length front) MAX_STEPS ≡ true =
+    lt-ltb (length front) MAX_STEPS (omega (arith, profile.few, long)) in
+    let late : nat_le step.from LATEST_SLOT ≡ true = le-leb step.from LATEST_SLOT
+    (subst (λ (s : CapStep). s.from ≤ LATEST_SLOT) here (capacity.1 (length front) no_step (omega (arith, long)))) in
+    let small : nat_le step.bytes MAX_CAPACITY ≡ true = le-leb step.bytes MAX_CAPACITY
+    (subst (λ (s : CapStep). s.bytes ≤ MAX_CAPACITY) here (profile.small (length front) (omega (arith, long)))) in
     let stands : is_later_step front step.from ≡ true = stands_here front step rest capacity here in
-    and_from (nat_lt (length front) 64)
-    (is_later_step front step.from && (nat_le step.from (2 ^ 62) && nat_le step.bytes (2 ^ 42))) few
-    (and_from (is_later_step front step.from) (nat_le step.from (2 ^ 62) && nat_le step.bytes (2 ^ 42)) stands
-    (and_from (nat_le step.from (2 ^ 62)) (nat_le step.bytes (2 ^ 42)) late small))
+    and_from (nat_lt (length front) MAX_STEPS)
+    (is_later_step front step.from && (nat_le step.from LATEST_SLOT && nat_le step.bytes MAX_CAPACITY)) few
+    (and_from (is_later_step front step.from) (nat_le step.from LATEST_SLOT && nat_le step.bytes MAX_CAPACITY) stands
+    (and_from (nat_le step.from LATEST_SLOT) (nat_le step.bytes MAX_CAPACITY) late small))
   where
     stands_here : (front : List CapStep) (step : CapStep) (rest : List CapStep)
         → IsCapacity (front ++ step ∷ rest) → step_at (front ++ step ∷ rest) (length front) ≡ step
@@ -177,10 +180,10 @@ short_step : (front : List CapStep) (step : CapStep) (rest : List CapStep)
 short_step front step rest capacity =
     let long = length-append front (step ∷ rest) in
     let here : step_at (front ++ step ∷ rest) (length front) ≡ step = get_or-append_seam front step rest no_step in
-    let late : step.from ≤ 2 ^ 62 =
-    subst (λ (s : CapStep). s.from ≤ 2 ^ 62) here (capacity.1 (length front) no_step (omega (arith, long))) in
-    let small : step.bytes ≤ 2 ^ 42 =
-    subst (λ (s : CapStep). s.bytes ≤ 2 ^ 42) here (capacity.0.small (length front) (omega (arith, long))) in
+    let late : step.from ≤ LATEST_SLOT =
+    subst (λ (s : CapStep). s.from ≤ LATEST_SLOT) here (capacity.1 (length front) no_step (omega (arith, long))) in
+    let small : step.bytes ≤ MAX_CAPACITY =
+    subst (λ (s : CapStep). s.bytes ≤ MAX_CAPACITY) here (capacity.0.small (length front) (omega (arith, long))) in
     record { from = omega (arith, late); bytes = omega (arith, small) }
 
 -- one step more before them
@@ -234,6 +237,6 @@ capacity_back [] values given capacity = absurd (omega (arith, capacity.0.some))
 capacity_back (step ∷ rest) values given capacity =
     ap one_capacity given
     ∙ ap (λ (b : Bool). if b then steps_of (steps_text (step ∷ rest)) else option_map
-    (λ (n : ℕ). (made_step 0 n) ∷ []) (in_range 1 (2 ^ 42) (number_of (steps_text (step ∷ rest)))))
+    (λ (n : ℕ). (made_step 0 n) ∷ []) (in_range 1 MAX_CAPACITY (number_of (steps_text (step ∷ rest)))))
     (colon_inside step rest (short_step [] step rest capacity))
     ∙ steps_back [] step rest capacity

@@ -1,5 +1,5 @@
 -- Steps, each of which may follow the ones before it.
-use Rattle.std.proofs.Common.{◌≡◌, ◌+◌, ◌-◌, ◌^◌, ◌<◌, ◌≤◌, ℕ, Bool, true, false, if◌then◌else◌}
+use Rattle.std.proofs.Common.{◌≡◌, ◌+◌, ◌-◌, ◌<◌, ◌≤◌, ℕ, Bool, true, false, if◌then◌else◌}
 use Rattle.std.proofs.Common.{◌&&◌, ◌==◌, nat_lt, nat_le, List, [], ◌∷◌, ◌++◌, length, Option, Some}
 use Rattle.std.proofs.Common.{None, inl, inr, arith, refl, sym, ap, ◌∙◌, length-append}
 use Rattle.std.specs.List.{before_first, after_first, position_or_len, slice_split, fold}
@@ -11,14 +11,16 @@ use Rattle.std.proofs.Math.ListN.{get_or-append}
 use Rattle.std.proofs.Math.Seq.{get_or-append_seam}
 use Rattle.slot_calendar.specs.declared.profiles.CapStep.{CapStep}
 use Rattle.slot_calendar.specs.Profiles.{IsProfile, no_step, step_at}
+use Rattle.vod_base.specs.declared.links.TheConstants.{LATEST_SLOT}
+use Rattle.slot_calendar.specs.declared.profiles.TheConstants.{MAX_CAPACITY, MAX_STEPS}
 use Rattle.cli_args.specs.Capacities.{IsStepPrefix, may_follow, add_step_text, is_later_step, add_step, step_of}
 
 -- what a step that may follow is known for
 pub record MayFollow (steps : List CapStep) (step : CapStep) : Type 0 where
-  pub short : length steps < 64
+  pub short : length steps < MAX_STEPS
   pub first : length steps ≡ 0 → step.from ≡ 0
   pub later : 0 < length steps → (step_at steps (length steps - 1)).from < step.from
-  pub small : step.bytes ≤ 2 ^ 42
+  pub small : step.bytes ≤ MAX_CAPACITY
 
 at_start : (steps : List CapStep) (slot : ℕ) → is_later_step steps slot ≡ true → length steps ≡ 0 → slot ≡ 0
 at_start steps slot e none = eqb-true slot 0 (rw (eq-eqb (length steps) 0 none) at e)
@@ -31,16 +33,16 @@ after_last steps slot e some =
 
 follows : (steps : List CapStep) (step : CapStep) → may_follow steps step ≡ true → MayFollow steps step
 follows steps step e =
-    let all = and_parts (nat_lt (length steps) 64)
-    (is_later_step steps step.from && (nat_le step.from (2 ^ 62) && nat_le step.bytes (2 ^ 42))) e in
+    let all = and_parts (nat_lt (length steps) MAX_STEPS)
+    (is_later_step steps step.from && (nat_le step.from LATEST_SLOT && nat_le step.bytes MAX_CAPACITY)) e in
     let rest =
-    and_parts (is_later_step steps step.from) (nat_le step.from (2 ^ 62) && nat_le step.bytes (2 ^ 42)) all.1 in
-    let small = and_parts (nat_le step.from (2 ^ 62)) (nat_le step.bytes (2 ^ 42)) rest.1 in
+    and_parts (is_later_step steps step.from) (nat_le step.from LATEST_SLOT && nat_le step.bytes MAX_CAPACITY) all.1 in
+    let small = and_parts (nat_le step.from LATEST_SLOT) (nat_le step.bytes MAX_CAPACITY) rest.1 in
     record {
-      short = ltb-true (length steps) 64 all.0;
+      short = ltb-true (length steps) MAX_STEPS all.0;
       first = at_start steps step.from rest.0;
       later = after_last steps step.from rest.0;
-      small = leb-true step.bytes (2 ^ 42) small.1;
+      small = leb-true step.bytes MAX_CAPACITY small.1;
     }
 
 -- a step before the last one, and the last one
@@ -80,7 +82,7 @@ ascend_more steps step front more i inside = elim (cases_lt (i + 1) (length step
 
 small_more : (steps : List CapStep) (step : CapStep) → IsStepPrefix steps → MayFollow steps step → (i : ℕ) →
     i < length (steps ++ step ∷ []) →
-    (step_at (steps ++ step ∷ []) i).bytes ≤ 2 ^ 42
+    (step_at (steps ++ step ∷ []) i).bytes ≤ MAX_CAPACITY
 small_more steps step front more i inside = elim (cases_lt i (length steps)) [
   | inl before ↦ rw (old_step steps step i before) (front.small i before)
   | inr last ↦

@@ -9,6 +9,11 @@ use Rattle.std.proofs.lemmas.Bool.{and_parts, cases_Bool, not-true}
 use Rattle.std.proofs.lemmas.List.Elements.{All-cons, All-contains, All-nil}
 use Rattle.std.proofs.lemmas.List.Folds.{list_any-from_Any}
 use Rattle.std.proofs.lemmas.Slice.Eq.{bytes_eq-Decides}
+use Rattle.vod_base.specs.declared.limits.TheConstants.{MAX_BYTES, MAX_DELAY}
+use Rattle.cli_args.specs.declared.key_values.TheConstants.{DEFAULT_BUFFER_BYTES, DEFAULT_DELAY, DEFAULT_SLOT_UNITS}
+use Rattle.cli_args.specs.declared.key_values.TheConstants.{MIN_SLOT_UNITS, MAX_SLOT_UNITS, DEFAULT_JOURNAL_ENTRIES}
+use Rattle.cli_args.specs.declared.key_values.TheConstants.{MIN_JOURNAL_ENTRIES, MAX_JOURNAL_ENTRIES, DEFAULT_PORT}
+use Rattle.cli_args.specs.declared.key_values.TheConstants.{MAX_PORT, DEFAULT_WORKERS, MAX_WORKERS}
 use Rattle.cli_args.specs.Settings.{number_or, values_of}
 use Rattle.cli_args.specs.Capacities.{one_capacity}
 use Rattle.cli_args.specs.KeyValues.{one_bind}
@@ -136,24 +141,18 @@ give_same command words default left =
       seed = other (codes "seed") refl;
       pictures = other (codes "pictures") refl;
       plays = other (codes "plays") refl;
-      buffer = added_same (number_or 1048576 1 (2 ^ 42)) default
+      buffer = added_same (number_or DEFAULT_BUFFER_BYTES 1 MAX_BYTES) default
           refl (own (codes "buffer") (codes "1048576") refl);
-      delay = added_same (number_or 25 0 10000) default
-          refl (own (codes "startup") (codes "25") refl);
-      slot = added_same (number_or 14400 360 360000) default
+      delay = added_same (number_or DEFAULT_DELAY 0 MAX_DELAY) default refl (own (codes "startup") (codes "25") refl);
+      slot = added_same (number_or DEFAULT_SLOT_UNITS MIN_SLOT_UNITS MAX_SLOT_UNITS) default
           refl (own (codes "slot") (codes "14400") refl);
-      capacity = added_same one_capacity default
-          refl (own (codes "capacity") (codes "50000") refl);
-      journal = added_same (number_or 65536 2 1048576) default
+      capacity = added_same one_capacity default refl (own (codes "capacity") (codes "50000") refl);
+      journal = added_same (number_or DEFAULT_JOURNAL_ENTRIES MIN_JOURNAL_ENTRIES MAX_JOURNAL_ENTRIES) default
           refl (own (codes "journal") (codes "65536") refl);
-      port = added_same (number_or 8554 1 65535) default
-          refl (own (codes "port") (codes "8554") refl);
-      bind = added_same one_bind default
-          refl (own (codes "bind") (codes "local") refl);
-      workers = added_same (number_or 32 1 256) default
-          refl (own (codes "workers") (codes "32") refl);
-      connections = added_same (number_or 0 0 (2 ^ 64 - 1)) default
-          refl (own (codes "connections") (codes "0") refl);
+      port = added_same (number_or DEFAULT_PORT 1 MAX_PORT) default refl (own (codes "port") (codes "8554") refl);
+      bind = added_same one_bind default refl (own (codes "bind") (codes "local") refl);
+      workers = added_same (number_or DEFAULT_WORKERS 1 MAX_WORKERS) default refl (own (codes "workers") (codes "32") refl);
+      connections = added_same (number_or 0 0 (2 ^ 64 - 1)) default refl (own (codes "connections") (codes "0") refl);
     }
 
 -- the argument of a key that the command takes is an argument of the command

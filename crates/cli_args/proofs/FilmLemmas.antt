@@ -9,6 +9,7 @@ use Rattle.std.proofs.lemmas.List.Folds.{list_any_at, list_any_none}
 use Rattle.std.proofs.lemmas.List.Sums.{AllPass-from_list_all, list_all-from_AllPass}
 use Rattle.std.proofs.lemmas.Slice.Eq.{bytes_eq-Decides}
 use Rattle.vod_base.specs.Names.{good_name}
+use Rattle.cli_args.specs.declared.film_names.TheConstants.{MAX_FILMS}
 use Rattle.cli_args.specs.ArgumentText.{AreApart, AreValidFilms}
 use Rattle.cli_args.specs.Invocations.{are_distinct, are_films, are_names}
 
@@ -42,19 +43,20 @@ distinct (name ∷ names) apart =
 
 pub films_asked : (films : List (List ℕ)) → are_films films ≡ true → AreValidFilms films
 films_asked films pass =
-    let some = and_parts (nat_le 1 (length films)) (nat_le (length films) 64 && are_names films) pass in
-    let few = and_parts (nat_le (length films) 64) (are_names films) some.1 in
+    let some = and_parts (nat_le 1 (length films)) (nat_le (length films) MAX_FILMS && are_names films) pass in
+    let few = and_parts (nat_le (length films) MAX_FILMS) (are_names films) some.1 in
     let names = and_parts (list_all good_name films) (are_distinct films) few.1 in
     record {
       some = leb-true 1 (length films) some.0;
-      few = leb-true (length films) 64 few.0;
+      few = leb-true (length films) MAX_FILMS few.0;
       good = AllPass-from_list_all good_name films names.0;
       apart = apart films names.1;
     }
 
 pub films_back : (films : List (List ℕ)) → AreValidFilms films → are_films films ≡ true
 films_back films may =
-    and_from (nat_le 1 (length films)) (nat_le (length films) 64 && are_names films) (le-leb 1 (length films) may.some)
-    (and_from (nat_le (length films) 64) (are_names films) (le-leb (length films) 64 may.few)
+    and_from (nat_le 1 (length films)) (nat_le (length films) MAX_FILMS && are_names films)
+    (le-leb 1 (length films) may.some)
+    (and_from (nat_le (length films) MAX_FILMS) (are_names films) (le-leb (length films) MAX_FILMS may.few)
     (and_from (list_all good_name films) (are_distinct films)
     (list_all-from_AllPass good_name films may.good) (distinct films may.apart)))

@@ -7,7 +7,7 @@ use Rattle.std.specs.Str.{bytes_eq}
 use Rattle.std.proofs.lemmas.List.{append-nil}
 use Rattle.vod_base.specs.Names.{good_name}
 use Rattle.slot_calendar.specs.declared.profiles.CapStep.{CapStep}
-use Rattle.cli_args.specs.Settings.{values_of, one_name, number_or}
+use Rattle.cli_args.specs.Settings.{values_of, one_name}
 use Rattle.cli_args.specs.KeyValues.{film_given, cert_given, script_given, buffer_given}
 use Rattle.cli_args.specs.KeyValues.{delay_given, slot_given, capacity_given, journal_given}
 use Rattle.cli_args.specs.KeyValues.{port_given, workers_given, connections_given, seed_given}
@@ -15,7 +15,7 @@ use Rattle.cli_args.specs.KeyValues.{pictures_given, plays_given, one_kind, one_
 use Rattle.cli_args.specs.Subcommands.{keys_of}
 use Rattle.cli_args.specs.declared.subcommands.Subcommand.{Subcommand}
 use Rattle.cli_args.specs.declared.subcommands.Subcommand.TheVariants.{Plan, Check, Scan, Make, Day, Fair, Serve, Watch}
-use Rattle.cli_args.specs.Invocations.{Source, trace_source, film_source, ClientParams, ServeArgs, ScriptRun}
+use Rattle.cli_args.specs.Invocations.{PlanSource, trace_source, film_source, ClientParams, ServeArgs, ScriptRun}
 use Rattle.cli_args.specs.Invocations.{WatchArgs, Invocation, help, version, plan_of, check_of, scan_of}
 use Rattle.cli_args.specs.Invocations.{make_of, day_of, fair_of, serve_of, watch_of, source_of}
 use Rattle.cli_args.specs.Invocations.{source_given, client_given, check_given, make_given}
@@ -59,21 +59,21 @@ pace_read : {buffer delay : ℕ} (settings : List Setting) → are_plain setting
     → IsValidDelay delay → GivesPace (given settings) buffer delay
 pace_read {buffer} {delay} settings plain b s some few =
     record {
-      buffer = key_or 1048576 (values_read (codes "buffer") settings plain ∙ b) some (omega (arith, some.1));
-      delay = key_or 25 (values_read (codes "startup") settings plain ∙ s) few (omega (arith, few.1));
+      buffer = key_or _ (values_read (codes "buffer") settings plain ∙ b) some (omega (arith, some.1));
+      delay = key_or _ (values_read (codes "startup") settings plain ∙ s) few (omega (arith, few.1));
     }
 
 slot_read : (settings : List Setting) (slot : ℕ) → are_plain settings ≡ true →
     picked (codes "slot") settings ≡ decimal slot ∷ [] →
     IsValidSlot slot → slot_given (given settings) ≡ Some slot
 slot_read settings slot plain s within =
-    key_or 14400 (values_read (codes "slot") settings plain ∙ s) within (omega (arith, within.1))
+    key_or _ (values_read (codes "slot") settings plain ∙ s) within (omega (arith, within.1))
 
 journal_read : (settings : List Setting) (journal : ℕ) → are_plain settings ≡ true →
     picked (codes "journal") settings ≡ decimal journal ∷ [] →
     IsValidJournal journal → journal_given (given settings) ≡ Some journal
 journal_read settings journal plain j within =
-    key_or 65536 (values_read (codes "journal") settings plain ∙ j) within (omega (arith, within.1))
+    key_or _ (values_read (codes "journal") settings plain ∙ j) within (omega (arith, within.1))
 
 capacity_read : (settings : List Setting) (steps : List CapStep) → are_plain settings ≡ true →
     picked (codes "capacity") settings ≡ steps_text steps ∷ [] →
@@ -86,7 +86,7 @@ port_read : (settings : List Setting) (port : ℕ) → are_plain settings ≡ tr
     picked (codes "port") settings ≡ decimal port ∷ [] →
     IsValidPort port → port_given (given settings) ≡ Some port
 port_read settings port plain p within =
-    key_or 8554 (values_read (codes "port") settings plain ∙ p) within (omega (arith, within.1))
+    key_or _ (values_read (codes "port") settings plain ∙ p) within (omega (arith, within.1))
 
 -- a source, by what its keys are given
 trace_read : {name : List ℕ} (settings : List Setting) → are_plain settings ≡ true
@@ -116,13 +116,13 @@ film_read {name} {slot} settings plain picks good within =
     (values_of (codes "slot") (given settings)))
     (values_read (codes "trace") settings plain ∙ picks.trace)
     ∙ then_is (λ (n : List ℕ). option_map (λ (k : ℕ). film_source n k)
-    (number_or 14400 360 360000 (values_of (codes "slot") (given settings))))
+    (slot_given (given settings)))
     (one_name (values_of (codes "film") (given settings))) name (Some (film_source name slot))
     (name_back name (values_of (codes "film") (given settings))
     (values_read (codes "film") settings plain ∙ picks.film) good)
     (ap (option_map (λ (k : ℕ). film_source name k)) (slot_read settings slot plain picks.slot_is within))
 
-viewer_is : (words : List (List ℕ)) (source : Source) (buffer delay : ℕ) → source_given words ≡ Some source →
+viewer_is : (words : List (List ℕ)) (source : PlanSource) (buffer delay : ℕ) → source_given words ≡ Some source →
     GivesPace words buffer delay →
     client_given words ≡ Some (record { source = source; buffer = buffer; delay = delay })
 viewer_is words source buffer delay from planning = rw from (rw planning.buffer (rw planning.delay refl))
@@ -131,7 +131,7 @@ viewer_read : (viewer : ClientParams) → IsValidClient viewer → client_given 
     viewer
 viewer_read viewer may = by viewer.source viewer.buffer viewer.delay may.source may.buffer may.delay
   where
-    by : (source : Source) (buffer delay : ℕ) → IsValidSource source → IsValidBuffer buffer → IsValidDelay delay →
+    by : (source : PlanSource) (buffer delay : ℕ) → IsValidSource source → IsValidBuffer buffer → IsValidDelay delay →
         client_given (given (client_settings (record { source = source; buffer = buffer; delay = delay })))
         ≡ Some (record { source = source; buffer = buffer; delay = delay })
     by (trace_source name) buffer delay good some few =
@@ -149,7 +149,7 @@ check_read : (viewer : ClientParams) (cert : List ℕ) → IsValidClient viewer 
     check_given (given (settings_of (check_of viewer cert))) ≡ Some (check_of viewer cert)
 check_read viewer cert may good = by viewer.source viewer.buffer viewer.delay may.source may.buffer may.delay
   where
-    by : (source : Source) (buffer delay : ℕ) → IsValidSource source → IsValidBuffer buffer → IsValidDelay delay →
+    by : (source : PlanSource) (buffer delay : ℕ) → IsValidSource source → IsValidBuffer buffer → IsValidDelay delay →
         check_given (given
         (settings_of (check_of (record { source = source; buffer = buffer; delay = delay }) cert)))
         ≡ Some (check_of (record { source = source; buffer = buffer; delay = delay }) cert)
@@ -250,10 +250,10 @@ listening_read {listening} settings plain picks may =
     let bind : one_bind (values_of (codes "bind") (given settings)) ≡ Some listening.all =
     ap one_bind (values_read (codes "bind") settings plain ∙ picks.bind) ∙ bind_back listening.all in
     let workers : workers_given (given settings) ≡ Some listening.workers =
-    key_or 32 (values_read (codes "workers") settings plain ∙ picks.workers) may.workers
+    key_or _ (values_read (codes "workers") settings plain ∙ picks.workers) may.workers
     (omega (arith, may.workers.1)) in
     let connections : connections_given (given settings) ≡ Some listening.connections =
-    key_or 0 (values_read (codes "connections") settings plain ∙ picks.connections)
+    key_or _ (values_read (codes "connections") settings plain ∙ picks.connections)
     (omega arith, omega (arith, may.connections)) may.connections in
     rw port (rw bind (rw workers (rw connections refl)))
   where
@@ -287,7 +287,7 @@ serving_read serving may =
 viewer_plain : (viewer : ClientParams) → are_plain (client_settings viewer) ≡ true
 viewer_plain viewer = by viewer.source viewer.buffer viewer.delay
   where
-    by : (source : Source) (buffer delay : ℕ)
+    by : (source : PlanSource) (buffer delay : ℕ)
         → are_plain (client_settings (record { source = source; buffer = buffer; delay = delay })) ≡ true
     by (trace_source name) buffer delay = refl
     by (film_source name slot) buffer delay = refl
@@ -295,7 +295,7 @@ viewer_plain viewer = by viewer.source viewer.buffer viewer.delay
 viewer_among : (viewer : ClientParams) → are_among (keys_of Plan) (client_settings viewer) ≡ true
 viewer_among viewer = by viewer.source viewer.buffer viewer.delay
   where
-    by : (source : Source) (buffer delay : ℕ)
+    by : (source : PlanSource) (buffer delay : ℕ)
         → are_among (keys_of Plan) (client_settings (record { source = source; buffer = buffer; delay = delay }))
         ≡ true
     by (trace_source name) buffer delay = refl
@@ -308,7 +308,7 @@ check_among : (viewer : ClientParams) (cert : List ℕ) → are_among (keys_of C
     true
 check_among viewer cert = by viewer.source viewer.buffer viewer.delay
   where
-    by : (source : Source) (buffer delay : ℕ)
+    by : (source : PlanSource) (buffer delay : ℕ)
         → are_among (keys_of Check)
         (settings_of (check_of (record { source = source; buffer = buffer; delay = delay }) cert)) ≡ true
     by (trace_source name) buffer delay = refl

@@ -1,5 +1,5 @@
 -- What arguments mean may be asked.
-use Rattle.std.proofs.Common.{◌≡◌, ℕ, ◌+◌, ◌-◌, ◌^◌, ◌≤◌, ◌&&◌, ◌==◌, All, List, [], ◌∷◌, ◌++◌}
+use Rattle.std.proofs.Common.{◌≡◌, ℕ, ◌+◌, ◌-◌, ◌≤◌, ◌&&◌, ◌==◌, All, List, [], ◌∷◌, ◌++◌}
 use Rattle.std.proofs.Common.{length, subst, arith, Option, Some, None, Bool, true, false, refl}
 use Rattle.std.proofs.Common.{codes, if◌then◌else◌, nat_le, nat_lt, length-append}
 use Rattle.std.specs.Int.{IsInRange}
@@ -15,6 +15,9 @@ use Rattle.vod_base.specs.Names.{good_name}
 use Rattle.vod_base.specs.Numbers.{number_of}
 use Rattle.slot_calendar.specs.declared.profiles.CapStep.{CapStep}
 use Rattle.vod_base.specs.Limits.{in_range}
+use Rattle.vod_base.specs.declared.links.TheConstants.{LATEST_SLOT}
+use Rattle.slot_calendar.specs.declared.profiles.TheConstants.{MAX_CAPACITY, MAX_STEPS}
+use Rattle.cli_args.specs.declared.capacities.TheConstants.{DEFAULT_CAPACITY}
 use Rattle.cli_args.specs.Settings.{number_or, one_name, one_number, values_of}
 use Rattle.cli_args.specs.Capacities.{IsStepPrefix, capacity_of, flat_steps, may_follow}
 use Rattle.cli_args.specs.Capacities.{one_capacity, add_step_text, is_later_step, add_step}
@@ -25,7 +28,7 @@ use Rattle.cli_args.specs.KeyValues.{port_given}
 use Rattle.cli_args.specs.Subcommands.{subcommand_named, is_setting_of}
 use Rattle.cli_args.specs.declared.subcommands.Subcommand.{Subcommand}
 use Rattle.cli_args.specs.declared.subcommands.Subcommand.TheVariants.{Plan, Check, Scan, Make, Day, Fair, Serve, Watch}
-use Rattle.cli_args.specs.Invocations.{Source, trace_source, film_source, ClientParams, ServeArgs, ScriptRun}
+use Rattle.cli_args.specs.Invocations.{PlanSource, trace_source, film_source, ClientParams, ServeArgs, ScriptRun}
 use Rattle.cli_args.specs.Invocations.{WatchArgs, Invocation, help, version, plan_of, scan_of}
 use Rattle.cli_args.specs.Invocations.{day_of, fair_of, serve_of, watch_of}
 use Rattle.cli_args.specs.Invocations.{command_invocation, lone_invocation, source_of}
@@ -47,23 +50,23 @@ use Rattle.cli_args.proofs.SettingGroupLemmas.{listening_keys, script_run_keys, 
 use Rattle.cli_args.proofs.SettingGroupLemmas.{watching_keys, check_keys, make_keys}
 
 -- ---- one value
-between_found : (least most n : ℕ) (o : Option ℕ) → in_range least most o ≡ Some n → IsInRange least most n
-between_found least most n None e = absurd (none-some _ e)
-between_found least most n (Some m) e =
+between_found : {least most n : ℕ} (o : Option ℕ) → in_range least most o ≡ Some n → IsInRange least most n
+between_found None e = absurd (none-some _ e)
+between_found {least} {most} {n} (Some m) e =
     let found = test_passes (nat_le least m && nat_le m most) (Some m) n e in
     let parts = and_parts (nat_le least m) (nat_le m most) found.0 in
     subst (IsInRange least most) (same_Some m n found.1) (leb-true least m parts.0, leb-true m most parts.1)
 
-one_between : (least most n : ℕ) (values : List (List ℕ)) → one_number least most values ≡ Some n
+one_between : {least most n : ℕ} (values : List (List ℕ)) → one_number least most values ≡ Some n
     → IsInRange least most n
-one_between least most n [] e = absurd (none-some _ e)
-one_between least most n (value ∷ []) e = between_found least most n (number_of value) e
-one_between least most n (value ∷ other ∷ others) e = absurd (none-some _ e)
+one_between [] e = absurd (none-some _ e)
+one_between (value ∷ []) e = between_found (number_of value) e
+one_between (value ∷ other ∷ others) e = absurd (none-some _ e)
 
 or_between : {default least most n : ℕ} (values : List (List ℕ)) → IsInRange least most default
     → number_or default least most values ≡ Some n → IsInRange least most n
 or_between {default} {least} {most} {n} [] inside e = subst (IsInRange least most) (same_Some default n e) inside
-or_between {default} {least} {most} {n} (value ∷ values) inside e = one_between least most n (value ∷ values) e
+or_between {default} {least} {most} {n} (value ∷ values) inside e = one_between (value ∷ values) e
 
 name_found : (name : List ℕ) (values : List (List ℕ)) → one_name values ≡ Some name → good_name name ≡ true
 name_found name [] e = absurd (none-some _ e)
@@ -76,7 +79,7 @@ name_found name (value ∷ other ∷ others) e = absurd (none-some _ e)
 -- steps that were read so far
 record AreRead (steps : List CapStep) : Type 0 where
   front : IsStepPrefix steps
-  early : All (λ step. step.from ≤ 2 ^ 62) steps
+  early : All (λ step. step.from ≤ LATEST_SLOT) steps
 
 none_read : AreRead []
 none_read = record {
@@ -86,21 +89,21 @@ none_read = record {
     ascend = λ i inside. absurd (omega (arith, inside));
     small = λ i inside. absurd (omega (arith, inside));
   };
-  early = All-nil (λ (step : CapStep). step.from ≤ 2 ^ 62);
+  early = All-nil (λ (step : CapStep). step.from ≤ LATEST_SLOT);
 }
 
 one_read : (steps : List CapStep) (step : CapStep) → AreRead steps → may_follow steps step ≡ true
     → AreRead (steps ++ step ∷ [])
 one_read steps step read may =
-    let all = and_parts (nat_lt (length steps) 64)
-    (is_later_step steps step.from && (nat_le step.from (2 ^ 62) && nat_le step.bytes (2 ^ 42))) may in
+    let all = and_parts (nat_lt (length steps) MAX_STEPS)
+    (is_later_step steps step.from && (nat_le step.from LATEST_SLOT && nat_le step.bytes MAX_CAPACITY)) may in
     let rest =
-    and_parts (is_later_step steps step.from) (nat_le step.from (2 ^ 62) && nat_le step.bytes (2 ^ 42)) all.1 in
-    let small = and_parts (nat_le step.from (2 ^ 62)) (nat_le step.bytes (2 ^ 42)) rest.1 in
+    and_parts (is_later_step steps step.from) (nat_le step.from LATEST_SLOT && nat_le step.bytes MAX_CAPACITY) all.1 in
+    let small = and_parts (nat_le step.from LATEST_SLOT) (nat_le step.bytes MAX_CAPACITY) rest.1 in
     record {
       front = front_more steps step read.front may;
-      early = All-push (λ (s : CapStep). s.from ≤ 2 ^ 62) steps step read.early
-          (leb-true step.from (2 ^ 62) small.0);
+      early = All-push (λ (s : CapStep). s.from ≤ LATEST_SLOT) steps step read.early
+          (leb-true step.from LATEST_SLOT small.0);
     }
 
 some_read : (steps : List CapStep) → AreRead steps → 1 ≤ length steps → IsCapacity steps
@@ -141,35 +144,36 @@ steps_read text steps e =
     let read = parts_read [] (slice_split (λ b. b == 44) text) steps none_read e in
     some_read steps read.0 (omega (arith, read.1, length-slice_split (λ b. b == 44) text))
 
-flat_capacity : (bytes : ℕ) → bytes ≤ 2 ^ 42 → IsCapacity (flat_steps bytes)
+flat_capacity : (bytes : ℕ) → bytes ≤ MAX_CAPACITY → IsCapacity (flat_steps bytes)
 flat_capacity bytes fits =
     some_read (flat_steps bytes)
-    (one_read [] (record { from = 0; bytes = bytes }) none_read (le-leb bytes (2 ^ 42) fits)) (omega arith)
+    (one_read [] (record { from = 0; bytes = bytes }) none_read (le-leb bytes MAX_CAPACITY fits)) (omega arith)
 
 text_capacity : (text : List ℕ) (steps : List CapStep) → capacity_of text ≡ Some steps → IsCapacity steps
 text_capacity text steps e = by (nat_lt (position_or_len (λ b. b == 58) text) (length text)) e
   where
     by : (many : Bool)
-        → (if many then steps_of text else option_map flat_steps (in_range 1 (2 ^ 42) (number_of text)))
+        → (if many then steps_of text else option_map flat_steps (in_range 1 MAX_CAPACITY (number_of text)))
         ≡ Some steps → IsCapacity steps
     by true e = steps_read text steps e
     by false e =
-        let bytes = last_step_found flat_steps (in_range 1 (2 ^ 42) (number_of text)) steps e in
-        subst IsCapacity bytes.2 (flat_capacity bytes.0 (between_found 1 (2 ^ 42) bytes.0 (number_of text) bytes.1).1)
+        let bytes = last_step_found flat_steps (in_range 1 MAX_CAPACITY (number_of text)) steps e in
+        subst IsCapacity bytes.2 (flat_capacity bytes.0 (between_found (number_of text) bytes.1).1)
 
 capacity_asked : (steps : List CapStep) (values : List (List ℕ)) → one_capacity values ≡ Some steps
     → IsCapacity steps
-capacity_asked steps [] e = subst IsCapacity (same_Some (flat_steps 50000) steps e) (flat_capacity 50000 (omega arith))
+capacity_asked steps [] e =
+    subst IsCapacity (same_Some (flat_steps DEFAULT_CAPACITY) steps e) (flat_capacity DEFAULT_CAPACITY (omega arith))
 capacity_asked steps (value ∷ []) e = text_capacity value steps e
 capacity_asked steps (value ∷ other ∷ others) e = absurd (none-some _ e)
 
 -- ---- a group of keys
-source_asked : (traces films slots : List (List ℕ)) (source : Source)
+source_asked : (traces films slots : List (List ℕ)) (source : PlanSource)
     → source_of traces films slots ≡ Some source → IsValidSource source
 source_asked [] films slots source e =
     let film = step_found _ (one_name films) source e in
     let slot =
-    last_step_found (λ (slot : ℕ). film_source film.0 slot) (number_or 14400 360 360000 slots) source film.2 in
+    last_step_found (λ (slot : ℕ). film_source film.0 slot) _ source film.2 in
     subst IsValidSource slot.2 (name_found film.0 films film.1, or_between slots (omega arith, omega arith) slot.1)
 source_asked (trace ∷ traces) [] [] source e =
     let name = last_step_found trace_source (one_name (trace ∷ traces)) source e in
@@ -236,10 +240,10 @@ run_asked words run e =
 draw_asked : (words : List (List ℕ)) (run : FairRun) → fair_run_given words ≡ Some run → IsValidFairRun run
 draw_asked words run e =
     let read = fair_run_keys words run e in
-    let most = (one_between 0 (2 ^ 64 - 1) run.seed (values_of (codes "seed") words) read.seed).1 in
+    let most = (one_between (values_of (codes "seed") words) read.seed).1 in
     record {
       seed = omega (arith, most);
-      plays = one_between 1 100000 run.plays (values_of (codes "plays") words) read.plays;
+      plays = one_between (values_of (codes "plays") words) read.plays;
       capacity = capacity_asked run.capacity (values_of (codes "capacity") words) read.capacity;
     }
 
@@ -277,9 +281,9 @@ make_asked : (words : List (List ℕ)) (order : Invocation) → invocation_given
     order
 make_asked words order e =
     let read = make_keys words order e in
-    let most = (one_between 0 (2 ^ 64 - 1) read.seed (values_of (codes "seed") words) read.seed_is).1 in
+    let most = (one_between (values_of (codes "seed") words) read.seed_is).1 in
     subst IsValidInvocation read.order_is
-    (omega (arith, most), one_between 1 100000 read.pictures (values_of (codes "pictures") words) read.pictures_are)
+    (omega (arith, most), one_between (values_of (codes "pictures") words) read.pictures_are)
 
 given_asked : (command : Subcommand) (words : List (List ℕ)) (order : Invocation)
     → invocation_given command words ≡ Some order → IsValidInvocation order

@@ -4,6 +4,7 @@ use Rattle.std.specs.Prelude.{ℕ, ◌≡◌, ◌<◌, ◌≤◌, ◌⊎◌, ◌
 use Rattle.std.specs.Prelude.{length, Some, None, codes}
 use Rattle.std.specs.List.{Contains}
 use Rattle.std.specs.Str.{bytes_eq}
+use Rattle.cli_args.specs.declared.film_names.TheConstants.{MAX_FILMS}
 use Rattle.cli_args.specs.Settings.{setting_value, values_of}
 use Rattle.cli_args.specs.Subcommands.{subcommand_named, keys_of}
 use Rattle.cli_args.specs.ArgumentText.{AreApart, Setting, text_setting, setting_text}
@@ -11,7 +12,7 @@ use Rattle.cli_args.specs.declared.subcommands.Subcommand.{Subcommand}
 use Rattle.cli_args.specs.declared.subcommands.Subcommand.TheVariants.{Plan, Check, Scan, Make, Day}
 use Rattle.cli_args.specs.declared.subcommands.Subcommand.TheVariants.{Fair, Serve, Watch}
 
--- the settings that apply where arguments leave them out
+-- the settings that apply where arguments leave them out, as an operator writes them
 abbrev pub defaults : List Setting
 defaults =
     text_setting (codes "buffer") (codes "1048576") ∷ text_setting (codes "startup") (codes "25")
@@ -57,7 +58,7 @@ pub record IsSettingOf (command : Subcommand) (word : List ℕ) : Type 0 where
 
 -- how often a key may be given: once, but for `film` in `serve`
 abbrev pub most_times : Subcommand → List ℕ → ℕ
-most_times Serve key = if bytes_eq key (codes "film") then 64 else 1
+most_times Serve key = if bytes_eq key (codes "film") then MAX_FILMS else 1
 most_times _ key = 1
 
 -- one trace or one film, and a slot of a film alone

@@ -5,8 +5,15 @@ use Rattle.std.specs.Int.{IsInRange}
 use Rattle.vod_base.specs.Names.{good_name}
 use Rattle.slot_calendar.specs.declared.profiles.CapStep.{CapStep}
 use Rattle.slot_calendar.specs.Profiles.{IsProfile}
-use Rattle.cli_args.specs.Invocations.{Source, trace_source, film_source, ClientParams, ServeArgs}
-use Rattle.cli_args.specs.Invocations.{ScriptRun, WatchArgs, Invocation, help, version}
+use Rattle.vod_base.specs.declared.limits.TheConstants.{MAX_BYTES, MAX_DELAY}
+use Rattle.vod_base.specs.declared.links.TheConstants.{LATEST_SLOT}
+use Rattle.cli_args.specs.declared.film_names.TheConstants.{MAX_FILMS}
+use Rattle.cli_args.specs.declared.key_values.TheConstants.{MIN_SLOT_UNITS, MAX_SLOT_UNITS}
+use Rattle.cli_args.specs.declared.key_values.TheConstants.{MIN_JOURNAL_ENTRIES}
+use Rattle.cli_args.specs.declared.key_values.TheConstants.{MAX_JOURNAL_ENTRIES, MAX_PORT}
+use Rattle.cli_args.specs.declared.key_values.TheConstants.{MAX_WORKERS, MAX_PICTURES, MAX_PLAYS}
+use Rattle.cli_args.specs.Invocations.{PlanSource, trace_source, film_source, ClientParams}
+use Rattle.cli_args.specs.Invocations.{ServeArgs, ScriptRun, WatchArgs, Invocation, help, version}
 use Rattle.cli_args.specs.Invocations.{plan_of, check_of, scan_of, make_of, day_of, fair_of}
 use Rattle.cli_args.specs.Invocations.{serve_of, watch_of}
 use Rattle.cli_args.specs.declared.invocations.MediaKind.{MediaKind}
@@ -51,7 +58,7 @@ bind_text false = codes "local"
 abbrev pub film_setting : List ℕ → Setting
 film_setting name = text_setting (codes "film") name
 
-abbrev pub source_settings : Source → List Setting
+abbrev pub source_settings : PlanSource → List Setting
 source_settings (trace_source name) = text_setting (codes "trace") name ∷ []
 source_settings (film_source name slot) =
     film_setting name ∷ number_setting (codes "slot") slot ∷ []
@@ -63,7 +70,8 @@ client_settings viewer =
 
 abbrev pub plan_settings_args : PlanSettings → List Setting
 plan_settings_args planning =
-    number_setting (codes "buffer") planning.buffer ∷ number_setting (codes "startup") planning.delay
+    number_setting (codes "buffer") planning.buffer
+    ∷ number_setting (codes "startup") planning.delay
     ∷ number_setting (codes "slot") planning.slot ∷ []
 
 abbrev pub listen_settings_args : ListenSettings → List Setting
@@ -127,45 +135,45 @@ AreApart names = (i j : ℕ) → i < j → j < length names →
 -- the films of a server: 1 to 64, each by a good name, no two alike
 pub record AreValidFilms (names : List (List ℕ)) : Type 0 where
   pub some : 1 ≤ length names
-  pub few : length names ≤ 64
+  pub few : length names ≤ MAX_FILMS
   pub good : All (λ name. good_name name ≡ true) names
   pub apart : AreApart names
 
 -- the capacity of a link, whose steps begin at slots up to 2^62
 abbrev pub IsCapacity : List CapStep → Type 0
-IsCapacity steps = IsProfile steps × All (λ step. step.from ≤ 2 ^ 62) steps
+IsCapacity steps = IsProfile steps × All (λ step. step.from ≤ LATEST_SLOT) steps
 
 -- a client's buffer, in bytes
 abbrev pub IsValidBuffer : ℕ → Type 0
-IsValidBuffer buffer = IsInRange 1 (2 ^ 42) buffer
+IsValidBuffer buffer = IsInRange 1 MAX_BYTES buffer
 
 -- a start delay, in slots
 abbrev pub IsValidDelay : ℕ → Type 0
-IsValidDelay delay = IsInRange 0 10000 delay
+IsValidDelay delay = IsInRange 0 MAX_DELAY delay
 
 -- the length of a slot, in 1/360,000 second
 abbrev pub IsValidSlot : ℕ → Type 0
-IsValidSlot slot = IsInRange 360 360000 slot
+IsValidSlot slot = IsInRange MIN_SLOT_UNITS MAX_SLOT_UNITS slot
 
 -- a journal, by the most entries that it has
 abbrev pub IsValidJournal : ℕ → Type 0
-IsValidJournal entries = IsInRange 2 1048576 entries
+IsValidJournal entries = IsInRange MIN_JOURNAL_ENTRIES MAX_JOURNAL_ENTRIES entries
 
 abbrev pub IsValidPort : ℕ → Type 0
-IsValidPort port = IsInRange 1 65535 port
+IsValidPort port = IsInRange 1 MAX_PORT port
 
 abbrev pub IsValidWorkers : ℕ → Type 0
-IsValidWorkers workers = IsInRange 1 256 workers
+IsValidWorkers workers = IsInRange 1 MAX_WORKERS workers
 
 -- how many pictures are generated
 abbrev pub IsValidPictures : ℕ → Type 0
-IsValidPictures pictures = IsInRange 1 100000 pictures
+IsValidPictures pictures = IsInRange 1 MAX_PICTURES pictures
 
 -- how many turns are drawn
 abbrev pub IsValidPlays : ℕ → Type 0
-IsValidPlays plays = IsInRange 1 100000 plays
+IsValidPlays plays = IsInRange 1 MAX_PLAYS plays
 
-abbrev pub IsValidSource : Source → Type 0
+abbrev pub IsValidSource : PlanSource → Type 0
 IsValidSource (trace_source name) = good_name name ≡ true
 IsValidSource (film_source name slot) = (good_name name ≡ true) × IsValidSlot slot
 

@@ -1,8 +1,8 @@
 -- The invocations that the program reads from its arguments, as their meaning.
 use Rattle.std.specs.Prelude.{ℕ, List, codes}
 use Rattle.cli_args.specs.Settings.{texts, values_of}
-use Rattle.cli_args.specs.Invocations.{Source, trace_source, film_source, ClientParams, ServeArgs}
-use Rattle.cli_args.specs.Invocations.{ScriptRun, WatchArgs, Invocation, help, version}
+use Rattle.cli_args.specs.Invocations.{PlanSource, trace_source, film_source, ClientParams}
+use Rattle.cli_args.specs.Invocations.{ServeArgs, ScriptRun, WatchArgs, Invocation, help, version}
 use Rattle.cli_args.specs.Invocations.{plan_of, check_of, scan_of, make_of, day_of, fair_of}
 use Rattle.cli_args.specs.Invocations.{serve_of, watch_of}
 use Rattle.cli_args.specs.declared.invocations.Invocation.{Invocation as OrderRead}
@@ -10,18 +10,18 @@ use Rattle.cli_args.specs.declared.invocations.Invocation.TheVariants.{Help, Ver
 use Rattle.cli_args.specs.declared.invocations.Invocation.TheVariants.{Scan}
 use Rattle.cli_args.specs.declared.invocations.Invocation.TheVariants.{Make, Day, Fair, Serve}
 use Rattle.cli_args.specs.declared.invocations.Invocation.TheVariants.{Watch}
-use Rattle.cli_args.specs.declared.invocations.Source.{Source as SourceRead}
-use Rattle.cli_args.specs.declared.invocations.Source.TheVariants.{Trace, Film}
+use Rattle.cli_args.specs.declared.invocations.PlanSource.{PlanSource as SourceRead}
+use Rattle.cli_args.specs.declared.invocations.PlanSource.TheVariants.{Trace, Film}
 use Rattle.cli_args.specs.declared.invocations.ClientParams.{ClientParams as ViewerRead}
 use Rattle.cli_args.specs.declared.invocations.ServeArgs.{ServeArgs as ServingRead}
 use Rattle.cli_args.specs.declared.invocations.ScriptRun.{ScriptRun as ScriptRunRead}
 use Rattle.cli_args.specs.declared.invocations.WatchArgs.{WatchArgs as WatchingRead}
 
-abbrev pub source_name : Source → List ℕ
+abbrev pub source_name : PlanSource → List ℕ
 source_name (trace_source name) = name
 source_name (film_source name slot) = name
 
-abbrev pub source_read : SourceRead → Source
+abbrev pub source_read : SourceRead → PlanSource
 source_read (Trace name) = trace_source name.now
 source_read (Film name slot) = film_source name.now slot
 

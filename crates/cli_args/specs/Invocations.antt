@@ -6,6 +6,9 @@ use Rattle.std.specs.Option.{option_and_then}
 use Rattle.std.specs.Str.{bytes_eq}
 use Rattle.vod_base.specs.Names.{good_name}
 use Rattle.slot_calendar.specs.declared.profiles.CapStep.{CapStep}
+use Rattle.cli_args.specs.declared.film_names.TheConstants.{MAX_FILMS}
+use Rattle.cli_args.specs.declared.key_values.TheConstants.{DEFAULT_SLOT_UNITS, MIN_SLOT_UNITS}
+use Rattle.cli_args.specs.declared.key_values.TheConstants.{MAX_SLOT_UNITS}
 use Rattle.cli_args.specs.Settings.{values_of, one_name, number_or}
 use Rattle.cli_args.specs.KeyValues.{film_given, cert_given, script_given, buffer_given}
 use Rattle.cli_args.specs.KeyValues.{delay_given, slot_given, capacity_given, journal_given}
@@ -21,13 +24,13 @@ use Rattle.cli_args.specs.declared.invocations.PlanSettings.{PlanSettings}
 use Rattle.cli_args.specs.declared.invocations.FairRun.{FairRun}
 
 -- what is planned: a trace, or a film in slots of a length in 1/360,000 second
-pub data Source : Type 0 where
-  trace_source : (name : List ℕ) → Source
-  film_source : (name : List ℕ) → (slot : ℕ) → Source
+pub data PlanSource : Type 0 where
+  trace_source : (name : List ℕ) → PlanSource
+  film_source : (name : List ℕ) → (slot : ℕ) → PlanSource
 
 -- what is planned, for a client with a buffer in bytes and a start delay in slots
 pub record ClientParams : Type 0 where
-  pub source : Source
+  pub source : PlanSource
   pub buffer : ℕ
   pub delay : ℕ
 
@@ -79,14 +82,15 @@ from_four make first second third fourth =
     option_and_then (λ one. from_three (make one) second third fourth) first
 
 -- exactly one of `trace` and `film`; `slot` with `film` alone
-abbrev pub source_of : List (List ℕ) → List (List ℕ) → List (List ℕ) → Option Source
+abbrev pub source_of : List (List ℕ) → List (List ℕ) → List (List ℕ) → Option PlanSource
 source_of [] films slots =
-    from_two film_source (one_name films) (number_or 14400 360 360000 slots)
+    from_two film_source (one_name films)
+    (number_or DEFAULT_SLOT_UNITS MIN_SLOT_UNITS MAX_SLOT_UNITS slots)
 source_of (trace ∷ traces) [] [] = option_map trace_source (one_name (trace ∷ traces))
 source_of (trace ∷ traces) [] (slot ∷ slots) = None
 source_of (trace ∷ traces) (film ∷ films) slots = None
 
-abbrev pub source_given : List (List ℕ) → Option Source
+abbrev pub source_given : List (List ℕ) → Option PlanSource
 source_given words =
     source_of (values_of (codes "trace") words) (values_of (codes "film") words)
     (values_of (codes "slot") words)
@@ -126,7 +130,7 @@ are_names names = list_all good_name names && are_distinct names
 
 -- 1 to 64 good names, no two alike
 abbrev pub are_films : List (List ℕ) → Bool
-are_films names = nat_le 1 (length names) && (nat_le (length names) 64 && are_names names)
+are_films names = nat_le 1 (length names) && (nat_le (length names) MAX_FILMS && are_names names)
 
 abbrev pub listen_given : List (List ℕ) → Option ListenSettings
 listen_given words =

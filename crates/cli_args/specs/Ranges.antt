@@ -14,14 +14,14 @@ use Rattle.cli_args.specs.declared.invocations.Invocation.TheVariants.{Help, Ver
 use Rattle.cli_args.specs.declared.invocations.Invocation.TheVariants.{Scan}
 use Rattle.cli_args.specs.declared.invocations.Invocation.TheVariants.{Make, Day, Fair, Serve}
 use Rattle.cli_args.specs.declared.invocations.Invocation.TheVariants.{Watch}
-use Rattle.cli_args.specs.declared.invocations.Source.{Source}
+use Rattle.cli_args.specs.declared.invocations.PlanSource.{PlanSource}
 use Rattle.cli_args.specs.declared.invocations.ClientParams.{ClientParams}
 use Rattle.cli_args.specs.declared.invocations.ServeArgs.{ServeArgs}
 use Rattle.cli_args.specs.declared.invocations.ScriptRun.{ScriptRun}
 use Rattle.cli_args.specs.declared.invocations.FairRun.{FairRun}
 use Rattle.cli_args.specs.declared.invocations.WatchArgs.{WatchArgs}
 
-abbrev pub IsSourceInRange : Source → Type 0
+abbrev pub IsSourceInRange : PlanSource → Type 0
 IsSourceInRange source = IsValidSource (source_read source)
 
 abbrev pub IsClientInRange : ClientParams → Type 0

@@ -1,6 +1,6 @@
 //! The capacity of a link, as an argument gives it.
 
-ghost use Rattle.std.specs.Prelude.{◌≡◌, ◌^◌, ◌≤◌, [], true, false, IfOk, IfSome};
+ghost use Rattle.std.specs.Prelude.{◌≡◌, ◌≤◌, [], true, false, IfOk, IfSome};
 ghost use Rattle.slot_calendar.specs.Profiles.{IsProfile};
 ghost use Rattle.cli_args.specs.Settings.{texts, values_of};
 ghost use Rattle.cli_args.specs.Capacities.{IsStepPrefix, capacity_of, flat_steps, may_follow};
@@ -14,7 +14,7 @@ use std::alloc::Global;
 use vod_base::{LATEST_SLOT, NoMemory, number_within, read_number};
 
 /// The capacity of each slot in bytes, where no argument gives one: 10 Mbit/s in slots of 40 ms.
-const DEFAULT_CAPACITY: u64 = 50_000;
+pub(crate) const DEFAULT_CAPACITY: u64 = 50_000;
 
 /// Reads the steps of the capacity that the arguments give.
 pub(crate) fn one_capacity(words: &[String], key: &str) -> Option<Steps>
@@ -110,7 +110,7 @@ fn read_steps(text: &str) -> Option<Steps>
 
 /// The steps of one capacity in all slots.
 fn flat_steps(bytes: u64) -> Steps
-    requires { bytes ≤ 2 ^ 42 }
+    requires { bytes ≤ MAX_CAPACITY }
     ensures steps { result ≡ flat_steps bytes }
     ensures profile { IsProfile result }
 {

@@ -20,12 +20,13 @@ pub struct Steps {
 impl Model for Steps {
     ghost use Rattle.std.specs.Prelude.{List, take, ◌≤◌};
     ghost use Rattle.slot_calendar.specs.declared.profiles.CapStep.{CapStep};
+    ghost use Rattle.slot_calendar.specs.declared.profiles.TheConstants.{MAX_STEPS};
 
     ghost Value = { List CapStep };
 
     ghost view = { λ s. take s.count s.steps };
 
-    ghost invariant = { λ s. s.count ≤ 64 };
+    ghost invariant = { λ s. s.count ≤ MAX_STEPS };
 }
 
 impl Steps {
@@ -48,7 +49,7 @@ impl Steps {
 
     /// Puts a step after these.
     pub(crate) fn push(&mut self, step: CapStep)
-        requires { length self.old < 64 }
+        requires { length self.old < MAX_STEPS }
         ensures { self.new ≡ self.old ++ step ∷ [] }
     {
         self.steps[self.count] = step;

@@ -8,7 +8,7 @@ ghost use Rattle.cli_args.specs.InvocationViews.{source_read, client_params_of, 
 ghost use Rattle.cli_args.specs.Ranges.{IsSourceInRange, IsClientInRange, IsScriptRunInRange};
 ghost use Rattle.cli_args.specs.Ranges.{IsFairRunInRange};
 
-use crate::invocations::{ClientParams, FairRun, ScriptRun, Source};
+use crate::invocations::{ClientParams, FairRun, PlanSource, ScriptRun};
 use crate::key_values::{
     buffer_given, capacity_given, delay_given, film_given, journal_given, plays_given,
     script_given, seed_given, slot_given,
@@ -71,7 +71,7 @@ fn is_absent(words: &[String], key: &str) -> bool
 }
 
 /// The trace of that name, where neither a film nor a slot's length is given.
-fn trace_alone<'a>(words: &[String], name: &'a str) -> Option<Source<'a>>
+fn trace_alone<'a>(words: &[String], name: &'a str) -> Option<PlanSource<'a>>
     ensures source { option_map source_read result ≡ source_of (name.entry.now ∷ [])
         (values_of (codes "film") (texts words.now)) (values_of (codes "slot") (texts words.now)) }
     ensures range { IfSome result IsSourceInRange }
@@ -79,14 +79,14 @@ fn trace_alone<'a>(words: &[String], name: &'a str) -> Option<Source<'a>>
     // A trace has one picture a slot, whatever a slot's length is. So `slot` has no meaning with
     // it.
     if good_name(name.as_bytes()) && is_absent(words, "film") && is_absent(words, "slot") {
-        Some(Source::Trace(name))
+        Some(PlanSource::Trace(name))
     } else {
         None
     }
 }
 
 /// What is planned: a trace or a film.
-fn source_given<'a>(words: &'a [String]) -> Option<Source<'a>>
+fn source_given<'a>(words: &'a [String]) -> Option<PlanSource<'a>>
     ensures source { option_map source_read result ≡ source_given (texts words.entry.now) }
     ensures range { IfSome result IsSourceInRange }
 {
@@ -94,7 +94,7 @@ fn source_given<'a>(words: &'a [String]) -> Option<Source<'a>>
         Given::Absent => {
             let name = film_given(words)?;
             let slot = slot_given(words)?;
-            Some(Source::Film(name, slot))
+            Some(PlanSource::Film(name, slot))
         }
         Given::Once(name) => trace_alone(words, name),
         Given::Again => None,

@@ -11,7 +11,7 @@ use crate::settings::setting;
 use vod_base::good_name;
 
 /// The most films.
-const MAX_FILMS: usize = 64;
+pub(crate) const MAX_FILMS: usize = 64;
 
 /// Returns the film that an argument names, if it is an argument of the key `film`.
 pub fn film_named<'a>(word: &'a str) -> Option<&'a str>

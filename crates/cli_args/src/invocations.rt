@@ -32,21 +32,21 @@ pub enum Invocation<'a> {
 
 /// What is planned, by its name.
 #[derive(Clone, Copy, Debug, PartialEq, Eq)]
-pub enum Source<'a> {
+pub enum PlanSource<'a> {
     /// A trace, with one picture a slot.
     Trace(&'a str),
     /// A film, in slots of this length, from 360 to 360,000 in 1/360,000 second.
     Film(&'a str, u32),
 }
 
-impl<'a> Source<'a> {
+impl<'a> PlanSource<'a> {
     /// Returns its name in the library.
     pub fn name(&self) -> &'a str
         ensures { result.now ≡ source_name (source_read self.now) }
     {
         match self {
-            Source::Trace(name) => name,
-            Source::Film(name, _) => name,
+            PlanSource::Trace(name) => name,
+            PlanSource::Film(name, _) => name,
         }
     }
 }
@@ -55,7 +55,7 @@ impl<'a> Source<'a> {
 #[derive(Clone, Copy, Debug)]
 pub struct ClientParams<'a> {
     /// What is planned.
-    pub source: Source<'a>,
+    pub source: PlanSource<'a>,
     /// The client's buffer, from 1 to 2^42 bytes.
     pub buffer: u64,
     /// The start delay, from 0 to 10,000 slots.

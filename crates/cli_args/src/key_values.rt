@@ -20,6 +20,48 @@ use crate::invocations::MediaKind;
 use crate::settings::{Given, find_given, number_or, one_name, one_number};
 use vod_base::{MAX_BYTES, MAX_DELAY};
 
+/// A client's buffer in bytes, where no argument gives one: 1 MiB.
+pub(crate) const DEFAULT_BUFFER_BYTES: u64 = 1_048_576;
+
+/// A start delay in slots, where no argument gives one: 1 s of default slots.
+pub(crate) const DEFAULT_DELAY: u64 = 25;
+
+/// The length of a slot in 1/360,000 second, where no argument gives one: 40 ms.
+pub(crate) const DEFAULT_SLOT_UNITS: u64 = 14_400;
+
+/// The shortest slot, in 1/360,000 second: 1 ms.
+pub(crate) const MIN_SLOT_UNITS: u64 = 360;
+
+/// The longest slot, in 1/360,000 second: 1 s.
+pub(crate) const MAX_SLOT_UNITS: u64 = 360_000;
+
+/// The most entries of a journal, where no argument gives them.
+pub(crate) const DEFAULT_JOURNAL_ENTRIES: u64 = 65_536;
+
+/// The fewest entries that a journal may be limited to: those of one play, its start and its halt.
+pub(crate) const MIN_JOURNAL_ENTRIES: u64 = 2;
+
+/// The most entries that a journal may be given, as many as the book of `admission` may have.
+pub const MAX_JOURNAL_ENTRIES: u64 = 1_048_576;
+
+/// The port of a server, where no argument gives one.
+pub(crate) const DEFAULT_PORT: u64 = 8554;
+
+/// The last port.
+pub(crate) const MAX_PORT: u64 = 65_535;
+
+/// The workers of a server, where no argument gives their number.
+pub(crate) const DEFAULT_WORKERS: u64 = 32;
+
+/// The most workers of a server.
+pub const MAX_WORKERS: u64 = 256;
+
+/// The most pictures that `make` generates.
+pub(crate) const MAX_PICTURES: u64 = 100_000;
+
+/// The most plays that `fair` draws.
+pub(crate) const MAX_PLAYS: u64 = 100_000;
+
 /// The one film.
 pub(crate) fn film_given<'a>(words: &'a [String]) -> Option<&'a str>
     ensures name { option_copied result ≡ film_given (texts words.entry.now) }
@@ -49,7 +91,7 @@ pub(crate) fn buffer_given(words: &[String]) -> Option<u64>
     ensures buffer { result ≡ buffer_given (texts words.now) }
     ensures range { IfSome result IsValidBuffer }
 {
-    number_or(words, "buffer", 1_048_576, 1, MAX_BYTES)
+    number_or(words, "buffer", DEFAULT_BUFFER_BYTES, 1, MAX_BYTES)
 }
 
 /// A start delay, in slots: 0 to 10,000, 25 (1 s of default slots) if not given.
@@ -57,7 +99,7 @@ pub(crate) fn delay_given(words: &[String]) -> Option<u64>
     ensures delay { result ≡ delay_given (texts words.now) }
     ensures range { IfSome result IsValidDelay }
 {
-    number_or(words, "startup", 25, 0, MAX_DELAY)
+    number_or(words, "startup", DEFAULT_DELAY, 0, MAX_DELAY)
 }
 
 /// The length of a slot, in 1/360,000 second: 360 (1 ms) to 360,000 (1 s), 14,400 (40 ms) if not
@@ -66,7 +108,13 @@ pub(crate) fn slot_given(words: &[String]) -> Option<u32>
     ensures slot { result ≡ slot_given (texts words.now) }
     ensures range { IfSome result IsValidSlot }
 {
-    let slot = number_or(words, "slot", 14_400, 360, 360_000)?;
+    let slot = number_or(
+        words,
+        "slot",
+        DEFAULT_SLOT_UNITS,
+        MIN_SLOT_UNITS,
+        MAX_SLOT_UNITS,
+    )?;
     Some(slot as u32)
 }
 
@@ -83,7 +131,13 @@ pub(crate) fn journal_given(words: &[String]) -> Option<u64>
     ensures journal { result ≡ journal_given (texts words.now) }
     ensures range { IfSome result IsValidJournal }
 {
-    number_or(words, "journal", 65_536, 2, 1_048_576)
+    number_or(
+        words,
+        "journal",
+        DEFAULT_JOURNAL_ENTRIES,
+        MIN_JOURNAL_ENTRIES,
+        MAX_JOURNAL_ENTRIES,
+    )
 }
 
 /// The port: 1 to 65,535, 8554 if not given.
@@ -91,7 +145,7 @@ pub(crate) fn port_given(words: &[String]) -> Option<u16>
     ensures port { result ≡ port_given (texts words.now) }
     ensures range { IfSome result IsValidPort }
 {
-    let port = number_or(words, "port", 8554, 1, 65_535)?;
+    let port = number_or(words, "port", DEFAULT_PORT, 1, MAX_PORT)?;
     Some(port as u16)
 }
 
@@ -100,7 +154,7 @@ pub(crate) fn workers_given(words: &[String]) -> Option<u32>
     ensures workers { result ≡ workers_given (texts words.now) }
     ensures range { IfSome result IsValidWorkers }
 {
-    let workers = number_or(words, "workers", 32, 1, 256)?;
+    let workers = number_or(words, "workers", DEFAULT_WORKERS, 1, MAX_WORKERS)?;
     Some(workers as u32)
 }
 
@@ -123,7 +177,7 @@ pub(crate) fn pictures_given(words: &[String]) -> Option<u32>
     ensures pictures { result ≡ pictures_given (texts words.now) }
     ensures range { IfSome result IsValidPictures }
 {
-    let pictures = one_number(words, "pictures", 1, 100_000)?;
+    let pictures = one_number(words, "pictures", 1, MAX_PICTURES)?;
     Some(pictures as u32)
 }
 
@@ -132,7 +186,7 @@ pub(crate) fn plays_given(words: &[String]) -> Option<u32>
     ensures plays { result ≡ plays_given (texts words.now) }
     ensures range { IfSome result IsValidPlays }
 {
-    let plays = one_number(words, "plays", 1, 100_000)?;
+    let plays = one_number(words, "plays", 1, MAX_PLAYS)?;
     Some(plays as u32)
 }
 

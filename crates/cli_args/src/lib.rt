@@ -17,9 +17,10 @@ pub use capacities::profile_of;
 pub use capacity_steps::Steps;
 pub use film_names::film_named;
 pub use invocations::{
-    ClientParams, FairRun, Invocation, ListenSettings, MediaKind, PlanSettings, ScriptRun,
-    ServeArgs, Source, WatchArgs,
+    ClientParams, FairRun, Invocation, ListenSettings, MediaKind, PlanSettings, PlanSource,
+    ScriptRun, ServeArgs, WatchArgs,
 };
+pub use key_values::{MAX_JOURNAL_ENTRIES, MAX_WORKERS};
 pub use parser::parse_args;
 pub use subcommands::{Subcommand, keys_of, subcommand_named};
 

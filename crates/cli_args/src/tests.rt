@@ -1,6 +1,6 @@
 //! Arguments and their meanings.
 
-use crate::{Invocation, ServeArgs, Source, keys_of, parse_args, subcommand_named};
+use crate::{Invocation, PlanSource, ServeArgs, keys_of, parse_args, subcommand_named};
 use std::alloc::{AllocError, Global};
 use std::test::Fail;
 
@@ -147,10 +147,10 @@ fn takes_64_films(rt: HostRuntime) -> Result<(), Fail> {
 fn asked(alloc: Global, order: &Invocation<'_>) -> Result<String, AllocError> {
     match order {
         Invocation::Plan(viewer) => match viewer.source {
-            Source::Trace(name) => {
+            PlanSource::Trace(name) => {
                 format!(in alloc; "plan {name} {} {}", viewer.buffer, viewer.delay)
             }
-            Source::Film(name, slot) => {
+            PlanSource::Film(name, slot) => {
                 format!(in alloc; "plan {name} at {slot} {} {}", viewer.buffer, viewer.delay)
             }
         },

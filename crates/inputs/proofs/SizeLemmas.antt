@@ -1,7 +1,7 @@
 -- The sizes that are counted while a film's parts are handed on are those of its units.
-use Rattle.std.proofs.Common.{◌≡◌, ℕ, ◌+◌, ◌-◌, ◌≤◌, false, cond, eqb, ltb, leb, ◌&&◌, List, [], ◌∷◌, ◌++◌}
+use Rattle.std.proofs.Common.{◌≡◌, ℕ, ◌+◌, ◌-◌, ◌≤◌, true, false, cond, eqb, ltb, leb, ◌&&◌, List, [], ◌∷◌, ◌++◌}
 use Rattle.std.proofs.Common.{append_assoc, Some, None, IsSome, length, take, drop, map, refl, sym, ap, ◌∙◌}
-use Rattle.std.proofs.Common.{arith, length-append}
+use Rattle.std.proofs.Common.{arith, length-append, subst}
 use Rattle.std.proofs.lemmas.List.{append-nil, length-map}
 use Rattle.std.proofs.lemmas.Bool.{and_parts, false≢true, eqb-true}
 use Rattle.mpeg_scan.specs.declared.units.Unit.{Unit as PictureUnit}
@@ -69,6 +69,33 @@ unit-size {unit} {from} {head_end} {at} {past} {m} rest fits count so_far =
   where
     open fits use {begin, head, end, slices}
 
+-- the same, by what is tested when the unit is handed on
+ended-size : {from head_end at n : ℕ} {past : List ℕ} {m : Measure} (unit : PictureUnit) (k : Count) (rest : List ℕ) →
+    ((eqb unit.from from && (eqb unit.head_end head_end && eqb unit.to at))
+    && (eqb unit.slices n && ltb 0 n)) ≡ true →
+    (eqb (unit.first_slice + unit.slices) k.slices
+    && eqb unit.presentation (group_of k unit + unit.temporal)) ≡ true →
+    k.slices ≡ length past → IsMeasured from head_end at n past m →
+    cond unit.starts_group 52 0 + frames_of m ≡ wire_size (past ++ rest) unit
+ended-size {from} {head_end} {at} {n} unit k rest fits counted slices so_far =
+    let count = (and_parts (eqb (unit.first_slice + unit.slices) k.slices)
+    (eqb unit.presentation (group_of k unit + unit.temporal)) counted).0 in
+    unit-size rest (unit-fits unit from head_end at n fits)
+    (eqb-true (unit.first_slice + unit.slices) k.slices count ∙ slices) so_far
+
+-- a slice more of the unit is measured
+slice-measured : {from head_end at n b : ℕ} {past : List ℕ} {m : Measure} → IsMeasured from head_end at n past m
+    → IsMeasured from head_end b (n + 1) (past ++ at ∷ []) (with_slice m (b - at))
+slice-measured {from} {head_end} {at} {b = b} so_far = record {
+  before = so_far.before;
+  cur = so_far.cur ++ at ∷ [];
+  past_is = ap (λ (l : List ℕ). l ++ at ∷ []) so_far.past_is ∙ append_assoc so_far.before so_far.cur (at ∷ []);
+  count = omega (arith, so_far.count, length-append so_far.cur (at ∷ []));
+  unit_is = ap (λ (m : Measure). with_slice m (b - at)) so_far.unit_is
+      ∙ sym (slices-append (lengths_to at so_far.cur) (measure_from_headers (head_end - from)) (b - at))
+      ∙ ap (λ (l : List ℕ). measure_of (head_end - from) l) (sym (lengths-more so_far.cur at b));
+}
+
 -- the places of all slices so far, and what was measured of the unit that the parts so far come to
 record MeasuredSoFar (part : PartStart) (k : Count) (past : List ℕ) (unit : Measure) : Type 0 where
   slices : k.slices ≡ length past
@@ -96,21 +123,11 @@ sizes-told (slice_call a b ∷ calls) s {part = within from head_end at n} {k} {
     let fits = part-fits (eqb a at && leb (a + 4) b) (within from head_end b (n + 1)) calls to parts in
     let its : IsMeasured from head_end at n past s.unit = so_far.measures in
     let same : a ≡ at = eqb-true a at (and_parts (eqb a at) (leb (a + 4) b) fits.0).0 in
-    let unit : with_slice s.unit (b - a) ≡ measure_of (head_end - from) (lengths_to b (its.cur ++ a ∷ [])) =
-    ap (λ (m : Measure). with_slice m (b - a))
-    (its.unit_is ∙ ap (λ t. measure_of (head_end - from) (lengths_to t its.cur)) (sym same))
-    ∙ sym (slices-append (lengths_to a its.cur) (measure_from_headers (head_end - from)) (b - a))
-    ∙ ap (λ (l : List ℕ). measure_of (head_end - from) l) (sym (lengths-more its.cur a b)) in
     let next : MeasuredSoFar (within from head_end b (n + 1)) (record k { slices = k.slices + 1 })
     (past ++ a ∷ []) (size_state_after_call s (slice_call a b)).unit = record {
       slices = omega (arith, so_far.slices, length-append past (a ∷ []));
-      measures = record {
-        before = its.before;
-        cur = its.cur ++ a ∷ [];
-        past_is = ap (λ (l : List ℕ). l ++ a ∷ []) its.past_is ∙ append_assoc its.before its.cur (a ∷ []);
-        count = omega (arith, its.count, length-append its.cur (a ∷ []));
-        unit_is = unit;
-      };
+      measures = subst (λ place. IsMeasured from head_end b (n + 1) (past ++ place ∷ [])
+          (with_slice s.unit (b - place))) (sym same) (slice-measured its);
     } in
     sizes-told calls (size_state_after_call s (slice_call a b)) fits.1 counts next
     ∙ ap (λ (starts : List ℕ). s.sizes ++ map (λ u. wire_size starts u) (units_in calls))
@@ -123,12 +140,8 @@ sizes-told (unit_call unit ∷ calls) s {part = within from head_end at n} {k} {
     let counted =
     count-fits (eqb (unit.first_slice + unit.slices) k.slices
     && eqb unit.presentation (group_of k unit + unit.temporal)) next calls counts in
-    let count : unit.first_slice + unit.slices ≡ k.slices =
-    eqb-true (unit.first_slice + unit.slices) k.slices
-    (and_parts (eqb (unit.first_slice + unit.slices) k.slices)
-    (eqb unit.presentation (group_of k unit + unit.temporal)) counted.0).0 in
     let size : cond unit.starts_group 52 0 + frames_of s.unit ≡ wire_size (past ++ slices_in calls) unit =
-    unit-size (slices_in calls) (unit-fits unit from head_end at n fits.0) (count ∙ so_far.slices) so_far.measures in
+    ended-size unit k (slices_in calls) fits.0 counted.0 so_far.slices so_far.measures in
     let later : MeasuredSoFar (between at) next past (size_state_after_call s (unit_call unit)).unit =
     record { slices = so_far.slices; measures = tt } in
     let rest : List ℕ = map (λ u. wire_size (past ++ slices_in calls) u) (units_in calls) in

@@ -4,7 +4,7 @@ pub mod PackSearch
 pub mod ChunkScans
 pub mod WireSizes
 pub mod Traces
-pub mod TraceErrors
+pub mod TraceRefusals
 pub mod LoadErrors
 pub mod FirstWord
 pub mod InputLaws

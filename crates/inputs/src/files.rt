@@ -12,7 +12,7 @@ use std::alloc::{AllocError, Global};
 use vod_base::Library;
 
 /// The most bytes that one read asks for.
-pub(crate) const CHUNK: usize = 65_536;
+pub(crate) const CHUNK_BYTES: usize = 65_536;
 
 /// Reads the entire input of that name, by reads of at most 65,536 bytes.
 ///
@@ -116,7 +116,7 @@ impl<'a> SizedFile<'a> {
     {
         // Room for all of it at once: no chunk that is added takes memory.
         let mut bytes = Vec::with_capacity(alloc, self.size as usize)?;
-        let mut chunk = zeros(alloc, CHUNK)?;
+        let mut chunk = zeros(alloc, CHUNK_BYTES)?;
         while let Some(count) = self.read_at(library, bytes.len() as u64, &mut chunk)? {
             bytes.extend_from_slice(&chunk[..count])?;
         }

@@ -14,7 +14,7 @@ mod traces;
 pub use collectors::{ScannedFilm, SizedFilm, scan_film, size_film};
 pub use files::read_input;
 pub use films::{load_film, load_script_film};
-pub use traces::{TraceError, read_trace};
+pub use traces::{TraceRefused, read_trace};
 
 #[cfg(test)]
 mod tests;

@@ -10,7 +10,7 @@ ghost use Rattle.inputs.specs.ChunkScans.{HasEnded, HasScannedFilm, HasScanned, 
 ghost use Rattle.inputs.specs.ChunkScans.{HasTaken};
 ghost use Rattle.inputs.specs.ChunkScans.{IsRefusedAtEnd, IsScanError, WasOpened};
 
-use crate::files::{CHUNK, SizedFile, find_file, zeros};
+use crate::files::{CHUNK_BYTES, SizedFile, find_file, zeros};
 use crate::pack_search::find_pack;
 use crate::streams::scan_stream;
 use cli_errors::{CliError, InputError};
@@ -69,7 +69,7 @@ pub(crate) fn scan_film_into<'a, L: Library, F: Found>(
         return Err(CliError::Refused(name, InputError::Film(FilmFault::TooLong)));
     }
     let file = SizedFile { name, size };
-    let mut chunk = zeros(alloc, CHUNK)?;
+    let mut chunk = zeros(alloc, CHUNK_BYTES)?;
     // The search may have read past the code, so both scans read again from their first byte.
     let stream = find_pack(library, file, &mut chunk)?;
     match stream {

@@ -8,7 +8,7 @@ ghost use Rattle.std.specs.Str.Parse.{digits_value};
 ghost use Rattle.inputs.specs.Traces.{is_white_space, begins_token, tokens_from};
 ghost use Rattle.inputs.specs.Traces.{AddsSize, IsTraceText};
 ghost use Rattle.inputs.specs.FirstWord.{word_length, first_word, WritesSize};
-ghost use Rattle.inputs.specs.TraceErrors.{IsTraceError};
+ghost use Rattle.inputs.specs.TraceRefusals.{IsTextRefused};
 
 use std::alloc::{AllocError, AllocFailed, Global};
 use thiserror::Error;
@@ -27,7 +27,7 @@ const FEW_DIGITS: usize = 11;
 
 /// Why a text gives no trace.
 #[derive(Clone, Copy, Debug, PartialEq, Eq, Error)]
-pub enum TraceError {
+pub enum TraceRefused {
     /// The place of the first byte of the first token that isn't a number up to 2^32, or that
     /// brings the sum above 2^40, or that is the 1,000,001st.
     #[error("the word at byte {0} makes it no trace")]
@@ -37,23 +37,23 @@ pub enum TraceError {
     NoMemory,
 }
 
-impl From<AllocError> for TraceError {
-    ghost use Rattle.inputs.specs.declared.traces.TraceError.TheVariants.{NoMemory};
+impl From<AllocError> for TraceRefused {
+    ghost use Rattle.inputs.specs.declared.traces.TraceRefused.TheVariants.{NoMemory};
 
     ghost from_gives = { λ _ refused. refused ≡ NoMemory };
 
-    fn from(_error: AllocError) -> TraceError {
-        TraceError::NoMemory
+    fn from(_error: AllocError) -> TraceRefused {
+        TraceRefused::NoMemory
     }
 }
 
-impl<T: Drop> From<AllocFailed<T>> for TraceError {
-    ghost use Rattle.inputs.specs.declared.traces.TraceError.TheVariants.{NoMemory};
+impl<T: Drop> From<AllocFailed<T>> for TraceRefused {
+    ghost use Rattle.inputs.specs.declared.traces.TraceRefused.TheVariants.{NoMemory};
 
     ghost from_gives = { λ _ refused. refused ≡ NoMemory };
 
-    fn from(_error: AllocFailed<T>) -> TraceError {
-        TraceError::NoMemory
+    fn from(_error: AllocFailed<T>) -> TraceRefused {
+        TraceRefused::NoMemory
     }
 }
 
@@ -62,10 +62,10 @@ impl<T: Drop> From<AllocFailed<T>> for TraceError {
 ///
 /// # Errors
 ///
-/// [`TraceError::BadTrace`] exactly where the text is no trace; [`TraceError::NoMemory`].
-pub fn read_trace(alloc: Global, text: &[u8]) -> Result<Vec<u64>, TraceError>
+/// [`TraceRefused::BadTrace`] exactly where the text is no trace; [`TraceRefused::NoMemory`].
+pub fn read_trace(alloc: Global, text: &[u8]) -> Result<Vec<u64>, TraceRefused>
     ensures trace { IfOk result (λ sizes. IsTraceText text.now sizes.items) }
-    ensures refused { IfErr result (IsTraceError text.now) }
+    ensures refused { IfErr result (IsTextRefused text.now) }
 {
     // Each size but the last takes a digit and white space at least: a push never takes memory.
     let most = (text.len() / 2 + 1).min(MAX_PICTURES);
@@ -74,7 +74,7 @@ pub fn read_trace(alloc: Global, text: &[u8]) -> Result<Vec<u64>, TraceError>
     let mut at = 0usize;
     while let Some(from) = next_place(text, at) {
         let Some(size) = next_size(&text[from..], sizes.len(), total) else {
-            return Err(TraceError::BadTrace(from as u64));
+            return Err(TraceRefused::BadTrace(from as u64));
         };
         sizes.push(size.value)?;
         total += size.value;

@@ -1,7 +1,7 @@
 //! The largest texts that are read, and those that are one line, word or byte too large.
 
 use day_script::{ScriptRefused, read_script};
-use inputs::{TraceError, read_trace};
+use inputs::{TraceRefused, read_trace};
 use plan_cert::{CertRead, read_cert, write_cert};
 use std::alloc::Global;
 use std::test::Fail;
@@ -60,10 +60,10 @@ fn traces_have_a_million_sizes_and_a_tebibyte(rt: HostRuntime) -> Result<(), Fai
         let trace = repeated(rt.alloc(), "", text, times, end)?;
         match read_trace(rt.alloc(), &trace) {
             Ok(sizes) => assert_eq!(rt; Ok(sizes.len()), want, "{text:?} {times} {end:?}"),
-            Err(TraceError::BadTrace(at)) => {
+            Err(TraceRefused::BadTrace(at)) => {
                 assert_eq!(rt; Err(at), want, "{text:?} {times} {end:?}");
             }
-            Err(TraceError::NoMemory) => return Err(NoMemory.into()),
+            Err(TraceRefused::NoMemory) => return Err(NoMemory.into()),
         }
     }
     Ok(())

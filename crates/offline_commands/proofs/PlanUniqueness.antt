@@ -25,7 +25,7 @@ use Rattle.inputs.specs.WireSizes.{sizes_of}
 use Rattle.inputs.specs.Traces.{Token, tokens_from, WriteSizes, IsTraceText, IsBadTraceText}
 use Rattle.inputs.proofs.ReadLemmas.{one_file}
 use Rattle.inputs.proofs.VideoLemmas.{held_not_refused, held_once}
-use Rattle.cli_args.specs.Invocations.{Source, trace_source, film_source, ClientParams}
+use Rattle.cli_args.specs.Invocations.{PlanSource, trace_source, film_source, ClientParams}
 use Rattle.offline_commands.specs.OfflineCommands.{IsScanned}
 use Rattle.offline_commands.specs.Plans.{ArePictures, HasCurves, HoldsTrace, IsPlanned}
 use Rattle.offline_commands.specs.Plans.{IsSourceRefused, IsTraceRefused, IsPlanRefused, Pictures}
@@ -72,7 +72,7 @@ pictures_are a b sizes picture_units slot_units =
     ∙ ap (λ (n : ℕ). record { sizes = b.sizes; picture_units = b.picture_units; slot_units = n }) slot_units
 
 -- so are the pictures of a source
-pictures_once : (held : List File) (source : Source) (a b : Pictures) → ArePictures held source a
+pictures_once : (held : List File) (source : PlanSource) (a b : Pictures) → ArePictures held source a
     → ArePictures held source b → a ≡ b
 pictures_once held (trace_source name) a b p q =
     pictures_are a b (trace_once held name a.sizes b.sizes p.holds q.holds)
@@ -150,7 +150,7 @@ trace_not_refused held name sizes (BadTrace place) holds (inr refused) =
     (one_file held name holds.text refused.0 holds.found refused.1.0) holds.trace) refused.1.1
 trace_not_refused held name sizes other holds (inr refused) = refused
 
-source_not_refused : (held : List File) (source : Source) (pictures : Pictures) (fault : InputError)
+source_not_refused : (held : List File) (source : PlanSource) (pictures : Pictures) (fault : InputError)
     → ArePictures held source pictures → IsSourceRefused held source fault → ⊥
 source_not_refused held (trace_source name) pictures fault are refused =
     trace_not_refused held name pictures.sizes fault are.holds refused

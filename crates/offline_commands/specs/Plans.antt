@@ -17,7 +17,7 @@ use Rattle.mpeg_scan.specs.PictureRates.{picture_time}
 use Rattle.inputs.specs.FileReads.{IsMissing}
 use Rattle.inputs.specs.ChunkScans.{HoldsSizes, IsFilmRefused}
 use Rattle.inputs.specs.Traces.{IsTraceText, IsBadTraceText}
-use Rattle.cli_args.specs.Invocations.{Source, trace_source, film_source, ClientParams}
+use Rattle.cli_args.specs.Invocations.{PlanSource, trace_source, film_source, ClientParams}
 use Rattle.cli_errors.specs.declared.errors.InputError.{InputError}
 use Rattle.cli_errors.specs.declared.errors.InputError.TheVariants.{BadTrace, Curves, BadCert}
 use Rattle.offline_commands.specs.VerdictText.{refused_line}
@@ -50,7 +50,7 @@ pub record AreOfFilm (held : List File) (name : List ℕ) (slot : ℕ) (pictures
   pub picture_units_are : pictures.picture_units ≡ picture_time rate
   pub slot_units_are : pictures.slot_units ≡ slot
 
-abbrev pub ArePictures : List File → Source → Pictures → Type 0
+abbrev pub ArePictures : List File → PlanSource → Pictures → Type 0
 ArePictures held (trace_source name) pictures = AreOfTrace held name pictures
 ArePictures held (film_source name slot) pictures = AreOfFilm held name slot pictures
 
@@ -95,7 +95,7 @@ IsNoTrace held name other = ⊥
 abbrev pub IsTraceRefused : List File → List ℕ → InputError → Type 0
 IsTraceRefused held name fault = IsMissing held name fault ⊎ IsNoTrace held name fault
 
-abbrev pub IsSourceRefused : List File → Source → InputError → Type 0
+abbrev pub IsSourceRefused : List File → PlanSource → InputError → Type 0
 IsSourceRefused held (trace_source name) fault = IsTraceRefused held name fault
 IsSourceRefused held (film_source name slot) fault = IsFilmRefused held name fault
 
@@ -112,7 +112,7 @@ abbrev pub IsPlanRefused : List File → ClientParams → InputError → Type 0
 IsPlanRefused held viewer fault = IsSourceRefused held viewer.source fault
     ⊎ HasNoCurves held viewer fault
 
-abbrev pub IsSourceError : Source → List File → List ℕ → InputError → Type 0
+abbrev pub IsSourceError : PlanSource → List File → List ℕ → InputError → Type 0
 IsSourceError source held name fault = IsSourceRefused held source fault
 
 abbrev pub IsPlanError : ClientParams → List File → List ℕ → InputError → Type 0

@@ -14,7 +14,7 @@ ghost use Rattle.offline_commands.specs.Plans.{IsSourceError, IsTraceRefused, Is
 ghost use Rattle.offline_commands.specs.Pictures.{MayHaveCurves, pictures_of};
 
 use crate::traces::load_trace;
-use cli_args::{ClientParams, Source};
+use cli_args::{ClientParams, PlanSource};
 use cli_errors::{CliError, InputError};
 use inputs::size_film;
 use mpeg_scan::picture_time;
@@ -119,7 +119,7 @@ fn film_pictures<'a, L: Library>(
 fn source_pictures<'a, L: Library>(
     alloc: Global,
     library: &mut L,
-    source: Source<'a>,
+    source: PlanSource<'a>,
 ) -> Result<Pictures, CliError<'a>>
     requires { IsSourceInRange source }
     ensures library { IsReadOnly L.files L.faults library.old library.new }
@@ -132,7 +132,7 @@ fn source_pictures<'a, L: Library>(
         (L.files library.old) (L.faults library.old) (L.faults library.new)) }
 {
     match source {
-        Source::Trace(name) => trace_pictures(alloc, library, name),
-        Source::Film(name, slot) => film_pictures(alloc, library, name, slot),
+        PlanSource::Trace(name) => trace_pictures(alloc, library, name),
+        PlanSource::Film(name, slot) => film_pictures(alloc, library, name, slot),
     }
 }

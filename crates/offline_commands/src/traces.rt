@@ -8,7 +8,7 @@ ghost use Rattle.cli_errors.specs.ReadErrors.{IsReadOnly, IsReadError};
 ghost use Rattle.offline_commands.specs.Plans.{HoldsTrace, IsTraceRefused};
 
 use cli_errors::{CliError, InputError};
-use inputs::{TraceError, read_input, read_trace};
+use inputs::{TraceRefused, read_input, read_trace};
 use std::alloc::Global;
 use vod_base::Library;
 
@@ -28,10 +28,10 @@ pub(crate) fn load_trace<'a, L: Library>(
     let text = read_input(alloc, library, name)?;
     match read_trace(alloc, &text) {
         Ok(sizes) => Ok(sizes),
-        Err(TraceError::BadTrace(place)) => Err(CliError::Refused(
+        Err(TraceRefused::BadTrace(place)) => Err(CliError::Refused(
             name,
             InputError::BadTrace(place),
         )),
-        Err(TraceError::NoMemory) => Err(CliError::NoMemory),
+        Err(TraceRefused::NoMemory) => Err(CliError::NoMemory),
     }
 }

@@ -6,7 +6,7 @@ use Rattle.vod_base.specs.Names.{good_name}
 use Rattle.vod_base.specs.IoState.{File}
 use Rattle.cli_args.specs.InvocationViews.{source_name}
 use Rattle.cli_args.specs.ArgumentText.{IsValidSource, IsValidClient}
-use Rattle.cli_args.specs.Invocations.{Invocation, Source, ClientParams, are_films, film_source, trace_source}
+use Rattle.cli_args.specs.Invocations.{Invocation, PlanSource, ClientParams, are_films, film_source, trace_source}
 use Rattle.cli_args.proofs.FilmLemmas.{films_asked}
 use Rattle.cli_errors.specs.ErrorReports.{HasGoodName}
 use Rattle.cli_errors.specs.declared.errors.CliError.{CliError}
@@ -18,7 +18,7 @@ use Rattle.offline_commands.specs.declared.command_output.CommandOutput.{Command
 use Rattle.vodserve.specs.Workers.{IsMakeWorkersError}
 use Rattle.vodserve.proofs.FilmLoadLemmas.{Keeps, ServingRun}
 
-source_named : (source : Source) → IsValidSource source → good_name (source_name source) ≡ true
+source_named : (source : PlanSource) → IsValidSource source → good_name (source_name source) ≡ true
 source_named (trace_source name) may = may
 source_named (film_source name slot) may = may.0
 

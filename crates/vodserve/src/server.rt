@@ -23,8 +23,8 @@ ghost use Rattle.vodserve.specs.IoStates.{gate_state_of, io_state_of};
 ghost use Rattle.vodserve.specs.Workers.{IsMakeWorkersError, IsNotOpened};
 
 use crate::workers::{Service, join_workers, make_workers, run_workers};
-use admission::Book;
-use cli_args::{ServeArgs, film_named, profile_of};
+use admission::{Book, MAX_ENTRIES};
+use cli_args::{MAX_JOURNAL_ENTRIES, ServeArgs, film_named, profile_of};
 use cli_errors::CliError;
 use conn::{ConnReport, PartEnd};
 use film_frames::Stored;
@@ -36,6 +36,9 @@ use std::alloc::Global;
 use std::sync::Wait;
 use std::thread::Threads;
 use vod_base::{Gate, Library, NoMemory, Opening};
+
+// A journal of any size that the arguments may ask for fits into a book.
+const _: () = prove!(MAX_JOURNAL_ENTRIES == MAX_ENTRIES);
 
 /// A server before its workers: its films, and its station with the first seat.
 #[derive(Drop)]
@@ -221,7 +224,7 @@ fn load_films<'a, L: Library>(
 fn make_station(alloc: Global, steps: &[CapStep], limit: u64) -> Result<(Station, Seat), NoMemory>
     requires profile { IsProfile steps.now }
     requires some { 2 ≤ limit }
-    requires few { limit ≤ 1048576 }
+    requires few { limit ≤ MAX_ENTRIES }
     ensures steps { IfOk result (λ made. made.0.steps ≡ steps.now) }
     ensures limit { IfOk result (λ made. made.0.limit ≡ limit) }
     ensures seat { IfOk result (λ made. made.1 ≡ first_seat made.0) }

@@ -13,6 +13,7 @@ ghost use Rattle.vodserve.specs.Workers.{AreJoined, ArePartsOut, AreWorkers, Has
 ghost use Rattle.vodserve.specs.Workers.{IsMakeWorkersError, IsNotOpened, IsWorker, report_of};
 ghost use Rattle.vodserve.specs.Workers.{split_seat};
 
+use cli_args::MAX_WORKERS;
 use cli_errors::CliError;
 use conn::{ConnReport, PartEnd, PartReport, serve_part};
 use film_frames::Stored;
@@ -56,7 +57,7 @@ pub(crate) fn make_workers<G: Gate + Drop>(
     // needs: the first seat, a gate that was just opened, and no worker yet
     requires seat { seat.old ≡ first_seat station.now }
     requires opened { (opening : Opening) × IsNewlyOpen opening (G.told gate.old) }
-    requires few { count ≤ 256 }
+    requires few { count ≤ MAX_WORKERS }
     requires none { workers.old.items ≡ [] }
     // leaves: the gate open, and as many seats and parts out as there are workers
     ensures count { G.faults gate.old ≤ G.faults gate.new }

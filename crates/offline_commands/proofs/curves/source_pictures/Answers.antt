@@ -1,7 +1,7 @@
 use Rattle.std.proofs.Common.{subst, sym}
 use Rattle.std.specs.Prelude.{IfOk}
 use Rattle.cli_args.specs.InvocationViews.{source_read}
-use Rattle.cli_args.specs.declared.invocations.Source.{Source as SourceRead}
+use Rattle.cli_args.specs.declared.invocations.PlanSource.{PlanSource as SourceRead}
 use Rattle.offline_commands.specs.Pictures.{pictures_of}
 use Rattle.offline_commands.specs.Plans.{ArePictures}
 use Rattle.offline_commands.proofs.curves.source_pictures.Goals as goal
