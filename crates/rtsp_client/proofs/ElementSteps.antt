@@ -1,10 +1,11 @@
 -- Elements and events, one after another.
-use Rattle.std.proofs.Common.{◌≡◌, ℕ, suc, ◌<◌, ◌≤◌, ◌==◌, true, false, cond, List, [], ◌∷◌, ◌++◌}
+use Rattle.std.proofs.Common.{◌≡◌, ℕ, suc, ◌+◌, ◌<◌, ◌≤◌, ◌==◌, Bool, true, false, cond, nat_lt, List, [], ◌∷◌, ◌++◌}
 use Rattle.std.proofs.Common.{length, take, drop, map, get_or, Ok, Err, refl, sym, ap, subst, ◌∙◌}
 use Rattle.std.proofs.Common.{append_assoc, arith, inl, inr}
-use Rattle.std.proofs.lemmas.Bool.{cond-true, cond-false}
+use Rattle.std.proofs.lemmas.Bool.{cond-true, cond-false, le-ltb}
 use Rattle.std.proofs.lemmas.List.{append-nil, get_or-take, length-take-le}
 use Rattle.std.proofs.lemmas.List.Concat.{flat_map-append}
+use Rattle.interleave.specs.declared.demux.TheConstants.{MAX_WAITING_BYTES}
 use Rattle.interleave.specs.Heads.{is_line_end}
 use Rattle.interleave.specs.Elements.{AreLineEnds, IsFirst}
 use Rattle.interleave.specs.Streams.{AreInputElements, IsElementLength, WholeBlock, WholeMessage}
@@ -87,6 +88,15 @@ ends-none (b ∷ bytes) all =
     let first : is_line_end b ≡ true = all 0 (omega arith) in
     ap (λ t. t ++ events_of_elements (map (λ c. c ∷ []) bytes)) (cond-true (is_line_end b) [] _ first)
     ∙ ends-none bytes (λ k few. all (suc k) (omega (arith, few)))
+
+-- ---- bytes were received
+
+-- bytes for which there is room are appended
+pub put-all : (old bytes new : List ℕ) (failed : Bool) → failed ≡ nat_lt MAX_WAITING_BYTES (length old + length bytes)
+    → length old + length bytes ≤ MAX_WAITING_BYTES → new ≡ cond failed old (old ++ bytes) → new ≡ old ++ bytes
+put-all old bytes new failed is fits new_is =
+    new_is
+    ∙ cond-false failed old (old ++ bytes) (is ∙ le-ltb MAX_WAITING_BYTES (length old + length bytes) fits)
 
 -- ---- elements were processed
 
@@ -261,31 +271,39 @@ stopped-reply {h} {rest} {n} {end} {s} first ended =
     stops-at (WholeMessage first.0 first.1 first.2)
     (reply-of rest n (request-some rest n first) first.0.1 first.0.2) ended
 
+-- what two lists of elements send, hand on and leave, one after the other
+requests-in : (wish : Wish) (h : History) (x y : List (List ℕ))
+    → requests_after wish h (events_of_elements x)
+    ++ requests_after wish (history_after h (events_of_elements x)) (events_of_elements y)
+    ≡ requests_after wish h (events_of_elements (x ++ y))
+requests-in wish h x y =
+    sym (requests-on wish h (events_of_elements x) (events_of_elements y))
+    ∙ ap (requests_after wish h) (sym (flat_map-append element_events x y))
+
+payloads-in : (x y : List (List ℕ))
+    → payloads_of (events_of_elements x) ++ payloads_of (events_of_elements y) ≡ payloads_of (events_of_elements (x ++
+    y))
+payloads-in x y =
+    sym (flat_map-append payload_of (events_of_elements x) (events_of_elements y))
+    ∙ ap payloads_of (sym (flat_map-append element_events x y))
+
+after-in : (h : History) (x y : List (List ℕ))
+    → history_after (history_after h (events_of_elements x)) (events_of_elements y)
+    ≡ history_after h (events_of_elements (x ++ y))
+after-in h x y =
+    sym (after-on h (events_of_elements x) (events_of_elements y))
+    ∙ ap (history_after h) (sym (flat_map-append element_events x y))
+
 pub stopped-on : {wish : Wish} {h : History} {rest : List ℕ} {mid : Client} {end : WatchEnd} {s t u : Observed}
     → HasTaken wish h rest mid s t
     → ((g : History) → HistoryInvariant wish g mid → HasStopped wish g mid.input end t u) → HasStopped wish h rest end s
     u
 stopped-on {wish} {h} {rest} {mid} {end} {s} first next =
-    let g = history_after h (events_of_elements first.elements) in
+    let a = events_of_elements first.elements in
+    let g = history_after h a in
     let second = next g first.passed.keeps in
     let st = second.stops in
-    let a = events_of_elements first.elements in
     let b = events_of_elements st.elements in
-    let sent_on : requests_after wish h a ++ second.sent
-    ≡ requests_after wish h (events_of_elements (first.elements ++ st.elements)) ++ st.more_sent =
-    ap (λ x. requests_after wish h a ++ x) st.sent_is
-    ∙ (sym (append_assoc (requests_after wish h a) (requests_after wish g b) st.more_sent)
-    ∙ ap (λ x. x ++ st.more_sent)
-    (sym (requests-on wish h a b)
-    ∙ ap (requests_after wish h) (sym (flat_map-append element_events first.elements st.elements)))) in
-    let out_on : payloads_of a ++ second.out ≡ payloads_of (events_of_elements (first.elements ++ st.elements)) ++
-    st.more_out =
-    ap (λ x. payloads_of a ++ x) st.out_is
-    ∙ (sym (append_assoc (payloads_of a) (payloads_of b) st.more_out)
-    ∙ ap (λ x. x ++ st.more_out) (sym (flat_map-append payload_of a b)
-    ∙ ap payloads_of (sym (flat_map-append element_events first.elements st.elements)))) in
-    let there : history_after g b ≡ history_after h (events_of_elements (first.elements ++ st.elements)) =
-    sym (after-on h a b) ∙ ap (history_after h) (sym (flat_map-append element_events first.elements st.elements)) in
     let cuts : CutsInTurn rest mid.input st.mid first.elements st.elements =
     record { first = first.cut; next = st.cut } in
     record {
@@ -299,9 +317,14 @@ stopped-on {wish} {h} {rest} {mid} {end} {s} first next =
             (good-on h a b first.passed.good st.good);
         more_sent = st.more_sent;
         more_out = st.more_out;
-        stops = subst (λ x. Stops wish (stage x st.mid) end st.more_sent st.more_out) there st.stops;
-        sent_is = sent_on;
-        out_is = out_on;
+        stops = subst (λ x. Stops wish (stage x st.mid) end st.more_sent st.more_out)
+            (after-in h first.elements st.elements) st.stops;
+        sent_is = ap (λ x. requests_after wish h a ++ x) st.sent_is
+            ∙ (sym (append_assoc (requests_after wish h a) (requests_after wish g b) st.more_sent)
+            ∙ ap (λ x. x ++ st.more_sent) (requests-in wish h first.elements st.elements));
+        out_is = ap (λ x. payloads_of a ++ x) st.out_is
+            ∙ (sym (append_assoc (payloads_of a) (payloads_of b) st.more_out)
+            ∙ ap (λ x. x ++ st.more_out) (payloads-in first.elements st.elements));
       };
       sight_is = second.sight_is
           ∙ (ap (λ x. observed_more x second.sent second.out) first.passed.sight_is

@@ -216,11 +216,11 @@ picked : {A : Type 0} (c : Bool) (x y : A) → cond c (Some x) None ≡ Some y �
 picked true x y is = cc
 picked false x y is = cc
 
-source-after : {h : History} {b : List ℕ} {head : Head} {ms : ℕ} {next : RtpSource} (source : Option RtpSource)
-    → IsSourceOf source h
-    → head ≡ head_at (drop 4 b) → ms ≡ end_ms h → source_after source head (drop 20 b) ms ≡ Some next
+-- the source after the film's first frame
+source-at-first : {h : History} {b : List ℕ} {head : Head} {ms : ℕ} {next : RtpSource} → IsSourceOf None h
+    → head ≡ head_at (drop 4 b) → ms ≡ end_ms h → source_after None head (drop 20 b) ms ≡ Some next
     → IsSource next (Frame b ∷ h)
-source-after {h} {b} {head} {ms} {next} None is at end after =
+source-at-first {h} {b} {head} {ms} {next} is at end after =
     let its = picked
     (begins_film (drop 20 b)
     && (nat_le 1 (units_until ms (time_in b)) && nat_le (units_until ms (time_in b)) 4194304)) _ next after in
@@ -239,7 +239,13 @@ source-after {h} {b} {head} {ms} {next} None is at end after =
           (ne_eqb (frames h + 1) 0 (λ e. absurd (omega (arith, e))))
           ∙ ap (λ f. units_until (end_ms h) (time_in f)) first));
     }
-source-after {h} {b} {head} {next} (Some source) is at end after =
+
+-- the source after a further frame
+source-at-next : {h : History} {b : List ℕ} {head : Head} {next : RtpSource} (source : RtpSource) (ms : ℕ)
+    → IsSourceOf (Some source) h
+    → head ≡ head_at (drop 4 b) → source_after (Some source) head (drop 20 b) ms ≡ Some next
+    → IsSource next (Frame b ∷ h)
+source-at-next {h} {b} {head} {next} source ms is at after =
     let its = picked ((head.ssrc == source.ssrc) && (head.sequence == (source.sequence + 1) % 2 ^ 16)) _ next after in
     let some : (frames h == 0) ≡ false = ne_eqb (frames h) 0 (λ none. absurd (omega (arith, is.some, none))) in
     let first : cond (frames h == 0) b (first_frame h) ≡ first_frame h =
@@ -257,6 +263,13 @@ source-after {h} {b} {head} {next} (Some source) is at end after =
           (ne_eqb (frames h + 1) 0 (λ e. absurd (omega (arith, e))))
           ∙ ap (λ f. units_until (end_ms h) (time_in f)) first)));
     }
+
+source-after : {h : History} {b : List ℕ} {head : Head} {ms : ℕ} {next : RtpSource} (source : Option RtpSource)
+    → IsSourceOf source h
+    → head ≡ head_at (drop 4 b) → ms ≡ end_ms h → source_after source head (drop 20 b) ms ≡ Some next
+    → IsSource next (Frame b ∷ h)
+source-after None is at end after = source-at-first is at end after
+source-after {ms} (Some source) is at end after = source-at-next source ms is at after
 
 source-read : {h : History} {b : List ℕ} {read : Result Head HeadFault} {ms : ℕ} {next : RtpSource}
     (source : Option RtpSource) → IsSourceOf source h

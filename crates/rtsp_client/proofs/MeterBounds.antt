@@ -125,13 +125,10 @@ pub record IsQuiet (wish : Wish) (h : History) : Type 0 where
   pub under_none : count_under wish h ≡ 0
   pub most_fits : most_waiting wish h ≤ wish.buffer
 
-read-quiet : {r : Bool} {wish : Wish} {all : List ℕ} {p : ℕ} {h : History} {slot cut : ℕ}
-    → Durations wish.slot_units p → 0 < length all
-    → IsQuiet wish h → is_read h slot ≡ r
-    → (is_read h slot ≡ true → IsFilmHeard all p h cut × IsBetween wish all p (place_in h slot) (bytes_received h +
-    cut))
+-- a slot in which the meter isn't read, and one in which it is
+unread-quiet : {wish : Wish} {h : History} {slot cut : ℕ} → IsQuiet wish h → is_read h slot ≡ false
     → IsQuiet wish (Slot slot cut ∷ h)
-read-quiet {r = false} {wish} {all} {p} {h} {slot} {cut} lasts units_some quiet is met = record {
+unread-quiet {wish} {h} {slot} {cut} quiet is = record {
   over_none = ap
       (λ r. cond (r && nat_lt wish.buffer (bytes_waiting wish h slot cut)) (count_over wish h + 1)
       (count_over wish h)) is ∙ quiet.over_none;
@@ -144,13 +141,17 @@ read-quiet {r = false} {wish} {all} {p} {h} {slot} {cut} lasts units_some quiet 
     quiet.most_fits,
   );
 }
-read-quiet {r = true} {wish} {all} {p} {h} {slot} {cut} lasts units_some quiet is met =
-    let now = met is in
-    let holds : bytes_waiting wish h slot cut ≤ wish.buffer = fits slot lasts now.0 now.1 in
+
+-- what a reading finds: the buffer holds what waits, and no picture is missing
+record FindsEnough (wish : Wish) (h : History) (slot cut : ℕ) : Type 0 where
+  holds : bytes_waiting wish h slot cut ≤ wish.buffer
+  full : lacks_picture wish h (place_in h slot) ≡ false
+
+seen-quiet : {wish : Wish} {h : History} {slot cut : ℕ} → IsQuiet wish h → is_read h slot ≡ true
+    → FindsEnough wish h slot cut → IsQuiet wish (Slot slot cut ∷ h)
+seen-quiet {wish} {h} {slot} {cut} quiet is finds =
     let not_over : nat_lt wish.buffer (bytes_waiting wish h slot cut) ≡ false =
-    le-ltb wish.buffer (bytes_waiting wish h slot cut) holds in
-    let not_under : lacks_picture wish h (place_in h slot) ≡ false =
-    enough lasts units_some now.0 now.1 in
+    le-ltb wish.buffer (bytes_waiting wish h slot cut) finds.holds in
     record {
       over_none = ap
           (λ r. cond (r && nat_lt wish.buffer (bytes_waiting wish h slot cut)) (count_over wish h + 1)
@@ -158,15 +159,29 @@ read-quiet {r = true} {wish} {all} {p} {h} {slot} {cut} lasts units_some quiet i
           ∙ (ap (λ b. cond (true && b) (count_over wish h + 1) (count_over wish h)) not_over ∙ quiet.over_none);
       under_none =
           ap (λ r. cond (r && lacks_picture wish h (place_in h slot)) (count_under wish h + 1) (count_under wish h)) is
-          ∙ (ap (λ b. cond (true && b) (count_under wish h + 1) (count_under wish h)) not_under ∙ quiet.under_none);
+          ∙ (ap (λ b. cond (true && b) (count_under wish h + 1) (count_under wish h)) finds.full ∙ quiet.under_none);
       most_fits = omega (
         arith,
         ap (λ r. cond r (max (most_waiting wish h) (bytes_waiting wish h slot cut))
             (most_waiting wish h)) is,
         quiet.most_fits,
-        holds,
+        finds.holds,
       );
     }
+
+read-quiet : {r : Bool} {wish : Wish} {all : List ℕ} {p : ℕ} {h : History} {slot cut : ℕ}
+    → Durations wish.slot_units p → 0 < length all
+    → IsQuiet wish h → is_read h slot ≡ r
+    → (is_read h slot ≡ true → IsFilmHeard all p h cut × IsBetween wish all p (place_in h slot) (bytes_received h +
+    cut))
+    → IsQuiet wish (Slot slot cut ∷ h)
+read-quiet {r = false} {wish} {all} {p} {h} {slot} {cut} lasts units_some quiet is met = unread-quiet quiet is
+read-quiet {r = true} {wish} {all} {p} {h} {slot} {cut} lasts units_some quiet is met =
+    let now = met is in
+    seen-quiet quiet is (record {
+      holds = fits slot lasts now.0 now.1;
+      full = enough lasts units_some now.0 now.1;
+    })
 
 pub quiet-always : {p : ℕ} (wish : Wish) (all : List ℕ) (h : History) → Durations wish.slot_units p → 0 < length all
     → IsBetweenAlways wish all p h → IsQuiet wish h

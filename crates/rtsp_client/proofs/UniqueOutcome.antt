@@ -217,39 +217,40 @@ record AreSameCourses (one other : List Round) (a b : Final) : Type 0 where
   rounds_are : one ≡ other
   final_is : a ≡ b
 
+-- a course of no round ends where it begins, and one of several goes on after its first round
+closes-here : {wish : Wish} {old : WatchStage} {count : ℕ} {f : Final} → IsCourse wish old count [] f
+    → Closes wish old (count + 0) f
+closes-here {wish} {old} {count} {f} x = subst (λ s. Closes wish s (count + 0) f) x.runs x.closes
+
+course-rest : {wish : Wish} {old : WatchStage} {count : ℕ} {round : Round} {rounds : List Round} {f : Final}
+    (x : IsCourse wish old count (round ∷ rounds) f) → IsCourse wish x.runs.0 (count + 1) rounds f
+course-rest {wish} {old} {count} {round} {rounds} {f} x =
+    let one_more : count + length (round ∷ rounds) ≡ count + 1 + length rounds = omega arith in
+    record {
+      mid = x.mid;
+      runs = x.runs.1.2;
+      closes = subst (λ n. Closes wish x.mid n f) one_more x.closes;
+    }
+
 courses-once : {wish : Wish} {a b : Final} (later : List IoEvent) (one other : List Round) {old : WatchStage} {count : ℕ}
     → IsCourse wish old count one a → IsCourse wish old count other b
     → events_of other ++ events_in b.doings ≡ (events_of one ++ events_in a.doings) ++ later
     → AreSameCourses one other a b
-courses-once {wish} {a} {b} later [] [] {old} {count} x y same =
-    let first : Closes wish old (count + 0) a = subst (λ s. Closes wish s (count + 0) a) x.runs x.closes in
-    let second : Closes wish old (count + 0) b = subst (λ s. Closes wish s (count + 0) b) y.runs y.closes in
-    record { rounds_are = refl; final_is = finals-once later first second same }
-courses-once {wish} {a} {b} later [] (round ∷ other) {old} {count} x y same =
-    let first : Closes wish old (count + 0) a = subst (λ s. Closes wish s (count + 0) a) x.runs x.closes in
+courses-once later [] [] x y same =
+    record { rounds_are = refl; final_is = finals-once later (closes-here x) (closes-here y) same }
+courses-once later [] (round ∷ other) {old} {count} x y same =
     let few : count + length (round ∷ other) ≤ 2 ^ 40 = closes-few y.closes in
-    absurd (closes-not-runs later first (omega (arith, few)) y.runs.1.0 y.runs.1.1 (sym same))
+    absurd (closes-not-runs later (closes-here x) (omega (arith, few)) y.runs.1.0 y.runs.1.1 (sym same))
 courses-once {wish} {a} {b} later (round ∷ one) [] {old} {count} x y same =
-    let second : Closes wish old (count + 0) b = subst (λ s. Closes wish s (count + 0) b) y.runs y.closes in
     let few : count + length (round ∷ one) ≤ 2 ^ 40 = closes-few x.closes in
-    absurd (closes-not-runs [] second (omega (arith, few)) x.runs.1.0 x.runs.1.1
+    absurd (closes-not-runs [] (closes-here y) (omega (arith, few)) x.runs.1.0 x.runs.1.1
     (append-nil (events_in b.doings) ∙ same))
 courses-once {wish} {a} {b} later (round ∷ one) (round' ∷ other) {old} {count} x y same =
     let event : round.event ≡ round'.event = sym (ap event_or_end same) in
     let next = runs-once x.runs.1.0 x.runs.1.1 y.runs.1.0 y.runs.1.1 event in
-    let one_more : (rounds : List Round) (r : Round) → count + length (r ∷ rounds) ≡ count + 1 + length rounds =
-    λ rounds r. omega arith in
-    let first : IsCourse wish x.runs.0 (count + 1) one a = record {
-      mid = x.mid;
-      runs = x.runs.1.2;
-      closes = subst (λ n. Closes wish x.mid n a) (one_more one round) x.closes;
-    } in
-    let second : IsCourse wish x.runs.0 (count + 1) other b = record {
-      mid = y.mid;
-      runs = subst (λ s. RunsAll s other y.mid) (sym next.mid_is) y.runs.1.2;
-      closes = subst (λ n. Closes wish y.mid n b) (one_more other round') y.closes;
-    } in
-    let rest = courses-once later one other first second (ap after_first same) in
+    let second : IsCourse wish x.runs.0 (count + 1) other b =
+    subst (λ s. IsCourse wish s (count + 1) other b) (sym next.mid_is) (course-rest y) in
+    let rest = courses-once later one other (course-rest x) second (ap after_first same) in
     record {
       rounds_are = ap (λ r. r ∷ one) next.round_is ∙ ap (λ rs. round' ∷ rs) rest.rounds_are;
       final_is = rest.final_is;

@@ -35,7 +35,7 @@ use Rattle.rtsp_client.specs.Replies.{IsAnswer, play_range, play_start, setup_se
 use Rattle.rtsp_client.specs.Requests.{teardown_text}
 use Rattle.rtsp_client.specs.WholeFilms.{AwaitsFilm, HaveNoReply, frames_of_film}
 use Rattle.rtsp_client.proofs.NextFrames.{heard, next-accepted}
-use Rattle.rtsp_client.proofs.RunFrames.{AllFrom, AreFrames, EndsUnit, count-append, count_last, ends-later}
+use Rattle.rtsp_client.proofs.RunFrames.{AllFrom, AreFrames, EndsUnit, IsFrom, count-append, count_last, ends-later}
 use Rattle.rtsp_client.proofs.RunFrames.{first-frame, first-long, from-at, has-packet, units-frames}
 
 -- ---- the frames of a film
@@ -219,6 +219,46 @@ open-yet {film} {identity} {h} {block} uncut next =
           (λ same. omega (arith, same, known, sizes-count h, counted, later, all.count)))
     ]
 
+-- the film's first frame, where none came before it
+first-accepted : {film : Film} {identity : Identity} {h : History} {block : List ℕ} → HeadsUncut
+    → IsNext film identity h block → frames h ≡ 0 → is_first_good h block ≡ true
+first-accepted {film} {identity} {h} {block} uncut next none =
+    let nothing : frames_heard h ≡ [] = nil_from_length (frames_heard h) (omega (arith, none, (heard h).count)) in
+    let first = film-first uncut film identity in
+    let both : first.block ∷ first.more ≡ block ∷ next.rest =
+    sym first.are ∙ (next.are ∙ ap (λ (l : List (List ℕ)). l ++ block ∷ next.rest) nothing) in
+    let same : first.block ≡ block = cc in
+    let count : units_until (end_ms h) (time_in block) ≡ length film.units.items =
+    ap (λ t. units_until (end_ms h) t) (ap time_in (sym same) ∙ first.time_is) ∙ next.awaits.end_is in
+    let some = film-some film.bytes.items film.rate film.units.items film.slice_starts.items film.grammar in
+    and_from _ _ (ap (λ b. begins_film (drop 20 b)) (sym same) ∙ first.begins)
+    (and_from _ _ (le-leb 1 (units_until (end_ms h) (time_in block)) (omega (arith, count, some)))
+    (le-leb (units_until (end_ms h) (time_in block)) 4194304 (omega (arith, count, film-few film))))
+
+-- the first frame that came is of the film's source, where one did
+first-from : {film : Film} {identity : Identity} {h : History} {block : List ℕ} → IsNext film identity h block
+    → 0 < frames h → IsFrom identity.ssrc (first_frame h)
+first-from {film} {identity} {h} {block} next there =
+    let begun = begins-heard h there in
+    let whole : frames_of_film film identity ≡ (first_frame h ∷ begun.more) ++ block ∷ next.rest =
+    next.are ∙ ap (λ (l : List (List ℕ)). l ++ block ∷ next.rest) begun.are in
+    from-at [] (first_frame h) (begun.more ++ block ∷ next.rest)
+    (subst (AllFrom identity.ssrc) whole (film-frames film identity next.small).all)
+
+-- the frames that came and the next one have sequence numbers in order
+numbers-heard : {film : Film} {identity : Identity} {h : History} {block : List ℕ}
+    → AreConsecutive identity.sequence (frames_of_film film identity) → IsNext film identity h block
+    → AreConsecutive identity.sequence (frames_heard h ++ block ∷ [])
+numbers-heard {film} {identity} {h} {block} numbers next =
+    let parts : frames_of_film film identity ≡ (frames_heard h ++ block ∷ []) ++ next.rest =
+    next.are ∙ sym (append_assoc (frames_heard h) (block ∷ []) next.rest) in
+    let count : length (frames_of_film film identity)
+    ≡ length (frames_heard h ++ block ∷ []) + length next.rest =
+    ap (λ (l : List (List ℕ)). length l) parts ∙ length-append (frames_heard h ++ block ∷ []) next.rest in
+    λ k few. ap sequence_of (sym (get_or_append_left (frames_heard h ++ block ∷ []) next.rest [] k few)
+    ∙ ap (λ l. get_or l k []) (sym parts))
+    ∙ numbers k (omega (arith, few, count))
+
 pub frame-accepted : {film : Film} {identity : Identity} {h : History} {block : List ℕ} → HeadsUncut
     → AreConsecutive identity.sequence (frames_of_film film identity) → IsNext film identity h block
     → is_good_frame h block ≡ true
@@ -228,37 +268,13 @@ frame-accepted {film} {identity} {h} {block} uncut numbers next =
     let missing = open-yet uncut next in
     elim (cases_eq (frames h) 0) [
       | inl none ↦
-          let nothing : frames_heard h ≡ [] = nil_from_length (frames_heard h) (omega (arith, none, (heard h).count)) in
-          let first = film-first uncut film identity in
-          let both : first.block ∷ first.more ≡ block ∷ next.rest =
-          sym first.are ∙ (next.are ∙ ap (λ (l : List (List ℕ)). l ++ block ∷ next.rest) nothing) in
-          let same : first.block ≡ block = cc in
-          let count : units_until (end_ms h) (time_in block) ≡ length film.units.items =
-          ap (λ t. units_until (end_ms h) t) (ap time_in (sym same) ∙ first.time_is) ∙ next.awaits.end_is in
-          let some = film-some film.bytes.items film.rate film.units.items film.slice_starts.items film.grammar in
-          let good : is_first_good h block ≡ true =
-          and_from _ _ (ap (λ b. begins_film (drop 20 b)) (sym same) ∙ first.begins)
-          (and_from _ _ (le-leb 1 (units_until (end_ms h) (time_in block)) (omega (arith, count, some)))
-          (le-leb (units_until (end_ms h) (time_in block)) 4194304 (omega (arith, count, film-few film)))) in
           and_from _ _ next.awaits.playing (and_from _ _ (ap not missing) (and_from _ _ from.is_read
-          (cond-true (frames h == 0) (is_first_good h block) (is_next_good h block) (eq-eqb (frames h) 0 none) ∙ good)))
+          (cond-true (frames h == 0) (is_first_good h block) (is_next_good h block) (eq-eqb (frames h) 0 none)
+          ∙ first-accepted uncut next none)))
       | inr there ↦
-          let begun = begins-heard h (omega (arith, there)) in
-          let whole : frames_of_film film identity ≡ (first_frame h ∷ begun.more) ++ block ∷ next.rest =
-          next.are ∙ ap (λ (l : List (List ℕ)). l ++ block ∷ next.rest) begun.are in
-          let first_from = from-at [] (first_frame h) (begun.more ++ block ∷ next.rest)
-          (subst (AllFrom identity.ssrc) whole all.all) in
-          let parts : frames_of_film film identity ≡ (frames_heard h ++ block ∷ []) ++ next.rest =
-          next.are ∙ sym (append_assoc (frames_heard h) (block ∷ []) next.rest) in
-          let count : length (frames_of_film film identity)
-          ≡ length (frames_heard h ++ block ∷ []) + length next.rest =
-          ap (λ (l : List (List ℕ)). length l) parts ∙ length-append (frames_heard h ++ block ∷ []) next.rest in
-          let consecutive : AreConsecutive identity.sequence (frames_heard h ++ block ∷ []) =
-          λ k few. ap sequence_of (sym (get_or_append_left (frames_heard h ++ block ∷ []) next.rest [] k few)
-          ∙ ap (λ l. get_or l k []) (sym parts))
-          ∙ numbers k (omega (arith, few, count)) in
-          next-accepted h block identity.sequence next.awaits.playing missing (omega (arith, there)) from.is_read
-          (from.source_is ∙ sym first_from.source_is) consecutive
+          let begun : 0 < frames h = omega (arith, there) in
+          next-accepted h block identity.sequence next.awaits.playing missing begun from.is_read
+          (from.source_is ∙ sym (first-from next begun).source_is) (numbers-heard numbers next)
     ]
 
 -- ---- and its end

@@ -1,9 +1,10 @@
 -- What a client reads in a reply (RFC 2326 sections 7 and 12).
-use Rattle.std.specs.Prelude.{◌≡◌, ℕ, ◌+◌, ◌-◌, ◌*◌, ◌^◌, ◌==◌, ◌&&◌, Bool, not}
+use Rattle.std.specs.Prelude.{◌≡◌, ℕ, ◌+◌, ◌-◌, ◌*◌, ◌==◌, ◌&&◌, Bool, not}
 use Rattle.std.specs.Prelude.{if◌then◌else◌, nat_eq, nat_le, nat_lt, List, length, take, drop}
 use Rattle.std.specs.Prelude.{slice_index, Option, Some, None, option_map, option_and_then, codes}
 use Rattle.std.specs.List.{before_first, list_all, starts_with}
 use Rattle.vod_base.specs.Blanks.{without_blanks}
+use Rattle.vod_base.specs.declared.links.TheConstants.{LATEST_SLOT}
 use Rattle.vod_base.specs.Numbers.{number_of}
 use Rattle.rtsp_text.specs.Lines.{first_line}
 use Rattle.rtsp_text.specs.Fields.{header_value}
@@ -63,9 +64,9 @@ range_end value = if starts_with nat_eq value (codes "npt=0.000-")
 abbrev pub play_range : List ℕ → Option ℕ
 play_range message = option_and_then range_end (header_value message (codes "Range"))
 
--- a number from 1 to 2^62 + 1
+-- a number from 1 to the slot after the latest one
 abbrev pub start_within : ℕ → Option ℕ
-start_within start = if nat_le 1 start && nat_le start (2 ^ 62 + 1) then Some start else None
+start_within start = if nat_le 1 start && nat_le start (LATEST_SLOT + 1) then Some start else None
 
 -- in how many slots the play starts that a reply gives
 abbrev pub play_start : List ℕ → Option ℕ

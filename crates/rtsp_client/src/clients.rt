@@ -1,6 +1,6 @@
 //! A client between two events: what it asked for, what was replied, and what waits of its input.
 
-ghost use Rattle.std.specs.Prelude.{◌≡◌, ◌+◌, ◌^◌, ◌<◌, ◌≤◌, ◌||◌, ◌∷◌, ℕ, false, true, Ok, List};
+ghost use Rattle.std.specs.Prelude.{◌≡◌, ◌+◌, ◌<◌, ◌≤◌, ◌||◌, ◌∷◌, ℕ, false, true, Ok, List};
 ghost use Rattle.std.specs.Prelude.{[], Option, None, nat_lt, take, length as list_length, IfOk};
 ghost use Rattle.std.specs.Prelude.{IfErr, IfSome, OnOk, OnErr, MatchOption};
 ghost use Rattle.vod_base.specs.Links.{IoEvent, IsWithin, io_event_of, sends, told_more};
@@ -24,10 +24,14 @@ use crate::replies::{play_range, play_start, reply_code, setup_session};
 use crate::requests::{play_request, setup_request, teardown_request};
 use crate::watch_request::{WatchEnd, WatchFault, Wish};
 use crate::watch_state::WatchState;
-use interleave::{Demux, Step};
+use interleave::{Demux, MAX_BODY_BYTES, MAX_HEAD_BYTES, Step};
 use std::alloc::Global;
 use std::ops::ControlFlow;
-use vod_base::{Heard, Link, MAX_READ_BYTES, NoMemory, Sink};
+use vod_base::{Heard, Link, MAX_EVENTS, MAX_READ_BYTES, NoMemory, Sink};
+
+/// The most bytes that a client receives, 2^54: at most 16,384 with each event of its link. Sums of
+/// bytes therefore fit into 64 bits.
+pub(crate) const MAX_INPUT_BYTES: u64 = MAX_EVENTS * MAX_READ_BYTES as u64;
 
 /// A client between two events.
 #[derive(Drop)]
@@ -81,15 +85,16 @@ impl Client {
     ) -> ControlFlow<WatchEnd>
         // needs: a wish in range, and an input that holds no complete element
         requires wish { IsWish wish.now }
-        requires waits { list_length self.old.input ≤ 81920 }
+        requires waits { list_length self.old.input ≤ MAX_HEAD_BYTES + MAX_BODY_BYTES }
         requires idle { IsFirst self.old.input (Ok More) }
         requires heard { IsWithin heard (list_length bytes.now) }
         requires short { list_length bytes.now ≤ MAX_READ_BYTES }
-        requires few { bytes_in self.old + MAX_READ_BYTES < 2 ^ 62 }
+        requires few { bytes_in self.old + MAX_READ_BYTES ≤ MAX_INPUT_BYTES }
         // leaves: an input that is bounded again
         ensures few { OnOk (as_result result)
             (bytes_in self.new ≤ bytes_in self.old + MAX_READ_BYTES) }
-        ensures waits { OnOk (as_result result) (list_length self.new.input ≤ 81920) }
+        ensures waits { OnOk (as_result result)
+            (list_length self.new.input ≤ MAX_HEAD_BYTES + MAX_BODY_BYTES) }
         // faults: of the link or the output, only where its count rose
         ensures count { K.faults link.old ≤ K.faults link.new }
         ensures count_out { O.faults out.old ≤ O.faults out.new }
@@ -115,12 +120,12 @@ impl Client {
                 self.watching.hear_slot(wish, slot, cut as u64);
                 ControlFlow::Continue(())
             }
-            Heard::Bytes(count) => match self.input.put(&bytes[..count]) {
-                Ok(()) => self.process_input(wish, link, out),
-                // Can't come: after each event at most 81,920 bytes wait (`waits`), and there is
-                // room for 131,072.
-                Err(_) => unreachable!(),
-            },
+            Heard::Bytes(count) => {
+                // Never too many: after each event at most a message waits (`waits`), and there is
+                // room for one more read.
+                let _ = self.input.put(&bytes[..count]);
+                self.process_input(wish, link, out)
+            }
         }
     }
 
@@ -131,9 +136,10 @@ impl Client {
         link: &mut K,
         out: &mut O,
     ) -> ControlFlow<WatchEnd>
-        requires few { bytes_in self.old < 2 ^ 62 }
+        requires few { bytes_in self.old ≤ MAX_INPUT_BYTES }
         ensures few { OnOk (as_result result) (bytes_in self.new ≤ bytes_in self.old) }
-        ensures waits { OnOk (as_result result) (list_length self.new.input ≤ 81920) }
+        ensures waits { OnOk (as_result result)
+            (list_length self.new.input ≤ MAX_HEAD_BYTES + MAX_BODY_BYTES) }
         ensures count { K.faults link.old ≤ K.faults link.new }
         ensures count_out { O.faults out.old ≤ O.faults out.new }
         ensures cause { EndsWithCause (as_result result) (K.faults link.old) (K.faults link.new)
@@ -161,13 +167,13 @@ impl Client {
         link: &mut K,
         out: &mut O,
     ) -> ControlFlow<WatchEnd, bool>
-        requires few { bytes_in self.old < 2 ^ 62 }
+        requires few { bytes_in self.old ≤ MAX_INPUT_BYTES }
         // leaves: an input that is shorter, or one without a complete element
         ensures few { OnOk (as_result result) (bytes_in self.new ≤ bytes_in self.old) }
         ensures shorter { IfOk (as_result result) (λ more. more ≡ true →
             list_length self.new.input < list_length self.old.input) }
         ensures waits { IfOk (as_result result) (λ more. more ≡ false →
-            list_length self.new.input ≤ 81920) }
+            list_length self.new.input ≤ MAX_HEAD_BYTES + MAX_BODY_BYTES) }
         // faults: of the link or the output, only where its count rose
         ensures count { K.faults link.old ≤ K.faults link.new }
         ensures count_out { O.faults out.old ≤ O.faults out.new }
@@ -214,7 +220,7 @@ impl Client {
         out: &mut O,
     ) -> ControlFlow<WatchEnd>
         // needs: a complete block at the front of the input
-        requires few { bytes_in self.old < 2 ^ 62 }
+        requires few { bytes_in self.old ≤ MAX_INPUT_BYTES }
         requires block { IsFirst self.old.input (Ok (Block channel length)) }
         // leaves: the input as it was, since the caller drops the block
         ensures input { self.new.input ≡ self.old.input }
@@ -253,7 +259,7 @@ impl Client {
         out: &mut O,
     ) -> Result<(), WatchEnd>
         // needs: a complete block at the front of the input
-        requires few { bytes_in self.old < 2 ^ 62 }
+        requires few { bytes_in self.old ≤ MAX_INPUT_BYTES }
         requires least { 4 ≤ length }
         requires within { length ≤ list_length self.old.input }
         // leaves: the input as it was, since the caller drops the block

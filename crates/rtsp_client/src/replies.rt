@@ -10,7 +10,7 @@ ghost use Rattle.rtsp_client.specs.Replies.{session_in, setup_session, time_in, 
 ghost use Rattle.rtsp_text.specs.Grammar.{is_value_byte};
 
 use rtsp_text::{header_of, read_reply};
-use vod_base::{read_number, trim};
+use vod_base::{LATEST_SLOT, read_number, trim};
 
 /// The code of a reply to the request of this number.
 ///
@@ -54,13 +54,13 @@ pub(crate) fn play_range(message: &[u8]) -> Option<u128>
     range_end(header_of(message, b"Range")?)
 }
 
-/// In how many slots the play starts, by the reply: from 1 to 2^62 + 1.
+/// In how many slots the play starts, by the reply: from 1 to [`LATEST_SLOT`] + 1.
 pub(crate) fn play_start(message: &[u8]) -> Option<u64>
     ensures { result ≡ play_start message.now }
 {
     match number_in(message, b"x-Start") {
-        // A play begins in a later slot than its request, and slots count up to 2^62.
-        Some(start) if 1 <= start && start <= (1 << 62) + 1 => Some(start),
+        // A play begins in a later slot than its request, at most one after the latest.
+        Some(start) if 1 <= start && start <= LATEST_SLOT + 1 => Some(start),
         _ => None,
     }
 }

@@ -3,7 +3,7 @@
 use super::*;
 use std::alloc::Global;
 use std::test::Fail;
-use vod_base::{Event, MemoryLink, MemorySink, good_name};
+use vod_base::{Event, MAX_BYTES, MemoryLink, MemorySink, good_name};
 
 /// What a link delivers: a reply, bytes of the film as it is sent, other bytes, a slot, the end.
 #[derive(Clone, Copy)]
@@ -58,6 +58,9 @@ const PLAYED: Tell = Text(
 
 /// The reply to TEARDOWN.
 const TORN_DOWN: Tell = Text("RTSP/1.0 200 OK\r\nCSeq: 3\r\nSession: 0123456789abcdef\r\n\r\n");
+
+/// The reply to a PLAY for which the link has no bandwidth left.
+const NO_BANDWIDTH: Tell = Text("RTSP/1.0 453 Not Enough Bandwidth\r\nCSeq: 2\r\n\r\n");
 
 /// The client's buffer in bytes.
 const BUFFER: u64 = 1_048_576;
@@ -120,21 +123,22 @@ const WRAPPED: Tell = Raw(&[
     0x01, 0x12, 0x34,
 ]);
 
-/// What a server says, and what comes of it.
-const CASES: &[Case] = &[
-    Case {
-        buffer: BUFFER,
-        tells: BY_PLAN,
-        end: WatchEnd::Done(ALL),
-        requests: 3,
-        handed_on: 49,
-    },
+/// The film, complete: its plan, and a buffer that it fits into.
+const COMPLETE: Case = Case {
+    buffer: BUFFER,
+    tells: BY_PLAN,
+    end: WatchEnd::Done(ALL),
+    requests: 3,
+    handed_on: 49,
+};
+
+/// What a server says of the film, and what the meter counts.
+const COMPLETE_CASES: &[Case] = &[
+    COMPLETE,
     Case {
         buffer: 105,
-        tells: BY_PLAN,
         end: WatchEnd::Done(Watched { over: 1, ..ALL }),
-        requests: 3,
-        handed_on: 49,
+        ..COMPLETE
     },
     // two readings with too much in the buffer, then two without the second picture
     Case {
@@ -155,21 +159,17 @@ const CASES: &[Case] = &[
             under: 2,
             ..ALL
         }),
-        requests: 3,
-        handed_on: 49,
+        ..COMPLETE
     },
     // sequence numbers wrap
     Case {
-        buffer: BUFFER,
         tells: &[SET_UP, PLAYED, Film(0, 52), WRAPPED, TORN_DOWN],
         end: WatchEnd::Done(Watched { most: 0, ..ALL }),
-        requests: 3,
-        handed_on: 49,
+        ..COMPLETE
     },
     // late: the first picture isn't complete in the slot in which it is used; a slot that comes
     // again isn't read again
     Case {
-        buffer: BUFFER,
         tells: &[
             Slot(7),
             SET_UP,
@@ -188,13 +188,11 @@ const CASES: &[Case] = &[
             under: 1,
             ..ALL
         }),
-        requests: 3,
-        handed_on: 49,
+        ..COMPLETE
     },
     // the session is sent without its parameters; blocks on other channels and line ends don't
     // count
     Case {
-        buffer: BUFFER,
         tells: &[
             Text("RTSP/1.0 200 OK\r\ncseq: 01\r\nSession:  0123456789abcdef ;timeout=60\r\n\r\n"),
             PLAYED,
@@ -204,147 +202,83 @@ const CASES: &[Case] = &[
             TORN_DOWN,
         ],
         end: WatchEnd::Done(Watched { most: 0, ..ALL }),
-        requests: 3,
-        handed_on: 49,
+        ..COMPLETE
     },
-    Case {
-        buffer: BUFFER,
-        tells: &[
-            SET_UP,
-            Text("RTSP/1.0 453 Not Enough Bandwidth\r\nCSeq: 2\r\n\r\n"),
+];
+
+/// Replies to SETUP that are none: one without a session, one to another request, one with an id
+/// that no header field may have, one of another version.
+const BAD_SETUP_REPLIES: &[&[Tell]] = &[
+    &[Text("RTSP/1.0 200 OK\r\nCSeq: 1\r\n\r\n")],
+    &[Text("RTSP/1.0 200 OK\r\nCSeq: 2\r\nSession: 1\r\n\r\n")],
+    &[Text("RTSP/1.0 200 OK\r\nCSeq: 1\r\nSession: a\x01b\r\n\r\n")],
+    &[Text("RTSP/2.0 200 OK\r\nCSeq: 1\r\nSession: 1\r\n\r\n")],
+];
+
+/// Replies to PLAY that are none: one with a needless leading zero, one that starts at once.
+const BAD_PLAY_REPLIES: &[&[Tell]] = &[
+    &[
+        SET_UP,
+        Text("RTSP/1.0 200 OK\r\nCSeq: 2\r\nRange: npt=0.000-00.080\r\nx-Start: 1\r\n\r\n"),
+    ],
+    &[
+        SET_UP,
+        Text("RTSP/1.0 200 OK\r\nCSeq: 2\r\nRange: npt=0.000-0.080\r\nx-Start: 0\r\n\r\n"),
+    ],
+];
+
+/// First frames that are none: one before the reply to PLAY, the second frame, one byte, and frames
+/// of films of no picture and of one too many.
+const BAD_FIRST_FRAMES: &[&[Tell]] = &[
+    &[SET_UP, Film(52, 106)],
+    &[SET_UP, PLAYED, Film(106, 141)],
+    &[SET_UP, PLAYED, Raw(&[0x24, 0, 0, 1, 0x80])],
+    &[
+        SET_UP,
+        Text("RTSP/1.0 200 OK\r\nCSeq: 2\r\nRange: npt=0.000-0.000\r\nx-Start: 1\r\n\r\n"),
+        Film(0, 106),
+    ],
+    &[
+        SET_UP,
+        Text("RTSP/1.0 200 OK\r\nCSeq: 2\r\nRange: npt=0.000-167772.161\r\nx-Start: 1\r\n\r\n"),
+        Film(0, 106),
+    ],
+];
+
+/// What a server says that ends the watching with a fault, in several ways each; how many requests
+/// are sent before, and how many of the film's bytes are handed on.
+const FAULTS: &[(&[&[Tell]], WatchFault, usize, usize)] = &[
+    (BAD_SETUP_REPLIES, WatchFault::BadReply(1), 1, 0),
+    (BAD_PLAY_REPLIES, WatchFault::BadReply(2), 2, 0),
+    (
+        &[&[SET_UP, PLAYED, TORN_DOWN]],
+        WatchFault::BadReply(3),
+        2,
+        0,
+    ),
+    (&[&[SET_UP, NO_BANDWIDTH]], WatchFault::Refused(453), 2, 0),
+    (BAD_FIRST_FRAMES, WatchFault::BadFrame(0), 2, 0),
+    (
+        &[
+            &[SET_UP, PLAYED, Film(0, 106), GAP],
+            &[SET_UP, PLAYED, Film(0, 106), STRANGER],
         ],
-        end: WatchEnd::Fault(WatchFault::Refused(453)),
-        requests: 2,
-        handed_on: 0,
-    },
-    Case {
-        buffer: BUFFER,
-        tells: &[SET_UP, PLAYED, Film(0, 106), Slot(3), Tell::End],
-        end: WatchEnd::Fault(WatchFault::EndedEarly(1)),
-        requests: 2,
-        handed_on: 34,
-    },
-    Case {
-        buffer: BUFFER,
-        tells: &[Text("RTSP/1.0 200 OK\r\nCSeq: 1\r\n\r\n")],
-        end: WatchEnd::Fault(WatchFault::BadReply(1)),
-        requests: 1,
-        handed_on: 0,
-    },
-    Case {
-        buffer: BUFFER,
-        tells: &[Text("RTSP/1.0 200 OK\r\nCSeq: 2\r\nSession: 1\r\n\r\n")],
-        end: WatchEnd::Fault(WatchFault::BadReply(1)),
-        requests: 1,
-        handed_on: 0,
-    },
-    // an id that no header field may have
-    Case {
-        buffer: BUFFER,
-        tells: &[Text("RTSP/1.0 200 OK\r\nCSeq: 1\r\nSession: a\x01b\r\n\r\n")],
-        end: WatchEnd::Fault(WatchFault::BadReply(1)),
-        requests: 1,
-        handed_on: 0,
-    },
-    Case {
-        buffer: BUFFER,
-        tells: &[Text("RTSP/2.0 200 OK\r\nCSeq: 1\r\nSession: 1\r\n\r\n")],
-        end: WatchEnd::Fault(WatchFault::BadReply(1)),
-        requests: 1,
-        handed_on: 0,
-    },
-    Case {
-        buffer: BUFFER,
-        tells: &[
-            SET_UP,
-            Text("RTSP/1.0 200 OK\r\nCSeq: 2\r\nRange: npt=0.000-00.080\r\nx-Start: 1\r\n\r\n"),
-        ],
-        end: WatchEnd::Fault(WatchFault::BadReply(2)),
-        requests: 2,
-        handed_on: 0,
-    },
-    Case {
-        buffer: BUFFER,
-        tells: &[
-            SET_UP,
-            Text("RTSP/1.0 200 OK\r\nCSeq: 2\r\nRange: npt=0.000-0.080\r\nx-Start: 0\r\n\r\n"),
-        ],
-        end: WatchEnd::Fault(WatchFault::BadReply(2)),
-        requests: 2,
-        handed_on: 0,
-    },
-    Case {
-        buffer: BUFFER,
-        tells: &[SET_UP, PLAYED, TORN_DOWN],
-        end: WatchEnd::Fault(WatchFault::BadReply(3)),
-        requests: 2,
-        handed_on: 0,
-    },
-    Case {
-        buffer: BUFFER,
-        tells: &[SET_UP, Film(52, 106)],
-        end: WatchEnd::Fault(WatchFault::BadFrame(0)),
-        requests: 2,
-        handed_on: 0,
-    },
-    Case {
-        buffer: BUFFER,
-        tells: &[SET_UP, PLAYED, Film(106, 141)],
-        end: WatchEnd::Fault(WatchFault::BadFrame(0)),
-        requests: 2,
-        handed_on: 0,
-    },
-    Case {
-        buffer: BUFFER,
-        tells: &[SET_UP, PLAYED, Raw(&[0x24, 0, 0, 1, 0x80])],
-        end: WatchEnd::Fault(WatchFault::BadFrame(0)),
-        requests: 2,
-        handed_on: 0,
-    },
-    Case {
-        buffer: BUFFER,
-        tells: &[SET_UP, PLAYED, Film(0, 106), GAP],
-        end: WatchEnd::Fault(WatchFault::BadFrame(1)),
-        requests: 2,
-        handed_on: 34,
-    },
-    Case {
-        buffer: BUFFER,
-        tells: &[SET_UP, PLAYED, Film(0, 106), STRANGER],
-        end: WatchEnd::Fault(WatchFault::BadFrame(1)),
-        requests: 2,
-        handed_on: 34,
-    },
-    Case {
-        buffer: BUFFER,
-        tells: &[SET_UP, PLAYED, Film(0, 141), Film(106, 141)],
-        end: WatchEnd::Fault(WatchFault::BadFrame(2)),
-        requests: 3,
-        handed_on: 49,
-    },
-    // films of no picture, and of one too many
-    Case {
-        buffer: BUFFER,
-        tells: &[
-            SET_UP,
-            Text("RTSP/1.0 200 OK\r\nCSeq: 2\r\nRange: npt=0.000-0.000\r\nx-Start: 1\r\n\r\n"),
-            Film(0, 106),
-        ],
-        end: WatchEnd::Fault(WatchFault::BadFrame(0)),
-        requests: 2,
-        handed_on: 0,
-    },
-    Case {
-        buffer: BUFFER,
-        tells: &[
-            SET_UP,
-            Text("RTSP/1.0 200 OK\r\nCSeq: 2\r\nRange: npt=0.000-167772.161\r\nx-Start: 1\r\n\r\n"),
-            Film(0, 106),
-        ],
-        end: WatchEnd::Fault(WatchFault::BadFrame(0)),
-        requests: 2,
-        handed_on: 0,
-    },
+        WatchFault::BadFrame(1),
+        2,
+        34,
+    ),
+    (
+        &[&[SET_UP, PLAYED, Film(0, 141), Film(106, 141)]],
+        WatchFault::BadFrame(2),
+        3,
+        49,
+    ),
+    (
+        &[&[SET_UP, PLAYED, Film(0, 106), Slot(3), Tell::End]],
+        WatchFault::EndedEarly(1),
+        2,
+        34,
+    ),
 ];
 
 /// The event that a link delivers. Where it brings bytes and `cut` is true, one event for each
@@ -401,7 +335,7 @@ fn watch_events(
     failing: Failing,
 ) -> Result<WatchOutcome, Fail> {
     let name = String::from_str(alloc, "b.mpg")?;
-    if !good_name(name.as_bytes()) || buffer < 1 || buffer > 1 << 42 {
+    if !good_name(name.as_bytes()) || buffer < 1 || buffer > MAX_BYTES {
         return Err(Fail::from("no such wish"));
     }
     let wish = Wish {
@@ -460,14 +394,44 @@ fn wanted_outcome(alloc: Global, case: &Case) -> Result<WatchOutcome, Fail> {
     })
 }
 
+/// What comes of a case, where each byte is an event of its own or not.
+fn outcome(alloc: Global, case: &Case, cut: bool) -> Result<WatchOutcome, Fail> {
+    let events = events_of(alloc, case.tells, cut)?;
+    watch_events(alloc, case.buffer, events, (&[], &[], &[]))
+}
+
 #[test]
 fn watches_films(rt: HostRuntime) -> Result<(), Fail> {
     let alloc = rt.alloc();
-    for (number, case) in CASES.iter().enumerate() {
+    for (number, case) in COMPLETE_CASES.iter().enumerate() {
         for cut in [false, true] {
-            let events = events_of(alloc, case.tells, cut)?;
-            let got = watch_events(alloc, case.buffer, events, (&[], &[], &[]))?;
+            let got = outcome(alloc, case, cut)?;
             assert_eq!(rt; got, wanted_outcome(alloc, case)?, "case {number} {cut}");
+        }
+    }
+    Ok(())
+}
+
+#[test]
+fn faults_end_the_watching(rt: HostRuntime) -> Result<(), Fail> {
+    let alloc = rt.alloc();
+    for (ways, fault, requests, handed_on) in FAULTS {
+        for (number, tells) in ways.iter().enumerate() {
+            let case = Case {
+                buffer: BUFFER,
+                tells: *tells,
+                end: WatchEnd::Fault(*fault),
+                requests: *requests,
+                handed_on: *handed_on,
+            };
+            for cut in [false, true] {
+                let got = outcome(alloc, &case, cut)?;
+                assert_eq!(rt;
+                    got,
+                    wanted_outcome(alloc, &case)?,
+                    "{fault:?} {number} {cut}"
+                );
+            }
         }
     }
     Ok(())
@@ -486,11 +450,10 @@ fn blames_the_outside(rt: HostRuntime) -> Result<(), Fail> {
     ];
     for (failing, end, requests, handed_on) in cases {
         let case = Case {
-            buffer: BUFFER,
-            tells: BY_PLAN,
             end,
             requests,
             handed_on,
+            ..COMPLETE
         };
         let events = events_of(alloc, case.tells, false)?;
         let got = watch_events(alloc, case.buffer, events, failing)?;

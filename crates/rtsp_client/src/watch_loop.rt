@@ -64,7 +64,7 @@ fn hear_all<K: Link, O: Sink>(
         (O.faults out.new) }
 {
     let mut bytes = [0; MAX_READ_BYTES];
-    // The limit on events keeps all sums below 2^62: each brings at most 16,384 bytes.
+    // The limit on events bounds the bytes that are received (`MAX_INPUT_BYTES`).
     'events: for _event in 0..MAX_EVENTS {
         let Ok(heard) = link.next(&mut bytes) else {
             return WatchEnd::LinkFault;

@@ -58,47 +58,69 @@ record AreClockDigits (h m s : List ℕ) (a b c : ℕ) : Type 0 where
   small_minutes : b ≤ 59
   small_seconds : c ≤ 59
 
+-- a clock's text up to its second colon, and what stands after each of the two
+clock_split : (h m s : List ℕ) → (h ++ 58 ∷ []) ++ (m ++ 58 ∷ s) ≡ clock_text h m s
+unfolding clock_text
+clock_split h m s = append_assoc h (58 ∷ []) (m ++ 58 ∷ s)
+
+clock_joined : (h m s : List ℕ) → ((h ++ 58 ∷ []) ++ (m ++ 58 ∷ [])) ++ s ≡ clock_text h m s
+clock_joined h m s =
+    append_assoc (h ++ 58 ∷ []) (m ++ 58 ∷ []) s ∙ ap (λ l. (h ++ 58 ∷ []) ++ l) (append_assoc m (58 ∷ []) s)
+    ∙ clock_split h m s
+
+hours_size : (h : List ℕ) → length (h ++ 58 ∷ []) ≡ length h + 1
+hours_size h = length-append h (58 ∷ [])
+
+minutes_size : (h m : List ℕ) → length ((h ++ 58 ∷ []) ++ (m ++ 58 ∷ [])) ≡ length h + 1 + length m + 1
+minutes_size h m =
+    length-append (h ++ 58 ∷ []) (m ++ 58 ∷ []) ∙ omega (arith, hours_size h, length-append m (58 ∷ []))
+
+clock_size : (h m s : List ℕ) → length (clock_text h m s) ≡ length h + 1 + length m + 1 + length s
+clock_size h m s =
+    ap length (sym (clock_joined h m s)) ∙ length-append ((h ++ 58 ∷ []) ++ (m ++ 58 ∷ [])) s
+    ∙ omega (arith, minutes_size h m)
+
+minutes_in : (h m s : List ℕ) → slice_range (clock_text h m s) (length h + 1) (length h + 1 + length m) ≡ m
+minutes_in h m s =
+    let middle : drop (length h + 1) (clock_text h m s) ≡ m ++ 58 ∷ s =
+    ap (drop (length h + 1)) (sym (clock_split h m s))
+    ∙ drop_at (h ++ 58 ∷ []) (m ++ 58 ∷ s) (length h + 1) (hours_size h) in
+    ap (λ (l : List ℕ). take (length h + 1 + length m - (length h + 1)) l) middle
+    ∙ take_at m (58 ∷ s) (length h + 1 + length m - (length h + 1)) (omega arith)
+
+seconds_in : (h m s : List ℕ)
+    → slice_range (clock_text h m s) (length h + 1 + length m + 1) (length (clock_text h m s)) ≡ s
+seconds_in h m s =
+    let text = clock_text h m s in
+    let last : drop (length h + 1 + length m + 1) text ≡ s =
+    ap (drop (length h + 1 + length m + 1)) (sym (clock_joined h m s))
+    ∙ drop_at ((h ++ 58 ∷ []) ++ (m ++ 58 ∷ [])) s (length h + 1 + length m + 1) (minutes_size h m) in
+    ap (λ (l : List ℕ). take (length text - (length h + 1 + length m + 1)) l) last
+    ∙ take_all (length text - (length h + 1 + length m + 1)) s (omega (arith, clock_size h m s))
+
 clock_of : {h m s : List ℕ} {a b c : ℕ} → AreClockDigits h m s a b c
     → IsClock (clock_text h m s) (a * 3600 + b * 60 + c)
 unfolding clock_text
 clock_of {h} {m} {s} {a} {b} {c} digits =
     let front = h ++ 58 ∷ [] in
     let text = clock_text h m s in
-    let front_long : length front ≡ length h + 1 = length-append h (58 ∷ []) in
-    let split : front ++ (m ++ 58 ∷ s) ≡ text = append_assoc h (58 ∷ []) (m ++ 58 ∷ s) in
-    let whole : (front ++ (m ++ 58 ∷ [])) ++ s ≡ text =
-    append_assoc front (m ++ 58 ∷ []) s ∙ ap (λ l. front ++ l) (append_assoc m (58 ∷ []) s) ∙ split in
-    let second_long : length (front ++ (m ++ 58 ∷ [])) ≡ length h + 1 + length m + 1 =
-    length-append front (m ++ 58 ∷ []) ∙ omega (arith, front_long, length-append m (58 ∷ [])) in
-    let long : length text ≡ length h + 1 + length m + 1 + length s =
-    ap length (sym whole) ∙ length-append (front ++ (m ++ 58 ∷ [])) s ∙ omega (arith, second_long) in
-    let middle : drop (length h + 1) text ≡ m ++ 58 ∷ s =
-    ap (drop (length h + 1)) (sym split) ∙ drop_at front (m ++ 58 ∷ s) (length h + 1) front_long in
-    let last : drop (length h + 1 + length m + 1) text ≡ s =
-    ap (drop (length h + 1 + length m + 1)) (sym whole)
-    ∙ drop_at (front ++ (m ++ 58 ∷ [])) s (length h + 1 + length m + 1) second_long in
-    let minutes_are : slice_range text (length h + 1) (length h + 1 + length m) ≡ m =
-    ap (λ (l : List ℕ). take (length h + 1 + length m - (length h + 1)) l) middle
-    ∙ take_at m (58 ∷ s) (length h + 1 + length m - (length h + 1)) (omega arith) in
-    let seconds_are : slice_range text (length h + 1 + length m + 1) (length text) ≡ s =
-    ap (λ (l : List ℕ). take (length text - (length h + 1 + length m + 1)) l) last
-    ∙ take_all (length text - (length h + 1 + length m + 1)) s (omega (arith, long)) in
     let E : List ℕ → ℕ → Type 0 = λ t n. IsPartEnd 58 t n (n + length m) in
     record {
       first = length h;
       second = length h + 1 + length m;
       hours_end = subst (λ (n : ℕ). IsPartEnd 58 text 0 n) (let e : 0 + length h ≡ length h = omega arith in e)
           (digits_end [] h (m ++ 58 ∷ s) (digits_of 5 h a digits.hours));
-      minutes_end = subst (λ (n : ℕ). E text n) front_long
-          (subst (λ (t : List ℕ). E t (length front)) split (digits_end front m s (digits_of 2 m b digits.minutes)));
-      inside = omega (arith, long);
+      minutes_end = subst (λ (n : ℕ). E text n) (hours_size h)
+          (subst (λ (t : List ℕ). E t (length front)) (clock_split h m s)
+          (digits_end front m s (digits_of 2 m b digits.minutes)));
+      inside = omega (arith, clock_size h m s);
       hours = a;
       minutes = b;
       rest = c;
       are_hours =
           subst (λ (t : List ℕ). IsDigits 5 t a) (sym (take_at h (58 ∷ (m ++ 58 ∷ s)) (length h) refl)) digits.hours;
-      are_minutes = subst (λ (t : List ℕ). IsDigits 2 t b) (sym minutes_are) digits.minutes;
-      are_seconds = subst (λ (t : List ℕ). IsDigits 2 t c) (sym seconds_are) digits.seconds;
+      are_minutes = subst (λ (t : List ℕ). IsDigits 2 t b) (sym (minutes_in h m s)) digits.minutes;
+      are_seconds = subst (λ (t : List ℕ). IsDigits 2 t c) (sym (seconds_in h m s)) digits.seconds;
       small_minutes = digits.small_minutes;
       small_seconds = digits.small_seconds;
       seconds_are = refl;

@@ -105,6 +105,22 @@ end_first c a rest end none is =
       | inr least ↦ omega (arith, least, most)
     ]
 
+-- where a part of the rest begins
+later_start : (c : ℕ) (a rest : List ℕ) (k : ℕ) → length a + 1 + (k - (length a + 1)) ≡ k
+    → get_or (text_of c a rest) (k - 1) 0 ≡ c → IsStart c rest (k - (length a + 1))
+later_start c a rest k from is =
+    elim (cases_lt 0 (k - (length a + 1))) [
+      | inl some ↦ (
+          let at : length a + 1 + (k - (length a + 1) - 1) ≡ k - 1 = omega (arith, some) in
+          inr (
+            some,
+            sym (later_of c a rest (k - (length a + 1) - 1))
+                ∙ ap (λ n. get_or (text_of c a rest) n 0) at ∙ is,
+          )
+          )
+      | inr none ↦ inl (omega (arith, none))
+    ]
+
 part_cases : {c : ℕ} {a rest : List ℕ} {k end : ℕ} → HasNone c a 0 (length a) → IsPart c (text_of c a rest) k end →
     ((k ≡ 0) × (end ≡ length a)) ⊎ Later c a rest k end
 part_cases {c} {a} {rest} {k} {end} none p = go p.start
@@ -124,7 +140,7 @@ part_cases {c} {a} {rest} {k} {end} none p = go p.start
                 from_is = sym from;
                 to_is = sym to;
                 part = record {
-                  start = start from e.1;
+                  start = later_start c a rest k from e.1;
                   end = record {
                     after = omega (arith, p.end.after);
                     within = omega (arith, p.end.within, long_of c a rest);
@@ -138,21 +154,6 @@ part_cases {c} {a} {rest} {k} {end} none p = go p.start
               })
               )
         ]
-      where
-        start : length a + 1 + (k - (length a + 1)) ≡ k → get_or (text_of c a rest) (k - 1) 0 ≡ c
-            → IsStart c rest (k - (length a + 1))
-        start from is =
-            elim (cases_lt 0 (k - (length a + 1))) [
-              | inl some ↦ (
-                  let at : length a + 1 + (k - (length a + 1) - 1) ≡ k - 1 = omega (arith, some) in
-                  inr (
-                    some,
-                    sym (later_of c a rest (k - (length a + 1) - 1))
-                        ∙ ap (λ n. get_or (text_of c a rest) n 0) at ∙ is,
-                  )
-                  )
-              | inr none ↦ inl (omega (arith, none))
-            ]
 
 pub slice_first : (c : ℕ) (a rest : List ℕ) → slice_range (text_of c a rest) 0 (length a) ≡ a
 unfolding text_of

@@ -1,5 +1,5 @@
 -- The length of the body that the fields of a head give, where the head is spelled line by line.
-use Rattle.std.proofs.Common.{◌≡◌, ℕ, ◌+◌, ◌-◌, ◌<◌, ◌==◌, true, not, List, [], ◌∷◌, ◌++◌, All, codes, map, length}
+use Rattle.std.proofs.Common.{◌≡◌, ℕ, ◌+◌, ◌-◌, ◌<◌, ◌==◌, true, false, not, List, [], ◌∷◌, ◌++◌, All, codes, map, length}
 use Rattle.std.proofs.Common.{get_or, take, drop, Option, Some, None, refl, sym, ap, subst, ◌∙◌, arith, inl, inr}
 use Rattle.std.proofs.Common.{slice_range}
 use Rattle.std.specs.List.{list_all}
@@ -137,11 +137,92 @@ abbrev pub length_given : Option (List ℕ) → ℕ
 length_given None = 0
 length_given (Some value) = written_length value
 
+-- the text of these fields and of the empty line after them
+abbrev fields_text : List Field → List ℕ
+fields_text fields = flat (map text_of fields) ++ codes "\r\n"
+
+-- a field's line and the text of the fields after it, whose first two lines these lemmas join
+line_joined : (f : Field) (fs : List Field) → (text_of f ++ codes "\r\n") ++ fields_text fs ≡ fields_text (f ∷ fs)
+line_joined f fs = sym (append_assoc (text_of f ++ codes "\r\n") (flat (map text_of fs)) (codes "\r\n"))
+
+line_shape : (a : List ℕ) (f : Field) (fs : List Field)
+    → a ++ (text_of f ++ 13 ∷ 10 ∷ fields_text fs) ≡ a ++ fields_text (f ∷ fs)
+line_shape a f fs =
+    ap (λ l. a ++ l) (sym (append_assoc (text_of f) (codes "\r\n") (fields_text fs)) ∙ line_joined f fs)
+
+line_spelled : (a : List ℕ) (f : Field) (fs : List Field)
+    → line_bytes a f.name f.value (fields_text fs) ≡ a ++ fields_text (f ∷ fs)
+line_spelled a f fs =
+    ap (λ l. a ++ l)
+    (sym (append_assoc f.name (codes ": ") (f.value ++ 13 ∷ 10 ∷ fields_text fs))
+    ∙ sym (append_assoc (f.name ++ codes ": ") f.value (13 ∷ 10 ∷ fields_text fs))) ∙ line_shape a f fs
+
+line_moved : (a : List ℕ) (f : Field) (fs : List Field)
+    → (a ++ (text_of f ++ codes "\r\n")) ++ fields_text fs ≡ a ++ fields_text (f ∷ fs)
+line_moved a f fs =
+    append_assoc a (text_of f ++ codes "\r\n") (fields_text fs) ∙ ap (λ l. a ++ l) (line_joined f fs)
+
+line_size : (a : List ℕ) (f : Field) → length (a ++ (text_of f ++ codes "\r\n")) ≡ length a + length (text_of f) + 2
+line_size a f =
+    length-append a (text_of f ++ codes "\r\n") ∙ omega (arith, length-append (text_of f) (codes "\r\n"))
+
+feed_last : (b next : List ℕ) → b ++ codes "\r\n" ≡ next → get_or next (length next - 1) 0 ≡ 10
+feed_last b next e =
+    let size : length next ≡ length b + 2 = ap length (sym e) ∙ length-append b (codes "\r\n") in
+    ap (λ (l : List ℕ). get_or l (length next - 1) 0) (sym e)
+    ∙ get_or-append_right b (codes "\r\n") (length b) (length next - 1) 0 refl (omega (arith, size))
+    ∙ ap (λ k. get_or (codes "\r\n") k 0) (let k : length next - 1 - length b ≡ 1 = omega (arith, size) in k)
+
+-- after these bytes, whose last is a line's end, come a field and others; no line before gives a length
+record IsAtField (a : List ℕ) (f : Field) (fs : List Field) : Type 0 where
+  plain : IsPlain f
+  ended : EndsWithFeed a
+  none : (k : ℕ) → k < length a → ¬ IsLengthLine (a ++ fields_text (f ∷ fs)) k
+
+-- this field gives the length
+given_here : (a : List ℕ) (f : Field) (fs : List Field) → IsAtField a f fs →
+    str_eq_ignore_ascii_case f.name (codes "Content-Length") ≡ true →
+    IsLengthGiven (a ++ fields_text (f ∷ fs)) (written_length f.value)
+given_here a f fs at same =
+    let spelled = line_spelled a f fs in
+    let lower =
+    same_text (map to_ascii_lowercase f.name) (map to_ascii_lowercase (codes "Content-Length")) (sym same) in
+    let size : length f.name ≡ 14 = sym (length-map f.name to_ascii_lowercase) ∙ ap length lower in
+    record {
+      at = length a;
+      is_line = subst (λ (v : List ℕ). IsLengthLine v (length a)) spelled
+          (named_line a f.name f.value (fields_text fs) at.ended lower);
+      first = at.none;
+      value = inl (subst (λ (v : List ℕ). IsValueAt v (length a + 15) (written_length f.value)) spelled
+          (value_at a f.name (fields_text fs) size at.plain.one_line at.plain.bare));
+    }
+
+-- a field of another name gives none, so none stands before the next field
+none_before_next : (a : List ℕ) (f : Field) (fs : List Field) → IsAtField a f fs →
+    str_eq_ignore_ascii_case f.name (codes "Content-Length") ≡ false → (k : ℕ) →
+    k < length (a ++ (text_of f ++ codes "\r\n")) →
+    ¬ IsLengthLine ((a ++ (text_of f ++ codes "\r\n")) ++ fields_text fs) k
+none_before_next a f fs at other k below line =
+    let line_w = subst (λ (v : List ℕ). IsLengthLine v k) (line_moved a f fs) line in
+    elim (cases_lt k (length a)) [
+      | inl before ↦ at.none k before line_w
+      | inr from ↦ elim (cases_eq k (length a)) [
+        | inl here ↦
+            other_text (map to_ascii_lowercase f.name) (map to_ascii_lowercase (codes "Content-Length"))
+            (sym other)
+            (other_line a f.name f.value (fields_text fs) (token_without 58 refl f.name at.plain.name_is)
+            (subst (λ n. IsLengthLine (line_bytes a f.name f.value (fields_text fs)) n) here
+            (subst (λ (v : List ℕ). IsLengthLine v k) (sym (line_spelled a f fs)) line_w)))
+        | inr past ↦ inner_line a (text_of f) (fields_text fs) (text_line f at.plain).one_line
+            (record { after = omega (arith, from, past); below = omega (arith, below, line_size a f) })
+            (subst (λ (v : List ℕ). IsLengthLine v k) (sym (line_shape a f fs)) line_w)
+      ]
+    ]
+
 -- the lines from here on give this length, where no line before gives one
 scan : (a : List ℕ) (fields : List Field) → All IsPlain fields → EndsWithFeed a →
-    ((k : ℕ) → k < length a → ¬ IsLengthLine (a ++ (flat (map text_of fields) ++ codes "\r\n")) k) →
-    IsBodyLength (a ++ (flat (map text_of fields) ++ codes "\r\n"))
-    (length_given (value_named (codes "Content-Length") fields))
+    ((k : ℕ) → k < length a → ¬ IsLengthLine (a ++ fields_text fields) k) →
+    IsBodyLength (a ++ fields_text fields) (length_given (value_named (codes "Content-Length") fields))
 unfolding value_named
 scan a [] all ended none =
     inr (
@@ -150,73 +231,23 @@ scan a [] all ended none =
       refl,
     )
 scan a (f ∷ fs) all ended none =
-    let plain = All-head IsPlain f fs all in
-    let rest = flat (map text_of fs) ++ codes "\r\n" in
-    let w = a ++ (flat (map text_of (f ∷ fs)) ++ codes "\r\n") in
-    let folded : (text_of f ++ codes "\r\n") ++ rest ≡ flat (map text_of (f ∷ fs)) ++ codes "\r\n" =
-    sym (append_assoc (text_of f ++ codes "\r\n") (flat (map text_of fs)) (codes "\r\n")) in
-    let shape : a ++ (text_of f ++ 13 ∷ 10 ∷ rest) ≡ w =
-    ap (λ l. a ++ l) (sym (append_assoc (text_of f) (codes "\r\n") rest) ∙ folded) in
-    let spelled : line_bytes a f.name f.value rest ≡ w =
-    ap (λ l. a ++ l)
-    (sym (append_assoc f.name (codes ": ") (f.value ++ 13 ∷ 10 ∷ rest))
-    ∙ sym (append_assoc (f.name ++ codes ": ") f.value (13 ∷ 10 ∷ rest))) ∙ shape in
-    let given : Option (List ℕ) → Type 0 = λ o. IsBodyLength w (length_given o) in
-    elim (cases_Bool (str_eq_ignore_ascii_case f.name (codes "Content-Length"))) [
-      | inl same ↦ (
-          let lower =
-          same_text (map to_ascii_lowercase f.name) (map to_ascii_lowercase (codes "Content-Length")) (sym same) in
-          let size : length f.name ≡ 14 = sym (length-map f.name to_ascii_lowercase) ∙ ap length lower in
-          let here : IsLengthGiven w (written_length f.value) = record {
-            at = length a;
-            is_line = subst (λ (v : List ℕ). IsLengthLine v (length a)) spelled
-                (named_line a f.name f.value rest ended lower);
-            first = none;
-            value = inl (subst (λ (v : List ℕ). IsValueAt v (length a + 15) (written_length f.value)) spelled
-                (value_at a f.name rest size plain.one_line plain.bare));
-          } in
-          subst given (sym
-          (cond-true (str_eq_ignore_ascii_case f.name (codes "Content-Length")) (Some f.value)
-          (value_named (codes "Content-Length") fs) same)) (inl here)
-          )
+    let at : IsAtField a f fs = record { plain = All-head IsPlain f fs all; ended = ended; none = none } in
+    let named = str_eq_ignore_ascii_case f.name (codes "Content-Length") in
+    let later = value_named (codes "Content-Length") fs in
+    let given : Option (List ℕ) → Type 0 = λ o. IsBodyLength (a ++ fields_text (f ∷ fs)) (length_given o) in
+    elim (cases_Bool named) [
+      | inl same ↦ subst given (sym (cond-true named (Some f.value) later same)) (inl (given_here a f fs at same))
       | inr other ↦ (
           let next = a ++ (text_of f ++ codes "\r\n") in
-          let moved : next ++ rest ≡ w = append_assoc a (text_of f ++ codes "\r\n") rest ∙ ap (λ l. a ++ l) folded in
-          let size : length next ≡ length a + length (text_of f) + 2 =
-          length-append a (text_of f ++ codes "\r\n") ∙ omega (arith, length-append (text_of f) (codes "\r\n")) in
           let last : get_or next (length next - 1) 0 ≡ 10 =
           feed_last (a ++ text_of f) next (append_assoc a (text_of f) (codes "\r\n")) in
-          let none_next : (k : ℕ) → k < length next → ¬ IsLengthLine (next ++ rest) k = λ k below line.
-          let line_w = subst (λ (v : List ℕ). IsLengthLine v k) moved line in
-          elim (cases_lt k (length a)) [
-            | inl before ↦ none k before line_w
-            | inr from ↦ elim (cases_eq k (length a)) [
-              | inl here ↦
-                  other_text (map to_ascii_lowercase f.name) (map to_ascii_lowercase (codes "Content-Length"))
-                  (sym other)
-                  (other_line a f.name f.value rest (token_without 58 refl f.name plain.name_is)
-                  (subst (λ n. IsLengthLine (line_bytes a f.name f.value rest) n) here
-                  (subst (λ (v : List ℕ). IsLengthLine v k) (sym spelled) line_w)))
-              | inr past ↦ inner_line a (text_of f) rest (text_line f plain).one_line
-                  (record { after = omega (arith, from, past); below = omega (arith, below, size) })
-                  (subst (λ (v : List ℕ). IsLengthLine v k) (sym shape) line_w)
-            ]
-          ] in
           let there =
-          scan next fs (All-tail IsPlain f fs all) (record { some = omega (arith, size); feed = last }) none_next in
-          subst given (sym
-          (cond-false (str_eq_ignore_ascii_case f.name (codes "Content-Length")) (Some f.value)
-          (value_named (codes "Content-Length") fs) other))
-          (subst (λ (v : List ℕ). IsBodyLength v (length_given (value_named (codes "Content-Length") fs))) moved there)
+          scan next fs (All-tail IsPlain f fs all) (record { some = omega (arith, line_size a f); feed = last })
+          (none_before_next a f fs at other) in
+          subst given (sym (cond-false named (Some f.value) later other))
+          (subst (λ (v : List ℕ). IsBodyLength v (length_given later)) (line_moved a f fs) there)
           )
     ]
-  where
-    feed_last : (b next : List ℕ) → b ++ codes "\r\n" ≡ next → get_or next (length next - 1) 0 ≡ 10
-    feed_last b next e =
-        let size : length next ≡ length b + 2 = ap length (sym e) ∙ length-append b (codes "\r\n") in
-        ap (λ (l : List ℕ). get_or l (length next - 1) 0) (sym e)
-        ∙ get_or-append_right b (codes "\r\n") (length b) (length next - 1) 0 refl (omega (arith, size))
-        ∙ ap (λ k. get_or (codes "\r\n") k 0) (let k : length next - 1 - length b ≡ 1 = omega (arith, size) in k)
 
 -- the head whose first line is this text and whose fields are these gives this length
 pub body_length_of : (s : List ℕ) (fields : List Field) → IsLineText s → All IsPlain fields →

@@ -12,6 +12,45 @@ use Rattle.rtsp_text.specs.TerminatedLines.{EndedLine, line_bytes, head_bytes, I
 use Rattle.rtsp_text.proofs.HeadEnds.{no_head_first, no_head_more, head_here}
 use Rattle.rtsp_text.proofs.LineTexts.{line_here, other_byte}
 
+and_right_false : (p q : Bool) → q ≡ false → (p && q) ≡ false
+and_right_false true q h = h
+and_right_false false q h = refl
+
+and_left_false : (p q : Bool) → p ≡ false → (p && q) ≡ false
+and_left_false p q h = rw h refl
+
+empty_line : (m n : ℕ) → n ≤ 0 → nat_lt (m + 1) (m + n + 1) ≡ false
+empty_line m n none = grind (arith, nat_tests)
+
+-- the bytes of a text that stands after `a`
+text_byte : (a t rest : List ℕ) (k : ℕ) → length a ≤ k → k < length a + length t
+    → get_or (a ++ (t ++ 10 ∷ rest)) k 0 ≡ get_or t (k - length a) 0
+text_byte a t rest k from below =
+    get_or-append_right a (t ++ 10 ∷ rest) (length a) k 0 refl from
+    ∙ get_or_append_left t (10 ∷ rest) 0 (k - length a) (omega (arith, from, below))
+
+-- no CR is before the LF of a line that ends with LF alone
+no_cr : (a t rest : List ℕ) → (0 < length t → get_or t (length t - 1) 0 ≢ 13)
+    → (nat_lt (length a + 1) (length a + length t + 1)
+    && (get_or (a ++ (t ++ 10 ∷ rest)) (length a + length t + 1 - 2) 0 == 13)) ≡ false
+no_cr a t rest bare =
+    elim (cases_lt 0 (length t)) [
+      | inl some ↦ (
+          let same : get_or (a ++ (t ++ 10 ∷ rest)) (length a + length t + 1 - 2) 0 ≡ get_or t (length t - 1) 0 =
+          text_byte a t rest (length a + length t + 1 - 2) (omega (arith, some)) (omega (arith, some))
+          ∙ ap (λ n. get_or t n 0) (let n : length a + length t + 1 - 2 - length a ≡ length t - 1 =
+          omega (arith, some) in n) in
+          and_right_false (nat_lt (length a + 1) (length a + length t + 1))
+          (get_or (a ++ (t ++ 10 ∷ rest)) (length a + length t + 1 - 2) 0 == 13)
+          (ne_eqb (get_or (a ++ (t ++ 10 ∷ rest)) (length a + length t + 1 - 2) 0) 13
+          (λ e. bare some (sym same ∙ e)))
+          )
+      | inr none ↦
+          and_left_false (nat_lt (length a + 1) (length a + length t + 1))
+          (get_or (a ++ (t ++ 10 ∷ rest)) (length a + length t + 1 - 2) 0 == 13)
+          (empty_line (length a) (length t) (omega (arith, none)))
+    ]
+
 -- the line that ends with LF alone and stands after these bytes
 line_here_lf : (a t rest : List ℕ) → is_one_line t ≡ true → (0 < length t → get_or t (length t - 1) 0 ≢ 13)
     → IsLine (a ++ (t ++ 10 ∷ rest)) (length a) (length a + length t) (length a + length t + 1)
@@ -19,9 +58,6 @@ line_here_lf a t rest one bare =
     let w = a ++ (t ++ 10 ∷ rest) in
     let size : length w ≡ length a + (length t + (length rest + 1)) =
     length-append a (t ++ 10 ∷ rest) ∙ omega (arith, length-append t (10 ∷ rest)) in
-    let here : (k : ℕ) → length a ≤ k → k < length a + length t → get_or w k 0 ≡ get_or t (k - length a) 0 =
-    λ k from below. get_or-append_right a (t ++ 10 ∷ rest) (length a) k 0 refl from
-    ∙ get_or_append_left t (10 ∷ rest) 0 (k - length a) (omega (arith, from, below)) in
     record {
       after = omega arith;
       within = omega (arith, size);
@@ -30,45 +66,13 @@ line_here_lf a t rest one bare =
           ∙ ap (λ n. get_or (10 ∷ rest) n 0)
           (let n : length a + length t + 1 - 1 - length a - length t ≡ 0 = omega arith in n);
       first = λ k from below feed. other_byte t (k - length a) one (omega (arith, from, below))
-          (sym (here k from (omega (arith, below))) ∙ feed);
+          (sym (text_byte a t rest k from (omega (arith, below))) ∙ feed);
       text = (let e : length a + length t ≡ length a + length t + 1 - 1 = omega arith in e)
           ∙ sym (cond-false
           (nat_lt (length a + 1) (length a + length t + 1)
           && (get_or w (length a + length t + 1 - 2) 0 == 13)) (length a + length t + 1 - 2)
-          (length a + length t + 1 - 1) (no_cr here));
+          (length a + length t + 1 - 1) (no_cr a t rest bare));
     }
-  where
-    no_cr : ((k : ℕ) → length a ≤ k → k < length a + length t
-        → get_or (a ++ (t ++ 10 ∷ rest)) k 0 ≡ get_or t (k - length a) 0) →
-        (nat_lt (length a + 1) (length a + length t + 1)
-        && (get_or (a ++ (t ++ 10 ∷ rest)) (length a + length t + 1 - 2) 0 == 13)) ≡ false
-    no_cr here =
-        elim (cases_lt 0 (length t)) [
-          | inl some ↦ (
-              let same : get_or (a ++ (t ++ 10 ∷ rest)) (length a + length t + 1 - 2) 0 ≡ get_or t (length t - 1) 0 =
-              here (length a + length t + 1 - 2) (omega (arith, some)) (omega (arith, some))
-              ∙ ap (λ n. get_or t n 0) (let n : length a + length t + 1 - 2 - length a ≡ length t - 1 =
-              omega (arith, some) in n) in
-              right (nat_lt (length a + 1) (length a + length t + 1))
-              (get_or (a ++ (t ++ 10 ∷ rest)) (length a + length t + 1 - 2) 0 == 13)
-              (ne_eqb (get_or (a ++ (t ++ 10 ∷ rest)) (length a + length t + 1 - 2) 0) 13
-              (λ e. bare some (sym same ∙ e)))
-              )
-          | inr none ↦
-              left (nat_lt (length a + 1) (length a + length t + 1))
-              (get_or (a ++ (t ++ 10 ∷ rest)) (length a + length t + 1 - 2) 0 == 13)
-              (short (length a) (length t) (omega (arith, none)))
-        ]
-      where
-        right : (p q : Bool) → q ≡ false → (p && q) ≡ false
-        right true q h = h
-        right false q h = refl
-
-        left : (p q : Bool) → p ≡ false → (p && q) ≡ false
-        left p q h = rw h refl
-
-        short : (m n : ℕ) → n ≤ 0 → nat_lt (m + 1) (m + n + 1) ≡ false
-        short m n none = grind (arith, nat_tests)
 
 -- the line that stands after these bytes, however it ends
 crlf_here : (a t rest : List ℕ) → is_one_line t ≡ true

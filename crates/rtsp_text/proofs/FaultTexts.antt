@@ -108,61 +108,73 @@ first_unnamed texts number f = record {
   unnamed = λ named. f.bad (named_line (slice_index_or texts f.index []) named);
 }
 
+-- the lines that a message's head is read as
+record ReadsAs (message first : List ℕ) (texts : List (List ℕ)) : Type 0 where
+  line_is : first_line message ≡ first
+  texts_are : header_lines message ≡ texts
+
+line_read : {message first : List ℕ} {texts : List (List ℕ)} (version : List ℕ) → ReadsAs message first texts
+    → HasVersion message version → IsLineOf version first
+line_read {first} version reads has =
+    line_of first has.0 has.1.0 version
+    (subst (λ (t : List ℕ). IsRequestLine t has.0 has.1.0 version) reads.line_is has.1.1)
+
+all_named : {message first : List ℕ} {texts : List (List ℕ)} → ReadsAs message first texts
+    → All IsHeaderLine (header_lines message) → All IsNamedText texts
+all_named {texts} reads all = named_texts texts (subst (All IsHeaderLine) reads.texts_are all)
+
+value_read : {message first : List ℕ} {texts : List (List ℕ)} (name : List ℕ) → ReadsAs message first texts
+    → header_value message name ≡ first_value name texts
+value_read name reads = ap (first_value name) reads.texts_are
+
+-- what a Content-Length that isn't all digits says of the lines
+wrong_length : {message first : List ℕ} {texts : List (List ℕ)} → ReadsAs message first texts
+    → IsFault message BadLength → IsWrong first texts BadLength
+wrong_length {texts} reads has = (
+  record { line = line_read (codes "RTSP/1.0") reads has.0; named = all_named reads has.1 },
+  (
+    (
+      has.2.0,
+      writes (codes "CSeq") texts has.2.0
+          (ap (option_and_then number_of) (sym (value_read (codes "CSeq") reads)) ∙ has.2.1),
+    ),
+    no_digits (codes "Content-Length") texts (first_value (codes "Content-Length") texts) refl
+        (λ good. has.3
+        (subst (λ (o : Option (List ℕ)). IfSome o (λ value. is_decimal value ≡ true))
+        (sym (value_read (codes "Content-Length") reads)) good)),
+  ),
+)
+
 -- what a fault says of the lines
-wrong : {first : List ℕ} {texts : List (List ℕ)} (message : List ℕ) (fault : RequestFault)
-    → first_line message ≡ first →
-    header_lines message ≡ texts → IsFault message fault → IsWrong first texts fault
-wrong {first} {texts} message fault line_is texts_are is = go fault is
-  where
-    line : (version : List ℕ) → HasVersion message version → IsLineOf version first
-    line version has =
-        line_of first has.0 has.1.0 version
-        (subst (λ (t : List ℕ). IsRequestLine t has.0 has.1.0 version) line_is has.1.1)
-
-    named : All IsHeaderLine (header_lines message) → All IsNamedText texts
-    named all = named_texts texts (subst (All IsHeaderLine) texts_are all)
-
-    value : (name : List ℕ) → header_value message name ≡ first_value name texts
-    value name = ap (first_value name) texts_are
-
-    go : (f : RequestFault) → IsFault message f → IsWrong first texts f
-    go BadLine none =
-        λ version l. none version (
-          l.method,
-          (
-            l.url,
-            subst (λ (t : List ℕ). IsRequestLine t l.method l.url version) (sym line_is)
-                (request_line_of first version l),
-          ),
-        )
-    go BadVersion has = (has.0, (line has.0 has.1.0, has.1.1))
-    go (BadHeader number) has =
-        (line (codes "RTSP/1.0") has.0, first_unnamed texts number (subst (λ ts. IsFirstBad ts number) texts_are has.1))
-    go NoSequenceNumber has = (
-      record { line = line (codes "RTSP/1.0") has.0; named = named has.1 },
-      λ number w. let bad : None ≡ Some number =
-          sym has.2 ∙ ap (option_and_then number_of) (value (codes "CSeq"))
-          ∙ written (codes "CSeq") texts number w in let no : ⊥ = cc in no,
-    )
-    go BadLength has = (
-      record { line = line (codes "RTSP/1.0") has.0; named = named has.1 },
+wrong : {message first : List ℕ} {texts : List (List ℕ)} (fault : RequestFault)
+    → ReadsAs message first texts → IsFault message fault → IsWrong first texts fault
+wrong {first} BadLine reads none =
+    λ version l. none version (
+      l.method,
       (
-        (
-          has.2.0,
-          writes (codes "CSeq") texts has.2.0
-              (ap (option_and_then number_of) (sym (value (codes "CSeq"))) ∙ has.2.1),
-        ),
-        no_digits (codes "Content-Length") texts (first_value (codes "Content-Length") texts) refl
-            (λ good. has.3
-            (subst (λ (o : Option (List ℕ)). IfSome o (λ value. is_decimal value ≡ true))
-            (sym (value (codes "Content-Length"))) good)),
+        l.url,
+        subst (λ (t : List ℕ). IsRequestLine t l.method l.url version) (sym reads.line_is)
+            (request_line_of first version l),
       ),
     )
+wrong BadVersion reads has = (has.0, (line_read has.0 reads has.1.0, has.1.1))
+wrong {texts} (BadHeader number) reads has = (
+  line_read (codes "RTSP/1.0") reads has.0,
+  first_unnamed texts number (subst (λ ts. IsFirstBad ts number) reads.texts_are has.1),
+)
+wrong {texts} NoSequenceNumber reads has = (
+  record { line = line_read (codes "RTSP/1.0") reads has.0; named = all_named reads has.1 },
+  λ number w. let bad : None ≡ Some number =
+      sym has.2 ∙ ap (option_and_then number_of) (value_read (codes "CSeq") reads)
+      ∙ written (codes "CSeq") texts number w in let no : ⊥ = cc in no,
+)
+wrong BadLength reads has = wrong_length reads has
 
 pub fault_wrong : (message first : List ℕ) (texts : List (List ℕ)) (fault : RequestFault)
     → HasLines message first texts → IsFault message fault → IsWrong first texts fault
 fault_wrong message first texts fault has is =
-    wrong message fault (first_is message first texts has) (headers_are message first texts has) is
+    wrong fault
+    (record { line_is = first_is message first texts has; texts_are = headers_are message first texts has }) is
 
 -- the sequence number of a request, and its length
 pub sequence_written : {message first : List ℕ} {texts : List (List ℕ)} {method url : List ℕ} {sequence : ℕ}

@@ -1,5 +1,5 @@
 -- Going through a text line by line, compared with the list of all its lines.
-use Rattle.std.proofs.Common.{◌≡◌, ◌≢◌, ℕ, ◌+◌, ◌-◌, ◌<◌, ◌&&◌, ◌==◌, ◌≤◌, false, nat_lt, List, [], ◌∷◌, ◌++◌}
+use Rattle.std.proofs.Common.{◌≡◌, ◌≢◌, ℕ, ◌+◌, ◌-◌, ◌<◌, ◌&&◌, ◌==◌, ◌≤◌, true, false, nat_lt, List, [], ◌∷◌, ◌++◌}
 use Rattle.std.proofs.Common.{All, length, get_or, take, drop, refl, sym, ap, subst, ◌∙◌, arith, inl, inr, ne_eqb}
 use Rattle.std.specs.List.{slice_split, prefix_len}
 use Rattle.std.specs.Str.Lines.{lines, lines_of_parts, strip_carriage_return}
@@ -26,48 +26,61 @@ lines-at front after none =
     ap lines_of_parts (slice_split_at (λ b. b == 10) front 10 after none refl)
     ∙ parts_more front (slice_split (λ b. b == 10) after) (omega (arith, length-slice_split (λ b. b == 10) after))
 
--- the text of a line's part before its LF
+-- the part of a line before its LF, and its last byte
+before_feed : (bytes : List ℕ) (e n : ℕ) → IsLine bytes 0 e n → length (take (n - 1) bytes) ≡ n - 1
+before_feed bytes e n line = length-take-le (n - 1) bytes (omega (arith, line.within))
+
+last_before_feed : (bytes : List ℕ) (e n : ℕ) → IsLine bytes 0 e n → 1 < n
+    → get_or (take (n - 1) bytes) (length (take (n - 1) bytes) - 1) 0 ≡ get_or bytes (n - 2) 0
+last_before_feed bytes e n line more =
+    ap (λ k. get_or (take (n - 1) bytes) (k - 1) 0) (before_feed bytes e n line)
+    ∙ get_or-take (n - 1) bytes (n - 1 - 1) 0 (omega (arith, more))
+    ∙ ap (λ k. get_or bytes k 0) (let e' : n - 1 - 1 ≡ n - 2 = omega arith in e')
+
+-- the text of a line's part before its LF, where a CR is before the LF, another byte, or none
+strip-cr : (bytes : List ℕ) (e n : ℕ) → IsLine bytes 0 e n → 1 < n → (get_or bytes (n - 2) 0 == 13) ≡ true
+    → strip_carriage_return (take (n - 1) bytes) ≡ take e bytes
+strip-cr bytes e n line more cr =
+    let text_end : e ≡ n - 2 =
+    line.text ∙ cond-true (nat_lt 1 n && (get_or bytes (n - 2) 0 == 13)) (n - 2) (n - 1)
+    (grind (arith, nat_tests)) in
+    cond-true (get_or (take (n - 1) bytes) (length (take (n - 1) bytes) - 1) 0 == 13)
+    (take (length (take (n - 1) bytes) - 1) (take (n - 1) bytes)) (take (n - 1) bytes)
+    (ap (λ b. b == 13) (last_before_feed bytes e n line more) ∙ cr)
+    ∙ ap (λ k. take (k - 1) (take (n - 1) bytes)) (before_feed bytes e n line)
+    ∙ take-take (n - 1 - 1) (n - 1) bytes (omega arith)
+    ∙ ap (λ k. take k bytes) (let k' : n - 1 - 1 ≡ e = omega (arith, text_end) in k')
+
+strip-other : (bytes : List ℕ) (e n : ℕ) → IsLine bytes 0 e n → 1 < n → (get_or bytes (n - 2) 0 == 13) ≡ false
+    → strip_carriage_return (take (n - 1) bytes) ≡ take e bytes
+strip-other bytes e n line more other =
+    let text_end : e ≡ n - 1 =
+    line.text ∙ cond-false (nat_lt 1 n && (get_or bytes (n - 2) 0 == 13)) (n - 2) (n - 1)
+    (grind (arith, nat_tests)) in
+    cond-false (get_or (take (n - 1) bytes) (length (take (n - 1) bytes) - 1) 0 == 13)
+    (take (length (take (n - 1) bytes) - 1) (take (n - 1) bytes)) (take (n - 1) bytes)
+    (ap (λ b. b == 13) (last_before_feed bytes e n line more) ∙ other)
+    ∙ ap (λ k. take k bytes) (sym text_end)
+
+strip-empty : (bytes : List ℕ) (e n : ℕ) → IsLine bytes 0 e n → n ≤ 1
+    → strip_carriage_return (take (n - 1) bytes) ≡ take e bytes
+strip-empty bytes e n line less =
+    let one : n - 1 ≡ 0 = omega (arith, less) in
+    let text_end : e ≡ 0 =
+    line.text ∙ cond-false (nat_lt 1 n && (get_or bytes (n - 2) 0 == 13)) (n - 2) (n - 1)
+    (grind (arith, nat_tests)) ∙ one in
+    let P : ℕ → Type 0 = λ k. strip_carriage_return (take k bytes) ≡ take e bytes in
+    let Q : ℕ → Type 0 = λ k. strip_carriage_return (take 0 bytes) ≡ take k bytes in
+    subst P (sym one) (subst Q (sym text_end) refl)
+
 strip-take : (bytes : List ℕ) (e n : ℕ) → IsLine bytes 0 e n → strip_carriage_return (take (n - 1) bytes) ≡ take e bytes
 strip-take bytes e n line =
-    let len : length (take (n - 1) bytes) ≡ n - 1 = length-take-le (n - 1) bytes (omega (arith, line.within)) in
     elim (cases_lt 1 n) [
-      | inl more ↦ (
-          let last : get_or (take (n - 1) bytes) (length (take (n - 1) bytes) - 1) 0 ≡ get_or bytes (n - 2) 0 =
-          ap (λ k. get_or (take (n - 1) bytes) (k - 1) 0) len
-          ∙ get_or-take (n - 1) bytes (n - 1 - 1) 0 (omega arith)
-          ∙ ap (λ k. get_or bytes k 0) (let e' : n - 1 - 1 ≡ n - 2 = omega arith in e') in
-          elim (cases_Bool (get_or bytes (n - 2) 0 == 13)) [
-            | inl cr ↦ (
-                let text_end : e ≡ n - 2 =
-                line.text ∙ cond-true (nat_lt 1 n && (get_or bytes (n - 2) 0 == 13)) (n - 2) (n - 1)
-                (grind (arith, nat_tests)) in
-                cond-true (get_or (take (n - 1) bytes) (length (take (n - 1) bytes) - 1) 0 == 13)
-                (take (length (take (n - 1) bytes) - 1) (take (n - 1) bytes)) (take (n - 1) bytes)
-                (ap (λ b. b == 13) last ∙ cr)
-                ∙ ap (λ k. take (k - 1) (take (n - 1) bytes)) len
-                ∙ take-take (n - 1 - 1) (n - 1) bytes (omega arith)
-                ∙ ap (λ k. take k bytes) (let k' : n - 1 - 1 ≡ e = omega (arith, text_end) in k')
-                )
-            | inr other ↦ (
-                let text_end : e ≡ n - 1 =
-                line.text ∙ cond-false (nat_lt 1 n && (get_or bytes (n - 2) 0 == 13)) (n - 2) (n - 1)
-                (grind (arith, nat_tests)) in
-                cond-false (get_or (take (n - 1) bytes) (length (take (n - 1) bytes) - 1) 0 == 13)
-                (take (length (take (n - 1) bytes) - 1) (take (n - 1) bytes)) (take (n - 1) bytes)
-                (ap (λ b. b == 13) last ∙ other)
-                ∙ ap (λ k. take k bytes) (sym text_end)
-                )
-          ]
-          )
-      | inr less ↦ (
-          let one : n - 1 ≡ 0 = omega (arith, less) in
-          let text_end : e ≡ 0 =
-          line.text ∙ cond-false (nat_lt 1 n && (get_or bytes (n - 2) 0 == 13)) (n - 2) (n - 1)
-          (grind (arith, nat_tests)) ∙ one in
-          let P : ℕ → Type 0 = λ k. strip_carriage_return (take k bytes) ≡ take e bytes in
-          let Q : ℕ → Type 0 = λ k. strip_carriage_return (take 0 bytes) ≡ take k bytes in
-          subst P (sym one) (subst Q (sym text_end) refl)
-          )
+      | inl more ↦ elim (cases_Bool (get_or bytes (n - 2) 0 == 13)) [
+        | inl cr ↦ strip-cr bytes e n line more cr
+        | inr other ↦ strip-other bytes e n line more other
+      ]
+      | inr less ↦ strip-empty bytes e n line less
     ]
 
 -- the first line ends here

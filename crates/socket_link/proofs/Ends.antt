@@ -54,10 +54,10 @@ closed units watch waiting old new was before shut now follows same written shut
 }
 
 -- what follows a first step
-pub outer_served : (units later : ℕ) (tells : Bool) (was mid now : List SocketCall) → later ≡ units →
+pub outer_served : {units later : ℕ} {tells : Bool} {was mid now : List SocketCall} → later ≡ units →
     (IsTrue tells → HasServed units was mid) → (IsTrue tells → HasServed later mid now) → IsTrue tells → HasServed units
     was now
-outer_served units later tells was mid now same first rest t =
+outer_served {units} {was} {mid} {now} same first rest t =
     let P : ℕ → Type 0 = λ u. HasServed u mid now in
     served_on units was mid now (first t) (subst P same (rest t))
 

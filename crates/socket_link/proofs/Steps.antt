@@ -282,11 +282,11 @@ round_first units tells faults calls = record {
   longer = λ t. omega arith;
 }
 
-pub round_on : (units : ℕ) (tells : Bool) (rounds old mid new : ℕ) (was then_ now : List SocketCall) → IsRound units
-    tells rounds old mid was then_ →
+pub round_on : {units : ℕ} {tells : Bool} {rounds old mid new : ℕ} {was then_ now : List SocketCall}
+    → IsRound units tells rounds old mid was then_ →
     mid ≤ new → (IsTrue tells → HasServed units then_ now) → (IsTrue tells → length then_ < length now) →
     IsRound units tells (rounds + 1) old new was now
-round_on units tells rounds old mid new was then_ now r count served longer = record {
+round_on {units} {rounds} {old} {mid} {new} {was} {then_} {now} r count served longer = record {
   count = let c : old ≤ mid = r.count in omega (arith, count);
   served = λ t. served_on units was then_ now (r.served t) (served t);
   longer = λ t. let a : rounds + length was ≤ length then_ = r.longer t in
@@ -294,11 +294,11 @@ round_on units tells rounds old mid new was then_ now r count served longer = re
 }
 
 -- a further step of the same round
-pub round_more : (units : ℕ) (tells : Bool) (rounds old mid new : ℕ) (was then_ now : List SocketCall) → IsRound units
-    tells rounds old mid was then_ →
+pub round_more : {units : ℕ} {tells : Bool} {rounds old mid new : ℕ} {was then_ now : List SocketCall}
+    → IsRound units tells rounds old mid was then_ →
     mid ≤ new → (IsTrue tells → HasServed units then_ now) →
     IsRound units tells rounds old new was now
-round_more units tells rounds old mid new was then_ now r count served = record {
+round_more {units} {rounds} {old} {mid} {new} {was} {then_} {now} r count served = record {
   count = let c : old ≤ mid = r.count in omega (arith, count);
   served = λ t. served_on units was then_ now (r.served t) (served t);
   longer = λ t. let a : rounds + length was ≤ length then_ = r.longer t in
@@ -306,16 +306,16 @@ round_more units tells rounds old mid new was then_ now r count served = record 
 }
 
 -- where the last round fails
-pub round_cause : (units : ℕ) (tells : Bool) (rounds old mid new : ℕ) (was then_ now : List SocketCall) → IsRound units
-    tells rounds old mid was then_ →
+pub round_cause : {units : ℕ} {tells : Bool} {rounds old mid : ℕ} {was then_ : List SocketCall} (new : ℕ)
+    (now : List SocketCall) → IsRound units tells rounds old mid was then_ →
     (IsTrue tells → IsCause mid new now) → IsTrue tells → IsCause old new now
-round_cause units tells rounds old mid new was then_ now r cause t = cause_before old mid new now r.count (cause t)
+round_cause {old} {mid} new now r cause t = cause_before old mid new now r.count (cause t)
 
 -- where the rounds are over
-pub round_end : (units : ℕ) (tells : Bool) (rounds old new : ℕ) (was now : List SocketCall) → IsRound units tells rounds
-    old new was now →
+pub round_end : {units : ℕ} {tells : Bool} {rounds old new : ℕ} {was now : List SocketCall}
+    → IsRound units tells rounds old new was now →
     2 ^ 64 - 1 ≤ rounds → IsTrue tells → IsCause old new now
-round_end units tells rounds old new was now r all t =
+round_end {rounds} {old} {new} {was} {now} r all t =
     let long : rounds + length was ≤ length now = r.longer t in cause_rounds old new rounds now all (omega arith)
 
 -- what follows from a clause on a result
@@ -336,17 +336,17 @@ on_err_map (Ok x) p f = tt
 on_err_map (Err e) p f = f p
 
 -- rounds, each with a call, and then a step with one
-pub round_longer : (units : ℕ) (tells : Bool) (rounds old new : ℕ) (was mid now : List SocketCall) → IsRound units tells
-    rounds old new was mid →
+pub round_longer : {units : ℕ} {tells : Bool} {rounds old new : ℕ} {was mid : List SocketCall} (now : List SocketCall)
+    → IsRound units tells rounds old new was mid →
     (IsTrue tells → length mid < length now) → IsTrue tells → length was < length now
-round_longer units tells rounds old new was mid now r longer t =
+round_longer {rounds} {was} {mid} now r longer t =
     let a : rounds + length was ≤ length mid = r.longer t in
     let b : length mid < length now = longer t in omega arith
 
-pub round_served : (units : ℕ) (tells : Bool) (rounds old new : ℕ) (was mid now : List SocketCall) → IsRound units tells
-    rounds old new was mid →
+pub round_served : {units : ℕ} {tells : Bool} {rounds old new : ℕ} {was mid now : List SocketCall}
+    → IsRound units tells rounds old new was mid →
     (IsTrue tells → HasServed units mid now) → IsTrue tells → HasServed units was now
-round_served units tells rounds old new was mid now r served t = served_on units was mid now (r.served t) (served t)
+round_served {units} {was} {mid} {now} r served t = served_on units was mid now (r.served t) (served t)
 
 -- a buffer that isn't empty
 pub some_left : (buffer waiting : List ℕ) (empty : Bool) → waiting ≡ buffer → empty ≡ (length waiting == 0) → empty ≡
@@ -387,9 +387,9 @@ pub last_looked : (units : ℕ) (last due : Option ℕ) (time : ℕ) (was now : 
 last_looked units last due time was now l = last_call was now (ReadClock Slot time) l.now_is
 
 -- the same round, where neither the count of faults nor the calls changed
-pub round_same : (units : ℕ) (tells : Bool) (rounds old mid new : ℕ) (was then_ now : List SocketCall) →
-    IsRound units tells rounds old mid was then_ → new ≡ mid → now ≡ then_ → IsRound units tells rounds old new was now
-round_same units tells rounds old mid new was then_ now r new_is now_is =
+pub round_same : {units : ℕ} {tells : Bool} {rounds old mid new : ℕ} {was then_ now : List SocketCall}
+    → IsRound units tells rounds old mid was then_ → new ≡ mid → now ≡ then_ → IsRound units tells rounds old new was now
+round_same {units} {tells} {rounds} {old} {new} {was} {then_} r new_is now_is =
     let P : ℕ → Type 0 = λ n. IsRound units tells rounds old n was then_ in
     let Q : List SocketCall → Type 0 = λ c. IsRound units tells rounds old new was c in
     subst Q (sym now_is) (subst P (sym new_is) r)

@@ -1,17 +1,17 @@
 -- The slot of a clock reading. A slot's length is given in 1/360,000 second, so that a slot of so
 -- many units lasts 25,000 / 9 times as many nanoseconds.
-use Rattle.std.specs.Prelude.{◌≡◌, ℕ, ◌+◌, ◌-◌, ◌*◌, ◌/◌, ◌^◌, ◌<◌, All, Bool, true, false}
+use Rattle.std.specs.Prelude.{◌≡◌, ℕ, ◌+◌, ◌-◌, ◌*◌, ◌/◌, ◌<◌, All, Bool, true, false}
 use Rattle.std.specs.Prelude.{if◌then◌else◌, nat_lt, min}
 use Rattle.std.specs.Prelude.{List, [], ◌∷◌, Option, Some, None, slice_get}
+use Rattle.vod_base.specs.declared.links.TheConstants.{LATEST_SLOT}
 use Rattle.socket_link.specs.declared.sockets.Purpose.{Purpose}
 use Rattle.socket_link.specs.declared.sockets.Purpose.TheVariants.{Slot}
 use Rattle.socket_link.specs.Calls.{SocketCall}
 use Rattle.socket_link.specs.Calls.{ReadClock}
 
--- the slot that holds a time in nanoseconds since slot 0 began; after the latest slot, 2^62, that
--- one
+-- the slot that holds a time in nanoseconds since slot 0 began; after the latest slot, that one
 abbrev pub slot_of : ℕ → ℕ → ℕ
-slot_of units time = min (time * 9 / (25000 * units)) (2 ^ 62)
+slot_of units time = min (time * 9 / (25000 * units)) LATEST_SLOT
 
 -- the next slot begins `rest` nanoseconds after `time`, and not before
 pub record IsRest (units time rest : ℕ) : Type 0 where

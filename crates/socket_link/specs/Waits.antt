@@ -2,18 +2,18 @@
 use Rattle.std.specs.Prelude.{◌≡◌, ℕ, ◌≤◌, List, [], ◌∷◌, Option, Some}
 use Rattle.socket_link.specs.declared.sockets.Purpose.{Purpose}
 use Rattle.socket_link.specs.declared.sockets.Purpose.TheVariants.{Slot, Patience, End}
-use Rattle.socket_link.specs.declared.limits.TheConstants.{RETRY, STUCK_LIMIT}
+use Rattle.socket_link.specs.declared.limits.TheConstants.{RETRY}
 use Rattle.socket_link.specs.Calls.{SocketCall}
 use Rattle.socket_link.specs.Calls.{ReadClock, Waited}
 use Rattle.socket_link.specs.Slots.{IsRest}
 
 -- A wait after a reading of the clock: after one for slots, until the next slot begins; after one
 -- for
--- patience, 1 s, after which a write is tried again; at the connection's end, at most 60 s.
+-- patience, 1 s, after which a write is tried again; at the connection's end, at most 1 s.
 abbrev pub FitsReading : ℕ → Purpose → ℕ → ℕ → Type 0
 FitsReading units Slot time most = IsRest units time most
 FitsReading units Patience time most = most ≡ RETRY
-FitsReading units End time most = most ≤ STUCK_LIMIT
+FitsReading units End time most = most ≤ RETRY
 FitsReading units _ time most = ⊥
 
 -- a wait comes directly after such a reading

@@ -15,8 +15,9 @@ pub(crate) struct WriteBuffer {
     start: usize,
 }
 
-/// The most bytes that wait: 16 KiB. A slot of 40 ms of a film of 3 Mbit/s leaves in one write, and
-/// a late session, which sends several slots at once, touches no more memory.
+/// The most bytes that wait to be written: 16 KiB. A slot of 40 ms of a film of 3 Mbit/s leaves in
+/// one write, and a late session, which sends several slots at once, touches no more memory. How
+/// much is read at once (`MAX_READ_BYTES`) is another number, which is the same only by chance.
 const ROOM: usize = 16_384;
 
 impl Model for WriteBuffer {

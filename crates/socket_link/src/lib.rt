@@ -5,6 +5,7 @@
 
 mod buffers;
 mod clocks;
+mod closes;
 mod histories;
 pub mod laws;
 mod limits;

@@ -19,7 +19,8 @@ pub const FIRST_SEND_LIMIT: u64 = 15_000_000_000;
 pub const IDLE_LIMIT: u64 = 3_600_000_000_000;
 
 /// After how long a write is tried again while the peer takes nothing, at the latest: 1 s. The
-/// system may make room in its own buffer without waking the link.
+/// system may make room in its own buffer without waking the link. So no wait at the end of a
+/// connection is longer either.
 pub(crate) const RETRY: u64 = 1_000_000_000;
 
 /// For how long the link reads on after it shut its sending half down: 1 s.

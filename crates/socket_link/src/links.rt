@@ -1,19 +1,17 @@
 //! A link over a socket.
 
-ghost use Rattle.std.specs.Prelude.{◌≡◌, ℕ, ◌+◌, ◌-◌, ◌<◌, ◌≤◌, ◌++◌, ◌∷◌, ◌⊎◌, [], Some, None};
+ghost use Rattle.std.specs.Prelude.{◌≡◌, ℕ, ◌<◌, ◌≤◌, ◌++◌, ◌∷◌, ◌⊎◌, [], Some, None};
 ghost use Rattle.std.specs.Prelude.{false};
-ghost use Rattle.std.specs.Prelude.{IsTrue, IsSome, length, take, min, max, slice_get};
+ghost use Rattle.std.specs.Prelude.{IsTrue, IsSome, length, take, max, slice_get};
 ghost use Rattle.std.specs.Prelude.{IfOk, OnOk, OnErr, IfSome};
 ghost use Rattle.std.proofs.Props.{props};
 ghost use Rattle.vod_base.specs.IoState.{HasRisen};
 ghost use Rattle.vod_base.specs.Links.{io_event_of, IsWithin, sends, told_more, IsSentPrefix};
-ghost use Rattle.vod_base.specs.MemoryLinks.{sent_of};
-ghost use Rattle.socket_link.specs.Calls.{ReadClock, ShutDown};
+ghost use Rattle.socket_link.specs.Calls.{ReadClock};
 ghost use Rattle.socket_link.specs.Limits.{clocked};
 ghost use Rattle.socket_link.specs.Slots.{is_for_slots, is_newer};
 ghost use Rattle.socket_link.specs.Histories.{Follows, slots_heard, IsCause, told_if};
-ghost use Rattle.socket_link.specs.Steps.{HasServed, HasCalled, HasLooked, HasLasted, HasFoundEnd};
-ghost use Rattle.socket_link.specs.Steps.{HasClosed};
+ghost use Rattle.socket_link.specs.Steps.{HasServed, HasCalled, HasLooked, HasFoundEnd};
 ghost use Rattle.socket_link.specs.Waits.{last_from, FitsAfter};
 ghost use Rattle.socket_link.specs.Flushes.{IsLeft};
 ghost use Rattle.socket_link.specs.Steps.{doings_read, doings_looked, IsInOrder, IsNoSlot};
@@ -21,7 +19,7 @@ ghost use Rattle.socket_link.specs.Steps.{doings_read, doings_looked, IsInOrder,
 use crate::buffers::WriteBuffer;
 use crate::clocks::{rest_of_slot, slot_at};
 use crate::histories::{History, Note};
-use crate::limits::{LINGER, RETRY, STUCK_LIMIT, Watch};
+use crate::limits::{RETRY, Watch};
 use crate::sockets::{Purpose, ReadOutcome, Socket, SocketFault, WriteOutcome};
 use std::alloc::{AllocError, Global};
 use vod_base::{Heard, Link, LinkFault};
@@ -61,15 +59,15 @@ impl LinkBuffer {
 #[derive(Drop)]
 pub struct SocketLink<S: Socket> {
     pub(crate) socket: S,
-    buffer: WriteBuffer,
-    slot_units: u32,
+    pub(crate) buffer: WriteBuffer,
+    pub(crate) slot_units: u32,
     /// The slot that was reported last.
-    slot: Option<u64>,
+    pub(crate) slot: Option<u64>,
     /// Whether there may be something to read.
-    readable: bool,
-    watch: Watch,
-    history: History,
-    faults: u64,
+    pub(crate) readable: bool,
+    pub(crate) watch: Watch,
+    pub(crate) history: History,
+    pub(crate) faults: u64,
     ghost follows: { IsTrue S.tells →
         Follows slot_units watch (S.did socket) buffer history.doings } by { Prim.hlevel props },
     ghost newest: { slot ≡ slice_get (slots_heard [] history.doings) 0 } by { Prim.hlevel props },
@@ -132,7 +130,7 @@ impl<S: Socket> SocketLink<S> {
     {}
 
     /// Waits until something may be read or written, at most so many nanoseconds.
-    fn wait(&mut self, most: u64) -> Result<(), LinkFault>
+    pub(crate) fn wait(&mut self, most: u64) -> Result<(), LinkFault>
         requires { IsTrue S.tells → FitsAfter self.old.slot_units
             (last_from None (S.did self.old.socket)) most }
         ensures same { (self.new.history.doings ≡ self.old.history.doings)
@@ -162,7 +160,7 @@ impl<S: Socket> SocketLink<S> {
     }
 
     /// Reads the clock, and fails where the reading shows that a limit is reached.
-    fn check(&mut self, purpose: Purpose) -> Result<(), LinkFault>
+    pub(crate) fn check(&mut self, purpose: Purpose) -> Result<(), LinkFault>
         requires { is_for_slots purpose ≡ false }
         ensures same { (self.new.history.doings ≡ self.old.history.doings)
             × (self.new.faults ≡ self.old.faults) × (self.new.slot_units ≡ self.old.slot_units)
@@ -293,7 +291,7 @@ impl<S: Socket> SocketLink<S> {
     }
 
     /// Writes the waiting bytes, if there are any, as far as the socket takes them now.
-    fn write_out(&mut self) -> Result<(), LinkFault>
+    pub(crate) fn write_out(&mut self) -> Result<(), LinkFault>
         ensures same { (self.new.history.doings ≡ self.old.history.doings)
             × (self.new.faults ≡ self.old.faults) × (self.new.slot_units ≡ self.old.slot_units)
             × (self.new.slot ≡ self.old.slot) }
@@ -377,62 +375,12 @@ impl<S: Socket> SocketLink<S> {
         Err(LinkFault)
     }
 
-    /// Reads what came, in one call; None where nothing came.
-    fn read(&mut self, into: &mut [u8]) -> Result<Option<Heard>, LinkFault>
-        // needs: room for a byte
-        requires some { 0 < length into.now }
-        // leaves: the slot and the waiting bytes as they were; further calls of the socket
-        ensures same { (self.new.faults ≡ self.old.faults)
-            × (self.new.slot_units ≡ self.old.slot_units) }
-        ensures count { S.faults self.old.socket ≤ S.faults self.new.socket }
-        ensures served { OnOk result (IsTrue S.tells →
-            HasServed self.old.slot_units (S.did self.old.socket) (S.did self.new.socket)) }
-        ensures longer { OnOk result (IsTrue S.tells →
-            length (S.did self.old.socket) < length (S.did self.new.socket)) }
-        ensures called { OnOk result (IsTrue S.tells →
-            HasCalled (S.did self.old.socket) (S.did self.new.socket)) }
-        ensures slot { self.new.slot ≡ self.old.slot }
-        ensures waiting { (self.new.buffer ≡ self.old.buffer)
-            × (self.new.watch.stuck ≡ self.old.watch.stuck) }
-        // answers: what came, which is one more event of the history, or None
-        ensures within { IfOk result (λ read. IfSome read (λ heard.
-            IsWithin heard (length into.new))) }
-        ensures event { IfOk result (λ read. IfSome read (λ heard. IsNoSlot heard)) }
-        ensures told { IfOk result (λ read. self.new.history.doings
-            ≡ self.old.history.doings ++ doings_read read into.new) }
-        ensures none { IfOk result (λ read. read ≡ None →
-            self.new.history.doings ≡ self.old.history.doings) }
-        ensures ended { IfOk result (λ read. read ≡ Some Heard.End → IsTrue S.tells →
-            HasFoundEnd (S.did self.new.socket)) }
-        ensures lost { OnErr result (self.new.history.doings ≡ self.old.history.doings) }
-        // faults: the socket failed, or a limit is reached
-        ensures cause { OnErr result (IsTrue S.tells → IsCause
-            (S.faults self.old.socket) (S.faults self.new.socket) (S.did self.new.socket)) }
-    {
-        match self.socket.read(into) {
-            Ok(ReadOutcome::Bytes(count)) => {
-                let heard = Heard::Bytes(count);
-                self.watch = self.watch.received();
-                self.history = self.history.then(&Note::Came(heard, into));
-                Ok(Some(heard))
-            }
-            Ok(ReadOutcome::End) => {
-                self.history = self.history.then(&Note::Came(Heard::End, into));
-                Ok(Some(Heard::End))
-            }
-            Ok(ReadOutcome::Nothing) => {
-                // A wait may report bytes only once, as they come. So the link reads until nothing
-                // is left, and only then waits again.
-                self.readable = false;
-                Ok(None)
-            }
-            Ok(ReadOutcome::Interrupted) => Ok(None),
-            Err(_) => Err(LinkFault),
-        }
-    }
-
-    /// Reads what came. If nothing can have come, waits at most so many nanoseconds.
-    fn read_or_wait(&mut self, into: &mut [u8], most: u64) -> Result<Option<Heard>, LinkFault>
+    /// Reads what came, in one call. If nothing can have come, waits at most so many nanoseconds.
+    pub(crate) fn read_or_wait(
+        &mut self,
+        into: &mut [u8],
+        most: u64,
+    ) -> Result<Option<Heard>, LinkFault>
         // needs: room for a byte, and a wait that ends with the slot
         requires some { 0 < length into.now }
         requires fits { IsTrue S.tells → FitsAfter self.old.slot_units
@@ -465,11 +413,30 @@ impl<S: Socket> SocketLink<S> {
         ensures cause { OnErr result (IsTrue S.tells → IsCause
             (S.faults self.old.socket) (S.faults self.new.socket) (S.did self.new.socket)) }
     {
-        if self.readable {
-            return self.read(into);
+        if !self.readable {
+            self.wait(most)?;
+            return Ok(None);
         }
-        self.wait(most)?;
-        Ok(None)
+        match self.socket.read(into) {
+            Ok(ReadOutcome::Bytes(count)) => {
+                let heard = Heard::Bytes(count);
+                self.watch = self.watch.received();
+                self.history = self.history.then(&Note::Came(heard, into));
+                Ok(Some(heard))
+            }
+            Ok(ReadOutcome::End) => {
+                self.history = self.history.then(&Note::Came(Heard::End, into));
+                Ok(Some(Heard::End))
+            }
+            Ok(ReadOutcome::Nothing) => {
+                // A wait may report bytes only once, as they come. So the link reads until nothing
+                // is left, and only then waits again.
+                self.readable = false;
+                Ok(None)
+            }
+            Ok(ReadOutcome::Interrupted) => Ok(None),
+            Err(_) => Err(LinkFault),
+        }
     }
 
     /// Waits for the next event. First what waits is written out, then a new slot is reported, and
@@ -513,117 +480,6 @@ impl<S: Socket> SocketLink<S> {
             }
         }
         Err(LinkFault)
-    }
-
-    /// Writes all waiting bytes, for as long as a peer has for them: 60 s.
-    fn write_everything(&mut self) -> Result<(), LinkFault>
-        ensures same { (self.new.history.doings ≡ self.old.history.doings)
-            × (self.new.faults ≡ self.old.faults) × (self.new.slot_units ≡ self.old.slot_units)
-            × (self.new.slot ≡ self.old.slot) }
-        ensures count { S.faults self.old.socket ≤ S.faults self.new.socket }
-        ensures served { OnOk result (IsTrue S.tells →
-            HasServed self.old.slot_units (S.did self.old.socket) (S.did self.new.socket)) }
-        ensures written { OnOk result (IsTrue S.tells → (length self.new.buffer ≡ 0)
-            ⊎ HasLasted STUCK_LIMIT (S.did self.old.socket) (S.did self.new.socket)) }
-        ensures cause { OnErr result (IsTrue S.tells → IsCause
-            (S.faults self.old.socket) (S.faults self.new.socket) (S.did self.new.socket)) }
-    {
-        // A reading from before the writes, so that the time they take counts.
-        self.check(Purpose::End)?;
-        let begun = self.watch.latest;
-        for _ in 0..u64::MAX {
-            self.write_out()?;
-            self.check(Purpose::End)?;
-            let waited = self.watch.latest.saturating_sub(begun);
-            if self.buffer.waiting_bytes().is_empty() {
-                return Ok(());
-            }
-            // The bytes that are left are given up: a peer can't hold the worker for longer.
-            if waited >= STUCK_LIMIT {
-                return Ok(());
-            }
-            self.wait(STUCK_LIMIT - waited)?;
-        }
-        Err(LinkFault)
-    }
-
-    /// Shuts the sending half down.
-    fn shut_down(&mut self) -> Result<(), LinkFault>
-        ensures same { (self.new.history.doings ≡ self.old.history.doings)
-            × (self.new.faults ≡ self.old.faults) × (self.new.slot_units ≡ self.old.slot_units)
-            × (self.new.slot ≡ self.old.slot) }
-        ensures count { S.faults self.old.socket ≤ S.faults self.new.socket }
-        ensures served { OnOk result (IsTrue S.tells →
-            HasServed self.old.slot_units (S.did self.old.socket) (S.did self.new.socket)) }
-        ensures longer { OnOk result (IsTrue S.tells →
-            length (S.did self.old.socket) < length (S.did self.new.socket)) }
-        ensures cause { OnErr result (IsTrue S.tells → IsCause
-            (S.faults self.old.socket) (S.faults self.new.socket) (S.did self.new.socket)) }
-        ensures shut { OnOk result (IsTrue S.tells →
-            S.did self.new.socket ≡ S.did self.old.socket ++ ShutDown ∷ []) }
-    {
-        match self.socket.shut_down() {
-            Ok(()) => {
-                // what came meanwhile is read
-                self.readable = true;
-                Ok(())
-            }
-            Err(_) => Err(LinkFault),
-        }
-    }
-
-    /// Reads and drops what the peer still sends, until it ends, for 1 s at most.
-    fn linger(&mut self) -> Result<(), LinkFault>
-        ensures same { (self.new.faults ≡ self.old.faults)
-            × (self.new.slot_units ≡ self.old.slot_units) }
-        ensures count { S.faults self.old.socket ≤ S.faults self.new.socket }
-        ensures served { OnOk result (IsTrue S.tells →
-            HasServed self.old.slot_units (S.did self.old.socket) (S.did self.new.socket)) }
-        ensures ended { OnOk result (IsTrue S.tells → HasFoundEnd (S.did self.new.socket)
-            ⊎ HasLasted LINGER (S.did self.old.socket) (S.did self.new.socket)) }
-        ensures cause { OnErr result (IsTrue S.tells → IsCause
-            (S.faults self.old.socket) (S.faults self.new.socket) (S.did self.new.socket)) }
-    {
-        self.check(Purpose::End)?;
-        let begun = self.watch.latest;
-        // Nobody reads these bytes. But a socket that is closed with unread bytes sends a reset
-        // (RFC 1122 section 4.2.2.13), and the peer would lose the last reply.
-        let mut dropped = [0; 1024];
-        for _ in 0..u64::MAX {
-            self.check(Purpose::End)?;
-            let waited = self.watch.latest.saturating_sub(begun);
-            if waited >= LINGER {
-                return Ok(());
-            }
-            if let Some(Heard::End) = self.read_or_wait(&mut dropped, LINGER - waited)? {
-                return Ok(());
-            }
-        }
-        Err(LinkFault)
-    }
-
-    /// Closes the connection: what waits is written out, for 60 s at most; the sending half is shut
-    /// down; and what the peer still sends is read and dropped until it ends, for 1 s at most. A
-    /// socket that is closed with bytes unread is reset, and a last reply that is on its way is
-    /// lost.
-    ///
-    /// # Errors
-    ///
-    /// [`LinkFault`] where a call of the socket failed, or a reading of the clock shows that a
-    /// limit is reached.
-    pub fn close(&mut self) -> Result<(), LinkFault>
-        ensures count { S.faults self.old.socket ≤ S.faults self.new.socket }
-        ensures served { OnOk result (IsTrue S.tells →
-            HasServed self.old.slot_units (S.did self.old.socket) (S.did self.new.socket)) }
-        ensures closed { OnOk result (IsTrue S.tells → HasClosed
-            (sent_of self.old.history.doings) (S.did self.old.socket) (S.did self.new.socket)) }
-        ensures cause { OnErr result (IsTrue S.tells → IsCause
-            (S.faults self.old.socket) (S.faults self.new.socket) (S.did self.new.socket)) }
-    {
-        // The end of the stream stands after the last reply, so all is written first.
-        self.write_everything()?;
-        self.shut_down()?;
-        self.linger()
     }
 }
 

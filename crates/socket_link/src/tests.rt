@@ -172,6 +172,36 @@ fn a_closed_connection_is_written_out_and_read_on(rt: HostRuntime) -> Result<(),
     Ok(())
 }
 
+/// How often a link waited, and the longest time, in nanoseconds.
+fn waits(link: &SocketLink<MemorySocket>) -> (u64, u64) {
+    let mut count = 0_u64;
+    let mut longest = 0;
+    for note in &link.socket.notes {
+        if let NotedCall::Wait(most) = note {
+            count = count.saturating_add(1);
+            longest = longest.max(*most);
+        }
+    }
+    (count, longest)
+}
+
+#[test]
+fn a_closed_connection_is_written_to_each_second(rt: HostRuntime) -> Result<(), Fail> {
+    let alloc = rt.alloc();
+    // after this many writes that took nothing; and the answer, with the second of reading on
+    for (full, answer, waited) in [(2, Ok(()), 3), (200, Err(LinkFault), 60)] {
+        let mut writes = Vec::new(alloc);
+        for _ in 0..full {
+            writes.push(ScriptedWrite::Nothing)?;
+        }
+        let mut link = scripted(alloc, 0, SECOND, Vec::new(alloc), writes)?;
+        assert!(rt; link.send(b"last reply").is_ok());
+        assert_eq!(rt; link.close(), answer);
+        assert_eq!(rt; waits(&link), (waited, 1_000_000_000));
+    }
+    Ok(())
+}
+
 /// Takes a value that may go to another thread.
 fn take_sent<T: Send>(_value: &T) {}
 

@@ -1,4 +1,5 @@
-use Rattle.std.proofs.Common.{◌≡◌, ◌++◌, ℕ, List, OnOk, IfErr, take, rules, refl, sym, ap, subst, ◌∙◌, arith}
+use Rattle.std.proofs.Common.{◌≡◌, ◌++◌, ℕ, List, OnOk, IfErr, take, refl, sym, ap, subst, ◌∙◌, arith}
+use Rattle.std.proofs.lemmas.List.{length-take}
 use Rattle.vod_base.specs.Links.{io_event_of}
 use Rattle.vod_base.specs.declared.links.Heard.{Heard}
 use Rattle.vod_base.specs.declared.links.Heard.TheVariants.{Bytes}
@@ -11,7 +12,7 @@ use Rattle.rtsp_client.specs.ControlFlows.{as_result}
 use Rattle.rtsp_client.specs.ClientSteps.{HasEnded, HasRound, HasStopped, HasTaken, observed}
 use Rattle.rtsp_client.proofs.EventCourses.{ended-bytes, ended-peer, round-bytes, round-slot}
 use Rattle.rtsp_client.proofs.Outcomes.{if-err, on-ok}
-use Rattle.rtsp_client.proofs.ElementSteps.{keeps-moved}
+use Rattle.rtsp_client.proofs.ElementSteps.{keeps-moved, put-all}
 use Rattle.rtsp_client.proofs.clients.Client.hear.Goals as goal
 
 pub returns-in-End-clause-ended : goal.returns-in-End-clause-ended
@@ -47,9 +48,13 @@ returns-in-Slot-clause-on g c = λ h k.
     })
     (record { session = refl; input = refl; watching = c.hear_slot.ensures.state }))
 
-pub returns-in-Ok-clause-on : goal.returns-in-Ok-clause-on
-returns-in-Ok-clause-on g c = λ h k.
-    let grown : c.put.new.self ≡ c.args.self.now.input ++ take c.in-Bytes.count c.args.bytes.now = search rules in
+pub returns-in-Bytes-clause-on : goal.returns-in-Bytes-clause-on
+returns-in-Bytes-clause-on g c = λ h k.
+    let taken = take c.in-Bytes.count c.args.bytes.now in
+    let grown : c.put.new.self ≡ c.args.self.now.input ++ taken =
+    put-all c.args.self.now.input taken c.put.new.self _ c.put.ensures.fault
+    (omega (arith, c.requires.waits, c.requires.short, length-take c.in-Bytes.count c.args.bytes.now))
+    c.put.ensures.waiting in
     subst (λ (x : Heard). OnOk (as_result c.process_input.result)
     (HasRound c.args.wish.now h c.args.self.now.input (io_event_of x c.args.bytes.now) c.process_input.new.self
     (observed (g.K.Link.told c.args.link.now) (g.O.Sink.written c.args.out.now))
@@ -64,9 +69,13 @@ returns-in-Ok-clause-on g c = λ h k.
     (λ taken idle. round-bytes
     taken idle))
 
-pub returns-in-Ok-clause-ended : goal.returns-in-Ok-clause-ended
-returns-in-Ok-clause-ended g c = λ h k.
-    let grown : c.put.new.self ≡ c.args.self.now.input ++ take c.in-Bytes.count c.args.bytes.now = search rules in
+pub returns-in-Bytes-clause-ended : goal.returns-in-Bytes-clause-ended
+returns-in-Bytes-clause-ended g c = λ h k.
+    let taken = take c.in-Bytes.count c.args.bytes.now in
+    let grown : c.put.new.self ≡ c.args.self.now.input ++ taken =
+    put-all c.args.self.now.input taken c.put.new.self _ c.put.ensures.fault
+    (omega (arith, c.requires.waits, c.requires.short, length-take c.in-Bytes.count c.args.bytes.now))
+    c.put.ensures.waiting in
     subst (λ (x : Heard). IfErr (as_result c.process_input.result)
     (λ end. HasEnded c.args.wish.now h c.args.self.now.input (io_event_of x c.args.bytes.now) end
     (observed (g.K.Link.told c.args.link.now) (g.O.Sink.written c.args.out.now))

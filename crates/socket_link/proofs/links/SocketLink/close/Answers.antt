@@ -5,10 +5,10 @@ use Rattle.socket_link.proofs.links.SocketLink.close.Goals as goal
 
 pub returns-clause-served : goal.returns-clause-served
 returns-clause-served g c =
-    let first = outer_served _ _ _ _ _ _ c.write_everything.ensures.same.2 c.in_ok-write_everything.ensures.served
+    let first = outer_served c.write_everything.ensures.same.2 c.in_ok-write_everything.ensures.served
     c.in_ok-shut_down.ensures.served in
     on_ok_map c.linger.result c.linger.ensures.served
-    (λ served. outer_served _ _ _ _ _ _ (c.shut_down.ensures.same.2 ∙ c.write_everything.ensures.same.2) first served)
+    (λ served. outer_served (c.shut_down.ensures.same.2 ∙ c.write_everything.ensures.same.2) first served)
 
 pub returns-clause-closed : goal.returns-clause-closed
 returns-clause-closed g c =

@@ -16,7 +16,7 @@ loop-init g c = record {
 
 pub loop-preserved : goal.loop-preserved
 loop-preserved g c = record {
-  round = round_on _ _ _ _ _ _ _ _ _ c.loop.invariant.round c.write.ensures.count
+  round = round_on c.loop.invariant.round c.write.ensures.count
       (rw c.loop.invariant.units at c.in_ok-write.ensures.served) c.in_ok-write.ensures.longer;
   history = c.write.ensures.same.0 ∙ c.loop.invariant.history;
   faults = c.write.ensures.same.1 ∙ c.loop.invariant.faults;
@@ -27,37 +27,37 @@ loop-preserved g c = record {
 
 pub returns-in_err-write-clause-cause : goal.returns-in_err-write-clause-cause
 returns-in_err-write-clause-cause g c =
-    on_err _ (round_cause _ _ _ _ _ _ _ _ _ c.loop.invariant.round c.in_err-write.ensures.cause)
+    on_err _ (round_cause _ _ c.loop.invariant.round c.in_err-write.ensures.cause)
 
 pub returns-then-is_empty-clause-served : goal.returns-then-is_empty-clause-served
 returns-then-is_empty-clause-served g c =
-    round_served _ _ _ _ _ _ _ _ c.loop.invariant.round (rw c.loop.invariant.units at c.in_ok-write.ensures.served)
+    round_served c.loop.invariant.round (rw c.loop.invariant.units at c.in_ok-write.ensures.served)
 
 pub returns-then-is_empty-clause-longer : goal.returns-then-is_empty-clause-longer
-returns-then-is_empty-clause-longer g c = round_longer _ _ _ _ _ _ _ _ c.loop.invariant.round
+returns-then-is_empty-clause-longer g c = round_longer _ c.loop.invariant.round
     c.in_ok-write.ensures.longer
 
 pub returns-in-Nothing-clause-served : goal.returns-in-Nothing-clause-served
 returns-in-Nothing-clause-served g c =
-    let r = round_on _ _ _ _ _ _ _ _ _ c.loop.invariant.round c.write.ensures.count
+    let r = round_on c.loop.invariant.round c.write.ensures.count
     (rw c.loop.invariant.units at c.in_ok-write.ensures.served) c.in_ok-write.ensures.longer in
-    round_served _ _ _ _ _ _ _ _ r (rw (c.write.ensures.same.2 ∙ c.loop.invariant.units) at
+    round_served r (rw (c.write.ensures.same.2 ∙ c.loop.invariant.units) at
     c.in_ok-check.ensures.served)
 
 pub returns-in-Nothing-clause-longer : goal.returns-in-Nothing-clause-longer
 returns-in-Nothing-clause-longer g c =
-    let r = round_on _ _ _ _ _ _ _ _ _ c.loop.invariant.round c.write.ensures.count
+    let r = round_on c.loop.invariant.round c.write.ensures.count
     (rw c.loop.invariant.units at c.in_ok-write.ensures.served) c.in_ok-write.ensures.longer in
-    round_longer _ _ _ _ _ _ _ _ r c.in_ok-check.ensures.longer
+    round_longer _ r c.in_ok-check.ensures.longer
 
 pub returns-in-Nothing-clause-stuck : goal.returns-in-Nothing-clause-stuck
 returns-in-Nothing-clause-stuck g c = λ is tells. last_call _ _ _ (c.in_ok-check.ensures.read tells)
 
 pub returns-in_err-check-clause-cause : goal.returns-in_err-check-clause-cause
 returns-in_err-check-clause-cause g c =
-    let r = round_on _ _ _ _ _ _ _ _ _ c.loop.invariant.round c.write.ensures.count
+    let r = round_on c.loop.invariant.round c.write.ensures.count
     (rw c.loop.invariant.units at c.in_ok-write.ensures.served) c.in_ok-write.ensures.longer in
-    on_err _ (round_cause _ _ _ _ _ _ _ _ _ r c.in_err-check.ensures.cause)
+    on_err _ (round_cause _ _ r c.in_err-check.ensures.cause)
 
 pub returns-clause-cause : goal.returns-clause-cause
-returns-clause-cause g c = round_end _ _ _ _ _ _ _ c.loop.invariant.round c.loop-test.false
+returns-clause-cause g c = round_end c.loop.invariant.round c.loop-test.false

@@ -20,7 +20,7 @@ returns-then-is_empty-clause-whole g c =
 
 pub returns-then-is_empty-clause-served : goal.returns-then-is_empty-clause-served
 returns-then-is_empty-clause-served g c =
-    (round_same _ _ _ _ _ _ _ _ _ c.loop.invariant.round c.put-count.ensures.faults c.put-count.ensures.calls).served
+    (round_same c.loop.invariant.round c.put-count.ensures.faults c.put-count.ensures.calls).served
 
 pub returns-in_err-make_room-clause-front : goal.returns-in_err-make_room-clause-front
 returns-in_err-make_room-clause-front g c =
@@ -30,15 +30,15 @@ returns-in_err-make_room-clause-front g c =
 
 pub returns-in_err-make_room-clause-cause : goal.returns-in_err-make_room-clause-cause
 returns-in_err-make_room-clause-cause g c =
-    let r = round_same _ _ _ _ _ _ _ _ _ c.loop.invariant.round c.put-count.ensures.faults c.put-count.ensures.calls in
-    on_err _ (round_cause _ _ _ _ _ _ _ _ _ r c.in_err-make_room.ensures.cause)
+    let r = round_same c.loop.invariant.round c.put-count.ensures.faults c.put-count.ensures.calls in
+    on_err _ (round_cause _ _ r c.in_err-make_room.ensures.cause)
 
 pub loop-preserved : goal.loop-preserved
 loop-preserved g c =
-    let r = round_same _ _ _ _ _ _ _ _ _ c.loop.invariant.round c.put-count.ensures.faults c.put-count.ensures.calls in
+    let r = round_same c.loop.invariant.round c.put-count.ensures.faults c.put-count.ensures.calls in
     let units = c.put-count.ensures.same.1 ∙ c.loop.invariant.units in
     record {
-      round = round_on _ _ _ _ _ _ _ _ _ r c.make_room.ensures.count
+      round = round_on r c.make_room.ensures.count
           (rw units at c.in_ok-make_room.ensures.served) c.in_ok-make_room.ensures.longer;
       part = part_on _ _ _ _ _ c.put-count.result c.loop.invariant.part (c.make_room.ensures.same.0 ∙
           c.put-count.ensures.told);
@@ -50,4 +50,4 @@ pub returns-clause-front : goal.returns-clause-front
 returns-clause-front g c = part_front _ _ _ _ c.loop.invariant.part
 
 pub returns-clause-cause : goal.returns-clause-cause
-returns-clause-cause g c = round_end _ _ _ _ _ _ _ c.loop.invariant.round c.loop-test.false
+returns-clause-cause g c = round_end c.loop.invariant.round c.loop-test.false

@@ -16,12 +16,12 @@ loop-init g c = record {
 
 pub returns-in-Some-clause-served : goal.returns-in-Some-clause-served
 returns-in-Some-clause-served g c =
-    let r1 = round_more _ _ _ _ _ _ _ _ _ c.loop.invariant.round c.write_out.ensures.count
+    let r1 = round_more c.loop.invariant.round c.write_out.ensures.count
     (rw c.loop.invariant.units at c.in_ok-write_out.ensures.served) in
     let units2 = c.write_out.ensures.same.2 ∙ c.loop.invariant.units in
-    let r2 = round_on _ _ _ _ _ _ _ _ _ r1 c.check.ensures.count
+    let r2 = round_on r1 c.check.ensures.count
     (rw units2 at c.in_ok-check.ensures.served) c.in_ok-check.ensures.longer in
-    round_served _ _ _ _ _ _ _ _ r2 (rw (c.check.ensures.same.2 ∙ units2) at c.in_ok-slot.ensures.served)
+    round_served r2 (rw (c.check.ensures.same.2 ∙ units2) at c.in_ok-slot.ensures.served)
 
 pub read_or_wait-requires-clause-fits : goal.read_or_wait-requires-clause-fits
 read_or_wait-requires-clause-fits g c = λ tells.
@@ -29,28 +29,28 @@ read_or_wait-requires-clause-fits g c = λ tells.
 
 pub returns-in-Some-2-clause-served : goal.returns-in-Some-2-clause-served
 returns-in-Some-2-clause-served g c =
-    let r1 = round_more _ _ _ _ _ _ _ _ _ c.loop.invariant.round c.write_out.ensures.count
+    let r1 = round_more c.loop.invariant.round c.write_out.ensures.count
     (rw c.loop.invariant.units at c.in_ok-write_out.ensures.served) in
     let units2 = c.write_out.ensures.same.2 ∙ c.loop.invariant.units in
-    let r2 = round_on _ _ _ _ _ _ _ _ _ r1 c.check.ensures.count
+    let r2 = round_on r1 c.check.ensures.count
     (rw units2 at c.in_ok-check.ensures.served) c.in_ok-check.ensures.longer in
     let units3 = c.check.ensures.same.2 ∙ units2 in
-    let r3 = round_more _ _ _ _ _ _ _ _ _ r2 c.new_slot.ensures.count (rw units3 at c.in_ok-slot.ensures.served) in
-    round_served _ _ _ _ _ _ _ _ r3 (rw (c.new_slot.ensures.same.1 ∙ units3) at c.in_ok-heard.ensures.served)
+    let r3 = round_more r2 c.new_slot.ensures.count (rw units3 at c.in_ok-slot.ensures.served) in
+    round_served r3 (rw (c.new_slot.ensures.same.1 ∙ units3) at c.in_ok-heard.ensures.served)
 
 pub loop-preserved : goal.loop-preserved
 loop-preserved g c =
-    let r1 = round_more _ _ _ _ _ _ _ _ _ c.loop.invariant.round c.write_out.ensures.count
+    let r1 = round_more c.loop.invariant.round c.write_out.ensures.count
     (rw c.loop.invariant.units at c.in_ok-write_out.ensures.served) in
     let units2 = c.write_out.ensures.same.2 ∙ c.loop.invariant.units in
-    let r2 = round_on _ _ _ _ _ _ _ _ _ r1 c.check.ensures.count
+    let r2 = round_on r1 c.check.ensures.count
     (rw units2 at c.in_ok-check.ensures.served) c.in_ok-check.ensures.longer in
     let units3 = c.check.ensures.same.2 ∙ units2 in
-    let r3 = round_more _ _ _ _ _ _ _ _ _ r2 c.new_slot.ensures.count (rw units3 at c.in_ok-slot.ensures.served) in
+    let r3 = round_more r2 c.new_slot.ensures.count (rw units3 at c.in_ok-slot.ensures.served) in
     let units4 = c.new_slot.ensures.same.1 ∙ units3 in
     let none = c.in_ok-slot.ensures.none c.in_default.is in
     record {
-      round = round_more _ _ _ _ _ _ _ _ _ r3 c.read_or_wait.ensures.count (rw units4 at c.in_ok-heard.ensures.served);
+      round = round_more r3 c.read_or_wait.ensures.count (rw units4 at c.in_ok-heard.ensures.served);
       history = c.in_ok-heard.ensures.none c.in_default-2.is ∙ none.0 ∙ c.check.ensures.same.0
           ∙ c.write_out.ensures.same.0 ∙ c.loop.invariant.history;
       faults = c.read_or_wait.ensures.same.0 ∙ c.new_slot.ensures.same.0 ∙ c.check.ensures.same.1

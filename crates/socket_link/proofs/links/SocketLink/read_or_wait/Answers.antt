@@ -2,7 +2,7 @@ use Rattle.std.proofs.Common.{refl, take, ◌∷◌, []}
 use Rattle.vod_base.specs.Links.{HeardBytes, HeardEnd}
 use Rattle.socket_link.specs.Calls.{GaveBytes, GaveNothing, GaveEnd, WasInterrupted}
 use Rattle.socket_link.proofs.Steps.{follows_call, follows_read, newest_same, served_call}
-use Rattle.socket_link.proofs.links.SocketLink.read.Goals as goal
+use Rattle.socket_link.proofs.links.SocketLink.read_or_wait.Goals as goal
 
 pub invariant_of-self-clause-follows : goal.invariant_of-self-clause-follows
 invariant_of-self-clause-follows g c =
