@@ -120,6 +120,27 @@ through_is slot p is = sent_upto slot (due_by p slot) p is (omega arith)
 pub stopped_is : (slot : ℕ) (p : PacerState) → IsPacerState p → IsPacerState (after_step true slot p)
 stopped_is slot p is = sent_upto slot (step_end true (at_slot slot p)) p is (omega arith)
 
+-- the film bytes up to a slot, with those of the slot
+film_through : {play : Played} {heard : ℕ} {film : List ℕ} (waits : Bool) (slot : ℕ) → HasSent play heard film
+    → due_by play.pacer slot ≡ first_slots play.pacer.plan (slot + 1 - play.pacer.start)
+    → film ++ slot_film waits slot play.pacer ≡ planned_bytes play.pacer slot
+film_through {play} {heard} {film} waits slot has all_sent =
+    let p = play.pacer in
+    let bytes : slot_film waits slot p ≡ plan_bytes p p.sent (due_by p slot) =
+    slot_bytes waits (stands_at_boundary (after_step true slot p)) slot p has.pacing refl in
+    let before : p.sent ≤ due_by p slot = omega (arith, has.pacing.sent) in
+    let old : ℕ = heard + 1 - p.start in
+    let old_sent : p.sent ≡ first_slots p.plan old =
+    has.sent ∙ ap (first_slots p.plan) (omega (arith, has.passed, has.start)) in
+    let first : film ≡ bytes_between p.pieces p.before (p.before + p.sent) =
+    has.film_is ∙ ap (λ n. take n (drop p.before (framed_bytes p.pieces))) (omega (arith, old_sent)) in
+    let joined : film ++ slot_film waits slot p ≡ bytes_between p.pieces p.before (p.before + due_by p slot) =
+    ap (λ bs. bs ++ slot_film waits slot p) first
+    ∙ ap (λ bs. bytes_between p.pieces p.before (p.before + p.sent) ++ bs) bytes
+    ∙ between-join p.pieces p.before (p.before + p.sent) (p.before + due_by p slot) (omega arith)
+    (omega (arith, before)) in
+    joined ∙ ap (λ n. take n (drop p.before (framed_bytes p.pieces))) (omega (arith, all_sent))
+
 -- a play goes on by a slot
 pub sent_slot : {play : Played} {heard slot : ℕ} {film : List ℕ} (waits : Bool) → HasSent play heard film →
     heard < slot →
@@ -128,8 +149,6 @@ sent_slot {play} {heard} {slot} {film} waits has later =
     let p = play.pacer in
     let between : Bool = stands_at_boundary (after_step true slot p) in
     let q : slot_pacing waits slot p ≡ sent_through slot p = slot_is waits between slot p has.pacing refl in
-    let bytes : slot_film waits slot p ≡ plan_bytes p p.sent (due_by p slot) =
-    slot_bytes waits between slot p has.pacing refl in
     let passed : max p.passed (slots_by p slot) ≡ slot + 1 - play.start = omega (arith, has.passed, has.start, later) in
     let due : due_by p slot ≡ first_slots p.plan (max p.passed (slots_by p slot)) =
     omega (
@@ -138,22 +157,8 @@ sent_slot {play} {heard} {slot} {film} waits has later =
       most-slots p.plan (max p.passed (slots_by p slot)) has.pacing.plan,
       has.kept,
     ) in
-    let before : p.sent ≤ due_by p slot = omega (arith, has.pacing.sent) in
-    let old : ℕ = heard + 1 - p.start in
-    let new : ℕ = slot + 1 - p.start in
-    let old_sent : p.sent ≡ first_slots p.plan old =
-    has.sent ∙ ap (first_slots p.plan) (omega (arith, has.passed, has.start)) in
-    let new_sent : due_by p slot ≡ first_slots p.plan new =
+    let all_sent : due_by p slot ≡ first_slots p.plan (slot + 1 - p.start) =
     due ∙ ap (first_slots p.plan) (omega (arith, passed, has.start)) in
-    let first : film ≡ bytes_between p.pieces p.before (p.before + p.sent) =
-    has.film_is ∙ ap (λ n. take n (drop p.before (framed_bytes p.pieces))) (omega (arith, old_sent)) in
-    let joined : film ++ slot_film waits slot p ≡ bytes_between p.pieces p.before (p.before + due_by p slot) =
-    ap (λ bs. bs ++ slot_film waits slot p) first
-    ∙ ap (λ bs. bytes_between p.pieces p.before (p.before + p.sent) ++ bs) bytes
-    ∙ between-join p.pieces p.before (p.before + p.sent) (p.before + due_by p slot) (omega arith)
-    (omega (arith, before)) in
-    let all : film ++ slot_film waits slot p ≡ planned_bytes p slot =
-    joined ∙ ap (λ n. take n (drop p.before (framed_bytes p.pieces))) (omega (arith, new_sent)) in
     subst (λ (r : PacerState). HasSent (record play { pacer = r }) slot (film ++ slot_film waits slot p)) (sym q)
     (record {
       pacing = through_is slot p has.pacing;
@@ -163,5 +168,5 @@ sent_slot {play} {heard} {slot} {film} waits has later =
       start = has.start;
       passed = passed;
       sent = due;
-      film_is = all;
+      film_is = film_through waits slot has all_sent;
     })

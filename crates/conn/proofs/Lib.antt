@@ -11,6 +11,7 @@ mod ElementPrefixes
 pub mod FilmBytes
 mod ReservationSteps
 mod RunPlans
+pub mod HaltAnswers
 mod HaltedPlays
 mod RequestInvariants
 mod SlotResults

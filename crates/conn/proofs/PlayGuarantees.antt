@@ -108,26 +108,30 @@ sent_by {old} {setup} {play} {new} {heard} {more} its on same =
       },
     )
 
+-- the film bytes that are sent by an event: more of them where it began a slot
+event_film : {film : List ℕ} {old new : Stage} {event : IoEvent} (AreSent : ℕ → List ℕ → Type 0)
+    (come : EventCome old event new) → AreSent old.session.heard film
+    → ((slot : ℕ) → AreSent (last_heard_slot old.session.heard slot) (film ++ film_bytes (slot_parts old.session slot)))
+    → AreSent (heard_by old.session.heard event) (film ++ film_bytes come.due)
+event_film {film} {old} {event = HeardBytes bytes} AreSent come still by =
+    subst (λ ps. AreSent old.session.heard (film ++ film_bytes ps)) (sym come.comes.0)
+    (subst (AreSent old.session.heard) (sym (append-nil film)) still)
+event_film {film} {old} {event = HeardSlot slot} AreSent come still by =
+    subst (λ ps. AreSent (last_heard_slot old.session.heard slot) (film ++ film_bytes ps))
+    (sym come.comes.1.parts_are) (by slot)
+event_film {event = HeardEnd} AreSent come still by = absurd come.comes
+event_film {event = Sent byte} AreSent come still by = absurd come.comes
+
 kept_event : {setup : Setup} {play : Played} {film : List ℕ} {old new : Stage} {event : IoEvent}
     (come : EventCome old event new) →
     HasPlay (ground_of old.session film) setup play →
     old.session.state ≡ Playing setup play →
     (stored : Stored) × IsSentBy old.session stored setup play (heard_by old.session.heard event)
     (film ++ film_bytes come.due)
-kept_event {setup} {play} {film} {old} {event = HeardBytes bytes} come its is =
-    subst (λ ps. (stored : Stored)
-    × IsSentBy old.session stored setup play old.session.heard (film ++ film_bytes ps)) (sym come.comes.0)
-    (subst (λ bs. (stored : Stored) × IsSentBy old.session stored setup play old.session.heard bs)
-    (sym (append-nil film))
-    (sent_by its (as_it_was old.session setup play film is its.sent) refl))
-kept_event {setup} {play} {film} {old} {event = HeardSlot slot} come its is =
-    subst (λ ps. (stored : Stored)
-    × IsSentBy old.session stored setup play (last_heard_slot old.session.heard slot) (film ++ film_bytes ps))
-    (sym come.comes.1.parts_are)
-    (sent_by its
-    (slot_play old.session slot is its.sent) (slot_heard old.session slot))
-kept_event {event = HeardEnd} come its is = absurd come.comes
-kept_event {event = Sent byte} come its is = absurd come.comes
+kept_event {setup} {play} {film} {old} come its is =
+    event_film (λ heard bytes. (stored : Stored) × IsSentBy old.session stored setup play heard bytes) come
+    (sent_by its (as_it_was old.session setup play film is its.sent) refl)
+    (λ slot. sent_by its (slot_play old.session slot is its.sent) (slot_heard old.session slot))
 
 -- and of the rest of a play that was halted
 cut_event : {setup : Setup} {stop : Stop} {film : List ℕ} {old new : Stage} {event : IoEvent}
@@ -136,21 +140,12 @@ cut_event : {setup : Setup} {stop : Stop} {film : List ℕ} {old new : Stage} {e
     old.session.state ≡ Stopping setup stop →
     (stored : Stored) × IsCutBy old.session stored setup stop (heard_by old.session.heard event)
     (film ++ film_bytes come.due)
-cut_event {setup} {stop} {film} {old} {event = HeardBytes bytes} come has is =
-    subst (λ ps. (stored : Stored)
-    × IsCutBy old.session stored setup stop old.session.heard (film ++ film_bytes ps)) (sym come.comes.0)
-    (subst (λ bs. (stored : Stored) × IsCutBy old.session stored setup stop old.session.heard bs)
-    (sym (append-nil film))
-    (stop_cut (stop_still old.session is has)))
-cut_event {setup} {stop} {film} {old} {event = HeardSlot slot} come has is =
-    subst (λ ps. (stored : Stored)
-    × IsCutBy old.session stored setup stop (last_heard_slot old.session.heard slot) (film ++ film_bytes ps))
-    (sym come.comes.1.parts_are)
-    (subst (λ n. (stored : Stored)
+cut_event {setup} {stop} {film} {old} come has is =
+    event_film (λ heard bytes. (stored : Stored) × IsCutBy old.session stored setup stop heard bytes) come
+    (stop_cut (stop_still old.session is has))
+    (λ slot. subst (λ n. (stored : Stored)
     × IsCutBy old.session stored setup stop n (film ++ film_bytes (slot_parts old.session slot)))
     (slot_heard old.session slot) (stop_cut (stop_slot old.session slot is has)))
-cut_event {event = HeardEnd} come has is = absurd come.comes
-cut_event {event = Sent byte} come has is = absurd come.comes
 
 kept_in : {state : State} {film : List ℕ} {old new : Stage} {event : IoEvent} (come : EventCome old event new) →
     IsWell old.session film → old.session.state ≡ state →

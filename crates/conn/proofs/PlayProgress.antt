@@ -97,6 +97,24 @@ film_cases false between one after plain text = append-nil plain
 film_cases true false one after plain text = refl
 film_cases true true one after plain text = ap (λ bs. one ++ bs) (append-nil after)
 
+-- what is sent by a pacing in a slot, around a reply that waits
+abbrev pub parts_in : Bool → Bool → PacerState → ℕ → List ℕ → List SentPart
+parts_in waits between p slot text =
+    if waits then Film (plan_bytes p p.sent (step_end true (at_slot slot p)))
+    ∷ (if between
+    then Text text
+    ∷ Film (plan_bytes (after_step true slot p) (after_step true slot p).sent
+    (step_end false (at_slot slot (after_step true slot p)))) ∷ [] else [])
+    else Film (plan_bytes p p.sent (step_end false (at_slot slot p))) ∷ []
+
+pub pacer_film : (waits : Bool) (p : PacerState) (text : List ℕ) (slot : ℕ)
+    → film_bytes (parts_in waits (stands_at_boundary (after_step true slot p)) p slot text) ≡ slot_film waits slot p
+pacer_film waits p text slot =
+    let q : PacerState = after_step true slot p in
+    film_cases waits (stands_at_boundary q) (plan_bytes p p.sent (step_end true (at_slot slot p)))
+    (plan_bytes q q.sent (step_end false (at_slot slot q)))
+    (plan_bytes p p.sent (step_end false (at_slot slot p))) text
+
 abbrev pub state_after_slot : Bool → State → ℕ → State
 state_after_slot waits state slot =
     if waits && is_between (stepped_in true slot state) then after_stop (due_state waits state slot)
@@ -124,12 +142,7 @@ play_state waits setup play slot =
 
 play_film : (waits : Bool) (setup : Setup) (play : Played) (text : List ℕ) (slot : ℕ) →
     film_bytes (parts_of waits (Playing setup play) text slot) ≡ slot_film waits slot play.pacer
-play_film waits setup play text slot =
-    let p = play.pacer in
-    let p' = after_step true slot p in
-    film_cases waits (stands_at_boundary p') (plan_bytes p p.sent (step_end true (at_slot slot p)))
-    (plan_bytes p' p'.sent (step_end false (at_slot slot p')))
-    (plan_bytes p p.sent (step_end false (at_slot slot p))) text
+play_film waits setup play text slot = pacer_film waits play.pacer text slot
 
 -- a play goes on by a slot that is processed
 pub taken_slot : {setup : Setup} {play : Played} {film : List ℕ} (old : SessionState) (slot : ℕ) →

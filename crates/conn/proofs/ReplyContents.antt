@@ -21,8 +21,8 @@ use Rattle.rtsp_replies.specs.Replies.{started_text}
 use Rattle.rtsp_replies.specs.Replies.{field, full_text, overflow_text}
 use Rattle.session.specs.SlotSteps.{can_reply, after_play, is_between, is_sending, is_taken, sent_due}
 use Rattle.session.specs.SlotSteps.{sent_reply, sent_slot, after_slot, stepped_in}
-use Rattle.session.specs.SessionStates.{AwaitedAnswer, NoAnswer, PlayAnswer, HaltAnswer, LookAnswer}
-use Rattle.session.specs.SessionStates.{OfferAnswer, SessionState, awaited_answer}
+use Rattle.session.specs.SessionStates.{AwaitedAnswer}
+use Rattle.session.specs.SessionStates.{SessionState, awaited_answer}
 use Rattle.conn.specs.InputSteps.{Outcome, Unasked, Entered, WasFull, Offered, SentPart, Film, Text, Stage}
 use Rattle.conn.specs.InputSteps.{ElementStep, Passed, Answered, HasHeard, IsAskAnswered, IsFinished, IsHalted}
 use Rattle.conn.specs.InputSteps.{IsLookAnswered, IsPlayAnswered, Takes as TakesElement, TakesAll}
@@ -36,6 +36,7 @@ use Rattle.conn.specs.declared.reports.ConnEnd.{ConnEnd}
 use Rattle.session.proofs.ReplyCodeLemmas.{hears_text, ok_plain}
 use Rattle.conn.specs.Guarantees.{ReportsFullOf}
 use Rattle.conn.proofs.EventPremises.{SlotStandings, SlotBytes}
+use Rattle.conn.proofs.HaltAnswers.{finished_as_before, halted_same}
 
 -- three digits differ where the first does
 other : {a b c x y z : ℕ} → (a ≡ x → ⊥) → (a ∷ b ∷ c ∷ []) ≡ (x ∷ y ∷ z ∷ []) → ⊥
@@ -186,13 +187,9 @@ full_told {new} made old more entries live is =
     (told_full made more entries live _)
 
 -- a halt leaves the reply
-pub halted_text : (old : SessionState) (keep : ℕ) (outcome : Outcome) (new : SessionState) → IsHalted old keep outcome
-    new
-    → new.text ≡ old.text
-halted_text old keep Unasked new halted = absurd halted
-halted_text old keep (Entered placed) new halted = ap (λ (s : SessionState). s.text) halted.halts
-halted_text old keep (WasFull more entries live) new halted = absurd halted
-halted_text old keep (Offered at_slot note) new halted = absurd halted
+pub halted_text : (old : SessionState) (keep : ℕ) (outcome : Outcome) (new : SessionState)
+    → IsHalted old keep outcome new → new.text ≡ old.text
+halted_text = halted_same (λ (s : SessionState). s.text) (λ s place. refl)
 
 -- the station's answer to a session whose text states no refusal
 pub record PlainAnswer (old : SessionState) (ask : Ask) (outcome : Outcome) (new : SessionState) : Type 0 where
@@ -323,14 +320,7 @@ slot_tells made old slot told =
 
 finished_text : (asks : AwaitedAnswer) (old : SessionState) (halt : Outcome) (new : SessionState)
     → IsFinished asks old halt new → new.text ≡ old.text
-finished_text NoAnswer old Unasked new is = ap (λ (s : SessionState). s.text) is
-finished_text NoAnswer old (Entered placed) new is = absurd is
-finished_text NoAnswer old (WasFull more entries live) new is = absurd is
-finished_text NoAnswer old (Offered at_slot note) new is = absurd is
-finished_text (PlayAnswer plan) old halt new is = absurd is
-finished_text (HaltAnswer keep) old halt new is = halted_text old keep halt new is
-finished_text LookAnswer old halt new is = absurd is
-finished_text OfferAnswer old halt new is = absurd is
+finished_text = finished_as_before (λ (s : SessionState). s.text) (λ s place. refl)
 
 comes_tells : {made : List Outcome} {due : List SentPart} (old new : Stage) (event : IoEvent) (halt : Outcome) →
     IsTold made old.session.text →

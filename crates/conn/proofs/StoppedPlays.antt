@@ -5,8 +5,7 @@ use Rattle.film_frames.specs.declared.stored_films.Stored.{Stored}
 use Rattle.film_frames.specs.Tracks.{IsBoundaryAfter, framed_bytes}
 use Rattle.film_run.proofs.PlanLemmas.{sending-best}
 use Rattle.film_run.specs.Units.{stored_sizes}
-use Rattle.pacer.specs.PacerStates.{PacerState, after_step, at_slot, first_slots, plan_bytes, stands_at_boundary}
-use Rattle.pacer.specs.PacerStates.{step_end}
+use Rattle.pacer.specs.PacerStates.{PacerState, after_step, first_slots, stands_at_boundary}
 use Rattle.film_streams.specs.declared.setups.Setup.{Setup}
 use Rattle.session.specs.declared.states.State.{State}
 use Rattle.session.specs.declared.states.State.TheVariants.{Ready, Stopping}
@@ -21,7 +20,7 @@ use Rattle.conn.specs.InputSteps.{due_parts, film_bytes, slot_parts}
 use Rattle.conn.proofs.FilmBytes.{sent_through, slot_film, slot_is, slot_pacing}
 use Rattle.conn.proofs.HaltedPlays.{halted_count, halted_on}
 use Rattle.conn.proofs.RequestInvariants.{Ground, HasStopped, IsStateOf, ground_of}
-use Rattle.conn.proofs.PlayProgress.{film_cases, later_slot, parts_of, reply_heard, reply_state, slot_cases}
+use Rattle.conn.proofs.PlayProgress.{later_slot, pacer_film, parts_of, reply_heard, reply_state, slot_cases}
 use Rattle.conn.proofs.PlayProgress.{state_after_slot}
 
 abbrev pub with_rest : Stop → PacerState → Stop
@@ -64,12 +63,7 @@ stop_state stop waits setup slot =
 
 stop_film : (stop : Stop) (waits : Bool) (setup : Setup) (text : List ℕ) (slot : ℕ) →
     film_bytes (parts_of waits (Stopping setup stop) text slot) ≡ slot_film waits slot stop.pacer
-stop_film stop waits setup text slot =
-    let p = stop.pacer in
-    let p' = after_step true slot p in
-    film_cases waits (stands_at_boundary p') (plan_bytes p p.sent (step_end true (at_slot slot p)))
-    (plan_bytes p' p'.sent (step_end false (at_slot slot p')))
-    (plan_bytes p p.sent (step_end false (at_slot slot p))) text
+stop_film stop waits setup text slot = pacer_film waits stop.pacer text slot
 
 -- by a slot that is processed
 stop_through : {ground : Ground} {setup : Setup} {stop : Stop} {slot : ℕ} (waits : Bool) →

@@ -34,6 +34,19 @@ use Rattle.conn.specs.declared.reports.ConnReport.{ConnReport}
 use Rattle.conn.proofs.Journals.{agree_longer, agree_lower, terms_same}
 use Rattle.conn.proofs.CourseSteps.{noted_on}
 
+-- what is noted of a connection agrees with its seat's journal from the beginning
+seen_agrees : (old new : SeatState) (outcomes : List Outcome) → AreNoted old new outcomes
+    → AgreeWith (terms_of new) new.seen 0 outcomes
+seen_agrees old new outcomes noted =
+    subst (λ terms. AgreeWith terms new.seen 0 outcomes) (sym (terms_same old new noted.seat))
+    (agree_lower (record {
+      terms = terms_of old;
+      journal = new.seen;
+      low = 0;
+      from = length old.seen;
+      below = omega arith;
+    }) outcomes noted.agree)
+
 course_agrees : {told : List IoEvent} {old new : SeatState} (visit : Visit) →
     CourseMeetsGuarantee (new_session_state visit.films visit.settings visit.report.words) (Some []) (Some told) old new
     visit.report → visit.returned.told ≡ Some told → (visit.report.end ≡ LinkFault → HasRisen 0 visit.returned.faults) →
@@ -44,15 +57,6 @@ course_agrees {old} {new} visit keeps tells fault entries =
     let course = served.course in
     let doings : Activity = record { rounds = course.rounds; ending = course.ending; halt = served.closes.halt } in
     let noted : AreNoted old new (doings_outcomes doings) = noted_on course.noted served.closes.noted in
-    let agree : AgreeWith (terms_of new) new.seen 0 (doings_outcomes doings) =
-    subst (λ terms. AgreeWith terms new.seen 0 (doings_outcomes doings)) (sym (terms_same old new noted.seat))
-    (agree_lower (record {
-      terms = terms_of old;
-      journal = new.seen;
-      low = 0;
-      from = length old.seen;
-      below = omega arith;
-    }) (doings_outcomes doings) noted.agree) in
     record {
       legal = keeps.booked.legal;
       doings = doings;
@@ -67,7 +71,7 @@ course_agrees {old} {new} visit keeps tells fault entries =
         closes = served.closes.closes;
         report_is = served.report_is;
       };
-      agree = agree;
+      agree = seen_agrees old new (doings_outcomes doings) noted;
       plays = keeps.keeps.plays;
       refusals = keeps.keeps.refusals;
       halts = subst (λ made. open_play_from Closed made ≡ Closed)

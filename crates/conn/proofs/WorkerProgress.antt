@@ -75,79 +75,77 @@ one_served {worker_input} {old_seat} {mid_seat} {new_seat} {old} {mid} {new} {ta
       count = omega (arith, front.count, count);
     }
 
--- there was no memory for one more report
-pub ends_early : {worker_input : WorkerInput} {old_seat new_seat : SeatState} {old new : WorkerGate} {result :
-    PartReport} →
-    HasServedSoFar worker_input old_seat new_seat old new result.reports.items →
-    result.end ≡ NoMemory → WorkerSpec worker_input old_seat new_seat old new result
-ends_early {new} front is = record {
-  seat = front.seat;
-  entries = front.entries;
-  reports = front.each;
-  served = front.served;
-  connections = front.connections;
-  count = front.count;
-  all = λ other. absurd (let no : ⊥ = cc (is, other) in no);
-  fault = λ other. absurd (let no : ⊥ = cc (is, other) in no);
-  failed = λ other. absurd (let no : ⊥ = cc (is, other) in no);
-}
+-- what is known of the gate by the cause of a part's end
+record EndsBy (old new : WorkerGate) (result : PartReport) : Type 0 where
+  all : result.end ≡ AllTaken → IfSome new.told (λ c. c.own.last ≡ NoMore)
+  fault : result.end ≡ GateFault → HasRisen old.faults new.faults
+  failed : result.end ≡ GateFault → IfSome new.told (λ c. c.own.last ≡ Failed)
 
--- the last take gave none
-took_none : {worker_input : WorkerInput} {old_seat new_seat : SeatState} {old mid new : WorkerGate} {reports : List
-    ConnReport}
-    (last : LastTake) → HasServedSoFar worker_input old_seat new_seat old mid reports →
-    new.told ≡ option_map (after_empty_take last) mid.told → mid.faults ≤ new.faults →
-    HasServedSoFar worker_input old_seat new_seat old new reports
-took_none {worker_input} {old_seat} {new_seat} {old} {mid} {reports} last front told count = record {
-  seat = front.seat;
-  entries = front.entries;
-  each = front.each;
-  served = served_last old.told mid.told (length reports) last front.served told;
-  connections = told_end (record {
-    films = worker_input.films;
-    settings = worker_input.settings;
-    old = old_seat;
-    next = new_seat;
-    reports = reports;
-  }) mid.told last front.connections told;
-  count = omega (arith, front.count, count);
-}
+-- a part that ends
+module _ {worker_input : WorkerInput} {old_seat new_seat : SeatState} {old : WorkerGate} where
+  ended : {new : WorkerGate} {result : PartReport}
+      → HasServedSoFar worker_input old_seat new_seat old new result.reports.items → EndsBy old new result
+      → WorkerSpec worker_input old_seat new_seat old new result
+  ended so_far ends = record {
+    seat = so_far.seat;
+    entries = so_far.entries;
+    reports = so_far.each;
+    served = so_far.served;
+    connections = so_far.connections;
+    count = so_far.count;
+    all = ends.all;
+    fault = ends.fault;
+    failed = ends.failed;
+  }
 
--- there are no more
-pub ends_taken : {worker_input : WorkerInput} {old_seat new_seat : SeatState} {old mid new : WorkerGate} {result :
-    PartReport} →
-    HasServedSoFar worker_input old_seat new_seat old mid result.reports.items →
-    result.end ≡ AllTaken → new.told ≡ option_map (after_empty_take NoMore) mid.told → mid.faults ≤ new.faults
-    → WorkerSpec worker_input old_seat new_seat old new result
-ends_taken {mid} {new} front is last count =
-    let so_far = took_none {new = new} NoMore front last count in record {
-      seat = so_far.seat;
-      entries = so_far.entries;
-      reports = so_far.each;
-      served = so_far.served;
-      connections = so_far.connections;
-      count = so_far.count;
-      all = λ same. told_last mid.told new.told NoMore last;
-      fault = λ other. absurd (let no : ⊥ = cc (is, other) in no);
-      failed = λ other. absurd (let no : ⊥ = cc (is, other) in no);
-    }
+  -- there was no memory for one more report
+  pub ends_early : {new : WorkerGate} {result : PartReport}
+      → HasServedSoFar worker_input old_seat new_seat old new result.reports.items → result.end ≡ NoMemory
+      → WorkerSpec worker_input old_seat new_seat old new result
+  ends_early front is = ended front (record {
+    all = λ other. absurd (let no : ⊥ = cc (is, other) in no);
+    fault = λ other. absurd (let no : ⊥ = cc (is, other) in no);
+    failed = λ other. absurd (let no : ⊥ = cc (is, other) in no);
+  })
 
--- or it failed
-pub ends_failed : {worker_input : WorkerInput} {old_seat new_seat : SeatState} {old mid new : WorkerGate} {result :
-    PartReport} →
-    HasServedSoFar worker_input old_seat new_seat old mid result.reports.items →
-    result.end ≡ GateFault → new.told ≡ option_map (after_empty_take Failed) mid.told →
-    mid.faults ≤ new.faults → HasRisen mid.faults new.faults →
-    WorkerSpec worker_input old_seat new_seat old new result
-ends_failed {old} {mid} {new} front is last count risen =
-    let so_far = took_none {new = new} Failed front last count in record {
-      seat = so_far.seat;
-      entries = so_far.entries;
-      reports = so_far.each;
-      served = so_far.served;
-      connections = so_far.connections;
-      count = so_far.count;
-      all = λ other. absurd (let no : ⊥ = cc (is, other) in no);
-      fault = λ same. risen_on old.faults mid.faults new.faults front.count risen;
-      failed = λ same. told_last mid.told new.told Failed last;
-    }
+  -- the last take gave none
+  took_none : {mid new : WorkerGate} {reports : List ConnReport} (last : LastTake)
+      → HasServedSoFar worker_input old_seat new_seat old mid reports
+      → new.told ≡ option_map (after_empty_take last) mid.told → mid.faults ≤ new.faults
+      → HasServedSoFar worker_input old_seat new_seat old new reports
+  took_none {mid} {reports = reports} last front told count = record {
+    seat = front.seat;
+    entries = front.entries;
+    each = front.each;
+    served = served_last old.told mid.told (length reports) last front.served told;
+    connections = told_end (record {
+      films = worker_input.films;
+      settings = worker_input.settings;
+      old = old_seat;
+      next = new_seat;
+      reports = reports;
+    }) mid.told last front.connections told;
+    count = omega (arith, front.count, count);
+  }
+
+  -- there are no more
+  pub ends_taken : {mid new : WorkerGate} {result : PartReport}
+      → HasServedSoFar worker_input old_seat new_seat old mid result.reports.items → result.end ≡ AllTaken
+      → new.told ≡ option_map (after_empty_take NoMore) mid.told → mid.faults ≤ new.faults
+      → WorkerSpec worker_input old_seat new_seat old new result
+  ends_taken {mid} {new} front is last count = ended (took_none {new = new} NoMore front last count) (record {
+    all = λ same. told_last mid.told new.told NoMore last;
+    fault = λ other. absurd (let no : ⊥ = cc (is, other) in no);
+    failed = λ other. absurd (let no : ⊥ = cc (is, other) in no);
+  })
+
+  -- or it failed
+  pub ends_failed : {mid new : WorkerGate} {result : PartReport}
+      → HasServedSoFar worker_input old_seat new_seat old mid result.reports.items → result.end ≡ GateFault
+      → new.told ≡ option_map (after_empty_take Failed) mid.told → mid.faults ≤ new.faults
+      → HasRisen mid.faults new.faults → WorkerSpec worker_input old_seat new_seat old new result
+  ends_failed {mid} {new} front is last count risen = ended (took_none {new = new} Failed front last count) (record {
+    all = λ other. absurd (let no : ⊥ = cc (is, other) in no);
+    fault = λ same. risen_on old.faults mid.faults new.faults front.count risen;
+    failed = λ same. told_last mid.told new.told Failed last;
+  })

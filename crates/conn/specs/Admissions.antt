@@ -1,5 +1,6 @@
 -- What a PLAY is answered to which no refusal applies.
-use Rattle.std.specs.Prelude.{◌≡◌, ◌⊎◌, ◌+◌, ◌^◌, ◌<◌, ◌≤◌, ℕ, min, List, [], ◌∷◌, length, take}
+use Rattle.std.specs.Prelude.{◌≡◌, ◌⊎◌, ◌+◌, ◌<◌, ◌≤◌, ℕ, min, List, [], ◌∷◌, length, take}
+use Rattle.vod_base.specs.declared.links.TheConstants.{LATEST_SLOT}
 use Rattle.plan_cert.specs.declared.Segment.{Segment}
 use Rattle.slot_calendar.specs.Calendars.{HasRoom, IsFirstOverflow}
 use Rattle.slot_calendar.specs.Profiles.{capacity_at}
@@ -47,7 +48,7 @@ IsEntryReplied old placed (Looked now at booked) new = ⊥
 -- where a play begins that is looked at after the first entries of a journal: in the slot after the
 -- last one received and after all those in which plays were asked for
 abbrev pub start_at : List Entry → ℕ → ℕ → ℕ
-start_at journal turn heard = start_after (state_after (take turn journal)) (min heard (2 ^ 62))
+start_at journal turn heard = start_after (state_after (take turn journal)) (min heard LATEST_SLOT)
 
 -- The station looked at a play while it held the lock, after the first entries of a journal.
 -- Without room for its entry and its halt's it is answered 503, with the journal's entries and open

@@ -1,8 +1,9 @@
 -- When what a link exposed and a report go with a journal.
-use Rattle.std.specs.Prelude.{◌≡◌, ◌≢◌, ℕ, ◌+◌, ◌≤◌, ◌^◌, List, [], ◌∷◌, ◌++◌, length, Some}
+use Rattle.std.specs.Prelude.{◌≡◌, ◌≢◌, ℕ, ◌+◌, ◌≤◌, List, [], ◌∷◌, ◌++◌, length, Some}
 use Rattle.vod_base.specs.Gates.{ReturnedConn}
 use Rattle.vod_base.specs.Links.{IoEvent}
 use Rattle.vod_base.specs.IoState.{HasRisen}
+use Rattle.vod_base.specs.declared.links.TheConstants.{MAX_EVENTS}
 use Rattle.film_frames.specs.declared.stored_films.Stored.{Stored}
 use Rattle.admission.specs.declared.entries.Entry.{Entry}
 use Rattle.admission.specs.Histories.{IsLegal}
@@ -43,7 +44,7 @@ pub record HasDone (films : List Stored) (settings : Settings) (words : List ℕ
   pub runs : RunsAll (stage (new_session_state films settings words) []) doings.rounds mid
   pub last : Stage
   pub ends : Ends mid (length doings.rounds) doings.ending report.end last
-  pub few : length doings.rounds + length (ending_events doings.ending) ≤ 2 ^ 40
+  pub few : length doings.rounds + length (ending_events doings.ending) ≤ MAX_EVENTS
   pub closed : SessionState
   pub closes : IsClosed (open_of last.session) last.session doings.halt closed
   pub report_is : IsReportOf closed report

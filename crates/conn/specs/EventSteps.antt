@@ -1,8 +1,9 @@
 -- The course of a connection: event after event, what was processed, what the station answered and
 -- what was sent.
-use Rattle.std.specs.Prelude.{◌≡◌, ℕ, ◌+◌, ◌^◌, ◌<◌, ◌≤◌, ◌⊎◌, ◌++◌, true, false, List, [], ◌∷◌}
+use Rattle.std.specs.Prelude.{◌≡◌, ℕ, ◌+◌, ◌<◌, ◌≤◌, ◌⊎◌, ◌++◌, true, false, List, [], ◌∷◌}
 use Rattle.std.specs.Prelude.{length, take, drop, Ok, Err}
 use Rattle.vod_base.specs.Links.{IoEvent, HeardBytes, HeardEnd, HeardSlot, Sent, sends}
+use Rattle.vod_base.specs.declared.links.TheConstants.{MAX_EVENTS}
 use Rattle.interleave.specs.Elements.{IsFirst}
 use Rattle.interleave.specs.declared.elements.Step.TheVariants.{More, Request}
 use Rattle.interleave.specs.declared.elements.DemuxFault.TheVariants.{HeadTooLong as LongHead}
@@ -70,8 +71,8 @@ pub data Ending : Type 0 where
 
 -- the end of a connection that receives no event any more, after so many
 abbrev pub IsUnheard : ConnEnd → ℕ → Type 0
-IsUnheard LinkFault count = count < 2 ^ 40
-IsUnheard TurnsSpent count = count ≡ 2 ^ 40
+IsUnheard LinkFault count = count < MAX_EVENTS
+IsUnheard TurnsSpent count = count ≡ MAX_EVENTS
 IsUnheard _ count = ⊥
 
 -- the cause for which nothing more is processed: the 200 of a TEARDOWN was sent, or the first

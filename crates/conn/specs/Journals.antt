@@ -1,6 +1,7 @@
 -- The station's answers to a connection, as a journal has them.
-use Rattle.std.specs.Prelude.{◌≡◌, ℕ, ◌+◌, ◌^◌, ◌<◌, ◌≤◌, min, List, [], ◌∷◌, length, take}
+use Rattle.std.specs.Prelude.{◌≡◌, ℕ, ◌+◌, ◌<◌, ◌≤◌, min, List, [], ◌∷◌, length, take}
 use Rattle.std.specs.Prelude.{slice_index_or}
+use Rattle.vod_base.specs.declared.links.TheConstants.{LATEST_SLOT}
 use Rattle.slot_calendar.specs.declared.profiles.CapStep.{CapStep}
 use Rattle.slot_calendar.specs.Profiles.{capacity_at}
 use Rattle.admission.specs.declared.entries.Command.{Command}
@@ -61,7 +62,7 @@ pub record IsOfferedIn (steps : List CapStep) (journal : List Entry) (from slot 
   pub after : from ≤ note.seen
   pub within : note.seen ≤ length journal
   pub first_is : note.first ≡
-      start_after (state_after (take note.seen journal)) (min slot (2 ^ 62))
+      start_after (state_after (take note.seen journal)) (min slot LATEST_SLOT)
   pub offer : IsOffer 0 (booked_after (take note.seen journal)) (capacity_at steps)
       note.plan note.first note.offers
 

@@ -1,7 +1,8 @@
 -- What is seen of a connection as it goes on, and what each of its doings adds.
-use Rattle.std.specs.Prelude.{◌≡◌, ℕ, ◌+◌, ◌^◌, ◌≤◌, ◌⊎◌, ◌++◌, List, [], ◌∷◌, length, Option}
+use Rattle.std.specs.Prelude.{◌≡◌, ℕ, ◌+◌, ◌≤◌, ◌⊎◌, ◌++◌, List, [], ◌∷◌, length, Option}
 use Rattle.std.specs.Prelude.{Some, None}
 use Rattle.vod_base.specs.Links.{IoEvent, sends, told_more}
+use Rattle.vod_base.specs.declared.links.TheConstants.{MAX_EVENTS}
 use Rattle.station.specs.Seats.{IsSameSeat, SeatState}
 use Rattle.session.specs.declared.commands.Ask.{Ask}
 use Rattle.session.specs.SessionStates.{SessionState}
@@ -131,13 +132,14 @@ pub record HasRun (count : ℕ) (old new : Observed) : Type 0 where
   pub told : new.told ≡ told_more old.told (rounds_doings rounds)
   pub noted : AreNoted old.seat new.seat (rounds_outcomes rounds)
 
--- a connection's entire course, up to its end; at most 2^40 events were received
+-- a connection's entire course, up to its end; at most MAX_EVENTS events were
+-- received
 pub record HasCourse (end : ConnEnd) (old new : Observed) : Type 0 where
   pub rounds : List Round
   pub mid : Stage
   pub runs : RunsAll old.stage rounds mid
   pub ending : Ending
-  pub few : length rounds + length (ending_events ending) ≤ 2 ^ 40
+  pub few : length rounds + length (ending_events ending) ≤ MAX_EVENTS
   pub ends : Ends mid (length rounds) ending end new.stage
   pub told : new.told ≡ told_more old.told (rounds_doings rounds ++ ending_doings ending)
   pub noted : AreNoted old.seat new.seat (rounds_outcomes rounds ++ ending_outcomes ending)

@@ -1,7 +1,7 @@
 //! A connection as it goes on: its input, its session, and the booking that is open for it.
 
 ghost use Rattle.std.specs.Prelude.{◌≡◌, ◌≤◌, Ok, false, None, [], drop, take};
-ghost use Rattle.std.specs.Prelude.{length as list_length, IfOk, IsSome, OnOk, OnErr, Some};
+ghost use Rattle.std.specs.Prelude.{length as list_length, IfOk, OnOk, OnErr, Some};
 ghost use Rattle.vod_base.specs.Links.{IsWithin, io_event_of};
 ghost use Rattle.interleave.specs.Elements.{IsFirst, IsMessageLength};
 ghost use Rattle.interleave.specs.declared.elements.Step.TheVariants.{Request};
@@ -338,10 +338,12 @@ impl<'a> Connection<'a> {
         ensures lost { self.new.session.lost ≡ self.old.session.lost }
     {
         seat.holds();
-        // Moved out: the station takes it, so that no play is halted twice.
-        let booking = release(&mut self.booking);
-        let place = station.halt(rt, seat, booking, keep);
-        self.session.halted(place);
+        // Moved out: the station takes it, so that no play is halted twice. There is one: the session
+        // asks for a halt only while a play is open.
+        if let Some(booking) = mem::replace(&mut self.booking, None) {
+            let place = station.halt(rt, seat, booking, keep);
+            self.session.halted(place);
+        }
     }
 
     /// Looks at a slot.
@@ -425,11 +427,9 @@ impl<'a> Connection<'a> {
             input: _input,
             booking,
         } = self;
-        match booking {
-            None => session.notes(),
-            // A booking can't be dropped, so this case has to be named; `close` has halted any.
-            Some(_) => unreachable!(),
-        }
+        // `close` has halted any.
+        drop_none(booking);
+        session.notes()
     }
 }
 
@@ -473,26 +473,21 @@ fn hear_refusal(session: &mut Session<'_>, refused: PlayRefused)
     }
 }
 
-/// Holds a booking, where none is held. An assignment would drop what was held before, and a
-/// booking can't be dropped: it is to be spent by its halt.
+/// Holds a booking, where none is held. An assignment would drop what was held before.
 fn hold(held: &mut Option<Booking>, booking: Booking)
     requires { held.old ≡ None }
     ensures { held.new ≡ Some booking }
 {
-    match mem::replace(held, Some(booking)) {
-        None => {}
-        Some(_) => unreachable!(),
-    }
+    drop_none(mem::replace(held, Some(booking)));
 }
 
-/// Gives up the booking that is held.
-fn release(held: &mut Option<Booking>) -> Booking
-    requires { IsSome held.old }
-    ensures booking { held.old ≡ Some result }
-    ensures none { held.new ≡ None }
+/// Drops the place of a booking, where none is held. A booking itself can't be dropped: it is to be
+/// spent by its halt.
+fn drop_none(held: Option<Booking>)
+    requires { held ≡ None }
 {
-    match mem::replace(held, None) {
-        Some(booking) => booking,
-        None => unreachable!(),
+    match held {
+        None => {}
+        Some(_) => unreachable!(),
     }
 }

@@ -1,18 +1,11 @@
-use Rattle.std.proofs.Common.{rules}
-use Rattle.session.specs.SessionStates.{open_of}
+use Rattle.std.proofs.Common.{rules, sym, ◌∙◌}
 use Rattle.conn.specs.ReservationInvariant.{reservation_state}
-use Rattle.conn.proofs.AdmittedPlays.{held_some}
 use Rattle.conn.proofs.Outcomes.{halted_entry}
 use Rattle.conn.proofs.ReservationSteps.{gone_halt}
 use Rattle.conn.proofs.connections.Connection.halt.Goals as goal
 
-pub release-booking-requires : goal.release-booking-requires
-release-booking-requires g c =
-    held_some c.args.seat.now.mine c.args.self.now.booking (open_of c.args.self.now.session) c.args.keep
-    c.requires.held c.requires.keep
-
-pub returns-clause-kept : goal.returns-clause-kept
-returns-clause-kept g c = record {
+pub returns-in-Some-clause-kept : goal.returns-in-Some-clause-kept
+returns-in-Some-clause-kept g c = record {
   seat = c.halt-place.ensures.same;
   quiet = search rules;
   gone =
@@ -20,13 +13,13 @@ returns-clause-kept g c = record {
       {new = reservation_state c.halt-place.new.seat.mine (record {
         session = c.halted.new.self;
         input = c.args.self.now.input;
-        booking = c.release-booking.new.held;
-      })} {made = c.release-booking.result} c.release-booking.ensures.booking c.release-booking.ensures.none
+        booking = c.replace.new.dest;
+      })} {made = c.in-Some.booking} (sym c.replace.ensures.value ∙ c.in-Some.is) c.replace.ensures.after
       (record { mine = c.halt-place.ensures.made.mine; receipts = c.halted.ensures.handed.receipts });
 }
 
-pub returns-clause-answered : goal.returns-clause-answered
-returns-clause-answered g c =
+pub returns-in-Some-clause-answered : goal.returns-in-Some-clause-answered
+returns-in-Some-clause-answered g c =
     halted_entry
     c.holds.ensures.kept c.halt-place.ensures.kept c.halt-place.ensures.same c.halt-place.ensures.made
     c.halted.ensures.halts
