@@ -1,5 +1,5 @@
 -- Which line of a text that is no certificate is the bad one.
-use Rattle.std.proofs.Common.{◌≡◌, ◌≢◌, ◌≤◌, ◌+◌, ◌^◌, ◌⊎◌, ℕ, List, [], ◌∷◌, ◌++◌, All, length, get_or}
+use Rattle.std.proofs.Common.{◌≡◌, ◌≢◌, ◌≤◌, ◌+◌, ◌⊎◌, ℕ, List, [], ◌∷◌, ◌++◌, All, length, get_or}
 use Rattle.std.proofs.Common.{decimal, codes, flat_map, not, inl, inr, arith, refl, sym, ap, subst, ◌∙◌}
 use Rattle.std.proofs.Common.{length-append, ne_eqb}
 use Rattle.std.proofs.lemmas.Bool.{and_from, cases_lt}
@@ -7,6 +7,7 @@ use Rattle.std.proofs.lemmas.List.{append_assoc}
 use Rattle.std.proofs.lemmas.List.Elements.{All-append, All-cons, All-head, All-nil, All-tail}
 use Rattle.std.proofs.lemmas.List.Sums.{sum_by-cons}
 use Rattle.std.proofs.Math.ListN.{get_or-eq_default}
+use Rattle.plan_cert.specs.declared.cert_reader.TheConstants.{MAX_NUMBER}
 use Rattle.vod_base.specs.Splits.{IsSplitAtFirst}
 use Rattle.vod_base.proofs.SplitLemmas.{none_is}
 use Rattle.plan_cert.specs.declared.Segment.{Segment}
@@ -35,13 +36,13 @@ few-segments (s ∷ rest) some =
       sum_by-cons (λ (x : Segment). x.slots) s rest,
     )
 
-small-segments : (segments : List Segment) → total_slots segments ≤ 2 ^ 42 → total_bytes segments ≤ 2 ^ 42
-    → All (λ s. (s.slots ≤ 2 ^ 42) × (s.bytes ≤ 2 ^ 42)) segments
-small-segments [] few_slots few_bytes = All-nil (λ (s : Segment). (s.slots ≤ 2 ^ 42) × (s.bytes ≤ 2 ^ 42))
+small-segments : (segments : List Segment) → total_slots segments ≤ MAX_NUMBER → total_bytes segments ≤ MAX_NUMBER
+    → All (λ s. (s.slots ≤ MAX_NUMBER) × (s.bytes ≤ MAX_NUMBER)) segments
+small-segments [] few_slots few_bytes = All-nil (λ (s : Segment). (s.slots ≤ MAX_NUMBER) × (s.bytes ≤ MAX_NUMBER))
 small-segments (s ∷ rest) few_slots few_bytes =
     let slots = sum_by-cons (λ (x : Segment). x.slots) s rest in
     let bytes = sum_by-cons (λ (x : Segment). x.bytes) s rest in
-    All-cons (λ (x : Segment). (x.slots ≤ 2 ^ 42) × (x.bytes ≤ 2 ^ 42)) s rest
+    All-cons (λ (x : Segment). (x.slots ≤ MAX_NUMBER) × (x.bytes ≤ MAX_NUMBER)) s rest
     (omega (arith, slots, few_slots), omega (arith, bytes, few_bytes))
     (small-segments rest (omega (arith, slots, few_slots)) (omega (arith, bytes, few_bytes)))
 
@@ -79,7 +80,7 @@ bad-title line rest is other =
     )
 
 pub bad-slots : (line rest : List ℕ) → IsOneLine line
-    → ((n : ℕ) → n ≤ 2 ^ 42 → line ≢ codes "slots " ++ decimal n)
+    → ((n : ℕ) → n ≤ MAX_NUMBER → line ≢ codes "slots " ++ decimal n)
     → IsBadLine (codes "smooth 1" ++ 10 ∷ (line ++ 10 ∷ rest)) 2
 bad-slots line rest is other = (
   1,
@@ -95,20 +96,20 @@ one-line (x ∷ line) none =
     and_from _ _ (ap not (ne_eqb x 10 (All-head (λ b. b ≢ 10) x line none)))
     (one-line line (All-tail (λ b. b ≢ 10) x line none))
 
-number-line : (word : List ℕ) (n : ℕ) → n ≤ 2 ^ 42 → IsOneLine word → IsOneLine (word ++ decimal n)
+number-line : (word : List ℕ) (n : ℕ) → n ≤ MAX_NUMBER → IsOneLine word → IsOneLine (word ++ decimal n)
 number-line word n small clean =
     one-line (word ++ decimal n)
     (All-append (λ b. b ≢ 10) word (decimal n) (none_is 10 word clean) (number_clean n small))
 
-slots-line : (slots : ℕ) (rest : List ℕ) → slots ≤ 2 ^ 42
+slots-line : (slots : ℕ) (rest : List ℕ) → slots ≤ MAX_NUMBER
     → HasReadLines (codes "smooth 1" ++ 10 ∷ ((codes "slots " ++ decimal slots) ++ 10 ∷ rest)) 2 rest
 slots-line slots rest small =
     let line = codes "slots " ++ decimal slots in
     read_more (title-line (line ++ 10 ∷ rest)) (cut-off line rest (number-line (codes "slots ") slots small refl))
     (Slots slots refl (record { small = small; words = refl }))
 
-pub bad-bytes : (slots : ℕ) (line rest : List ℕ) → slots ≤ 2 ^ 42 → IsOneLine line
-    → ((n : ℕ) → n ≤ 2 ^ 42 → line ≢ codes "bytes " ++ decimal n)
+pub bad-bytes : (slots : ℕ) (line rest : List ℕ) → slots ≤ MAX_NUMBER → IsOneLine line
+    → ((n : ℕ) → n ≤ MAX_NUMBER → line ≢ codes "bytes " ++ decimal n)
     → IsBadLine (codes "smooth 1" ++ 10 ∷ ((codes "slots " ++ decimal slots) ++ 10 ∷ (line ++ 10 ∷ rest))) 3
 bad-bytes slots line rest small is other = (
   2,
@@ -122,11 +123,11 @@ pub record Begun : Type 0 where
   pub slots : ℕ
   pub bytes : ℕ
   pub segments : List Segment
-  pub few_slots : slots ≤ 2 ^ 42
-  pub few_bytes : bytes ≤ 2 ^ 42
+  pub few_slots : slots ≤ MAX_NUMBER
+  pub few_bytes : bytes ≤ MAX_NUMBER
   pub small : AreSmall segments
 
-head-lines : (slots bytes : ℕ) (rest : List ℕ) → slots ≤ 2 ^ 42 → bytes ≤ 2 ^ 42
+head-lines : (slots bytes : ℕ) (rest : List ℕ) → slots ≤ MAX_NUMBER → bytes ≤ MAX_NUMBER
     → HasReadLines (cert_head slots bytes ++ rest) 3 rest
 head-lines slots bytes rest few_slots few_bytes =
     let line = codes "bytes " ++ decimal bytes in
@@ -151,12 +152,12 @@ head-lines slots bytes rest few_slots few_bytes =
     (Bytes bytes refl (record { small = few_bytes; words = refl })))
 
 segment-lines : {text : List ℕ} (k : ℕ) (segments : List Segment) (rest : List ℕ)
-    → All (λ s. (s.slots ≤ 2 ^ 42) × (s.bytes ≤ 2 ^ 42)) segments → 3 ≤ k → k + length segments ≤ 1000003
+    → All (λ s. (s.slots ≤ MAX_NUMBER) × (s.bytes ≤ MAX_NUMBER)) segments → 3 ≤ k → k + length segments ≤ 1000003
     → HasReadLines text k (flat_map segment_line segments ++ rest) → HasReadLines text (k + length segments) rest
 segment-lines {text} k [] rest few after room read =
     subst (λ n. HasReadLines text n rest) (omega arith) read
 segment-lines {text} k (s ∷ segments) rest few after room read =
-    let Few : Segment → Type 0 = λ x. (x.slots ≤ 2 ^ 42) × (x.bytes ≤ 2 ^ 42) in
+    let Few : Segment → Type 0 = λ x. (x.slots ≤ MAX_NUMBER) × (x.bytes ≤ MAX_NUMBER) in
     let one : Few s = All-head Few s segments few in
     let words = segment_words s in
     let more = flat_map segment_line segments ++ rest in
@@ -178,7 +179,7 @@ begun-lines begun rest =
 
 pub bad-segment : (begun : Begun) (line rest : List ℕ) → IsOneLine line → line ≢ codes "end"
     → (length begun.segments ≡ 1000000)
-    ⊎ ((s : Segment) → s.slots ≤ 2 ^ 42 → s.bytes ≤ 2 ^ 42 → line ≢ segment_words s)
+    ⊎ ((s : Segment) → s.slots ≤ MAX_NUMBER → s.bytes ≤ MAX_NUMBER → line ≢ segment_words s)
     → IsBadLine (begun_text begun.slots begun.bytes begun.segments (line ++ 10 ∷ rest)) (length begun.segments + 4)
 bad-segment begun line rest is other wrong =
     let count = length begun.segments in (

@@ -1,5 +1,5 @@
 -- A certificate is the text of one list of segments, and has no bad line.
-use Rattle.std.proofs.Common.{◌≡◌, ◌≢◌, ◌<◌, ◌≤◌, ◌+◌, ◌^◌, ℕ, zero, suc, List, [], ◌∷◌, ◌++◌, All, length, get_or}
+use Rattle.std.proofs.Common.{◌≡◌, ◌≢◌, ◌<◌, ◌≤◌, ◌+◌, ℕ, zero, suc, List, [], ◌∷◌, ◌++◌, All, length, get_or}
 use Rattle.std.proofs.Common.{drop, map, decimal, codes, flat_map, Result, Ok, Err, MatchResult, IfOk, IfErr, inl}
 use Rattle.std.proofs.Common.{inr, arith, refl, sym, ap, subst, ◌∙◌}
 use Rattle.std.proofs.lemmas.Bool.{cases_lt}
@@ -7,6 +7,7 @@ use Rattle.std.proofs.lemmas.Fmt.{decimal_injective}
 use Rattle.std.proofs.lemmas.List.{append_assoc, append_cancel_left, append_cancel_right, length-append, length-map}
 use Rattle.std.proofs.lemmas.List.{get_or_append_left, get_or-map, get_or_at}
 use Rattle.std.proofs.lemmas.List.Elements.{All-head, All-tail, All-append, All-get_or}
+use Rattle.plan_cert.specs.declared.cert_reader.TheConstants.{MAX_NUMBER}
 use Rattle.plan_cert.specs.declared.Segment.{Segment}
 use Rattle.plan_cert.specs.declared.cert_reader.CertText.{CertText}
 use Rattle.plan_cert.specs.declared.cert_reader.CertRead.{CertRead}
@@ -22,10 +23,10 @@ use Rattle.plan_cert.proofs.DecimalLemmas.{not_in_decimal}
 use Rattle.plan_cert.proofs.GrammarLemmas.{lines-cut, head_text}
 
 -- ---- lines without LF
-pub number_clean : (n : ℕ) → n ≤ 2 ^ 42 → All (λ b. b ≢ 10) (decimal n)
+pub number_clean : (n : ℕ) → n ≤ MAX_NUMBER → All (λ b. b ≢ 10) (decimal n)
 number_clean n small = not_in_decimal 10 n (omega arith) (λ within. omega (arith, within.0))
 
-pub words_clean : (s : Segment) → s.slots ≤ 2 ^ 42 → s.bytes ≤ 2 ^ 42 → All (λ b. b ≢ 10) (segment_words s)
+pub words_clean : (s : Segment) → s.slots ≤ MAX_NUMBER → s.bytes ≤ MAX_NUMBER → All (λ b. b ≢ 10) (segment_words s)
 words_clean s few_slots few_bytes =
     All-append (λ b. b ≢ 10) (codes "segment " ++ decimal s.slots ++ codes " ") (decimal s.bytes)
     (All-append (λ b. b ≢ 10) (codes "segment " ++ decimal s.slots) (codes " ")
@@ -47,7 +48,7 @@ lines_are slots bytes segments =
     }
 
 abbrev IsFew : Segment → Type 0
-IsFew s = (s.slots ≤ 2 ^ 42) × (s.bytes ≤ 2 ^ 42)
+IsFew s = (s.slots ≤ MAX_NUMBER) × (s.bytes ≤ MAX_NUMBER)
 
 lines-body : (segments : List Segment) → All IsFew segments
     → lines_of (flat_map segment_line segments ++ codes "end\n") ≡ record { whole = body_of segments; rest = [] }
@@ -63,7 +64,7 @@ lines-body (s ∷ rest) small =
     (words_clean s few.0 few.1)
     ∙ ap (λ ls. record { whole = segment_words s ∷ ls.whole; rest = ls.rest }) others
 
-pub lines-certificate : (slots bytes : ℕ) (segments : List Segment) → slots ≤ 2 ^ 42 → bytes ≤ 2 ^ 42
+pub lines-certificate : (slots bytes : ℕ) (segments : List Segment) → slots ≤ MAX_NUMBER → bytes ≤ MAX_NUMBER
     → All IsFew segments →
     lines_of (cert_head slots bytes ++ flat_map segment_line segments ++ codes "end\n") ≡ lines_are slots bytes segments
 lines-certificate slots bytes segments small_slots small_bytes small =
@@ -114,7 +115,7 @@ same_words s t few few' e =
     let rest : decimal s.slots ++ 32 ∷ decimal s.bytes ≡ decimal t.slots ++ 32 ∷ decimal t.bytes =
     append_cancel_left (codes "segment ") (decimal s.slots ++ 32 ∷ decimal s.bytes)
     (decimal t.slots ++ 32 ∷ decimal t.bytes) (sym (shape s) ∙ e ∙ shape t) in
-    let no_space : (n : ℕ) → n ≤ 2 ^ 42 → All (λ b. b ≢ 32) (decimal n) =
+    let no_space : (n : ℕ) → n ≤ MAX_NUMBER → All (λ b. b ≢ 32) (decimal n) =
     λ (n : ℕ) small. not_in_decimal 32 n (omega arith) (λ within. omega (arith, within.0)) in
     let parts = split_once {after = decimal s.bytes} {after' = decimal t.bytes} 32 (decimal s.slots) (decimal t.slots)
     rest (no_space s.slots few.0) (no_space t.slots few'.0) in
@@ -140,8 +141,8 @@ pub record Contents : Type 0 where
   pub slots : ℕ
   pub bytes : ℕ
   pub segments : List Segment
-  pub few_slots : slots ≤ 2 ^ 42
-  pub few_bytes : bytes ≤ 2 ^ 42
+  pub few_slots : slots ≤ MAX_NUMBER
+  pub few_bytes : bytes ≤ MAX_NUMBER
   pub few : All IsFew segments
 
 pub record IsSame (one other : Contents) : Type 0 where
@@ -213,7 +214,7 @@ length-body : (segments : List Segment) → length (body_of segments) ≡ length
 length-body segments =
     length-append (map segment_words segments) (codes "end" ∷ []) ∙ ap (λ n. n + 1) (length-map segments segment_words)
 
-stands : {segments : List Segment} (slots bytes : ℕ) → slots ≤ 2 ^ 42 → bytes ≤ 2 ^ 42 → AreSmall segments →
+stands : {segments : List Segment} (slots bytes : ℕ) → slots ≤ MAX_NUMBER → bytes ≤ MAX_NUMBER → AreSmall segments →
     {i : ℕ} → i < 3 + length segments → MayStand i (line_at (lines_are slots bytes segments) i)
 stands slots bytes small_slots small_bytes small {i = zero} few = Title refl refl
 stands slots bytes small_slots small_bytes small {i = suc zero} few =
@@ -239,7 +240,7 @@ ends slots bytes segments i is =
     let count : length front ≡ i = omega (arith, is, length-map segments segment_words) in
     get_or_at front (codes "end") [] [] i count
 
-pub no_break : {segments : List Segment} (slots bytes : ℕ) → slots ≤ 2 ^ 42 → bytes ≤ 2 ^ 42 → AreSmall segments
+pub no_break : {segments : List Segment} (slots bytes : ℕ) → slots ≤ MAX_NUMBER → bytes ≤ MAX_NUMBER → AreSmall segments
     → {i : ℕ} → BreaksAt (lines_are slots bytes segments) i → ⊥
 no_break {segments} slots bytes small_slots small_bytes small {i} breaks =
     let last = 3 + length segments in
@@ -257,7 +258,7 @@ no_break {segments} slots bytes small_slots small_bytes small {i} breaks =
       ]
     ]
 
-pub nothing_after : {segments : List Segment} (slots bytes : ℕ) → slots ≤ 2 ^ 42 → bytes ≤ 2 ^ 42
+pub nothing_after : {segments : List Segment} (slots bytes : ℕ) → slots ≤ MAX_NUMBER → bytes ≤ MAX_NUMBER
     → AreSmall segments → {i : ℕ} → IsAfterEnd (lines_are slots bytes segments) i → ⊥
 nothing_after {segments} slots bytes small_slots small_bytes small after =
     elim (cases_lt after.last (3 + length segments)) [
@@ -276,8 +277,8 @@ pub certificate_has_no_bad_line : {text : List ℕ} {slots bytes : ℕ} {segment
 certificate_has_no_bad_line {text} {segments} line cert bad =
     let s = total_slots segments in
     let b = total_bytes segments in
-    let small_slots : s ≤ 2 ^ 42 = omega (arith, cert.slots_are, cert.small_slots) in
-    let small_bytes : b ≤ 2 ^ 42 = omega (arith, cert.bytes_are, cert.small_bytes) in
+    let small_slots : s ≤ MAX_NUMBER = omega (arith, cert.slots_are, cert.small_slots) in
+    let small_bytes : b ≤ MAX_NUMBER = omega (arith, cert.bytes_are, cert.small_bytes) in
     let lines : lines_of text ≡ lines_are s b segments =
     ap lines_of cert.text_is ∙ lines-certificate s b segments small_slots small_bytes cert.small.small in
     elim bad.2 [

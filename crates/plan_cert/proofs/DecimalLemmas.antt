@@ -9,6 +9,7 @@ use Rattle.std.proofs.lemmas.List.{append_cancel_left, append_assoc, take_at, ta
 use Rattle.std.proofs.lemmas.List.Elements.{All-from_get_or}
 use Rattle.std.proofs.lemmas.Fmt.{digits_decimal, first_decimal, decimal_digit}
 use Rattle.std.proofs.lemmas.Str.Parse.{not_in_digits}
+use Rattle.plan_cert.specs.declared.cert_reader.TheConstants.{MAX_NUMBER}
 use Rattle.vod_base.specs.Splits.{IsSplitAtFirst}
 use Rattle.vod_base.proofs.DigitLemmas.{decimal_numerals}
 use Rattle.vod_base.proofs.SplitLemmas.{none_is, split_once}
@@ -70,7 +71,7 @@ after_from now (Some x) line word found =
     sym (take-append-drop (length word) line) ∙ ap (λ a. a ++ drop (length word) line) front ∙ ap (λ b. word ++ b) rest
 
 pub number_from : (o : Option ℕ) (word line ds : List ℕ) → line ≡ word ++ ds →
-    MatchOption o ((n : ℕ) → n ≤ 2 ^ 42 → ds ≢ decimal n) (λ n. (n ≤ 2 ^ 42) × (ds ≡ decimal n)) →
+    MatchOption o ((n : ℕ) → n ≤ MAX_NUMBER → ds ≢ decimal n) (λ n. (n ≤ MAX_NUMBER) × (ds ≡ decimal n)) →
     MatchOption o ((n : ℕ) → ¬ IsNumberLine word line n) (IsNumberLine word line)
 number_from None word line ds is none =
     λ n number. none n number.small (append_cancel_left word ds (decimal n) (sym is ∙ number.words))

@@ -1,9 +1,10 @@
 use Rattle.std.proofs.lemmas.Grind.{common_steps}
-use Rattle.std.proofs.Common.{◌≡◌, ◌≢◌, ◌<◌, ◌≤◌, ◌+◌, ◌^◌, ◌++◌, [], ◌∷◌, length, arith, ap, subst, ◌∙◌, inl, inr}
+use Rattle.std.proofs.Common.{◌≡◌, ◌≢◌, ◌<◌, ◌≤◌, ◌+◌, ◌++◌, [], ◌∷◌, length, arith, ap, subst, ◌∙◌, inl, inr}
 use Rattle.std.proofs.Common.{eq-eqb}
 use Rattle.std.proofs.lemmas.Bool.{both_ways}
 use Rattle.std.proofs.lemmas.List.{length_push}
 use Rattle.std.proofs.lemmas.List.Elements.{All-push}
+use Rattle.plan_cert.specs.declared.cert_reader.TheConstants.{MAX_NUMBER}
 use Rattle.plan_cert.specs.CertGrammar.{HasReadLines, MayEnd}
 use Rattle.plan_cert.specs.CertGrammar.MayStand.{SegmentLine}
 use Rattle.plan_cert.proofs.GrammarLemmas.{read_more, breaks_missing, breaks_here, goes_after_end, not_segment}
@@ -60,7 +61,7 @@ loop-line-preserved c =
     record {
       few = omega arith;
       counted = ap length items ∙ length_push c.loop-line.segments.items s ∙ ap (λ n. n + 1) inv.counted;
-      small = rw items (All-push (λ x. (x.slots ≤ 2 ^ 42) × (x.bytes ≤ 2 ^ 42)) c.loop-line.segments.items s inv.small
+      small = rw items (All-push (λ x. (x.slots ≤ MAX_NUMBER) × (x.bytes ≤ MAX_NUMBER)) c.loop-line.segments.items s inv.small
           (c.in-Some-segment_in.ensures.few_slots, c.in-Some-segment_in.ensures.few_bytes));
       text_is = rw items (segment_text c.in-Some.after.now c.loop-line.segments.items s
           inv.text_is c.in-Some.ensures.parts c.in-Some-segment_in.ensures.words);
