@@ -1,6 +1,7 @@
 -- What a client that wishes for a film asks of a connection (RFC 2326 section 10).
 use Rattle.std.specs.Prelude.{◌≡◌, ℕ, ◌+◌, ◌-◌, ◌^◌, ◌<◌, ◌≤◌, ⊤, List, [], ◌∷◌, ◌++◌, length}
 use Rattle.std.specs.Prelude.{take, drop, slice_index, string_bytes}
+use Rattle.vod_base.specs.declared.links.TheConstants.{LATEST_SLOT}
 use Rattle.rtp_pack.specs.Packets.{OfUnit}
 use Rattle.film_frames.specs.declared.stored_films.Stored.{Stored}
 use Rattle.plan_cert.specs.PlanSlots.{total_bytes}
@@ -46,11 +47,11 @@ pub record IsAskedFor (wish : Wish) (stored : Stored) (course : Course) : Type 0
   pub due : IsDueBy play (drop 2 (slots_from 0 course.rounds))
 
 -- A server's numbers are in their ranges: the SSRC, which is the third of a connection's random
--- words, has 32 bits (RFC 3550 section 5.1); and slots are up to 2^62, so a play begins in slot
--- 2^62 + 1 at the latest.
+-- words, has 32 bits (RFC 3550 section 5.1); and slots are up to LATEST_SLOT, so a play begins in
+-- slot LATEST_SLOT + 1 at the latest.
 pub record AreInRange (course : Course) (play : FilmPlay) : Type 0 where
   pub ssrc : slice_index course.words 2 < 2 ^ 32
-  pub start : play.start ≤ 2 ^ 62 + 1
+  pub start : play.start ≤ LATEST_SLOT + 1
 
 -- A film comes back complete to a client that watches it: its bytes from its first picture to its
 -- last one. At each reading no picture is missing that is used, and what waits fits in the client's

@@ -1,7 +1,8 @@
 -- A connection's course as complete lists: what it received, what it asked the station, and the
 -- greatest slot.
-use Rattle.std.specs.Prelude.{ℕ, ◌≡◌, ◌^◌, if◌then◌else◌, max, nat_le, List, [], ◌∷◌, ◌++◌}
+use Rattle.std.specs.Prelude.{ℕ, ◌≡◌, if◌then◌else◌, max, nat_le, List, [], ◌∷◌, ◌++◌}
 use Rattle.vod_base.specs.Links.{IoEvent, HeardBytes, HeardEnd, HeardSlot, Sent}
+use Rattle.vod_base.specs.declared.links.TheConstants.{LATEST_SLOT}
 use Rattle.film_frames.specs.declared.stored_films.Stored.{Stored}
 use Rattle.film_streams.specs.declared.settings.Settings.{Settings}
 use Rattle.session.specs.declared.states.Awaited.{Awaited}
@@ -28,10 +29,10 @@ abbrev pub IsCourseSplit : Stage → List Round → List Round → Stage → Typ
 IsCourseSplit old first rest new = (mid : Stage) × (IsCourseBetween old first mid × IsCourseBetween
     mid rest new)
 
--- the greatest slot up to 2^62 among events that were received, 0 where there is none
+-- the greatest slot up to LATEST_SLOT among events that were received, 0 where there is none
 abbrev pub slot_in : IoEvent → ℕ
 slot_in (HeardBytes bytes) = 0
-slot_in (HeardSlot slot) = if nat_le slot (2 ^ 62) then slot else 0
+slot_in (HeardSlot slot) = if nat_le slot LATEST_SLOT then slot else 0
 slot_in HeardEnd = 0
 slot_in (Sent byte) = 0
 

@@ -20,7 +20,7 @@ sent_bytes (HeardSlot slot ∷ doings) = sent_bytes doings
 sent_bytes (HeardEnd ∷ doings) = sent_bytes doings
 sent_bytes (Sent byte ∷ doings) = byte ∷ sent_bytes doings
 
--- the greatest slot up to 2^62 that was received, 0 where there is none
+-- the greatest slot up to LATEST_SLOT that was received, 0 where there is none
 abbrev pub latest_slot : List IoEvent → ℕ
 latest_slot [] = 0
 latest_slot (doing ∷ doings) = max (slot_in doing) (latest_slot doings)

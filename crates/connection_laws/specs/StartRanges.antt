@@ -1,5 +1,6 @@
 -- In which slots connections ask for plays, and in which slots their plays begin.
-use Rattle.std.specs.Prelude.{◌≡◌, ℕ, ◌+◌, ◌^◌, ◌≤◌, All, Contains, List}
+use Rattle.std.specs.Prelude.{◌≡◌, ℕ, ◌+◌, ◌≤◌, All, Contains, List}
+use Rattle.vod_base.specs.declared.links.TheConstants.{LATEST_SLOT}
 use Rattle.film_frames.specs.declared.stored_films.Stored.{Stored}
 use Rattle.admission.specs.declared.entries.Entry.{Entry}
 use Rattle.admission.specs.Makers.{PlacedEntry}
@@ -35,7 +36,7 @@ pub record IsCourseIn (visit : Visit) (terms : Terms) (journal : List Entry) (co
   pub agrees : Agrees visit terms journal
   pub course_is : IsCourseOf visit.films visit.settings visit.report.words agrees.doings course
 
--- a play begins in a slot from 1 to 2^62 + 1: slots are up to 2^62, and a play begins in the slot
--- after one in which a play was asked for
+-- a play begins in a slot from 1 to LATEST_SLOT + 1: slots are up to LATEST_SLOT, and a play begins
+-- in the slot after one in which a play was asked for
 abbrev pub StartsInRange : FilmPlay → Type 0
-StartsInRange play = (1 ≤ play.start) × (play.start ≤ 2 ^ 62 + 1)
+StartsInRange play = (1 ≤ play.start) × (play.start ≤ LATEST_SLOT + 1)
