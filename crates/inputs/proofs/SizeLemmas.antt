@@ -4,6 +4,7 @@ use Rattle.std.proofs.Common.{append_assoc, Some, None, IsSome, length, take, dr
 use Rattle.std.proofs.Common.{arith, length-append, subst}
 use Rattle.std.proofs.lemmas.List.{append-nil, length-map}
 use Rattle.std.proofs.lemmas.Bool.{and_parts, false≢true, eqb-true}
+use Rattle.mpeg_scan.specs.declared.units.TheConstants.{MAX_UNIT_HEAD_BYTES}
 use Rattle.mpeg_scan.specs.declared.units.Unit.{Unit as PictureUnit}
 use Rattle.mpeg_scan.specs.Calls.{Call, head_call, slice_call, unit_call}
 use Rattle.mpeg_scan.specs.StartCodes.{read_after, codes_of}
@@ -107,7 +108,7 @@ sizes-told : (calls : List Call) (s : SizeState) {part : PartStart} {k : Count} 
     (size_state_after s calls).sizes ≡ s.sizes ++ map (λ u. wire_size (past ++ slices_in calls) u) (units_in calls)
 sizes-told [] s parts counts so_far = sym (append-nil s.sizes)
 sizes-told (head_call a b ∷ calls) s {part = between at} {k} {to} {past} parts counts so_far =
-    let fits = part-fits (eqb a at && (ltb a b && leb (b - a) 1380)) (within a b b 0) calls to parts in
+    let fits = part-fits (eqb a at && (ltb a b && leb (b - a) MAX_UNIT_HEAD_BYTES)) (within a b b 0) calls to parts in
     let next : MeasuredSoFar (within a b b 0) k past (size_state_after_call s (head_call a b)).unit = record {
       slices = so_far.slices;
       measures = record { before = past; cur = []; past_is = sym (append-nil past); count = refl; unit_is = refl };
