@@ -127,6 +127,17 @@ pub record Begun : Type 0 where
   pub few_bytes : bytes ≤ MAX_NUMBER
   pub small : AreSmall segments
 
+abbrev pub begun_of : (slots bytes : ℕ) (segments : List Segment) → slots ≤ MAX_NUMBER → bytes ≤ MAX_NUMBER
+    → AreSmall segments → Begun
+begun_of slots bytes segments few_slots few_bytes small = record {
+  slots = slots;
+  bytes = bytes;
+  segments = segments;
+  few_slots = few_slots;
+  few_bytes = few_bytes;
+  small = small;
+}
+
 head-lines : (slots bytes : ℕ) (rest : List ℕ) → slots ≤ MAX_NUMBER → bytes ≤ MAX_NUMBER
     → HasReadLines (cert_head slots bytes ++ rest) 3 rest
 head-lines slots bytes rest few_slots few_bytes =
