@@ -1,6 +1,7 @@
 -- From what the slots use to the curves: they are the film's, and sound.
 use Rattle.std.proofs.Common.{◌≡◌, ℕ, ◌+◌, ◌-◌, ◌<◌, ◌≤◌, List, length, get_or, sum, sym, ap, ◌∙◌, arith, max, min}
 use Rattle.std.proofs.lemmas.List.{take_all}
+use Rattle.vod_base.specs.declared.limits.TheConstants.{MAX_BYTES}
 use Rattle.wire_curve.specs.declared.film.Timing.{Timing}
 use Rattle.wire_curve.specs.declared.curves.Curves.{Curves}
 use Rattle.wire_curve.specs.SoundCurves.{AreSound}
@@ -39,21 +40,53 @@ AreFilmCurves-of_uses {sizes} {timing} {uses} {total} are is of = record {
         let by = used_by-is sizes timing uses are t le in
         omega (arith, is, by)
 
--- accepted pictures have sound curves
-pub AreSound-of_film : (sizes : List ℕ) (timing : Timing) (curves : Curves) → IsWithinLimits sizes timing
-    → IsAccepted sizes timing
-    → AreFilmCurves sizes timing curves → AreSound curves.from curves.low.items curves.up.items
-AreSound-of_film sizes timing curves limits ok are =
+-- the lower curve of accepted pictures stays below the upper one
+low_under_up : (sizes : List ℕ) (timing : Timing) (curves : Curves) → IsWithinLimits sizes timing
+    → IsAccepted sizes timing → AreFilmCurves sizes timing curves
+    → (t : ℕ) → t < length curves.low.items → get_or curves.low.items t 0 ≤ get_or curves.up.items t 0
+low_under_up sizes timing curves limits ok are t lt =
+    let n = slot_count sizes timing in omega (
+      arith,
+      are.low_is t (omega (arith, are.low_slots)),
+      are.up_is t (omega (arith, are.low_slots)),
+      used_before-more sizes timing t,
+      ok.buffer_holds t (omega (arith, are.low_slots)),
+      limits.sent_of_total,
+      limits.sent_fits_buffer,
+      limits.played_was_sent,
+      used_before_rises sizes timing 0 t (omega arith),
+      used_before_rises sizes timing (t + 1) n (omega (arith, are.low_slots)),
+      used_before-none sizes timing,
+      used_before-all sizes timing limits.some_slot_units ok.some_picture,
+    )
+
+-- at the last slot they meet, at all bytes of the film
+curves_meet : (sizes : List ℕ) (timing : Timing) (curves : Curves) → IsWithinLimits sizes timing
+    → IsAccepted sizes timing → AreFilmCurves sizes timing curves
+    → (get_or curves.low.items (length curves.low.items - 1) 0 ≡ get_or curves.up.items (length curves.low.items - 1) 0)
+    × (get_or curves.low.items (length curves.low.items - 1) 0 ≤ MAX_BYTES)
+curves_meet sizes timing curves limits ok are =
     let n = slot_count sizes timing in
-    let none = used_before-none sizes timing in
     let all = used_before-all sizes timing limits.some_slot_units ok.some_picture in
-    let more = λ (t : ℕ). used_before-more sizes timing t in
     let last : n - 1 + 1 ≡ n = omega arith in
     let at_end = ap (used_before sizes timing) last ∙ all in
     let low_last = are.low_is (n - 1) (omega arith) in
     let up_last = are.up_is (n - 1) (omega arith) in
     let low_end = ap (λ k. get_or curves.low.items (k - 1) 0) are.low_slots in
     let up_end = ap (λ k. get_or curves.up.items (k - 1) 0) are.low_slots in
+    let more = used_before-more sizes timing (n - 1) in
+    let holds = ok.buffer_holds (n - 1) (omega arith) in (
+      omega (arith, low_end, up_end, low_last, up_last, at_end, more, holds, limits.sent_of_total),
+      omega (arith, low_end, low_last, at_end, limits.sent_of_total, limits.total_fits),
+    )
+
+-- accepted pictures have sound curves
+pub AreSound-of_film : (sizes : List ℕ) (timing : Timing) (curves : Curves) → IsWithinLimits sizes timing
+    → IsAccepted sizes timing
+    → AreFilmCurves sizes timing curves → AreSound curves.from curves.low.items curves.up.items
+AreSound-of_film sizes timing curves limits ok are =
+    let more = λ (t : ℕ). used_before-more sizes timing t in
+    let meet = curves_meet sizes timing curves limits ok are in
     record {
       some_slot = omega (arith, are.low_slots);
       few_slots = omega (arith, are.low_slots, ok.few_slots);
@@ -73,31 +106,7 @@ AreSound-of_film sizes timing curves limits ok are =
             are.up_is (t + 1) (omega (arith, are.low_slots)),
             more t,
           );
-      low_below_up = λ t lt. omega (
-        arith,
-        are.low_is t (omega (arith, are.low_slots)),
-        are.up_is t (omega (arith, are.low_slots)),
-        more t,
-        ok.buffer_holds t (omega (arith, are.low_slots)),
-        limits.sent_of_total,
-        limits.sent_fits_buffer,
-        limits.played_was_sent,
-        used_before_rises sizes timing 0 t (omega arith),
-        used_before_rises sizes timing (t + 1) n (omega (arith, are.low_slots)),
-        none,
-        all,
-      );
-      meet_at_end =
-          omega (
-            arith,
-            low_end,
-            up_end,
-            low_last,
-            up_last,
-            at_end,
-            more (n - 1),
-            ok.buffer_holds (n - 1) (omega arith),
-            limits.sent_of_total,
-          );
-      total_fits = omega (arith, low_end, low_last, at_end, limits.sent_of_total, limits.total_fits);
+      low_below_up = low_under_up sizes timing curves limits ok are;
+      meet_at_end = meet.0;
+      total_fits = meet.1;
     }
