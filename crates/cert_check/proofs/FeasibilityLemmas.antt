@@ -35,27 +35,25 @@ pub record KeepsAt (lo hi : ℕ → ℕ) (k v t : ℕ) (segments : List Segment)
   pub above : lo (k + t) ≤ v + sum (take t (plan_slots segments))
   pub below : v + sum (take t (plan_slots segments)) ≤ hi (k + t)
 
+-- in the first segment
+keeps_in : {lo hi : ℕ → ℕ} {k v : ℕ} {s : Segment} (rest : List Segment) → StaysBetween lo hi k v s →
+    {t : ℕ} → t ≤ s.slots → KeepsAt lo hi k v t (s ∷ rest)
+keeps_in {lo} {hi} {k} {v} {s} rest stays {t} within =
+    let here : sum (take t (plan_slots (s ∷ rest))) ≡ t * s.bytes / s.slots = sum-take-in s rest t stays.some within in
+    record {
+      above = rw here (floor_above v s t (lo (k + t)) stays.some (stays.above t within));
+      below = rw here (floor_below v s t (hi (k + t)) stays.some (stays.below t within));
+    }
+
 pub line_keeps : {lo hi : ℕ → ℕ} {k v : ℕ} {s : Segment} {rest : List Segment} → RunsTaut lo hi k v (s ∷ rest) →
     {t : ℕ} → t ≤ total_slots (s ∷ rest) → KeepsAt lo hi k v t (s ∷ rest)
 line_keeps {lo} {hi} {k} {v} {s} {rest = []} runs {t} few =
     let slots : total_slots (s ∷ []) ≡ s.slots + total_slots [] = sum_by-cons (λ x. x.slots) s [] in
     let none : total_slots [] ≡ 0 = refl in
-    let within : t ≤ s.slots = omega (arith, few, slots, none) in
-    let here : sum (take t (plan_slots (s ∷ []))) ≡ t * s.bytes / s.slots = sum-take-in s [] t runs.0.some within in
-    record {
-      above = rw here (floor_above v s t (lo (k + t)) runs.0.some (runs.0.above t within));
-      below = rw here (floor_below v s t (hi (k + t)) runs.0.some (runs.0.below t within));
-    }
+    keeps_in [] runs.0 (omega (arith, few, slots, none))
 line_keeps {lo} {hi} {k} {v} {s} {rest = next ∷ rest} runs {t} few =
     elim (cases_lt s.slots t) [
-      | inr within ↦ (
-          let here : sum (take t (plan_slots (s ∷ next ∷ rest))) ≡ t * s.bytes / s.slots =
-          sum-take-in s (next ∷ rest) t runs.0.some within in
-          record {
-            above = rw here (floor_above v s t (lo (k + t)) runs.0.some (runs.0.above t within));
-            below = rw here (floor_below v s t (hi (k + t)) runs.0.some (runs.0.below t within));
-          }
-          )
+      | inr within ↦ keeps_in (next ∷ rest) runs.0 within
       | inl past ↦ (
           let d = t - s.slots in
           let is : t ≡ s.slots + d = omega arith in

@@ -148,26 +148,45 @@ after_cold {m} {p} {lo} {hi} {k} {v} {held} {rest = next ∷ others} {zs} s is_c
       ]
     ]
 
--- the induction: the line ends on both curves
-pub bounds : {m p : ℕ} {lo hi : ℕ → ℕ} {k v held : ℕ} {segments : List Segment} {ys : List ℕ} →
-    RunsTaut lo hi k v segments → lo (k + total_slots segments) ≡ v + total_bytes segments
-    → length ys ≡ total_slots segments →
-    KeepsBetween m lo hi k held ys → Bounds m p v held segments ys
-bounds {m} {p} {lo} {k} {v} {held} {segments = []} runs ends same keeps = record {
+-- the first n numbers and those after them: what both send above q, and how much the first ones are
+record OverParts (q n : ℕ) (ys : List ℕ) : Type 0 where
+  pub whole : over q ys ≡ over q (take n ys) + over q (drop n ys)
+  pub few : sum (take n ys) ≤ over q (take n ys) + n * q
+
+over_parts : (q n : ℕ) (ys : List ℕ) → n ≤ length ys → OverParts q n ys
+over_parts q n ys fits =
+    let joined : over q (take n ys ++ drop n ys) ≡ over q (take n ys) + over q (drop n ys) =
+    sum_by-append (λ b. b - q) (take n ys) (drop n ys) in
+    record {
+      whole = ap (over q) (sym (take-append-drop n ys)) ∙ joined;
+      few = subst (λ c. sum (take n ys) ≤ over q (take n ys) + c * q) (length-take-le n ys fits)
+          (sum-le-over q (take n ys));
+    }
+
+-- after the last segment, where the line has met the lower curve
+bounds_end : {m p : ℕ} {lo hi : ℕ → ℕ} {k v held : ℕ} {ys : List ℕ} → lo (k + 0) ≡ v + 0
+    → KeepsBetween m lo hi k held ys → Bounds m p v held [] ys
+bounds_end {m} {lo} {k} {v} {held} ends keeps = record {
   hot = λ _.
       let least : m * lo (k + 0) ≤ held + 0 = keeps.above 0 (omega arith) in
       let at : m * lo (k + 0) ≡ m * (v + 0) = ap (λ x. m * x) ends in
       omega (arith, least, at);
   cold = λ _. omega arith;
 }
+
+-- the induction: the line ends on both curves
+pub bounds : {m p : ℕ} {lo hi : ℕ → ℕ} {k v held : ℕ} {segments : List Segment} {ys : List ℕ} →
+    RunsTaut lo hi k v segments → lo (k + total_slots segments) ≡ v + total_bytes segments
+    → length ys ≡ total_slots segments →
+    KeepsBetween m lo hi k held ys → Bounds m p v held segments ys
+bounds {segments = []} runs ends same keeps = bounds_end ends keeps
 bounds {m} {p} {lo} {hi} {k} {v} {held} {segments = s ∷ rest} {ys} runs ends same keeps =
     let slots : total_slots (s ∷ rest) ≡ s.slots + total_slots rest = sum_by-cons (λ x. x.slots) s rest in
     let bytes : total_bytes (s ∷ rest) ≡ s.bytes + total_bytes rest = sum_by-cons (λ x. x.bytes) s rest in
     let line : line_over p (s ∷ rest) ≡ (s.bytes - s.slots * p) + line_over p rest =
     sum_by-cons (λ x. x.bytes - x.slots * p) s rest in
     let fits : s.slots ≤ length ys = omega (arith, same, slots) in
-    let left : length (drop s.slots ys) ≡ length ys - s.slots = length-drop s.slots ys in
-    let same' : length (drop s.slots ys) ≡ total_slots rest = omega (arith, left, same, slots) in
+    let same' : length (drop s.slots ys) ≡ total_slots rest = omega (arith, length-drop s.slots ys, same, slots) in
     let keeps' = keeps_on s.slots fits keeps in
     let place : k + total_slots (s ∷ rest) ≡ k + s.slots + total_slots rest = omega (arith, slots) in
     let ends' : lo (k + s.slots + total_slots rest) ≡ v + s.bytes + total_bytes rest =
@@ -175,16 +194,7 @@ bounds {m} {p} {lo} {hi} {k} {v} {held} {segments = s ∷ rest} {ys} runs ends s
     let rest' : Bounds m p (v + s.bytes) (held + sum (take s.slots ys)) rest (drop s.slots ys) =
     bounds {m = m} {p = p} {lo = lo} {hi = hi} {k = k + s.slots} {v = v + s.bytes}
     {held = held + sum (take s.slots ys)} {segments = rest} {ys = drop s.slots ys} runs.2 ends' same' keeps' in
-    let joined : over (m * p) (take s.slots ys ++ drop s.slots ys)
-    ≡ over (m * p) (take s.slots ys) + over (m * p) (drop s.slots ys) =
-    sum_by-append (λ b. b - m * p) (take s.slots ys) (drop s.slots ys) in
-    let whole : over (m * p) ys ≡ over (m * p) (take s.slots ys) + over (m * p) (drop s.slots ys) =
-    ap (over (m * p)) (sym (take-append-drop s.slots ys)) ∙ joined in
-    let count : length (take s.slots ys) ≡ s.slots = length-take-le s.slots ys fits in
-    let few : sum (take s.slots ys) ≤ over (m * p) (take s.slots ys) + length (take s.slots ys) * (m * p) =
-    sum-le-over (m * p) (take s.slots ys) in
-    let few' : sum (take s.slots ys) ≤ over (m * p) (take s.slots ys) + s.slots * (m * p) =
-    subst (λ c. sum (take s.slots ys) ≤ over (m * p) (take s.slots ys) + c * (m * p)) count few in
+    let parts = over_parts (m * p) s.slots ys fits in
     record {
       hot = λ is_hot.
           let here : HotSegment m p v held = record {
@@ -194,15 +204,15 @@ bounds {m} {p} {lo} {hi} {k} {v} {held} {segments = s ∷ rest} {ys} runs ends s
             rest_over = over (m * p) (drop s.slots ys);
             rest_line = line_over p rest;
             is_hot = is_hot;
-            few = few';
+            few = parts.few;
             after = after_hot s is_hot runs.1 keeps' rest';
           } in
-          rw (line, whole) (hot_step here);
+          rw (line, parts.whole) (hot_step here);
       cold = λ is_cold.
           let after : m * line_over p rest ≤ over (m * p) (drop s.slots ys) =
           after_cold s is_cold runs.1 keeps' rest' in
           let none : s.bytes - s.slots * p ≡ 0 = omega arith in
-          rw (line, whole, none) (omega (arith, after));
+          rw (line, parts.whole, none) (omega (arith, after));
     }
 
 -- segments that run taut from height v to where the lower curve ends, and as many numbers as they have slots

@@ -1,5 +1,5 @@
 -- A walk along the line, slot by slot, against the exact line at a place.
-use Rattle.std.proofs.Common.{◌≡◌, ◌<◌, ◌≤◌, ◌+◌, ◌*◌, ℕ, false, List, length, take, slice_index, nat_eq, is_some}
+use Rattle.std.proofs.Common.{◌≡◌, ◌≢◌, ◌<◌, ◌≤◌, ◌+◌, ◌*◌, ℕ, false, List, length, take, slice_index, nat_eq, is_some}
 use Rattle.std.proofs.Common.{Option, Some, None, MatchOption, inl, inr, arith, refl, sym, ap, subst, ◌∙◌, eq-eqb}
 use Rattle.std.proofs.Common.{ne_eqb, below_more}
 use Rattle.std.proofs.lemmas.Bool.{cases_eq, cond-true, cond-false, cases_lt, true≢false}
@@ -30,53 +30,62 @@ pub record Goes (from : ℕ) (segments : List Segment) (t : ℕ) (walk : Walk) :
   pub stands : IsWalkAt from segments t walk
   pub some : 1 ≤ walk.passed
 
--- one slot further
-pub goes_on : {from : ℕ} {low up : List ℕ} {segments : List Segment} {t : ℕ} {walk : Walk}
-    → AddsUp from low up segments →
-    IsWalkAt from segments t walk → t < length low → Goes from segments (t + 1) (next_walk segments walk)
-goes_on {from} {low} {segments} {t} {walk} whole stands few =
+-- one slot further: from a segment's end into the next one, and within a segment
+goes_over : {from : ℕ} {low up : List ℕ} {segments : List Segment} {t : ℕ} {walk : Walk}
+    → AddsUp from low up segments → IsWalkAt from segments t walk → t < length low
+    → walk.passed ≡ (segment_at segments walk.index).slots
+    → Goes from segments (t + 1) (record {
+      index = walk.index + 1;
+      passed = 1;
+      height = walk.height + (segment_at segments walk.index).bytes;
+    })
+goes_over {from} {low} {segments} {t} {walk} whole stands few over =
     let s = segment_at segments walk.index in
     let ends : end_place segments walk.index ≡ total_slots (take walk.index segments) + s.slots =
     end_place_is segments walk.index stands.inside in
     let height : end_height from segments walk.index ≡ from + total_bytes (take walk.index segments) + s.bytes =
     end_height_is from segments walk.index stands.inside in
+    let after : walk.index + 1 < length segments =
+    one_after segments walk.index (omega (arith, ends, stands.place, over, whole.slots, few)) in
+    record {
+      stands = record {
+        inside = after;
+        within = whole.some (walk.index + 1) after;
+        place = omega (arith, ends, stands.place, over);
+        height_is = omega (arith, height, stands.height_is);
+      };
+      some = omega arith;
+    }
+
+goes_within : {from : ℕ} {segments : List Segment} {t : ℕ} {walk : Walk} → IsWalkAt from segments t walk
+    → walk.passed ≢ (segment_at segments walk.index).slots
+    → Goes from segments (t + 1) (record { index = walk.index; passed = walk.passed + 1; height = walk.height })
+goes_within stands within = record {
+  stands = record {
+    inside = stands.inside;
+    within = omega (arith, stands.within, within);
+    place = omega (arith, stands.place);
+    height_is = stands.height_is;
+  };
+  some = omega arith;
+}
+
+pub goes_on : {from : ℕ} {low up : List ℕ} {segments : List Segment} {t : ℕ} {walk : Walk}
+    → AddsUp from low up segments →
+    IsWalkAt from segments t walk → t < length low → Goes from segments (t + 1) (next_walk segments walk)
+goes_on {from} {low} {segments} {t} {walk} whole stands few =
+    let s = segment_at segments walk.index in
+    let over : Walk = record { index = walk.index + 1; passed = 1; height = walk.height + s.bytes } in
+    let within : Walk = record { index = walk.index; passed = walk.passed + 1; height = walk.height } in
     elim (cases_eq walk.passed s.slots) [
-      | inl over ↦ (
-          let next : Walk = record { index = walk.index + 1; passed = 1; height = walk.height + s.bytes } in
-          let is : next_walk segments walk ≡ next =
-          cond-true (nat_eq walk.passed s.slots) next
-          (record { index = walk.index; passed = walk.passed + 1; height = walk.height })
-          (eq-eqb walk.passed s.slots over) in
-          let after : walk.index + 1 < length segments =
-          one_after segments walk.index (omega (arith, ends, stands.place, over, whole.slots, few)) in
-          let stands' : Goes from segments (t + 1) next = record {
-            stands = record {
-              inside = after;
-              within = whole.some (walk.index + 1) after;
-              place = omega (arith, ends, stands.place, over);
-              height_is = omega (arith, height, stands.height_is);
-            };
-            some = omega arith;
-          } in
-          subst (λ w. Goes from segments (t + 1) w) (sym is) stands'
-          )
-      | inr within ↦ (
-          let next : Walk = record { index = walk.index; passed = walk.passed + 1; height = walk.height } in
-          let is : next_walk segments walk ≡ next =
-          cond-false (nat_eq walk.passed s.slots)
-          (record { index = walk.index + 1; passed = 1; height = walk.height + s.bytes }) next
-          (ne_eqb walk.passed s.slots within) in
-          let stands' : Goes from segments (t + 1) next = record {
-            stands = record {
-              inside = stands.inside;
-              within = omega (arith, stands.within, within);
-              place = omega (arith, stands.place);
-              height_is = stands.height_is;
-            };
-            some = omega arith;
-          } in
-          subst (λ w. Goes from segments (t + 1) w) (sym is) stands'
-          )
+      | inl end ↦
+          subst (λ w. Goes from segments (t + 1) w)
+          (sym (cond-true (nat_eq walk.passed s.slots) over within (eq-eqb walk.passed s.slots end)))
+          (goes_over whole stands few end)
+      | inr before ↦
+          subst (λ w. Goes from segments (t + 1) w)
+          (sym (cond-false (nat_eq walk.passed s.slots) over within (ne_eqb walk.passed s.slots before)))
+          (goes_within stands before)
     ]
 
 -- the exact line where the walk stands

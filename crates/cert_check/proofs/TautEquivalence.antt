@@ -107,12 +107,38 @@ first_stays {lo} {hi} {k} {v} {s} {rest} clean =
       ];
     }
 
+same_place : (k n j : ℕ) → k + (n + j) ≡ k + n + j
+same_place k n j = omega arith
+
+-- the line after the first segment of a faultless list
+rest_above : {lo hi : ℕ → ℕ} {k v : ℕ} {s : Segment} {rest : List Segment} → Faultless lo hi k v (s ∷ rest)
+    → (j : ℕ) → 1 ≤ j → j ≤ total_slots rest
+    → lo (k + s.slots + j) * line_under rest j ≤ line_top (v + s.bytes) rest j
+rest_above {lo} {hi} {k} {v} {s} {rest} clean j later few =
+    let slots : total_slots (s ∷ rest) ≡ s.slots + total_slots rest = sum_by-cons (λ x. x.slots) s rest in
+    let h : lo (k + (s.slots + j)) * line_under (s ∷ rest) (s.slots + j)
+    ≤ line_top v (s ∷ rest) (s.slots + j) = clean.above (s.slots + j) (omega arith) (omega (arith, slots, few)) in
+    let h' : lo (k + (s.slots + j)) * line_under rest j ≤ line_top (v + s.bytes) rest j =
+    rw (line_under-past s rest j later, line_top-past v s rest j later) at h in
+    subst (λ c. lo c * line_under rest j ≤ line_top (v + s.bytes) rest j) (same_place k s.slots j) h'
+
+rest_below : {lo hi : ℕ → ℕ} {k v : ℕ} {s : Segment} {rest : List Segment} → Faultless lo hi k v (s ∷ rest)
+    → (j : ℕ) → 1 ≤ j → j ≤ total_slots rest
+    → line_top (v + s.bytes) rest j ≤ hi (k + s.slots + j) * line_under rest j
+rest_below {lo} {hi} {k} {v} {s} {rest} clean j later few =
+    let slots : total_slots (s ∷ rest) ≡ s.slots + total_slots rest = sum_by-cons (λ x. x.slots) s rest in
+    let h : line_top v (s ∷ rest) (s.slots + j)
+    ≤ hi (k + (s.slots + j)) * line_under (s ∷ rest) (s.slots + j) =
+    clean.below (s.slots + j) (omega arith) (omega (arith, slots, few)) in
+    let h' : line_top (v + s.bytes) rest j ≤ hi (k + (s.slots + j)) * line_under rest j =
+    rw (line_under-past s rest j later, line_top-past v s rest j later) at h in
+    subst (λ c. line_top (v + s.bytes) rest j ≤ hi c * line_under rest j) (same_place k s.slots j) h'
+
 -- what a faultless list leaves after its first segment is faultless from there
 rest_faultless : {lo hi : ℕ → ℕ} {k v : ℕ} {s : Segment} {rest : List Segment} →
     Faultless lo hi k v (s ∷ rest) → StaysBetween lo hi k v s →
     Faultless lo hi (k + s.slots) (v + s.bytes) rest
 rest_faultless {lo} {hi} {k} {v} {s} {rest} clean stays =
-    let slots : total_slots (s ∷ rest) ≡ s.slots + total_slots rest = sum_by-cons (λ x. x.slots) s rest in
     let pos : 0 < s.slots = stays.some in
     record {
       no_empty = λ i inside. clean.no_empty (suc i) (omega (arith, inside));
@@ -124,19 +150,8 @@ rest_faultless {lo} {hi} {k} {v} {s} {rest} clean stays =
           let h : v * s.slots + s.slots * s.bytes ≤ hi (k + s.slots) * s.slots = stays.below s.slots (omega arith) in
           let all : (v + s.bytes) * s.slots ≤ hi (k + s.slots) * s.slots = omega (arith, h) in
           le_of_mul-le-mul_right all pos;
-      above = λ j later few.
-          let h : lo (k + (s.slots + j)) * line_under (s ∷ rest) (s.slots + j)
-          ≤ line_top v (s ∷ rest) (s.slots + j) = clean.above (s.slots + j) (omega arith) (omega (arith, slots, few)) in
-          let h' : lo (k + (s.slots + j)) * line_under rest j ≤ line_top (v + s.bytes) rest j =
-          rw (line_under-past s rest j later, line_top-past v s rest j later) at h in
-          subst (λ c. lo c * line_under rest j ≤ line_top (v + s.bytes) rest j) (same_place k s.slots j) h';
-      below = λ j later few.
-          let h : line_top v (s ∷ rest) (s.slots + j)
-          ≤ hi (k + (s.slots + j)) * line_under (s ∷ rest) (s.slots + j) =
-          clean.below (s.slots + j) (omega arith) (omega (arith, slots, few)) in
-          let h' : line_top (v + s.bytes) rest j ≤ hi (k + (s.slots + j)) * line_under rest j =
-          rw (line_under-past s rest j later, line_top-past v s rest j later) at h in
-          subst (λ c. line_top (v + s.bytes) rest j ≤ hi c * line_under rest j) (same_place k s.slots j) h';
+      above = λ j later few. rest_above clean j later few;
+      below = λ j later few. rest_below clean j later few;
       no_equal = λ i inside level.
           clean.no_equal (i + 1) (omega (arith, inside))
           (subst (λ a. IsEquallySteep (slope_of a) (slope_of (segment_at (s ∷ rest) (i + 1 + 1)))) (sym (at_after s rest
@@ -154,9 +169,6 @@ rest_faultless {lo} {hi} {k} {v} {s} {rest} clean stays =
           i))
           (subst (λ a. IsLessSteep (slope_of a) (slope_of (segment_at rest i))) (sym (at_after s rest (i + 1))) fall)));
     }
-  where
-    same_place : (k n j : ℕ) → k + (n + j) ≡ k + n + j
-    same_place k n j = omega arith
 
 -- the bend after the first segment of a faultless list
 first_bends : {lo hi : ℕ → ℕ} {k v : ℕ} {s : Segment} {rest : List Segment} → Faultless lo hi k v (s ∷ rest)
@@ -178,117 +190,136 @@ runs_from_faultless lo hi k v (s ∷ rest) clean =
     let stays = first_stays clean in
     (stays, first_bends clean, runs_from_faultless lo hi (k + s.slots) (v + s.bytes) rest (rest_faultless clean stays))
 
+-- a place after the first segment, counted from its end
+record PlacePast (k v : ℕ) (s : Segment) (rest : List Segment) (j : ℕ) : Type 0 where
+  pub past : ℕ
+  pub later : 1 ≤ past
+  pub is : s.slots + past ≡ j
+  pub place : k + s.slots + past ≡ k + j
+  pub top : line_top v (s ∷ rest) j ≡ line_top (v + s.bytes) rest past
+  pub under : line_under (s ∷ rest) j ≡ line_under rest past
+
+place_past : (k v : ℕ) (s : Segment) (rest : List Segment) (j : ℕ) → s.slots < j → PlacePast k v s rest j
+place_past k v s rest j after =
+    let d = j - s.slots in
+    let is : s.slots + d ≡ j = omega arith in
+    record {
+      past = d;
+      later = omega arith;
+      is = is;
+      place = omega (arith, is);
+      top = ap (line_top v (s ∷ rest)) (sym is) ∙ line_top-past v s rest d (omega arith);
+      under = ap (line_under (s ∷ rest)) (sym is) ∙ line_under-past s rest d (omega arith);
+    }
+
+-- what is true of a list with a segment put before it
+module _ (lo hi : ℕ → ℕ) (k v : ℕ) (s : Segment) where
+  front_above : (rest : List Segment) → StaysBetween lo hi k v s → Faultless lo hi (k + s.slots) (v + s.bytes) rest
+      → (j : ℕ) → j ≤ total_slots (s ∷ rest) → lo (k + j) * line_under (s ∷ rest) j ≤ line_top v (s ∷ rest) j
+  front_above rest stays after j few = elim (cases_lt s.slots j) [
+    | inr within ↦ rw (line_under-in s rest j within, line_top-in v s rest j within) (stays.above j within)
+    | inl past ↦ (
+        let slots : total_slots (s ∷ rest) ≡ s.slots + total_slots rest = sum_by-cons (λ x. x.slots) s rest in
+        let to = place_past k v s rest j past in
+        let h : lo (k + s.slots + to.past) * line_under rest to.past ≤ line_top (v + s.bytes) rest to.past =
+        after.above to.past to.later (omega (arith, slots, few, to.is)) in
+        let h' : lo (k + j) * line_under rest to.past ≤ line_top (v + s.bytes) rest to.past =
+        subst (λ c. lo c * line_under rest to.past ≤ line_top (v + s.bytes) rest to.past) to.place h in
+        rw (to.top, to.under) h'
+        )
+  ]
+
+  front_below : (rest : List Segment) → StaysBetween lo hi k v s → Faultless lo hi (k + s.slots) (v + s.bytes) rest
+      → (j : ℕ) → j ≤ total_slots (s ∷ rest) → line_top v (s ∷ rest) j ≤ hi (k + j) * line_under (s ∷ rest) j
+  front_below rest stays after j few = elim (cases_lt s.slots j) [
+    | inr within ↦ rw (line_under-in s rest j within, line_top-in v s rest j within) (stays.below j within)
+    | inl past ↦ (
+        let slots : total_slots (s ∷ rest) ≡ s.slots + total_slots rest = sum_by-cons (λ x. x.slots) s rest in
+        let to = place_past k v s rest j past in
+        let h : line_top (v + s.bytes) rest to.past ≤ hi (k + s.slots + to.past) * line_under rest to.past =
+        after.below to.past to.later (omega (arith, slots, few, to.is)) in
+        let h' : line_top (v + s.bytes) rest to.past ≤ hi (k + j) * line_under rest to.past =
+        subst (λ c. line_top (v + s.bytes) rest to.past ≤ hi c * line_under rest to.past) to.place h in
+        rw (to.top, to.under) h'
+        )
+  ]
+
+  no_level : (rest : List Segment) → Bends lo hi (k + s.slots) (v + s.bytes) s rest →
+      Faultless lo hi (k + s.slots) (v + s.bytes) rest →
+      (i : ℕ) → i + 1 < length (s ∷ rest)
+      → IsEquallySteep (slope_of (segment_at (s ∷ rest) i)) (slope_of (segment_at (s ∷ rest) (i + 1))) → ⊥
+  no_level [] bend after i inside level = omega (arith, inside)
+  no_level (next ∷ others) bend after zero inside level =
+      elim bend [ inl rise ↦ omega (arith, rise.0, level) | inr fall ↦ omega (arith, fall.0, level) ]
+  no_level (next ∷ others) bend after (suc i) inside level =
+      after.no_equal i (omega (arith, inside))
+      (subst (λ a. IsEquallySteep (slope_of (segment_at (next ∷ others) i)) (slope_of a))
+      (at_further s (next ∷ others) i) level)
+
+  rises : (rest : List Segment) → Bends lo hi (k + s.slots) (v + s.bytes) s rest →
+      Faultless lo hi (k + s.slots) (v + s.bytes) rest →
+      (i : ℕ) → i + 1 < length (s ∷ rest) →
+      IsLessSteep (slope_of (segment_at (s ∷ rest) i)) (slope_of (segment_at (s ∷ rest) (i + 1))) →
+      v + total_bytes (take (i + 1) (s ∷ rest)) ≡ hi (k + total_slots (take (i + 1) (s ∷ rest)))
+  rises [] bend after i inside rise = absurd (omega (arith, inside))
+  rises (next ∷ others) bend after zero inside rise =
+      elim bend [
+        | inl up ↦ (first_ends hi k v s (next ∷ others)).1 up.1
+        | inr down ↦ absurd (omega (arith, down.0, rise))
+      ]
+  rises (next ∷ others) bend after (suc i) inside rise =
+      let ends : EndsAt hi (k + s.slots) (v + s.bytes) (take (i + 1) (next ∷ others)) =
+      after.rises_on_upper i (omega (arith, inside))
+      (subst (λ a. IsLessSteep (slope_of (segment_at (next ∷ others) i)) (slope_of a))
+      (at_further s (next ∷ others) i) rise) in
+      subst (λ c. EndsAt hi k v (take c (s ∷ next ∷ others))) (omega arith)
+      ((further_ends hi k v s (next ∷ others) i).1 ends)
+
+  falls : (rest : List Segment) → Bends lo hi (k + s.slots) (v + s.bytes) s rest →
+      Faultless lo hi (k + s.slots) (v + s.bytes) rest →
+      (i : ℕ) → i + 1 < length (s ∷ rest) →
+      IsLessSteep (slope_of (segment_at (s ∷ rest) (i + 1))) (slope_of (segment_at (s ∷ rest) i)) →
+      v + total_bytes (take (i + 1) (s ∷ rest)) ≡ lo (k + total_slots (take (i + 1) (s ∷ rest)))
+  falls [] bend after i inside fall = absurd (omega (arith, inside))
+  falls (next ∷ others) bend after zero inside fall =
+      elim bend [
+        | inl up ↦ absurd (omega (arith, up.0, fall))
+        | inr down ↦ (first_ends lo k v s (next ∷ others)).1 down.1
+      ]
+  falls (next ∷ others) bend after (suc i) inside fall =
+      let ends : EndsAt lo (k + s.slots) (v + s.bytes) (take (i + 1) (next ∷ others)) =
+      after.falls_on_lower i (omega (arith, inside))
+      (subst (λ a. IsLessSteep (slope_of a) (slope_of (segment_at (next ∷ others) i)))
+      (at_further s (next ∷ others) i) fall) in
+      subst (λ c. EndsAt lo k v (take c (s ∷ next ∷ others))) (omega arith)
+      ((further_ends lo k v s (next ∷ others) i).1 ends)
+
 -- and back, with one segment put before it
 front_faultless : {lo hi : ℕ → ℕ} {k v : ℕ} {s : Segment} {rest : List Segment} → StaysBetween lo hi k v s →
     Bends lo hi (k + s.slots) (v + s.bytes) s rest →
     Faultless lo hi (k + s.slots) (v + s.bytes) rest → Faultless lo hi k v (s ∷ rest)
-front_faultless {lo} {hi} {k} {v} {s} {rest} stays bend after =
-    let slots : total_slots (s ∷ rest) ≡ s.slots + total_slots rest = sum_by-cons (λ x. x.slots) s rest in
-    let pos : 0 < s.slots = stays.some in
-    record {
-      no_empty = empties;
-      start_above =
-          let h : lo (k + 0) * s.slots ≤ v * s.slots + 0 * s.bytes = stays.above 0 (omega arith) in
-          let e : lo (k + 0) * s.slots ≡ lo k * s.slots = ap (λ c. lo c * s.slots) (add-zero k) in
-          let all : lo k * s.slots ≤ v * s.slots = omega (arith, h, e) in
-          le_of_mul-le-mul_right all pos;
-      start_below =
-          let h : v * s.slots + 0 * s.bytes ≤ hi (k + 0) * s.slots = stays.below 0 (omega arith) in
-          let e : hi (k + 0) * s.slots ≡ hi k * s.slots = ap (λ c. hi c * s.slots) (add-zero k) in
-          let all : v * s.slots ≤ hi k * s.slots = omega (arith, h, e) in
-          le_of_mul-le-mul_right all pos;
-      above = λ j later few. elim (cases_lt s.slots j) [
-        | inr within ↦ rw (line_under-in s rest j within, line_top-in v s rest j within) (stays.above j within)
-        | inl past ↦ (
-            let d = j - s.slots in
-            let is : s.slots + d ≡ j = omega arith in
-            let h : lo (k + s.slots + d) * line_under rest d ≤ line_top (v + s.bytes) rest d =
-            after.above d (omega arith) (omega (arith, slots, few)) in
-            let place : k + s.slots + d ≡ k + j = omega (arith, is) in
-            let top : line_top v (s ∷ rest) j ≡ line_top (v + s.bytes) rest d =
-            ap (line_top v (s ∷ rest)) (sym is) ∙ line_top-past v s rest d (omega arith) in
-            let under : line_under (s ∷ rest) j ≡ line_under rest d =
-            ap (line_under (s ∷ rest)) (sym is) ∙ line_under-past s rest d (omega arith) in
-            let h' : lo (k + j) * line_under rest d ≤ line_top (v + s.bytes) rest d =
-            subst (λ c. lo c * line_under rest d ≤ line_top (v + s.bytes) rest d) place h in
-            rw (top, under) h'
-            )
-      ];
-      below = λ j later few. elim (cases_lt s.slots j) [
-        | inr within ↦ rw (line_under-in s rest j within, line_top-in v s rest j within) (stays.below j within)
-        | inl past ↦ (
-            let d = j - s.slots in
-            let is : s.slots + d ≡ j = omega arith in
-            let h : line_top (v + s.bytes) rest d ≤ hi (k + s.slots + d) * line_under rest d =
-            after.below d (omega arith) (omega (arith, slots, few)) in
-            let place : k + s.slots + d ≡ k + j = omega (arith, is) in
-            let top : line_top v (s ∷ rest) j ≡ line_top (v + s.bytes) rest d =
-            ap (line_top v (s ∷ rest)) (sym is) ∙ line_top-past v s rest d (omega arith) in
-            let under : line_under (s ∷ rest) j ≡ line_under rest d =
-            ap (line_under (s ∷ rest)) (sym is) ∙ line_under-past s rest d (omega arith) in
-            let h' : line_top (v + s.bytes) rest d ≤ hi (k + j) * line_under rest d =
-            subst (λ c. line_top (v + s.bytes) rest d ≤ hi c * line_under rest d) place h in
-            rw (top, under) h'
-            )
-      ];
-      no_equal = no_level rest bend after;
-      rises_on_upper = rises rest bend after;
-      falls_on_lower = falls rest bend after;
-    }
+front_faultless {lo} {hi} {k} {v} {s} {rest} stays bend after = record {
+  no_empty = empties;
+  start_above =
+      let h : lo (k + 0) * s.slots ≤ v * s.slots + 0 * s.bytes = stays.above 0 (omega arith) in
+      let e : lo (k + 0) * s.slots ≡ lo k * s.slots = ap (λ c. lo c * s.slots) (add-zero k) in
+      let all : lo k * s.slots ≤ v * s.slots = omega (arith, h, e) in
+      le_of_mul-le-mul_right all stays.some;
+  start_below =
+      let h : v * s.slots + 0 * s.bytes ≤ hi (k + 0) * s.slots = stays.below 0 (omega arith) in
+      let e : hi (k + 0) * s.slots ≡ hi k * s.slots = ap (λ c. hi c * s.slots) (add-zero k) in
+      let all : v * s.slots ≤ hi k * s.slots = omega (arith, h, e) in
+      le_of_mul-le-mul_right all stays.some;
+  above = λ j _ few. front_above lo hi k v s rest stays after j few;
+  below = λ j _ few. front_below lo hi k v s rest stays after j few;
+  no_equal = no_level lo hi k v s rest bend after;
+  rises_on_upper = rises lo hi k v s rest bend after;
+  falls_on_lower = falls lo hi k v s rest bend after;
+}
   where
     empties : (i : ℕ) → i < length (s ∷ rest) → 1 ≤ (segment_at (s ∷ rest) i).slots
     empties zero inside = stays.some
     empties (suc i) inside = after.no_empty i (omega (arith, inside))
-
-    no_level : (rest : List Segment) → Bends lo hi (k + s.slots) (v + s.bytes) s rest →
-        Faultless lo hi (k + s.slots) (v + s.bytes) rest →
-        (i : ℕ) → i + 1 < length (s ∷ rest)
-        → IsEquallySteep (slope_of (segment_at (s ∷ rest) i)) (slope_of (segment_at (s ∷ rest) (i + 1))) → ⊥
-    no_level [] bend after i inside level = omega (arith, inside)
-    no_level (next ∷ others) bend after zero inside level =
-        elim bend [ inl rise ↦ omega (arith, rise.0, level) | inr fall ↦ omega (arith, fall.0, level) ]
-    no_level (next ∷ others) bend after (suc i) inside level =
-        after.no_equal i (omega (arith, inside))
-        (subst (λ a. IsEquallySteep (slope_of (segment_at (next ∷ others) i)) (slope_of a))
-        (at_further s (next ∷ others) i) level)
-
-    rises : (rest : List Segment) → Bends lo hi (k + s.slots) (v + s.bytes) s rest →
-        Faultless lo hi (k + s.slots) (v + s.bytes) rest →
-        (i : ℕ) → i + 1 < length (s ∷ rest) →
-        IsLessSteep (slope_of (segment_at (s ∷ rest) i)) (slope_of (segment_at (s ∷ rest) (i + 1))) →
-        v + total_bytes (take (i + 1) (s ∷ rest)) ≡ hi (k + total_slots (take (i + 1) (s ∷ rest)))
-    rises [] bend after i inside rise = absurd (omega (arith, inside))
-    rises (next ∷ others) bend after zero inside rise =
-        elim bend [
-          | inl up ↦ (first_ends hi k v s (next ∷ others)).1 up.1
-          | inr down ↦ absurd (omega (arith, down.0, rise))
-        ]
-    rises (next ∷ others) bend after (suc i) inside rise =
-        let ends : EndsAt hi (k + s.slots) (v + s.bytes) (take (i + 1) (next ∷ others)) =
-        after.rises_on_upper i (omega (arith, inside))
-        (subst (λ a. IsLessSteep (slope_of (segment_at (next ∷ others) i)) (slope_of a))
-        (at_further s (next ∷ others) i) rise) in
-        subst (λ c. EndsAt hi k v (take c (s ∷ next ∷ others))) (omega arith)
-        ((further_ends hi k v s (next ∷ others) i).1 ends)
-
-    falls : (rest : List Segment) → Bends lo hi (k + s.slots) (v + s.bytes) s rest →
-        Faultless lo hi (k + s.slots) (v + s.bytes) rest →
-        (i : ℕ) → i + 1 < length (s ∷ rest) →
-        IsLessSteep (slope_of (segment_at (s ∷ rest) (i + 1))) (slope_of (segment_at (s ∷ rest) i)) →
-        v + total_bytes (take (i + 1) (s ∷ rest)) ≡ lo (k + total_slots (take (i + 1) (s ∷ rest)))
-    falls [] bend after i inside fall = absurd (omega (arith, inside))
-    falls (next ∷ others) bend after zero inside fall =
-        elim bend [
-          | inl up ↦ absurd (omega (arith, up.0, fall))
-          | inr down ↦ (first_ends lo k v s (next ∷ others)).1 down.1
-        ]
-    falls (next ∷ others) bend after (suc i) inside fall =
-        let ends : EndsAt lo (k + s.slots) (v + s.bytes) (take (i + 1) (next ∷ others)) =
-        after.falls_on_lower i (omega (arith, inside))
-        (subst (λ a. IsLessSteep (slope_of a) (slope_of (segment_at (next ∷ others) i)))
-        (at_further s (next ∷ others) i) fall) in
-        subst (λ c. EndsAt lo k v (take c (s ∷ next ∷ others))) (omega arith)
-        ((further_ends lo k v s (next ∷ others) i).1 ends)
 
 -- the line's end on both curves starts the induction
 pub faultless_from_runs : {lo hi : ℕ → ℕ} {k v : ℕ} {segments : List Segment} → RunsTaut lo hi k v segments →

@@ -40,6 +40,39 @@ pub total_is : (from : ℕ) (low up : List ℕ) (segments : List Segment) → Is
 total_is from low up segments taut =
     not_different (from + total_bytes segments) (slice_index up (length up - 1)) taut.right_total
 
+-- no place of the line is below the lower curve, nor above the upper one
+above_low : (from : ℕ) (low up : List ℕ) (segments : List Segment) → IsTaut from low up segments
+    → (j : ℕ) → 1 ≤ j → j ≤ length low → bound_at from low (0 + j) * line_under segments j ≤ line_top from segments j
+above_low from low up segments taut j later few =
+    let t = j - 1 in
+    let is : t + 1 ≡ j = omega arith in
+    let at : bound_at from low (0 + j) ≡ slice_index low t =
+    ap (bound_at from low) (omega arith) ∙ bound_after from low t in
+    elim (cases_lt (line_top from segments j) (slice_index low t * line_under segments j)) [
+      | inl below ↦
+          absurd (taut.above t (
+            omega (arith, few),
+            subst (λ c. line_top from segments c < slice_index low t * line_under segments c) (sym is) below,
+          ))
+      | inr fine ↦ rw at fine
+    ]
+
+below_up : (from : ℕ) (low up : List ℕ) (segments : List Segment) → IsTaut from low up segments
+    → (j : ℕ) → 1 ≤ j → j ≤ length up → line_top from segments j ≤ bound_at from up (0 + j) * line_under segments j
+below_up from low up segments taut j later few =
+    let t = j - 1 in
+    let is : t + 1 ≡ j = omega arith in
+    let at : bound_at from up (0 + j) ≡ slice_index up t =
+    ap (bound_at from up) (omega arith) ∙ bound_after from up t in
+    elim (cases_lt (slice_index up t * line_under segments j) (line_top from segments j)) [
+      | inl above ↦
+          absurd (taut.below t (
+            omega (arith, few),
+            subst (λ c. slice_index up t * line_under segments c < line_top from segments c) (sym is) above,
+          ))
+      | inr fine ↦ rw at fine
+    ]
+
 faultless : (from : ℕ) (low up : List ℕ) (segments : List Segment) → AreClosed low up → IsTaut from low up segments →
     Faultless (bound_at from low) (bound_at from up) 0 from segments
 faultless from low up segments closed taut =
@@ -51,32 +84,9 @@ faultless from low up segments closed taut =
       ];
       start_above = omega arith;
       start_below = omega arith;
-      above = λ j later few.
-          let t = j - 1 in
-          let is : t + 1 ≡ j = omega arith in
-          let at : bound_at from low (0 + j) ≡ slice_index low t =
-          ap (bound_at from low) (omega arith) ∙ bound_after from low t in
-          elim (cases_lt (line_top from segments j) (slice_index low t * line_under segments j)) [
-            | inl below ↦
-                absurd (taut.above t (
-                  omega (arith, slots, few),
-                  subst (λ c. line_top from segments c < slice_index low t * line_under segments c) (sym is) below,
-                ))
-            | inr fine ↦ rw at fine
-          ];
+      above = λ j later few. above_low from low up segments taut j later (omega (arith, slots, few));
       below = λ j later few.
-          let t = j - 1 in
-          let is : t + 1 ≡ j = omega arith in
-          let at : bound_at from up (0 + j) ≡ slice_index up t =
-          ap (bound_at from up) (omega arith) ∙ bound_after from up t in
-          elim (cases_lt (slice_index up t * line_under segments j) (line_top from segments j)) [
-            | inl above ↦
-                absurd (taut.below t (
-                  omega (arith, slots, few, closed.same_length),
-                  subst (λ c. slice_index up t * line_under segments c < line_top from segments c) (sym is) above,
-                ))
-            | inr fine ↦ rw at fine
-          ];
+          below_up from low up segments taut j later (omega (arith, slots, few, closed.same_length));
       no_equal = λ i inside level. taut.no_equal i (inside, level);
       rises_on_upper = λ i inside rise.
           not_different (from + total_bytes (take (i + 1) segments))

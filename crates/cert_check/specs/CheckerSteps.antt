@@ -1,7 +1,8 @@
 -- What the later steps of the checker rely on: no segment is empty, and the sums are right and
 -- small.
-use Rattle.std.specs.Prelude.{ℕ, ◌≡◌, ◌+◌, ◌-◌, ◌^◌, ◌<◌, ◌≤◌, List, length, take, slice_index}
+use Rattle.std.specs.Prelude.{ℕ, ◌≡◌, ◌+◌, ◌-◌, ◌<◌, ◌≤◌, List, length, take, slice_index}
 use Rattle.std.specs.Prelude.{nat_eq, if◌then◌else◌}
+use Rattle.vod_base.specs.declared.limits.TheConstants.{MAX_BYTES, MAX_SLOTS}
 use Rattle.plan_cert.specs.declared.Segment.{Segment}
 use Rattle.plan_cert.specs.PlanSlots.{total_slots, total_bytes}
 use Rattle.cert_check.specs.declared.walk.Walk.{Walk}
@@ -17,8 +18,8 @@ pub record AddsUp (from : ℕ) (low up : List ℕ) (segments : List Segment) : T
   pub bytes : from + total_bytes segments ≡ slice_index up (length up - 1)
   pub slots_up : total_slots segments ≡ length up
   pub some_slot : 0 < length low
-  pub few_slots : length low ≤ 1000000
-  pub few_bytes : from + total_bytes segments ≤ 2 ^ 42
+  pub few_slots : length low ≤ MAX_SLOTS
+  pub few_bytes : from + total_bytes segments ≤ MAX_BYTES
 
 -- a walk along the line stands at place t
 pub record IsWalkAt (from : ℕ) (segments : List Segment) (t : ℕ) (walk : Walk) : Type 0 where
