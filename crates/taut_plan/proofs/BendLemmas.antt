@@ -6,7 +6,7 @@ use Rattle.taut_plan.specs.declared.points.Point.{Point}
 use Rattle.taut_plan.specs.declared.points.Side.{Side}
 use Rattle.taut_plan.specs.declared.points.Side.TheVariants.{Lower, Upper}
 use Rattle.taut_plan.specs.Slopes.{IsWithin, IsInside, other_side}
-use Rattle.taut_plan.specs.Chain.{on_curve, IsChain}
+use Rattle.taut_plan.specs.Chain.{on_curve, IsChain, IsFurthest}
 use Rattle.taut_plan.specs.Funnel.{FunnelReach, funnel_reach, KeepsApart, IsCrossing, IsUncrossed}
 use Rattle.taut_plan.proofs.SlopeLemmas.{Seen, SeenCorner, within_within, inside_within, within_itself, inside_weaker}
 use Rattle.taut_plan.proofs.SlopeLemmas.{inside_not_within, turns_apart}
@@ -82,6 +82,36 @@ corner_of {side} {curve} {other} {t} {s} {o} {b} state ordered crossed =
       crossed = crossed;
     }
 
+-- seen from the corner, the new point is the furthest out
+edge_moves : {side : Side} {curve other : ℕ → ℕ} {t s : ℕ} {o b p : Point} → IsFurthest side curve t o p
+    → IsCorner side curve other (funnel_reach t s o) b → p.place ≡ t → IsFurthest side curve t b p
+edge_moves {side} {curve} {t} {o} {b} {p} edge corner at =
+    let gone = corner.before_new in
+    let is : p ≡ on_curve curve t = is_on_curve curve p edge.on ∙ ap (on_curve curve) at in
+    let out : IsWithin side o b p =
+    subst (λ q. IsWithin side o b q) (sym is) (inside_weaker side o b (on_curve curve t) corner.crossed) in record {
+      later = omega (arith, at, gone);
+      near = edge.near;
+      on = edge.on;
+      before = λ j past upto. elim (cases_lt j t) [
+        | inl old ↦ (let first = corner.later in
+            let seen : SeenCorner = record {
+              from = o;
+              corner = b;
+              one = on_curve curve j;
+              other = p;
+              ahead = first;
+              one_beyond = omega (arith, past);
+              other_beyond = omega (arith, at, gone);
+            } in
+            turns_apart side seen (corner.own_within j (omega (arith, past, first)) old) out)
+        | inr new ↦ (let same : j ≡ t = omega (arith, new, upto, at) in
+            let e : p ≡ on_curve curve j = is ∙ ap (on_curve curve) (sym same) in
+            subst (λ q. IsWithin side b (on_curve curve j) q) (sym e) (within_itself side b (on_curve curve j)))
+      ];
+      beyond = λ j past upto. absurd (omega (arith, past, upto, at));
+    }
+
 -- the chain with the new point is that point alone, and stays so
 own_moves : {side : Side} {curve other : ℕ → ℕ} {t s : ℕ} {o b : Point} (own : List Point)
     → IsChain side curve t o own → IsCorner side curve other (funnel_reach t s o) b → IsChain side curve t b own
@@ -91,44 +121,15 @@ own_moves {side} {curve} {other} {t} {s} {o} {b} (p ∷ rest) chain corner =
     let edge = chain.0 in
     let later = edge.later in
     let near = edge.near in
-    let on = edge.on in
-    let gone = corner.before_new in
     elim (cases_lt p.place t) [
       | inl lt ↦ (let within_p : IsWithin side o p b =
-          subst (λ h. IsWithin side o (record { place = p.place; height = h }) b) (sym on)
+          subst (λ h. IsWithin side o (record { place = p.place; height = h }) b) (sym edge.on)
           (corner.own_within p.place later lt) in
           let seen : Seen = record { from = o; first = on_curve curve t; second = p; third = b } in
           let new = inside_within side seen corner.later (edge.beyond t lt (omega arith)) within_p in
           absurd (inside_not_within side o b (on_curve curve t) corner.crossed
           (inside_weaker side o (on_curve curve t) b new)))
-      | inr ge ↦ (let at : p.place ≡ t = omega (arith, ge, near) in
-          let is : p ≡ on_curve curve t = is_on_curve curve p on ∙ ap (on_curve curve) at in
-          let out : IsWithin side o b p =
-          subst (λ q. IsWithin side o b q) (sym is) (inside_weaker side o b (on_curve curve t) corner.crossed) in (
-            record {
-              later = omega (arith, at, gone);
-              near = near;
-              on = on;
-              before = λ j past upto. elim (cases_lt j t) [
-                | inl old ↦ (let first = corner.later in
-                    let seen : SeenCorner = record {
-                      from = o;
-                      corner = b;
-                      one = on_curve curve j;
-                      other = p;
-                      ahead = first;
-                      one_beyond = omega (arith, past);
-                      other_beyond = omega (arith, at, gone);
-                    } in
-                    turns_apart side seen (corner.own_within j (omega (arith, past, first)) old) out)
-                | inr new ↦ (let same : j ≡ t = omega (arith, new, upto, at) in
-                    let e : p ≡ on_curve curve j = is ∙ ap (on_curve curve) (sym same) in
-                    subst (λ q. IsWithin side b (on_curve curve j) q) (sym e) (within_itself side b (on_curve curve j)))
-              ];
-              beyond = λ j past upto. absurd (omega (arith, past, upto, at));
-            },
-            chain.1,
-          ))
+      | inr ge ↦ (edge_moves edge corner (omega (arith, ge, near)), chain.1)
     ]
 
 -- the corner becomes the point that the chains begin at

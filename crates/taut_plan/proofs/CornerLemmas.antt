@@ -233,6 +233,16 @@ corner_rises {side = Upper} {lo} {hi} {from} {t} {s} {o} {b} band new below corn
     omega (arith, lt)
 
 -- the path goes on to a corner
+goes_to_corner : (side : Side) {lo hi : ℕ → ℕ} {from n t s : ℕ} {o b : Point} {segments : List Segment}
+    → IsNewPlace n t s o → IsPath lo hi from o segments → lo t ≤ hi t → o.height ≤ b.height
+    → IsCorner side (curve_on lo hi side) (curve_on lo hi (other_side side)) (funnel_reach t s o) b
+    → GoesOn lo hi from (o.place + (b.place - o.place)) (o.height + (b.height - o.height))
+    (segments ++ segment_to o b ∷ [])
+goes_to_corner Lower new path ordered up corner =
+    goes_on_rise path.goes_on (rise_of_corner corner new.newest path.above path.below up ordered)
+goes_to_corner Upper new path ordered up corner =
+    goes_on_fall path.goes_on (fall_of_corner corner new.newest path.above path.below up ordered)
+
 pub path_bends : {side : Side} {lo hi : ℕ → ℕ} {from n t s : ℕ} {o b : Point} {segments : List Segment}
     → IsBand lo hi from n → IsNewPlace n t s o → IsPath lo hi from o segments
     → IsCorner side (curve_on lo hi side) (curve_on lo hi (other_side side)) (funnel_reach t s o) b
@@ -254,7 +264,7 @@ path_bends {side} {lo} {hi} {from} {n} {t} {s} {o} {b} {segments} band new path 
       below = stands_below side lo hi band new corner;
       goes_on = subst (λ p. GoesOn lo hi from p b.height (segments ++ segment_to o b ∷ [])) place
           (subst (λ h. GoesOn lo hi from (o.place + (b.place - o.place)) h (segments ++ segment_to o b ∷ [])) height
-          (goes side path (band.ordered t new.fits) up corner));
+          (goes_to_corner side new path (band.ordered t new.fits) up corner));
     }
   where
     stands_above : (side : Side) (lo hi : ℕ → ℕ) → IsBand lo hi from n → IsNewPlace n t s o
@@ -272,15 +282,6 @@ path_bends {side} {lo} {hi} {from} {n} {t} {s} {o} {b} {segments} band new path 
     stands_below Upper lo hi band new corner =
         let near = corner.near in let on = corner.on in let le =
         band.ordered b.place (omega (arith, near, new.not_past, new.fits)) in omega (arith, on, le)
-
-    goes : (side : Side) {lo hi : ℕ → ℕ} → IsPath lo hi from o segments → lo t ≤ hi t → o.height ≤ b.height
-        → IsCorner side (curve_on lo hi side) (curve_on lo hi (other_side side)) (funnel_reach t s o) b
-        → GoesOn lo hi from (o.place + (b.place - o.place)) (o.height + (b.height - o.height))
-        (segments ++ segment_to o b ∷ [])
-    goes Lower path ordered up corner =
-        goes_on_rise path.goes_on (rise_of_corner corner new.newest path.above path.below up ordered)
-    goes Upper path ordered up corner =
-        goes_on_fall path.goes_on (fall_of_corner corner new.newest path.above path.below up ordered)
 
 pub path_rises : {lo hi : ℕ → ℕ} {from n : ℕ} {o : Point} {segments : List Segment} → IsBand lo hi from n
     → o.place < n → IsPath lo hi from o segments → o.height ≤ hi n

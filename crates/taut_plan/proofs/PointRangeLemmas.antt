@@ -1,5 +1,6 @@
 -- The points of the chains are of a plan, so that no product of the test overflows.
-use Rattle.std.proofs.Common.{◌≡◌, ℕ, ◌+◌, ◌^◌, ◌≤◌, List, [], ◌∷◌, ◌++◌, length, arith, sym, subst}
+use Rattle.std.proofs.Common.{◌≡◌, ℕ, ◌+◌, ◌≤◌, List, [], ◌∷◌, ◌++◌, length, arith, sym, subst}
+use Rattle.vod_base.specs.declared.limits.TheConstants.{MAX_BYTES}
 use Rattle.wire_curve.specs.SoundCurves.{AreSound, bound_at}
 use Rattle.cert_check.proofs.TautFormLemmas.{bound_end}
 use Rattle.taut_plan.specs.declared.points.Point.{Point}
@@ -13,7 +14,7 @@ use Rattle.taut_plan.proofs.ChainLemmas.{IsOpen}
 
 -- no curve rises above the total
 upper_fits : (from : ℕ) (low up : List ℕ) → AreSound from low up → (j : ℕ) → j ≤ length low
-    → bound_at from up j ≤ 2 ^ 42
+    → bound_at from up j ≤ MAX_BYTES
 upper_fits from low up sound j fits =
     let band = band_of_sound from low up sound in
     let rise = band.high_rises j (length low) fits (omega arith) in
@@ -23,7 +24,7 @@ upper_fits from low up sound j fits =
     omega (arith, rise, meet, end, total)
 
 pub curve_fits : {from : ℕ} {low up : List ℕ} (side : Side) → AreSound from low up → (j : ℕ) → j ≤ length low
-    → curve_on (bound_at from low) (bound_at from up) side j ≤ 2 ^ 42
+    → curve_on (bound_at from low) (bound_at from up) side j ≤ MAX_BYTES
 curve_fits {from} {low} {up} Upper sound j fits = upper_fits from low up sound j fits
 curve_fits {from} {low} {up} Lower sound j fits =
     let band = band_of_sound from low up sound in
@@ -50,7 +51,7 @@ furthest_fits : {side : Side} {curve : ℕ → ℕ} {last : ℕ} {o p : Point} �
     → ((j : ℕ) → j ≤ last → Fits (on_curve curve j)) → Fits p
 furthest_fits {last} {p} edge all = record {
   place = (all p.place edge.near).place;
-  height = subst (λ h. h ≤ 2 ^ 42) (sym edge.on) (all p.place edge.near).height;
+  height = subst (λ h. h ≤ MAX_BYTES) (sym edge.on) (all p.place edge.near).height;
 }
 
 pub record EdgeFits (first second : Point) : Type 0 where

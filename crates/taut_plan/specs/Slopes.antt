@@ -1,6 +1,7 @@
 -- The slopes at which a point sees later points, compared without division.
-use Rattle.std.specs.Prelude.{ℕ, ◌+◌, ◌-◌, ◌*◌, ◌^◌, ◌<◌, ◌≤◌}
+use Rattle.std.specs.Prelude.{ℕ, ◌+◌, ◌-◌, ◌*◌, ◌<◌, ◌≤◌}
 use Rattle.vod_base.specs.declared.limits.TheConstants.{MAX_BYTES}
+use Rattle.taut_plan.specs.declared.points.TheConstants.{MAX_PLACE}
 use Rattle.taut_plan.specs.declared.points.Point.{Point}
 use Rattle.taut_plan.specs.declared.points.Side.{Side}
 use Rattle.taut_plan.specs.declared.points.Side.TheVariants.{Lower, Upper}
@@ -24,10 +25,10 @@ abbrev pub IsInside : Side → Point → Point → Point → Type 0
 IsInside Lower o a b = slope_lt o.height (a.place - o.place) a.height (b.place - o.place) b.height
 IsInside Upper o a b = slope_lt o.height (b.place - o.place) b.height (a.place - o.place) a.height
 
--- A point of a plan: a million slots are fewer than 2 ^ 20, so that a product of a difference of
--- places and a height is at most 2 ^ 62.
+-- A point of a plan: its place and its height are small, so that a product of a difference of places
+-- and a height is at most 2 ^ 62.
 pub record Fits (p : Point) : Type 0 where
-  pub place : p.place ≤ 2 ^ 20
+  pub place : p.place ≤ MAX_PLACE
   pub height : p.height ≤ MAX_BYTES
 
 pub record AllFit (first middle last : Point) : Type 0 where

@@ -1,10 +1,9 @@
 //! Points of the curves, and the order of the slopes at which one point sees others.
 //!
-//! A place is at most 2^20 and a height at most 2^42, so no product or sum here passes 2^62 and 64
-//! bits serve. `slope_frac` compares any two slopes, which takes 128.
+//! A place is at most [`MAX_PLACE`] and a height at most [`MAX_BYTES`], so no product or sum here
+//! passes 2^62 and 64 bits serve. `slope_frac` compares any two slopes, which takes 128.
 
 ghost use Rattle.std.specs.Prelude.{◌≡◌, ◌+◌, ◌-◌, ◌*◌, ◌<◌, ◌≤◌, ◌↔◌, IsTrue, MatchBool, length};
-ghost use Rattle.std.specs.Prelude.{◌^◌};
 ghost use Rattle.taut_plan.specs.Slopes.{IsWithin, IsInside, AllFit, Fits, other_side};
 ghost use Rattle.taut_plan.specs.Links.{IsEdge, IsPassed, IsKept};
 ghost use Rattle.taut_plan.specs.Chain.{on_curve};
@@ -12,6 +11,9 @@ ghost use Rattle.taut_plan.specs.CurveSides.{side_of};
 
 use vod_base::MAX_BYTES;
 use wire_curve::Curves;
+
+/// The last place that a point may have. A plan has fewer slots.
+pub(crate) const MAX_PLACE: u64 = 1 << 20;
 
 /// A point in the plane of slots and bytes. Place k is the end of slot k - 1, and place 0 the
 /// start.
@@ -110,7 +112,7 @@ pub(crate) fn is_passed(side: Side, link: Link, point: Point) -> bool
     // needs: a later point that isn't lower, and numbers whose products fit into 64 bits
     requires later { link.point.place ≤ point.place }
     requires higher { link.point.height ≤ point.height }
-    requires slots { link.slots ≤ 2 ^ 20 }
+    requires slots { link.slots ≤ MAX_PLACE }
     requires bytes { link.bytes ≤ MAX_BYTES }
     requires fits { Fits point }
     ensures { MatchBool result (IsPassed side link point) (IsKept side link point) }
