@@ -7,7 +7,7 @@ use Rattle.std.proofs.lemmas.List.Sums.{sum_by-cons}
 use Rattle.plan_cert.specs.declared.Segment.{Segment}
 use Rattle.plan_cert.specs.PlanSlots.{plan_slots, total_slots}
 use Rattle.plan_cert.proofs.SlotSums.{sum-take-in, sum-take-past}
-use Rattle.cert_check.specs.TautRecursion.{RunsTaut}
+use Rattle.cert_check.specs.TautRecursion.{StaysBetween, RunsTaut}
 
 -- the floor of a segment's line from height v, against a whole number
 floor_above : (v : ℕ) (s : Segment) (t h : ℕ) → 0 < s.slots → h * s.slots ≤ v * s.slots + t * s.bytes
