@@ -132,8 +132,7 @@ pub record HasRun (count : ℕ) (old new : Observed) : Type 0 where
   pub told : new.told ≡ told_more old.told (rounds_doings rounds)
   pub noted : AreNoted old.seat new.seat (rounds_outcomes rounds)
 
--- a connection's entire course, up to its end; at most MAX_EVENTS events were
--- received
+-- a connection's entire course, up to its end; at most MAX_EVENTS events were received
 pub record HasCourse (end : ConnEnd) (old new : Observed) : Type 0 where
   pub rounds : List Round
   pub mid : Stage

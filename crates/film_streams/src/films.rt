@@ -19,7 +19,7 @@ pub struct Asked<'m> {
     pub authority: &'m [u8],
 }
 
-/// The film that a URL names.
+/// Returns the film that a URL names (RFC 2326 section 3.2), or None where it names none of these.
 pub fn asked_film<'m>(films: &[Stored], url: &'m [u8]) -> Option<Asked<'m>>
     requires { AreFilms films.now }
     ensures asked { MatchOption result ((authority : List ℕ) (film : ℕ) →
@@ -54,7 +54,7 @@ fn find(films: &[Stored], name: &[u8]) -> Option<usize>
     None
 }
 
-/// The time at which a unit begins, in whole milliseconds.
+/// Returns the time at which a unit begins, in milliseconds, rounded down.
 pub fn milliseconds_at(film: &Film, unit: usize) -> u64
     requires { unit ≤ MAX_FILM_PICTURES }
     ensures { result ≡ milliseconds_at film.now unit }
@@ -63,7 +63,7 @@ pub fn milliseconds_at(film: &Film, unit: usize) -> u64
     unit as u64 * u64::from(film.picture_time()) / 360
 }
 
-/// How long a film is, in whole milliseconds.
+/// Returns how long a film is, in milliseconds, rounded down.
 pub fn length_ms(film: &Film) -> u64
     ensures { result ≡ length_ms film.now }
 {

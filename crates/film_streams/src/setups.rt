@@ -10,7 +10,7 @@ use rtsp_fields::{Channels, read_buffer, read_delay, read_transport};
 use rtsp_text::{Request, header};
 use vod_base::{MAX_BYTES, MAX_DELAY};
 
-/// What SETUP settled.
+/// What SETUP settled (RFC 2326 section 10.4).
 #[derive(Clone, Copy)]
 pub struct Setup {
     /// The number of the film.
@@ -25,7 +25,8 @@ pub struct Setup {
     pub delay: u64,
 }
 
-/// The channels of the first transport that can be taken.
+/// Returns the channels of the first transport that the server can take (RFC 2326 section 12.39),
+/// or None where there is none.
 pub fn channels_of(request: &Request<'_>) -> Option<Channels>
     ensures { MatchOption result ((channels : Channels) →
         ¬ HasChannels request.now.head.now channels) (HasChannels request.now.head.now) }
@@ -33,7 +34,8 @@ pub fn channels_of(request: &Request<'_>) -> Option<Channels>
     read_transport(header(request, b"Transport")?)
 }
 
-/// The client's buffer.
+/// Returns the client's buffer in bytes, from 1 to 2^42: that of `x-Buffer`, or the server's own.
+/// None where the field isn't such a number.
 pub fn buffer_of(request: &Request<'_>, settings: &Settings) -> Option<u64>
     requires { AreSettings settings.now }
     ensures read { MatchOption result ((n : ℕ) → ¬ IsBuffer settings.now request.now.head.now n)
@@ -47,7 +49,8 @@ pub fn buffer_of(request: &Request<'_>, settings: &Settings) -> Option<u64>
     }
 }
 
-/// The slots before the first picture is used.
+/// Returns the slots before the first picture is used, at most 10,000: those of `x-Startup`, or the
+/// server's own. None where the field isn't such a number.
 pub fn delay_of(request: &Request<'_>, settings: &Settings) -> Option<u64>
     requires { AreSettings settings.now }
     ensures read { MatchOption result ((n : ℕ) → ¬ IsDelay settings.now request.now.head.now n)

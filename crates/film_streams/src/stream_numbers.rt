@@ -36,7 +36,7 @@ pub struct StreamSource {
     pub timestamp: u32,
 }
 
-/// What a connection's words give its stream.
+/// Returns the source that a connection's random words give its stream.
 pub fn source_of(words: &[u32; 5]) -> StreamSource
     ensures { result ≡ source_of words.now }
 {
@@ -48,7 +48,7 @@ pub fn source_of(words: &[u32; 5]) -> StreamSource
     }
 }
 
-/// The identity of a run that begins after so many frames and octets (RFC 3550 section 5.1).
+/// Returns the identity of a run that begins after these frames and octets (RFC 3550 section 5.1).
 #[tactic(auto, using(crate::proofs::ModularSums::sum_mod))]
 pub fn identity_of(source: StreamSource, setup: &Setup, counts: Counts) -> Identity
     ensures { result ≡ identity_of source setup.now counts }
@@ -67,7 +67,8 @@ pub fn identity_of(source: StreamSource, setup: &Setup, counts: Counts) -> Ident
     }
 }
 
-/// What the session has sent in all, where so many bytes of these frames were sent.
+/// Returns what the session has sent in all, once it has sent the first `sent` bytes of these frames
+/// after `counts`.
 #[tactic(auto, using(crate::proofs::ModularSums::sum_mod))]
 pub fn counts_after(counts: Counts, frames: &Frames<'_>, sent: u64) -> Counts
     ensures { result ≡ counts_after counts frames.now sent }
@@ -83,7 +84,7 @@ pub fn counts_after(counts: Counts, frames: &Frames<'_>, sent: u64) -> Counts
     }
 }
 
-/// The timestamp of a unit, in 1/90,000 second.
+/// Returns the timestamp of a unit, in 1/90,000 second (RFC 3550 section 5.1).
 #[tactic(auto, using(crate::proofs::ModularSums::sum_mod))]
 pub fn timestamp_at(film: &Film, source: StreamSource, unit: usize) -> u32
     requires { unit ≤ MAX_FILM_PICTURES }

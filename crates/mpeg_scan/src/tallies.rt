@@ -251,9 +251,8 @@ impl Tally {
         }
     }
 
-    /// Adds a code, whose header is complete. The tally is changed in place, since most codes change
-    /// little of it; and without a call, since where the code is known to be a slice's little is
-    /// left to do.
+    /// Adds a code, whose header is complete. In place, since most codes change little of the tally.
+    /// Inlined, since little of it is left where the caller knows that the code is a slice's.
     #[inline(always)]
     #[tactic(auto, unfolding(crate::specs::CodeSteps::next))]
     pub(crate) fn add(&mut self, code: &Code)

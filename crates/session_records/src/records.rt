@@ -44,7 +44,11 @@ impl Model for Records {
 pub const RESERVED_LOOKS: usize = 1_024;
 
 impl Records {
-    /// Empty lists, with room for [`RESERVED_LOOKS`] receipts.
+    /// Returns empty lists, with room for [`RESERVED_LOOKS`] receipts.
+    ///
+    /// # Errors
+    ///
+    /// [`NoMemory`] where memory runs out.
     pub fn new(alloc: Global) -> Result<Records, NoMemory>
         ensures { IfOk result (λ log. log ≡ record {
           receipts = [];
@@ -64,7 +68,11 @@ impl Records {
         })
     }
 
-    /// Makes room for so many more receipts; it can't fail where there is room.
+    /// Makes room for `count` more receipts.
+    ///
+    /// # Errors
+    ///
+    /// [`NoMemory`], never where there is room already. The lists are as they were.
     pub fn reserve_receipts(&mut self, count: usize) -> Result<(), NoMemory>
         ensures lists { IsSameLists self.old self.new }
         ensures room { OnOk result (count ≤ self.new.receipt_room) }
@@ -117,8 +125,12 @@ impl Records {
         Ok(())
     }
 
-    /// The plan of a play twice more, once there is room for what the play leaves for the report
-    /// beside so many looks.
+    /// Makes room for the note of a play, its two receipts, and those of `looks` looks, at most
+    /// [`RESERVED_LOOKS`]. Returns two copies of the play's plan.
+    ///
+    /// # Errors
+    ///
+    /// [`NoMemory`] where memory runs out. The lists are as they were; room may have been added.
     pub fn plans_with_room(&mut self, looks: usize, plan: &Plan) -> Result<(Plan, Plan), NoMemory>
         requires { looks ≤ RESERVED_LOOKS }
         ensures lists { IsSameLists self.old self.new }
@@ -136,7 +148,12 @@ impl Records {
         Ok((own, paced))
     }
 
-    /// The offers of a wait, once there is room for their note.
+    /// Makes room for the note of an offer. Returns an offer of this wait, in slots (at most
+    /// [`MAX_WAIT`]), for which no start was tried.
+    ///
+    /// # Errors
+    ///
+    /// [`NoMemory`] where memory runs out. The lists are as they were.
     pub fn offers_with_room(&mut self, alloc: Global, wait: u64) -> Result<Offers, NoMemory>
         requires { wait ≤ MAX_WAIT }
         ensures lists { IsSameLists self.old self.new }
@@ -153,7 +170,7 @@ impl Records {
         Ok(offers)
     }
 
-    /// Notes a receipt, for which there is room.
+    /// Puts a receipt at the end of its list, which has room for it.
     pub fn note(&mut self, receipt: Receipt)
         requires { 1 ≤ self.old.receipt_room }
         ensures { self.new ≡ record self.old {
@@ -165,7 +182,7 @@ impl Records {
         self.receipts.push_reserved(receipt);
     }
 
-    /// Notes a play, for which there is room.
+    /// Puts a play at the end of its list, which has room for it.
     pub fn note_play(&mut self, play: PlayNote)
         requires { 1 ≤ self.old.play_room }
         ensures { self.new ≡ record self.old {
@@ -176,7 +193,7 @@ impl Records {
         self.plays.push_reserved(play);
     }
 
-    /// Notes an offer, for which there is room.
+    /// Puts an offer at the end of its list, which has room for it.
     pub fn note_offer(&mut self, offer: OfferNote)
         requires { 1 ≤ self.old.offer_room }
         ensures { self.new ≡ record self.old {
@@ -187,7 +204,7 @@ impl Records {
         self.offers.push_reserved(offer);
     }
 
-    /// The lists, with the slots that were missed.
+    /// Returns the lists, with the number of slots that were missed.
     pub fn into_notes(self, late: u64) -> Notes
         ensures receipts { result.receipts.items ≡ self.receipts }
         ensures plays { result.plays.items ≡ self.plays }

@@ -8,8 +8,7 @@ use Rattle.socket_link.specs.Calls.{ReadClock, Waited}
 use Rattle.socket_link.specs.Slots.{IsRest}
 
 -- A wait after a reading of the clock: after one for slots, until the next slot begins; after one
--- for
--- patience, 1 s, after which a write is tried again; at the connection's end, at most 1 s.
+-- for patience, 1 s, after which a write is tried again; at the connection's end, at most 1 s.
 abbrev pub FitsReading : ℕ → Purpose → ℕ → ℕ → Type 0
 FitsReading units Slot time most = IsRest units time most
 FitsReading units Patience time most = most ≡ RETRY
