@@ -63,8 +63,7 @@ impl Book {
         ensures { IfOk result (λ book.
             book ≡ record { steps = profile; limit = limit; entries = [] }) }
     {
-        // All memory is taken here. So a server knows its need at its start, and no play fails for
-        // memory.
+        // All memory of the journal and the calendar is taken here, so no entry needs more later.
         let calendar = Calendar::new(alloc, profile)?;
         Ok(Book {
             calendar,
