@@ -132,13 +132,16 @@ impl Records {
     ///
     /// [`NoMemory`] where memory runs out. The lists are as they were; room may have been added.
     pub fn plans_with_room(&mut self, looks: usize, plan: &Plan) -> Result<(Plan, Plan), NoMemory>
+        // needs: at most as many looks as have room from the beginning
         requires { looks ≤ RESERVED_LOOKS }
+        // leaves: the same lists, and room for the play that is never less than before
         ensures lists { IsSameLists self.old self.new }
         ensures room { OnOk result (looks + 2 ≤ self.new.receipt_room) }
         ensures plays { OnOk result (1 ≤ self.new.play_room) }
         ensures more { (self.old.receipt_room ≤ self.new.receipt_room)
             × (self.old.play_room ≤ self.new.play_room) }
         ensures others { self.new.offer_room ≡ self.old.offer_room }
+        // answers: the plan twice, for the note and for what sends it
         ensures own { IfOk result (λ both. both.0 ≡ plan.now) }
         ensures paced { IfOk result (λ both. both.1 ≡ plan.now) }
     {
@@ -155,12 +158,15 @@ impl Records {
     ///
     /// [`NoMemory`] where memory runs out. The lists are as they were.
     pub fn offers_with_room(&mut self, alloc: Global, wait: u64) -> Result<Offers, NoMemory>
+        // needs: a wait that an offer may have
         requires { wait ≤ MAX_WAIT }
+        // leaves: the same lists, and room for the offer that is never less than before
         ensures lists { IsSameLists self.old self.new }
         ensures room { OnOk result (1 ≤ self.new.offer_room) }
         ensures more { self.old.offer_room ≤ self.new.offer_room }
         ensures others { (self.new.receipt_room ≡ self.old.receipt_room)
             × (self.new.play_room ≡ self.old.play_room) }
+        // answers: an offer with that wait, before its first start
         ensures wait { IfOk result (λ offers. offers.wait ≡ wait) }
         ensures start { IfOk result (λ offers. offers.start ≡ None) }
         ensures tried { IfOk result (λ offers. offers.tried ≡ []) }
