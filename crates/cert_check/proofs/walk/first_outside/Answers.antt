@@ -32,6 +32,8 @@ loop-t-preserved c =
     let few_up : c.loop-t.t < length curves.up.items = omega (arith, few, c.requires.slots, c.requires.slots_up) in
     let goes : Goes curves.from segments (c.loop-t.t + 1) c.next_walk-walk.result =
     rw c.next_walk-walk.ensures (goes_on c.requires c.loop-t.invariant.stands few) in
+    let Above = IsAboveUp curves.from curves.up.items segments in
+    let up_is = c.as_slice-up.ensures.value in
     record {
       stands = goes.stands;
       not_below = below_more _ _ c.loop-t.invariant.not_below
@@ -40,28 +42,20 @@ loop-t-preserved c =
       above_is = elim c.if-is_none.branch [
         | then-is_none+then-height-from-2 w ↦ (
             let none : is_some c.loop-t.above ≡ false = c.is_none.ensures ∙ ap not w.if-is_none.true in
+            let over =
+            rw (w.from-then-is_none.ensures, w.from-then-is_none-2.ensures, up_is) at w.if-height-from-2.true in
             rw w.above-is
-            (first_found c.loop-t.above (IsAboveUp curves.from curves.up.items segments) c.loop-t.t
-            c.loop-t.invariant.above_is none
-            (above_there curves.up.items goes few_up c.scaled_height-height.ensures
-            (rw (
-              w.from-then-is_none.ensures,
-              w.from-then-is_none-2.ensures,
-              c.as_slice-up.ensures.value,
-            ) at w.if-height-from-2.true)))
+            (first_found c.loop-t.above Above c.loop-t.t c.loop-t.invariant.above_is none
+            (above_there curves.up.items goes few_up c.scaled_height-height.ensures over))
             )
         | else-is_none w ↦
             rw w.above-is
-            (first_kept c.loop-t.above (IsAboveUp curves.from curves.up.items segments) c.loop-t.t
-            c.loop-t.invariant.above_is
+            (first_kept c.loop-t.above Above c.loop-t.t c.loop-t.invariant.above_is
             (λ none. elim w.else-is_none.branch [
               | else-is_none-via-then-is_none+else-height-from-2 w' ↦
-                  not_above_there curves.up.items goes c.scaled_height-height.ensures
-                  (rw (
-                    w'.from-then-is_none.ensures,
-                    w'.from-then-is_none-2.ensures,
-                    c.as_slice-up.ensures.value,
-                  ) at w'.if-height-from-2.false)
+                  (let under =
+                  rw (w'.from-then-is_none.ensures, w'.from-then-is_none-2.ensures, up_is) at w'.if-height-from-2.false in
+                  not_above_there curves.up.items goes c.scaled_height-height.ensures under)
               | else-is_none-via-else-is_none w' ↦
                   absurd (both_ways (is_some c.loop-t.above) none (c.is_none.ensures ∙ ap not w'.if-is_none.false))
             ]))
