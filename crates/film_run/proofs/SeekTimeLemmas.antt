@@ -1,6 +1,7 @@
 -- Seeks by the picture rates.
-use Rattle.std.proofs.Common.{ℕ, zero, suc, ◌-◌, ◌*◌, ◌<◌, ◌≤◌, length, Option, Some, None, slice_index_or, inl, inr}
-use Rattle.std.proofs.Common.{arith}
+use Rattle.std.proofs.Common.{ℕ, zero, suc, ◌-◌, ◌*◌, ◌<◌, ◌≤◌, ◌≡◌, length, Option, Some, None, slice_index_or, inl}
+use Rattle.std.proofs.Common.{inr, arith, refl, sym, ap, ◌∙◌}
+use Rattle.std.proofs.Math.Nat.{mul_left_comm, mul-le-mul_left, le_of_mul-le-mul_left}
 use Rattle.std.proofs.lemmas.Bool.{cases_lt}
 use Rattle.mpeg_scan.specs.declared.films.Film.{Film}
 use Rattle.mpeg_scan.specs.PictureRates.{picture_time}
@@ -23,65 +24,49 @@ record Agree (code : ℕ) : Type 0 where
   ended : (k time : ℕ) → time * (rate code).0 ≤ k * (rate code).1 * 1000000000
       → time * 360000 ≤ k * picture_time code * 1000000000
 
+-- the time of a picture and 360,000 are the same multiple of the seconds and the pictures of its rate
+record IsRate (code : ℕ) : Type 0 where
+  factor : ℕ
+  some : 0 < factor
+  time_is : picture_time code ≡ factor * (rate code).1
+  unit_is : 360000 ≡ factor * (rate code).0
+
+is_rate : (code : ℕ) → 1 ≤ code → code ≤ 8 → IsRate code
+is_rate zero least most = absurd (omega arith)
+is_rate (suc zero) least most = record { factor = 15; some = omega arith; time_is = refl; unit_is = refl }
+is_rate (suc (suc zero)) least most = record { factor = 15000; some = omega arith; time_is = refl; unit_is = refl }
+is_rate (suc (suc (suc zero))) least most =
+    record { factor = 14400; some = omega arith; time_is = refl; unit_is = refl }
+is_rate (suc (suc (suc (suc zero)))) least most =
+    record { factor = 12; some = omega arith; time_is = refl; unit_is = refl }
+is_rate (suc (suc (suc (suc (suc zero))))) least most =
+    record { factor = 12000; some = omega arith; time_is = refl; unit_is = refl }
+is_rate (suc (suc (suc (suc (suc (suc zero)))))) least most =
+    record { factor = 7200; some = omega arith; time_is = refl; unit_is = refl }
+is_rate (suc (suc (suc (suc (suc (suc (suc zero))))))) least most =
+    record { factor = 6; some = omega arith; time_is = refl; unit_is = refl }
+is_rate (suc (suc (suc (suc (suc (suc (suc (suc zero)))))))) least most =
+    record { factor = 6000; some = omega arith; time_is = refl; unit_is = refl }
+is_rate (suc (suc (suc (suc (suc (suc (suc (suc (suc code))))))))) least most = absurd (omega arith)
+
+-- a number of pictures and a time, by the rate and in 1/360,000 second
+pictures_scaled : {code : ℕ} (its : IsRate code) (k : ℕ) → its.factor * (k * (rate code).1) ≡ k * picture_time code
+pictures_scaled {code} its k = mul_left_comm its.factor k (rate code).1 ∙ ap (λ n. k * n) (sym its.time_is)
+
+time_scaled : {code : ℕ} (its : IsRate code) (time : ℕ) → its.factor * (time * (rate code).0) ≡ time * 360000
+time_scaled {code} its time = mul_left_comm its.factor time (rate code).0 ∙ ap (λ n. time * n) (sym its.unit_is)
+
 agree : (code : ℕ) → 1 ≤ code → code ≤ 8 → Agree code
-agree zero least most = absurd (omega arith)
-agree (suc zero) least most =
+agree code least most =
+    let its = is_rate code least most in
     record {
-      past = λ k time h. omega arith;
-      begun = λ k time h. omega arith;
-      lasts = λ k time h. omega arith;
-      ended = λ k time h. omega arith;
+      past = λ k time h. le_of_mul-le-mul_left (omega (arith, h, pictures_scaled its k, time_scaled its time)) its.some;
+      begun = λ k time h.
+          omega (arith, mul-le-mul_left its.factor h, pictures_scaled its k, time_scaled its time);
+      lasts = λ k time h. le_of_mul-le-mul_left (omega (arith, h, pictures_scaled its k, time_scaled its time)) its.some;
+      ended = λ k time h.
+          omega (arith, mul-le-mul_left its.factor h, pictures_scaled its k, time_scaled its time);
     }
-agree (suc (suc zero)) least most =
-    record {
-      past = λ k time h. omega arith;
-      begun = λ k time h. omega arith;
-      lasts = λ k time h. omega arith;
-      ended = λ k time h. omega arith;
-    }
-agree (suc (suc (suc zero))) least most =
-    record {
-      past = λ k time h. omega arith;
-      begun = λ k time h. omega arith;
-      lasts = λ k time h. omega arith;
-      ended = λ k time h. omega arith;
-    }
-agree (suc (suc (suc (suc zero)))) least most =
-    record {
-      past = λ k time h. omega arith;
-      begun = λ k time h. omega arith;
-      lasts = λ k time h. omega arith;
-      ended = λ k time h. omega arith;
-    }
-agree (suc (suc (suc (suc (suc zero))))) least most =
-    record {
-      past = λ k time h. omega arith;
-      begun = λ k time h. omega arith;
-      lasts = λ k time h. omega arith;
-      ended = λ k time h. omega arith;
-    }
-agree (suc (suc (suc (suc (suc (suc zero)))))) least most =
-    record {
-      past = λ k time h. omega arith;
-      begun = λ k time h. omega arith;
-      lasts = λ k time h. omega arith;
-      ended = λ k time h. omega arith;
-    }
-agree (suc (suc (suc (suc (suc (suc (suc zero))))))) least most =
-    record {
-      past = λ k time h. omega arith;
-      begun = λ k time h. omega arith;
-      lasts = λ k time h. omega arith;
-      ended = λ k time h. omega arith;
-    }
-agree (suc (suc (suc (suc (suc (suc (suc (suc zero)))))))) least most =
-    record {
-      past = λ k time h. omega arith;
-      begun = λ k time h. omega arith;
-      lasts = λ k time h. omega arith;
-      ended = λ k time h. omega arith;
-    }
-agree (suc (suc (suc (suc (suc (suc (suc (suc (suc code))))))))) least most = absurd (omega arith)
 
 ended-by : (film : Film) (to : Option ℕ) (first end : ℕ) → Agree film.rate
     → IsEnd film.units.items (picture_time film.rate) to first end
