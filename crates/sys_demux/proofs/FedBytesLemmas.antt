@@ -13,6 +13,7 @@ use Rattle.sys_demux.specs.StreamItems.{chosen_after, IsPack, IsPacket, IsItem, 
 use Rattle.sys_demux.specs.StreamItems.{video_of, bytes_of}
 use Rattle.sys_demux.specs.StreamItems.Item.{Pack, Packet}
 use Rattle.sys_demux.specs.SystemStreams.{IsTruncatedItem, IsEnd, IsFault, IsSystem, IsBadStream}
+use Rattle.sys_demux.specs.SystemStreams.{IsBadByte, IsBadPacket, IsBadValue}
 use Rattle.sys_demux.specs.ValidStates.{least_rest, is_sound}
 use Rattle.sys_demux.specs.ParserStates.{video_from, IsAtPrefix, IsAtHeader, IsAtZeros, IsAtRest, IsShown}
 use Rattle.sys_demux.specs.ParserStates.{IsPart, LeadsTo, IsReached, end_fault, fault_at, begins_at}
@@ -139,6 +140,50 @@ pub record Shows (chosen : Option ℕ) (start : ℕ) (tail : List ℕ) (fault : 
   pub shown : IsShown fault
   pub fault_is : IsFault chosen start tail fault
 
+-- such a byte, value or packet stays too, whatever bytes follow
+bad_byte_stays : {start place : ℕ} {tail : List ℕ} (more : List ℕ) → IsBadByte start tail place
+    → IsBadByte start (tail ++ more) place
+bad_byte_stays {tail} more f = record {
+  count = f.count;
+  byte = f.byte;
+  rest = f.rest ++ more;
+  is = more_after tail (replicate f.count 0) (f.byte ∷ f.rest) more f.is;
+  some = f.some;
+  early = f.early;
+  place_is = f.place_is;
+}
+
+bad_value_stays : {start place : ℕ} {tail : List ℕ} (more : List ℕ) → IsBadValue start tail place
+    → IsBadValue start (tail ++ more) place
+bad_value_stays more f = record {
+  zeros = f.zeros;
+  value = f.value;
+  rest = f.rest ++ more;
+  is = ap (λ (l : List ℕ). l ++ more) f.is ∙ prefixed_more f.zeros (f.value ∷ f.rest) more;
+  low = f.low;
+  place_is = f.place_is;
+}
+
+bad_packet_stays : {chosen : Option ℕ} {start place : ℕ} {tail : List ℕ} (more : List ℕ)
+    → IsBadPacket chosen start tail place → IsBadPacket chosen start (tail ++ more) place
+bad_packet_stays more f = record {
+  zeros = f.zeros;
+  value = f.value;
+  high = f.high;
+  low = f.low;
+  front = f.front;
+  rest = f.rest ++ more;
+  is =
+      ap (λ (l : List ℕ). l ++ more) f.is
+      ∙ prefixed_more f.zeros (f.value ∷ f.high ∷ f.low ∷ (f.front ++ f.rest)) more
+      ∙ ap (λ (l : List ℕ). with_prefix f.zeros (f.value ∷ f.high ∷ f.low ∷ l)) (append_assoc f.front f.rest more);
+  value_is = f.value_is;
+  chosen_is = f.chosen_is;
+  within = f.within;
+  none = f.none;
+  place_is = f.place_is;
+}
+
 pub fault_stays : {chosen : Option ℕ} {start : ℕ} {tail : List ℕ} {fault : SystemFault} (more : List ℕ)
     → Shows chosen start tail fault → IsFault chosen start (tail ++ more) fault
 fault_stays {fault = NotPack place} more shows =
@@ -151,45 +196,12 @@ fault_stays {fault = NotPack place} more shows =
       other = f.other;
       place_is = f.place_is;
     }
-fault_stays {tail} {fault = BadCode place} more shows =
+fault_stays {fault = BadCode place} more shows =
     elim (shows.fault_is) [
-      | inl f ↦ inl (record {
-        count = f.count;
-        byte = f.byte;
-        rest = f.rest ++ more;
-        is = more_after tail (replicate f.count 0) (f.byte ∷ f.rest) more f.is;
-        some = f.some;
-        early = f.early;
-        place_is = f.place_is;
-      })
-      | inr f ↦ inr (record {
-        zeros = f.zeros;
-        value = f.value;
-        rest = f.rest ++ more;
-        is = ap (λ (l : List ℕ). l ++ more) f.is ∙ prefixed_more f.zeros (f.value ∷ f.rest) more;
-        low = f.low;
-        place_is = f.place_is;
-      })
+      | inl f ↦ inl (bad_byte_stays more f)
+      | inr f ↦ inr (bad_value_stays more f)
     ]
-fault_stays {fault = BadPacket place} more shows =
-    let f = shows.fault_is in
-    record {
-      zeros = f.zeros;
-      value = f.value;
-      high = f.high;
-      low = f.low;
-      front = f.front;
-      rest = f.rest ++ more;
-      is =
-          ap (λ (l : List ℕ). l ++ more) f.is
-          ∙ prefixed_more f.zeros (f.value ∷ f.high ∷ f.low ∷ (f.front ++ f.rest)) more
-          ∙ ap (λ (l : List ℕ). with_prefix f.zeros (f.value ∷ f.high ∷ f.low ∷ l)) (append_assoc f.front f.rest more);
-      value_is = f.value_is;
-      chosen_is = f.chosen_is;
-      within = f.within;
-      none = f.none;
-      place_is = f.place_is;
-    }
+fault_stays {fault = BadPacket place} more shows = bad_packet_stays more shows.fault_is
 fault_stays {fault = Truncated place} more shows = absurd shows.shown
 
 pub failed_refused : {fault : SystemFault} {place : ℕ} {now : Option ℕ} {seen video : List ℕ} (more : List ℕ)
@@ -210,6 +222,10 @@ pub sound_header : (header : Header) (left : ℕ) → is_sound (InHeader header 
 sound_header header left sound =
     let parts = and_parts (nat_lt 0 (least_rest header)) (nat_le (least_rest header) left) sound in
     (ltb-true 0 (least_rest header) parts.0, leb-true (least_rest header) left parts.1)
+
+-- a header that is being read has a byte left at least
+pub left_back : (header : Header) (left : ℕ) → is_sound (InHeader header left) ≡ true → left ≡ left - 1 + 1
+left_back header left sound = let enough = sound_header header left sound in omega (arith, enough.0, enough.1)
 
 -- a header can go on to its end
 record CanEnd (header : Header) (left : ℕ) : Type 0 where

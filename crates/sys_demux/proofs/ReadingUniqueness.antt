@@ -1,7 +1,7 @@
 -- A stream is read in one way.
 use Rattle.std.proofs.Common.{◌≡◌, ◌≢◌, ℕ, ◌+◌, ◌*◌, ◌/◌, ◌<◌, ◌≤◌, true, false, zero, suc, List}
 use Rattle.std.proofs.Common.{[], ◌∷◌, ◌++◌, length, take, drop, Option, None, refl, sym, ap, subst}
-use Rattle.std.proofs.Common.{◌∙◌, arith, inl, inr}
+use Rattle.std.proofs.Common.{◌∙◌, ◌⊎◌, arith, inl, inr}
 use Rattle.std.specs.Prelude.{IsSome, replicate}
 use Rattle.std.proofs.lemmas.List.{append_assoc, append-nil, length-append, take_at, drop_at}
 use Rattle.std.proofs.lemmas.List.{take-append-drop, length-take-le, length-drop}
@@ -10,7 +10,7 @@ use Rattle.sys_demux.specs.StreamItems.{Item, with_prefix, item_bytes, zeros_of,
 use Rattle.sys_demux.specs.StreamItems.{chosen_next, chosen_after, IsItem, AreItems, video_of, bytes_of}
 use Rattle.sys_demux.specs.StreamItems.Item.{Pack, Packet}
 use Rattle.sys_demux.specs.SystemStreams.{IsEnd, IsTruncatedItem, IsFault, IsSystem, IsBadStream}
-use Rattle.sys_demux.specs.SystemStreams.{IsBadByte, IsBadPacket}
+use Rattle.sys_demux.specs.SystemStreams.{IsBadByte, IsBadPacket, IsBadValue, IsNotPack}
 use Rattle.sys_demux.specs.ParserStates.{IsShown}
 use Rattle.sys_demux.specs.declared.faults.SystemFault.{SystemFault}
 use Rattle.sys_demux.specs.declared.faults.SystemFault.TheVariants.{NotPack, BadCode, BadPacket}
@@ -338,46 +338,58 @@ end_no_fault chosen start t (Truncated place) (inr c) f =
 places_same : {place place' n m : ℕ} (start : ℕ) → place ≡ start + n → place' ≡ start + m → n ≡ m → place ≡ place'
 places_same {place} {m} start a b e = omega (arith, a, b, e)
 
+-- a start code of this value is the first
+record HasValue (t : List ℕ) (value : ℕ) : Type 0 where
+  zeros : ℕ
+  rest : List ℕ
+  is : t ≡ with_prefix zeros (value ∷ rest)
+
+value_once : {t : List ℕ} {k j : ℕ} → HasValue t k → HasValue t j → k ≡ j
+value_once a b = (values_once a.rest b.rest a.is b.is).1
+
+pack_value : {start place : ℕ} {t : List ℕ} → IsNotPack start t place → HasValue t 186
+pack_value f = record { zeros = f.zeros; rest = f.mark ∷ f.rest; is = f.is }
+
+packet_value : {chosen : Option ℕ} {start place : ℕ} {t : List ℕ} (f : IsBadPacket chosen start t place)
+    → HasValue t f.value
+packet_value f = record { zeros = f.zeros; rest = f.high ∷ f.low ∷ (f.front ++ f.rest); is = f.is }
+
+-- where no item can stand, one byte or value is the first that shows it
+code_once : {start p q : ℕ} {t : List ℕ} → IsBadByte start t p ⊎ IsBadValue start t p
+    → IsBadByte start t q ⊎ IsBadValue start t q → p ≡ q
+code_once {start} (inl f) (inl g) =
+    places_same start f.place_is g.place_is (bad_once f.rest g.rest (sym f.is ∙ g.is) f.some g.some)
+code_once (inl f) (inr g) = absurd (byte_no_prefix g.zeros (g.value ∷ g.rest) f g.is)
+code_once (inr f) (inl g) = absurd (byte_no_prefix f.zeros (f.value ∷ f.rest) g f.is)
+code_once {start} (inr f) (inr g) =
+    places_same start f.place_is g.place_is (values_once f.rest g.rest f.is g.is).0
+
+-- there a start code, if one is the first, has a value below an item's
+code_low : {start place value : ℕ} {t : List ℕ} → IsBadByte start t place ⊎ IsBadValue start t place
+    → HasValue t value → value < 185
+code_low {value} (inl f) has = absurd (byte_no_prefix has.zeros (value ∷ has.rest) f has.is)
+code_low (inr f) has =
+    omega (arith, value_once has (record { zeros = f.zeros; rest = f.rest; is = f.is }), f.low)
+
 fault_once : {one other : SystemFault} (chosen : Option ℕ) (start : ℕ) (t : List ℕ) → IsFault chosen start t one
     → IsFault chosen start t other → one ≡ other
 fault_once {one = NotPack p} {other = NotPack q} chosen start t f g =
     ap NotPack (places_same start f.place_is g.place_is (values_once (f.mark ∷ f.rest) (g.mark ∷ g.rest) f.is g.is).0)
-fault_once {one = NotPack p} {other = BadCode q} chosen start t f (inl g) =
-    absurd (byte_no_prefix f.zeros (186 ∷ f.mark ∷ f.rest) g f.is)
-fault_once {one = NotPack p} {other = BadCode q} chosen start t f (inr g) =
-    absurd (let bad = (values_once (f.mark ∷ f.rest) g.rest f.is g.is).1 in omega (arith, bad, g.low))
+fault_once {one = NotPack p} {other = BadCode q} chosen start t f g =
+    absurd (omega (arith, code_low g (pack_value f)))
 fault_once {one = NotPack p} {other = BadPacket q} chosen start t f g =
-    absurd (let bad =
-    (values_once (f.mark ∷ f.rest) (g.high ∷ g.low ∷ (g.front ++ g.rest)) f.is g.is).1 in
-    omega (arith, bad, g.value_is))
+    absurd (omega (arith, value_once (pack_value f) (packet_value g), g.value_is))
 fault_once {one = NotPack p} {other = Truncated q} chosen start t f g = absurd (cut_shows_none (NotPack p) g tt f)
-fault_once {one = BadCode p} {other = NotPack q} chosen start t (inl f) g =
-    absurd (byte_no_prefix g.zeros (186 ∷ g.mark ∷ g.rest) f g.is)
-fault_once {one = BadCode p} {other = NotPack q} chosen start t (inr f) g =
-    absurd (let bad = (values_once f.rest (g.mark ∷ g.rest) f.is g.is).1 in omega (arith, bad, f.low))
-fault_once {one = BadCode p} {other = BadCode q} chosen start t (inl f) (inl g) =
-    ap BadCode (places_same start f.place_is g.place_is (bad_once f.rest g.rest (sym f.is ∙ g.is) f.some g.some))
-fault_once {one = BadCode p} {other = BadCode q} chosen start t (inl f) (inr g) =
-    absurd (byte_no_prefix g.zeros (g.value ∷ g.rest) f g.is)
-fault_once {one = BadCode p} {other = BadCode q} chosen start t (inr f) (inl g) =
-    absurd (byte_no_prefix f.zeros (f.value ∷ f.rest) g f.is)
-fault_once {one = BadCode p} {other = BadCode q} chosen start t (inr f) (inr g) =
-    ap BadCode (places_same start f.place_is g.place_is (values_once f.rest g.rest f.is g.is).0)
-fault_once {one = BadCode p} {other = BadPacket q} chosen start t (inl f) g =
-    absurd (byte_no_prefix g.zeros (g.value ∷ g.high ∷ g.low ∷ (g.front ++ g.rest)) f g.is)
-fault_once {one = BadCode p} {other = BadPacket q} chosen start t (inr f) g =
-    absurd (let bad =
-    (values_once f.rest (g.high ∷ g.low ∷ (g.front ++ g.rest)) f.is g.is).1 in omega (arith, bad, f.low, g.value_is))
+fault_once {one = BadCode p} {other = NotPack q} chosen start t f g =
+    absurd (omega (arith, code_low f (pack_value g)))
+fault_once {one = BadCode p} {other = BadCode q} chosen start t f g = ap BadCode (code_once f g)
+fault_once {one = BadCode p} {other = BadPacket q} chosen start t f g =
+    absurd (omega (arith, code_low f (packet_value g), g.value_is))
 fault_once {one = BadCode p} {other = Truncated q} chosen start t f g = absurd (cut_shows_none (BadCode p) g tt f)
 fault_once {one = BadPacket p} {other = NotPack q} chosen start t f g =
-    absurd (let bad =
-    (values_once (f.high ∷ f.low ∷ (f.front ++ f.rest)) (g.mark ∷ g.rest) f.is g.is).1 in
-    omega (arith, bad, f.value_is))
-fault_once {one = BadPacket p} {other = BadCode q} chosen start t f (inl g) =
-    absurd (byte_no_prefix f.zeros (f.value ∷ f.high ∷ f.low ∷ (f.front ++ f.rest)) g f.is)
-fault_once {one = BadPacket p} {other = BadCode q} chosen start t f (inr g) =
-    absurd (let bad =
-    (values_once (f.high ∷ f.low ∷ (f.front ++ f.rest)) g.rest f.is g.is).1 in omega (arith, bad, g.low, f.value_is))
+    absurd (omega (arith, value_once (pack_value g) (packet_value f), f.value_is))
+fault_once {one = BadPacket p} {other = BadCode q} chosen start t f g =
+    absurd (omega (arith, code_low g (packet_value f), f.value_is))
 fault_once {one = BadPacket p} {other = BadPacket q} chosen start t f g =
     ap BadPacket (places_same start f.place_is g.place_is
     (values_once (f.high ∷ f.low ∷ (f.front ++ f.rest)) (g.high ∷ g.low ∷ (g.front ++ g.rest)) f.is g.is).0)
