@@ -7,7 +7,7 @@ ghost use Rattle.sys_demux.specs.ParserStates.{video_from};
 
 /// Where in the header of a packet's content the next byte stands (ISO/IEC 11172-1, section
 /// 2.4.3.3).
-#[derive(Clone, Copy)]
+#[derive(Clone, Copy, Debug)]
 pub(crate) enum Header {
     /// After this many bytes FF of stuffing, at most 16.
     Stuffing(u8),

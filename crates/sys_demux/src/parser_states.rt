@@ -21,7 +21,7 @@ const PACK_VALUE: u8 = 0xba;
 const PACK_REST_BYTES: u16 = 7;
 
 /// Where in a stream the next byte stands.
-#[derive(Clone, Copy)]
+#[derive(Clone, Copy, Debug)]
 pub(crate) enum ParserState {
     /// Where an item must stand, after bytes 00: none, one, or two or more.
     Zeros(u8),

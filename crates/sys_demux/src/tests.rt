@@ -4,6 +4,8 @@ ghost use Rattle.std.specs.Prelude.{◌≤◌, ◌^◌, length, IfOk, MatchResul
 ghost use Rattle.sys_demux.specs.SystemStreams.{IsSystem, IsBadStream};
 
 use super::*;
+use crate::headers::Header;
+use crate::parser_states::ParserState;
 use std::alloc::Global;
 use std::test::Fail;
 
@@ -94,5 +96,19 @@ fn refuses_streams(rt: HostRuntime) -> Result<(), Fail> {
             assert_eq!(rt; ended, Err(fault), "at {size}");
         }
     }
+    Ok(())
+}
+
+#[test]
+fn a_reader_prints_its_fields(rt: HostRuntime) -> Result<(), Fail> {
+    let reader = Unwrapper {
+        place: ParserState::InHeader(Header::Stuffing(1), 34),
+        item: 12,
+        chosen: Some(0xe0),
+        fed: 19,
+    };
+    let want =
+        "Unwrapper { place: InHeader(Stuffing(1), 34), item: 12, chosen: Some(224), fed: 19 }";
+    assert_eq!(rt; format!(in rt.alloc(); "{reader:?}")?.as_str(), want);
     Ok(())
 }

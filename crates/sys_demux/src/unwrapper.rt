@@ -7,7 +7,7 @@ use crate::parser_states::ParserState;
 
 /// A reader that takes the video bytes out of an MPEG-1 system stream (ISO/IEC 11172-1), chunk by
 /// chunk. It takes no memory.
-#[derive(Drop)]
+#[derive(Debug, Drop)]
 pub struct Unwrapper {
     /// Where in the stream the next byte stands.
     pub(crate) place: ParserState,
