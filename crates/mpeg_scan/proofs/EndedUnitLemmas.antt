@@ -277,11 +277,30 @@ counts-grow : {from to count : ℕ} (c : Code) (past : List Code) → to ≤ c.p
 counts-grow {from} {to} c past far =
     counts-same (λ place value before has. inr has) (λ place value before has. counts-back c past to far before has)
 
+picture-grows : (c : Code) (past : List Code) (unit : PictureUnit) → unit.head_end ≤ c.place
+    → HasPicture (Has past) (CodeFields past) unit → HasPicture (Has (c ∷ past)) (CodeFields (c ∷ past)) unit
+picture-grows c past unit far p = record {
+  place = p.place;
+  code = inr p.code;
+  after = p.after;
+  before = p.before;
+  only = only-grows c past unit.from unit.head_end far p.only;
+  last = none-grows c past far p.last;
+  fields = record {
+    code = p.fields.code;
+    member = inr p.fields.member;
+    zero_is = p.fields.zero_is;
+    place_is = p.fields.place_is;
+    temporal = p.fields.temporal;
+    kind = p.fields.kind;
+    vectors = p.fields.vectors;
+  };
+}
+
 closed-grows : (c : Code) (past : List Code) (unit : PictureUnit) → unit.to ≤ c.place → Closed past unit
     → Closed (c ∷ past) unit
 closed-grows c past unit far closed =
     let u = closed.unit_is in
-    let p = u.picture in
     let head_far : unit.head_end ≤ c.place = omega (arith, far, closed.rest_some) in
     let from_far : unit.from ≤ c.place = omega (arith, head_far, closed.head_some) in
     record {
@@ -293,23 +312,7 @@ closed-grows c past unit far closed =
         own = counts-grow c past far u.own;
         all = counts-grow c past far u.all;
         slices = none-grows c past far u.slices;
-        picture = record {
-          place = p.place;
-          code = inr p.code;
-          after = p.after;
-          before = p.before;
-          only = only-grows c past unit.from unit.head_end head_far p.only;
-          last = none-grows c past head_far p.last;
-          fields = record {
-            code = p.fields.code;
-            member = inr p.fields.member;
-            zero_is = p.fields.zero_is;
-            place_is = p.fields.place_is;
-            temporal = p.fields.temporal;
-            kind = p.fields.kind;
-            vectors = p.fields.vectors;
-          };
-        };
+        picture = picture-grows c past unit head_far u.picture;
         sequence = (
           λ e. stands-grows c past unit.from unit.head_end 0xb3 (u.sequence.0 e),
           λ it. u.sequence.1 (stands-shrinks c past head_far it),

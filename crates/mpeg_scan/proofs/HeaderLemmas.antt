@@ -1,6 +1,6 @@
 -- The refusals of a header, of the bits of its bytes.
 use Rattle.std.proofs.Common.{ℕ, Bool, true, false, cond, eqb, ltb, leb, not, ◌&&◌, ◌||◌, ◌+◌, ◌-◌}
-use Rattle.std.proofs.Common.{◌/◌, ◌%◌, ◌<◌, ◌≤◌, ◌≡◌, ◌⊎◌, List, [], ◌∷◌, Option, Some, None}
+use Rattle.std.proofs.Common.{◌/◌, ◌%◌, ◌<◌, ◌≤◌, ◌≡◌, ◌⊎◌, ◌↔◌, List, [], ◌∷◌, Option, Some, None}
 use Rattle.std.proofs.Common.{get_or, sym, ◌∙◌, ap, refl, subst, inl, inr, arith}
 use Rattle.std.proofs.lemmas.Bool.{cases_lt, eqb-false, eqb-true, eq-eqb, ne_eqb, not-true}
 use Rattle.std.proofs.lemmas.Bool.{ltb-true, ltb-false, lt-ltb, le-ltb, leb-true, le-leb, and_parts}
@@ -128,6 +128,25 @@ rate-bad {its} is known (inr (inl many)) =
 rate-bad {Has} {bytes} {place} {rate} is known (inr (inr o)) =
     inr (inr (ap (λ n. differs rate n) is ∙ rate-other Has bytes place rate known o))
 
+-- a rate that the standard doesn't allow, or another than the film's first one
+abbrev IsBadAt : (ℕ → ℕ → Type 0) → List ℕ → ℕ → Type 0
+IsBadAt Has bytes place =
+    (picture_rate bytes place ≡ 0) ⊎ ((8 < picture_rate bytes place) ⊎ IsOtherRate Has bytes place)
+
+-- the test of a sequence header's rate
+abbrev is_bad_rate : Option ℕ → Code → Bool
+is_bad_rate rate c = eqb (rate_code c) 0 || (ltb 8 (rate_code c) || differs rate (rate_code c))
+
+rate-tested : {Has : ℕ → ℕ → Type 0} {bytes : List ℕ} {rate : Option ℕ} (c : Code) →
+    rate_code c ≡ picture_rate bytes c.place → RateIs Has bytes c.place rate →
+    (is_bad_rate rate c ≡ true) ↔ IsBadAt Has bytes c.place
+rate-tested {rate} c its known = (
+  λ t. bad-rate its known
+      (rate-parts (eqb (rate_code c) 0) (ltb 8 (rate_code c)) (differs rate (rate_code c)) t),
+  λ bad. rate-whole (eqb (rate_code c) 0) (ltb 8 (rate_code c)) (differs rate (rate_code c))
+      (rate-bad its known bad),
+)
+
 -- ---- a header
 
 -- the header of the code c, with the next code, or the film's end, at a place
@@ -223,26 +242,18 @@ sequence-decides {Has} {bytes} {c} {past} {at} {rate} h is =
     ))
     (λ e. let far : c.place + 12 ≤ at = omega (arith, ltb-false (at - c.place) 12 e) in
     let its = rate-fits bytes at c h.fits (omega (arith, far)) in
+    let tested = rate-tested c its h.rate_is in
     only-first (IsBadRate Has bytes at) (IsBadType Has bytes at) (rate_fault rate c)
-    (decide (IsBadRate Has bytes at) (eqb (rate_code c) 0
-    || (ltb 8 (rate_code c) || differs rate (rate_code c))) (BadRate c.place (rate_code c))
+    (decide (IsBadRate Has bytes at) (is_bad_rate rate c) (BadRate c.place (rate_code c))
     (λ t. record {
       place = c.place;
-      latest = latest-value {Has = Has} {bytes = bytes} {c = c} {past = past} {at = at} {rate = rate}
-          {value = 0xb3} h is;
-      bad = bad-rate {Has = Has} {bytes = bytes} {place = c.place} {rate = rate} {its = rate_code c} its h.rate_is
-          (rate-parts (eqb (rate_code c) 0) (ltb 8 (rate_code c)) (differs rate (rate_code c)) t);
+      latest = latest-value h is;
+      bad = tested.0 t;
       is = ap (BadRate c.place) its;
     })
-    (λ g p. let same =
-    value-is {Has = Has} {bytes = bytes} {c = c} {past = past} {at = at} {rate = rate} {place = p.place}
-    {value = 0xb3} h p.latest in (
-      rate-whole (eqb (rate_code c) 0) (ltb 8 (rate_code c)) (differs rate (rate_code c))
-          (rate-bad {Has = Has} {bytes = bytes} {place = c.place} {rate = rate} {its = rate_code c} its h.rate_is
-          (subst (λ v. (picture_rate bytes v ≡ 0)
-          ⊎ ((8 < picture_rate bytes v) ⊎ IsOtherRate Has bytes v)) (sym same.0) p.bad)),
-      p.is ∙ ap (λ v. BadRate v (picture_rate bytes v)) (sym same.0) ∙ ap (BadRate c.place)
-          (sym its),
+    (λ g p. let same = value-is h p.latest in (
+      tested.1 (subst (λ v. IsBadAt Has bytes v) (sym same.0) p.bad),
+      p.is ∙ ap (λ v. BadRate v (picture_rate bytes v)) (sym same.0) ∙ ap (BadRate c.place) (sym its),
     )))
     (no-type h (λ e. absurd (omega (arith, e, is)))))
 

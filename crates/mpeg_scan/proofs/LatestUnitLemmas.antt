@@ -440,6 +440,22 @@ pub record Sliced (q e : Bool) (n : ℕ) : Type 0 where
   pub zero_is : e ≡ true → n ≡ 0
   pub more : e ≡ false → 0 < n
 
+-- a code of a head: it begins a unit where the latest one has slices, and stands in its head otherwise
+head-code : {t0 t3 t8 q e : Bool} {c : Code} {past : List Code} {u : Latest} → Below c past
+    → Values t0 t3 t8 false c.value → IsHeadValue c.value → Sliced q e u.slices
+    → (u.slices ≡ 0 → is_some u.picture ≡ false) → Open past u
+    → Open (c ∷ past) (record {
+      from = cond q c.place u.from;
+      head_end = 0;
+      slices = 0;
+      picture = cond t0 (Some (header_of c)) (cond q None u.picture);
+      sequence = cond t3 true (cond q false u.sequence);
+      group = cond t8 true (cond q false u.group);
+    })
+head-code {q = true} below values head sliced bare open_ = new-unit below values head open_
+head-code {q = false} below values head sliced bare open_ =
+    more-head below values head (sliced.none refl) (bare (sliced.none refl)) open_
+
 no-head : (value : ℕ) → Values false false false false value → IsHeadValue value → ⊥
 no-head value values (inl e) = false≢true (values.is_zero e)
 no-head value values (inr (inl e)) = false≢true (values.is_three e)
@@ -474,19 +490,11 @@ step-open {t0 = true} {t3 = true} {s = false} {c} values below sliced alone with
     absurd (omega (arith, values.zero_is refl, values.three_is refl))
 step-open {t0 = true} {t3 = false} {t8 = true} {s = false} {c} values below sliced alone with_ open_ =
     absurd (omega (arith, values.zero_is refl, values.eight_is refl))
-step-open {t0 = true} {t3 = false} {t8 = false} {s = false} {q = true} {c} values below sliced alone with_
-    open_ = new-unit below values (inl (values.zero_is refl)) open_
-step-open {t0 = true} {t3 = false} {t8 = false} {s = false} {q = false} {c} values below sliced alone with_
-    open_ = more-head below values (inl (values.zero_is refl)) (sliced.none refl) (alone refl (sliced.none refl)) open_
 step-open {t0 = false} {t3 = true} {t8 = true} {s = false} {c} values below sliced alone with_ open_ =
     absurd (omega (arith, values.three_is refl, values.eight_is refl))
-step-open {t0 = false} {t3 = true} {t8 = false} {s = false} {q = true} {c} values below sliced alone with_
-    open_ = new-unit below values (inr (inl (values.three_is refl))) open_
-step-open {t0 = false} {t3 = true} {t8 = false} {s = false} {q = false} {c} values below sliced alone with_
-    open_ =
-    more-head below values (inr (inl (values.three_is refl))) (sliced.none refl) (alone refl (sliced.none refl)) open_
-step-open {t0 = false} {t3 = false} {t8 = true} {s = false} {q = true} {c} values below sliced alone with_
-    open_ = new-unit below values (inr (inr (values.eight_is refl))) open_
-step-open {t0 = false} {t3 = false} {t8 = true} {s = false} {q = false} {c} values below sliced alone with_
-    open_ =
-    more-head below values (inr (inr (values.eight_is refl))) (sliced.none refl) (alone refl (sliced.none refl)) open_
+step-open {t0 = true} {t3 = false} {t8 = false} {s = false} {c} values below sliced alone with_ open_ =
+    head-code below values (inl (values.zero_is refl)) sliced (alone refl) open_
+step-open {t0 = false} {t3 = true} {t8 = false} {s = false} {c} values below sliced alone with_ open_ =
+    head-code below values (inr (inl (values.three_is refl))) sliced (alone refl) open_
+step-open {t0 = false} {t3 = false} {t8 = true} {s = false} {c} values below sliced alone with_ open_ =
+    head-code below values (inr (inr (values.eight_is refl))) sliced (alone refl) open_

@@ -101,14 +101,15 @@ record MayStand (s h : Bool) (n head_end : ℕ) (here : CodeEnds) : Type 0 where
   spaced : 0 < n → here.slice + 4 ≤ here.place
   ends : EndsAs here.ended here.unit head_end here.place n
 
--- the part after those calls
-raw-step : {s h : Bool} {n head_end : ℕ} {here : CodeEnds} → MayStand s h n head_end here
-    → (n ≡ 0) ⊎ ((m : ℕ) × (n ≡ m + 1))
-    → parts_after (Some (part_by n here.unit head_end here.slice)) (raw_calls s h (ltb 0 n) (eqb n 0) here)
-    ≡ Some (part_by (cond h 0 (cond s (n + 1) n)) (cond (h && ltb 0 n) here.place here.unit)
-    (cond (s && eqb n 0) here.place (cond h 0 head_end)) (cond s here.place (cond h 0 here.slice)))
-raw-step {s = true} {h = true} may count = absurd (true≢false (may.apart refl))
-raw-step {s = true} {h = false} {n} {head_end} {here} may (inl none) =
+-- none, or one more than another number
+abbrev NoneOrMore : ℕ → Type 0
+NoneOrMore n = (n ≡ 0) ⊎ ((m : ℕ) × (n ≡ m + 1))
+
+-- the part after a slice code: it ends the head, or the slice before it
+slice-step : {n head_end : ℕ} {here : CodeEnds} → MayStand true false n head_end here → NoneOrMore n
+    → parts_after (Some (part_by n here.unit head_end here.slice)) (raw_calls true false (ltb 0 n) (eqb n 0) here)
+    ≡ Some (part_by (n + 1) here.unit (cond (eqb n 0) here.place head_end) here.place)
+slice-step {n} {head_end} {here} may (inl none) =
     ap (λ (p : PartStart). parts_after (Some p)
     (cond (eqb n 0) (head_call unit place ∷ []) (slice_call slice place ∷ [])))
     (part_by-none n unit head_end slice none)
@@ -119,7 +120,7 @@ raw-step {s = true} {h = false} {n} {head_end} {here} may (inl none) =
     ∙ ap (λ (p : PartStart). Some p) (part_by-some (n + 1) 0 unit place place (omega arith)))
   where
     open here use {unit, slice, place}
-raw-step {s = true} {h = false} {n} {head_end} {here} may (inr some) =
+slice-step {n} {head_end} {here} may (inr some) =
     ap (λ (p : PartStart). parts_after (Some p)
     (cond (eqb n 0) (head_call unit place ∷ []) (slice_call slice place ∷ [])))
     (part_by-some n some.0 unit head_end slice some.1)
@@ -132,7 +133,12 @@ raw-step {s = true} {h = false} {n} {head_end} {here} may (inr some) =
     ∙ ap (λ (p : PartStart). Some p) (part_by-some (n + 1) (some.0 + 1) unit head_end place (omega (arith, some.1))))
   where
     open here use {unit, slice, place}
-raw-step {s = false} {h = true} {n} {head_end} {here} may (inl none) =
+
+-- the part after a code of a head: it ends the unit before it, where that one has slices
+head-step : {n head_end : ℕ} {here : CodeEnds} → MayStand false true n head_end here → NoneOrMore n
+    → parts_after (Some (part_by n here.unit head_end here.slice)) (raw_calls false true (ltb 0 n) (eqb n 0) here)
+    ≡ Some (part_by 0 (cond (ltb 0 n) here.place here.unit) 0 0)
+head-step {n} {head_end} {here} may (inl none) =
     ap (λ (p : PartStart). parts_after (Some p) (cond (ltb 0 n) (slice_call slice place ∷ unit_call u ∷ []) []))
     (part_by-none n unit head_end slice none)
     ∙ ap (λ b. parts_after (Some (between unit)) (cond b (slice_call slice place ∷ unit_call u ∷ []) []))
@@ -141,7 +147,7 @@ raw-step {s = false} {h = true} {n} {head_end} {here} may (inl none) =
     ∙ ap (λ (p : PartStart). Some p) (part_by-none 0 unit 0 0 refl))
   where
     open here use {unit, slice, place, ended as u}
-raw-step {s = false} {h = true} {n} {head_end} {here} may (inr some) =
+head-step {n} {head_end} {here} may (inr some) =
     ap (λ (p : PartStart). parts_after (Some p) (cond (ltb 0 n) (slice_call slice place ∷ unit_call u ∷ []) []))
     (part_by-some n some.0 unit head_end slice some.1)
     ∙ ap (λ b. parts_after (Some (within unit head_end slice some.0))
@@ -152,6 +158,15 @@ raw-step {s = false} {h = true} {n} {head_end} {here} may (inr some) =
     ∙ ap (λ (p : PartStart). Some p) (part_by-none 0 place 0 0 refl))
   where
     open here use {unit, slice, place, ended as u}
+
+-- the part after those calls
+raw-step : {s h : Bool} {n head_end : ℕ} {here : CodeEnds} → MayStand s h n head_end here → NoneOrMore n
+    → parts_after (Some (part_by n here.unit head_end here.slice)) (raw_calls s h (ltb 0 n) (eqb n 0) here)
+    ≡ Some (part_by (cond h 0 (cond s (n + 1) n)) (cond (h && ltb 0 n) here.place here.unit)
+    (cond (s && eqb n 0) here.place (cond h 0 head_end)) (cond s here.place (cond h 0 here.slice)))
+raw-step {s = true} {h = true} may count = absurd (true≢false (may.apart refl))
+raw-step {s = true} {h = false} may count = slice-step may count
+raw-step {s = false} {h = true} may count = head-step may count
 raw-step {s = false} {h = false} may count = refl
 
 -- ---- all codes
@@ -178,7 +193,7 @@ slice-apart value slice =
     ∙ ap (λ b. b || eqb value 0xb8) (ne_eqb value 0xb3 (λ e. absurd (omega arith)))
     ∙ ne_eqb value 0xb8 (λ e. absurd (omega arith))
 
-count-cases : (n : ℕ) → (n ≡ 0) ⊎ ((m : ℕ) × (n ≡ m + 1))
+count-cases : (n : ℕ) → NoneOrMore n
 count-cases zero = inl refl
 count-cases (suc m) = inr (m, omega arith)
 

@@ -167,40 +167,38 @@ second-decides Has past at value c =
 
 -- ---- a unit's first slice
 
-head-decides : {Has : ℕ → ℕ → Type 0} {t_unit at : ℕ} (past : List Code) (o : Option Header) →
-    latest_unit past ≡ t_unit → IsOpenHead Has t_unit at → PictureThere Has t_unit at o
-    → Decides (Otherwise (LacksPicture Has at) (IsLongHead Has at))
-    (head_fault (tally_of past) at o)
-head-decides {Has} {t_unit = unit} {at} past None is head none =
-    subst (λ u. Decides (Otherwise (LacksPicture Has at) (IsLongHead Has at))
-    (Some (HeadWithoutPicture u))) (sym is)
-    (λ f. (
-      λ e. inl (record {
-        unit = unit;
-        open_head = head;
-        none = none;
-        is = sym (same_Some (HeadWithoutPicture unit) f e);
-      }),
-      λ either. elim either [
-        | inl p ↦ ap (λ u.
-            Some (HeadWithoutPicture u)) (one-head Has unit p.unit at head p.open_head) ∙ ap Some
-            (sym p.is)
-        | inr q ↦ absurd (q.0 (HeadWithoutPicture unit) (record {
-          unit = unit;
-          open_head = head;
-          none = none;
-          is = refl;
-        }))
-      ],
-    ))
-head-decides {Has} {t_unit = unit} {at} past (Some h) is head picture =
-    subst (λ u. Decides (Otherwise (LacksPicture Has at) (IsLongHead Has at))
-    (cond (ltb MAX_UNIT_HEAD_BYTES (at - u)) (Some (HeadTooLong u)) None)) (sym is)
-    (only-second (LacksPicture Has at) (IsLongHead Has at)
+-- its head has no picture
+bare-decides : {Has : ℕ → ℕ → Type 0} {unit at : ℕ} → IsOpenHead Has unit at → PictureThere Has unit at None →
+    Decides (Otherwise (LacksPicture Has at) (IsLongHead Has at)) (Some (HeadWithoutPicture unit))
+bare-decides {Has} {unit} {at} head none = λ f. (
+  λ e. inl (record {
+    unit = unit;
+    open_head = head;
+    none = none;
+    is = sym (same_Some (HeadWithoutPicture unit) f e);
+  }),
+  λ either. elim either [
+    | inl p ↦ ap (λ u. Some (HeadWithoutPicture u)) (one-head Has unit p.unit at head p.open_head)
+        ∙ ap Some (sym p.is)
+    | inr q ↦ absurd (q.0 (HeadWithoutPicture unit) (record {
+      unit = unit;
+      open_head = head;
+      none = none;
+      is = refl;
+    }))
+  ],
+)
+
+-- its head has a picture, and is too long or not
+long-decides : {Has : ℕ → ℕ → Type 0} {unit at : ℕ} (h : Header) → IsOpenHead Has unit at →
+    PictureThere Has unit at (Some h) →
+    Decides (Otherwise (LacksPicture Has at) (IsLongHead Has at))
     (cond (ltb MAX_UNIT_HEAD_BYTES (at - unit)) (Some (HeadTooLong unit)) None)
-    (λ f p. p.none h.place 0 picture.code (subst (λ u.
-    u ≤ h.place)
-    (one-head Has unit p.unit at head p.open_head) picture.after) picture.before refl)
+long-decides {Has} {unit} {at} h head picture =
+    only-second (LacksPicture Has at) (IsLongHead Has at)
+    (cond (ltb MAX_UNIT_HEAD_BYTES (at - unit)) (Some (HeadTooLong unit)) None)
+    (λ f p. p.none h.place 0 picture.code
+    (subst (λ u. u ≤ h.place) (one-head Has unit p.unit at head p.open_head) picture.after) picture.before refl)
     (decide (IsLongHead Has at) (ltb MAX_UNIT_HEAD_BYTES (at - unit)) (HeadTooLong unit)
     (λ e. record {
       unit = unit;
@@ -209,7 +207,18 @@ head-decides {Has} {t_unit = unit} {at} past (Some h) is head picture =
       is = refl;
     })
     (λ g p. let same = one-head Has p.unit unit at p.open_head head in
-    (lt-ltb MAX_UNIT_HEAD_BYTES (at - unit) (omega (arith, same, p.long)), p.is ∙ ap HeadTooLong same))))
+    (lt-ltb MAX_UNIT_HEAD_BYTES (at - unit) (omega (arith, same, p.long)), p.is ∙ ap HeadTooLong same)))
+
+head-decides : {Has : ℕ → ℕ → Type 0} {t_unit at : ℕ} (past : List Code) (o : Option Header) →
+    latest_unit past ≡ t_unit → IsOpenHead Has t_unit at → PictureThere Has t_unit at o
+    → Decides (Otherwise (LacksPicture Has at) (IsLongHead Has at))
+    (head_fault (tally_of past) at o)
+head-decides {Has} {at} past None is head none =
+    subst (λ u. Decides (Otherwise (LacksPicture Has at) (IsLongHead Has at))
+    (Some (HeadWithoutPicture u))) (sym is) (bare-decides head none)
+head-decides {Has} {at} past (Some h) is head picture =
+    subst (λ u. Decides (Otherwise (LacksPicture Has at) (IsLongHead Has at))
+    (cond (ltb MAX_UNIT_HEAD_BYTES (at - u)) (Some (HeadTooLong u)) None)) (sym is) (long-decides h head picture)
 
 lacks-none : (Has : ℕ → ℕ → Type 0) (at : ℕ) → ((unit : ℕ) → IsOpenHead Has unit at → ⊥) →
     (f : FilmFault) → Otherwise (LacksPicture Has at) (IsLongHead Has at) f → ⊥

@@ -44,19 +44,29 @@ own-slices {cur} {first} {n} before rest f m =
     ∙ ap (λ i. take i (cur ++ rest)) m
     ∙ take-append_seam cur rest
 
+-- a unit after its head and so many slices: the next part of it begins at a place
+pub record BegunUnit : Type 0 where
+  pub from : ℕ
+  pub head_end : ℕ
+  pub at : ℕ
+  pub slices : ℕ
+
+abbrev pub begun : ℕ → ℕ → ℕ → ℕ → BegunUnit
+begun from head_end at n = record { from = from; head_end = head_end; at = at; slices = n }
+
 -- what the parts so far say: `past` are the places of all slices so far
-pub record Inside (from head_end at n : ℕ) (past : List ℕ) : Type 0 where
+pub record Inside (u : BegunUnit) (past : List ℕ) : Type 0 where
   pub before : List ℕ
   pub cur : List ℕ
   pub past_is : past ≡ before ++ cur
-  pub count : n ≡ length cur
-  pub head : from < head_end
-  pub short : head_end ≤ from + MAX_UNIT_HEAD_BYTES
-  pub in_order : AreInOrder head_end cur at
+  pub count : u.slices ≡ length cur
+  pub head : u.from < u.head_end
+  pub short : u.head_end ≤ u.from + MAX_UNIT_HEAD_BYTES
+  pub in_order : AreInOrder u.head_end cur u.at
 
 abbrev pub Stands : PartStart → List ℕ → Type 0
 Stands (between at) past = Unit {0}
-Stands (within from head_end at n) past = Inside from head_end at n past
+Stands (within from head_end at n) past = Inside (begun from head_end at n) past
 
 -- where the parts go on to an end, the next one fits
 pub part-fits : (b : Bool) (p : PartStart) (calls : List Call) (to : ℕ)
@@ -65,6 +75,27 @@ pub part-fits : (b : Bool) (p : PartStart) (calls : List Call) (to : ℕ)
 part-fits true p calls to e = (refl, e)
 part-fits false p [] to e = cc
 part-fits false p (call ∷ calls) to e = cc
+
+-- a head of 1 to 1,380 bytes begins where the parts before it end, and the next part begins at its end
+pub record HeadFits (from to at : ℕ) (calls : List Call) (end : ℕ) : Type 0 where
+  pub here : from ≡ at
+  pub some : from < to
+  pub short : to - from ≤ MAX_UNIT_HEAD_BYTES
+  pub rest : parts_after (Some (within from to to 0)) calls ≡ Some (between end)
+
+pub head-fits : (from to at : ℕ) (calls : List Call) (end : ℕ)
+    → parts_after (Some (between at)) (head_call from to ∷ calls) ≡ Some (between end) → HeadFits from to at calls end
+head-fits from to at calls end parts =
+    let few = leb (to - from) MAX_UNIT_HEAD_BYTES in
+    let fits = part-fits (eqb from at && (ltb from to && few)) (within from to to 0) calls end parts in
+    let first = and_parts (eqb from at) (ltb from to && few) fits.0 in
+    let sizes = and_parts (ltb from to) few first.1 in
+    record {
+      here = eqb-true from at first.0;
+      some = ltb-true from to sizes.0;
+      short = leb-true (to - from) MAX_UNIT_HEAD_BYTES sizes.1;
+      rest = fits.1;
+    }
 
 -- the parts end, from the first on
 place_of : PartStart → ℕ
@@ -77,14 +108,8 @@ unfolding place_of
 part-below [] (between at) to parts = let same : at ≡ to = cc in omega (arith, same)
 part-below [] (within from head_end at n) to parts = cc
 part-below (head_call a b ∷ calls) (between at) to parts =
-    let fits = part-fits (eqb a at && (ltb a b && leb (b - a) MAX_UNIT_HEAD_BYTES)) (within a b b 0) calls to parts in
-    let first = and_parts (eqb a at) (ltb a b && leb (b - a) MAX_UNIT_HEAD_BYTES) fits.0 in
-    omega (
-      arith,
-      eqb-true a at first.0,
-      ltb-true a b (and_parts (ltb a b) (leb (b - a) MAX_UNIT_HEAD_BYTES) first.1).0,
-      part-below calls (within a b b 0) to fits.1,
-    )
+    let fits = head-fits a b at calls to parts in
+    omega (arith, fits.here, fits.some, part-below calls (within a b b 0) to fits.rest)
 part-below (slice_call a b ∷ calls) (between at) to parts =
     absurd (false≢true (part-fits false (between at) calls to parts).0)
 part-below (unit_call unit ∷ calls) (between at) to parts =
@@ -107,7 +132,7 @@ part-below (unit_call unit ∷ calls) (within from head_end at n) to parts =
     && (eqb unit.slices n && ltb 0 n)) (between at) calls to parts in
     part-below calls (between at) to fits.1
 
-pub count-fits : (b : Bool) (k : Count) (calls : List Call) → IsSome (counts_after (cond b (Some k) None) calls)
+count-fits : (b : Bool) (k : Count) (calls : List Call) → IsSome (counts_after (cond b (Some k) None) calls)
     → (b ≡ true) × IsSome (counts_after (Some k) calls)
 count-fits true k calls e = (refl, e)
 count-fits false k [] e = cc
@@ -120,7 +145,7 @@ pub record UnitFits (unit : PictureUnit) (from head_end at n : ℕ) : Type 0 whe
   pub slices : unit.slices ≡ n
   pub some : 0 < n
 
-pub unit-fits : (unit : PictureUnit) (from head_end at n : ℕ)
+unit-fits : (unit : PictureUnit) (from head_end at n : ℕ)
     → ((eqb unit.from from && (eqb unit.head_end head_end && eqb unit.to at)) && (eqb unit.slices n && ltb 0 n))
     ≡ true → UnitFits unit from head_end at n
 unit-fits unit from head_end at n e =
@@ -137,10 +162,24 @@ unit-fits unit from head_end at n e =
       some = ltb-true 0 n counts.1;
     }
 
-unit-laid : {unit : PictureUnit} {from head_end at n : ℕ} {past : List ℕ} (rest : List ℕ)
-    → UnitFits unit from head_end at n → unit.first_slice + unit.slices ≡ length past
-    → Inside from head_end at n past → IsLaid (past ++ rest) unit
-unit-laid {unit} {from} {head_end} {at} {past} rest fits count inside =
+-- a unit is reported where its parts end, and the next part begins there
+pub reported-fits : (u : BegunUnit) (unit : PictureUnit) (calls : List Call) (to : ℕ)
+    → parts_after (Some (within u.from u.head_end u.at u.slices)) (unit_call unit ∷ calls) ≡ Some (between to)
+    → UnitFits unit u.from u.head_end u.at u.slices × (parts_after (Some (between u.at)) calls ≡ Some (between to))
+reported-fits u unit calls to parts =
+    let fits = part-fits
+    ((eqb unit.from u.from && (eqb unit.head_end u.head_end && eqb unit.to u.at))
+    && (eqb unit.slices u.slices && ltb 0 u.slices)) (between u.at) calls to parts in
+    (unit-fits unit u.from u.head_end u.at u.slices fits.0, fits.1)
+
+-- the parts of a unit fit where it is reported, and its slices are the latest of all
+record Ends (unit : PictureUnit) (u : BegunUnit) (past : List ℕ) : Type 0 where
+  fits : UnitFits unit u.from u.head_end u.at u.slices
+  count : unit.first_slice + unit.slices ≡ length past
+
+unit-laid : {unit : PictureUnit} {u : BegunUnit} {past : List ℕ} (rest : List ℕ) → Ends unit u past → Inside u past
+    → IsLaid (past ++ rest) unit
+unit-laid {unit} {u} {past} rest ends inside =
     let all : length past ≡ length inside.before + length inside.cur =
     ap length inside.past_is ∙ length-append inside.before inside.cur in
     let cur : unit.slices ≡ length inside.cur = fits.slices ∙ inside.count in
@@ -150,7 +189,7 @@ unit-laid {unit} {from} {head_end} {at} {past} rest fits count inside =
     ∙ own-slices inside.before rest first cur) in
     let order : AreInOrder unit.head_end inside.cur unit.to =
     subst (λ h. AreInOrder h inside.cur unit.to) (sym fits.head)
-    (subst (λ t. AreInOrder head_end inside.cur t) (sym fits.end) inside.in_order) in
+    (subst (λ t. AreInOrder u.head_end inside.cur t) (sym fits.end) inside.in_order) in
     record {
       fits = omega (arith, count, length-append past rest);
       head = omega (arith, fits.begin, fits.head, inside.head);
@@ -158,11 +197,59 @@ unit-laid {unit} {from} {head_end} {at} {past} rest fits count inside =
       some = omega (arith, fits.slices, fits.some);
       in_order = subst (λ (l : List ℕ). AreInOrder unit.head_end l unit.to) starts order;
     }
+  where
+    open ends use {fits, count}
+
+-- a unit whose head has ended
+head-inside : {from to : ℕ} (past : List ℕ) → from < to → to - from ≤ MAX_UNIT_HEAD_BYTES
+    → Inside (begun from to to 0) past
+head-inside past less short = record {
+  before = past;
+  cur = [];
+  past_is = sym (append-nil past);
+  count = refl;
+  head = less;
+  short = omega (arith, less, short);
+  in_order = refl;
+}
+
+-- a slice of at least 4 bytes goes on where the unit's parts so far end
+record SliceFits (u : BegunUnit) (from to : ℕ) : Type 0 where
+  here : from ≡ u.at
+  least : from + 4 ≤ to
+
+-- the same unit after that slice
+slice-inside : {u : BegunUnit} {from to : ℕ} {past : List ℕ} → SliceFits u from to → Inside u past
+    → Inside (record u { at = to; slices = u.slices + 1 }) (past ++ from ∷ [])
+slice-inside {u} {from} {to} fits inside = record {
+  before = inside.before;
+  cur = inside.cur ++ from ∷ [];
+  past_is = ap (λ (l : List ℕ). l ++ from ∷ []) inside.past_is ∙ append_assoc inside.before inside.cur (from ∷ []);
+  count = omega (arith, inside.count, length-append inside.cur (from ∷ []));
+  head = inside.head;
+  short = inside.short;
+  in_order = subst (λ s. AreInOrder u.head_end (inside.cur ++ s ∷ []) to) (sym fits.here)
+      (in_order-more inside.cur u.head_end u.at to inside.in_order (omega (arith, fits.here, fits.least)));
+}
 
 -- the places of all slices so far, where the parts so far come to this one
 record SoFar (part : PartStart) (k : Count) (past : List ℕ) : Type 0 where
   slices : k.slices ≡ length past
   stands : Stands part past
+
+-- the count after a unit
+abbrev pub count_with : Count → PictureUnit → Count
+count_with k unit = record { units = k.units + 1; slices = k.slices; before_group = group_of k unit }
+
+-- a unit's slices are the latest ones, and what comes after it agrees
+pub unit-counts : (k : Count) (unit : PictureUnit) (calls : List Call)
+    → IsSome (counts_after (Some k) (unit_call unit ∷ calls))
+    → (unit.first_slice + unit.slices ≡ k.slices) × IsSome (counts_after (Some (count_with k unit)) calls)
+unit-counts k unit calls counts =
+    let slices = eqb (unit.first_slice + unit.slices) k.slices in
+    let shown = eqb unit.presentation (group_of k unit + unit.temporal) in
+    let agrees = count-fits (slices && shown) (count_with k unit) calls counts in
+    (eqb-true (unit.first_slice + unit.slices) k.slices (and_parts slices shown agrees.0).0, agrees.1)
 
 part-laid : (calls : List Call) {part : PartStart} {k : Count} {to : ℕ} {past : List ℕ} →
     parts_after (Some part) calls ≡ Some (between to) → IsSome (counts_after (Some k) calls) → SoFar part k past →
@@ -170,23 +257,10 @@ part-laid : (calls : List Call) {part : PartStart} {k : Count} {to : ℕ} {past 
 unfolding place_of
 part-laid [] parts counts so_far = tt
 part-laid (head_call a b ∷ calls) {part = between at} {k} {to} {past} parts counts so_far =
-    let fits = part-fits (eqb a at && (ltb a b && leb (b - a) MAX_UNIT_HEAD_BYTES)) (within a b b 0) calls to parts in
-    let head = and_parts (ltb a b) (leb (b - a) MAX_UNIT_HEAD_BYTES) (and_parts (eqb a at) (ltb a b && leb (b - a) MAX_UNIT_HEAD_BYTES) fits.0).1 in
-    let less = ltb-true a b head.0 in
-    let short = leb-true (b - a) MAX_UNIT_HEAD_BYTES head.1 in
-    let next : SoFar (within a b b 0) k past = record {
-      slices = so_far.slices;
-      stands = record {
-        before = past;
-        cur = [];
-        past_is = sym (append-nil past);
-        count = refl;
-        head = less;
-        short = omega (arith, less, short);
-        in_order = refl;
-      };
-    } in
-    part-laid calls fits.1 counts next
+    let fits = head-fits a b at calls to parts in
+    let next : SoFar (within a b b 0) k past =
+    record { slices = so_far.slices; stands = head-inside past fits.some fits.short } in
+    part-laid calls fits.rest counts next
 part-laid (slice_call a b ∷ calls) {part = between at} {to} parts counts so_far =
     absurd (false≢true (part-fits false (between at) calls to parts).0)
 part-laid (unit_call unit ∷ calls) {part = between at} {to} parts counts so_far =
@@ -194,46 +268,25 @@ part-laid (unit_call unit ∷ calls) {part = between at} {to} parts counts so_fa
 part-laid (head_call a b ∷ calls) {part = within from head_end at n} {to} parts counts so_far =
     absurd (false≢true (part-fits false (between at) calls to parts).0)
 part-laid (slice_call a b ∷ calls) {part = within from head_end at n} {k} {to} {past} parts counts so_far =
-    let stands : Inside from head_end at n past = so_far.stands in
     let fits = part-fits (eqb a at && leb (a + 4) b) (within from head_end b (n + 1)) calls to parts in
     let slice = and_parts (eqb a at) (leb (a + 4) b) fits.0 in
-    let here = eqb-true a at slice.0 in
-    let least = leb-true (a + 4) b slice.1 in
-    let next : SoFar (within from head_end b (n + 1)) (record k { slices = k.slices + 1 }) (past ++ a ∷ []) = record {
-      slices = omega (arith, so_far.slices, length-append past (a ∷ []));
-      stands = record {
-        before = stands.before;
-        cur = stands.cur ++ a ∷ [];
-        past_is = ap (λ (l : List ℕ). l ++ a ∷ []) stands.past_is ∙ append_assoc stands.before stands.cur (a ∷ []);
-        count = omega (arith, stands.count, length-append stands.cur (a ∷ []));
-        head = stands.head;
-        short = stands.short;
-        in_order = subst (λ s. AreInOrder head_end (stands.cur ++ s ∷ []) b) (sym here)
-            (in_order-more stands.cur head_end at b stands.in_order (omega (arith, here, least)));
-      };
-    } in
+    let its : SliceFits (begun from head_end at n) a b =
+    record { here = eqb-true a at slice.0; least = leb-true (a + 4) b slice.1 } in
+    let next : SoFar (within from head_end b (n + 1)) (record k { slices = k.slices + 1 }) (past ++ a ∷ []) =
+    record { slices = omega (arith, so_far.slices, length-append past (a ∷ [])); stands = slice-inside its so_far.stands } in
     subst (λ (l : List ℕ). AreLaid to l (units_in calls)) (append_assoc past (a ∷ []) (slices_in calls))
     (part-laid calls fits.1 counts next)
 part-laid (unit_call unit ∷ calls) {part = within from head_end at n} {k} {to} {past} parts counts so_far =
-    let fits = part-fits
-    ((eqb unit.from from && (eqb unit.head_end head_end && eqb unit.to at))
-    && (eqb unit.slices n && ltb 0 n)) (between at) calls to parts in
-    let agrees =
-    count-fits (eqb (unit.first_slice + unit.slices) k.slices && eqb unit.presentation
-    (group_of k unit + unit.temporal))
-    (record { units = k.units + 1; slices = k.slices; before_group = group_of k unit }) calls counts in
-    let count = eqb-true (unit.first_slice + unit.slices) k.slices
-    (and_parts (eqb (unit.first_slice + unit.slices) k.slices)
-    (eqb unit.presentation (group_of k unit + unit.temporal)) agrees.0).0 in
-    let next : SoFar (between at)
-    (record { units = k.units + 1; slices = k.slices; before_group = group_of k unit }) past =
-    record { slices = so_far.slices; stands = tt } in (
+    let fits = reported-fits (begun from head_end at n) unit calls to parts in
+    let counted = unit-counts k unit calls counts in
+    let ends : Ends unit (begun from head_end at n) past =
+    record { fits = fits.0; count = counted.0 ∙ so_far.slices } in
+    let next : SoFar (between at) (count_with k unit) past = record { slices = so_far.slices; stands = tt } in (
       (
-        subst (λ p. p ≤ to) (sym (unit-fits unit from head_end at n fits.0).end)
-            (part-below calls (between at) to fits.1),
-        unit-laid (slices_in calls) (unit-fits unit from head_end at n fits.0) (count ∙ so_far.slices) so_far.stands,
+        omega (arith, fits.0.end, part-below calls (between at) to fits.1),
+        unit-laid (slices_in calls) ends so_far.stands,
       ),
-      part-laid calls fits.1 agrees.1 next,
+      part-laid calls fits.1 counted.1 next,
     )
 
 pub film-laid : (bytes : List ℕ) (rate : ℕ) (units : List PictureUnit) (starts : List ℕ)
@@ -263,9 +316,8 @@ unfolding begin_of_part
 parts-chained [] (between at) to parts = cc
 parts-chained [] (within from head_end at n) to parts = cc
 parts-chained (head_call a b ∷ calls) (between at) to parts =
-    let fits = part-fits (eqb a at && (ltb a b && leb (b - a) MAX_UNIT_HEAD_BYTES)) (within a b b 0) calls to parts in
-    let here = eqb-true a at (and_parts (eqb a at) (ltb a b && leb (b - a) MAX_UNIT_HEAD_BYTES) fits.0).0 in
-    subst (λ f. AreChained f (units_in calls) to) here (parts-chained calls (within a b b 0) to fits.1)
+    let fits = head-fits a b at calls to parts in
+    subst (λ f. AreChained f (units_in calls) to) fits.here (parts-chained calls (within a b b 0) to fits.rest)
 parts-chained (slice_call a b ∷ calls) (between at) to parts =
     absurd (false≢true (part-fits false (between at) calls to parts).0)
 parts-chained (unit_call unit ∷ calls) (between at) to parts =
@@ -276,16 +328,9 @@ parts-chained (slice_call a b ∷ calls) (within from head_end at n) to parts =
     let fits = part-fits (eqb a at && leb (a + 4) b) (within from head_end b (n + 1)) calls to parts in
     parts-chained calls (within from head_end b (n + 1)) to fits.1
 parts-chained (unit_call unit ∷ calls) (within from head_end at n) to parts =
-    let fits = part-fits
-    ((eqb unit.from from && (eqb unit.head_end head_end && eqb unit.to at))
-    && (eqb unit.slices n && ltb 0 n)) (between at) calls to parts in
-    let places =
-    (and_parts (eqb unit.from from && (eqb unit.head_end head_end && eqb unit.to at))
-    (eqb unit.slices n && ltb 0 n) fits.0).0 in
-    let first = and_parts (eqb unit.from from) (eqb unit.head_end head_end && eqb unit.to at) places in
-    let end = eqb-true unit.to at (and_parts (eqb unit.head_end head_end) (eqb unit.to at) first.1).1 in (
-      eqb-true unit.from from first.0,
-      subst (λ f. AreChained f (units_in calls) to) (sym end) (parts-chained calls (between at) to fits.1),
+    let fits = reported-fits (begun from head_end at n) unit calls to parts in (
+      fits.0.begin,
+      subst (λ f. AreChained f (units_in calls) to) (sym fits.0.end) (parts-chained calls (between at) to fits.1),
     )
 
 pub film-chained : (bytes : List ℕ) (rate : ℕ) (units : List PictureUnit) (starts : List ℕ)

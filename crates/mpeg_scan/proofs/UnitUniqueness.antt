@@ -143,6 +143,59 @@ group-same {bytes} {from} {at} {end} from_is to_is (inl first) =
 group-same {from} {at} {end} from_is to_is (inr it) =
     inr (stands-same from_is to_is it)
 
+-- two units at the same places
+record AreSamePlaces (u v : PictureUnit) : Type 0 where
+  from : u.from ≡ v.from
+  head_end : u.head_end ≡ v.head_end
+  to : u.to ≡ v.to
+
+-- two units with the same picture
+record AreSamePictures (u v : PictureUnit) : Type 0 where
+  temporal : u.temporal ≡ v.temporal
+  kind : u.kind ≡ v.kind
+  vectors : u.vectors ≡ v.vectors
+
+-- one head has one picture, whose bytes give its fields
+picture-same : {bytes : List ℕ} {u v : PictureUnit} → IsUnitOf bytes u → IsUnitOf bytes v → AreSamePlaces u v →
+    AreSamePictures u v
+picture-same {bytes} {u} {v} one other same =
+    let place : other.picture.place ≡ one.picture.place =
+    one.picture.only other.picture.place other.picture.code
+    (omega (arith, same.from, other.picture.after)) (omega (arith, same.head_end, other.picture.before)) in
+    let its : HasFields bytes one.picture.place v =
+    subst (λ p. HasFields bytes p v) place other.picture.fields in
+    let kind : u.kind ≡ v.kind = kind-same u.kind v.kind (one.picture.fields.kind ∙ sym its.kind) in
+    record {
+      temporal = one.picture.fields.temporal ∙ sym its.temporal;
+      kind = kind;
+      vectors = one.picture.fields.vectors
+          ∙ ap (λ (k : Kind). vector_fields bytes one.picture.place k) kind ∙ sym its.vectors;
+    }
+
+-- one head has a sequence header or none, and starts a group or none
+headers-same : {bytes : List ℕ} {u v : PictureUnit} → IsUnitOf bytes u → IsUnitOf bytes v → AreSamePlaces u v →
+    (u.has_sequence ≡ v.has_sequence) × (u.starts_group ≡ v.starts_group)
+headers-same {u} {v} one other same = (
+  bool-same u.has_sequence v.has_sequence
+      (λ e. other.sequence.1 (stands-same same.from same.head_end (one.sequence.0 e)))
+      (λ e. one.sequence.1 (stands-same (sym same.from) (sym same.head_end) (other.sequence.0 e))),
+  bool-same u.starts_group v.starts_group
+      (λ e. other.group.1 (group-same same.from same.head_end (one.group.0 e)))
+      (λ e. one.group.1 (group-same (sym same.from) (sym same.head_end) (other.group.0 e))),
+)
+
+-- between the same places stand the same slices, and as many before them
+slices-same : {bytes : List ℕ} {u v : PictureUnit} → IsUnitOf bytes u → IsUnitOf bytes v → AreSamePlaces u v →
+    (u.first_slice ≡ v.first_slice) × (u.slices ≡ v.slices)
+slices-same {bytes} {u} {v} one other same =
+    let Slices : ℕ → ℕ → ℕ → Type 0 = λ from to n. Counts (IsCodeAt bytes) IsSliceValue from to n in
+    let own : Slices v.head_end v.to u.slices =
+    subst (λ p. Slices v.head_end p u.slices) same.to (subst (λ p. Slices p u.to u.slices) same.head_end one.own) in
+    let slices : u.slices ≡ v.slices = count-same own other.own in
+    let all : u.first_slice + u.slices ≡ v.first_slice + v.slices =
+    count-same (subst (λ p. Slices 0 p (u.first_slice + u.slices)) same.to one.all) other.all in
+    (omega (arith, all, slices), slices)
+
 -- such a unit, numbered after so many units, and those before its group
 record IsNumberedUnit (bytes : List ℕ) (number group : ℕ) (u : PictureUnit) : Type 0 where
   lies : IsUnitWithin bytes u
@@ -153,54 +206,27 @@ units-same : {bytes : List ℕ} {number group : ℕ} {u v : PictureUnit} → IsN
 units-same {bytes} {number} {group} {u} {v} left right from =
     let one = left.lies.unit in
     let other = right.lies.unit in
-    let Has = IsCodeAt bytes in
     let head = head-same bytes u v one other from in
-    let to = end-same left.lies right.lies head in
-    let place : other.picture.place ≡
-    one.picture.place =
-    one.picture.only other.picture.place other.picture.code
-    (omega (arith, from, other.picture.after)) (omega (arith, head, other.picture.before)) in
-    let its : HasFields bytes one.picture.place v =
-    subst (λ p. HasFields bytes p v) place other.picture.fields in
-    let temporal : u.temporal ≡ v.temporal = one.picture.fields.temporal ∙ sym its.temporal in
-    let kind : u.kind ≡ v.kind = kind-same u.kind v.kind (one.picture.fields.kind ∙ sym its.kind) in
-    let vectors : u.vectors ≡
-    v.vectors = one.picture.fields.vectors ∙ ap
-    (λ (k : Kind). vector_fields bytes one.picture.place k) kind ∙ sym its.vectors in
-    let sequence : u.has_sequence ≡ v.has_sequence = bool-same u.has_sequence v.has_sequence
-    (λ e. other.sequence.1
-    (stands-same from head (one.sequence.0 e)))
-    (λ e. one.sequence.1
-    (stands-same (sym from) (sym head)
-    (other.sequence.0 e))) in
-    let starts : u.starts_group ≡ v.starts_group = bool-same u.starts_group v.starts_group
-    (λ e. other.group.1
-    (group-same from head (one.group.0 e)))
-    (λ e. one.group.1 (group-same (sym from) (sym head)
-    (other.group.0 e))) in
-    let slices : u.slices ≡
-    v.slices = count-same (subst (λ p.
-    Counts Has IsSliceValue v.head_end p u.slices) to (subst (λ p.
-    Counts Has IsSliceValue p u.to u.slices) head one.own)) other.own in
-    let all = count-same (subst (λ p.
-    Counts Has IsSliceValue 0 p (u.first_slice + u.slices)) to one.all) other.all in
-    let first : u.first_slice ≡ v.first_slice = omega (arith, all, slices) in
-    let presentation : u.presentation ≡
-    v.presentation =
-    left.shown ∙ ap (λ b. cond b number group + u.temporal) starts ∙ ap (λ n.
-    cond v.starts_group number group + n) temporal ∙ sym right.shown in
+    let places : AreSamePlaces u v =
+    record { from = from; head_end = head; to = end-same left.lies right.lies head } in
+    let picture = picture-same one other places in
+    let headers = headers-same one other places in
+    let slices = slices-same one other places in
+    let presentation : u.presentation ≡ v.presentation =
+    left.shown ∙ ap (λ b. cond b number group + u.temporal) headers.1
+    ∙ ap (λ n. cond v.starts_group number group + n) picture.temporal ∙ sym right.shown in
     let same : AreSameFields u v = record {
       from = from;
       head_end = head;
-      to = to;
-      first_slice = first;
-      slices = slices;
-      temporal = temporal;
+      to = places.to;
+      first_slice = slices.0;
+      slices = slices.1;
+      temporal = picture.temporal;
       presentation = presentation;
-      kind = kind;
-      vectors = vectors;
-      has_sequence = sequence;
-      starts_group = starts;
+      kind = picture.kind;
+      vectors = picture.vectors;
+      has_sequence = headers.0;
+      starts_group = headers.1;
     } in
     same-unit same
 
