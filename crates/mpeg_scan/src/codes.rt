@@ -6,7 +6,7 @@ ghost use Rattle.mpeg_scan.specs.StartCodes.{is_whole, next_prefix};
 use crate::header_bytes::HeaderBytes;
 
 /// How much of the start code prefix 00 00 01 the bytes so far end with (ISO/IEC 11172-2, 2.4.2.1).
-#[derive(Clone, Copy)]
+#[derive(Clone, Copy, Debug)]
 pub enum Prefix {
     /// Nothing of it.
     Nothing,
@@ -47,7 +47,7 @@ impl Prefix {
 }
 
 /// A start code of a film.
-#[derive(Drop)]
+#[derive(Debug, Drop)]
 pub(crate) struct Code {
     /// The place of its prefix.
     pub(crate) place: u64,

@@ -16,7 +16,7 @@ use crate::units::{MAX_FILM_BYTES, Unit, picture_time};
 use std::alloc::Global;
 
 /// An accepted film, with what the grammar says of its bytes.
-#[derive(Drop)]
+#[derive(Debug, Drop)]
 pub struct Film {
     /// Its bytes.
     pub bytes: Vec<u8>,

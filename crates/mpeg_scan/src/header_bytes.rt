@@ -11,7 +11,7 @@ use std::marker::Model;
 const LONGEST: u8 = 5;
 
 /// The first bytes after a start code, as far as they are read.
-#[derive(Drop)]
+#[derive(Debug, Drop)]
 pub(crate) struct HeaderBytes {
     bytes: [u8; 5],
     len: u8,

@@ -24,7 +24,7 @@ use crate::visitor::{Found, tell};
 use memchr::memchr;
 
 /// How far a film was read: what is kept of its bytes.
-#[derive(Drop)]
+#[derive(Debug, Drop)]
 pub(crate) struct Progress {
     /// How many bytes were read.
     pub(crate) fed: u64,

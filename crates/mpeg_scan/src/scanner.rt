@@ -11,7 +11,7 @@ use crate::visitor::{Found, tell_unit};
 
 /// A scan of a film in chunks, from its first byte on, that keeps none of it: it reports each part
 /// to a [`Found`] when that part has ended.
-#[derive(Drop)]
+#[derive(Debug, Drop)]
 pub struct Scanner {
     /// How far the film was read, unless it is refused.
     progress: Progress,

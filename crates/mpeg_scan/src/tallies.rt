@@ -61,7 +61,7 @@ pub(crate) fn type_of(code: &Code) -> u8
 }
 
 /// What a unit's picture header says.
-#[derive(Clone, Copy)]
+#[derive(Clone, Copy, Debug)]
 pub(crate) struct Header {
     /// The place of its start code.
     pub(crate) place: u64,
@@ -98,7 +98,7 @@ impl Header {
 }
 
 /// The slices of a unit so far, of which there is one at least.
-#[derive(Clone, Copy)]
+#[derive(Clone, Copy, Debug)]
 pub(crate) struct Slices {
     /// The place of the first.
     pub(crate) first: u64,
@@ -132,7 +132,7 @@ impl Slices {
 }
 
 /// What the start codes so far say of a unit.
-#[derive(Clone, Copy)]
+#[derive(Clone, Copy, Debug)]
 pub(crate) struct UnitTally {
     /// The place of its first start code.
     pub(crate) from: u64,
@@ -207,7 +207,7 @@ impl UnitTally {
 }
 
 /// What the start codes so far say of the film and of its latest unit.
-#[derive(Clone, Copy)]
+#[derive(Clone, Copy, Debug)]
 pub(crate) struct Tally {
     /// The rate code of the film's first sequence header.
     pub(crate) rate: Option<u8>,

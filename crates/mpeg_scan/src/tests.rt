@@ -300,3 +300,31 @@ fn times_of_pictures(rt: HostRuntime) {
         assert_eq!(rt; picture_time(rate), units);
     }
 }
+
+#[test]
+fn values_print_their_fields(rt: HostRuntime) -> Result<(), Fail> {
+    let mut found = Listener::new(rt.alloc(), false);
+    let mut scanner = Scanner::new();
+    scanner.feed(&SEQUENCE, &mut found)?;
+    scanner.feed(&GROUP, &mut found)?;
+    scanner.feed(&PICTURE_I, &mut found)?;
+    scanner.feed(&SLICE, &mut found)?;
+    scanner.feed(&SLICE, &mut found)?;
+    // The second slice is the latest code, and isn't counted yet.
+    let want = "Scanner { progress: Progress { fed: 40, prefix: Nothing, latest: Some(Code { \
+        place: 34, value: 1, header: HeaderBytes { bytes: [18, 52, 0, 0, 0], len: 2 } }), \
+        tally: Tally { rate: Some(3), pictures: 1, before_group: 0, all_slices: 1, \
+        unit: Some(UnitTally { from: 0, picture: Some(Header { place: 20, temporal: 0, kind: I, \
+        vectors: 0 }), slices: Some(Slices { first: 28, last: 28, count: 1 }), \
+        has_sequence: true, starts_group: true }) } }, refused: None }";
+    assert_eq!(rt; format!(in rt.alloc(); "{scanner:?}")?.as_str(), want);
+    let bytes = joined(rt.alloc(), &[&SEQUENCE, &GROUP, &PICTURE_I, &SLICE])?;
+    let film = scan(rt.alloc(), bytes)?;
+    let want = format!(in rt.alloc();
+        "Film {{ bytes: {:?}, rate: 3, units: {:?}, slice_starts: [28] }}",
+        film.bytes.as_slice(),
+        [UNIT_A].as_slice()
+    )?;
+    assert_eq!(rt; format!(in rt.alloc(); "{film:?}")?.as_str(), want.as_str());
+    Ok(())
+}
