@@ -1,22 +1,21 @@
 -- The sizes that are counted while a film's parts are handed on are those of its units.
-use Rattle.std.proofs.Common.{◌≡◌, ℕ, ◌+◌, ◌-◌, ◌≤◌, true, false, cond, eqb, ltb, leb, ◌&&◌, List, [], ◌∷◌, ◌++◌}
+use Rattle.std.proofs.Common.{◌≡◌, ℕ, ◌+◌, ◌-◌, ◌≤◌, false, cond, eqb, leb, ◌&&◌, List, [], ◌∷◌, ◌++◌}
 use Rattle.std.proofs.Common.{append_assoc, Some, None, IsSome, length, take, drop, map, refl, sym, ap, ◌∙◌}
 use Rattle.std.proofs.Common.{arith, length-append, subst}
 use Rattle.std.proofs.lemmas.List.{append-nil, length-map}
 use Rattle.std.proofs.lemmas.Bool.{and_parts, false≢true, eqb-true}
-use Rattle.mpeg_scan.specs.declared.units.TheConstants.{MAX_UNIT_HEAD_BYTES}
 use Rattle.mpeg_scan.specs.declared.units.Unit.{Unit as PictureUnit}
 use Rattle.mpeg_scan.specs.Calls.{Call, head_call, slice_call, unit_call}
 use Rattle.mpeg_scan.specs.StartCodes.{read_after, codes_of}
-use Rattle.mpeg_scan.specs.UnitNumbering.{Count, counts_after, group_of, no_count}
+use Rattle.mpeg_scan.specs.UnitNumbering.{Count, counts_after, no_count}
 use Rattle.mpeg_scan.specs.Films.{IsFilm, refusal, slices_in, film_calls, units_in}
 use Rattle.mpeg_scan.specs.Layout.{unit_starts}
 use Rattle.mpeg_scan.specs.PartTiling.{PartStart, between, within, first_of, parts_after}
 use Rattle.mpeg_scan.specs.CodeFacts.{rate_of}
 use Rattle.mpeg_scan.proofs.FilmBoundLemmas.{film-bytes, film-pictures, film-rate, film-units}
 use Rattle.mpeg_scan.proofs.UnitNumberingLemmas.{film-numbered}
-use Rattle.mpeg_scan.proofs.UnitLayoutLemmas.{UnitFits, count-fits, film-chained, film-laid, own-slices, part-fits}
-use Rattle.mpeg_scan.proofs.UnitLayoutLemmas.{unit-fits}
+use Rattle.mpeg_scan.proofs.UnitLayoutLemmas.{UnitFits, begun, count_with, film-chained, film-laid, head-fits}
+use Rattle.mpeg_scan.proofs.UnitLayoutLemmas.{own-slices, part-fits, reported-fits, unit-counts}
 use Rattle.mpeg_scan.proofs.PartTilingLemmas.{film-tiles}
 use Rattle.rtp_pack.specs.Packets.{lengths_to, unit_lengths}
 use Rattle.rtp_pack.specs.Sizes.{Measure, measure_from_headers, frames_of, measure_of, with_slice}
@@ -70,20 +69,6 @@ unit-size {unit} {from} {head_end} {at} {past} {m} rest fits count so_far =
   where
     open fits use {begin, head, end, slices}
 
--- the same, by what is tested when the unit is handed on
-ended-size : {from head_end at n : ℕ} {past : List ℕ} {m : Measure} (unit : PictureUnit) (k : Count) (rest : List ℕ) →
-    ((eqb unit.from from && (eqb unit.head_end head_end && eqb unit.to at))
-    && (eqb unit.slices n && ltb 0 n)) ≡ true →
-    (eqb (unit.first_slice + unit.slices) k.slices
-    && eqb unit.presentation (group_of k unit + unit.temporal)) ≡ true →
-    k.slices ≡ length past → IsMeasured from head_end at n past m →
-    cond unit.starts_group 52 0 + frames_of m ≡ wire_size (past ++ rest) unit
-ended-size {from} {head_end} {at} {n} unit k rest fits counted slices so_far =
-    let count = (and_parts (eqb (unit.first_slice + unit.slices) k.slices)
-    (eqb unit.presentation (group_of k unit + unit.temporal)) counted).0 in
-    unit-size rest (unit-fits unit from head_end at n fits)
-    (eqb-true (unit.first_slice + unit.slices) k.slices count ∙ slices) so_far
-
 -- a slice more of the unit is measured
 slice-measured : {from head_end at n b : ℕ} {past : List ℕ} {m : Measure} → IsMeasured from head_end at n past m
     → IsMeasured from head_end b (n + 1) (past ++ at ∷ []) (with_slice m (b - at))
@@ -108,12 +93,11 @@ sizes-told : (calls : List Call) (s : SizeState) {part : PartStart} {k : Count} 
     (size_state_after s calls).sizes ≡ s.sizes ++ map (λ u. wire_size (past ++ slices_in calls) u) (units_in calls)
 sizes-told [] s parts counts so_far = sym (append-nil s.sizes)
 sizes-told (head_call a b ∷ calls) s {part = between at} {k} {to} {past} parts counts so_far =
-    let fits = part-fits (eqb a at && (ltb a b && leb (b - a) MAX_UNIT_HEAD_BYTES)) (within a b b 0) calls to parts in
     let next : MeasuredSoFar (within a b b 0) k past (size_state_after_call s (head_call a b)).unit = record {
       slices = so_far.slices;
       measures = record { before = past; cur = []; past_is = sym (append-nil past); count = refl; unit_is = refl };
     } in
-    sizes-told calls (size_state_after_call s (head_call a b)) fits.1 counts next
+    sizes-told calls (size_state_after_call s (head_call a b)) (head-fits a b at calls to parts).rest counts next
 sizes-told (slice_call a b ∷ calls) s {part = between at} {to} parts counts so_far =
     absurd (false≢true (part-fits false (between at) calls to parts).0)
 sizes-told (unit_call unit ∷ calls) s {part = between at} {to} parts counts so_far =
@@ -122,28 +106,22 @@ sizes-told (head_call a b ∷ calls) s {part = within from head_end at n} {to} p
     absurd (false≢true (part-fits false (between at) calls to parts).0)
 sizes-told (slice_call a b ∷ calls) s {part = within from head_end at n} {k} {to} {past} parts counts so_far =
     let fits = part-fits (eqb a at && leb (a + 4) b) (within from head_end b (n + 1)) calls to parts in
-    let its : IsMeasured from head_end at n past s.unit = so_far.measures in
     let same : a ≡ at = eqb-true a at (and_parts (eqb a at) (leb (a + 4) b) fits.0).0 in
     let next : MeasuredSoFar (within from head_end b (n + 1)) (record k { slices = k.slices + 1 })
     (past ++ a ∷ []) (size_state_after_call s (slice_call a b)).unit = record {
       slices = omega (arith, so_far.slices, length-append past (a ∷ []));
       measures = subst (λ place. IsMeasured from head_end b (n + 1) (past ++ place ∷ [])
-          (with_slice s.unit (b - place))) (sym same) (slice-measured its);
+          (with_slice s.unit (b - place))) (sym same) (slice-measured so_far.measures);
     } in
     sizes-told calls (size_state_after_call s (slice_call a b)) fits.1 counts next
     ∙ ap (λ (starts : List ℕ). s.sizes ++ map (λ u. wire_size starts u) (units_in calls))
     (append_assoc past (a ∷ []) (slices_in calls))
 sizes-told (unit_call unit ∷ calls) s {part = within from head_end at n} {k} {to} {past} parts counts so_far =
-    let fits = part-fits
-    ((eqb unit.from from && (eqb unit.head_end head_end && eqb unit.to at))
-    && (eqb unit.slices n && ltb 0 n)) (between at) calls to parts in
-    let next : Count = record { units = k.units + 1; slices = k.slices; before_group = group_of k unit } in
-    let counted =
-    count-fits (eqb (unit.first_slice + unit.slices) k.slices
-    && eqb unit.presentation (group_of k unit + unit.temporal)) next calls counts in
+    let fits = reported-fits (begun from head_end at n) unit calls to parts in
+    let counted = unit-counts k unit calls counts in
     let size : cond unit.starts_group 52 0 + frames_of s.unit ≡ wire_size (past ++ slices_in calls) unit =
-    ended-size unit k (slices_in calls) fits.0 counted.0 so_far.slices so_far.measures in
-    let later : MeasuredSoFar (between at) next past (size_state_after_call s (unit_call unit)).unit =
+    unit-size (slices_in calls) fits.0 (counted.0 ∙ so_far.slices) so_far.measures in
+    let later : MeasuredSoFar (between at) (count_with k unit) past (size_state_after_call s (unit_call unit)).unit =
     record { slices = so_far.slices; measures = tt } in
     let rest : List ℕ = map (λ u. wire_size (past ++ slices_in calls) u) (units_in calls) in
     sizes-told calls (size_state_after_call s (unit_call unit)) fits.1 counted.1 later
