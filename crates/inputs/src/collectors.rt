@@ -17,7 +17,7 @@ use std::mem;
 use vod_base::{Library, NoMemory};
 
 /// A film that was scanned and accepted.
-#[derive(Drop)]
+#[derive(Debug, Drop)]
 pub struct ScannedFilm {
     /// How many bytes its video has.
     pub bytes: u64,
@@ -28,7 +28,7 @@ pub struct ScannedFilm {
 }
 
 /// The sizes of an accepted film on the wire.
-#[derive(Drop)]
+#[derive(Debug, Drop)]
 pub struct SizedFilm {
     /// Its picture rate code, from 1 to 8 (ISO/IEC 11172-2, section 2.4.3.2).
     pub rate: u8,

@@ -37,6 +37,10 @@ fn loads_and_scans_a_film(rt: HostRuntime) -> Result<(), Fail> {
         (scanned.bytes, scanned.rate, scanned.units.len()),
         (34, 3, 1)
     );
+    let want = "ScannedFilm { bytes: 34, rate: 3, units: [Unit { from: 0, head_end: 28, to: 34, \
+        first_slice: 0, slices: 1, temporal: 0, presentation: 0, kind: I, vectors: 0, \
+        has_sequence: true, starts_group: true }] }";
+    assert_eq!(rt; format!(in alloc; "{scanned:?}")?.as_str(), want);
     assert!(rt; load_film(alloc, &mut held, "b.mpg").is_err());
     Ok(())
 }
@@ -61,6 +65,8 @@ fn loads_and_sizes_a_system_stream(rt: HostRuntime) -> Result<(), Fail> {
         return Err(Fail::from(AllocError));
     };
     assert_eq!(rt; (sized.rate, sized.sizes.as_slice()), (3, [106].as_slice()));
+    let want = "SizedFilm { rate: 3, sizes: [106] }";
+    assert_eq!(rt; format!(in alloc; "{sized:?}")?.as_str(), want);
     Ok(())
 }
 
