@@ -9,6 +9,7 @@ mod curves;
 mod days;
 mod generators;
 pub mod laws;
+mod line_parts;
 mod plans;
 mod scan_text;
 mod scans;

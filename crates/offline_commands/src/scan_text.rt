@@ -1,14 +1,18 @@
 //! The text that `scan` prints: a line for the film, and one for each of its units.
 
-ghost use Rattle.std.specs.Prelude.{◌≡◌, ◌++◌, IfOk, OnOk};
-ghost use Rattle.offline_commands.specs.ScanText.{kind_text, word_if, unit_name, unit_places};
-ghost use Rattle.offline_commands.specs.ScanText.{unit_marks, unit_line, unit_lines, film_line};
+ghost use Rattle.std.specs.Prelude.{◌≡◌, ◌+◌, ◌≤◌, ◌++◌, codes, drop, length, IfOk, OnOk};
+ghost use Rattle.offline_commands.specs.ScanText.{kind_text, unit_name, unit_places};
+ghost use Rattle.offline_commands.specs.ScanText.{unit_marks, unit_line, film_line};
 ghost use Rattle.offline_commands.specs.ScanText.{scan_text};
 ghost use Rattle.offline_commands.specs.TextLaws.{IsShortScan, IsShortUnit};
 
+use crate::line_parts::{write_field, write_number, write_text, write_text_if};
 use mpeg_scan::{Kind, Unit};
 use std::alloc::Global;
-use vod_base::{NoMemory, push, push_field, push_number};
+use vod_base::{NoMemory, push, push_field};
+
+/// The most bytes of a unit's line: six numbers of at most 20 digits, and 48 bytes of words.
+const LINE_BYTES: usize = 168;
 
 /// The text of a film with that number of bytes, that rate code and those units.
 pub(crate) fn scan_text(
@@ -21,69 +25,88 @@ pub(crate) fn scan_text(
     ensures short { OnOk result (IsShortScan bytes rate units.now) }
 {
     let mut text = film_text(alloc, bytes, rate, units.len() as u64)?;
+    let mut line = [0; LINE_BYTES];
     for (number, unit) in units.iter().enumerate() {
-        push_unit(&mut text, number as u64, *unit)?;
+        push_unit(&mut text, &mut line, number as u64, *unit)?;
     }
     push(&mut text, b"end\n")?;
     Ok(text)
 }
 
-/// Appends a word where `is` holds.
-fn push_word_if(text: &mut Vec<u8>, is: bool, word: &[u8]) -> Result<(), NoMemory>
-    ensures { OnOk result (text.new.items ≡ text.old.items ++ word_if is word.now) }
-{
-    if is { push(text, word) } else { Ok(()) }
-}
-
-/// The letter of a picture's kind.
-fn kind_text(kind: Kind) -> &'static [u8]
-    ensures { result.now ≡ kind_text kind }
+/// A picture's kind, and the label of its place in presentation order.
+fn kind_words(kind: Kind) -> &'static [u8; 8]
+    ensures { result.now ≡ codes " " ++ kind_text kind ++ codes " show=" }
 {
     match kind {
-        Kind::I => b"I",
-        Kind::P => b"P",
-        Kind::B => b"B",
-        Kind::D => b"D",
+        Kind::I => b" I show=",
+        Kind::P => b" P show=",
+        Kind::B => b" B show=",
+        Kind::D => b" D show=",
     }
 }
 
-/// Appends a unit's number, kind and place in presentation order.
-fn push_name(text: &mut Vec<u8>, number: u64, unit: &Unit) -> Result<(), NoMemory>
-    ensures { OnOk result (text.new.items ≡ text.old.items ++ unit_name number unit.now) }
+/// Writes a unit's number, kind and place in presentation order.
+fn write_name(number: u64, unit: &Unit, line: &mut [u8], end: usize) -> usize
+    requires room { 48 ≤ end }
+    requires within { end ≤ length line.old }
+    ensures before { result ≤ end }
+    ensures short { end ≤ result + 48 }
+    ensures written { drop result line.new ≡ unit_name number unit.now ++ drop end line.old }
 {
-    push_number(text, number)?;
-    push(text, b" ")?;
-    push(text, kind_text(unit.kind))?;
-    push_field(text, b" show=", unit.presentation)
+    let show = write_field(kind_words(unit.kind), unit.presentation, line, end);
+    write_number(number, line, show)
 }
 
-/// Appends a unit's places and its number of slices.
-fn push_places(text: &mut Vec<u8>, unit: &Unit) -> Result<(), NoMemory>
-    ensures { OnOk result (text.new.items ≡ text.old.items ++ unit_places unit.now) }
+/// Writes a unit's places and its number of slices.
+fn write_places(unit: &Unit, line: &mut [u8], end: usize) -> usize
+    requires room { 104 ≤ end }
+    requires within { end ≤ length line.old }
+    ensures before { result ≤ end }
+    ensures short { end ≤ result + 104 }
+    ensures written { drop result line.new ≡ unit_places unit.now ++ drop end line.old }
 {
-    push_field(text, b" from=", unit.from)?;
-    push_field(text, b" head=", unit.head_end)?;
-    push_field(text, b" to=", unit.to)?;
-    push_field(text, b" slices=", unit.slices)
+    let slices = write_field(b" slices=", unit.slices, line, end);
+    let to = write_field(b" to=", unit.to, line, slices);
+    let head = write_field(b" head=", unit.head_end, line, to);
+    write_field(b" from=", unit.from, line, head)
 }
 
-/// Appends what a unit's head has, and the line's end.
-fn push_marks(text: &mut Vec<u8>, unit: &Unit) -> Result<(), NoMemory>
-    ensures { OnOk result (text.new.items ≡ text.old.items ++ unit_marks unit.now) }
+/// Writes what a unit's head has, and the line's end.
+fn write_marks(unit: &Unit, line: &mut [u8], end: usize) -> usize
+    requires room { 16 ≤ end }
+    requires within { end ≤ length line.old }
+    ensures before { result ≤ end }
+    ensures short { end ≤ result + 16 }
+    ensures written { drop result line.new ≡ unit_marks unit.now ++ drop end line.old }
 {
-    push_word_if(text, unit.has_sequence, b" sequence")?;
-    push_word_if(text, unit.starts_group, b" group")?;
-    push(text, b"\n")
+    let stop = write_text(b"\n", line, end);
+    let group = write_text_if(unit.starts_group, b" group", line, stop);
+    write_text_if(unit.has_sequence, b" sequence", line, group)
 }
 
-/// Appends the line of a unit.
-fn push_unit(text: &mut Vec<u8>, number: u64, unit: Unit) -> Result<(), NoMemory>
+/// Writes the line of a unit at the end of `line`, and returns where it starts.
+fn write_unit(number: u64, unit: &Unit, line: &mut [u8; LINE_BYTES]) -> usize
+    ensures within { result ≤ LINE_BYTES }
+    ensures written { drop result line.new ≡ unit_line number unit.now }
+{
+    let marks = write_marks(unit, line, LINE_BYTES);
+    let places = write_places(unit, line, marks);
+    write_name(number, unit, line, places)
+}
+
+/// Appends the line of a unit, which is gathered in `line`.
+fn push_unit(
+    text: &mut Vec<u8>,
+    line: &mut [u8; LINE_BYTES],
+    number: u64,
+    unit: Unit,
+) -> Result<(), NoMemory>
     ensures line { OnOk result (text.new.items ≡ text.old.items ++ unit_line number unit) }
     ensures short { IsShortUnit unit }
 {
-    push_name(text, number, &unit)?;
-    push_places(text, &unit)?;
-    push_marks(text, &unit)
+    // In one append: the text's room is tested once for a line, and not for each of its parts.
+    let start = write_unit(number, &unit, line);
+    push(text, &line[start..])
 }
 
 /// The line of the film itself.
