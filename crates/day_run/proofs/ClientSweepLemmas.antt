@@ -10,6 +10,7 @@ use Rattle.std.proofs.lemmas.List.{length-take}
 use Rattle.std.proofs.lemmas.List.{map-set, set-get_or, take_all, take_at, take_more}
 use Rattle.std.proofs.lemmas.List.Sums.{sum_by_push}
 use Rattle.admission.specs.declared.entries.Entry.{Entry}
+use Rattle.day_run.proofs.ListUpdates.{set-at}
 use Rattle.day_run.specs.declared.clients.Client.{Client}
 use Rattle.day_run.specs.declared.clients.Client.TheVariants as clients
 use Rattle.day_run.specs.declared.clients.Halt.{Halt}
@@ -124,17 +125,13 @@ pub timed-set : (heard : ℕ) (cs : List Client) (c : ℕ) (client : Client) →
     → AreTimed heard cs → AreTimed heard (set cs c client)
 timed-set heard cs c client own timed =
     record {
-      each = λ d none inside. elim (cases_eq d c) [
-        | inl same ↦
-            let within : c < length cs = omega (arith, same, inside, length-set cs c client) in
-            let B : ℕ → Type 0 = λ n. IsTimed heard (get_or (set cs c client) n none) in
-            let C : Client → Type 0 = λ x. IsTimed heard x in
-            subst B (sym same) (subst C (sym (get_or-set_same cs c client none within)) own)
-        | inr other ↦
-            let within : d < length cs = omega (arith, inside, length-set cs c client) in
-            let C : Client → Type 0 = λ x. IsTimed heard x in
-            subst C (sym (get_or-set_other cs c d client none other)) (timed.each d none within)
-      ];
+      each = λ d none inside.
+          let within : d < length cs = omega (arith, inside, length-set cs c client) in
+          set-at (λ (n : ℕ) (x : Client). IsTimed heard x) {xs = cs} {c = c} {d = d} {x = client} {none = none} (record {
+            inside = λ same. omega (arith, same, within);
+            own = own;
+            other = λ other. timed.each d none within;
+          });
     }
 
 -- the clients before a place have come to a slot, and those from it on not yet
@@ -150,16 +147,13 @@ pub timed-next : {i slot heard : ℕ} {cs : List Client} (client : Client) → i
     → AreTimedTo i slot heard cs
     → AreTimedTo (i + 1) slot heard (set cs i client)
 timed-next {i} {slot} {heard} {cs} client inside own to = record {
-  past = λ c none before within. elim (cases_eq c i) [
-    | inl same ↦
-        let B : ℕ → Type 0 = λ n. IsTimed slot (get_or (set cs i client) n none) in
-        let C : Client → Type 0 = λ x. IsTimed slot x in
-        subst B (sym same) (subst C (sym (get_or-set_same cs i client none inside)) own)
-    | inr other ↦
-        let C : Client → Type 0 = λ x. IsTimed slot x in
-        subst C (sym (get_or-set_other cs i c client none other))
-        (to.past c none (omega (arith, before, other)) (omega (arith, within, length-set cs i client)))
-  ];
+  past = λ c none before within.
+      set-at (λ (n : ℕ) (x : Client). IsTimed slot x) {xs = cs} {c = i} {d = c} {x = client} {none = none} (record {
+        inside = λ same. inside;
+        own = own;
+        other = λ other.
+            to.past c none (omega (arith, before, other)) (omega (arith, within, length-set cs i client));
+      });
   later = λ c none from within.
       let other : c ≡ i → ⊥ = λ same. absurd (omega (arith, same, from)) in
       let C : Client → Type 0 = λ x. IsTimed heard x in
@@ -281,37 +275,26 @@ ended-states {g} {slot} {n} {begun} {old} {new} most to =
     let few : length (map state_of old) ≤ n = omega (arith, most, to.swept.count, length-map new state_of) in
     swept-all g n (map state_of old) (map state_of new) few to.swept
 
--- an element is read with whatever default
-read-any : (cs : List Client) (i : ℕ) (one other : Client) → i < length cs → get_or cs i other ≡ get_or cs i one
-read-any cs i one other inside =
-    sym (ap (λ l. get_or l i other) (set-get_or cs i one)) ∙ get_or-set_same cs i (get_or cs i one) other inside
+-- a client before a place more has a play that isn't done
+undone-with : {i : ℕ} {cs : List Client} (client : Client) → i < length cs → IsUndone client → AreUndone i cs
+    → AreUndone (i + 1) (set cs i client)
+undone-with {i} {cs} client inside own undone = record {
+  each = λ c any before.
+      set-at (λ (n : ℕ) (x : Client). IsUndone x) {xs = cs} {c = i} {d = c} {x = client} {none = any} (record {
+        inside = λ same. inside;
+        own = own;
+        other = λ other. undone.each c any (omega (arith, before, other));
+      });
+}
 
 pub undone-next : {i : ℕ} {cs ds : List Client} (none : Client) (halt : Option Halt) → i < length cs
     → IfNone halt (IsUndone (get_or cs i none)) → HaltOutcome i cs ds halt → AreUndone i cs → AreUndone (i + 1) ds
 undone-next {i} {cs} none None inside own ended undone =
     let D : List Client → Type 0 = λ l. AreUndone (i + 1) l in
-    let U : Client → Type 0 = λ x. IsUndone x in
-    subst D (sym ended.left) (record {
-      each = λ c any before. elim (cases_eq c i) [
-        | inl same ↦
-            let B : ℕ → Type 0 = λ n. IsUndone (get_or cs n any) in
-            subst B (sym same) (subst U (sym (read-any cs i none any inside)) own)
-        | inr other ↦ undone.each c any (omega (arith, before, other))
-      ];
-    })
+    subst D (sym (ended.left ∙ sym (set-get_or cs i none))) (undone-with (get_or cs i none) inside own undone)
 undone-next {i} {cs} none (Some halt) inside own ended undone =
     let D : List Client → Type 0 = λ l. AreUndone (i + 1) l in
-    let U : Client → Type 0 = λ x. IsUndone x in
-    subst D (sym ended.some) (record {
-      each = λ c any before. elim (cases_eq c i) [
-        | inl same ↦
-            let B : ℕ → Type 0 = λ n. IsUndone (get_or (set cs i clients.Idle) n any) in
-            subst B (sym same) (subst U (sym (get_or-set_same cs i clients.Idle any inside)) tt)
-        | inr other ↦
-            subst U (sym (get_or-set_other cs i c clients.Idle any other))
-            (undone.each c any (omega (arith, before, other)))
-      ];
-    })
+    subst D (sym ended.some) (undone-with clients.Idle inside tt undone)
 
 -- a list as long as another one is written in its place
 written : {X : Type 0} → (n : ℕ) (es xs : List X) → length es ≡ n → take n (es ++ drop (length es) xs) ≡ es

@@ -35,7 +35,8 @@ use Rattle.report.specs.EntryLines.{entry_line}
 use Rattle.day_script.specs.Scripts.{AreLines}
 use Rattle.day_run.specs.ClientStates.{Idle, IfBusy, Playing, Pausing, Paused, ClientPlay, Rest, ClientState}
 use Rattle.day_run.specs.ClientStates.{pausing_state, slot_sent}
-use Rattle.day_run.proofs.LineBalance.{heard-after, morning-ready}
+use Rattle.day_run.proofs.LineBalance.{morning-ready}
+use Rattle.day_run.proofs.LineOutcomes.{line-outcome, outcome-heard}
 use Rattle.day_run.proofs.SoundClients.{IsSound, idle-sound, line-sound, whole-sound}
 use Rattle.day_run.proofs.ScriptLineFacts.{LineStep, StandingLine, StandingLines, first-standing, rest-standing}
 
@@ -241,7 +242,7 @@ one-run {link} {texts = t ∷ ts} {texts' = t' ∷ ts'} {old} {new} {new'} (l �
     let first = first-standing standing in
     let one = one-line l link-is first sound a.1.0 b.1.0 in
     let next = line-sound step l link-is first sound a.1.0 in
-    let after = rest-standing standing (heard-after step l a.1.0) in
+    let after = rest-standing standing (outcome-heard step (line-outcome step l first a.1.0)) in
     let R : DayState → Type 0 = λ m. AreLineSteps link ls ts' m new' in
     let rest = one-run {link = link} {texts = ts} {texts' = ts'} {old = a.0} {new = new} {new' = new'} ls
     link-is after next a.1.1 (subst R (sym one.new_is) b.1.1) in

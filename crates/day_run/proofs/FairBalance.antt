@@ -14,7 +14,6 @@ use Rattle.admission.specs.Histories.{state_after}
 use Rattle.admission.specs.Machine.{booked_in}
 use Rattle.day_script.specs.declared.fair_totals.FairTotals.{FairTotals}
 use Rattle.day_script.specs.declared.fair_totals.EntryCounts.{EntryCounts}
-use Rattle.day_run.specs.declared.fairs.TheConstants.{BUFFER_SIZES, LEAST_BUFFER}
 use Rattle.day_run.specs.declared.clients.Client.{Client}
 use Rattle.day_run.specs.Clients.{state_of}
 use Rattle.day_run.specs.BookingBalance.{IsReady}
@@ -27,9 +26,10 @@ use Rattle.day_script.specs.LineTexts.{fair_text}
 use Rattle.day_run.specs.declared.machine.LineAnswer.{LineAnswer}
 use Rattle.day_run.specs.MachineState.{reply_text}
 use Rattle.vod_base.specs.declared.errors.NoMemory.{NoMemory}
-use Rattle.day_run.specs.ClientStates.{Rest, ClientState, Idle, Playing, Pausing, Paused}
+use Rattle.day_run.specs.ClientStates.{Rest, ClientState, Idle}
 use Rattle.day_run.proofs.SentBookedLemmas.{sum-none}
-use Rattle.day_run.proofs.LineBalance.{morning-ready, pause-ready, play-ready, ready-kept, resume-ready}
+use Rattle.day_run.proofs.LineBalance.{morning-ready, outcome-ready, ready-kept}
+use Rattle.day_run.proofs.LineOutcomes.{done-outcome}
 use Rattle.day_run.proofs.ClientSweepLemmas.{state-at}
 use Rattle.day_run.proofs.ScriptLineFacts.{ClientAsks, ClientOf, LineStep}
 use Rattle.day_run.proofs.PeakLemmas.{peak-push}
@@ -37,14 +37,7 @@ use Rattle.day_run.proofs.PeakLemmas.{peak-push}
 -- ---- what a client does keeps the balance
 pub done-ready : {c : ℕ} {state : ClientState} (step : LineStep) (words : ℕ → ℕ) → ClientOf step.old c state
     → IsDone step.link (line_drawn words c state) step.old step.new step.text → IsReady step.old → IsReady step.new
-done-ready {c} {state = Idle} step words own is ready =
-    play-ready step (rest_at step.link (words 0 % 16) (LEAST_BUFFER + words 1 % BUFFER_SIZES) (words 2 % 26))
-    (record { client = own.client; at = refl }) is ready
-done-ready {c} {state = Playing play} step words own is ready =
-    pause-ready step (record { client = own.client; at = refl }) is ready
-done-ready {c} {state = Pausing stop rest} step words own is ready = ready-kept step.old step.new is.kept ready
-done-ready {c} {state = Paused rest} step words own is ready =
-    resume-ready step (record { client = own.client; at = refl }) is ready
+done-ready step words own is ready = outcome-ready step (done-outcome step words own is) ready
 
 -- counts that have the same numbers
 record HaveSameNumbers (one other : FairTotals) : Type 0 where

@@ -1,8 +1,8 @@
 -- What the line of a large day counts: its journal is never full, each play that was asked for is an admission or an
 -- overflow, and each that was admitted is halted.
-use Rattle.std.proofs.Common.{◌≡◌, ◌<◌, ◌≤◌, ◌+◌, ◌*◌, ◌^◌, ℕ, Bool, true, false, cond, List, [], ◌∷◌, length, take, get_or}
-use Rattle.std.proofs.Common.{arith, refl, sym, ap, subst, ◌∙◌}
-use Rattle.std.specs.Prelude.{count_by, sum_by}
+use Rattle.std.proofs.Common.{◌≡◌, ◌<◌, ◌≤◌, ◌+◌, ◌*◌, ◌^◌, ℕ, Bool, false, cond, List, [], ◌∷◌, length, take, get_or}
+use Rattle.std.proofs.Common.{arith, refl, sym, ap, subst}
+use Rattle.std.specs.Prelude.{count_by}
 use Rattle.std.specs.List.{All, AllByRecursion as ByRecursion}
 use Rattle.std.proofs.lemmas.List.Elements.{recursion_from_All}
 use Rattle.std.proofs.lemmas.List.Sums.{sum_by-cons}
@@ -20,7 +20,7 @@ use Rattle.admission.proofs.PlayCounts.{tally}
 use Rattle.day_run.specs.BookingBalance.{IsReady}
 use Rattle.day_run.specs.DayLaws.{AreEntryCounts, is_play}
 use Rattle.day_run.specs.Days.{SharedLink, DayState}
-use Rattle.day_run.specs.FairDays.{AreTurns, IsTurn, FairTurn, after_turn, client_of, entry_counts_of, is_halted}
+use Rattle.day_run.specs.FairDays.{AreTurns, FairTurn, after_turn, client_of, entry_counts_of, is_halted}
 use Rattle.day_run.specs.FairDays.{is_overflow, is_refused}
 use Rattle.day_run.proofs.FairLaws.{turn-ready}
 use Rattle.day_run.proofs.FullLineTexts.{done-other}

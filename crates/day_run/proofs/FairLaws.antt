@@ -1,12 +1,11 @@
 -- What is true of every large day.
 use Rattle.std.proofs.Common.{◌≡◌, ◌≤◌, ◌+◌, ◌-◌, ◌*◌, ◌%◌, ◌==◌, ℕ, max, Bool, true, false, cond}
 use Rattle.std.proofs.Common.{List, [], ◌∷◌, ◌++◌, length, map, take, arith, refl, sym, ap}
-use Rattle.std.proofs.Common.{subst, ◌∙◌, inl, inr}
+use Rattle.std.proofs.Common.{subst, ◌∙◌}
 use Rattle.std.specs.Prelude.{sum_by}
 use Rattle.std.specs.List.{fold, range_with_len}
 use Rattle.std.proofs.lemmas.List.{append-nil, append_assoc, take_at}
 use Rattle.std.proofs.lemmas.List.Sums.{sum_by-cons}
-use Rattle.film_make.specs.Generator.{words_after}
 use Rattle.slot_calendar.specs.declared.profiles.CapStep.{CapStep}
 use Rattle.slot_calendar.specs.Profiles.{capacity_at}
 use Rattle.admission.specs.declared.entries.Entry.{Entry}
@@ -14,16 +13,15 @@ use Rattle.admission.specs.Histories.{IsLegal, booked_after, state_after}
 use Rattle.admission.specs.Machine.{booked_in}
 use Rattle.admission.proofs.HistoryPrefixes.{legal-take}
 use Rattle.admission.proofs.CapacityBounds.{sound-after}
-use Rattle.day_run.specs.declared.fairs.TheConstants.{BUFFER_SIZES, LEAST_BUFFER}
 use Rattle.day_run.specs.BookingBalance.{IsReady}
-use Rattle.day_run.specs.Days.{IsAsked, IsPauseLine, IsResumeLine, SharedLink, DayState}
-use Rattle.day_run.specs.Days.{at_slot, halts_at, last_halts, last_journal, rest_at, state_at}
-use Rattle.day_run.specs.FairDays.{AreTurns, IsDone, IsTurn, FairTurn, after_turn, at_later, client_of}
-use Rattle.day_run.specs.FairDays.{line_drawn, most_up_to, turn_booked, turn_peak, turn_sent}
-use Rattle.day_run.specs.ClientStates.{Rest, ClientState, Idle, Playing, Pausing, Paused}
-use Rattle.day_run.proofs.LineBalance.{pause-heard, play-heard, ready-sent, resume-heard, slot-ready}
-use Rattle.day_run.proofs.FairBalance.{done-ready}
-use Rattle.day_run.proofs.ScriptLineFacts.{IsPlayTaken, LineStep}
+use Rattle.day_run.specs.Days.{SharedLink, DayState}
+use Rattle.day_run.specs.Days.{at_slot, halts_at, last_halts, last_journal}
+use Rattle.day_run.specs.FairDays.{AreTurns, IsTurn, FairTurn, after_turn, at_later}
+use Rattle.day_run.specs.FairDays.{most_up_to, turn_booked, turn_peak, turn_sent}
+use Rattle.day_run.proofs.LineBalance.{outcome-ready, ready-sent, slot-ready}
+use Rattle.day_run.proofs.LineOutcomes.{LineOutcome, Kept, Asked, Stopped, Looks, Reached, outcome-heard}
+use Rattle.day_run.proofs.LineOutcomes.{turn-outcome, turn_step}
+use Rattle.day_run.proofs.ScriptLineFacts.{LineStep}
 
 -- ---- what is sent is what is booked
 pub later-ready : (old : DayState) (later : ℕ) → IsReady old → IsReady (at_later old later)
@@ -45,8 +43,7 @@ pub turn-ready : (link : SharedLink) (words : ℕ → ℕ) (turn : FairTurn) →
 turn-ready link words turn is ready =
     let R : DayState → Type 0 = λ m. IsReady m in
     let mid : IsReady turn.mid = subst R (sym is.slot) (later-ready turn.old (words 0 % 4) ready) in
-    done-ready (record { link = link; old = turn.mid; new = turn.new; text = turn.text }) (words_after 2 words)
-    (record { client = omega arith; at = refl }) is.done mid
+    outcome-ready (turn_step link turn) (turn-outcome turn is) mid
 
 turn-balanced : (link : SharedLink) (words : ℕ → ℕ) (turn : FairTurn) → IsTurn link words turn → IsReady turn.old
     → turn_sent turn ≡ turn_booked turn
@@ -85,44 +82,16 @@ grown-on a b c one two =
       new_is = two.new_is ∙ ap (λ l. l ++ two.made) one.new_is ∙ append_assoc a one.made two.made;
     }
 
-asked-grown : {link : SharedLink} {c : ℕ} {rest : Rest} {old new : DayState} {text : List ℕ}
-    → IsAsked link c rest old new text → HasGrown old.entries new.entries
-asked-grown {c} {old} {new} {text} (inl faulty) = kept-grown old new faulty.told.kept
-asked-grown {c} {old} {new} {text} (inr planned) = elim planned.done [
-  | inl full ↦ kept-grown old new full.told.kept
-  | inr made ↦ record { made = _; new_is = ap (λ (m : DayState). m.entries) made.noted.new_is }
-]
-
-play-grown : (step : LineStep) (c : ℕ) (rest : Rest) (state : ClientState)
-    → IsPlayTaken step c rest state → HasGrown step.old.entries step.new.entries
-play-grown step c rest Idle is = asked-grown is
-play-grown step c rest (Playing play) is = kept-grown step.old step.new is.kept
-play-grown step c rest (Pausing stop left) is = kept-grown step.old step.new is.kept
-play-grown step c rest (Paused left) is = asked-grown is
-
-resume-grown : (step : LineStep) (c : ℕ) (state : ClientState)
-    → IsResumeLine step.link c state step.old step.new step.text → HasGrown step.old.entries step.new.entries
-resume-grown step c Idle is = kept-grown step.old step.new is.kept
-resume-grown step c (Playing play) is = kept-grown step.old step.new is.kept
-resume-grown step c (Pausing stop rest) is = kept-grown step.old step.new is.kept
-resume-grown step c (Paused rest) is = asked-grown is
-
-pause-grown : (step : LineStep) (c : ℕ) (state : ClientState)
-    → IsPauseLine step.link c state step.old step.new step.text → HasGrown step.old.entries step.new.entries
-pause-grown step c Idle is = kept-grown step.old step.new is.kept
-pause-grown step c (Playing play) is = record { made = _; new_is = ap (λ (m : DayState). m.entries) is.noted.new_is }
-pause-grown step c (Pausing stop rest) is = kept-grown step.old step.new is.kept
-pause-grown step c (Paused rest) is = kept-grown step.old step.new is.kept
-
-done-grown : (step : LineStep) (words : ℕ → ℕ) (c : ℕ) (state : ClientState)
-    → IsDone step.link (line_drawn words c state) step.old step.new step.text
-    → HasGrown step.old.entries step.new.entries
-done-grown step words c Idle is =
-    play-grown step c (rest_at step.link (words 0 % 16) (LEAST_BUFFER + words 1 % BUFFER_SIZES) (words 2 % 26))
-    (state_at step.old c) is
-done-grown step words c (Playing play) is = pause-grown step c (state_at step.old c) is
-done-grown step words c (Pausing stop rest) is = kept-grown step.old step.new is.kept
-done-grown step words c (Paused rest) is = resume-grown step c (state_at step.old c) is
+outcome-grown : {slot : ℕ} (step : LineStep) → LineOutcome step slot → HasGrown step.old.entries step.new.entries
+outcome-grown step (Kept kept at) = kept-grown step.old step.new kept
+outcome-grown step (Asked own at) =
+    record { made = _; new_is = ap (λ (m : DayState). m.entries) own.made.noted.new_is }
+outcome-grown step (Stopped own at) =
+    record { made = _; new_is = ap (λ (m : DayState). m.entries) own.is.noted.new_is }
+outcome-grown step (Looks own at) =
+    record { made = _; new_is = ap (λ (m : DayState). m.entries) own.made.noted.new_is }
+outcome-grown {slot} step (Reached own) =
+    record { made = halts_at step.old slot; new_is = ap (λ (m : DayState). m.entries) own.is }
 
 later-grown : (old : DayState) (later : ℕ) → HasGrown old.entries (at_later old later).entries
 later-grown old later = grown-if (later == 0)
@@ -137,8 +106,7 @@ turn-grown link words turn is =
     let G : DayState → Type 0 = λ m. HasGrown turn.old.entries m.entries in
     grown-on turn.old.entries turn.mid.entries turn.new.entries
     (subst G (sym is.slot) (later-grown turn.old (words 0 % 4)))
-    (done-grown (record { link = link; old = turn.mid; new = turn.new; text = turn.text }) (words_after 2 words)
-    (client_of words) _ is.done)
+    (outcome-grown (turn_step link turn) (turn-outcome turn is))
 
 turns-grown : (link : SharedLink) (words : ℕ → ℕ) (turns : List FairTurn) (old new : DayState)
     → AreTurns link words turns old new → HasGrown old.entries new.entries
@@ -211,15 +179,6 @@ pub evening-grown : (evening : DayState) (journal : List Entry) → journal ≡ 
 evening-grown evening journal is = record { made = last_halts evening; new_is = is }
 
 -- ---- a turn brings at most three slots
-pub done-heard : (step : LineStep) (words : ℕ → ℕ) (c : ℕ) (state : ClientState)
-    → IsDone step.link (line_drawn words c state) step.old step.new step.text → step.new.heard ≡ step.old.heard
-done-heard step words c Idle is =
-    play-heard step c (rest_at step.link (words 0 % 16) (LEAST_BUFFER + words 1 % BUFFER_SIZES) (words 2 % 26))
-    (state_at step.old c) is
-done-heard step words c (Playing play) is = pause-heard step c (state_at step.old c) is
-done-heard step words c (Pausing stop rest) is = ap (λ (m : DayState). m.heard) is.kept
-done-heard step words c (Paused rest) is = resume-heard step c (state_at step.old c) is
-
 later-most : (old : DayState) (later : ℕ) → (at_later old later).heard ≤ old.heard + later
 later-most old later = most-if (later == 0)
   where
@@ -237,8 +196,7 @@ turns-heard link words (turn ∷ turns) old new run =
       arith,
       ap (λ (m : DayState). m.heard) run.0,
       subst M (sym is.slot) (later-most turn.old (words 0 % 4)),
-      done-heard (record { link = link; old = turn.mid; new = turn.new; text = turn.text }) (words_after 2 words)
-          (client_of words) _ is.done,
+      outcome-heard (turn_step link turn) (turn-outcome turn is),
       turns-heard link (after_turn words turn) turns turn.new new run.1.1,
     )
 

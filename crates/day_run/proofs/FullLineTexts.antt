@@ -1,11 +1,10 @@
 -- Which lines of a day say that the journal is full, and what they then say.
 use Rattle.std.proofs.Common.{◌≡◌, ◌<◌, ◌≤◌, ◌+◌, ◌^◌, ◌%◌, ℕ, true, false, true≢false, List, [], ◌∷◌, ◌++◌, length, take}
-use Rattle.std.proofs.Common.{Option, Some, None, arith, refl, sym, ap, subst, ◌∙◌, inl, inr}
-use Rattle.std.specs.Prelude.{◌⊎◌, codes, count_by, decimal, flat_map}
+use Rattle.std.proofs.Common.{Option, Some, None, arith, refl, sym, ap, ◌∙◌, inl, inr}
+use Rattle.std.specs.Prelude.{◌⊎◌, codes, decimal}
 use Rattle.std.specs.Str.{bytes_eq}
 use Rattle.std.proofs.lemmas.List.{append-nil, append_assoc}
 use Rattle.early_start.specs.declared.Tried.{Tried}
-use Rattle.early_start.specs.StartSearch.{Offers}
 use Rattle.wire_curve.specs.declared.film.CurveFault.{CurveFault}
 use Rattle.wire_curve.specs.declared.film.CurveFault.TheVariants.{BufferTooSmall, NoPictures, TooManySlots}
 use Rattle.admission.specs.declared.entries.Entry.{Entry}
@@ -16,12 +15,12 @@ use Rattle.day_script.specs.declared.scripts.Line.{Line}
 use Rattle.day_script.specs.declared.scripts.Line.TheVariants as lines
 use Rattle.day_run.specs.declared.fairs.TheConstants.{BUFFER_SIZES, LEAST_BUFFER}
 use Rattle.day_run.specs.BookingBalance.{IsReady}
-use Rattle.day_run.specs.ClientStates.{ClientState, Idle, Playing, Pausing, Paused, Rest, is_playing}
+use Rattle.day_run.specs.ClientStates.{ClientState, Idle, Playing, Pausing, Paused, Rest}
 use Rattle.day_run.specs.Days.{IsAsked, IsFull, IsLine, IsLookLine, IsNoted, IsOfferLine, IsPauseLine, IsResumeLine}
 use Rattle.day_run.specs.Days.{IsTold, SharedLink, DayState, rest_at, slot_lines, state_at}
 use Rattle.day_run.specs.FairDays.{IsDone, is_full_line, line_drawn}
 use Rattle.day_run.specs.JournalLaws.{IsFullJournal, places_needed}
-use Rattle.day_script.specs.LineTexts.{fault_text, full_text, offer_text, state_text}
+use Rattle.day_script.specs.LineTexts.{fault_text, full_text, offer_text}
 use Rattle.day_run.proofs.FullJournalLines.{entry-other}
 use Rattle.day_run.proofs.ScriptLineFacts.{IsPlayTaken, LineStep}
 

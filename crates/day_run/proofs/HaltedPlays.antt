@@ -1,6 +1,6 @@
 -- Each play of a day is halted once, by its own client.
 use Rattle.std.proofs.Common.{◌≡◌, ◌<◌, ◌≤◌, ℕ, zero, suc, true, List, [], ◌∷◌, length, get_or, arith, refl, sym, ap}
-use Rattle.std.proofs.Common.{subst, ◌∙◌, inl, inr, Option, Some, IsSomeAnd}
+use Rattle.std.proofs.Common.{subst, inl, inr, Option, IsSomeAnd}
 use Rattle.std.specs.Prelude.{◌⊎◌}
 use Rattle.std.proofs.lemmas.Bool.{cases_eq}
 use Rattle.plan_cert.specs.declared.Segment.{Segment}
@@ -9,14 +9,13 @@ use Rattle.slot_calendar.specs.declared.profiles.CapStep.{CapStep}
 use Rattle.admission.specs.declared.entries.Command.{Command}
 use Rattle.admission.specs.declared.entries.Command.TheVariants.{Halt, Look, Play}
 use Rattle.admission.specs.declared.entries.Entry.{Entry}
-use Rattle.admission.specs.Histories.{Halts, IsAdmission, IsHalt, IsLegal, IsUnhalted, open_count, state_after}
-use Rattle.admission.specs.Machine.{AdmittedPlay, CanHalt, admitted_play}
+use Rattle.admission.specs.Histories.{Halts, IsAdmission, IsHalt, IsLegal, IsUnhalted, open_count}
+use Rattle.admission.specs.Machine.{AdmittedPlay}
 use Rattle.admission.proofs.OneHalt.{closed-halted, halts-once}
 use Rattle.day_run.specs.BookingBalance.{AreHeldOf, AreOwnHalts, IsHeld, IsReady}
-use Rattle.day_run.specs.ClientStates.{ClientState, Idle, Playing, ClientPlay}
-use Rattle.day_run.specs.Days.{DayState, last_journal, state_at}
+use Rattle.day_run.specs.ClientStates.{ClientState, Playing, ClientPlay}
+use Rattle.day_run.specs.Days.{DayState, state_at}
 use Rattle.day_run.specs.JournalLaws.{IsHaltedOnce, IsOpenPlayOf}
-use Rattle.day_run.proofs.SlotBalance.{last-halted, last-open}
 
 -- the halt of a play, where there is one
 record FoundHalt (entries : List Entry) (number : ℕ) : Type 0 where

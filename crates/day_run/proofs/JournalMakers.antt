@@ -1,5 +1,5 @@
 -- Whose the entries are that a line makes.
-use Rattle.std.proofs.Common.{◌≡◌, ◌≤◌, ℕ, Bool, true, false, cond, List, [], ◌∷◌, ◌++◌, length, All, arith, refl, sym}
+use Rattle.std.proofs.Common.{◌≡◌, ℕ, Bool, true, false, cond, List, [], ◌∷◌, All, arith, refl, sym}
 use Rattle.std.proofs.Common.{ap, ◌∙◌, ◌+◌, inl, inr}
 use Rattle.std.proofs.lemmas.List.{append-nil}
 use Rattle.std.proofs.lemmas.List.Elements.{All-append, All-cons, All-nil}
@@ -8,9 +8,10 @@ use Rattle.admission.specs.Histories.{is_halt}
 use Rattle.day_script.specs.declared.scripts.Line.{Line}
 use Rattle.day_script.specs.declared.scripts.Line.TheVariants as lines
 use Rattle.day_run.specs.ClientStates.{ClientState, Idle, Playing, Pausing, Paused, Rest, is_done}
-use Rattle.day_run.specs.Days.{IsAsked, IsLine, IsLookLine, IsNoted, IsOfferLine, IsPauseLine, IsResumeLine, SharedLink}
+use Rattle.day_run.specs.Days.{IsAsked, IsLine, IsLookLine, IsNoted, IsPauseLine, IsResumeLine, SharedLink}
 use Rattle.day_run.specs.Days.{DayState, done_halt, halt_by, halt_entries, halts_at, open_halt, rest_at, state_at}
-use Rattle.day_run.specs.JournalLaws.{AreHaltsMade, HasItsMaker, IsMadeBy}
+use Rattle.day_run.specs.JournalLaws.{HasItsMaker, IsMadeBy}
+use Rattle.day_run.proofs.LineOutcomes.{offer-kept}
 use Rattle.day_run.proofs.ScriptLineFacts.{IsPlayTaken, LineStep}
 
 none-made : {maker : ℕ} {old new : DayState} → new ≡ old → IsMadeBy maker old new
@@ -65,11 +66,6 @@ look-made : {link : SharedLink} {slot : ℕ} {old new : DayState} {text : List �
 look-made (inl full) = none-made full.told.kept
 look-made (inr made) = one-made made.noted
 
-offer-made : {link : SharedLink} {rest : Rest} {wait : ℕ} {old new : DayState} {text : List ℕ}
-    → IsOfferLine link rest wait old new text → new ≡ old
-offer-made (inl faulty) = faulty.told.kept
-offer-made (inr offered) = offered.told.kept
-
 -- ---- the halts of a slot and of a day's end
 abbrev pub IsHaltEntry : Entry → Type 0
 IsHaltEntry e = is_halt e.command ≡ true
@@ -121,4 +117,4 @@ line-made link (lines.Slot slot) old new text is = record {
   entries_are = ap (λ (m : DayState). m.entries) is.0;
   halts = slot-halts old slot;
 }
-line-made link (lines.Offer c source buffer delay wait) old new text is = offer-made is
+line-made link (lines.Offer c source buffer delay wait) old new text is = offer-kept is

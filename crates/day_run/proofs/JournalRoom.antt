@@ -1,6 +1,6 @@
 -- A day's journal keeps places for the halts of its open plays, and no line takes one of them.
-use Rattle.std.proofs.Common.{◌≡◌, ◌<◌, ◌≤◌, ◌+◌, ◌*◌, ◌%◌, ◌==◌, ℕ, Bool, true, false, cond, List, [], ◌∷◌, ◌++◌}
-use Rattle.std.proofs.Common.{length, get_or, arith, refl, sym, ap, subst, ◌∙◌, inl, inr}
+use Rattle.std.proofs.Common.{◌≡◌, ◌<◌, ◌≤◌, ◌+◌, ◌%◌, ◌==◌, ℕ, Bool, true, false, cond, List, [], ◌∷◌, ◌++◌}
+use Rattle.std.proofs.Common.{length, get_or, arith, refl, sym, ap, subst, ◌∙◌}
 use Rattle.std.proofs.lemmas.List.{length-append}
 use Rattle.std.proofs.lemmas.List.Sums.{sum_by_push}
 use Rattle.plan_cert.specs.declared.Segment.{Segment}
@@ -12,21 +12,19 @@ use Rattle.admission.specs.Books.{places_taken}
 use Rattle.admission.specs.Histories.{open_count, state_after}
 use Rattle.admission.specs.Machine.{State, admitted_play, live, next_state}
 use Rattle.admission.proofs.HistoryPrefixes.{state-push}
-use Rattle.film_make.specs.Generator.{words_after}
 use Rattle.day_script.specs.declared.scripts.Line.{Line}
-use Rattle.day_script.specs.declared.scripts.Line.TheVariants as lines
-use Rattle.day_run.specs.declared.fairs.TheConstants.{BUFFER_SIZES, LEAST_BUFFER}
 use Rattle.day_run.specs.BookingBalance.{IsReady}
-use Rattle.day_run.specs.ClientStates.{ClientState, Idle, Playing, Pausing, Paused, ClientPlay, Rest}
+use Rattle.day_run.specs.ClientStates.{Idle, Playing, ClientPlay}
 use Rattle.day_script.specs.Scripts.{AreClients}
 use Rattle.day_script.specs.Scripts.{AreLines}
-use Rattle.day_run.specs.Days.{AreLineSteps, IsAsked, IsDay, IsHaltedPlay, IsLine, IsLookLine, IsOfferLine, IsPauseLine}
-use Rattle.day_run.specs.Days.{IsResumeLine, SharedLink, DayState, at_slot, entry_by, first_moment, last_journal}
-use Rattle.day_run.specs.Days.{rest_at, state_at}
-use Rattle.day_run.specs.FairDays.{AreTurns, IsDone, IsTurn, FairTurn, after_turn, at_later, client_of, line_drawn}
-use Rattle.day_run.proofs.FairLaws.{later-ready, turn-ready}
-use Rattle.day_run.proofs.LineBalance.{heard-after, line-ready, morning-ready, taken-ready}
-use Rattle.day_run.proofs.ScriptLineFacts.{ClientOf, IsPlayTaken, LineStep, LinesTaken, StandingLine, StandingLines}
+use Rattle.day_run.specs.Days.{AreLineSteps, IsDay, IsHaltedPlay}
+use Rattle.day_run.specs.Days.{SharedLink, DayState, at_slot, entry_by, last_journal}
+use Rattle.day_run.specs.FairDays.{IsTurn, FairTurn, at_later}
+use Rattle.day_run.proofs.FairLaws.{later-ready}
+use Rattle.day_run.proofs.LineBalance.{morning-ready, outcome-ready, taken-ready}
+use Rattle.day_run.proofs.LineOutcomes.{LineOutcome, Kept, Asked, Stopped, Looks, Reached, line-outcome}
+use Rattle.day_run.proofs.LineOutcomes.{outcome-heard, turn-outcome, turn_step}
+use Rattle.day_run.proofs.ScriptLineFacts.{LineStep, LinesTaken, StandingLines}
 use Rattle.day_run.proofs.ScriptLineFacts.{first-standing, rest-standing, standing-of}
 use Rattle.day_run.proofs.SentBookedLemmas.{open_one}
 use Rattle.day_run.proofs.SlotBalance.{held-play, its-held, last-halted, places-halt, slot-halted}
@@ -81,33 +79,6 @@ looked-places xs slot answer =
     let is : open_count (xs ++ e ∷ []) ≡ open_count xs = ap (λ (s : State). live s) (state-push xs e) in
     omega (arith, is, length-append xs (e ∷ []))
 
-asked-places : {link : SharedLink} {c : ℕ} {rest : Rest} {text : List ℕ} (old new : DayState)
-    → IsAsked link c rest old new text → TakesPlaces link.limit old.entries new.entries
-asked-places old new (inl faulty) = kept-places old new faulty.told.kept
-asked-places {c} old new (inr planned) = elim planned.done [
-  | inl full ↦ kept-places old new full.told.kept
-  | inr made ↦ (
-      let is = ap (λ (m : DayState). places_taken m.entries) made.noted.new_is in
-      let most = played-places old.entries c old.heard planned.plan made.answer in
-      room-places 2 old.entries new.entries (omega arith) made.room (omega (arith, is, most))
-      )
-]
-
-play-places : (step : LineStep) (c : ℕ) (rest : Rest) (state : ClientState) → IsPlayTaken step c rest state
-    → TakesPlaces step.link.limit step.old.entries step.new.entries
-play-places step c rest Idle is = asked-places step.old step.new is
-play-places step c rest (Playing play) is = kept-places step.old step.new is.kept
-play-places step c rest (Pausing stop left) is = kept-places step.old step.new is.kept
-play-places step c rest (Paused left) is = asked-places step.old step.new is
-
-resume-places : (step : LineStep) (c : ℕ) (state : ClientState)
-    → IsResumeLine step.link c state step.old step.new step.text
-    → TakesPlaces step.link.limit step.old.entries step.new.entries
-resume-places step c Idle is = kept-places step.old step.new is.kept
-resume-places step c (Playing play) is = kept-places step.old step.new is.kept
-resume-places step c (Pausing stop rest) is = kept-places step.old step.new is.kept
-resume-places step c (Paused rest) is = asked-places step.old step.new is
-
 halted-places : {link : SharedLink} {c : ℕ} {play : ClientPlay} {text : List ℕ} (old new : DayState) → c < 256
     → get_or old.states c Idle ≡ Playing play → IsReady old → IsHaltedPlay link c play old new text
     → TakesPlaces link.limit old.entries new.entries
@@ -117,42 +88,22 @@ halted-places {c} {play} old new client at ready is =
     (ap (λ (m : DayState). places_taken m.entries) is.noted.new_is
     ∙ places-halt old.entries c (held-play play held) is.keep)
 
-pause-places : {c : ℕ} {state : ClientState} (step : LineStep) → ClientOf step.old c state → IsReady step.old
-    → IsPauseLine step.link c state step.old step.new step.text
+outcome-places : {slot : ℕ} (step : LineStep) → LineOutcome step slot → IsReady step.old
     → TakesPlaces step.link.limit step.old.entries step.new.entries
-pause-places {state = Idle} step own ready is = kept-places step.old step.new is.kept
-pause-places {state = Playing play} step own ready is = halted-places step.old step.new own.client own.at ready is
-pause-places {state = Pausing stop rest} step own ready is = kept-places step.old step.new is.kept
-pause-places {state = Paused rest} step own ready is = kept-places step.old step.new is.kept
-
-look-places : {link : SharedLink} {slot : ℕ} {text : List ℕ} (old new : DayState) → IsLookLine link slot old new text
-    → TakesPlaces link.limit old.entries new.entries
-look-places old new (inl full) = kept-places old new full.told.kept
-look-places {slot} old new (inr made) =
-    let is = ap (λ (m : DayState). places_taken m.entries) made.noted.new_is in
-    let most = looked-places old.entries slot made.answer in
-    room-places 1 old.entries new.entries (omega arith) made.room (omega (arith, is, most))
-
-offer-places : {link : SharedLink} {rest : Rest} {wait : ℕ} {text : List ℕ} (old new : DayState)
-    → IsOfferLine link rest wait old new text → TakesPlaces link.limit old.entries new.entries
-offer-places old new (inl faulty) = kept-places old new faulty.told.kept
-offer-places old new (inr offered) = kept-places old new offered.told.kept
-
-line-places : {n : ℕ} (step : LineStep) (line : Line) → StandingLine step.old.heard n line → IsReady step.old
-    → IsLine step.link line step.old step.new step.text
-    → TakesPlaces step.link.limit step.old.entries step.new.entries
-line-places step (lines.Play c source buffer delay) standing ready is =
-    play-places step c (rest_at step.link source buffer delay) (state_at step.old c) is
-line-places step (lines.Pause c) standing ready is =
-    pause-places step (record { client = standing.client; at = refl }) ready is
-line-places step (lines.Resume c) standing ready is = resume-places step c (state_at step.old c) is
-line-places step (lines.Look slot) standing ready is = look-places step.old step.new is
-line-places step (lines.Slot slot) standing ready is =
+outcome-places step (Kept kept at) ready = kept-places step.old step.new kept
+outcome-places step (Asked own at) ready =
+    let is = ap (λ (m : DayState). places_taken m.entries) own.made.noted.new_is in
+    let most = played-places step.old.entries own.client step.old.heard own.plan own.made.answer in
+    room-places 2 step.old.entries step.new.entries (omega arith) own.made.room (omega (arith, is, most))
+outcome-places step (Stopped own at) ready = halted-places step.old step.new own.inside own.at ready own.is
+outcome-places step (Looks own at) ready =
+    let is = ap (λ (m : DayState). places_taken m.entries) own.made.noted.new_is in
+    let most = looked-places step.old.entries own.slot own.made.answer in
+    room-places 1 step.old.entries step.new.entries (omega arith) own.made.room (omega (arith, is, most))
+outcome-places {slot} step (Reached own) ready =
     same-places step.old.entries step.new.entries
-    (ap (λ (m : DayState). places_taken m.entries) is.0
-    ∙ (slot-halted step.old slot (omega (arith, standing.stands.0)) ready.balanced).places)
-line-places step (lines.Offer c source buffer delay wait) standing ready is =
-    offer-places step.old step.new is
+    (ap (λ (m : DayState). places_taken m.entries) own.is
+    ∙ (slot-halted step.old slot own.later ready.balanced).places)
 
 -- ---- the lines of a script
 run-places : {old : DayState} {n : ℕ} (link : SharedLink) (ls : List Line) (ts : List (List ℕ)) (new : DayState)
@@ -164,10 +115,9 @@ run-places link [] (t ∷ ts) new standing run ready fits = absurd run
 run-places link (l ∷ ls) [] new standing run ready fits = absurd run
 run-places {old} link (l ∷ ls) (t ∷ ts) new standing run ready fits =
     let step : LineStep = record { link = link; old = old; new = run.0; text = t } in
-    let here = first-standing standing in
-    run-places {old = run.0} link ls ts new (rest-standing standing (heard-after step l run.1.0)) run.1.1
-    (line-ready step l here run.1.0 ready)
-    ((line-places step l here ready run.1.0).within fits)
+    let outcome = line-outcome step l (first-standing standing) run.1.0 in
+    run-places {old = run.0} link ls ts new (rest-standing standing (outcome-heard step outcome)) run.1.1
+    (outcome-ready step outcome ready) ((outcome-places step outcome ready).within fits)
 
 pub taken-places : {link : SharedLink} {n : ℕ} (taken : LinesTaken link n)
     → places_taken taken.moment.entries ≤ link.limit
@@ -197,17 +147,6 @@ day-room {link} {n} {lines} clients are day =
     )
 
 -- ---- the turns of a large day
-done-places : {c : ℕ} {state : ClientState} (step : LineStep) (words : ℕ → ℕ) → ClientOf step.old c state
-    → IsReady step.old → IsDone step.link (line_drawn words c state) step.old step.new step.text
-    → TakesPlaces step.link.limit step.old.entries step.new.entries
-done-places {c} {state = Idle} step words own ready is =
-    play-places step c (rest_at step.link (words 0 % 16) (LEAST_BUFFER + words 1 % BUFFER_SIZES) (words 2 % 26))
-    (state_at step.old c) is
-done-places {c} {state = Playing play} step words own ready is =
-    pause-places step (record { client = own.client; at = refl }) ready is
-done-places {c} {state = Pausing stop rest} step words own ready is = kept-places step.old step.new is.kept
-done-places {c} {state = Paused rest} step words own ready is = resume-places step c (state_at step.old c) is
-
 pub later-places : (old : DayState) (later : ℕ) → IsReady old
     → places_taken (at_later old later).entries ≡ places_taken old.entries
 later-places old later ready = places-if (later == 0)
@@ -230,7 +169,5 @@ turn-places {link} {words} turn is ready =
     let mid : IsReady turn.mid = subst R (sym is.slot) (later-ready turn.old (words 0 % 4) ready) in
     record {
       mid = subst P (sym is.slot) (later-places turn.old (words 0 % 4) ready);
-      done =
-          done-places (record { link = link; old = turn.mid; new = turn.new; text = turn.text }) (words_after 2 words)
-          (record { client = omega arith; at = refl }) mid is.done;
+      done = outcome-places (turn_step link turn) (turn-outcome turn is) mid;
     }

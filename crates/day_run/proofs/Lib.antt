@@ -1,4 +1,7 @@
 mod ScriptLineFacts
+mod LineOutcomes
+mod ListUpdates
+mod HaltSweepLemmas
 mod OpenBookingLemmas
 mod PauseLemmas
 mod JournalStepLemmas

@@ -1,7 +1,7 @@
 -- What the lines of a script leave of the balance between what is sent and what is booked.
 use Rattle.std.proofs.Common.{◌≡◌, ◌<◌, ◌≤◌, ℕ, zero, suc, true, false, Bool, cond, ◌==◌, List, []}
 use Rattle.std.proofs.Common.{◌∷◌, ◌++◌, length, map, get_or, replicate, arith, refl, sym}
-use Rattle.std.proofs.Common.{ap, subst, ◌∙◌, inl, inr}
+use Rattle.std.proofs.Common.{ap, subst, ◌∙◌}
 use Rattle.std.specs.Prelude.{sum_by}
 use Rattle.std.proofs.lemmas.List.{get_or-replicate, length-map, length-set, length-replicate}
 use Rattle.std.proofs.lemmas.List.Elements.{All-nil}
@@ -14,20 +14,20 @@ use Rattle.admission.specs.declared.entries.Entry.{Entry}
 use Rattle.admission.specs.Machine.{AdmittedPlay, State}
 use Rattle.admission.proofs.HistoryPrefixes.{state-push}
 use Rattle.day_script.specs.declared.scripts.Line.{Line}
-use Rattle.day_script.specs.declared.scripts.Line.TheVariants as lines
 use Rattle.day_run.specs.Days.{AskedPlay}
-use Rattle.day_run.specs.Days.{AreLineSteps, IsAsked, IsHaltedPlay, IsLine, IsLookLine, IsOfferLine}
-use Rattle.day_run.specs.Days.{IsPauseLine, IsResumeLine, SharedLink, DayState, at_slot}
-use Rattle.day_run.specs.Days.{booked_up_to, entry_by, first_moment, rest_at, state_at, sent_up_to, with_play}
-use Rattle.day_script.specs.Scripts.{slot_after}
+use Rattle.day_run.specs.Days.{AreLineSteps, IsHaltedPlay}
+use Rattle.day_run.specs.Days.{SharedLink, DayState, at_slot}
+use Rattle.day_run.specs.Days.{booked_up_to, entry_by, first_moment, sent_up_to, with_play}
 use Rattle.day_run.specs.ClientStates.{Idle, Playing, Pausing, Paused, ClientPlay, Rest, ClientState}
 use Rattle.day_run.specs.ClientStates.{after_play, after_sending, sent_by}
 use Rattle.day_run.specs.BookingBalance.{AreHeldOf, IsBalanced, IsReady, share_of}
 use Rattle.day_run.proofs.OwnHalts.{none-halted}
 use Rattle.day_run.proofs.SentBookedLemmas.{IsFree, IsShut, balanced-halt, balanced-play, balanced-same, balanced-sent}
-use Rattle.day_run.proofs.SentBookedLemmas.{idle-free, paused-free, playing_one}
+use Rattle.day_run.proofs.SentBookedLemmas.{playing_one}
 use Rattle.day_run.proofs.SlotBalance.{pausing-share, slot-halted}
-use Rattle.day_run.proofs.ScriptLineFacts.{ClientOf, IsPlayTaken, LineStep, LinesTaken, StandingLine}
+use Rattle.day_run.proofs.LineOutcomes.{LineOutcome, Kept, Asked, Stopped, Looks, Reached, line-outcome}
+use Rattle.day_run.proofs.LineOutcomes.{outcome-heard}
+use Rattle.day_run.proofs.ScriptLineFacts.{LineStep, LinesTaken}
 use Rattle.day_run.proofs.ScriptLineFacts.{StandingLines, first-standing, rest-standing, standing-of}
 
 pub ready-kept : (old new : DayState) → new ≡ old → IsReady old → IsReady new
@@ -78,30 +78,6 @@ answered {old} {new} (Looked now at booked) ask client free is ready =
     (balanced-same old.entries old.states old.heard e
     (ap (λ (s : State). s.held) (state-push old.entries e)) refl ready.balanced)
 
-asked : {link : SharedLink} {c : ℕ} {rest : Rest} {old new : DayState} {text : List ℕ} → c < 256
-    → IsFree (get_or old.states c Idle)
-    → IsAsked link c rest old new text → IsReady old → IsReady new
-asked {c} {old} {new} {text} client free (inl faulty) ready = ready-kept old new faulty.told.kept ready
-asked {c} {rest} {old} {new} {text} client free (inr planned) ready = elim planned.done [
-  | inl full ↦ ready-kept old new full.told.kept ready
-  | inr made ↦
-      answered made.answer (record { client = c; rest = rest; plan = planned.plan }) client free made.noted.new_is ready
-]
-
-pub play-ready : {c : ℕ} {state : ClientState} (step : LineStep) (rest : Rest) → ClientOf step.old c state
-    → IsPlayTaken step c rest state → IsReady step.old → IsReady step.new
-play-ready {c} {state = Idle} step rest own is ready = asked own.client (idle-free own.at) is ready
-play-ready {c} {state = Playing play} step rest own is ready = ready-kept step.old step.new is.kept ready
-play-ready {c} {state = Pausing stop left} step rest own is ready = ready-kept step.old step.new is.kept ready
-play-ready {c} {state = Paused left} step rest own is ready = asked own.client (paused-free own.at) is ready
-
-pub resume-ready : {c : ℕ} {state : ClientState} (step : LineStep) → ClientOf step.old c state
-    → IsResumeLine step.link c state step.old step.new step.text → IsReady step.old → IsReady step.new
-resume-ready {c} {state = Idle} step own is ready = ready-kept step.old step.new is.kept ready
-resume-ready {c} {state = Playing play} step own is ready = ready-kept step.old step.new is.kept ready
-resume-ready {c} {state = Pausing stop rest} step own is ready = ready-kept step.old step.new is.kept ready
-resume-ready {c} {state = Paused rest} step own is ready = asked own.client (paused-free own.at) is ready
-
 shut-pause : (b : Bool) (stop : Booked) (rest : Rest) → IsShut (cond b (Paused rest) (Pausing stop rest))
 shut-pause true stop rest = tt
 shut-pause false stop rest = tt
@@ -121,13 +97,6 @@ paused {c} {play} {old} {new} {text} client at is ready =
     (record { inside = omega (arith, client, ready.count); at = at; balanced = ready.balanced }) shut
     (λ t later. ap (share_of t) is.pause.state_is ∙ pausing-share t old.heard stop rest later))
 
-pub pause-ready : {c : ℕ} {state : ClientState} (step : LineStep) → ClientOf step.old c state
-    → IsPauseLine step.link c state step.old step.new step.text → IsReady step.old → IsReady step.new
-pause-ready {c} {state = Idle} step own is ready = ready-kept step.old step.new is.kept ready
-pause-ready {c} {state = Playing play} step own is ready = paused own.client own.at is ready
-pause-ready {c} {state = Pausing stop rest} step own is ready = ready-kept step.old step.new is.kept ready
-pause-ready {c} {state = Paused rest} step own is ready = ready-kept step.old step.new is.kept ready
-
 looked : (answer : Answer) (slot : ℕ) (old new : DayState)
     → new ≡ record {
       entries = old.entries ++ entry_by 0 (commands.Look slot) answer ∷ [];
@@ -140,16 +109,6 @@ looked answer slot old new is ready =
     (balanced-same old.entries old.states old.heard e
     (ap (λ (s : State). s.held) (state-push old.entries e)) refl ready.balanced)
 
-look-ready : {link : SharedLink} {slot : ℕ} {old new : DayState} {text : List ℕ} → IsLookLine link slot old new text
-    → IsReady old → IsReady new
-look-ready {slot} {old} {new} {text} (inl full) ready = ready-kept old new full.told.kept ready
-look-ready {slot} {old} {new} {text} (inr made) ready = looked made.answer slot old new made.noted.new_is ready
-
-offer-ready : {link : SharedLink} {rest : Rest} {wait : ℕ} {old new : DayState} {text : List ℕ}
-    → IsOfferLine link rest wait old new text → IsReady old → IsReady new
-offer-ready {old} {new} {text} (inl faulty) ready = ready-kept old new faulty.told.kept ready
-offer-ready {old} {new} {text} (inr offered) ready = ready-kept old new offered.told.kept ready
-
 pub slot-ready : (old new : DayState) (slot : ℕ) → old.heard ≤ slot → new ≡ at_slot old slot → IsReady old → IsReady new
 slot-ready old new slot le is ready =
     let R : DayState → Type 0 = λ m. IsReady m in
@@ -159,19 +118,15 @@ slot-ready old new slot le is ready =
       balanced = (slot-halted old slot le ready.balanced).balanced;
     })
 
-pub line-ready : {n : ℕ} (step : LineStep) (line : Line) → StandingLine step.old.heard n line
-    → IsLine step.link line step.old step.new step.text → IsReady step.old → IsReady step.new
-line-ready step (lines.Play c source buffer delay) standing is ready =
-    play-ready step (rest_at step.link source buffer delay) (record { client = standing.client; at = refl }) is ready
-line-ready step (lines.Pause c) standing is ready =
-    pause-ready step (record { client = standing.client; at = refl }) is ready
-line-ready step (lines.Resume c) standing is ready =
-    resume-ready step (record { client = standing.client; at = refl }) is ready
-line-ready step (lines.Look slot) standing is ready = look-ready is ready
-line-ready step (lines.Slot slot) standing is ready =
-    slot-ready step.old step.new slot (omega (arith, standing.stands.0)) is.0 ready
-line-ready step (lines.Offer c source buffer delay wait) standing is ready =
-    offer-ready is ready
+pub outcome-ready : {slot : ℕ} (step : LineStep) → LineOutcome step slot → IsReady step.old → IsReady step.new
+outcome-ready step (Kept kept at) ready = ready-kept step.old step.new kept ready
+outcome-ready step (Asked own at) ready =
+    answered own.made.answer (record { client = own.client; rest = own.rest; plan = own.plan }) own.inside own.free
+    own.made.noted.new_is ready
+outcome-ready step (Stopped own at) ready = paused own.inside own.at own.is ready
+outcome-ready step (Looks own at) ready =
+    looked own.made.answer own.slot step.old step.new own.made.noted.new_is ready
+outcome-ready {slot} step (Reached own) ready = slot-ready step.old step.new slot own.later own.is ready
 
 idle-shares : (t n : ℕ) → sum_by (share_of t) (replicate n Idle) ≡ 0
 idle-shares t zero = refl
@@ -201,55 +156,6 @@ morning-ready = record {
 pub ready-sent : (m : DayState) (slot : ℕ) → m.heard ≤ slot → IsReady m → sent_up_to m slot ≡ booked_up_to m slot
 ready-sent m slot le ready = balanced-sent m.entries m.states m.heard slot le ready.balanced
 
-asked-heard : {link : SharedLink} {c : ℕ} {rest : Rest} {old new : DayState} {text : List ℕ}
-    → IsAsked link c rest old new text → new.heard ≡ old.heard
-asked-heard {c} {new} {text} (inl faulty) = ap (λ (m : DayState). m.heard) faulty.told.kept
-asked-heard {c} {new} {text} (inr planned) = elim planned.done [
-  | inl full ↦ ap (λ (m : DayState). m.heard) full.told.kept
-  | inr made ↦ ap (λ (m : DayState). m.heard) made.noted.new_is
-]
-
-pub play-heard : (step : LineStep) (c : ℕ) (rest : Rest) (state : ClientState)
-    → IsPlayTaken step c rest state → step.new.heard ≡ step.old.heard
-play-heard step c rest Idle is = asked-heard is
-play-heard step c rest (Playing play) is = ap (λ (m : DayState). m.heard) is.kept
-play-heard step c rest (Pausing stop left) is = ap (λ (m : DayState). m.heard) is.kept
-play-heard step c rest (Paused left) is = asked-heard is
-
-pub resume-heard : (step : LineStep) (c : ℕ) (state : ClientState)
-    → IsResumeLine step.link c state step.old step.new step.text → step.new.heard ≡ step.old.heard
-resume-heard step c Idle is = ap (λ (m : DayState). m.heard) is.kept
-resume-heard step c (Playing play) is = ap (λ (m : DayState). m.heard) is.kept
-resume-heard step c (Pausing stop rest) is = ap (λ (m : DayState). m.heard) is.kept
-resume-heard step c (Paused rest) is = asked-heard is
-
-pub pause-heard : (step : LineStep) (c : ℕ) (state : ClientState)
-    → IsPauseLine step.link c state step.old step.new step.text → step.new.heard ≡ step.old.heard
-pause-heard step c Idle is = ap (λ (m : DayState). m.heard) is.kept
-pause-heard step c (Playing play) is = ap (λ (m : DayState). m.heard) is.noted.new_is
-pause-heard step c (Pausing stop rest) is = ap (λ (m : DayState). m.heard) is.kept
-pause-heard step c (Paused rest) is = ap (λ (m : DayState). m.heard) is.kept
-
-look-heard : (link : SharedLink) (slot : ℕ) (old new : DayState) (text : List ℕ) → IsLookLine link slot old new text
-    → new.heard ≡ old.heard
-look-heard link slot old new text (inl full) = ap (λ (m : DayState). m.heard) full.told.kept
-look-heard link slot old new text (inr made) = ap (λ (m : DayState). m.heard) made.noted.new_is
-
-offer-heard : {link : SharedLink} {rest : Rest} {wait : ℕ} {old new : DayState} {text : List ℕ}
-    → IsOfferLine link rest wait old new text → new.heard ≡ old.heard
-offer-heard {new} {text} (inl faulty) = ap (λ (m : DayState). m.heard) faulty.told.kept
-offer-heard {new} {text} (inr offered) = ap (λ (m : DayState). m.heard) offered.told.kept
-
-pub heard-after : (step : LineStep) (line : Line) → IsLine step.link line step.old step.new step.text
-    → step.new.heard ≡ slot_after step.old.heard line
-heard-after step (lines.Play c source buffer delay) is =
-    play-heard step c (rest_at step.link source buffer delay) (state_at step.old c) is
-heard-after step (lines.Pause c) is = pause-heard step c (state_at step.old c) is
-heard-after step (lines.Resume c) is = resume-heard step c (state_at step.old c) is
-heard-after step (lines.Look slot) is = look-heard step.link _ step.old step.new step.text is
-heard-after step (lines.Slot slot) is = ap (λ (m : DayState). m.heard) is.0
-heard-after step (lines.Offer c source buffer delay wait) is = offer-heard is
-
 pub run-ready : {old new : DayState} {n : ℕ} (link : SharedLink) (lines : List Line) (texts : List (List ℕ))
     → StandingLines old.heard n lines
     → AreLineSteps link lines texts old new → IsReady old → IsReady new
@@ -258,8 +164,9 @@ run-ready {new} link [] (t ∷ texts) standing run ready = absurd run
 run-ready {new} link (l ∷ ls) [] standing run ready = absurd run
 run-ready {old} {new} link (l ∷ ls) (t ∷ texts) standing run ready =
     let step : LineStep = record { link = link; old = old; new = run.0; text = t } in
-    let ok = line-ready step l (first-standing standing) run.1.0 ready in
-    run-ready {old = run.0} {new = new} link ls texts (rest-standing standing (heard-after step l run.1.0)) run.1.1 ok
+    let outcome = line-outcome step l (first-standing standing) run.1.0 in
+    run-ready {old = run.0} {new = new} link ls texts (rest-standing standing (outcome-heard step outcome)) run.1.1
+    (outcome-ready step outcome ready)
 
 -- the lines of a script leave a day ready
 pub taken-ready : {link : SharedLink} {n : ℕ} (taken : LinesTaken link n) → IsReady taken.moment

@@ -1,8 +1,7 @@
 -- The plays that a book has open for the clients of a day, after one more entry.
 use Rattle.std.proofs.Common.{◌≡◌, ◌<◌, ◌≤◌, ℕ, true, List, [], ◌∷◌, ◌++◌, length, get_or, set}
-use Rattle.std.proofs.Common.{Option, Some, IsSomeAnd, arith, sym, ap, subst, ◌∙◌, inl, inr}
-use Rattle.std.proofs.lemmas.Bool.{cases_eq}
-use Rattle.std.proofs.lemmas.List.{length-append, get_or_append_left, length-set, get_or-set_same, get_or-set_other}
+use Rattle.std.proofs.Common.{Option, Some, IsSomeAnd, arith, sym, ap, subst, ◌∙◌}
+use Rattle.std.proofs.lemmas.List.{length-append, get_or_append_left, length-set}
 use Rattle.plan_cert.specs.PlanSlots.{total_bytes}
 use Rattle.admission.specs.declared.entries.Command.{Command}
 use Rattle.admission.specs.declared.entries.Command.TheVariants.{Halt}
@@ -12,6 +11,7 @@ use Rattle.admission.specs.Machine.{CanHalt, AdmittedPlay, State, play_numbered}
 use Rattle.admission.proofs.PlayLookup.{found-next}
 use Rattle.admission.proofs.Halts.{halting}
 use Rattle.admission.proofs.HistoryPrefixes.{next_of, state-push}
+use Rattle.day_run.proofs.ListUpdates.{set-at}
 use Rattle.day_run.specs.declared.clients.Client.{Client}
 use Rattle.day_run.specs.declared.clients.Client.TheVariants.{Idle, Playing, Pausing, Paused}
 use Rattle.day_run.specs.Clients.{AreBooked, AreGoing, AreUndone, IsBooked, IsGoing, IsOpenOf, IsQuiet, IsUndone}
@@ -65,18 +65,14 @@ pub booked-set : {xs : List Entry} {clients : List Client} {c : ℕ} {e : Entry}
     → AreBooked (xs ++ e ∷ []) (set clients c client)
 booked-set {xs} {clients} {c} {e} client others own booked =
     record {
-      each = λ d none inside. elim (cases_eq d c) [
-        | inl same ↦
-            let within : c < length clients = omega (arith, same, inside, length-set clients c client) in
-            let B : ℕ → Type 0 = λ n. IsBooked (xs ++ e ∷ []) n (get_or (set clients c client) n none) in
-            let C : Client → Type 0 = λ x. IsBooked (xs ++ e ∷ []) c x in
-            subst B (sym same) (subst C (sym (get_or-set_same clients c client none within)) own)
-        | inr other ↦
-            let within : d < length clients = omega (arith, inside, length-set clients c client) in
-            let C : Client → Type 0 = λ x. IsBooked (xs ++ e ∷ []) d x in
-            subst C (sym (get_or-set_other clients c d client none other))
-            (booked-push xs d (get_or clients d none) e (others d other) (booked.each d none within))
-      ];
+      each = λ d none inside.
+          let within : d < length clients = omega (arith, inside, length-set clients c client) in
+          set-at (IsBooked (xs ++ e ∷ [])) {xs = clients} {c = c} {d = d} {x = client} {none = none} (record {
+            inside = λ same. omega (arith, same, within);
+            own = own;
+            other = λ other.
+                booked-push xs d (get_or clients d none) e (others d other) (booked.each d none within);
+          });
     }
 
 quiet-booked : (xs : List Entry) (c : ℕ) (client : Client) → IsQuiet client → IsBooked xs c client
@@ -104,17 +100,13 @@ pub going-set : (clients : List Client) (c : ℕ) (client : Client) → IsGoing 
     → AreGoing (set clients c client)
 going-set clients c client own going =
     record {
-      each = λ d none inside. elim (cases_eq d c) [
-        | inl same ↦
-            let within : c < length clients = omega (arith, same, inside, length-set clients c client) in
-            let B : ℕ → Type 0 = λ n. IsGoing (get_or (set clients c client) n none) in
-            let C : Client → Type 0 = λ x. IsGoing x in
-            subst B (sym same) (subst C (sym (get_or-set_same clients c client none within)) own)
-        | inr other ↦
-            let within : d < length clients = omega (arith, inside, length-set clients c client) in
-            let C : Client → Type 0 = λ x. IsGoing x in
-            subst C (sym (get_or-set_other clients c d client none other)) (going.each d none within)
-      ];
+      each = λ d none inside.
+          let within : d < length clients = omega (arith, inside, length-set clients c client) in
+          set-at (λ (n : ℕ) (x : Client). IsGoing x) {xs = clients} {c = c} {d = d} {x = client} {none = none} (record {
+            inside = λ same. omega (arith, same, within);
+            own = own;
+            other = λ other. going.each d none within;
+          });
     }
 
 pub undone-set : {upto : ℕ} {clients : List Client} (c : ℕ) (client : Client) → c < length clients
@@ -122,30 +114,23 @@ pub undone-set : {upto : ℕ} {clients : List Client} (c : ℕ) (client : Client
     → AreUndone upto (set clients c client)
 undone-set {clients} c client within own undone =
     record {
-      each = λ d none inside. elim (cases_eq d c) [
-        | inl same ↦
-            let B : ℕ → Type 0 = λ n. IsUndone (get_or (set clients c client) n none) in
-            let C : Client → Type 0 = λ x. IsUndone x in
-            subst B (sym same) (subst C (sym (get_or-set_same clients c client none within)) own)
-        | inr other ↦
-            let C : Client → Type 0 = λ x. IsUndone x in
-            subst C (sym (get_or-set_other clients c d client none other)) (undone.each d none inside)
-      ];
+      each = λ d none inside.
+          set-at (λ (n : ℕ) (x : Client). IsUndone x) {xs = clients} {c = c} {d = d} {x = client} {none = none} (record {
+            inside = λ same. within;
+            own = own;
+            other = λ other. undone.each d none inside;
+          });
     }
 
 pub booked-same : (xs : List Entry) (clients : List Client) (c : ℕ) (client : Client) → IsBooked xs c client
     → AreBooked xs clients → AreBooked xs (set clients c client)
 booked-same xs clients c client own booked =
     record {
-      each = λ d none inside. elim (cases_eq d c) [
-        | inl same ↦
-            let within : c < length clients = omega (arith, same, inside, length-set clients c client) in
-            let B : ℕ → Type 0 = λ n. IsBooked xs n (get_or (set clients c client) n none) in
-            let C : Client → Type 0 = λ x. IsBooked xs c x in
-            subst B (sym same) (subst C (sym (get_or-set_same clients c client none within)) own)
-        | inr other ↦
-            let within : d < length clients = omega (arith, inside, length-set clients c client) in
-            let C : Client → Type 0 = λ x. IsBooked xs d x in
-            subst C (sym (get_or-set_other clients c d client none other)) (booked.each d none within)
-      ];
+      each = λ d none inside.
+          let within : d < length clients = omega (arith, inside, length-set clients c client) in
+          set-at (IsBooked xs) {xs = clients} {c = c} {d = d} {x = client} {none = none} (record {
+            inside = λ same. omega (arith, same, within);
+            own = own;
+            other = λ other. booked.each d none within;
+          });
     }

@@ -1,5 +1,5 @@
 -- Each halt of a day's journal is of an earlier play of its maker's, also after one more entry.
-use Rattle.std.proofs.Common.{◌≡◌, ◌<◌, ℕ, true, false, true≢false, List, [], ◌∷◌, ◌++◌, length, get_or, arith, sym}
+use Rattle.std.proofs.Common.{◌≡◌, ◌<◌, ℕ, false, true≢false, List, [], ◌∷◌, ◌++◌, length, get_or, arith, sym}
 use Rattle.std.proofs.Common.{ap, subst, ◌∙◌, ◌+◌, inl, inr}
 use Rattle.std.proofs.lemmas.Bool.{cases_lt}
 use Rattle.std.proofs.lemmas.List.{get_or_append_left, get_or_default, get_or_push, length-append}

@@ -6,7 +6,6 @@ use Rattle.std.specs.Prelude.{sum_by}
 use Rattle.std.specs.List.{fold, range_with_len}
 use Rattle.std.proofs.lemmas.List.Elements.{All-cons, All-nil}
 use Rattle.std.proofs.lemmas.List.Sums.{sum_by-cons}
-use Rattle.film_make.specs.Generator.{words_after}
 use Rattle.slot_calendar.specs.Plays.{booked_by}
 use Rattle.admission.specs.declared.entries.Answer.{Answer}
 use Rattle.admission.specs.declared.entries.Answer.TheVariants.{Admitted, Overflow, Halted, Looked}
@@ -15,24 +14,24 @@ use Rattle.admission.specs.declared.entries.Entry.{Entry}
 use Rattle.admission.specs.Histories.{IsAnswered, booked_after, state_after}
 use Rattle.admission.specs.Machine.{AdmittedPlay, State, booked_in}
 use Rattle.admission.proofs.HistoryPrefixes.{state-push}
-use Rattle.day_script.specs.declared.scripts.Line.{Line}
 use Rattle.day_script.specs.declared.scripts.Line.TheVariants as lines
-use Rattle.day_run.specs.declared.fairs.TheConstants.{BUFFER_SIZES, LEAST_BUFFER}
 use Rattle.day_run.specs.BookingBalance.{IsReady, share_of}
 use Rattle.day_run.specs.Clients.{after_open}
 use Rattle.day_run.specs.Days.{AskedPlay}
-use Rattle.day_run.specs.Days.{IsAsked, IsHaltedPlay, IsLine, IsLookLine, IsOfferLine, IsPauseLine}
-use Rattle.day_run.specs.Days.{IsResumeLine, SharedLink, DayState, at_slot, entry_by}
-use Rattle.day_run.specs.Days.{last_journal, first_moment, rest_at, sent_up_to, state_at, with_play}
-use Rattle.day_run.specs.FairDays.{AreTurns, IsDone, IsTurn, FairTurn, after_turn, at_later, client_of}
-use Rattle.day_run.specs.FairDays.{line_drawn, turn_booked, turn_peak}
-use Rattle.day_run.specs.ClientStates.{Idle, Playing, Pausing, Paused, ClientPlay, Rest, ClientState, booking_of}
+use Rattle.day_run.specs.Days.{IsHaltedPlay, IsLine}
+use Rattle.day_run.specs.Days.{SharedLink, DayState, at_slot, entry_by}
+use Rattle.day_run.specs.Days.{last_journal, first_moment, sent_up_to, with_play}
+use Rattle.day_run.specs.FairDays.{AreTurns, IsTurn, FairTurn, after_turn, at_later}
+use Rattle.day_run.specs.FairDays.{turn_booked, turn_peak}
+use Rattle.day_run.specs.ClientStates.{Idle, Playing, ClientPlay, ClientState, booking_of}
 use Rattle.day_run.specs.ClientStates.{sent_by}
 use Rattle.day_run.proofs.SentBookedLemmas.{BegunPlay}
 use Rattle.day_run.proofs.SlotBalance.{its-held, last-halted, play-stays, slot-halted, stays-halt}
 use Rattle.day_run.proofs.LineBalance.{morning-ready, ready-sent, taken-ready}
-use Rattle.day_run.proofs.ScriptLineFacts.{ClientOf, IsPlayTaken, LineStep, LinesTaken, NextTaken, StandingLine}
-use Rattle.day_run.proofs.FairLaws.{done-heard, later-heard, turn-ready, later-ready}
+use Rattle.day_run.proofs.ScriptLineFacts.{LineStep, LinesTaken, NextTaken}
+use Rattle.day_run.proofs.FairLaws.{later-heard, turn-ready, later-ready}
+use Rattle.day_run.proofs.LineOutcomes.{LineOutcome, Kept, Asked, Stopped, Looks, Reached, line-outcome}
+use Rattle.day_run.proofs.LineOutcomes.{outcome-heard, turn-outcome, turn_step}
 use Rattle.day_run.proofs.SoundClients.{kept-most}
 use Rattle.day_run.proofs.PeakLemmas.{peak-slots}
 use Rattle.day_run.proofs.SlotSums.{sum-slots}
@@ -79,30 +78,6 @@ answered-past {new} (Looked now at booked) link ask old answered is =
     let e = entry_by ask.client (commands.Play old.heard ask.plan) (Looked now at booked) in
     same-past old new e old.states is (ap (λ (s : State). s.held) (state-push old.entries e))
 
-asked-past : {link : SharedLink} {c : ℕ} {rest : Rest} {old new : DayState} {text : List ℕ}
-    → IsAsked link c rest old new text → Past old new
-asked-past {c} {old} {new} {text} (inl faulty) = kept-past old new faulty.told.kept
-asked-past {link} {c} {rest} {old} {new} {text} (inr planned) = elim planned.done [
-  | inl full ↦ kept-past old new full.told.kept
-  | inr made ↦
-      answered-past made.answer link (record { client = c; rest = rest; plan = planned.plan }) old
-      made.noted.answered made.noted.new_is
-]
-
-play-past : (step : LineStep) (c : ℕ) (rest : Rest) (state : ClientState)
-    → IsPlayTaken step c rest state → Past step.old step.new
-play-past step c rest Idle is = asked-past is
-play-past step c rest (Playing play) is = kept-past step.old step.new is.kept
-play-past step c rest (Pausing stop left) is = kept-past step.old step.new is.kept
-play-past step c rest (Paused left) is = asked-past is
-
-resume-past : (step : LineStep) (c : ℕ) (state : ClientState)
-    → IsResumeLine step.link c state step.old step.new step.text → Past step.old step.new
-resume-past step c Idle is = kept-past step.old step.new is.kept
-resume-past step c (Playing play) is = kept-past step.old step.new is.kept
-resume-past step c (Pausing stop rest) is = kept-past step.old step.new is.kept
-resume-past step c (Paused rest) is = asked-past is
-
 halted-past : {link : SharedLink} {c : ℕ} {play : ClientPlay} {old new : DayState} {text : List ℕ} → c < 256
     → get_or old.states c Idle ≡ Playing play → IsReady old
     → IsHaltedPlay link c play old new text → Past old new
@@ -113,68 +88,32 @@ halted-past {c} {play} {old} {new} {text} client at ready is t past =
     ap (λ (m : DayState). booked_after m.entries t) is.noted.new_is
     ∙ stays-halt old.entries c is.keep play held (record { sent = sent; most = most }) t past
 
-pause-past : {c : ℕ} {state : ClientState} (step : LineStep) → ClientOf step.old c state → IsReady step.old
-    → IsPauseLine step.link c state step.old step.new step.text → Past step.old step.new
-pause-past {c} {state = Idle} step own ready is = kept-past step.old step.new is.kept
-pause-past {c} {state = Playing play} step own ready is = halted-past own.client own.at ready is
-pause-past {c} {state = Pausing stop rest} step own ready is = kept-past step.old step.new is.kept
-pause-past {c} {state = Paused rest} step own ready is = kept-past step.old step.new is.kept
-
-look-past : (link : SharedLink) (slot : ℕ) (old new : DayState) (text : List ℕ) → IsLookLine link slot old new text
-    → Past old new
-look-past link slot old new text (inl full) = kept-past old new full.told.kept
-look-past link slot old new text (inr made) =
-    let e = entry_by 0 (commands.Look slot) made.answer in
-    same-past old new e old.states made.noted.new_is (look-held made.answer slot old.entries)
-  where
-    look-held : (answer : Answer) (slot : ℕ) (entries : List Entry)
-        → (state_after (entries ++ entry_by 0 (commands.Look slot) answer ∷ [])).held ≡ (state_after entries).held
-    look-held answer slot entries =
-        ap (λ (s : State). s.held) (state-push entries (entry_by 0 (commands.Look slot) answer))
-
-offer-past : {link : SharedLink} {rest : Rest} {wait : ℕ} {old new : DayState} {text : List ℕ}
-    → IsOfferLine link rest wait old new text → Past old new
-offer-past {old} {new} {text} (inl faulty) = kept-past old new faulty.told.kept
-offer-past {old} {new} {text} (inr offered) = kept-past old new offered.told.kept
-
-line-past : {n : ℕ} (step : LineStep) (line : Line) → StandingLine step.old.heard n line → IsReady step.old
-    → IsLine step.link line step.old step.new step.text → Past step.old step.new
-line-past step (lines.Play c source buffer delay) standing ready is =
-    play-past step c (rest_at step.link source buffer delay) (state_at step.old c) is
-line-past step (lines.Pause c) standing ready is =
-    pause-past step (record { client = standing.client; at = refl }) ready is
-line-past step (lines.Resume c) standing ready is = resume-past step c (state_at step.old c) is
-line-past step (lines.Look slot) standing ready is = look-past step.link _ step.old step.new step.text is
-line-past step (lines.Slot slot) standing ready is = λ t past.
-    ap (λ (m : DayState). booked_after m.entries t) is.0
-    ∙ (slot-halted step.old slot (omega (arith, standing.stands.0)) ready.balanced).stays t
-    (omega (arith, past, standing.stands.0))
-line-past step (lines.Offer c source buffer delay wait) standing ready is =
-    offer-past is
+outcome-past : {slot : ℕ} (step : LineStep) → LineOutcome step slot → IsReady step.old → Past step.old step.new
+outcome-past step (Kept kept at) ready = kept-past step.old step.new kept
+outcome-past step (Asked own at) ready =
+    answered-past own.made.answer step.link (record { client = own.client; rest = own.rest; plan = own.plan }) step.old
+    own.made.noted.answered own.made.noted.new_is
+outcome-past step (Stopped own at) ready = halted-past own.inside own.at ready own.is
+outcome-past step (Looks own at) ready =
+    let e = entry_by 0 (commands.Look own.slot) own.made.answer in
+    same-past step.old step.new e step.old.states own.made.noted.new_is
+    (ap (λ (s : State). s.held) (state-push step.old.entries e))
+outcome-past {slot} step (Reached own) ready = λ t past.
+    ap (λ (m : DayState). booked_after m.entries t) own.is
+    ∙ (slot-halted step.old slot own.later ready.balanced).stays t (omega (arith, past, own.later))
 
 pub day-past : {link : SharedLink} {n : ℕ} (taken : LinesTaken link n) (next : NextTaken link n taken) (t : ℕ)
     → t ≤ taken.moment.heard
     → booked_after next.new.entries t ≡ booked_after taken.moment.entries t
 day-past {link} taken next t past =
     let step : LineStep = record { link = link; old = taken.moment; new = next.new; text = next.text } in
-    line-past step next.line next.standing (taken-ready taken) next.is t past
+    outcome-past step (line-outcome step next.line next.standing next.is) (taken-ready taken) t past
 
 pub end-past : {link : SharedLink} {n : ℕ} (taken : LinesTaken link n) (t : ℕ) → t ≤ taken.moment.heard
     → booked_after (last_journal taken.moment) t ≡ booked_after taken.moment.entries t
 end-past taken t past = (last-halted taken.moment (taken-ready taken).balanced).stays t past
 
 -- ---- the same of turns
-done-past : {c : ℕ} {state : ClientState} (step : LineStep) (words : ℕ → ℕ) → ClientOf step.old c state
-    → IsReady step.old → IsDone step.link (line_drawn words c state) step.old step.new step.text
-    → Past step.old step.new
-done-past {c} {state = Idle} step words own ready is =
-    play-past step c (rest_at step.link (words 0 % 16) (LEAST_BUFFER + words 1 % BUFFER_SIZES) (words 2 % 26))
-    (state_at step.old c) is
-done-past {c} {state = Playing play} step words own ready is =
-    pause-past step (record { client = own.client; at = refl }) ready is
-done-past {c} {state = Pausing stop rest} step words own ready is = kept-past step.old step.new is.kept
-done-past {c} {state = Paused rest} step words own ready is = resume-past step c (state_at step.old c) is
-
 -- a slot or none leaves what is booked up to it
 later-past : (old : DayState) (later t : ℕ) → IsReady old → t ≤ (at_later old later).heard
     → booked_after (at_later old later).entries t ≡ booked_after old.entries t
@@ -193,8 +132,7 @@ turn-past {link} {words} {turn} t is ready past =
     let mid : IsReady turn.mid = subst R (sym is.slot) (later-ready turn.old (words 0 % 4) ready) in
     let P : DayState → Type 0 = λ m. t ≤ m.heard → booked_after m.entries t ≡ booked_after turn.old.entries t in
     let to-mid : P turn.mid = subst P (sym is.slot) (later-past turn.old (words 0 % 4) t ready) in
-    done-past (record { link = link; old = turn.mid; new = turn.new; text = turn.text }) (words_after 2 words)
-    (record { client = omega arith; at = refl }) mid is.done t past ∙ to-mid past
+    outcome-past (turn_step link turn) (turn-outcome turn is) mid t past ∙ to-mid past
 
 -- ---- sums and peaks over slots that join
 sum-same : (f g : ℕ → ℕ) (a n : ℕ) → ((t : ℕ) → t < a + n → f t ≡ g t)
@@ -282,6 +220,15 @@ record FirstTurn (booked : ℕ → ℕ) (turn : FairTurn) (turns : List FairTurn
   here : (t : ℕ) → t ≤ turn.mid.heard → booked t ≡ booked_after turn.old.entries t
   rest : AreBooked booked turns turn.new.heard last
 
+turn-sent : {turn : FairTurn} {turns : List FairTurn} {last : ℕ} (booked : ℕ → ℕ) → FirstTurn booked turn turns last
+    → IsTurnBooked booked turn
+turn-sent {turn} booked first = record {
+  sent = λ slot after before.
+      ready-sent turn.old slot after first.begun
+      ∙ sym (sum-same booked (booked_in (state_after turn.old.entries)) (turn.old.heard + 1) (slot - turn.old.heard)
+      (λ t less. first.here t (omega (arith, less, after, before))));
+}
+
 turns-cons : {turn : FairTurn} {turns : List FairTurn} {last : ℕ} (booked : ℕ → ℕ) → FirstTurn booked turn turns last
     → AreBooked booked (turn ∷ turns) turn.old.heard last
 turns-cons {turn} {turns} {last} booked first =
@@ -316,15 +263,10 @@ turns-cons {turn} {turns} {last} booked first =
             ap (λ k. fold max 0 (map booked (range_with_len k n))) at,
             ap (λ k. fold max 0 (map booked (range_with_len from k))) whole,
           );
-      each = All-cons (IsTurnBooked booked) turn turns (record {
-        sent = λ slot after before.
-            ready-sent turn.old slot after begun
-            ∙ sym (sum-same booked f from (slot - turn.old.heard)
-            (λ t less. here t (omega (arith, less, after, before))));
-      }) rest.each;
+      each = All-cons (IsTurnBooked booked) turn turns (turn-sent booked first) rest.each;
     }
   where
-    open first use {begun, later, mid, here, rest}
+    open first use {later, mid, here, rest}
 
 pub turns-past : {turns : List FairTurn} {old : DayState} {booked : ℕ → ℕ} (link : SharedLink) (words : ℕ → ℕ)
     (new : DayState) → AreTurns link words turns old new → IsReady old
@@ -348,9 +290,7 @@ turns-past {turns = turn ∷ turns} {old} {booked} link words new run ready same
     let rest = turns-past {turns = turns} {old = turn.new} {booked = booked} link (after_turn words turn) new
     run.1.1 (turn-ready link words turn is begun) same in
     let from : turn.old.heard ≡ old.heard = ap (λ (m : DayState). m.heard) run.0 in
-    let mid : turn.new.heard ≡ turn.mid.heard =
-    done-heard (record { link = link; old = turn.mid; new = turn.new; text = turn.text }) (words_after 2 words)
-    (client_of words) _ is.done in
+    let mid : turn.new.heard ≡ turn.mid.heard = outcome-heard (turn_step link turn) (turn-outcome turn is) in
     let M : DayState → Type 0 = λ m. turn.old.heard ≤ m.heard in
     let later : turn.old.heard ≤ turn.mid.heard = subst M (sym is.slot) (later-heard turn.old (words 0 % 4)) in
     let here : (t : ℕ) → t ≤ turn.mid.heard → booked t ≡ booked_after turn.old.entries t =
@@ -384,11 +324,6 @@ look-leaves link slot old new text (inr made) = (
   ap (λ (m : DayState). state_after m.entries) made.noted.new_is
       ∙ state-push old.entries (entry_by 0 (commands.Look _) made.answer),
 )
-
-pub offer-leaves : {link : SharedLink} {wait : ℕ} {old new : DayState} {text : List ℕ} (client source buffer delay : ℕ)
-    → IsLine link (lines.Offer client source buffer delay wait) old new text → new ≡ old
-offer-leaves client source buffer delay (inl faulty) = faulty.told.kept
-offer-leaves client source buffer delay (inr offered) = offered.told.kept
 
 pub end-later : {link : SharedLink} {n : ℕ} (taken : LinesTaken link n) (t : ℕ) → taken.moment.heard < t
     → booked_after (last_journal taken.moment) t ≡ sum_by (share_of t) (map after_open taken.moment.states)

@@ -1,12 +1,12 @@
 -- What is sent in a day's slots is what is booked there.
 use Rattle.std.proofs.Common.{◌≡◌, ◌<◌, ◌≤◌, ◌+◌, ◌-◌, ◌==◌, ℕ, zero, suc, List, [], ◌∷◌, ◌++◌, All}
-use Rattle.std.proofs.Common.{true, false, cond, length, map, set, get_or, Some, arith, refl, sym, ap}
+use Rattle.std.proofs.Common.{false, cond, length, map, set, get_or, Some, arith, refl, sym, ap}
 use Rattle.std.proofs.Common.{subst, ◌∙◌, inl, inr}
 use Rattle.slot_calendar.proofs.PlanSlots.{sent-rises}
 use Rattle.std.specs.Prelude.{count_by, sum_by}
 use Rattle.std.specs.List.{range_with_len}
-use Rattle.std.proofs.lemmas.Bool.{cases_Bool, cases_eq, cond-true, cond-false}
-use Rattle.std.proofs.lemmas.List.{get_or-set_other, get_or-set_same, get_or_append_left}
+use Rattle.std.proofs.lemmas.Bool.{cases_Bool, cond-true, cond-false}
+use Rattle.std.proofs.lemmas.List.{get_or_append_left}
 use Rattle.std.proofs.lemmas.List.{get_or-append_right, length-append, length-set, map-append}
 use Rattle.std.proofs.lemmas.List.Elements.{All-cons, All-head, All-push, All-tail, All-weaker}
 use Rattle.std.proofs.lemmas.List.Sums.{sum_by-append, sum_by-cons, sum_by-set, sum_by_push}
@@ -15,13 +15,13 @@ use Rattle.slot_calendar.specs.Plays.{Play as Booked, truncated_play, share_at, 
 use Rattle.admission.specs.declared.entries.Entry.{Entry}
 use Rattle.admission.specs.declared.entries.Answer.TheVariants.{Halted}
 use Rattle.admission.specs.declared.entries.Command.TheVariants as commands
-use Rattle.admission.specs.declared.entries.Command.{Command}
 use Rattle.admission.specs.Histories.{is_halt, open_count, state_after}
 use Rattle.admission.specs.Machine.{AdmittedPlay, State, admitted_play, booked_in, halted_play, play_numbered}
 use Rattle.admission.specs.Machine.{with_halted}
 use Rattle.admission.proofs.PlayLookup.{found-new, found-other, found-push}
 use Rattle.admission.proofs.Halts.{plays-split, split}
 use Rattle.admission.proofs.HistoryPrefixes.{state-push}
+use Rattle.day_run.proofs.ListUpdates.{set-at}
 use Rattle.day_run.specs.BookingBalance.{AreHeldOf, IsBalanced, IsHeld, share_of}
 use Rattle.day_run.specs.Days.{entry_by, halt_by}
 use Rattle.day_run.specs.ClientStates.{Idle, Playing, Pausing, Paused, ClientPlay, ClientState, Rest}
@@ -284,16 +284,51 @@ set-held : (entries : List Entry) (states : List ClientState) (c : ℕ) (next : 
     → AreHeldOf entries c next
     → ((d : ℕ) → d < length states → (d ≡ c → ⊥) → AreHeldOf entries d (get_or states d Idle))
     → (d : ℕ) → d < length (set states c next) → AreHeldOf entries d (get_or (set states c next) d Idle)
-set-held entries states c next inside own others d within = elim (cases_eq d c) [
-  | inl same ↦
-      let B : ℕ → Type 0 = λ k. AreHeldOf entries k (get_or (set states c next) k Idle) in
-      let C : ClientState → Type 0 = λ x. AreHeldOf entries c x in
-      subst B (sym same) (subst C (sym (get_or-set_same states c next Idle inside)) own)
-  | inr other ↦
-      let C : ClientState → Type 0 = λ x. AreHeldOf entries d x in
-      subst C (sym (get_or-set_other states c d next Idle other))
-      (others d (omega (arith, within, length-set states c next)) other)
-]
+set-held entries states c next inside own others d within =
+    set-at (AreHeldOf entries) {xs = states} {c = c} {d = d} {x = next} {none = Idle} (record {
+      inside = λ same. inside;
+      own = own;
+      other = λ other. others d (omega (arith, within, length-set states c next)) other;
+    })
+
+-- the halt of a client's play
+record HaltedClient (heard c : ℕ) (entries : List Entry) (states : List ClientState) (play : ClientPlay) : Type 0 where
+  own : BalancedClient heard c entries states (Playing play)
+  held : IsHeld entries c play
+  keep : ℕ
+  next : ClientState
+  shut : IsShut next
+
+abbrev halted-play : {entries : List Entry} {c : ℕ} {play : ClientPlay} → IsHeld entries c play → HeldPlay entries
+halted-play {play} its = record { number = play.number; start = play.start; plan = play.plan; held = its.held }
+
+-- as many plays are open as clients play
+halted-count : {heard c : ℕ} {entries : List Entry} {states : List ClientState} {play : ClientPlay}
+    (halted : HaltedClient heard c entries states play)
+    → open_count (entries ++ halt_by c play.number halted.keep) ≡ count_by is_playing (set states c halted.next)
+halted-count {c} {entries} {states} {play} halted =
+    let p = open-less entries c (halted-play held) keep in
+    let s : count_by is_playing (set states c next) + playing_one (get_or states c Idle)
+    ≡ count_by is_playing states + playing_one next = sum_by-set playing_one states c next Idle own.inside in
+    let was : playing_one (get_or states c Idle) ≡ 1 = ap playing_one own.at in
+    let is : playing_one next ≡ 0 = ap (λ b. cond b 1 0) (shut-idle next shut) in
+    omega (arith, p, s, was, is, own.balanced.playing)
+  where
+    open halted use {own, held, keep, next, shut}
+
+-- the machine holds the same plays, all of them with earlier numbers
+halted-fresh : (entries : List Entry) (c number keep : ℕ)
+    → All (λ (h : AdmittedPlay). h.number < length entries) (state_after entries).held
+    → All (λ (h : AdmittedPlay). h.number < length (entries ++ halt_by c number keep))
+    (state_after (entries ++ halt_by c number keep)).held
+halted-fresh entries c number keep fresh =
+    let e = entry_by c (commands.Halt number keep) Halted in
+    let A : State → Type 0 =
+    λ s. All (λ (h : AdmittedPlay). h.number < length (entries ++ halt_by c number keep)) s.held in
+    subst A (sym (state-push entries e))
+    (fresh-more (length entries) (length (entries ++ halt_by c number keep))
+    (with_halted number keep (state_after entries).held) (omega (arith, length-append entries (e ∷ [])))
+    (fresh-halted number keep (length entries) (state_after entries).held fresh))
 
 -- a client's play was halted, and the client books what is kept of it
 pub balanced-halt : {entries : List Entry} {states : List ClientState} {heard : ℕ} {play : ClientPlay} (c keep : ℕ)
@@ -302,13 +337,11 @@ pub balanced-halt : {entries : List Entry} {states : List ClientState} {heard : 
     → ((t : ℕ) → heard < t → share_of t next ≡ share_at t (truncated_play play.start play.plan keep))
     → IsBalanced (entries ++ halt_by c play.number keep) (set states c next) heard
 balanced-halt {entries} {states} {play} c keep next own shut shares =
-    let e = entry_by c (commands.Halt play.number keep) Halted in
     let H : ClientState → Type 0 = λ s. AreHeldOf entries c s in
     let its : IsHeld entries c play = subst H at (balanced.held c inside) in
     record {
       each = λ t later.
-          let b = booked-halted entries c
-          (record { number = play.number; start = play.start; plan = play.plan; held = its.held }) keep t in
+          let b = booked-halted entries c (halted-play its) keep t in
           let s = sum_by-set (share_of t) states c next Idle inside in
           let was : share_of t (get_or states c Idle) ≡ share_at t (whole_play play.start play.plan) =
           ap (share_of t) at in
@@ -318,23 +351,14 @@ balanced-halt {entries} {states} {play} c keep next own shut shares =
           (shut-held (entries ++ halt_by c play.number keep) c next shut)
           (λ d within other. others-halted entries play.number keep (get_or states d Idle)
           (record { inside = its.inside; maker = its.maker; other = other }) (balanced.held d within));
-      fresh =
-          let A : State → Type 0 =
-          λ s. All (λ (h : AdmittedPlay). h.number < length (entries ++ halt_by c play.number keep)) s.held in
-          subst A (sym (state-push entries e))
-          (fresh-more (length entries) (length (entries ++ halt_by c play.number keep))
-          (with_halted play.number keep (state_after entries).held)
-          (omega (arith, length-append entries (e ∷ [])))
-          (fresh-halted play.number keep (length entries) (state_after entries).held balanced.fresh));
-      playing =
-          let p = open-less entries c
-          (record { number = play.number; start = play.start; plan = play.plan; held = its.held }) keep in
-          let s : count_by is_playing (set states c next) + playing_one (get_or states c Idle)
-          ≡ count_by is_playing states + playing_one next =
-          sum_by-set playing_one states c next Idle inside in
-          let was : playing_one (get_or states c Idle) ≡ 1 = ap playing_one at in
-          let is : playing_one next ≡ 0 = ap (λ b. cond b 1 0) (shut-idle next shut) in
-          omega (arith, p, s, was, is, balanced.playing);
+      fresh = halted-fresh entries c play.number keep balanced.fresh;
+      playing = halted-count {c = c} {play = play} (record {
+        own = own;
+        held = its;
+        keep = keep;
+        next = next;
+        shut = shut;
+      });
       halts = halts-push entries c play.number keep
           (record { inside = its.inside; maker = its.maker }) balanced.halts;
     }

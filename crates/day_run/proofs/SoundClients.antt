@@ -3,8 +3,8 @@ use Rattle.std.proofs.Common.{◌≡◌, ◌<◌, ◌≤◌, ◌+◌, ◌-◌, �
 use Rattle.std.proofs.Common.{nat_le, nat_lt, List, [], ◌∷◌, All, length, map, take, drop, set}
 use Rattle.std.proofs.Common.{get_or, sum, replicate, Option, Some, None, arith, refl, sym, ap, subst, ◌∙◌, inl, inr}
 use Rattle.std.specs.Prelude.{IsSomeAnd, IsTrue}
-use Rattle.std.proofs.lemmas.Bool.{cases_eq, cases_lt, eqb-false, le-leb, ltb-false, ltb-true}
-use Rattle.std.proofs.lemmas.List.{get_or-map, get_or-replicate, get_or-set_other, get_or-set_same}
+use Rattle.std.proofs.lemmas.Bool.{cases_lt, eqb-false, le-leb, ltb-false, ltb-true}
+use Rattle.std.proofs.lemmas.List.{get_or-map, get_or-replicate}
 use Rattle.std.proofs.lemmas.List.{length-map, length-take, take_all}
 use Rattle.std.proofs.lemmas.List.Elements.{All-from_get_or}
 use Rattle.plan_cert.specs.declared.Segment.{Segment}
@@ -29,14 +29,16 @@ use Rattle.day_script.specs.declared.scripts.Line.{Line}
 use Rattle.day_script.specs.declared.scripts.Line.TheVariants as lines
 use Rattle.day_run.specs.BookingBalance.{AreHeldOf, IsHeld, IsReady}
 use Rattle.day_run.specs.DayLaws.{IsLink, IsSoundPlay, IsSoundRest, IsSoundClient}
-use Rattle.day_run.specs.Days.{AreLineSteps, IsAsked, IsHaltedPlay, IsLine, IsLookLine, IsOfferLine}
+use Rattle.day_run.specs.Days.{AreLineSteps, IsAsked, IsHaltedPlay, IsLine, IsLookLine}
 use Rattle.day_run.specs.Days.{IsPauseLine, IsResumeLine, SharedLink, DayState, at_slot}
 use Rattle.day_run.specs.Days.{entry_by, first_moment, rest_at, state_at, with_play}
 use Rattle.day_script.specs.Scripts.{IsWish}
 use Rattle.day_run.specs.ClientStates.{Idle, Playing, Pausing, Paused, IsPause, ClientPlay, Rest}
 use Rattle.day_run.specs.ClientStates.{ClientState, after_play, after_sending, booking_of, is_done}
 use Rattle.day_run.specs.ClientStates.{no_medium, sent_by, slot_sent}
-use Rattle.day_run.proofs.LineBalance.{heard-after, line-ready, morning-ready, slot-ready}
+use Rattle.day_run.proofs.LineBalance.{morning-ready, outcome-ready, slot-ready}
+use Rattle.day_run.proofs.LineOutcomes.{line-outcome, offer-kept, outcome-heard}
+use Rattle.day_run.proofs.ListUpdates.{set-at}
 use Rattle.day_run.proofs.ScriptLineFacts.{ClientOf, IsPlayTaken, LineStep, LinesTaken, StandingLine, StandingLines}
 use Rattle.day_run.proofs.ScriptLineFacts.{first-standing, rest-standing, standing-of}
 
@@ -57,16 +59,13 @@ record SoundState (heard c : ℕ) (state : ClientState) : Type 0 where
 set-sound : {heard c : ℕ} {state : ClientState} (states : List ClientState) → length states ≡ 256
     → SoundState heard c state
     → AreStates heard states → AreStates heard (set states c state)
-set-sound {heard} {c} {state} states count own each d inside = elim (cases_eq d c) [
-  | inl same ↦
-      let N : ℕ → Type 0 = λ n. IsSoundClient heard (get_or (set states c state) n Idle) in
-      let S : ClientState → Type 0 = λ s. IsSoundClient heard s in
-      subst N (sym same) (subst S
-      (sym (get_or-set_same states c state Idle (omega (arith, own.client, count)))) own.sound)
-  | inr other ↦
-      let S : ClientState → Type 0 = λ s. IsSoundClient heard s in
-      subst S (sym (get_or-set_other states c d state Idle other)) (each d inside)
-]
+set-sound {heard} {c} {state} states count own each d inside =
+    set-at (λ (n : ℕ) (s : ClientState). IsSoundClient heard s) {xs = states} {c = c} {d = d} {x = state} {none = Idle}
+    (record {
+      inside = λ same. omega (arith, own.client, count);
+      own = own.sound;
+      other = λ other. each d inside;
+    })
 
 kept-states : (old new : DayState) → new ≡ old → AreStates old.heard old.states → AreStates new.heard new.states
 kept-states old new kept each =
@@ -331,11 +330,6 @@ look-states {slot} {new} {text} sound (inr made) =
     let M : DayState → Type 0 = λ m. AreStates m.heard m.states in
     subst M (sym made.noted.new_is) sound.each
 
-offer-states : {link : SharedLink} {rest : Rest} {wait : ℕ} {old new : DayState} {text : List ℕ} → IsSound old
-    → IsOfferLine link rest wait old new text → AreStates new.heard new.states
-offer-states {old} {new} {text} sound (inl faulty) = kept-states old new faulty.told.kept sound.each
-offer-states {old} {new} {text} sound (inr offered) = kept-states old new offered.told.kept sound.each
-
 -- ---- lines leave the clients sound
 line-states : (step : LineStep) (line : Line) → IsLink step.link
     → StandingLine step.old.heard (length step.link.media) line → IsSound step.old
@@ -351,13 +345,13 @@ line-states step (lines.Slot slot) link-is standing sound is =
     let M : DayState → Type 0 = λ m. AreStates m.heard m.states in
     subst M (sym is.0) (slot-states step.old slot sound)
 line-states step (lines.Offer c source buffer delay wait) link-is standing sound is =
-    offer-states sound is
+    kept-states step.old step.new (offer-kept is) sound.each
 
 pub line-sound : (step : LineStep) (line : Line) → IsLink step.link
     → StandingLine step.old.heard (length step.link.media) line → IsSound step.old
     → IsLine step.link line step.old step.new step.text → IsSound step.new
 line-sound step line link-is standing sound is = record {
-  ready = line-ready step line standing is sound.ready;
+  ready = outcome-ready step (line-outcome step line standing is) sound.ready;
   each = line-states step line link-is standing sound is;
 }
 
@@ -371,9 +365,10 @@ run-sound {new} [] (t ∷ ts) link-is standing sound run = absurd run
 run-sound {new} (l ∷ ls) [] link-is standing sound run = absurd run
 run-sound {link} {old} {new} (l ∷ ls) (t ∷ ts) link-is standing sound run =
     let step : LineStep = record { link = link; old = old; new = run.0; text = t } in
-    let next = line-sound step l link-is (first-standing standing) sound run.1.0 in
+    let here = first-standing standing in
     run-sound {link = link} {old = run.0} {new = new} ls ts link-is
-    (rest-standing standing (heard-after step l run.1.0)) next run.1.1
+    (rest-standing standing (outcome-heard step (line-outcome step l here run.1.0)))
+    (line-sound step l link-is here sound run.1.0) run.1.1
 
 pub idle-sound : AreStates 0 (replicate 256 Idle)
 idle-sound c client =

@@ -1,4 +1,5 @@
-use Rattle.day_run.proofs.PastSlots.{look-leaves, offer-leaves}
+use Rattle.day_run.proofs.LineOutcomes.{offer-kept}
+use Rattle.day_run.proofs.PastSlots.{look-leaves}
 use Rattle.day_run.proofs.laws.law_looks_and_offers_book_nothing.Goals as goal
 
 pub returns-clause-look : goal.returns-clause-look
@@ -6,4 +7,4 @@ returns-clause-look c = look-leaves
 
 pub returns-clause-offer : goal.returns-clause-offer
 returns-clause-offer c =
-    λ link client source buffer delay wait old new text is. offer-leaves {link = link} client source buffer delay is
+    λ link client source buffer delay wait old new text is. offer-kept is

@@ -1,0 +1,135 @@
+-- What a line of a script, or a turn's client, does to a day, in five cases.
+use Rattle.std.proofs.Common.{◌≡◌, ◌<◌, ◌≤◌, ◌%◌, ◌+◌, ℕ, List, get_or, refl, sym, ap, ◌∙◌, inl, inr, arith}
+use Rattle.plan_cert.specs.declared.Segment.{Segment}
+use Rattle.film_make.specs.Generator.{words_after}
+use Rattle.day_script.specs.declared.scripts.Line.{Line}
+use Rattle.day_script.specs.declared.scripts.Line.TheVariants as lines
+use Rattle.day_script.specs.Scripts.{slot_after}
+use Rattle.day_run.specs.declared.fairs.TheConstants.{BUFFER_SIZES, LEAST_BUFFER}
+use Rattle.day_run.specs.ClientStates.{ClientPlay, ClientState, Idle, Playing, Pausing, Paused, Rest}
+use Rattle.day_run.specs.Days.{DayState, IsAnsweredLook, IsAnsweredPlay, IsAsked, IsHaltedPlay, IsLine}
+use Rattle.day_run.specs.Days.{IsLookLine, IsOfferLine, IsPauseLine, IsResumeLine, SharedLink, at_slot, rest_at}
+use Rattle.day_run.specs.FairDays.{FairTurn, IsDone, IsTurn, line_drawn}
+use Rattle.day_run.proofs.ScriptLineFacts.{ClientOf, IsPlayTaken, LineStep, StandingLine}
+use Rattle.day_run.proofs.SentBookedLemmas.{IsFree, idle-free, paused-free}
+
+-- a client that played nothing was answered a play
+pub record PlayAnswered (step : LineStep) : Type 0 where
+  pub client : ℕ
+  pub inside : client < 256
+  pub free : IsFree (get_or step.old.states client Idle)
+  pub rest : Rest
+  pub plan : List Segment
+  pub made : IsAnsweredPlay step.link (record { client = client; rest = rest; plan = plan }) step.old step.new
+      step.text
+
+-- a client's play was halted
+pub record PlayHalted (step : LineStep) : Type 0 where
+  pub client : ℕ
+  pub inside : client < 256
+  pub play : ClientPlay
+  pub at : get_or step.old.states client Idle ≡ Playing play
+  pub is : IsHaltedPlay step.link client play step.old step.new step.text
+
+-- a look was answered
+pub record LookAnswered (step : LineStep) : Type 0 where
+  pub slot : ℕ
+  pub made : IsAnsweredLook step.link slot step.old step.new step.text
+
+-- the link came to a slot
+pub record SlotReached (step : LineStep) (slot : ℕ) : Type 0 where
+  pub later : step.old.heard ≤ slot
+  pub is : step.new ≡ at_slot step.old slot
+
+-- what became of a day whose last slot is then this one
+pub data LineOutcome (step : LineStep) (slot : ℕ) : Type 0 where
+  Kept : step.new ≡ step.old → slot ≡ step.old.heard → LineOutcome step slot
+  Asked : PlayAnswered step → slot ≡ step.old.heard → LineOutcome step slot
+  Stopped : PlayHalted step → slot ≡ step.old.heard → LineOutcome step slot
+  Looks : LookAnswered step → slot ≡ step.old.heard → LineOutcome step slot
+  Reached : SlotReached step slot → LineOutcome step slot
+
+-- the last slot is then this one
+pub outcome-heard : {slot : ℕ} (step : LineStep) → LineOutcome step slot → step.new.heard ≡ slot
+outcome-heard step (Kept kept at) = ap (λ (m : DayState). m.heard) kept ∙ sym at
+outcome-heard step (Asked own at) = ap (λ (m : DayState). m.heard) own.made.noted.new_is ∙ sym at
+outcome-heard step (Stopped own at) = ap (λ (m : DayState). m.heard) own.is.noted.new_is ∙ sym at
+outcome-heard step (Looks own at) = ap (λ (m : DayState). m.heard) own.made.noted.new_is ∙ sym at
+outcome-heard step (Reached own) = ap (λ (m : DayState). m.heard) own.is
+
+-- ---- the lines
+asked-outcome : {c : ℕ} {rest : Rest} (step : LineStep) → c < 256 → IsFree (get_or step.old.states c Idle)
+    → IsAsked step.link c rest step.old step.new step.text → LineOutcome step step.old.heard
+asked-outcome step inside free (inl faulty) = Kept faulty.told.kept refl
+asked-outcome {c} {rest} step inside free (inr planned) = elim planned.done [
+  | inl full ↦ Kept full.told.kept refl
+  | inr made ↦
+      Asked
+      (record { client = c; inside = inside; free = free; rest = rest; plan = planned.plan; made = made }) refl
+]
+
+play-outcome : {c : ℕ} {state : ClientState} (step : LineStep) (rest : Rest) → ClientOf step.old c state
+    → IsPlayTaken step c rest state → LineOutcome step step.old.heard
+play-outcome {state = Idle} step rest own is = asked-outcome step own.client (idle-free own.at) is
+play-outcome {state = Playing play} step rest own is = Kept is.kept refl
+play-outcome {state = Pausing stop left} step rest own is = Kept is.kept refl
+play-outcome {state = Paused left} step rest own is = asked-outcome step own.client (paused-free own.at) is
+
+resume-outcome : {c : ℕ} {state : ClientState} (step : LineStep) → ClientOf step.old c state
+    → IsResumeLine step.link c state step.old step.new step.text → LineOutcome step step.old.heard
+resume-outcome {state = Idle} step own is = Kept is.kept refl
+resume-outcome {state = Playing play} step own is = Kept is.kept refl
+resume-outcome {state = Pausing stop rest} step own is = Kept is.kept refl
+resume-outcome {state = Paused rest} step own is = asked-outcome step own.client (paused-free own.at) is
+
+pause-outcome : {c : ℕ} {state : ClientState} (step : LineStep) → ClientOf step.old c state
+    → IsPauseLine step.link c state step.old step.new step.text → LineOutcome step step.old.heard
+pause-outcome {state = Idle} step own is = Kept is.kept refl
+pause-outcome {c} {state = Playing play} step own is =
+    Stopped (record { client = c; inside = own.client; play = play; at = own.at; is = is }) refl
+pause-outcome {state = Pausing stop rest} step own is = Kept is.kept refl
+pause-outcome {state = Paused rest} step own is = Kept is.kept refl
+
+look-outcome : {slot : ℕ} (step : LineStep) → IsLookLine step.link slot step.old step.new step.text
+    → LineOutcome step step.old.heard
+look-outcome step (inl full) = Kept full.told.kept refl
+look-outcome {slot} step (inr made) = Looks (record { slot = slot; made = made }) refl
+
+pub offer-kept : {link : SharedLink} {rest : Rest} {wait : ℕ} {old new : DayState} {text : List ℕ}
+    → IsOfferLine link rest wait old new text → new ≡ old
+offer-kept (inl faulty) = faulty.told.kept
+offer-kept (inr offered) = offered.told.kept
+
+pub line-outcome : {n : ℕ} (step : LineStep) (line : Line) → StandingLine step.old.heard n line
+    → IsLine step.link line step.old step.new step.text → LineOutcome step (slot_after step.old.heard line)
+line-outcome step (lines.Play c source buffer delay) standing is =
+    play-outcome step (rest_at step.link source buffer delay) (record { client = standing.client; at = refl }) is
+line-outcome step (lines.Pause c) standing is =
+    pause-outcome step (record { client = standing.client; at = refl }) is
+line-outcome step (lines.Resume c) standing is =
+    resume-outcome step (record { client = standing.client; at = refl }) is
+line-outcome step (lines.Look slot) standing is = look-outcome step is
+line-outcome step (lines.Slot slot) standing is =
+    Reached (record { later = omega (arith, standing.stands.0); is = is.0 })
+line-outcome step (lines.Offer c source buffer delay wait) standing is = Kept (offer-kept is) refl
+
+-- ---- the turns of a large day
+pub done-outcome : {c : ℕ} {state : ClientState} (step : LineStep) (words : ℕ → ℕ) → ClientOf step.old c state
+    → IsDone step.link (line_drawn words c state) step.old step.new step.text → LineOutcome step step.old.heard
+done-outcome {c} {state = Idle} step words own is =
+    play-outcome step (rest_at step.link (words 0 % 16) (LEAST_BUFFER + words 1 % BUFFER_SIZES) (words 2 % 26))
+    (record { client = own.client; at = refl }) is
+done-outcome {c} {state = Playing play} step words own is =
+    pause-outcome step (record { client = own.client; at = refl }) is
+done-outcome {c} {state = Pausing stop rest} step words own is = Kept is.kept refl
+done-outcome {c} {state = Paused rest} step words own is =
+    resume-outcome step (record { client = own.client; at = refl }) is
+
+-- what the client of a turn does
+abbrev pub turn_step : SharedLink → FairTurn → LineStep
+turn_step link turn = record { link = link; old = turn.mid; new = turn.new; text = turn.text }
+
+pub turn-outcome : {link : SharedLink} {words : ℕ → ℕ} (turn : FairTurn) → IsTurn link words turn
+    → LineOutcome (turn_step link turn) turn.mid.heard
+turn-outcome {link} {words} turn is =
+    done-outcome (turn_step link turn) (words_after 2 words) (record { client = omega arith; at = refl }) is.done
