@@ -21,7 +21,8 @@ use Rattle.film_streams.specs.Films.{IsFilmAt, Names, length_ms, milliseconds_at
 use Rattle.film_streams.specs.StreamNumbers.{timestamp_at}
 use Rattle.session.specs.Methods.{first_number}
 use Rattle.session_laws.specs.MethodLaws.{setup_in}
-use Rattle.session.specs.RefusalOrder.{IsOwnSession, first_of}
+use Rattle.session.specs.RefusalOrder.{IsOwnSession}
+use Rattle.rtsp_methods.specs.RequiredOptions.{first_of}
 use Rattle.rtsp_replies.specs.Replies.{play_fields, session_text, setup_text as setup_reply}
 use Rattle.session.specs.RequestSteps.{Hears}
 use Rattle.session.specs.RequestedPlans.{IsPlannedRun}

@@ -1,11 +1,13 @@
 -- What a SETUP asks for, and what the server has for what it leaves open (RFC 2326 sections 10.4
 -- and 12.39).
-use Rattle.std.specs.Prelude.{ℕ, ◌≡◌, ◌⊎◌, List, Option, Some, None, codes}
+use Rattle.std.specs.Prelude.{ℕ, ◌≡◌, ◌⊎◌, List, Option, Some, None, Result, Ok, Err, codes}
 use Rattle.rtsp_text.specs.Fields.{header_value}
 use Rattle.rtsp_fields.specs.Transports.{IsTransport}
 use Rattle.vod_base.specs.Limits.{WritesNumber}
 use Rattle.vod_base.specs.declared.limits.TheConstants.{MAX_BYTES, MAX_DELAY}
 use Rattle.rtsp_fields.specs.declared.transports.Channels.{Channels}
+use Rattle.rtsp_methods.specs.declared.refusals.Refusal.{Refusal}
+use Rattle.rtsp_methods.specs.declared.refusals.Refusal.TheVariants.{Transport, Parameter}
 use Rattle.film_streams.specs.declared.settings.Settings.{Settings}
 use Rattle.film_streams.specs.declared.setups.Setup.{Setup}
 
@@ -44,3 +46,10 @@ pub record HasNoMeaning (settings : Settings) (head : List ℕ) : Type 0 where
   pub channels : (channels : Channels) × HasChannels head channels
   pub none : ((bytes : ℕ) → ¬ IsBuffer settings head bytes)
       ⊎ ((slots : ℕ) → ¬ IsDelay settings head slots)
+
+-- what a SETUP asks for, or why it is refused
+abbrev pub IsSetupRead : Settings → List ℕ → ℕ → Result Setup Refusal → Type 0
+IsSetupRead settings head film (Ok setup) = AsksForSetup settings head film setup
+IsSetupRead settings head film (Err Transport) = (channels : Channels) → ¬ HasChannels head channels
+IsSetupRead settings head film (Err Parameter) = HasNoMeaning settings head
+IsSetupRead settings head film (Err _) = ⊥

@@ -9,7 +9,7 @@ mod stream_numbers;
 
 pub use films::{Asked, asked_film, length_ms, milliseconds_at};
 pub use settings::Settings;
-pub use setups::{Setup, buffer_of, channels_of, delay_of};
+pub use setups::{Setup, buffer_of, channels_of, delay_of, read_setup};
 pub use stream_numbers::{
     Counts, NOTHING_SENT, StreamSource, counts_after, identity_of, source_of, timestamp_at,
 };

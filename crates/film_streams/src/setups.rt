@@ -1,12 +1,13 @@
 //! What a SETUP names, and what it settles.
 
-ghost use Rattle.std.specs.Prelude.{◌≤◌, ℕ, IfSome, MatchOption};
-ghost use Rattle.film_streams.specs.SettingRanges.{AreSettings};
-ghost use Rattle.film_streams.specs.Setups.{HasChannels, IsBuffer, IsDelay};
+ghost use Rattle.std.specs.Prelude.{◌≡◌, ◌<◌, ◌≤◌, ℕ, IfOk, IfSome, MatchOption};
+ghost use Rattle.film_streams.specs.SettingRanges.{AreSettings, IsSetup};
+ghost use Rattle.film_streams.specs.Setups.{HasChannels, IsBuffer, IsDelay, IsSetupRead};
 ghost use Rattle.rtsp_fields.specs.declared.transports.Channels.{Channels};
 
 use crate::settings::Settings;
 use rtsp_fields::{Channels, read_buffer, read_delay, read_transport};
+use rtsp_methods::Refusal;
 use rtsp_text::{Request, header};
 use vod_base::{MAX_BYTES, MAX_DELAY};
 
@@ -23,6 +24,42 @@ pub struct Setup {
     pub buffer: u64,
     /// The slots before the first picture is used.
     pub delay: u64,
+}
+
+impl Setup {
+    /// Returns the channels of the frames and of the reports.
+    pub fn channels(&self) -> Channels
+        ensures { result ≡ record { media = self.now.media; control = self.now.control } }
+    {
+        Channels {
+            media: self.media,
+            control: self.control,
+        }
+    }
+}
+
+/// Reads what a SETUP asks for: the transport first, then the client's buffer and the start delay.
+///
+/// # Errors
+///
+/// [`Refusal::Transport`] where there is no transport that the server can take, and
+/// [`Refusal::Parameter`] where the buffer or the delay has no meaning.
+pub fn read_setup(request: &Request<'_>, film: usize, settings: &Settings) -> Result<Setup, Refusal>
+    requires { AreSettings settings.now }
+    ensures read { IsSetupRead settings.now request.now.head.now film result }
+    ensures ranges { (films : ℕ) → film < films → IfOk result (IsSetup films) }
+{
+    // 461 goes before 451: the causes are tried in one order.
+    let channels = channels_of(request).ok_or(Refusal::Transport)?;
+    let buffer = buffer_of(request, settings).ok_or(Refusal::Parameter)?;
+    let delay = delay_of(request, settings).ok_or(Refusal::Parameter)?;
+    Ok(Setup {
+        film,
+        media: channels.media,
+        control: channels.control,
+        buffer,
+        delay,
+    })
 }
 
 /// Returns the channels of the first transport that the server can take (RFC 2326 section 12.39),

@@ -1,4 +1,3 @@
-mod WordLemmas
 pub mod ReplyTextLemmas
 pub mod ReplyMessages
 pub mod ReplyPhrases

@@ -26,13 +26,14 @@ use Rattle.rtsp_text.proofs.ReplyTexts.{front_field, whole_reply}
 use Rattle.rtsp_text.proofs.UrlBytes.{name_in_url}
 use Rattle.rtsp_fields.specs.Sdp.{description_text, seconds_text}
 use Rattle.rtsp_fields.specs.declared.transports.Channels.{Channels}
-use Rattle.rtsp_replies.specs.declared.refusals.Refusal.{Refusal}
-use Rattle.rtsp_replies.specs.declared.refusals.Refusal.TheVariants.{BadRequest, Version, Method}
-use Rattle.rtsp_replies.specs.declared.refusals.Refusal.TheVariants.{Option as Required, Session}
-use Rattle.rtsp_replies.specs.declared.refusals.Refusal.TheVariants.{Film as NoFilm}
-use Rattle.rtsp_replies.specs.declared.refusals.Refusal.TheVariants.{State as NotNow, Transport}
-use Rattle.rtsp_replies.specs.declared.refusals.Refusal.TheVariants.{Parameter, Buffer, Range}
-use Rattle.rtsp_replies.specs.declared.refusals.Refusal.TheVariants.{Memory}
+use Rattle.rtsp_methods.specs.declared.refusals.Refusal.{Refusal}
+use Rattle.rtsp_methods.specs.declared.refusals.Refusal.TheVariants.{BadRequest, Version, Method}
+use Rattle.rtsp_methods.specs.declared.refusals.Refusal.TheVariants.{Option as Required, Session}
+use Rattle.rtsp_methods.specs.declared.refusals.Refusal.TheVariants.{Film as NoFilm}
+use Rattle.rtsp_methods.specs.declared.refusals.Refusal.TheVariants.{State as NotNow, Transport}
+use Rattle.rtsp_methods.specs.declared.refusals.Refusal.TheVariants.{Parameter, Buffer, Range}
+use Rattle.rtsp_methods.specs.declared.refusals.Refusal.TheVariants.{Memory}
+use Rattle.rtsp_methods.specs.Methods.{name_list}
 use Rattle.rtsp_replies.specs.Replies.{started_text}
 use Rattle.rtsp_replies.specs.Replies.{code_of, describe_text, field, full_text, joined_parts}
 use Rattle.rtsp_replies.specs.Replies.{look_body, offer_body}
@@ -96,8 +97,7 @@ says_whole body number written given small = coded_whole body ok number written 
 pub public_whole : (sequence : ℕ) → sequence < 2 ^ 64 → IsMessage (public_text sequence)
 unfolding value_named
 public_whole sequence number =
-    let value = codes "OPTIONS, DESCRIBE, SETUP, PLAY, PAUSE, TEARDOWN, GET_PARAMETER" in
-    let most : length value ≤ 100 = omega arith in
+    let most : length name_list ≤ 100 = omega arith in
     says_whole [] number (written-within (omega arith)
     (plain-more (record { name_is = refl; one_line = refl; bare = refl }) most written-nil)) refl (omega arith)
 

@@ -1,15 +1,16 @@
 -- The phrases of refusals, and what the reply to an OPTIONS says.
 use Rattle.std.proofs.Common.{◌≡◌, ℕ, [], ◌∷◌, codes, refl}
 use Rattle.rtsp_text.specs.Replies.{phrase, value_named}
-use Rattle.rtsp_replies.specs.declared.refusals.Refusal.{Refusal}
-use Rattle.rtsp_replies.specs.declared.refusals.Refusal.TheVariants.{BadRequest, Version, Method}
-use Rattle.rtsp_replies.specs.declared.refusals.Refusal.TheVariants.{Option as Required, Session}
-use Rattle.rtsp_replies.specs.declared.refusals.Refusal.TheVariants.{Film as NoFilm, State}
-use Rattle.rtsp_replies.specs.declared.refusals.Refusal.TheVariants.{Transport}
-use Rattle.rtsp_replies.specs.declared.refusals.Refusal.TheVariants.{Parameter, Buffer, Range}
-use Rattle.rtsp_replies.specs.declared.refusals.Refusal.TheVariants.{Memory}
+use Rattle.rtsp_methods.specs.declared.refusals.Refusal.{Refusal}
+use Rattle.rtsp_methods.specs.declared.refusals.Refusal.TheVariants.{BadRequest, Version, Method}
+use Rattle.rtsp_methods.specs.declared.refusals.Refusal.TheVariants.{Option as Required, Session}
+use Rattle.rtsp_methods.specs.declared.refusals.Refusal.TheVariants.{Film as NoFilm, State}
+use Rattle.rtsp_methods.specs.declared.refusals.Refusal.TheVariants.{Transport}
+use Rattle.rtsp_methods.specs.declared.refusals.Refusal.TheVariants.{Parameter, Buffer, Range}
+use Rattle.rtsp_methods.specs.declared.refusals.Refusal.TheVariants.{Memory}
+use Rattle.rtsp_methods.specs.Methods.{name_list}
 use Rattle.rtsp_replies.specs.PublicLaws.{IsPublicTold}
-use Rattle.rtsp_replies.specs.Refusals.{phrase_of}
+use Rattle.rtsp_replies.specs.Phrases.{phrase_of}
 use Rattle.rtsp_replies.specs.Replies.{code_of, field, public_text}
 
 pub phrases : (refusal : Refusal) → phrase (code_of refusal) ≡ phrase_of refusal
@@ -30,8 +31,8 @@ phrases Memory = refl
 pub public_told : (sequence : ℕ) → IsPublicTold sequence (public_text sequence)
 unfolding value_named
 public_told sequence = record {
-  fields = field (codes "Public") (codes "OPTIONS, DESCRIBE, SETUP, PLAY, PAUSE, TEARDOWN, GET_PARAMETER") ∷ [];
-  public = codes "OPTIONS, DESCRIBE, SETUP, PLAY, PAUSE, TEARDOWN, GET_PARAMETER";
+  fields = field (codes "Public") name_list ∷ [];
+  public = name_list;
   text_is = refl;
   public_is = refl;
   names = refl;

@@ -1,5 +1,4 @@
 pub mod Replies
-pub mod Refusals
-pub mod Methods
+pub mod Phrases
 pub mod PublicLaws
 pub mod Messages

@@ -1,15 +1,7 @@
 -- What the reply to an OPTIONS says.
-use Rattle.std.specs.Prelude.{ℕ, ◌≡◌, ◌++◌, List, [], ◌∷◌, Some, codes, flat_map}
+use Rattle.std.specs.Prelude.{ℕ, ◌≡◌, ◌++◌, List, [], Some, codes, flat_map}
 use Rattle.rtsp_text.specs.Replies.{Field, reply_text, value_named}
-use Rattle.rtsp_replies.specs.declared.methods.Method.{Method}
-use Rattle.rtsp_replies.specs.declared.methods.Method.TheVariants.{Options, Describe, Setup, Play}
-use Rattle.rtsp_replies.specs.declared.methods.Method.TheVariants.{Pause}
-use Rattle.rtsp_replies.specs.declared.methods.Method.TheVariants.{Teardown, GetParameter}
-use Rattle.rtsp_replies.specs.Methods.{name_of}
-
-abbrev pub all_methods : List Method
-all_methods =
-    Options ∷ Describe ∷ Setup ∷ Play ∷ Pause ∷ Teardown ∷ GetParameter ∷ []
+use Rattle.rtsp_methods.specs.Methods.{all_methods, name_of}
 
 -- a reply of 200 whose Public has the names of all methods, in a list (RFC 2326 section 12.28)
 pub record IsPublicTold (sequence : ℕ) (text : List ℕ) : Type 0 where

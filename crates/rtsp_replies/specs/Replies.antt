@@ -6,13 +6,14 @@ use Rattle.hex.specs.Hex.{encode_lower}
 use Rattle.rtsp_text.specs.Replies.{Field, field_line, reply_text}
 use Rattle.rtsp_fields.specs.Sdp.{description_text, seconds_text}
 use Rattle.early_start.specs.declared.Tried.{Tried}
-use Rattle.rtsp_replies.specs.declared.refusals.Refusal.{Refusal}
-use Rattle.rtsp_replies.specs.declared.refusals.Refusal.TheVariants.{BadRequest, Version, Method}
-use Rattle.rtsp_replies.specs.declared.refusals.Refusal.TheVariants.{Option as Required, Session}
-use Rattle.rtsp_replies.specs.declared.refusals.Refusal.TheVariants.{Film}
-use Rattle.rtsp_replies.specs.declared.refusals.Refusal.TheVariants.{State, Transport, Parameter}
-use Rattle.rtsp_replies.specs.declared.refusals.Refusal.TheVariants.{Buffer}
-use Rattle.rtsp_replies.specs.declared.refusals.Refusal.TheVariants.{Range, Memory}
+use Rattle.rtsp_methods.specs.Methods.{name_list}
+use Rattle.rtsp_methods.specs.declared.refusals.Refusal.{Refusal}
+use Rattle.rtsp_methods.specs.declared.refusals.Refusal.TheVariants.{BadRequest, Version, Method}
+use Rattle.rtsp_methods.specs.declared.refusals.Refusal.TheVariants.{Option as Required, Session}
+use Rattle.rtsp_methods.specs.declared.refusals.Refusal.TheVariants.{Film}
+use Rattle.rtsp_methods.specs.declared.refusals.Refusal.TheVariants.{State, Transport, Parameter}
+use Rattle.rtsp_methods.specs.declared.refusals.Refusal.TheVariants.{Buffer}
+use Rattle.rtsp_methods.specs.declared.refusals.Refusal.TheVariants.{Range, Memory}
 
 abbrev pub field : List ℕ → List ℕ → Field
 field name value = record { name = name; value = value }
@@ -57,8 +58,7 @@ refusal_text sequence refusal option =
 
 abbrev pub public_text : ℕ → List ℕ
 public_text sequence = reply_text 200 (Some sequence)
-    (field (codes "Public")
-    (codes "OPTIONS, DESCRIBE, SETUP, PLAY, PAUSE, TEARDOWN, GET_PARAMETER") ∷ []) []
+    (field (codes "Public") name_list ∷ []) []
 
 -- the description of a film that takes so many milliseconds, under the authority of the request's
 -- URL

@@ -2,9 +2,9 @@
 
 ghost use Rattle.std.specs.Prelude.{◌≡◌, ℕ};
 ghost use Rattle.rtsp_text.specs.Replies.{phrase};
-ghost use Rattle.rtsp_replies.specs.declared.refusals.Refusal.{Refusal};
+ghost use Rattle.rtsp_methods.specs.declared.refusals.Refusal.{Refusal};
 ghost use Rattle.rtsp_replies.specs.PublicLaws.{IsPublicTold};
-ghost use Rattle.rtsp_replies.specs.Refusals.{phrase_of};
+ghost use Rattle.rtsp_replies.specs.Phrases.{phrase_of};
 ghost use Rattle.rtsp_replies.specs.Replies.{code_of, public_text};
 
 /// Each refusal has the phrase for its cause, in this project's own spelling: RFC 2326 section

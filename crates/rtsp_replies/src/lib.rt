@@ -1,17 +1,13 @@
 //! The replies of an RTSP server of stored video, from the status line to the body (RFC 2326
-//! sections 7 and 10), the methods that it speaks, and why it refuses a request.
+//! sections 7 and 10).
 #![tactic(auto)]
 
 pub mod laws;
-mod methods;
 mod parameter_bodies;
-mod refusals;
 mod replies;
 mod text_buffers;
 
-pub use methods::{Method, Topic, read_method, read_topic};
 pub use parameter_bodies::{put_look, put_offer};
-pub use refusals::Refusal;
 pub use replies::{
     PlayInfo, put_description, put_full, put_overflow, put_parameters, put_plain, put_play,
     put_public, put_refusal, put_session, put_setup, put_start,

@@ -14,10 +14,10 @@ ghost use Rattle.vod_base.specs.Names.{good_name};
 ghost use Rattle.rtsp_text.specs.Lines.{is_one_line};
 ghost use Rattle.rtsp_text.specs.Replies.{Field, is_code, reply_front};
 
-use crate::refusals::Refusal;
 use interleave::MAX_HEAD_BYTES;
 use itoa::Buffer;
 use rtsp_fields::{Channels, description, seconds_text};
+use rtsp_methods::{Refusal, listed_names};
 use rtsp_text::Reply;
 
 /// Writes a refusal, over the old text. The option is what the request requires: 551 repeats it in
@@ -33,16 +33,13 @@ pub fn put_refusal(reply: &mut Reply, sequence: Option<u64>, refusal: Refusal, o
     reply.finish(&[]);
 }
 
-/// Writes the 200 of an OPTIONS, over the old text: its `Public` lists the methods that are spoken.
+/// Writes the 200 of an OPTIONS, over the old text: its `Public` lists the methods of the table.
 pub fn put_public(reply: &mut Reply, sequence: u64)
     ensures { reply.new ≡ public_text sequence }
 {
     reply.clear();
     reply.start(200, Some(sequence));
-    reply.field(
-        b"Public",
-        b"OPTIONS, DESCRIBE, SETUP, PLAY, PAUSE, TEARDOWN, GET_PARAMETER",
-    );
+    reply.field_from_parts(b"Public", &listed_names());
     reply.finish(&[]);
 }
 

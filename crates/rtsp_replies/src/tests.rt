@@ -1,62 +1,14 @@
-//! Methods, refusals and replies, as they stand on the wire.
+//! Refusals and replies, as they stand on the wire.
 
 use super::*;
 use early_start::Offers;
 use rtsp_fields::Channels;
-use rtsp_text::{Reply, RequestFault};
+use rtsp_methods::Refusal;
+use rtsp_text::Reply;
 use std::test::Fail;
-use wire_curve::{CurveFault, CurveRefused};
 
 /// A session's id.
 const ID: [u8; 16] = *b"0123456789abcdef";
-
-#[test]
-fn reads_methods(rt: HostRuntime) {
-    for (text, want) in [
-        ("OPTIONS", Some(Method::Options)),
-        ("DESCRIBE", Some(Method::Describe)),
-        ("SETUP", Some(Method::Setup)),
-        ("PLAY", Some(Method::Play)),
-        ("PAUSE", Some(Method::Pause)),
-        ("TEARDOWN", Some(Method::Teardown)),
-        ("GET_PARAMETER", Some(Method::GetParameter)),
-        ("SET_PARAMETER", None),
-        ("RECORD", None),
-        ("play", None),
-        ("", None),
-    ] {
-        assert_eq!(rt; read_method(text.as_bytes()), want, "at {text}");
-    }
-}
-
-#[test]
-fn reads_topics(rt: HostRuntime) {
-    for (body, want) in [
-        ("", Topic::Nothing),
-        ("x-Booked", Topic::Booked),
-        ("x-Booked\r\n", Topic::Booked),
-        ("x-Offer\n", Topic::Offer),
-        ("x-Offer\r\n\r\n", Topic::Unknown),
-        ("x-Offers", Topic::Unknown),
-        ("\r\n", Topic::Unknown),
-    ] {
-        assert_eq!(rt; read_topic(body.as_bytes()), want, "at {body}");
-    }
-}
-
-#[test]
-fn names_the_refusal_of_a_fault(rt: HostRuntime) {
-    for (fault, want) in [
-        (RequestFault::BadLine, Refusal::BadRequest),
-        (RequestFault::BadVersion, Refusal::Version),
-        (RequestFault::NoSequenceNumber, Refusal::BadRequest),
-    ] {
-        assert_eq!(rt; Refusal::from(fault), want);
-    }
-    let few = CurveFault::NoPictures;
-    assert_eq!(rt; Refusal::from(CurveRefused::Fault(few)), Refusal::Range);
-    assert_eq!(rt; Refusal::from(CurveRefused::NoMemory), Refusal::Memory);
-}
 
 /// Each refusal of a request with the number 7 that requires `x-key`, and its reply.
 const REFUSALS: [(Refusal, &str); 12] = [

@@ -1,16 +1,17 @@
 -- The codes of replies: none of the session's own is 453 or 503, and 500 is out of memory.
 use Rattle.std.proofs.Common.{◌≡◌, ℕ, ◌<◌, ◌++◌, List, [], Option, Some, refl, sym, ap, subst, ◌∙◌, arith}
+use Rattle.std.specs.Prelude.{Bool, true, false, not, ◌==◌, ◌&&◌}
 use Rattle.std.proofs.lemmas.Fmt.{decimal_injective}
 use Rattle.std.specs.Fmt.{digits}
 use Rattle.rtsp_text.specs.Replies.{Field, reply_front, reply_text, status_line}
 use Rattle.session.specs.declared.commands.Ask.{Ask}
 use Rattle.session.specs.declared.commands.Ask.TheVariants.{Reply, Play as AskPlay, Halt as AskHalt, Look as AskLook}
 use Rattle.session.specs.declared.commands.Ask.TheVariants.{Offer as AskOffer}
-use Rattle.rtsp_replies.specs.declared.refusals.Refusal.{Refusal}
-use Rattle.rtsp_replies.specs.declared.refusals.Refusal.TheVariants.{BadRequest, Version, Method}
-use Rattle.rtsp_replies.specs.declared.refusals.Refusal.TheVariants.{Option as Required, Session, Film}
-use Rattle.rtsp_replies.specs.declared.refusals.Refusal.TheVariants.{State as NotNow, Transport}
-use Rattle.rtsp_replies.specs.declared.refusals.Refusal.TheVariants.{Parameter, Buffer, Range, Memory}
+use Rattle.rtsp_methods.specs.declared.refusals.Refusal.{Refusal}
+use Rattle.rtsp_methods.specs.declared.refusals.Refusal.TheVariants.{BadRequest, Version, Method}
+use Rattle.rtsp_methods.specs.declared.refusals.Refusal.TheVariants.{Option as Required, Session, Film}
+use Rattle.rtsp_methods.specs.declared.refusals.Refusal.TheVariants.{State as NotNow, Transport}
+use Rattle.rtsp_methods.specs.declared.refusals.Refusal.TheVariants.{Parameter, Buffer, Range, Memory}
 use Rattle.session.specs.RequestEffects.{HasCode, IsNoRefusal, RefusesNone}
 use Rattle.session.specs.RequestSteps.{Hears}
 use Rattle.session.specs.Laws.{Is500, IsOutOfMemory, MayRunOutOfMemory, NeverLacks}
@@ -58,92 +59,36 @@ pub record IsOwnCode (refusal : Refusal) : Type 0 where
   not_full : code_of refusal ≡ 503 → ⊥
   pub memory : code_of refusal ≡ 500 → refusal ≡ Memory
 
+-- none of the three codes that the others aren't
+abbrev is_ordinary : ℕ → Bool
+is_ordinary code = not (code == 453) && not (code == 500) && not (code == 503)
+
+ordinary : (refusal : Refusal) → code_of refusal < 1000 → is_ordinary (code_of refusal) ≡ true → IsOwnCode refusal
+ordinary refusal small is = record {
+  small = small;
+  no_overflow = λ same. let no : true ≡ false = sym is ∙ ap is_ordinary same in cc;
+  not_full = λ same. let no : true ≡ false = sym is ∙ ap is_ordinary same in cc;
+  memory = λ same. let no : true ≡ false = sym is ∙ ap is_ordinary same in cc;
+}
+
 pub own_code : (refusal : Refusal) → IsOwnCode refusal
-own_code BadRequest =
-    record {
-      small = omega arith;
-      no_overflow = λ is. omega (arith, is);
-      not_full = λ is. omega (arith, is);
-      memory = λ is. absurd (omega (arith, is));
-    }
-own_code Version =
-    record {
-      small = omega arith;
-      no_overflow = λ is. omega (arith, is);
-      not_full = λ is. omega (arith, is);
-      memory = λ is. absurd (omega (arith, is));
-    }
-own_code Method =
-    record {
-      small = omega arith;
-      no_overflow = λ is. omega (arith, is);
-      not_full = λ is. omega (arith, is);
-      memory = λ is. absurd (omega (arith, is));
-    }
-own_code Required =
-    record {
-      small = omega arith;
-      no_overflow = λ is. omega (arith, is);
-      not_full = λ is. omega (arith, is);
-      memory = λ is. absurd (omega (arith, is));
-    }
-own_code Session =
-    record {
-      small = omega arith;
-      no_overflow = λ is. omega (arith, is);
-      not_full = λ is. omega (arith, is);
-      memory = λ is. absurd (omega (arith, is));
-    }
-own_code Film =
-    record {
-      small = omega arith;
-      no_overflow = λ is. omega (arith, is);
-      not_full = λ is. omega (arith, is);
-      memory = λ is. absurd (omega (arith, is));
-    }
-own_code NotNow =
-    record {
-      small = omega arith;
-      no_overflow = λ is. omega (arith, is);
-      not_full = λ is. omega (arith, is);
-      memory = λ is. absurd (omega (arith, is));
-    }
-own_code Transport =
-    record {
-      small = omega arith;
-      no_overflow = λ is. omega (arith, is);
-      not_full = λ is. omega (arith, is);
-      memory = λ is. absurd (omega (arith, is));
-    }
-own_code Parameter =
-    record {
-      small = omega arith;
-      no_overflow = λ is. omega (arith, is);
-      not_full = λ is. omega (arith, is);
-      memory = λ is. absurd (omega (arith, is));
-    }
-own_code (Buffer least) =
-    record {
-      small = omega arith;
-      no_overflow = λ is. omega (arith, is);
-      not_full = λ is. omega (arith, is);
-      memory = λ is. absurd (omega (arith, is));
-    }
-own_code Range =
-    record {
-      small = omega arith;
-      no_overflow = λ is. omega (arith, is);
-      not_full = λ is. omega (arith, is);
-      memory = λ is. absurd (omega (arith, is));
-    }
-own_code Memory =
-    record {
-      small = omega arith;
-      no_overflow = λ is. omega (arith, is);
-      not_full = λ is. omega (arith, is);
-      memory =
-          λ is. refl;
-    }
+own_code BadRequest = ordinary BadRequest (omega arith) refl
+own_code Version = ordinary Version (omega arith) refl
+own_code Method = ordinary Method (omega arith) refl
+own_code Required = ordinary Required (omega arith) refl
+own_code Session = ordinary Session (omega arith) refl
+own_code Film = ordinary Film (omega arith) refl
+own_code NotNow = ordinary NotNow (omega arith) refl
+own_code Transport = ordinary Transport (omega arith) refl
+own_code Parameter = ordinary Parameter (omega arith) refl
+own_code (Buffer least) = ordinary (Buffer least) (omega arith) refl
+own_code Range = ordinary Range (omega arith) refl
+own_code Memory = record {
+  small = omega arith;
+  no_overflow = λ is. omega (arith, is);
+  not_full = λ is. omega (arith, is);
+  memory = λ is. refl;
+}
 
 plain : (text : List ℕ) → HasCode 200 text → IsNoRefusal text
 plain text ok = record {

@@ -13,15 +13,15 @@ use Rattle.rtsp_text.specs.declared.requests.RequestFault.TheVariants.{BadLine, 
 use Rattle.rtsp_text.specs.declared.requests.RequestFault.TheVariants.{BadLength}
 use Rattle.session.specs.declared.commands.Ask.{Ask}
 use Rattle.session.specs.declared.commands.Ask.TheVariants.{Reply, Play as AskPlay}
-use Rattle.rtsp_replies.specs.declared.methods.Topic.{Topic}
-use Rattle.rtsp_replies.specs.declared.methods.Topic.TheVariants.{Nothing as NoTopic, Booked, Offer as OfferTopic}
-use Rattle.rtsp_replies.specs.declared.methods.Topic.TheVariants.{Unknown}
+use Rattle.rtsp_methods.specs.declared.topics.Topic.{Topic}
+use Rattle.rtsp_methods.specs.declared.topics.Topic.TheVariants.{Nothing as NoTopic, Booked, Offer as OfferTopic}
+use Rattle.rtsp_methods.specs.declared.topics.Topic.TheVariants.{Unknown}
 use Rattle.session.specs.declared.plans.Planned.{Planned}
-use Rattle.rtsp_replies.specs.declared.refusals.Refusal.{Refusal}
-use Rattle.rtsp_replies.specs.declared.refusals.Refusal.TheVariants.{BadRequest, Version, Method}
-use Rattle.rtsp_replies.specs.declared.refusals.Refusal.TheVariants.{Option as Required, Session, Film}
-use Rattle.rtsp_replies.specs.declared.refusals.Refusal.TheVariants.{State as NotNow, Transport}
-use Rattle.rtsp_replies.specs.declared.refusals.Refusal.TheVariants.{Parameter, Buffer, Range, Memory}
+use Rattle.rtsp_methods.specs.declared.refusals.Refusal.{Refusal}
+use Rattle.rtsp_methods.specs.declared.refusals.Refusal.TheVariants.{BadRequest, Version, Method}
+use Rattle.rtsp_methods.specs.declared.refusals.Refusal.TheVariants.{Option as Required, Session, Film}
+use Rattle.rtsp_methods.specs.declared.refusals.Refusal.TheVariants.{State as NotNow, Transport}
+use Rattle.rtsp_methods.specs.declared.refusals.Refusal.TheVariants.{Parameter, Buffer, Range, Memory}
 use Rattle.session.specs.declared.refusals.Task.{Task}
 use Rattle.session.specs.declared.refusals.Task.TheVariants.{Options as ToOptions}
 use Rattle.session.specs.declared.refusals.Task.TheVariants.{Describe as ToDescribe}
@@ -39,9 +39,10 @@ use Rattle.session.specs.declared.states.State.{State}
 use Rattle.session.specs.declared.states.State.TheVariants.{Init, Ready, Playing, Stopping}
 use Rattle.session.specs.Laws.{IsTeardown}
 use Rattle.session.specs.RequestSteps.{Hears, is_answered, is_torn}
-use Rattle.session.specs.RefusalOrder.{IsJudged, IsReadAs, option_of}
-use Rattle.rtsp_replies.specs.Methods.{IsTopic, IsWord}
-use Rattle.rtsp_replies.specs.Refusals.{fault_refusal}
+use Rattle.session.specs.RefusalOrder.{IsJudged, IsReadAs}
+use Rattle.rtsp_methods.specs.RequiredOptions.{option_of}
+use Rattle.rtsp_methods.specs.Methods.{IsTopic, IsWord}
+use Rattle.rtsp_methods.specs.Refusals.{fault_refusal}
 use Rattle.session.specs.Laws.{IsOfMethod, IsOutOfMemory, MayRunOutOfMemory}
 use Rattle.session.specs.Methods.{AsksHalt, AsksLook, AsksOffer, AsksOfferOr, AsksPlayOr, Gets, play_call}
 use Rattle.session.specs.Methods.{GetsOffer, IsRefused, IsReplied, IsSetUp, Looks, Pauses, Plays}
@@ -49,7 +50,7 @@ use Rattle.session.specs.Methods.{Takes, TearsDown, play_front, prepared_of}
 use Rattle.session.specs.RequestedPlans.{IsPlanned, IsPlannedRun}
 use Rattle.film_streams.specs.SettingRanges.{AreSettings, IsSetup}
 use Rattle.rtsp_replies.specs.Replies.{setup_text}
-use Rattle.session.specs.Setups.{IsSetupRead}
+use Rattle.film_streams.specs.Setups.{IsSetupRead}
 use Rattle.film_streams.specs.Setups.{AsksForSetup, IsChosen}
 use Rattle.session.specs.SessionStates.{IsReadyIn, SessionState, has_session_in, with_reply}
 use Rattle.session.proofs.ResumedPlayLemmas.{of_film}

@@ -8,7 +8,7 @@ use Rattle.film_run.specs.declared.runs.Run.{Run}
 use Rattle.session.specs.declared.commands.Ask.{Ask}
 use Rattle.session.specs.declared.commands.Ask.TheVariants.{Play as AskPlay}
 use Rattle.session.specs.declared.plans.Planned.{Planned}
-use Rattle.rtsp_replies.specs.declared.refusals.Refusal.{Refusal}
+use Rattle.rtsp_methods.specs.declared.refusals.Refusal.{Refusal}
 use Rattle.session.specs.declared.refusals.Task.{Task}
 use Rattle.session.specs.declared.refusals.Task.TheVariants.{Options as ToOptions}
 use Rattle.session.specs.declared.refusals.Task.TheVariants.{Describe as ToDescribe}
@@ -37,20 +37,21 @@ use Rattle.session.proofs.RequestCaseAnalysis.{AsksForOffer, comes_to, is_memory
 abbrev pub Changes : Ask → SessionState → SessionState → Type 0
 Changes ask old new = IsSameContext old new × ChangesState ask old new
 
+-- a session that is made of the old one, and what was asked for
+changed : {old made new : SessionState} {asked ask : Ask} → ask ≡ asked → new ≡ made → IsSameContext old made
+    → ChangesState asked old new → Changes ask old new
+changed {old} {new} command is same state =
+    subst (λ a. Changes a old new) (sym command) (subst (IsSameContext old) (sym is) same, state)
+
+state_of : {new made : SessionState} → new ≡ made → new.state ≡ made.state
+state_of is = ap (λ (s : SessionState). s.state) is
+
 replied_changes : (old : SessionState) (text : List ℕ) (ask : Ask) (new : SessionState) → IsReplied old text ask new
     → Changes ask old new
 replied_changes old text ask new is =
-    subst (λ a. Changes a old new) (sym is.0) (
-      subst (IsSameContext old) (sym is.1) (record {
-        films = refl;
-        settings = refl;
-        source = refl;
-        counts = refl;
-        heard = refl;
-        plays = refl;
-      }),
-      inl (ap (λ (s : SessionState). s.state) is.1),
-    )
+    changed is.0 is.1
+    (record { films = refl; settings = refl; source = refl; counts = refl; heard = refl; plays = refl })
+    (inl (state_of is.1))
 
 play_asked : {old new : SessionState} {stored : Stored} {setup : Setup} {paused : Option Run} {range : Option (List ℕ)}
     {planned : Planned} (sequence : ℕ) (authority : List ℕ) → old.state ≡ Ready setup paused
@@ -81,72 +82,39 @@ comes_changes : (old new : SessionState) (message : List ℕ) (ask : Ask) → Co
 comes_changes old new message ask (Lacks may is) = replied_changes old _ ask new is
 comes_changes old new message ask (Refuses sequence refusal option other is) = replied_changes old _ ask new is
 comes_changes old new message ask (Says sequence fields body tearing by command is) =
-    subst (λ a. Changes a old new) (sym command) (
-      subst (IsSameContext old) (sym is) (record {
-        films = refl;
-        settings = refl;
-        source = refl;
-        counts = refl;
-        heard = refl;
-        plays = refl;
-      }),
-      inl (ap (λ (s : SessionState). s.state) is),
-    )
+    changed command is
+    (record { films = refl; settings = refl; source = refl; counts = refl; heard = refl; plays = refl })
+    (inl (state_of is))
 comes_changes old new message ask (SettlesSetup sequence setup init ranges command is) =
-    subst (λ a. Changes a old new) (sym command) (
-      subst (IsSameContext old) (sym is) (record {
-        films = refl;
-        settings = refl;
-        source = refl;
-        counts = refl;
-        heard = refl;
-        plays = refl;
-      }),
-      inr (record { setup = setup; state = ap (λ (s : SessionState). s.state) is; ranges = ranges }),
-    )
+    changed command is
+    (record { films = refl; settings = refl; source = refl; counts = refl; heard = refl; plays = refl })
+    (inr (record { setup = setup; state = state_of is; ranges = ranges }))
 comes_changes old new message ask
     (AsksForPlay stored setup paused range planned sequence authority ready planned_is command is) =
-    subst (λ a. Changes a old new) (sym command) (
-      subst (IsSameContext old) (sym is) (record {
-        films = refl;
-        settings = refl;
-        source = refl;
-        counts = refl;
-        heard = refl;
-        plays = refl;
-      }),
-      (
-        ap (λ (s : SessionState). s.state) is,
-        play_asked sequence authority ready planned_is is,
-      ),
-    )
+    changed command is
+    (record { films = refl; settings = refl; source = refl; counts = refl; heard = refl; plays = refl })
+    (state_of is, play_asked sequence authority ready planned_is is)
 comes_changes old new message ask (AsksForHalt sequence setup play next playing told by halts) =
-    subst (λ a. Changes a old new) (sym halts.command) (
-      subst (IsSameContext old) (sym halts.state)
-          (record { films = refl; settings = refl; source = refl; counts = refl; heard = refl; plays = refl }),
-      record {
-        setup = setup;
-        play = play;
-        keep = halts.keep;
-        next = next;
-        was = playing;
-        keep_is = halts.keep_is;
-        now = ap (λ (s : SessionState). s.state) halts.state;
-        awaited = ap (λ (s : SessionState). s.awaited) halts.state;
-      },
-    )
+    changed halts.command halts.state
+    (record { films = refl; settings = refl; source = refl; counts = refl; heard = refl; plays = refl })
+    (record {
+      setup = setup;
+      play = play;
+      keep = halts.keep;
+      next = next;
+      was = playing;
+      keep_is = halts.keep_is;
+      now = state_of halts.state;
+      awaited = ap (λ (s : SessionState). s.awaited) halts.state;
+    })
 comes_changes old new message ask (AsksForLook sequence look) =
-    subst (λ a. Changes a old new) (sym look.command) (
-      subst (IsSameContext old) (sym look.state)
-          (record { films = refl; settings = refl; source = refl; counts = refl; heard = refl; plays = refl }),
-      ap (λ (s : SessionState). s.state) look.state,
-    )
+    changed look.command look.state
+    (record { films = refl; settings = refl; source = refl; counts = refl; heard = refl; plays = refl })
+    (state_of look.state)
 comes_changes old new message ask (AsksForOffer sequence wait planned asks) =
-    subst (λ a. Changes a old new) (sym asks.command) (
-      subst (IsSameContext old) (sym asks.state)
-          (record { films = refl; settings = refl; source = refl; counts = refl; heard = refl; plays = refl }),
-      ap (λ (s : SessionState). s.state) asks.state,
-    )
+    changed asks.command asks.state
+    (record { films = refl; settings = refl; source = refl; counts = refl; heard = refl; plays = refl })
+    (state_of asks.state)
 
 pub hears_ground : (old new : SessionState) (message : List ℕ) (ask : Ask) → Hears old message ask new
     → IsSameContext old new

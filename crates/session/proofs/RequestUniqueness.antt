@@ -10,22 +10,22 @@ use Rattle.rtsp_fields.proofs.PartLemmas.{within_once}
 use Rattle.rtsp_fields.proofs.PartPlaces.{end_once}
 use Rattle.rtsp_text.specs.Fields.{first_number, first_sequence, first_value, header_value, sequence_number, value_in}
 use Rattle.rtsp_text.specs.Lines.{header_lines}
-use Rattle.rtsp_replies.specs.declared.methods.Topic.{Topic}
-use Rattle.rtsp_replies.specs.declared.methods.Topic.TheVariants.{Nothing as NoTopic, Booked, Offer as OfferTopic}
-use Rattle.rtsp_replies.specs.declared.methods.Topic.TheVariants.{Unknown}
-use Rattle.rtsp_replies.specs.declared.refusals.Refusal.{Refusal}
-use Rattle.rtsp_replies.specs.declared.refusals.Refusal.TheVariants.{BadRequest, Version}
-use Rattle.rtsp_replies.specs.declared.refusals.Refusal.TheVariants.{Method as UnknownMethod}
-use Rattle.rtsp_replies.specs.declared.refusals.Refusal.TheVariants.{Option as Required, Session, Film}
-use Rattle.rtsp_replies.specs.declared.refusals.Refusal.TheVariants.{State as NotNow, Transport}
-use Rattle.rtsp_replies.specs.declared.refusals.Refusal.TheVariants.{Parameter, Buffer, Range, Memory}
+use Rattle.rtsp_methods.specs.declared.topics.Topic.{Topic}
+use Rattle.rtsp_methods.specs.declared.topics.Topic.TheVariants.{Nothing as NoTopic, Booked, Offer as OfferTopic}
+use Rattle.rtsp_methods.specs.declared.topics.Topic.TheVariants.{Unknown}
+use Rattle.rtsp_methods.specs.declared.refusals.Refusal.{Refusal}
+use Rattle.rtsp_methods.specs.declared.refusals.Refusal.TheVariants.{BadRequest, Version}
+use Rattle.rtsp_methods.specs.declared.refusals.Refusal.TheVariants.{Method as UnknownMethod}
+use Rattle.rtsp_methods.specs.declared.refusals.Refusal.TheVariants.{Option as Required, Session, Film}
+use Rattle.rtsp_methods.specs.declared.refusals.Refusal.TheVariants.{State as NotNow, Transport}
+use Rattle.rtsp_methods.specs.declared.refusals.Refusal.TheVariants.{Parameter, Buffer, Range, Memory}
 use Rattle.film_streams.specs.declared.setups.Setup.{Setup}
 use Rattle.film_streams.specs.declared.settings.Settings.{Settings}
 use Rattle.film_streams.specs.Films.{Names}
-use Rattle.rtsp_replies.specs.Methods.{IsTopic, IsWord}
+use Rattle.rtsp_methods.specs.Methods.{IsTopic, IsWord}
 use Rattle.session.specs.Methods.{IsWaitOf}
 use Rattle.film_streams.specs.SettingRanges.{AreFilms}
-use Rattle.session.specs.Setups.{IsSetupRead}
+use Rattle.film_streams.specs.Setups.{IsSetupRead}
 use Rattle.film_streams.specs.Setups.{AreChannelsOf, AsksForSetup, HasChannels, IsChosen}
 use Rattle.film_streams.specs.Setups.{HasNoMeaning}
 use Rattle.film_streams.proofs.FilmUrlLemmas.{film_once, named_once}

@@ -5,9 +5,9 @@ use Rattle.rtsp_text.specs.declared.requests.Request.{Request}
 use Rattle.session.specs.SessionStates.{has_session_in}
 use Rattle.session.specs.Tasks.{IsAsked, IsTask, IsValid, NeedsSession}
 use Rattle.session.specs.RefusalOrder.{IsOnFilm, IsOwnTalk, IsTaken, IsTimely, task_for}
-use Rattle.rtsp_replies.specs.declared.methods.Method.{Method}
-use Rattle.rtsp_replies.specs.declared.methods.Method.TheVariants.{Options, Describe, Setup, Play, Pause, Teardown}
-use Rattle.rtsp_replies.specs.declared.methods.Method.TheVariants.{GetParameter}
+use Rattle.rtsp_methods.specs.declared.methods.Method.{Method}
+use Rattle.rtsp_methods.specs.declared.methods.Method.TheVariants.{Options, Describe, Setup, Play, Pause, Teardown}
+use Rattle.rtsp_methods.specs.declared.methods.Method.TheVariants.{GetParameter}
 use Rattle.film_streams.specs.declared.films.Asked.{Asked}
 use Rattle.session.specs.declared.states.State.{State as StateKind}
 

@@ -17,7 +17,7 @@ use Rattle.session.specs.declared.play_requests.PlayRequest.TheVariants.{New}
 use Rattle.session.specs.declared.states.State.{State}
 use Rattle.session.specs.declared.states.State.TheVariants.{Init, Ready, Playing, Stopping}
 use Rattle.rtsp_text.specs.Fields.{first_sequence}
-use Rattle.rtsp_replies.specs.declared.refusals.Refusal.TheVariants.{Memory}
+use Rattle.rtsp_methods.specs.declared.refusals.Refusal.TheVariants.{Memory}
 use Rattle.session.specs.RequestEffects.{HasCode}
 use Rattle.session.specs.RefusalOrder.{IsReadAs}
 use Rattle.session.specs.LookLaws.{AsksBooked}

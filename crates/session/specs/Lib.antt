@@ -2,7 +2,6 @@ pub mod RunRequests
 pub mod ResumedPlays
 pub mod Tasks
 pub mod RefusalOrder
-pub mod Setups
 pub mod SlotTransitions
 pub mod SessionStates
 pub mod SlotSteps

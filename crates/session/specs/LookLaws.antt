@@ -12,7 +12,7 @@ use Rattle.session.specs.RequestSteps.{Hears, after_admission, after_full, after
 use Rattle.session.specs.RequestSteps.{after_look}
 use Rattle.session.specs.RequestSteps.{after_offer, after_overflow, new_session_state}
 use Rattle.session.specs.RefusalOrder.{IsReadAs}
-use Rattle.rtsp_replies.specs.Methods.{IsWord}
+use Rattle.rtsp_methods.specs.Methods.{IsWord}
 use Rattle.session.specs.SlotSteps.{sent_reply, after_slot}
 use Rattle.session.specs.SessionStates.{SessionState}
 

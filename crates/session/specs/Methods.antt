@@ -19,14 +19,14 @@ use Rattle.session.specs.RunRequests.{playback_of}
 use Rattle.session.specs.declared.commands.Ask.{Ask}
 use Rattle.session.specs.declared.commands.Ask.TheVariants.{Reply, Play as AskPlay, Halt as AskHalt}
 use Rattle.session.specs.declared.commands.Ask.TheVariants.{Look as AskLook, Offer as AskOffer}
-use Rattle.rtsp_replies.specs.declared.methods.Topic.{Topic}
-use Rattle.rtsp_replies.specs.declared.methods.Topic.TheVariants.{Nothing, Booked}
-use Rattle.rtsp_replies.specs.declared.methods.Topic.TheVariants.{Offer as OfferTopic}
-use Rattle.rtsp_replies.specs.declared.methods.Topic.TheVariants.{Unknown}
-use Rattle.rtsp_replies.specs.declared.refusals.Refusal.{Refusal}
-use Rattle.rtsp_replies.specs.declared.refusals.Refusal.TheVariants.{Session as NoSession}
-use Rattle.rtsp_replies.specs.declared.refusals.Refusal.TheVariants.{State as NotNow, Parameter}
-use Rattle.rtsp_replies.specs.declared.refusals.Refusal.TheVariants.{Memory}
+use Rattle.rtsp_methods.specs.declared.topics.Topic.{Topic}
+use Rattle.rtsp_methods.specs.declared.topics.Topic.TheVariants.{Nothing, Booked}
+use Rattle.rtsp_methods.specs.declared.topics.Topic.TheVariants.{Offer as OfferTopic}
+use Rattle.rtsp_methods.specs.declared.topics.Topic.TheVariants.{Unknown}
+use Rattle.rtsp_methods.specs.declared.refusals.Refusal.{Refusal}
+use Rattle.rtsp_methods.specs.declared.refusals.Refusal.TheVariants.{Session as NoSession}
+use Rattle.rtsp_methods.specs.declared.refusals.Refusal.TheVariants.{State as NotNow, Parameter}
+use Rattle.rtsp_methods.specs.declared.refusals.Refusal.TheVariants.{Memory}
 use Rattle.session.specs.declared.refusals.Task.{Task}
 use Rattle.session.specs.declared.refusals.Task.TheVariants.{Options as ToOptions}
 use Rattle.session.specs.declared.refusals.Task.TheVariants.{Describe as ToDescribe}
@@ -44,12 +44,13 @@ use Rattle.session.specs.declared.states.State.TheVariants.{Init, Ready, Playing
 use Rattle.film_streams.specs.Films.{IsFilmAt, length_ms, milliseconds_at}
 use Rattle.film_streams.specs.StreamNumbers.{counts_after, identity_of, timestamp_at}
 use Rattle.session.specs.RunRequests.{sending_of}
-use Rattle.session.specs.RefusalOrder.{IsJudged, option_of}
-use Rattle.rtsp_replies.specs.Methods.{IsTopic}
+use Rattle.session.specs.RefusalOrder.{IsJudged}
+use Rattle.rtsp_methods.specs.RequiredOptions.{option_of}
+use Rattle.rtsp_methods.specs.Methods.{IsTopic}
 use Rattle.rtsp_replies.specs.Replies.{describe_text, plain_text, play_fields, public_text}
 use Rattle.rtsp_replies.specs.Replies.{refusal_text}
 use Rattle.rtsp_replies.specs.Replies.{session_text, setup_text}
-use Rattle.session.specs.Setups.{IsSetupRead}
+use Rattle.film_streams.specs.Setups.{IsSetupRead}
 use Rattle.session.specs.SessionStates.{SessionState, with_reply}
 
 -- the session replies by itself, and nothing else changes

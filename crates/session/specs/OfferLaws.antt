@@ -18,7 +18,7 @@ use Rattle.session.specs.declared.states.Awaited.TheVariants.{Offer}
 use Rattle.film_streams.specs.declared.setups.Setup.{Setup}
 use Rattle.session.specs.declared.states.State.TheVariants.{Ready}
 use Rattle.session.specs.RefusalOrder.{IsReadAs}
-use Rattle.rtsp_replies.specs.Methods.{IsWord}
+use Rattle.rtsp_methods.specs.Methods.{IsWord}
 use Rattle.session.specs.RequestedPlans.{IsPlannedRun}
 use Rattle.session.specs.SessionStates.{SessionState}
 

@@ -1,29 +1,30 @@
 -- The refusals that all methods share, in their order (RFC 2326 sections 7.1.1, 10 and 12).
-use Rattle.std.specs.Prelude.{ℕ, ◌≡◌, ◌≢◌, ⊤, true, false, Bool, List, [], Option, Some}
+use Rattle.std.specs.Prelude.{ℕ, ◌≡◌, ◌≢◌, ⊤, true, false, Bool, List, Option, Some}
 use Rattle.std.specs.Prelude.{None, is_some, codes, Result, Ok, Err}
 use Rattle.rtsp_text.specs.Fields.{header_value}
 use Rattle.rtsp_text.specs.Requests.{IsRequest}
 use Rattle.rtsp_text.specs.declared.requests.Request.{Request}
 use Rattle.rtsp_fields.specs.SessionIds.{IsSession}
 use Rattle.film_frames.specs.declared.stored_films.Stored.{Stored}
-use Rattle.rtsp_replies.specs.Methods.{name_of}
+use Rattle.rtsp_methods.specs.Methods.{name_of}
+use Rattle.rtsp_methods.specs.RequiredOptions.{required_of}
 use Rattle.film_streams.specs.Films.{Names}
 use Rattle.session.specs.SessionStates.{has_session_in, is_playing_in}
 use Rattle.session.specs.declared.states.State.{State as StateKind}
 use Rattle.session.specs.declared.states.State.TheVariants.{Init, Ready, Playing, Stopping}
-use Rattle.rtsp_replies.specs.declared.methods.Method.{Method}
-use Rattle.rtsp_replies.specs.declared.methods.Method.TheVariants.{Options, Describe, Setup, Play}
-use Rattle.rtsp_replies.specs.declared.methods.Method.TheVariants.{Pause}
-use Rattle.rtsp_replies.specs.declared.methods.Method.TheVariants.{Teardown, GetParameter}
+use Rattle.rtsp_methods.specs.declared.methods.Method.{Method}
+use Rattle.rtsp_methods.specs.declared.methods.Method.TheVariants.{Options, Describe, Setup, Play}
+use Rattle.rtsp_methods.specs.declared.methods.Method.TheVariants.{Pause}
+use Rattle.rtsp_methods.specs.declared.methods.Method.TheVariants.{Teardown, GetParameter}
 use Rattle.film_streams.specs.declared.films.Asked.{Asked}
-use Rattle.rtsp_replies.specs.declared.refusals.Refusal.{Refusal}
-use Rattle.rtsp_replies.specs.declared.refusals.Refusal.TheVariants.{BadRequest, Version}
-use Rattle.rtsp_replies.specs.declared.refusals.Refusal.TheVariants.{Method as Unknown}
-use Rattle.rtsp_replies.specs.declared.refusals.Refusal.TheVariants.{Option as Required, Session}
-use Rattle.rtsp_replies.specs.declared.refusals.Refusal.TheVariants.{Film}
-use Rattle.rtsp_replies.specs.declared.refusals.Refusal.TheVariants.{State, Transport, Parameter}
-use Rattle.rtsp_replies.specs.declared.refusals.Refusal.TheVariants.{Buffer}
-use Rattle.rtsp_replies.specs.declared.refusals.Refusal.TheVariants.{Range, Memory}
+use Rattle.rtsp_methods.specs.declared.refusals.Refusal.{Refusal}
+use Rattle.rtsp_methods.specs.declared.refusals.Refusal.TheVariants.{BadRequest, Version}
+use Rattle.rtsp_methods.specs.declared.refusals.Refusal.TheVariants.{Method as Unknown}
+use Rattle.rtsp_methods.specs.declared.refusals.Refusal.TheVariants.{Option as Required, Session}
+use Rattle.rtsp_methods.specs.declared.refusals.Refusal.TheVariants.{Film}
+use Rattle.rtsp_methods.specs.declared.refusals.Refusal.TheVariants.{State, Transport, Parameter}
+use Rattle.rtsp_methods.specs.declared.refusals.Refusal.TheVariants.{Buffer}
+use Rattle.rtsp_methods.specs.declared.refusals.Refusal.TheVariants.{Range, Memory}
 use Rattle.session.specs.declared.refusals.Task.{Task}
 use Rattle.session.specs.declared.refusals.Task.TheVariants.{Options as ToOptions}
 use Rattle.session.specs.declared.refusals.Task.TheVariants.{Describe as ToDescribe}
@@ -32,20 +33,11 @@ use Rattle.session.specs.declared.refusals.Task.TheVariants.{Pause as ToPause}
 use Rattle.session.specs.declared.refusals.Task.TheVariants.{Teardown as ToTeardown}
 use Rattle.session.specs.declared.refusals.Task.TheVariants.{GetParameter as ToGetParameter}
 
-abbrev pub first_of : Option (List ℕ) → Option (List ℕ) → Option (List ℕ)
-first_of None other = other
-first_of (Some value) other = Some value
-
 -- a message is read as this request
 abbrev pub IsReadAs : List ℕ → Request → Type 0
 IsReadAs message request =
     IsRequest message request.method.now request.url.now request.sequence request.head.now
     request.body.now
-
--- the options that a request requires
-abbrev pub required_of : List ℕ → Option (List ℕ)
-required_of head = first_of (header_value head (codes "Require"))
-    (header_value head (codes "Proxy-Require"))
 
 -- the session that is named, where one is, is the one that exists
 abbrev pub IsOwnSession : Bool → List ℕ → Option (List ℕ) → Type 0 → Type 0
@@ -90,14 +82,6 @@ task_for Play asked = ToPlay asked
 task_for Pause asked = ToPause
 task_for Teardown asked = ToTeardown
 task_for GetParameter asked = ToGetParameter
-
--- the options that are required, as a reply repeats them
-abbrev pub or_nothing : Option (List ℕ) → List ℕ
-or_nothing None = []
-or_nothing (Some value) = value
-
-abbrev pub option_of : List ℕ → List ℕ
-option_of head = or_nothing (required_of head)
 
 -- the film is the session's, where there is one
 abbrev pub IsOwnFilm : StateKind → ℕ → Type 0

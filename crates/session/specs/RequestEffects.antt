@@ -12,8 +12,8 @@ use Rattle.session.specs.declared.commands.Ask.{Ask}
 use Rattle.session.specs.declared.commands.Ask.TheVariants.{Reply, Play as AskPlay, Halt as AskHalt}
 use Rattle.session.specs.declared.commands.Ask.TheVariants.{Look as AskLook, Offer as AskOffer}
 use Rattle.session.specs.declared.plans.Planned.{Planned}
-use Rattle.rtsp_replies.specs.declared.refusals.Refusal.{Refusal}
-use Rattle.rtsp_replies.specs.declared.refusals.Refusal.TheVariants.{Memory}
+use Rattle.rtsp_methods.specs.declared.refusals.Refusal.{Refusal}
+use Rattle.rtsp_methods.specs.declared.refusals.Refusal.TheVariants.{Memory}
 use Rattle.session.specs.declared.states.Awaited.TheVariants.{Play, Halt}
 use Rattle.session.specs.declared.states.AfterHalt.{AfterHalt}
 use Rattle.session.specs.declared.states.AfterHalt.TheVariants.{Done}
@@ -21,8 +21,8 @@ use Rattle.session.specs.declared.states.Play.{Play as Played}
 use Rattle.film_streams.specs.declared.setups.Setup.{Setup}
 use Rattle.session.specs.declared.states.State.TheVariants.{Ready, Playing}
 use Rattle.session.specs.RefusalOrder.{IsJudged}
-use Rattle.rtsp_replies.specs.Methods.{name_of}
-use Rattle.rtsp_replies.specs.declared.methods.Method.TheVariants.{Play as PlayMethod}
+use Rattle.rtsp_methods.specs.Methods.{name_of}
+use Rattle.rtsp_methods.specs.declared.methods.Method.TheVariants.{Play as PlayMethod}
 use Rattle.session.specs.Methods.{IsRefused, play_front, prepared_of}
 use Rattle.session.specs.RequestedPlans.{IsPlanned, IsPlannedRun}
 use Rattle.film_streams.specs.SettingRanges.{AreSettings, IsSetup}

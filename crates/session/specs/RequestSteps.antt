@@ -19,7 +19,7 @@ use Rattle.session.specs.declared.states.Awaited.{Awaited}
 use Rattle.session.specs.declared.states.Awaited.TheVariants.{Nothing, Play, Halt, Look, Offer}
 use Rattle.film_streams.specs.declared.stream_numbers.Counts.{Counts}
 use Rattle.session.specs.RefusalOrder.{IsReadAs}
-use Rattle.rtsp_replies.specs.Refusals.{fault_refusal}
+use Rattle.rtsp_methods.specs.Refusals.{fault_refusal}
 use Rattle.session.specs.Methods.{HearsRequest, IsRefused}
 use Rattle.rtsp_replies.specs.Replies.{full_text, look_body, offer_body, overflow_text}
 use Rattle.rtsp_replies.specs.Replies.{parameters_text, started_text}

@@ -7,15 +7,15 @@ use Rattle.film_run.specs.declared.runs.Run.{Run}
 use Rattle.film_run.specs.Plans.{CanPlay, IsPlanOf, rest_sizes, timing_of}
 use Rattle.film_run.specs.Units.{stored_sizes}
 use Rattle.session.specs.declared.plans.Planned.{Planned}
-use Rattle.rtsp_replies.specs.declared.refusals.Refusal.{Refusal}
-use Rattle.rtsp_replies.specs.declared.refusals.Refusal.TheVariants.{Range}
+use Rattle.rtsp_methods.specs.declared.refusals.Refusal.{Refusal}
+use Rattle.rtsp_methods.specs.declared.refusals.Refusal.TheVariants.{Range}
 use Rattle.film_streams.specs.declared.stream_numbers.Counts.{Counts}
 use Rattle.film_streams.specs.declared.setups.Setup.{Setup}
 use Rattle.film_streams.specs.declared.stream_numbers.StreamSource.{StreamSource}
 use Rattle.session.specs.declared.play_requests.PlayRequest.{PlayRequest}
 use Rattle.film_streams.specs.Films.{IsFilmAt, OfFilm}
 use Rattle.session.specs.RunRequests.{IsAskedRun, IsNoRange, IsRunOf, counts_for}
-use Rattle.rtsp_replies.specs.Refusals.{curve_refusal}
+use Rattle.rtsp_methods.specs.Refusals.{curve_refusal}
 use Rattle.session.specs.RunRequests.{playback_of, run_of}
 use Rattle.session.specs.SessionStates.{SessionState}
 

@@ -176,6 +176,11 @@ pub record IsSameStationState (old new : SessionState) : Type 0 where
   pub torn : new.torn ≡ old.torn
   pub lost : new.lost ≡ old.lost
 
+-- what a request leaves: it asks for what the session awaits, and the rest stays as it was
+pub record LeavesFor (ask : Ask) (old new : SessionState) : Type 0 where
+  pub asks : AsksFor ask new
+  pub same : IsSameStationState old new
+
 -- an answer was handed in: a receipt is noted, and nothing is awaited
 pub record IsAnswerRecorded (old : SessionState) (receipt : Receipt) (new : SessionState) : Type 0
   where

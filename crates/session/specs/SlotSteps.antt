@@ -12,6 +12,7 @@ use Rattle.session.specs.declared.states.AfterHalt.{AfterHalt}
 use Rattle.session.specs.declared.states.AfterHalt.TheVariants.{Done, Paused, Torn}
 use Rattle.session.specs.declared.states.Awaited.{Awaited}
 use Rattle.session.specs.declared.states.Awaited.TheVariants.{Nothing, Play, Halt, Look, Offer}
+use Rattle.session.specs.declared.states.Prepared.{Prepared}
 use Rattle.session.specs.declared.states.State.{State}
 use Rattle.session.specs.declared.states.State.TheVariants.{Init, Ready, Playing, Stopping}
 use Rattle.session_records.specs.declared.notes.PlayNote.{PlayNote}
@@ -61,17 +62,22 @@ step_bytes stop slot (Playing setup play) =
 step_bytes stop slot (Stopping setup halted) =
     plan_bytes halted.pacer halted.pacer.sent (step_end stop (at_slot slot halted.pacer))
 
--- the state once a play is admitted: its pacer has sent nothing
-abbrev pub admitted_in : State → Awaited → ℕ → ℕ → State
-admitted_in Init awaited place start = Init
-admitted_in (Ready setup paused) Nothing place start = Ready setup paused
-admitted_in (Ready setup paused) (Play prepared) place start = Playing setup (record {
+-- the play once it is admitted: its pacer has sent nothing
+abbrev pub play_of : Prepared → ℕ → ℕ → Played
+play_of prepared place start = record {
   run = prepared.run;
   place = place;
   start = start;
   plan = prepared.plan;
   pacer = new_pacer_state (run_pieces prepared.frames) prepared.run.sent prepared.paced start;
-})
+}
+
+-- the state once a play is admitted
+abbrev pub admitted_in : State → Awaited → ℕ → ℕ → State
+admitted_in Init awaited place start = Init
+admitted_in (Ready setup paused) Nothing place start = Ready setup paused
+admitted_in (Ready setup paused) (Play prepared) place start =
+    Playing setup (play_of prepared place start)
 admitted_in (Ready setup paused) (Halt keep next) place start = Ready setup paused
 admitted_in (Ready setup paused) (Look sequence) place start = Ready setup paused
 admitted_in (Ready setup paused) (Offer sequence) place start = Ready setup paused

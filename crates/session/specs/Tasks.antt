@@ -1,5 +1,5 @@
 -- What is known of a request that is processed.
-use Rattle.std.specs.Prelude.{ℕ, ◌≡◌, ◌<◌, ◌≤◌, ⊤, false, true, Bool, length}
+use Rattle.std.specs.Prelude.{ℕ, ◌≡◌, ◌<◌, ◌≤◌, ⊤, false, true, Bool, List, length}
 use Rattle.interleave.specs.declared.message_heads.TheConstants.{MAX_HEAD_BYTES}
 use Rattle.rtsp_text.specs.Lines.{is_one_line}
 use Rattle.film_streams.specs.declared.films.Asked.{Asked}
@@ -12,10 +12,15 @@ use Rattle.session.specs.declared.refusals.Task.TheVariants.{Pause as ToPause}
 use Rattle.session.specs.declared.refusals.Task.TheVariants.{Teardown as ToTeardown}
 use Rattle.session.specs.declared.refusals.Task.TheVariants.{GetParameter as ToGetParameter}
 use Rattle.session.specs.declared.states.State.{State}
-use Rattle.rtsp_replies.specs.declared.methods.Method.{Method}
-use Rattle.rtsp_replies.specs.declared.methods.Method.TheVariants.{Options, Describe, Setup, Play}
-use Rattle.rtsp_replies.specs.declared.methods.Method.TheVariants.{Pause}
-use Rattle.rtsp_replies.specs.declared.methods.Method.TheVariants.{Teardown, GetParameter}
+use Rattle.rtsp_methods.specs.declared.methods.Method.{Method}
+use Rattle.rtsp_methods.specs.declared.methods.Method.TheVariants.{Options, Describe, Setup, Play}
+use Rattle.rtsp_methods.specs.declared.methods.Method.TheVariants.{Pause}
+use Rattle.rtsp_methods.specs.declared.methods.Method.TheVariants.{Teardown, GetParameter}
+
+-- an authority that a reply can repeat
+pub record IsAuthority (authority : List ℕ) : Type 0 where
+  pub short : length authority ≤ MAX_HEAD_BYTES
+  pub line : is_one_line authority ≡ true
 
 -- a film of the server, under an authority that a reply repeats
 pub record IsAsked (films : ℕ) (asked : Asked) : Type 0 where

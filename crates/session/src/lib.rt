@@ -10,7 +10,6 @@ mod play_requests;
 mod refusals;
 mod requests;
 mod sessions;
-mod setups;
 mod slots;
 mod states;
 mod station_answers;

@@ -5,8 +5,7 @@ ghost use Rattle.film_run.specs.Plans.{IsPlayback};
 ghost use Rattle.film_streams.specs.Films.{OfFilm};
 ghost use Rattle.session.specs.RequestedPlans.{IsPausedIn, IsPlanned};
 ghost use Rattle.session.specs.RunRequests.{IsAskedRun, IsPlayable, IsRunOf, counts_before};
-ghost use Rattle.session.specs.RunRequests.{counts_for};
-ghost use Rattle.session.specs.RunRequests.{playback_of, run_of};
+ghost use Rattle.session.specs.RunRequests.{counts_for, playback_of, run_of};
 ghost use Rattle.film_streams.specs.SettingRanges.{AreSettings, IsSetup};
 
 use crate::films::{frames_of, stored_at};
@@ -17,7 +16,7 @@ use film_run::{Playback, Run, plan_of};
 use film_streams::{Counts, Settings, Setup, StreamSource, counts_after};
 use mpeg_scan::Film;
 use plan_cert::Plan;
-use rtsp_replies::Refusal;
+use rtsp_methods::Refusal;
 
 /// A run that is to be sent, what was sent before it, and the plan by which it is sent.
 #[derive(Drop)]

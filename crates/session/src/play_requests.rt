@@ -4,8 +4,7 @@ ghost use Rattle.std.specs.Prelude.{◌≡◌, ℕ, MatchOption, option_map};
 ghost use Rattle.rtsp_fields.specs.declared.ranges.Span.{Span};
 ghost use Rattle.film_run.specs.Seeks.{HasNothing};
 ghost use Rattle.session.specs.RunRequests.{IsAskedRun, IsNoRange, IsSpanOf, IsRequestFor};
-ghost use Rattle.session.specs.RunRequests.{RequestsNewRun};
-ghost use Rattle.session.specs.RunRequests.{RequestsNothing};
+ghost use Rattle.session.specs.RunRequests.{RequestsNewRun, RequestsNothing};
 
 use film_run::{Run, run_between};
 use mpeg_scan::Film;

@@ -1,11 +1,11 @@
 //! Whether a request can be done, and the refusal where it can't.
 
-ghost use Rattle.std.specs.Prelude.{◌≡◌, ◌≤◌, true, List, length};
-ghost use Rattle.std.specs.Prelude.{IfOk, IsTrue, IfSome, MatchOption, ◌↔◌};
-ghost use Rattle.std.specs.Prelude.{option_map, IfErr, Err};
+ghost use Rattle.std.specs.Prelude.{◌≡◌, ◌≤◌, true, List, length, IfOk, IsTrue, IfSome};
+ghost use Rattle.std.specs.Prelude.{MatchOption, ◌↔◌, option_map, IfErr, Err};
 ghost use Rattle.film_frames.specs.declared.stored_films.Stored.{Stored};
 ghost use Rattle.session.specs.RefusalOrder.{FitsFilm, FitsSession, FitsState, HasFilm, IsJudged};
-ghost use Rattle.session.specs.RefusalOrder.{IsOnFilm, IsOwnTalk, option_of, required_of, task_for};
+ghost use Rattle.session.specs.RefusalOrder.{IsOnFilm, IsOwnTalk, task_for};
+ghost use Rattle.rtsp_methods.specs.RequiredOptions.{option_of, required_of};
 ghost use Rattle.film_streams.specs.SettingRanges.{AreFilms};
 ghost use Rattle.session.specs.SessionStates.{has_session_in};
 ghost use Rattle.rtsp_text.specs.Lines.{is_one_line};
@@ -16,7 +16,9 @@ use film_frames::Stored;
 use film_streams::{Asked, asked_film};
 use interleave::MAX_HEAD_BYTES;
 use rtsp_fields::session_matches;
-use rtsp_replies::{Method, Refusal, read_method};
+use rtsp_methods::{
+    FilmNeed, Method, Refusal, SessionNeed, StateNeed, read_method, required_options, row_of,
+};
 use rtsp_text::{Request, header};
 
 /// A request that is processed.
@@ -36,15 +38,6 @@ pub enum Task<'m> {
     Teardown,
     /// Answers what the body asks for.
     GetParameter,
-}
-
-/// What a reply says of the options that a request requires.
-pub(crate) fn option_of<'m>(request: &Request<'m>) -> &'m [u8]
-    ensures option { result.now ≡ option_of request.now.head.now }
-    ensures short { length result.now ≤ length request.now.head.now }
-    ensures line { is_one_line result.now ≡ true }
-{
-    required_options(request).unwrap_or(b"")
 }
 
 /// Judges a well formed request by the refusals that all methods share, in their order: the method
@@ -111,19 +104,6 @@ fn own_film<'m>(
     }
 }
 
-/// The options that a request requires.
-fn required_options<'m>(request: &Request<'m>) -> Option<&'m [u8]>
-    ensures value { option_map (λ option. option.now) result ≡ required_of request.now.head.now }
-    ensures short { IfSome result (λ option. length option.now ≤ length request.now.head.now) }
-    ensures line { IfSome result (λ option. is_one_line option.now ≡ true) }
-{
-    match header(request, b"Require") {
-        Some(option) => Some(option),
-        // RFC 2326 section 12.27: a server treats it as `Require`.
-        None => header(request, b"Proxy-Require"),
-    }
-}
-
 /// Whether the session that a request names, or names not, goes with its method.
 fn fits_session(method: Method, exists: bool, id: &[u8; 16], named: Option<&[u8]>) -> bool
     ensures fits { IsTrue result ↔
@@ -135,11 +115,10 @@ fn fits_session(method: Method, exists: bool, id: &[u8; 16], named: Option<&[u8]
         Some(value) => exists && session_matches(value, id),
         None => false,
     };
-    match method {
-        Method::Options | Method::Describe => true,
-        // Both are of use before there is a session: SETUP makes it, and a look needs none.
-        Method::Setup | Method::GetParameter => named.is_none() || matches,
-        Method::Play | Method::Pause | Method::Teardown => matches,
+    match row_of(method).session {
+        SessionNeed::Ignored => true,
+        SessionNeed::MayBeNamed => named.is_none() || matches,
+        SessionNeed::MustBeNamed => matches,
     }
 }
 
@@ -154,10 +133,9 @@ fn is_own(method: Method, state: &State<'_>, film: usize) -> bool
             film == setup.film
         }
     };
-    match method {
-        // Any film can be described, also during a session of another one.
-        Method::Options | Method::Describe => true,
-        _ => own,
+    match row_of(method).film {
+        FilmNeed::Any => true,
+        FilmNeed::Own => own,
     }
 }
 
@@ -166,14 +144,11 @@ fn is_valid(method: Method, state: &State<'_>, has_range: bool) -> bool
     ensures fits { IsTrue result ↔ FitsState method state.now has_range }
     ensures valid { IsTrue result → IsValid method state.now }
 {
-    match method {
-        // One session a connection, of one film: a second SETUP is 455.
-        Method::Setup => !state.has_session(),
-        // No queue of plays: it would need reservations for plays that have no start yet.
-        Method::Play => !state.is_playing() || !has_range,
-        // A play that sent its last byte is over, so a PAUSE is then 455.
-        Method::Pause => state.is_playing(),
-        _ => true,
+    match row_of(method).state {
+        StateNeed::Any => true,
+        StateNeed::NoSession => !state.has_session(),
+        StateNeed::NoRangeWhilePlaying => !state.is_playing() || !has_range,
+        StateNeed::Playing => state.is_playing(),
     }
 }
 

@@ -1,7 +1,7 @@
 //! Requests, method by method.
 
-ghost use Rattle.std.specs.Prelude.{◌≡◌, ◌<◌, ◌≤◌, ℕ, true, false, length, IfSome};
-ghost use Rattle.std.specs.Prelude.{MatchOption, IfNone, Ok, []};
+ghost use Rattle.std.specs.Prelude.{◌≡◌, ◌<◌, ◌≤◌, ℕ, true, false, length, IfSome, MatchOption};
+ghost use Rattle.std.specs.Prelude.{IfNone, Ok, []};
 ghost use Rattle.interleave.specs.Elements.{IsMessageLength};
 ghost use Rattle.rtsp_text.specs.Lines.{is_one_line};
 ghost use Rattle.session.specs.declared.commands.Ask.{Ask};
@@ -10,14 +10,14 @@ ghost use Rattle.session.specs.RunRequests.{IsPlayable};
 ghost use Rattle.film_streams.specs.SettingRanges.{IsSetup};
 ghost use Rattle.film_streams.specs.Films.{OfFilm};
 ghost use Rattle.session.specs.Methods.{AsksOfferOr, AsksPlayOr, Describes, GetsParameter, HasWait};
-ghost use Rattle.session.specs.Methods.{HearsRequest, Looks, GetsOffer, OffersReady};
-ghost use Rattle.session.specs.Methods.{Pauses, Plays, SetsUp, Takes, TearsDown, play_call};
+ghost use Rattle.session.specs.Methods.{HearsRequest, Looks, GetsOffer, OffersReady, Pauses, Plays};
+ghost use Rattle.session.specs.Methods.{SetsUp, Takes, TearsDown, play_call};
 ghost use Rattle.session.specs.RequestedPlans.{IsPausedIn};
-ghost use Rattle.session.specs.Tasks.{IsTask};
+ghost use Rattle.session.specs.Tasks.{IsAuthority, IsTask};
 ghost use Rattle.rtsp_replies.specs.Replies.{refusal_text};
 ghost use Rattle.session.specs.SessionStates.{AsksFor, CanHandleRequest, AwaitsNoAnswer, IsReadyIn};
-ghost use Rattle.session.specs.SessionStates.{IsSameStationState};
-ghost use Rattle.session.specs.SessionStates.{has_session_in, is_playing_in, with_reply};
+ghost use Rattle.session.specs.SessionStates.{IsSameStationState, LeavesFor, has_session_in};
+ghost use Rattle.session.specs.SessionStates.{is_playing_in, with_reply};
 ghost use Rattle.session.specs.SessionInvariant.{IsGoing};
 ghost use Rattle.session.specs.HaltSteps.{KeepsToBoundary};
 
@@ -25,19 +25,18 @@ use crate::commands::Ask;
 use crate::films::{frames_of, stored_at};
 use crate::plans::{Planned, playback_of};
 use crate::play_infos::info_of;
-use crate::refusals::{Task, check_request, option_of};
+use crate::refusals::{Task, check_request};
 use crate::sessions::Session;
-use crate::setups::read_setup;
 use crate::states::{AfterHalt, Awaited, Prepared, State};
 use early_start::MAX_WAIT;
 use film_run::{Run, run_after};
-use film_streams::{Setup, length_ms};
+use film_streams::{Setup, length_ms, read_setup};
 use interleave::MAX_HEAD_BYTES;
 use mpeg_scan::laws::law_film_is_well_formed;
-use rtsp_fields::{Channels, read_wait};
+use rtsp_fields::read_wait;
+use rtsp_methods::{Refusal, Topic, option_of, read_topic};
 use rtsp_replies::{
-    Refusal, Topic, put_description, put_plain, put_play, put_public, put_refusal, put_session,
-    put_setup, read_topic,
+    put_description, put_plain, put_play, put_public, put_refusal, put_session, put_setup,
 };
 use rtsp_text::{Request, header, read_request, sequence_of};
 use std::mem;
@@ -77,12 +76,19 @@ impl<'a> Session<'a> {
         requires head { length request.now.head.now ≤ MAX_HEAD_BYTES }
         requires url { length request.now.url.now ≤ MAX_HEAD_BYTES }
         ensures hears { HearsRequest self.old request.now result self.new }
-        ensures asks { AsksFor result self.new }
-        ensures same { IsSameStationState self.old self.new }
+        ensures leaves { LeavesFor result self.old self.new }
     {
         match check_request(self.films, &self.id, &self.state, request) {
             Ok(task) => self.process_task(request, task),
-            Err(refusal) => self.refuse_option(Some(request.sequence), refusal, option_of(request)),
+            Err(refusal) => {
+                put_refusal(
+                    &mut self.reply,
+                    Some(request.sequence),
+                    refusal,
+                    option_of(request),
+                );
+                self.reply_waits()
+            }
         }
     }
 
@@ -91,8 +97,7 @@ impl<'a> Session<'a> {
         requires hear { CanHandleRequest self.old }
         requires task { IsTask (length self.old.films) self.old.state task }
         ensures takes { Takes self.old request.now (Ok task.entry) result self.new }
-        ensures asks { AsksFor result self.new }
-        ensures same { IsSameStationState self.old self.new }
+        ensures leaves { LeavesFor result self.old self.new }
     {
         let sequence = request.sequence;
         match task {
@@ -124,23 +129,9 @@ impl<'a> Session<'a> {
         requires rest { AwaitsNoAnswer self.old }
         ensures ask { result ≡ Ask.Reply }
         ensures exact { self.new ≡ with_reply self.old (refusal_text sequence refusal []) }
-        ensures asks { AsksFor result self.new }
-        ensures same { IsSameStationState self.old self.new }
+        ensures leaves { LeavesFor result self.old self.new }
     {
-        self.refuse_option(sequence, refusal, b"")
-    }
-
-    /// Refuses a request. The option is the one that it requires, if any.
-    fn refuse_option(&mut self, sequence: Option<u64>, refusal: Refusal, option: &[u8]) -> Ask
-        requires rest { AwaitsNoAnswer self.old }
-        requires short { length option.now ≤ MAX_HEAD_BYTES }
-        requires line { is_one_line option.now ≡ true }
-        ensures ask { result ≡ Ask.Reply }
-        ensures exact { self.new ≡ with_reply self.old (refusal_text sequence refusal option.now) }
-        ensures asks { AsksFor result self.new }
-        ensures same { IsSameStationState self.old self.new }
-    {
-        put_refusal(&mut self.reply, sequence, refusal, option);
+        put_refusal(&mut self.reply, sequence, refusal, b"");
         self.reply_waits()
     }
 
@@ -148,21 +139,14 @@ impl<'a> Session<'a> {
     fn describe(&mut self, sequence: u64, film: usize, authority: &[u8]) -> Ask
         requires hear { CanHandleRequest self.old }
         requires film { film < length self.old.films }
-        requires authority { length authority.now ≤ MAX_HEAD_BYTES }
-        requires authority_line { is_one_line authority.now ≡ true }
+        requires authority { IsAuthority authority.now }
         ensures exact { Describes self.old sequence film authority.now result self.new }
-        ensures asks { AsksFor result self.new }
-        ensures same { IsSameStationState self.old self.new }
+        ensures leaves { LeavesFor result self.old self.new }
     {
         let stored = stored_at(self.films, film);
+        let name = stored.name.as_str();
         let end_ms = length_ms(&stored.film);
-        put_description(
-            &mut self.reply,
-            sequence,
-            authority,
-            stored.name.as_str(),
-            end_ms,
-        );
+        put_description(&mut self.reply, sequence, authority, name, end_ms);
         self.reply_waits()
     }
 
@@ -172,18 +156,15 @@ impl<'a> Session<'a> {
         requires film { film < length self.old.films }
         requires first { has_session_in self.old.state ≡ false }
         ensures exact { SetsUp self.old request.now film result self.new }
-        ensures asks { AsksFor result self.new }
-        ensures same { IsSameStationState self.old self.new }
+        ensures leaves { LeavesFor result self.old self.new }
     {
         match read_setup(request, film, &self.settings) {
             Ok(setup) => {
+                let channels = setup.channels();
                 put_setup(
                     &mut self.reply,
                     request.sequence,
-                    Channels {
-                        media: setup.media,
-                        control: setup.control,
-                    },
+                    channels,
                     self.source.ssrc,
                     &self.id,
                 );
@@ -199,11 +180,9 @@ impl<'a> Session<'a> {
     fn play(&mut self, request: &Request<'_>, authority: &[u8]) -> Ask
         requires hear { CanHandleRequest self.old }
         requires session { has_session_in self.old.state ≡ true }
-        requires authority { length authority.now ≤ MAX_HEAD_BYTES }
-        requires authority_line { is_one_line authority.now ≡ true }
+        requires authority { IsAuthority authority.now }
         ensures exact { Plays self.old.state self.old request.now authority.now result self.new }
-        ensures asks { AsksFor result self.new }
-        ensures same { IsSameStationState self.old self.new }
+        ensures leaves { LeavesFor result self.old self.new }
     {
         let sequence = request.sequence;
         let State::Ready(setup, paused) = self.state else {
@@ -222,15 +201,13 @@ impl<'a> Session<'a> {
     fn ask_play(&mut self, sequence: u64, authority: &[u8], setup: &Setup, planned: Planned) -> Ask
         requires hear { CanHandleRequest self.old }
         requires ready { IsReadyIn self.old.state setup.now }
-        requires authority { length authority.now ≤ MAX_HEAD_BYTES }
-        requires authority_line { is_one_line authority.now ≡ true }
+        requires authority { IsAuthority authority.now }
         requires run { OfFilm self.old.films setup.now.film (λ stored.
             IsPlayable stored self.old.source self.old.settings setup.now
             planned.counts planned.run planned.plan) }
         ensures exact { AsksPlayOr self.old (play_call sequence authority.now setup.now)
             (Ok planned) result self.new }
-        ensures asks { AsksFor result self.new }
-        ensures same { IsSameStationState self.old self.new }
+        ensures leaves { LeavesFor result self.old self.new }
     {
         // Memory comes before the question: once the station has admitted the play, nothing can
         // fail any more. Three plans are needed: for the journal, for the note and for the sender.
@@ -264,8 +241,7 @@ impl<'a> Session<'a> {
         requires hear { CanHandleRequest self.old }
         requires playing { is_playing_in self.old.state ≡ true }
         ensures exact { Pauses self.old.state self.old sequence result self.new }
-        ensures asks { AsksFor result self.new }
-        ensures same { IsSameStationState self.old self.new }
+        ensures leaves { LeavesFor result self.old self.new }
     {
         let films = self.films;
         // Init only holds the place while the play is taken out, to be entered again below. The
@@ -291,8 +267,7 @@ impl<'a> Session<'a> {
     fn tear_down(&mut self, sequence: u64) -> Ask
         requires hear { CanHandleRequest self.old }
         ensures exact { TearsDown self.old.state self.old sequence result self.new }
-        ensures asks { AsksFor result self.new }
-        ensures same { IsSameStationState self.old self.new }
+        ensures leaves { LeavesFor result self.old self.new }
     {
         put_session(&mut self.reply, sequence, &self.id);
         // Without an open play there is no booking to halt, so the station isn't asked.
@@ -309,8 +284,7 @@ impl<'a> Session<'a> {
     fn get_parameter(&mut self, request: &Request<'_>) -> Ask
         requires hear { CanHandleRequest self.old }
         ensures exact { GetsParameter self.old request.now result self.new }
-        ensures asks { AsksFor result self.new }
-        ensures same { IsSameStationState self.old self.new }
+        ensures leaves { LeavesFor result self.old self.new }
     {
         let sequence = request.sequence;
         match read_topic(request.body) {
@@ -328,8 +302,7 @@ impl<'a> Session<'a> {
     fn look(&mut self, sequence: u64) -> Ask
         requires hear { CanHandleRequest self.old }
         ensures exact { Looks self.old sequence result self.new }
-        ensures asks { AsksFor result self.new }
-        ensures same { IsSameStationState self.old self.new }
+        ensures leaves { LeavesFor result self.old self.new }
     {
         // While looks of the first 1,024 are left, their receipts have room. Later ones ask for
         // memory, beside that for the halt of an open play, which must find its place.
@@ -348,8 +321,7 @@ impl<'a> Session<'a> {
     fn offer(&mut self, request: &Request<'_>) -> Ask
         requires hear { CanHandleRequest self.old }
         ensures exact { GetsOffer self.old.state self.old request.now result self.new }
-        ensures asks { AsksFor result self.new }
-        ensures same { IsSameStationState self.old self.new }
+        ensures leaves { LeavesFor result self.old self.new }
     {
         let sequence = request.sequence;
         match self.state {
@@ -373,8 +345,7 @@ impl<'a> Session<'a> {
             self.old.films self.old.source self.old.counts setup.now paused }
         requires wait { wait ≤ MAX_WAIT }
         ensures exact { OffersReady self.old sequence wait setup.now paused result self.new }
-        ensures asks { AsksFor result self.new }
-        ensures same { IsSameStationState self.old self.new }
+        ensures leaves { LeavesFor result self.old self.new }
     {
         // The same plan as a PLAY without a Range would ask with, so the offer says what that gets.
         match self.plan_play(setup, paused, None) {
@@ -388,8 +359,7 @@ impl<'a> Session<'a> {
         requires hear { CanHandleRequest self.old }
         requires wait { wait ≤ MAX_WAIT }
         ensures exact { AsksOfferOr self.old sequence wait (Ok planned) result self.new }
-        ensures asks { AsksFor result self.new }
-        ensures same { IsSameStationState self.old self.new }
+        ensures leaves { LeavesFor result self.old self.new }
     {
         // Memory first, as for a play. An offer makes no entry, so it needs no receipt.
         let Ok(offers) = self.log.offers_with_room(self.alloc, wait) else {

@@ -9,12 +9,10 @@ ghost use Rattle.session.specs.SlotSteps.{due_state, finished_in, is_between, is
 ghost use Rattle.session.specs.SlotSteps.{is_sending, is_taken, sent_in, sent_reply, after_slot};
 ghost use Rattle.session.specs.SlotSteps.{start_in, step_bytes, stepped_in};
 ghost use Rattle.session.specs.SlotTransitions.{IsCarried, IsEven, IsHaltIn, IsLeft, IsPacingIn};
-ghost use Rattle.session.specs.SlotTransitions.{IsPlayIn};
-ghost use Rattle.session.specs.SlotTransitions.{after_stop};
+ghost use Rattle.session.specs.SlotTransitions.{IsPlayIn, after_stop};
 ghost use Rattle.session.specs.SessionStates.{AreNotesUnchanged, Brings, BringsIn, AwaitsNoAnswer};
-ghost use Rattle.session.specs.SessionStates.{IsSameBooking};
-ghost use Rattle.session.specs.SessionStates.{NoAnswer, awaited_answer_of, open_in, open_of};
-ghost use Rattle.session.specs.SessionStates.{last_heard_slot};
+ghost use Rattle.session.specs.SessionStates.{IsSameBooking, NoAnswer, awaited_answer_of, open_in};
+ghost use Rattle.session.specs.SessionStates.{open_of, last_heard_slot};
 
 use crate::commands::Slotted;
 use crate::sessions::Session;
@@ -255,19 +253,6 @@ fn send_both<K: Link>(
     Ok(())
 }
 
-/// All bytes of a play that is done.
-fn done_bytes(state: &State<'_>) -> Option<u64>
-    requires { IsPlayIn state.now }
-    ensures done { is_some result ≡ is_done_in state.now }
-    ensures bytes { IfSome result (λ bytes. bytes ≡ sent_in state.now) }
-    ensures halt { IfSome result (IsHaltIn state.now) }
-{
-    match state {
-        State::Playing(_, play) if play.pacer.done() => Some(play.pacer.sent()),
-        _ => None,
-    }
-}
-
 /// The state as soon as the reply of a PAUSE or a TEARDOWN was sent.
 fn settle(state: &mut State<'_>)
     ensures { state.new ≡ after_stop state.old }
@@ -287,12 +272,13 @@ fn finish<'a>(state: &State<'a>, awaited: &mut Awaited<'a>) -> Slotted
     ensures halt { HaltsIfDone state.now awaited.new }
     ensures brings { BringsIn result awaited.new state.now }
 {
-    match done_bytes(state) {
+    match state {
         // Halted as soon as it is done, so that the journal has a halt for each admission.
-        Some(bytes) => {
+        State::Playing(_, play) if play.pacer.done() => {
+            let bytes = play.pacer.sent();
             *awaited = Awaited::Halt(bytes, AfterHalt::Done);
             Slotted::Finished(bytes)
         }
-        None => Slotted::Going,
+        _ => Slotted::Going,
     }
 }

@@ -1,7 +1,7 @@
 //! The station's answers.
 
-ghost use Rattle.std.specs.Prelude.{◌≡◌, ◌<◌, ◌^◌, ◌++◌, [], ◌∷◌, true, None, ◌-◌, List, Some};
-ghost use Rattle.std.specs.Prelude.{◌+◌, length, slice_get};
+ghost use Rattle.std.specs.Prelude.{◌≡◌, ◌<◌, ◌^◌, ◌++◌, [], ◌∷◌, true, None, ◌-◌, List, Some, ◌+◌};
+ghost use Rattle.std.specs.Prelude.{length, slice_get};
 ghost use Rattle.film_frames.specs.FramedRuns.{run_pieces};
 ghost use Rattle.film_run.specs.Runs.{IsRun};
 ghost use Rattle.film_run.specs.Units.{stored_sizes};
@@ -11,16 +11,15 @@ ghost use Rattle.film_streams.specs.Films.{OfFilm};
 ghost use Rattle.session.specs.ResumedPlays.{IsPrepared};
 ghost use Rattle.film_streams.specs.SettingRanges.{AreFilms};
 ghost use Rattle.session.specs.SlotSteps.{halted_in, halted_notes, kept_of, next_of, note_of};
-ghost use Rattle.session.specs.SlotSteps.{state_once_halted};
+ghost use Rattle.session.specs.SlotSteps.{play_of, state_once_halted};
 ghost use Rattle.admission.specs.declared.entries.Answer.{Answer};
 ghost use Rattle.session_records.specs.declared.notes.Receipt.{Receipt};
 ghost use Rattle.session.specs.SessionStates.{AreNotesUnchanged, AwaitsNoAnswer, IsHalt};
-ghost use Rattle.session.specs.SessionStates.{IsAnswerRecorded, IsLook};
-ghost use Rattle.session.specs.SessionStates.{IsOffer, IsPlay, IsPlayOrLook};
-ghost use Rattle.session.specs.SessionStates.{awaited_answer, booking_of, open_of, sequence_of};
+ghost use Rattle.session.specs.SessionStates.{IsAnswerRecorded, IsLook, IsOffer, IsPlay};
+ghost use Rattle.session.specs.SessionStates.{IsPlayOrLook, awaited_answer, booking_of, open_of};
+ghost use Rattle.session.specs.SessionStates.{sequence_of};
 ghost use Rattle.session.specs.RequestSteps.{Halts, after_admission, after_full, after_look};
-ghost use Rattle.session.specs.RequestSteps.{after_offer, after_overflow, counts_done};
-ghost use Rattle.session.specs.RequestSteps.{counts_next};
+ghost use Rattle.session.specs.RequestSteps.{after_offer, after_overflow, counts_done, counts_next};
 ghost use Rattle.session.specs.RequestSteps.{is_answered};
 ghost use Rattle.rtsp_replies.specs.Replies.{play_text};
 ghost use Rattle.session.specs.SlotTransitions.{IsPlayIn};
@@ -69,10 +68,8 @@ impl<'a> Session<'a> {
         // A paused run that this play takes the place of is counted only now: had the station
         // refused the play, the run would still be there to be resumed.
         self.counts = prepared.counts;
-        self.log.note(Receipt::Entry {
-            place,
-            answer: Answer::Admitted { start },
-        });
+        let answer = Answer::Admitted { start };
+        self.log.note(Receipt::Entry { place, answer });
         // The rest of the 200 was written when the play was asked for.
         put_start(&mut self.reply, start - self.heard);
         let play = play_of(prepared, place, start);
@@ -95,14 +92,12 @@ impl<'a> Session<'a> {
         ensures notes { AreNotesUnchanged self.old self.new }
     {
         let sequence = self.awaited.take_sequence();
-        self.log.note(Receipt::Entry {
-            place,
-            answer: Answer::Overflow {
-                slot,
-                booked,
-                asked,
-            },
-        });
+        let answer = Answer::Overflow {
+            slot,
+            booked,
+            asked,
+        };
+        self.log.note(Receipt::Entry { place, answer });
         put_overflow(&mut self.reply, sequence, slot, booked, asked);
         self.waits = true;
     }
@@ -153,10 +148,8 @@ impl<'a> Session<'a> {
         let (keep, next) = kept_and_next(&asked, play.pacer.due());
         let (films, source, counts) = (self.films, self.source, self.counts);
         self.counts = counts_next(films, source, counts, &setup, &play.run, keep, next);
-        self.log.note(Receipt::Entry {
-            place,
-            answer: Answer::Halted,
-        });
+        let answer = Answer::Halted;
+        self.log.note(Receipt::Entry { place, answer });
         let (state, note) = state_and_note(setup, play, keep, next);
         // Noted at the halt, since only now it is known how many bytes the booking keeps.
         self.log.note_play(note);
@@ -181,10 +174,8 @@ impl<'a> Session<'a> {
         ensures notes { AreNotesUnchanged self.old self.new }
     {
         let sequence = self.awaited.take_sequence();
-        self.log.note(Receipt::Entry {
-            place,
-            answer: Answer::Looked { now, at, booked },
-        });
+        let answer = Answer::Looked { now, at, booked };
+        self.log.note(Receipt::Entry { place, answer });
         put_look(&mut self.body, now, at, booked);
         put_parameters(&mut self.reply, sequence, self.body.bytes());
         self.waits = true;
@@ -196,13 +187,8 @@ impl<'a> Session<'a> {
         // needs: an offer was asked for
         requires asked { IsOffer (awaited_answer self.old) }
         // leaves: the reply that waits and the offer's note, and all else as it was
-        ensures exact { self.new ≡
-            after_offer self.old (record {
-              seen = seen;
-              first = first;
-              plan = plan;
-              offers = offers;
-            }) }
+        ensures exact { self.new ≡ after_offer self.old
+            (record { seen = seen; first = first; plan = plan; offers = offers }) }
         ensures rest { AwaitsNoAnswer self.new }
         ensures replies { self.new.waits ≡ true }
         ensures open { open_of self.new ≡ open_of self.old }
@@ -231,14 +217,7 @@ impl<'a> Session<'a> {
 /// The play that is sent as it was prepared, once it was admitted.
 fn play_of<'a>(prepared: Prepared<'a>, place: u64, start: u64) -> Play<'a>
     requires { IsPrepared prepared }
-    ensures play { result ≡ record {
-      run = prepared.entry.run;
-      place = place;
-      start = start;
-      plan = prepared.entry.plan;
-      pacer = new_pacer_state (run_pieces prepared.entry.frames)
-          prepared.entry.run.sent prepared.entry.paced start;
-    } }
+    ensures play { result ≡ play_of prepared.entry place start }
     ensures pacing { IsPacerState result.pacer }
 {
     let Prepared {
@@ -262,10 +241,7 @@ fn play_of<'a>(prepared: Prepared<'a>, place: u64, start: u64) -> Play<'a>
 fn is_answered(next: AfterHalt) -> bool
     ensures { result ≡ is_answered next }
 {
-    match next {
-        AfterHalt::Done => false,
-        AfterHalt::Paused(_) | AfterHalt::Torn => true,
-    }
+    !matches!(next, AfterHalt::Done)
 }
 
 /// What the session has sent in all after a halt that keeps so many bytes of a run: a run that is
@@ -310,14 +286,8 @@ fn state_and_note<'a>(
     ensures state { result.0 ≡ state_once_halted setup play.entry next }
     ensures note { result.1 ≡ note_of setup play.entry keep }
 {
-    let Play {
-        run,
-        place,
-        start,
-        plan,
-        pacer,
-    } = play;
-    let note = note_of(&setup, &run, place, start, plan, keep);
+    let start = play.start;
+    let (note, pacer) = note_of(&setup, play, keep);
     let state = match next {
         AfterHalt::Done => State::Ready(setup, None),
         AfterHalt::Paused(rest) => State::Stopping(setup, stop_of(Some(rest), start, pacer)),
@@ -337,26 +307,15 @@ fn stop_of<'a>(paused: Option<Run>, start: u64, pacer: Pacer<Frames<'a>>) -> Sto
     }
 }
 
-/// The note of a play whose booking keeps so many bytes.
-fn note_of(setup: &Setup, run: &Run, place: u64, start: u64, plan: Plan, keep: u64) -> PlayNote
+/// The note of a play whose booking keeps so many bytes, and what sends the rest.
+fn note_of<'a>(setup: &Setup, play: Play<'a>, keep: u64) -> (PlayNote, Pacer<Frames<'a>>)
     requires { setup.now.film < 2 ^ 32 }
-    ensures { result ≡ record {
-      place = place;
-      film = setup.now.film;
-      first_unit = run.now.first_unit;
-      end_unit = run.now.end_unit;
-      from_unit = run.now.from_unit;
-      buffer = setup.now.buffer;
-      delay = setup.now.delay;
-      played = run.now.played;
-      sent_before = run.now.sent;
-      plan = plan;
-      start = start;
-      keep = keep;
-    } }
+    ensures note { result.0 ≡ note_of setup.now play.entry keep }
+    ensures pacer { result.1 ≡ play.entry.pacer }
 {
-    PlayNote {
-        place,
+    let run = play.run;
+    let note = PlayNote {
+        place: play.place,
         film: setup.film as u32,
         first_unit: run.first_unit as u64,
         end_unit: run.end_unit as u64,
@@ -365,10 +324,11 @@ fn note_of(setup: &Setup, run: &Run, place: u64, start: u64, plan: Plan, keep: u
         delay: setup.delay,
         played: run.played,
         sent_before: run.sent,
-        plan,
-        start,
+        plan: play.plan,
+        start: play.start,
         keep,
-    }
+    };
+    (note, play.pacer)
 }
 
 /// What a halt keeps, and what it leads to: what was asked for, or what is due as the connection

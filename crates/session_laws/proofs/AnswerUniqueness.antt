@@ -15,15 +15,15 @@ use Rattle.rtsp_text.specs.declared.requests.Request.{Request}
 use Rattle.rtsp_text.proofs.MessageUniqueness.{fault_once, no_fault, request_once}
 use Rattle.session.specs.declared.commands.Ask.{Ask}
 use Rattle.session.specs.declared.commands.Ask.TheVariants.{Halt as AskHalt, Offer as AskOffer}
-use Rattle.rtsp_replies.specs.declared.methods.Method.{Method}
-use Rattle.rtsp_replies.specs.declared.methods.Method.TheVariants.{Options, Describe, Setup as SetupMethod}
-use Rattle.rtsp_replies.specs.declared.methods.Method.TheVariants.{Play as PlayMethod, Pause, Teardown, GetParameter}
-use Rattle.rtsp_replies.specs.declared.methods.Topic.{Topic}
-use Rattle.rtsp_replies.specs.declared.methods.Topic.TheVariants.{Nothing as NoTopic, Booked, Offer as OfferTopic}
-use Rattle.rtsp_replies.specs.declared.methods.Topic.TheVariants.{Unknown}
+use Rattle.rtsp_methods.specs.declared.methods.Method.{Method}
+use Rattle.rtsp_methods.specs.declared.methods.Method.TheVariants.{Options, Describe, Setup as SetupMethod}
+use Rattle.rtsp_methods.specs.declared.methods.Method.TheVariants.{Play as PlayMethod, Pause, Teardown, GetParameter}
+use Rattle.rtsp_methods.specs.declared.topics.Topic.{Topic}
+use Rattle.rtsp_methods.specs.declared.topics.Topic.TheVariants.{Nothing as NoTopic, Booked, Offer as OfferTopic}
+use Rattle.rtsp_methods.specs.declared.topics.Topic.TheVariants.{Unknown}
 use Rattle.session.specs.declared.plans.Planned.{Planned}
-use Rattle.rtsp_replies.specs.declared.refusals.Refusal.{Refusal}
-use Rattle.rtsp_replies.specs.declared.refusals.Refusal.TheVariants.{Session, State as NotNow, Parameter, Memory}
+use Rattle.rtsp_methods.specs.declared.refusals.Refusal.{Refusal}
+use Rattle.rtsp_methods.specs.declared.refusals.Refusal.TheVariants.{Session, State as NotNow, Parameter, Memory}
 use Rattle.session.specs.declared.refusals.Task.{Task}
 use Rattle.session.specs.declared.refusals.Task.TheVariants.{Options as ToOptions}
 use Rattle.session.specs.declared.refusals.Task.TheVariants.{Describe as ToDescribe}
@@ -40,9 +40,10 @@ use Rattle.session.specs.declared.states.State.{State}
 use Rattle.session.specs.declared.states.State.TheVariants.{Init, Ready, Playing, Stopping}
 use Rattle.film_streams.specs.Films.{Names, length_ms}
 use Rattle.session.specs.RequestSteps.{AnswersGoodRequest, Hears}
-use Rattle.session.specs.RefusalOrder.{IsJudged, IsTaskOf, method_of, option_of}
-use Rattle.rtsp_replies.specs.Methods.{IsTopic}
-use Rattle.rtsp_replies.specs.Refusals.{fault_refusal}
+use Rattle.session.specs.RefusalOrder.{IsJudged, IsTaskOf, method_of}
+use Rattle.rtsp_methods.specs.RequiredOptions.{option_of}
+use Rattle.rtsp_methods.specs.Methods.{IsTopic}
+use Rattle.rtsp_methods.specs.Refusals.{fault_refusal}
 use Rattle.session.specs.Laws.{IsOneAnswer}
 use Rattle.session.specs.Methods.{AsksHalt, AsksOffer, AsksOfferOr, AsksPlay, AsksPlayOr, Describes, play_call}
 use Rattle.session.specs.Methods.{Gets, GetsOffer, GetsParameter, HasWait, IsRefused, IsReplied}
@@ -52,7 +53,7 @@ use Rattle.session.specs.RequestedPlans.{IsPlanned}
 use Rattle.session.specs.RunRequests.{playback_of}
 use Rattle.film_streams.specs.SettingRanges.{AreFilms}
 use Rattle.rtsp_replies.specs.Replies.{describe_text, plain_text, public_text, refusal_text, session_text}
-use Rattle.session.specs.Setups.{IsSetupRead}
+use Rattle.film_streams.specs.Setups.{IsSetupRead}
 use Rattle.session.specs.SessionStates.{SessionState, with_reply}
 use Rattle.session.proofs.InitialStateLemmas.{TwoHearings, TakenRequest}
 use Rattle.session_laws.proofs.PlanUniqueness.{film_at_once, planned_once}

@@ -8,20 +8,20 @@ use Rattle.rtsp_text.specs.Replies.{Field, reply_text}
 use Rattle.rtsp_text.specs.declared.requests.Request.{Request}
 use Rattle.rtsp_text.proofs.MessageUniqueness.{no_fault}
 use Rattle.session.specs.declared.commands.Ask.TheVariants.{Reply}
-use Rattle.rtsp_replies.specs.declared.methods.Method.{Method}
-use Rattle.rtsp_replies.specs.declared.methods.Method.TheVariants.{Options, Describe, Play as PlayMethod, Pause}
-use Rattle.rtsp_replies.specs.declared.methods.Method.TheVariants.{Teardown}
-use Rattle.rtsp_replies.specs.declared.methods.Method.TheVariants.{Setup as SetupMethod, GetParameter}
-use Rattle.rtsp_replies.specs.declared.methods.Topic.{Topic}
-use Rattle.rtsp_replies.specs.declared.methods.Topic.TheVariants.{Nothing, Booked, Offer as OfferTopic}
-use Rattle.rtsp_replies.specs.declared.methods.Topic.TheVariants.{Unknown as OtherTopic}
+use Rattle.rtsp_methods.specs.declared.methods.Method.{Method}
+use Rattle.rtsp_methods.specs.declared.methods.Method.TheVariants.{Options, Describe, Play as PlayMethod, Pause}
+use Rattle.rtsp_methods.specs.declared.methods.Method.TheVariants.{Teardown}
+use Rattle.rtsp_methods.specs.declared.methods.Method.TheVariants.{Setup as SetupMethod, GetParameter}
+use Rattle.rtsp_methods.specs.declared.topics.Topic.{Topic}
+use Rattle.rtsp_methods.specs.declared.topics.Topic.TheVariants.{Nothing, Booked, Offer as OfferTopic}
+use Rattle.rtsp_methods.specs.declared.topics.Topic.TheVariants.{Unknown as OtherTopic}
 use Rattle.session.specs.declared.plans.Planned.{Planned}
-use Rattle.rtsp_replies.specs.declared.refusals.Refusal.{Refusal}
-use Rattle.rtsp_replies.specs.declared.refusals.Refusal.TheVariants.{BadRequest, Version}
-use Rattle.rtsp_replies.specs.declared.refusals.Refusal.TheVariants.{Method as Unknown}
-use Rattle.rtsp_replies.specs.declared.refusals.Refusal.TheVariants.{Option as Required, Session, Film}
-use Rattle.rtsp_replies.specs.declared.refusals.Refusal.TheVariants.{State as NotNow, Transport, Parameter, Buffer}
-use Rattle.rtsp_replies.specs.declared.refusals.Refusal.TheVariants.{Range, Memory}
+use Rattle.rtsp_methods.specs.declared.refusals.Refusal.{Refusal}
+use Rattle.rtsp_methods.specs.declared.refusals.Refusal.TheVariants.{BadRequest, Version}
+use Rattle.rtsp_methods.specs.declared.refusals.Refusal.TheVariants.{Method as Unknown}
+use Rattle.rtsp_methods.specs.declared.refusals.Refusal.TheVariants.{Option as Required, Session, Film}
+use Rattle.rtsp_methods.specs.declared.refusals.Refusal.TheVariants.{State as NotNow, Transport, Parameter, Buffer}
+use Rattle.rtsp_methods.specs.declared.refusals.Refusal.TheVariants.{Range, Memory}
 use Rattle.session.specs.declared.refusals.Task.{Task}
 use Rattle.session.specs.declared.refusals.Task.TheVariants.{Options as ToOptions}
 use Rattle.session.specs.declared.refusals.Task.TheVariants.{Describe as ToDescribe}
@@ -37,12 +37,13 @@ use Rattle.session_laws.specs.MethodLaws.{NamesNoOwnFilm, NamesNoSession, NamesS
 use Rattle.session.specs.Methods.{AsksOfferOr, AsksPlayOr, Gets, GetsOffer, IsRefused, IsSetUp, Looks, Pauses}
 use Rattle.session.specs.Methods.{PlayCall, Plays, Takes, TearsDown}
 use Rattle.session_laws.specs.RefusalLaws.{IsKnownMethod, RequiresSomeOption}
-use Rattle.session.specs.RefusalOrder.{FitsFilm, FitsSession, IsJudged, IsOwnFilm, IsReadAs, first_of, option_of}
+use Rattle.session.specs.RefusalOrder.{FitsFilm, FitsSession, IsJudged, IsOwnFilm, IsReadAs}
+use Rattle.rtsp_methods.specs.RequiredOptions.{first_of, option_of}
 use Rattle.rtsp_replies.specs.Replies.{code_of}
 use Rattle.session.specs.RequestEffects.{HasCode}
 use Rattle.session.specs.RequestedPlans.{IsPlanned}
 use Rattle.session.specs.RequestSteps.{Hears}
-use Rattle.session.specs.Setups.{IsSetupRead}
+use Rattle.film_streams.specs.Setups.{IsSetupRead}
 use Rattle.session.specs.SessionStates.{SessionState, has_session_in}
 use Rattle.session_laws.proofs.MethodLemmas.{CurveCause, IsRange, IsBuffer, IsMemory, cause_as, curve_cause, exists_in}
 use Rattle.session_laws.proofs.MethodLemmas.{own_session}

@@ -11,7 +11,7 @@ use Rattle.rtsp_text.specs.declared.requests.Request.{Request}
 use Rattle.rtsp_text.proofs.MessageUniqueness.{no_fault, request_once}
 use Rattle.session.specs.declared.commands.Ask.{Ask}
 use Rattle.session.specs.declared.plans.Planned.{Planned}
-use Rattle.rtsp_replies.specs.declared.refusals.Refusal.{Refusal}
+use Rattle.rtsp_methods.specs.declared.refusals.Refusal.{Refusal}
 use Rattle.session.specs.declared.refusals.Task.{Task}
 use Rattle.session.specs.declared.refusals.Task.TheVariants.{Options as ToOptions}
 use Rattle.session.specs.declared.refusals.Task.TheVariants.{Describe as ToDescribe}
@@ -27,12 +27,13 @@ use Rattle.session.specs.declared.states.State.TheVariants.{Init, Ready, Playing
 use Rattle.film_streams.specs.Films.{IsFilmAt, Names}
 use Rattle.session.specs.Methods.{AsksPlayOr, Ends, IsSetUp, Plays, Takes, TearsDown, play_call, play_front}
 use Rattle.session_laws.specs.MethodLaws.{setup_in}
-use Rattle.session.specs.RefusalOrder.{IsJudged, IsOwnFilm, IsOwnSession, required_of}
+use Rattle.session.specs.RefusalOrder.{IsJudged, IsOwnFilm, IsOwnSession}
+use Rattle.rtsp_methods.specs.RequiredOptions.{required_of}
 use Rattle.rtsp_replies.specs.Replies.{session_text, setup_text}
 use Rattle.session.specs.RequestSteps.{Hears}
 use Rattle.session.specs.RequestedPlans.{IsPlanned, IsPlannedRun}
 use Rattle.session.specs.SessionStates.{SessionState, has_session_in, with_reply}
-use Rattle.session.specs.Setups.{IsSetupRead}
+use Rattle.film_streams.specs.Setups.{IsSetupRead}
 use Rattle.film_streams.specs.Setups.{AsksForSetup}
 use Rattle.session_laws.proofs.VerdictUniqueness.{not_both}
 

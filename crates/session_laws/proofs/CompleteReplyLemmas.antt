@@ -52,15 +52,15 @@ use Rattle.rtsp_fields.specs.Transports.{HasChannels as AreNamedChannels}
 use Rattle.rtsp_fields.specs.Urls.{IsRead}
 use Rattle.rtsp_fields.specs.declared.transports.Channels.{Channels}
 use Rattle.session.specs.declared.commands.Ask.{Ask}
-use Rattle.rtsp_replies.specs.declared.methods.Topic.{Topic}
-use Rattle.rtsp_replies.specs.declared.methods.Topic.TheVariants.{Nothing as NoTopic, Booked}
-use Rattle.rtsp_replies.specs.declared.methods.Topic.TheVariants.{Offer as OfferTopic, Unknown}
+use Rattle.rtsp_methods.specs.declared.topics.Topic.{Topic}
+use Rattle.rtsp_methods.specs.declared.topics.Topic.TheVariants.{Nothing as NoTopic, Booked}
+use Rattle.rtsp_methods.specs.declared.topics.Topic.TheVariants.{Offer as OfferTopic, Unknown}
 use Rattle.session.specs.declared.plans.Planned.{Planned}
-use Rattle.rtsp_replies.specs.declared.refusals.Refusal.{Refusal}
-use Rattle.rtsp_replies.specs.declared.refusals.Refusal.TheVariants.{Session}
-use Rattle.rtsp_replies.specs.declared.refusals.Refusal.TheVariants.{State as NotNow}
-use Rattle.rtsp_replies.specs.declared.refusals.Refusal.TheVariants.{Parameter, Buffer, Range}
-use Rattle.rtsp_replies.specs.declared.refusals.Refusal.TheVariants.{Memory}
+use Rattle.rtsp_methods.specs.declared.refusals.Refusal.{Refusal}
+use Rattle.rtsp_methods.specs.declared.refusals.Refusal.TheVariants.{Session}
+use Rattle.rtsp_methods.specs.declared.refusals.Refusal.TheVariants.{State as NotNow}
+use Rattle.rtsp_methods.specs.declared.refusals.Refusal.TheVariants.{Parameter, Buffer, Range}
+use Rattle.rtsp_methods.specs.declared.refusals.Refusal.TheVariants.{Memory}
 use Rattle.session.specs.declared.refusals.Task.{Task}
 use Rattle.session.specs.declared.refusals.Task.TheVariants.{Options as ToOptions}
 use Rattle.session.specs.declared.refusals.Task.TheVariants.{Describe as ToDescribe}
@@ -77,8 +77,9 @@ use Rattle.session.specs.declared.states.State.TheVariants.{Init, Ready, Playing
 use Rattle.film_streams.specs.Films.{IsFilmAt, length_ms, milliseconds_at}
 use Rattle.film_streams.specs.StreamNumbers.{timestamp_at}
 use Rattle.session.specs.RequestSteps.{Hears, after_offer, new_session_state}
-use Rattle.session.specs.RefusalOrder.{IsJudged, IsReadAs, first_of, option_of, or_nothing}
-use Rattle.rtsp_replies.specs.Refusals.{fault_refusal}
+use Rattle.session.specs.RefusalOrder.{IsJudged, IsReadAs}
+use Rattle.rtsp_methods.specs.RequiredOptions.{first_of, option_of, or_nothing}
+use Rattle.rtsp_methods.specs.Refusals.{fault_refusal}
 use Rattle.session.specs.Methods.{AsksHalt, AsksOfferOr, AsksPlay, AsksPlayOr, Ends, Gets}
 use Rattle.session.specs.Methods.{GetsOffer, IsRefused}
 use Rattle.session.specs.Methods.{IsReplied}
@@ -86,12 +87,12 @@ use Rattle.session.specs.Methods.{IsSetUp, Looks, Pauses, PlayCall, Plays, Takes
 use Rattle.session.specs.Methods.{first_number, play_call}
 use Rattle.session.specs.RequestedPlans.{IsPlanned, IsPlannedRun}
 use Rattle.session.specs.RunRequests.{playback_of, run_of}
-use Rattle.rtsp_replies.specs.Refusals.{curve_refusal}
+use Rattle.rtsp_methods.specs.Refusals.{curve_refusal}
 use Rattle.film_streams.specs.SettingRanges.{AreFilms}
 use Rattle.rtsp_replies.specs.Replies.{describe_text, look_body, offer_body}
 use Rattle.rtsp_replies.specs.Replies.{plain_text, public_text}
 use Rattle.rtsp_replies.specs.Replies.{refusal_text, session_text}
-use Rattle.session.specs.Setups.{IsSetupRead}
+use Rattle.film_streams.specs.Setups.{IsSetupRead}
 use Rattle.film_streams.specs.Setups.{AreChannelsOf}
 use Rattle.session.specs.SessionStates.{SessionState}
 use Rattle.session_laws.specs.CompleteReplies.{AnswersLook, AnswersPlay}

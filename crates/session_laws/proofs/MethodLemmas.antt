@@ -15,21 +15,21 @@ use Rattle.rtsp_text.specs.declared.requests.Request.{Request}
 use Rattle.rtsp_text.proofs.MessageUniqueness.{no_fault}
 use Rattle.rtsp_fields.specs.declared.transports.Channels.{Channels}
 use Rattle.session.specs.declared.commands.Ask.{Ask}
-use Rattle.rtsp_replies.specs.declared.methods.Method.{Method}
-use Rattle.rtsp_replies.specs.declared.methods.Method.TheVariants.{Options, Describe, Play as PlayMethod, Pause}
-use Rattle.rtsp_replies.specs.declared.methods.Method.TheVariants.{Teardown}
-use Rattle.rtsp_replies.specs.declared.methods.Method.TheVariants.{Setup as SetupMethod, GetParameter}
-use Rattle.rtsp_replies.specs.declared.methods.Topic.{Topic}
-use Rattle.rtsp_replies.specs.declared.methods.Topic.TheVariants.{Nothing, Booked, Offer as OfferTopic}
-use Rattle.rtsp_replies.specs.declared.methods.Topic.TheVariants.{Unknown as OtherTopic}
+use Rattle.rtsp_methods.specs.declared.methods.Method.{Method}
+use Rattle.rtsp_methods.specs.declared.methods.Method.TheVariants.{Options, Describe, Play as PlayMethod, Pause}
+use Rattle.rtsp_methods.specs.declared.methods.Method.TheVariants.{Teardown}
+use Rattle.rtsp_methods.specs.declared.methods.Method.TheVariants.{Setup as SetupMethod, GetParameter}
+use Rattle.rtsp_methods.specs.declared.topics.Topic.{Topic}
+use Rattle.rtsp_methods.specs.declared.topics.Topic.TheVariants.{Nothing, Booked, Offer as OfferTopic}
+use Rattle.rtsp_methods.specs.declared.topics.Topic.TheVariants.{Unknown as OtherTopic}
 use Rattle.session.specs.declared.plans.Planned.{Planned}
 use Rattle.film_streams.specs.declared.films.Asked.{Asked}
-use Rattle.rtsp_replies.specs.declared.refusals.Refusal.{Refusal}
-use Rattle.rtsp_replies.specs.declared.refusals.Refusal.TheVariants.{BadRequest, Version}
-use Rattle.rtsp_replies.specs.declared.refusals.Refusal.TheVariants.{Method as Unknown}
-use Rattle.rtsp_replies.specs.declared.refusals.Refusal.TheVariants.{Option as Required, Session, Film}
-use Rattle.rtsp_replies.specs.declared.refusals.Refusal.TheVariants.{State as NotNow, Transport, Parameter, Buffer}
-use Rattle.rtsp_replies.specs.declared.refusals.Refusal.TheVariants.{Range, Memory}
+use Rattle.rtsp_methods.specs.declared.refusals.Refusal.{Refusal}
+use Rattle.rtsp_methods.specs.declared.refusals.Refusal.TheVariants.{BadRequest, Version}
+use Rattle.rtsp_methods.specs.declared.refusals.Refusal.TheVariants.{Method as Unknown}
+use Rattle.rtsp_methods.specs.declared.refusals.Refusal.TheVariants.{Option as Required, Session, Film}
+use Rattle.rtsp_methods.specs.declared.refusals.Refusal.TheVariants.{State as NotNow, Transport, Parameter, Buffer}
+use Rattle.rtsp_methods.specs.declared.refusals.Refusal.TheVariants.{Range, Memory}
 use Rattle.session.specs.declared.refusals.Task.{Task}
 use Rattle.session.specs.declared.refusals.Task.TheVariants.{Options as ToOptions}
 use Rattle.session.specs.declared.refusals.Task.TheVariants.{Describe as ToDescribe}
@@ -60,17 +60,18 @@ use Rattle.rtsp_replies.specs.PublicLaws.{IsPublicTold}
 use Rattle.session_laws.specs.RefusalLaws.{IsRefusedBy}
 use Rattle.session_laws.specs.ReplyContents.{IsDescribeReply, IsSetupReply}
 use Rattle.session.specs.RefusalOrder.{FitsFilm, FitsSession, FitsState, HasFilm, IsJudged, IsOnFilm, IsOwnFilm, IsOwnSession}
-use Rattle.session.specs.RefusalOrder.{IsReadAs, IsSpoken, IsTaken, IsTimely, first_of, method_of}
-use Rattle.rtsp_replies.specs.Methods.{IsTopic, IsWord}
-use Rattle.session.specs.RefusalOrder.{required_of}
-use Rattle.rtsp_replies.specs.Methods.{name_of}
+use Rattle.session.specs.RefusalOrder.{IsReadAs, IsSpoken, IsTaken, IsTimely, method_of}
+use Rattle.rtsp_methods.specs.RequiredOptions.{first_of}
+use Rattle.rtsp_methods.specs.Methods.{IsTopic, IsWord}
+use Rattle.rtsp_methods.specs.RequiredOptions.{required_of}
+use Rattle.rtsp_methods.specs.Methods.{name_of}
 use Rattle.rtsp_replies.specs.Replies.{code_of, field, plain_text, public_text, refusal_fields, refusal_text}
 use Rattle.rtsp_replies.specs.Replies.{session_text}
 use Rattle.session.specs.RequestedPlans.{HasNoPlan, IsPlanned, IsPlannedRun}
 use Rattle.session.specs.RequestSteps.{Hears}
-use Rattle.rtsp_replies.specs.Refusals.{curve_refusal}
+use Rattle.rtsp_methods.specs.Refusals.{curve_refusal}
 use Rattle.film_streams.specs.SettingRanges.{AreFilms}
-use Rattle.session.specs.Setups.{IsSetupRead}
+use Rattle.film_streams.specs.Setups.{IsSetupRead}
 use Rattle.film_streams.specs.Setups.{AreChannelsOf, HasChannels, IsChosen}
 use Rattle.session.specs.SessionStates.{SessionState, has_session_in, with_reply}
 use Rattle.session.proofs.InitialStateLemmas.{HeardMessage}

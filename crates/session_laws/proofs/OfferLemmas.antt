@@ -18,13 +18,13 @@ use Rattle.rtsp_text.specs.Fields.{header_value}
 use Rattle.rtsp_text.specs.Replies.{value_named}
 use Rattle.rtsp_text.specs.declared.requests.Request.{Request}
 use Rattle.session.specs.declared.commands.Ask.TheVariants.{Offer as AskOffer}
-use Rattle.rtsp_replies.specs.declared.methods.Topic.{Topic}
-use Rattle.rtsp_replies.specs.declared.methods.Topic.TheVariants.{Nothing as NoTopic, Booked, Offer as OfferTopic}
-use Rattle.rtsp_replies.specs.declared.methods.Topic.TheVariants.{Unknown}
+use Rattle.rtsp_methods.specs.declared.topics.Topic.{Topic}
+use Rattle.rtsp_methods.specs.declared.topics.Topic.TheVariants.{Nothing as NoTopic, Booked, Offer as OfferTopic}
+use Rattle.rtsp_methods.specs.declared.topics.Topic.TheVariants.{Unknown}
 use Rattle.session_records.specs.declared.notes.OfferNote.{OfferNote}
 use Rattle.session.specs.declared.plans.Planned.{Planned}
-use Rattle.rtsp_replies.specs.declared.refusals.Refusal.{Refusal}
-use Rattle.rtsp_replies.specs.declared.refusals.Refusal.TheVariants.{Buffer}
+use Rattle.rtsp_methods.specs.declared.refusals.Refusal.{Refusal}
+use Rattle.rtsp_methods.specs.declared.refusals.Refusal.TheVariants.{Buffer}
 use Rattle.session.specs.declared.refusals.Task.{Task}
 use Rattle.session.specs.declared.refusals.Task.TheVariants.{Options as ToOptions}
 use Rattle.session.specs.declared.refusals.Task.TheVariants.{Describe as ToDescribe}
@@ -37,7 +37,7 @@ use Rattle.session.specs.declared.states.State.{State}
 use Rattle.session.specs.declared.states.State.TheVariants.{Init, Ready, Playing, Stopping}
 use Rattle.session.specs.RequestSteps.{Hears, after_offer}
 use Rattle.session.specs.RefusalOrder.{IsJudged, IsReadAs}
-use Rattle.rtsp_replies.specs.Methods.{IsTopic}
+use Rattle.rtsp_methods.specs.Methods.{IsTopic}
 use Rattle.session.specs.Methods.{AsksOfferOr, AsksPlayOr, Gets, GetsOffer, HasWait, IsWaitOf, Looks, Pauses, Plays}
 use Rattle.session.specs.Methods.{IsSetUp, Takes, TearsDown, play_call}
 use Rattle.session.specs.OfferLaws.{IsLeastBuffer, IsLeastBufferReply, IsOfferAsked, IsOfferRequest, IsOfferReply}
@@ -45,7 +45,7 @@ use Rattle.session.specs.OfferLaws.{IsWaitIn}
 use Rattle.session.specs.OfferLaws.{found_line, tried_line}
 use Rattle.session.specs.RequestedPlans.{HasNoPlan, IsPlanned}
 use Rattle.session.specs.RunRequests.{playback_of, run_of}
-use Rattle.rtsp_replies.specs.Refusals.{curve_refusal}
+use Rattle.rtsp_methods.specs.Refusals.{curve_refusal}
 use Rattle.rtsp_replies.specs.Replies.{field, joined_parts, offer_body, over_line, refusal_text, start_line}
 use Rattle.session.specs.SessionStates.{SessionState, sequence_of}
 

@@ -7,7 +7,7 @@ use Rattle.rtsp_text.specs.declared.requests.Request.{Request}
 use Rattle.rtsp_text.proofs.MessageUniqueness.{no_fault}
 use Rattle.session.specs.declared.commands.Ask.{Ask}
 use Rattle.session.specs.declared.commands.Ask.TheVariants.{Reply, Halt as AskHalt}
-use Rattle.rtsp_replies.specs.declared.refusals.Refusal.{Refusal}
+use Rattle.rtsp_methods.specs.declared.refusals.Refusal.{Refusal}
 use Rattle.session.specs.declared.refusals.Task.{Task}
 use Rattle.session.specs.declared.refusals.Task.TheVariants.{Options as ToOptions}
 use Rattle.session.specs.declared.refusals.Task.TheVariants.{Describe as ToDescribe}
@@ -27,10 +27,11 @@ use Rattle.session_laws.specs.EndLaws.{IsPausedPlay, IsPause, HasSessionInReply,
 use Rattle.session.specs.Laws.{IsTeardown}
 use Rattle.session_laws.specs.EndLaws.{IsTornDown}
 use Rattle.session.specs.RequestSteps.{Hears, after_halt, is_torn, new_session_state}
-use Rattle.rtsp_replies.specs.declared.methods.Method.{Method}
-use Rattle.rtsp_replies.specs.declared.methods.Method.TheVariants.{Pause, Teardown}
-use Rattle.session.specs.RefusalOrder.{IsJudged, IsReadAs, method_of, option_of}
-use Rattle.rtsp_replies.specs.Methods.{name_of}
+use Rattle.rtsp_methods.specs.declared.methods.Method.{Method}
+use Rattle.rtsp_methods.specs.declared.methods.Method.TheVariants.{Pause, Teardown}
+use Rattle.session.specs.RefusalOrder.{IsJudged, IsReadAs, method_of}
+use Rattle.rtsp_methods.specs.RequiredOptions.{option_of}
+use Rattle.rtsp_methods.specs.Methods.{name_of}
 use Rattle.session.specs.Laws.{IsOfMethod, stage_of}
 use Rattle.session.specs.LookLaws.{SessionEvent, Message, Admission, Overflow, Full, Halt, Look, Offer, Slot, Sending}
 use Rattle.session.specs.LookLaws.{AreAfter, IsAfter}

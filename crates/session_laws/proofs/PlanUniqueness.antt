@@ -21,8 +21,8 @@ use Rattle.rtsp_fields.specs.declared.ranges.Origin.{Origin}
 use Rattle.rtsp_fields.specs.declared.ranges.Origin.TheVariants.{Now, At}
 use Rattle.rtsp_fields.specs.declared.ranges.Span.{Span}
 use Rattle.session.specs.declared.plans.Planned.{Planned}
-use Rattle.rtsp_replies.specs.declared.refusals.Refusal.{Refusal}
-use Rattle.rtsp_replies.specs.declared.refusals.Refusal.TheVariants.{Memory}
+use Rattle.rtsp_methods.specs.declared.refusals.Refusal.{Refusal}
+use Rattle.rtsp_methods.specs.declared.refusals.Refusal.TheVariants.{Memory}
 use Rattle.film_streams.specs.declared.stream_numbers.Counts.{Counts}
 use Rattle.film_streams.specs.declared.setups.Setup.{Setup}
 use Rattle.session.specs.declared.play_requests.PlayRequest.{PlayRequest}
@@ -30,7 +30,7 @@ use Rattle.session.specs.declared.play_requests.PlayRequest.TheVariants.{Resumed
 use Rattle.film_streams.specs.Films.{IsFilmAt}
 use Rattle.session.specs.RequestedPlans.{HasNoPlan, HasNoRun, IsPlanned, IsPlannedRun}
 use Rattle.session.specs.RunRequests.{IsAskedRun, IsNoRange, IsRequestFor, RequestsNothing, counts_for}
-use Rattle.rtsp_replies.specs.Refusals.{curve_refusal}
+use Rattle.rtsp_methods.specs.Refusals.{curve_refusal}
 use Rattle.session.specs.RunRequests.{playback_of}
 use Rattle.session.specs.RunRequests.{run_of}
 use Rattle.session.specs.SessionStates.{SessionState}

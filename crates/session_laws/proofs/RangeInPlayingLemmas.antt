@@ -6,12 +6,12 @@ use Rattle.rtsp_text.specs.Fields.{header_value}
 use Rattle.rtsp_text.specs.declared.requests.Request.{Request}
 use Rattle.rtsp_text.proofs.MessageUniqueness.{no_fault, request_once}
 use Rattle.session.specs.declared.commands.Ask.{Ask}
-use Rattle.rtsp_replies.specs.declared.methods.Method.TheVariants.{Play as PlayMethod}
-use Rattle.rtsp_replies.specs.declared.refusals.Refusal.{Refusal}
-use Rattle.rtsp_replies.specs.declared.refusals.Refusal.TheVariants.{BadRequest, Version, Method}
-use Rattle.rtsp_replies.specs.declared.refusals.Refusal.TheVariants.{Option as Required, Session, Film}
-use Rattle.rtsp_replies.specs.declared.refusals.Refusal.TheVariants.{State as NotNow, Transport}
-use Rattle.rtsp_replies.specs.declared.refusals.Refusal.TheVariants.{Parameter, Buffer, Range, Memory}
+use Rattle.rtsp_methods.specs.declared.methods.Method.TheVariants.{Play as PlayMethod}
+use Rattle.rtsp_methods.specs.declared.refusals.Refusal.{Refusal}
+use Rattle.rtsp_methods.specs.declared.refusals.Refusal.TheVariants.{BadRequest, Version, Method}
+use Rattle.rtsp_methods.specs.declared.refusals.Refusal.TheVariants.{Option as Required, Session, Film}
+use Rattle.rtsp_methods.specs.declared.refusals.Refusal.TheVariants.{State as NotNow, Transport}
+use Rattle.rtsp_methods.specs.declared.refusals.Refusal.TheVariants.{Parameter, Buffer, Range, Memory}
 use Rattle.session.specs.declared.refusals.Task.{Task}
 use Rattle.session.specs.declared.refusals.Task.TheVariants.{Options as ToOptions}
 use Rattle.session.specs.declared.refusals.Task.TheVariants.{Describe as ToDescribe}
@@ -22,7 +22,8 @@ use Rattle.session.specs.declared.refusals.Task.TheVariants.{GetParameter as ToG
 use Rattle.session.specs.declared.states.State.{State}
 use Rattle.session.specs.RequestEffects.{HasCode}
 use Rattle.session.specs.RequestSteps.{Hears}
-use Rattle.session.specs.RefusalOrder.{IsJudged, IsReadAs, option_of}
+use Rattle.session.specs.RefusalOrder.{IsJudged, IsReadAs}
+use Rattle.rtsp_methods.specs.RequiredOptions.{option_of}
 use Rattle.session.specs.Methods.{IsRefused, Takes}
 use Rattle.session_laws.specs.PlayLaws.{HasRangeInPlaying, PassesEarlierChecks, IsDeclined}
 use Rattle.rtsp_replies.specs.Replies.{code_of, refusal_text}

@@ -15,15 +15,15 @@ use Rattle.rtsp_text.specs.Fields.{header_value}
 use Rattle.rtsp_text.specs.declared.requests.Request.{Request}
 use Rattle.rtsp_text.proofs.MessageUniqueness.{no_fault}
 use Rattle.session.specs.declared.commands.Ask.{Ask}
-use Rattle.rtsp_replies.specs.declared.methods.Method.{Method}
-use Rattle.rtsp_replies.specs.declared.methods.Method.TheVariants.{Options, Describe, Setup, Play, Pause}
-use Rattle.rtsp_replies.specs.declared.methods.Method.TheVariants.{Teardown, GetParameter}
+use Rattle.rtsp_methods.specs.declared.methods.Method.{Method}
+use Rattle.rtsp_methods.specs.declared.methods.Method.TheVariants.{Options, Describe, Setup, Play, Pause}
+use Rattle.rtsp_methods.specs.declared.methods.Method.TheVariants.{Teardown, GetParameter}
 use Rattle.session.specs.declared.plans.Planned.{Planned}
 use Rattle.session.specs.declared.play_requests.PlayRequest.{PlayRequest}
 use Rattle.session.specs.declared.play_requests.PlayRequest.TheVariants.{Resumed, New}
-use Rattle.rtsp_replies.specs.declared.refusals.Refusal.{Refusal}
-use Rattle.rtsp_replies.specs.declared.refusals.Refusal.TheVariants.{Method as Unknown, Option as Required}
-use Rattle.rtsp_replies.specs.declared.refusals.Refusal.TheVariants.{Session, Film as NoFilm, State as NotNow}
+use Rattle.rtsp_methods.specs.declared.refusals.Refusal.{Refusal}
+use Rattle.rtsp_methods.specs.declared.refusals.Refusal.TheVariants.{Method as Unknown, Option as Required}
+use Rattle.rtsp_methods.specs.declared.refusals.Refusal.TheVariants.{Session, Film as NoFilm, State as NotNow}
 use Rattle.session.specs.declared.refusals.Task.{Task}
 use Rattle.film_streams.specs.declared.setups.Setup.{Setup as SetupIs}
 use Rattle.session.specs.Laws.{Resumes}
@@ -31,8 +31,9 @@ use Rattle.session.specs.Methods.{Takes}
 use Rattle.session_laws.specs.PlayLaws.{PassesEarlierChecks}
 use Rattle.session_laws.specs.RefusalLaws.{BeginsFilm, IsForeign, IsInvalidMethod, IsKnownMethod, IsOfNoFilm, IsOfNoSession}
 use Rattle.session_laws.specs.RefusalLaws.{IsRefusedBy, IsWholeFilm, LacksSession, RequiresSomeOption}
-use Rattle.session.specs.RefusalOrder.{FitsSession, IsJudged, IsOwnSession, IsReadAs, IsTimely, first_of, option_of}
-use Rattle.session.specs.RefusalOrder.{required_of}
+use Rattle.session.specs.RefusalOrder.{FitsSession, IsJudged, IsOwnSession, IsReadAs, IsTimely}
+use Rattle.rtsp_methods.specs.RequiredOptions.{first_of, option_of}
+use Rattle.rtsp_methods.specs.RequiredOptions.{required_of}
 use Rattle.rtsp_replies.specs.Replies.{code_of, refusal_fields, refusal_text}
 use Rattle.session.specs.RequestSteps.{Hears}
 use Rattle.session.specs.RequestedPlans.{IsPlannedRun}

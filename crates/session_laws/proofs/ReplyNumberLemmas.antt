@@ -8,13 +8,13 @@ use Rattle.rtsp_text.proofs.ReplyTexts.{front_field, whole_reply}
 use Rattle.rtsp_fields.specs.Sdp.{description_text}
 use Rattle.session.specs.declared.commands.Ask.{Ask}
 use Rattle.session.specs.declared.commands.Ask.TheVariants.{Reply}
-use Rattle.rtsp_replies.specs.declared.methods.Topic.{Topic}
-use Rattle.rtsp_replies.specs.declared.methods.Topic.TheVariants.{Nothing as NoTopic, Booked, Offer as OfferTopic}
-use Rattle.rtsp_replies.specs.declared.methods.Topic.TheVariants.{Unknown}
+use Rattle.rtsp_methods.specs.declared.topics.Topic.{Topic}
+use Rattle.rtsp_methods.specs.declared.topics.Topic.TheVariants.{Nothing as NoTopic, Booked, Offer as OfferTopic}
+use Rattle.rtsp_methods.specs.declared.topics.Topic.TheVariants.{Unknown}
 use Rattle.session.specs.declared.plans.Planned.{Planned}
-use Rattle.rtsp_replies.specs.declared.refusals.Refusal.{Refusal}
-use Rattle.rtsp_replies.specs.declared.refusals.Refusal.TheVariants.{Memory, Parameter, Session as NoSession}
-use Rattle.rtsp_replies.specs.declared.refusals.Refusal.TheVariants.{State as NotNow}
+use Rattle.rtsp_methods.specs.declared.refusals.Refusal.{Refusal}
+use Rattle.rtsp_methods.specs.declared.refusals.Refusal.TheVariants.{Memory, Parameter, Session as NoSession}
+use Rattle.rtsp_methods.specs.declared.refusals.Refusal.TheVariants.{State as NotNow}
 use Rattle.session.specs.declared.refusals.Task.{Task}
 use Rattle.session.specs.declared.refusals.Task.TheVariants.{Options as ToOptions}
 use Rattle.session.specs.declared.refusals.Task.TheVariants.{Describe as ToDescribe}
@@ -33,7 +33,8 @@ use Rattle.film_streams.specs.StreamNumbers.{timestamp_at}
 use Rattle.session.specs.Methods.{AsksHalt, AsksOffer, AsksOfferOr, AsksPlay, AsksPlayOr, Ends, Gets, GetsOffer}
 use Rattle.session.specs.Methods.{IsRefused, IsReplied, IsSetUp, Looks, Pauses, Plays, Takes, TearsDown, first_number}
 use Rattle.session.specs.Methods.{play_call}
-use Rattle.session.specs.RefusalOrder.{IsReadAs, option_of}
+use Rattle.session.specs.RefusalOrder.{IsReadAs}
+use Rattle.rtsp_methods.specs.RequiredOptions.{option_of}
 use Rattle.rtsp_replies.specs.Replies.{code_of, describe_text, field, full_text, joined_parts, look_body, offer_body}
 use Rattle.rtsp_replies.specs.Replies.{overflow_text, parameters_text, plain_text, play_fields, public_text}
 use Rattle.rtsp_replies.specs.Replies.{refusal_fields}

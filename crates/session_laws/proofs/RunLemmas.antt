@@ -14,13 +14,13 @@ use Rattle.rtsp_text.specs.declared.requests.Request.{Request}
 use Rattle.session.specs.declared.commands.Ask.{Ask}
 use Rattle.session.specs.declared.commands.Ask.TheVariants.{Reply as AskReply, Play as AskPlay, Halt as AskHalt}
 use Rattle.session.specs.declared.commands.Ask.TheVariants.{Look as AskLook, Offer as AskOffer}
-use Rattle.rtsp_replies.specs.declared.methods.Topic.{Topic}
-use Rattle.rtsp_replies.specs.declared.methods.Topic.TheVariants.{Nothing as NoTopic, Booked, Offer as OfferTopic}
-use Rattle.rtsp_replies.specs.declared.methods.Topic.TheVariants.{Unknown}
+use Rattle.rtsp_methods.specs.declared.topics.Topic.{Topic}
+use Rattle.rtsp_methods.specs.declared.topics.Topic.TheVariants.{Nothing as NoTopic, Booked, Offer as OfferTopic}
+use Rattle.rtsp_methods.specs.declared.topics.Topic.TheVariants.{Unknown}
 use Rattle.session.specs.declared.plans.Planned.{Planned}
 use Rattle.session.specs.declared.play_requests.PlayRequest.{PlayRequest}
 use Rattle.session.specs.declared.play_requests.PlayRequest.TheVariants.{Resumed, New}
-use Rattle.rtsp_replies.specs.declared.refusals.Refusal.{Refusal}
+use Rattle.rtsp_methods.specs.declared.refusals.Refusal.{Refusal}
 use Rattle.session.specs.declared.refusals.Task.{Task}
 use Rattle.session.specs.declared.refusals.Task.TheVariants.{Options as ToOptions}
 use Rattle.session.specs.declared.refusals.Task.TheVariants.{Describe as ToDescribe}

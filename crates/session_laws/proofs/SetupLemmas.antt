@@ -6,7 +6,7 @@ use Rattle.rtsp_text.specs.declared.requests.Request.{Request}
 use Rattle.rtsp_text.proofs.MessageUniqueness.{request_once}
 use Rattle.session.specs.declared.commands.Ask.{Ask}
 use Rattle.session.specs.declared.commands.Ask.TheVariants.{Reply}
-use Rattle.rtsp_replies.specs.declared.refusals.Refusal.{Refusal}
+use Rattle.rtsp_methods.specs.declared.refusals.Refusal.{Refusal}
 use Rattle.session.specs.declared.refusals.Task.{Task}
 use Rattle.session.specs.declared.refusals.Task.TheVariants.{Options as ToOptions}
 use Rattle.session.specs.declared.refusals.Task.TheVariants.{Describe as ToDescribe}
@@ -20,7 +20,7 @@ use Rattle.film_streams.specs.Films.{Names}
 use Rattle.session.specs.RequestSteps.{Hears}
 use Rattle.session.specs.RefusalOrder.{IsJudged}
 use Rattle.session.specs.Methods.{IsSetUp, Takes}
-use Rattle.session.specs.Setups.{IsSetupRead}
+use Rattle.film_streams.specs.Setups.{IsSetupRead}
 use Rattle.film_streams.specs.Setups.{AsksForSetup}
 use Rattle.session.specs.SessionStates.{SessionState, with_reply}
 

@@ -7,16 +7,16 @@ use Rattle.std.proofs.lemmas.Bool.{cases_order}
 use Rattle.film_frames.specs.declared.stored_films.Stored.{Stored}
 use Rattle.rtsp_text.specs.Fields.{header_value}
 use Rattle.rtsp_text.specs.declared.requests.Request.{Request}
-use Rattle.rtsp_replies.specs.declared.methods.Method.{Method}
-use Rattle.rtsp_replies.specs.declared.methods.Method.TheVariants.{Options, Describe, Setup, Play, Pause, Teardown}
-use Rattle.rtsp_replies.specs.declared.methods.Method.TheVariants.{GetParameter}
+use Rattle.rtsp_methods.specs.declared.methods.Method.{Method}
+use Rattle.rtsp_methods.specs.declared.methods.Method.TheVariants.{Options, Describe, Setup, Play, Pause, Teardown}
+use Rattle.rtsp_methods.specs.declared.methods.Method.TheVariants.{GetParameter}
 use Rattle.session.specs.declared.states.State.{State as StateKind}
-use Rattle.rtsp_replies.specs.declared.refusals.Refusal.{Refusal}
-use Rattle.rtsp_replies.specs.declared.refusals.Refusal.TheVariants.{BadRequest, Version}
-use Rattle.rtsp_replies.specs.declared.refusals.Refusal.TheVariants.{Method as Unknown}
-use Rattle.rtsp_replies.specs.declared.refusals.Refusal.TheVariants.{Option as Required, Session, Film}
-use Rattle.rtsp_replies.specs.declared.refusals.Refusal.TheVariants.{State, Transport, Parameter, Buffer}
-use Rattle.rtsp_replies.specs.declared.refusals.Refusal.TheVariants.{Range, Memory}
+use Rattle.rtsp_methods.specs.declared.refusals.Refusal.{Refusal}
+use Rattle.rtsp_methods.specs.declared.refusals.Refusal.TheVariants.{BadRequest, Version}
+use Rattle.rtsp_methods.specs.declared.refusals.Refusal.TheVariants.{Method as Unknown}
+use Rattle.rtsp_methods.specs.declared.refusals.Refusal.TheVariants.{Option as Required, Session, Film}
+use Rattle.rtsp_methods.specs.declared.refusals.Refusal.TheVariants.{State, Transport, Parameter, Buffer}
+use Rattle.rtsp_methods.specs.declared.refusals.Refusal.TheVariants.{Range, Memory}
 use Rattle.session.specs.declared.refusals.Task.{Task}
 use Rattle.session.specs.declared.refusals.Task.TheVariants.{Options as ToOptions}
 use Rattle.session.specs.declared.refusals.Task.TheVariants.{Describe as ToDescribe}
@@ -26,8 +26,8 @@ use Rattle.session.specs.declared.refusals.Task.TheVariants.{Teardown as ToTeard
 use Rattle.session.specs.declared.refusals.Task.TheVariants.{GetParameter as ToGetParameter}
 use Rattle.session.specs.SessionStates.{has_session_in}
 use Rattle.session.specs.RefusalOrder.{FitsSession, FitsState, HasFilm, IsJudged, IsTaskOf, method_of}
-use Rattle.rtsp_replies.specs.Methods.{name_of}
-use Rattle.session.specs.RefusalOrder.{required_of}
+use Rattle.rtsp_methods.specs.Methods.{name_of}
+use Rattle.rtsp_methods.specs.RequiredOptions.{required_of}
 
 -- a name is that of one method
 abbrev key : List ℕ → ℕ

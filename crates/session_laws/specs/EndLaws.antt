@@ -11,7 +11,7 @@ use Rattle.rtsp_text.specs.declared.requests.Request.{Request}
 use Rattle.session.specs.declared.commands.Ask.{Ask}
 use Rattle.session.specs.declared.commands.Ask.TheVariants.{Reply, Play as AskPlay, Halt as AskHalt}
 use Rattle.session.specs.declared.commands.Ask.TheVariants.{Look as AskLook, Offer as AskOffer}
-use Rattle.rtsp_replies.specs.declared.methods.Method.TheVariants.{Pause, Teardown}
+use Rattle.rtsp_methods.specs.declared.methods.Method.TheVariants.{Pause, Teardown}
 use Rattle.session.specs.declared.states.Play.{Play as Played}
 use Rattle.film_streams.specs.declared.setups.Setup.{Setup}
 use Rattle.session.specs.declared.states.State.TheVariants.{Ready, Playing}

@@ -16,7 +16,7 @@ use Rattle.session.specs.declared.commands.Ask.{Ask}
 use Rattle.session.specs.declared.commands.Ask.TheVariants.{Reply, Play as AskPlay, Look as AskLook}
 use Rattle.session.specs.declared.commands.Ask.TheVariants.{Offer as AskOffer}
 use Rattle.session.specs.declared.plans.Planned.{Planned}
-use Rattle.rtsp_replies.specs.declared.refusals.Refusal.TheVariants.{Buffer, Range}
+use Rattle.rtsp_methods.specs.declared.refusals.Refusal.TheVariants.{Buffer, Range}
 use Rattle.film_streams.specs.declared.settings.Settings.{Settings}
 use Rattle.session.specs.declared.states.Awaited.TheVariants.{Play, Look}
 use Rattle.film_streams.specs.declared.setups.Setup.{Setup}
@@ -30,7 +30,7 @@ use Rattle.session.specs.OfferLaws.{IsLeastBufferReply, IsOfferAsked}
 use Rattle.rtsp_replies.specs.PublicLaws.{IsPublicTold}
 use Rattle.session_laws.specs.RefusalLaws.{IsRefusedBy}
 use Rattle.session.specs.RefusalOrder.{IsReadAs}
-use Rattle.rtsp_replies.specs.Methods.{IsWord}
+use Rattle.rtsp_methods.specs.Methods.{IsWord}
 use Rattle.session_laws.specs.ReplyContents.{IsDescribeReply, IsSetupReply, IsShort}
 use Rattle.session.specs.RequestedPlans.{HasNoPlan, IsPlannedRun}
 use Rattle.session.specs.RunRequests.{IsNoRange}

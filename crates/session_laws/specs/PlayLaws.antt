@@ -18,7 +18,7 @@ use Rattle.rtsp_text.specs.Fields.{header_value}
 use Rattle.rtsp_text.specs.declared.requests.Request.{Request}
 use Rattle.session.specs.declared.commands.Ask.{Ask}
 use Rattle.session.specs.declared.commands.Ask.TheVariants.{Reply}
-use Rattle.rtsp_replies.specs.declared.methods.Method.{Method}
+use Rattle.rtsp_methods.specs.declared.methods.Method.{Method}
 use Rattle.session_records.specs.declared.notes.PlayNote.{PlayNote}
 use Rattle.session.specs.declared.plans.Planned.{Planned}
 use Rattle.film_streams.specs.declared.settings.Settings.{Settings}

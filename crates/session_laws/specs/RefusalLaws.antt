@@ -12,13 +12,13 @@ use Rattle.rtsp_text.specs.declared.requests.Request.{Request}
 use Rattle.rtsp_fields.specs.SessionIds.{IsSession}
 use Rattle.session.specs.declared.commands.Ask.{Ask}
 use Rattle.session.specs.declared.commands.Ask.TheVariants.{Reply}
-use Rattle.rtsp_replies.specs.declared.methods.Method.{Method}
-use Rattle.rtsp_replies.specs.declared.methods.Method.TheVariants.{Options, Describe, Setup, Play}
-use Rattle.rtsp_replies.specs.declared.methods.Method.TheVariants.{Pause}
-use Rattle.rtsp_replies.specs.declared.methods.Method.TheVariants.{Teardown, GetParameter}
+use Rattle.rtsp_methods.specs.declared.methods.Method.{Method}
+use Rattle.rtsp_methods.specs.declared.methods.Method.TheVariants.{Options, Describe, Setup, Play}
+use Rattle.rtsp_methods.specs.declared.methods.Method.TheVariants.{Pause}
+use Rattle.rtsp_methods.specs.declared.methods.Method.TheVariants.{Teardown, GetParameter}
 use Rattle.film_streams.specs.Films.{Names}
 use Rattle.session.specs.RefusalOrder.{IsOwnTalk}
-use Rattle.rtsp_replies.specs.Methods.{name_of}
+use Rattle.rtsp_methods.specs.Methods.{name_of}
 use Rattle.session.specs.SessionStates.{SessionState, has_session_in, is_playing_in, with_reply}
 
 -- a request is refused with this code, by its own CSeq: nothing is asked of the station, and

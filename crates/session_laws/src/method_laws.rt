@@ -25,7 +25,7 @@ ghost use Rattle.session_laws.specs.MethodLaws.{SettlesSetup, setup_in};
 ghost use Rattle.session.specs.OfferLaws.{IsWaitIn};
 ghost use Rattle.session_laws.specs.RefusalLaws.{IsKnownMethod, IsRefusedBy, RequiresSomeOption};
 ghost use Rattle.session.specs.RefusalOrder.{IsReadAs};
-ghost use Rattle.rtsp_replies.specs.Methods.{IsWord};
+ghost use Rattle.rtsp_methods.specs.Methods.{IsWord};
 ghost use Rattle.session.specs.RequestEffects.{HasCode};
 ghost use Rattle.session.specs.RequestedPlans.{IsPlannedRun};
 ghost use Rattle.session.specs.RequestSteps.{Hears};

@@ -8,7 +8,7 @@ ghost use Rattle.film_run.specs.Plans.{rest_sizes, timing_of};
 ghost use Rattle.film_run.specs.Units.{stored_sizes};
 ghost use Rattle.session.specs.declared.commands.Ask.{Ask};
 ghost use Rattle.session_records.specs.declared.notes.OfferNote.{OfferNote};
-ghost use Rattle.rtsp_replies.specs.declared.refusals.Refusal.TheVariants.{Buffer};
+ghost use Rattle.rtsp_methods.specs.declared.refusals.Refusal.TheVariants.{Buffer};
 ghost use Rattle.film_streams.specs.declared.setups.Setup.{Setup};
 ghost use Rattle.session.specs.RequestSteps.{Hears, after_offer};
 ghost use Rattle.session.specs.OfferLaws.{IsLeastBuffer, IsLeastBufferReply, IsOfferAsked};

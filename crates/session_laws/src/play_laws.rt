@@ -5,7 +5,7 @@ ghost use Rattle.plan_cert.specs.PlanSlots.{total_bytes};
 ghost use Rattle.film_frames.specs.declared.stored_films.Stored.{Stored};
 ghost use Rattle.rtsp_text.specs.declared.requests.Request.{Request};
 ghost use Rattle.session.specs.declared.commands.Ask.{Ask};
-ghost use Rattle.rtsp_replies.specs.declared.methods.Method.TheVariants.{Play as PlayMethod};
+ghost use Rattle.rtsp_methods.specs.declared.methods.Method.TheVariants.{Play as PlayMethod};
 ghost use Rattle.session.specs.declared.states.Play.{Play as Played};
 ghost use Rattle.film_streams.specs.declared.setups.Setup.{Setup};
 ghost use Rattle.session.specs.declared.states.State.TheVariants.{Playing};

@@ -9,7 +9,7 @@ ghost use Rattle.rtsp_fields.specs.declared.ranges.Origin.TheVariants.{Now};
 ghost use Rattle.rtsp_fields.specs.declared.ranges.Span.{Span};
 ghost use Rattle.rtsp_text.specs.declared.requests.Request.{Request};
 ghost use Rattle.session.specs.declared.commands.Ask.{Ask};
-ghost use Rattle.rtsp_replies.specs.declared.methods.Method.{Method};
+ghost use Rattle.rtsp_methods.specs.declared.methods.Method.{Method};
 ghost use Rattle.session.specs.declared.plans.Planned.{Planned};
 ghost use Rattle.film_streams.specs.declared.setups.Setup.{Setup};
 ghost use Rattle.session.specs.Laws.{Resumes};

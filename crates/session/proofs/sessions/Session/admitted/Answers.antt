@@ -1,9 +1,10 @@
 use Rattle.std.proofs.Common.{◌≡◌, ◌-◌, refl, sym, ap, subst, ◌∙◌, arith}
 use Rattle.film_frames.specs.FramedRuns.{run_pieces}
-use Rattle.pacer.specs.PacerStates.{IsPacerState, new_pacer_state}
+use Rattle.pacer.specs.PacerStates.{IsPacerState}
 use Rattle.session.specs.SessionInvariant.{SessionContext, IsAwaitedInvariant, IsPreparedIn, IsStateInvariant}
 use Rattle.session.specs.SessionInvariant.{awaited_offers}
 use Rattle.session.specs.SessionInvariant.{awaited_plays, awaited_receipts, session_context_of, open_receipts}
+use Rattle.session.specs.SlotSteps.{play_of}
 use Rattle.session_records.specs.RecordLists.{SessionRecords}
 use Rattle.session.specs.declared.states.Awaited.{Awaited}
 use Rattle.session.specs.declared.states.Awaited.TheVariants.{Nothing, Play}
@@ -28,13 +29,7 @@ invariant_of-self c =
     let kept : IsPreparedIn films inside.source inside.settings (Ready setup c.in-Ready.field-1) prepared =
     subst (λ (s : State). IsPreparedIn films inside.source inside.settings s prepared) state asked in
     let ready = subst (λ (s : State). IsStateInvariant ground s) state c.self.invariant.state in
-    let play : Played = record {
-      run = prepared.run;
-      place = c.args.place;
-      start = c.args.start;
-      plan = prepared.plan;
-      pacer = new_pacer_state (run_pieces prepared.frames) prepared.run.sent prepared.paced c.args.start;
-    } in
+    let play : Played = play_of prepared c.args.place c.args.start in
     let pacing : IsPacerState play.pacer =
     subst (λ (p : Played). IsPacerState p.pacer) c.play_of-play.ensures.play c.play_of-play.ensures.pacing in
     let none : c.replace.new.dest ≡ Nothing = c.replace.ensures.after in

@@ -19,7 +19,7 @@ returns-clause-exact c =
         c.reply_waits.ensures.asks,
         c.reply_waits.ensures.waits ∙ ap (λ (t : List ℕ). with_reply (session_state_of c.self.inside) t)
             (c.put_description.ensures ∙ ap
-            (λ (name : List ℕ). text name c.length_ms-end_ms.result) c.as_str.ensures.value
+            (λ (name : List ℕ). text name c.length_ms-end_ms.result) c.as_str-name.ensures.value
             ∙ ap (λ (ms : ℕ). text (string_bytes stored.name) ms) c.length_ms-end_ms.ensures),
       );
     })

@@ -8,9 +8,9 @@ use Rattle.film_run.specs.Plans.{IsPlanOf, IsPlayback, rest_sizes, timing_of}
 use Rattle.film_run.specs.Units.{stored_sizes}
 use Rattle.session.specs.RequestedPlans.{HasNoPlan, HasNoRun, IsPlanned}
 use Rattle.session.specs.RunRequests.{playback_of}
-use Rattle.rtsp_replies.specs.Refusals.{curve_refusal}
+use Rattle.rtsp_methods.specs.Refusals.{curve_refusal}
 use Rattle.session.specs.SessionStates.{SessionState}
-use Rattle.rtsp_replies.specs.declared.refusals.Refusal.TheVariants.{Range}
+use Rattle.rtsp_methods.specs.declared.refusals.Refusal.TheVariants.{Range}
 use Rattle.session.proofs.sessions.Session.plan_play.Goals as goal
 
 pub returns-in_default-clause-exact : goal.returns-in_default-clause-exact

@@ -1,4 +1,6 @@
 use Rattle.std.proofs.Common.{ℕ, List, None, Ok, ap, subst, ◌∙◌}
+use Rattle.rtsp_fields.specs.declared.transports.Channels.{Channels}
+use Rattle.rtsp_replies.specs.Replies.{setup_text}
 use Rattle.session.specs.SessionInvariant.{session_state_of}
 use Rattle.session.specs.Methods.{SetsUp}
 use Rattle.session.specs.SessionStates.{SessionState, with_reply}
@@ -19,6 +21,8 @@ returns-in-Ok-clause-exact c =
             ∙ ap (λ (s : State). record (with_reply (session_state_of c.self.inside) c.put_setup.new.reply)
             { state = s }) c.enter.ensures
             ∙ ap (λ (t : List ℕ). record (with_reply (session_state_of c.self.inside) t)
-            { state = Ready c.in-Ok.setup None }) c.put_setup.ensures,
+            { state = Ready c.in-Ok.setup None }) (c.put_setup.ensures
+            ∙ ap (λ (on : Channels). setup_text c.args.request.now.sequence on.media on.control
+            c.self.inside.source.ssrc c.self.inside.id) c.channels-channels.ensures),
       );
     })

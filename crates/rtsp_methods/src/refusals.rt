@@ -1,7 +1,7 @@
 //! Why a request is refused.
 
 ghost use Rattle.std.specs.Prelude.{◌≡◌};
-ghost use Rattle.rtsp_replies.specs.Refusals.{curve_refusal, fault_refusal};
+ghost use Rattle.rtsp_methods.specs.Refusals.{curve_refusal, fault_refusal};
 
 use rtsp_text::RequestFault;
 use wire_curve::{CurveFault, CurveRefused};

@@ -2,7 +2,7 @@
 use Rattle.std.proofs.Common.{◌≡◌, ◌≢◌, ◌↔◌, ℕ, Bool, false, IsTrue, List, [], ◌++◌, codes, sym, ap}
 use Rattle.std.proofs.Common.{◌∙◌, inl, inr}
 use Rattle.std.proofs.lemmas.List.{append-nil, append_cancel_left}
-use Rattle.rtsp_replies.specs.Methods.{IsLineEnd, IsWord}
+use Rattle.rtsp_methods.specs.Methods.{IsLineEnd, IsWord}
 
 -- what stands after a word decides whether a body is the word
 end_of_word : {word body end : List ℕ} → body ≡ word ++ end → IsWord word body → IsLineEnd end

@@ -1,8 +1,8 @@
 use Rattle.std.proofs.Common.{Some, None}
 use Rattle.std.proofs.lemmas.Bool.Decides.{Decides-eqb}
 use Rattle.std.proofs.lemmas.Slice.Eq.{strip_prefix_is}
-use Rattle.rtsp_replies.proofs.WordLemmas.{word_found, word_not_found}
-use Rattle.rtsp_replies.proofs.methods.is_word.Goals as goal
+use Rattle.rtsp_methods.proofs.WordLemmas.{word_found, word_not_found}
+use Rattle.rtsp_methods.proofs.topics.is_word.Goals as goal
 
 pub returns-in-Some : goal.returns-in-Some
 returns-in-Some c =

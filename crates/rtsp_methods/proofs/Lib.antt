@@ -1,0 +1,3 @@
+mod WordLemmas
+pub mod MethodTable
+pub mod NameParts
