@@ -191,29 +191,40 @@ authority_of url authority name is =
           ∙ sym (ap (λ l. get_or l k 0) is.authority_is) ∙ slash);
     }
 
-film_url : (authority name tail : List ℕ) → IsAuthority authority → good_name name ≡ true → IsTail tail
-    → IsRead (codes "rtsp://" ++ (authority ++ (47 ∷ name ++ tail))) authority (Some name)
-film_url authority name tail is good is_tail =
-    let path = 47 ∷ name ++ tail in
+path_prints : (name tail : List ℕ) → good_name name ≡ true → IsTail tail
+    → list_all is_url_byte (47 ∷ name ++ tail) ≡ true
+path_prints name tail good is_tail =
+    let bytes = and_parts (nat_lt 0 (length name) && nat_le (length name) 64 && not (slice_index name 0 == 46))
+    (list_all is_name_byte name) good in
+    prints-append (47 ∷ name) tail (name_in_url name bytes.1) (tail_prints tail is_tail)
+
+-- an authority ends where a path begins
+path_place : (authority path : List ℕ)
+    → slice_range (codes "rtsp://" ++ (authority ++ path)) (7 + length authority)
+    (length (codes "rtsp://" ++ (authority ++ path))) ≡ path
+path_place authority path =
     let url = codes "rtsp://" ++ (authority ++ path) in
     let at : ℕ = 7 + length authority in
     let size : length url ≡ 7 + (length authority + length path) =
     omega (arith, length-append (codes "rtsp://") (authority ++ path), length-append authority path) in
-    let bytes = and_parts (nat_lt 0 (length name) && nat_le (length name) 64 && not (slice_index name 0 == 46))
-    (list_all is_name_byte name) good in
     let whole : url ≡ (codes "rtsp://" ++ authority) ++ path = sym (append_assoc (codes "rtsp://") authority path) in
     let dropped : drop (7 + length authority) url ≡ path =
     ap (drop (7 + length authority)) whole
     ∙ drop_at (codes "rtsp://" ++ authority) path (7 + length authority)
     (omega (arith, length-append (codes "rtsp://") authority)) in
-    let rest : slice_range url (7 + length authority) (length url) ≡ path =
     ap (λ l. take (length url - (7 + length authority)) l) dropped
-    ∙ take_all (length url - (7 + length authority)) path (omega (arith, size)) in
+    ∙ take_all (length url - (7 + length authority)) path (omega (arith, size))
+
+film_url : (authority name tail : List ℕ) → IsAuthority authority → good_name name ≡ true → IsTail tail
+    → IsRead (codes "rtsp://" ++ (authority ++ (47 ∷ name ++ tail))) authority (Some name)
+film_url authority name tail is good is_tail =
+    let path = 47 ∷ name ++ tail in
+    let size : length (codes "rtsp://" ++ (authority ++ path)) ≡ 7 + (length authority + length path) =
+    omega (arith, length-append (codes "rtsp://") (authority ++ path), length-append authority path) in
     record {
       path = 7 + length authority;
       is_url = absolute_url (prints-append (codes "rtsp://") (authority ++ path) refl
-          (prints-append authority path is.prints
-          (prints-append (47 ∷ name) tail (all_print_after name bytes.1) (tail_prints tail is_tail)))) (record {
+          (prints-append authority path is.prints (path_prints name tail good is_tail))) (record {
             scheme = refl;
             authority = let some = is.some in omega (arith, some);
             end = record {
@@ -233,11 +244,9 @@ film_url authority name tail is good is_tail =
             };
           });
       authority_is = sym (take_at authority path (7 + length authority - 7) (omega arith));
-      name_is = subst (λ (p : List ℕ). NamesFilm p name) (sym rest) (film_path name tail good is_tail);
+      name_is = subst (λ (p : List ℕ). NamesFilm p name) (sym (path_place authority path))
+          (film_path name tail good is_tail);
     }
-  where
-    all_print_after : (n : List ℕ) → list_all is_name_byte n ≡ true → list_all is_url_byte (47 ∷ n) ≡ true
-    all_print_after n all = name_in_url n all
 
 -- a play's reply
 pub few_ms : (units unit time : ℕ) → unit ≤ units → units ≤ 4194304 → time ≤ 360000 → unit * time / 360 < 10 ^ 12
