@@ -46,6 +46,18 @@ use Rattle.connection_laws.specs.Courses.{Course, askings_of, course_plays, firs
 use Rattle.connection_laws.specs.Plays.{StationRequest, Asks, FilmPlay, kept_in, plays_admitted, plays_begun, plays_of}
 use Rattle.connection_laws.specs.StartRanges.{AreMadeByConnections, IsCourseIn, IsMadeByConnection, StartsInRange}
 use Rattle.connection_laws.proofs.BookedPlays.{course_outcomes, outcomes_in}
+use Rattle.connection_laws.proofs.StationAnswers.{AnswersAs, NoneAsked, PlayAdmitted, PlayRefused, PlayFull, PlayHalted}
+use Rattle.connection_laws.proofs.StationAnswers.{LookMade, LookFull, OfferMade, answers_as}
+use Rattle.connection_laws.proofs.StationAnswers.{FinishesAs, NothingLeft, DoneHalted}
+use Rattle.connection_laws.proofs.StationAnswers.{ClosesAs, NothingOpen, BookingHalted, closes_as}
+use Rattle.connection_laws.proofs.StationAnswers.{ComesAs, BytesCame, SlotCame, comes_as}
+use Rattle.std.proofs.lemmas.List.{map-append}
+use Rattle.connection_laws.specs.Notes.{StationCall, outcome_of}
+use Rattle.connection_laws.proofs.CourseTurns.{IsKeptByDoings, doings_kept, turns_told}
+use Rattle.station.specs.Ledgers.{play_of}
+use Rattle.std.proofs.Common.{map}
+use Rattle.plan_cert.specs.declared.Segment.{Segment}
+use Rattle.conn.specs.InputSteps.{IsHaltAnswered}
 
 -- ---- the entries among what the station answered
 abbrev InEntry : (PlacedEntry → Type 0) → Outcome → Type 0
@@ -84,113 +96,66 @@ all_entries P (Offered at_slot note ∷ outcomes) are = all_entries P outcomes a
 abbrev AsksInRange : PlacedEntry → Type 0
 AsksInRange placed = asked_in placed.entry.command ≤ 2 ^ 62
 
-halted_range : (old : SessionState) (keep : ℕ) (outcome : Outcome) (new : SessionState)
-    → IsHalted old keep outcome new → InEntry AsksInRange outcome
-halted_range old keep Unasked new halted = tt
-halted_range old keep (Entered placed) new halted =
-    let none : asked_in placed.entry.command ≡ 0 = ap asked_in halted.command in omega (arith, none)
-halted_range old keep (WasFull more entries live) new halted = tt
-halted_range old keep (Offered at_slot note) new halted = tt
+halt_range : {old new : SessionState} {keep : ℕ} {placed : PlacedEntry} → IsHaltAnswered old keep placed new
+    → AsksInRange placed
+halt_range {placed = placed} halt =
+    let none : asked_in placed.entry.command ≡ 0 = ap asked_in halt.command in omega (arith, none)
 
-entered_range : (old : SessionState) (ask : Ask) (placed : PlacedEntry) (new : SessionState)
-    → IsAskAnswered old ask (Entered placed) new → AsksInRange placed
-entered_range old AskReply placed new answered = absurd answered
-entered_range old (AskPlay plan) placed new answered =
-    let slot : asked_in placed.entry.command ≡ min old.heard (2 ^ 62) = ap asked_in answered.0 in
-    omega (arith, slot)
-entered_range old (AskHalt keep) placed new answered = halted_range old keep (Entered placed) new answered
-entered_range old (AskLook slot) placed new answered =
-    let none : asked_in placed.entry.command ≡ 0 = ap asked_in answered.0 in omega (arith, none)
-entered_range old (AskOffer plan offers) placed new answered = absurd answered
+play_range : (placed : PlacedEntry) (heard : ℕ) (plan : List Segment) → placed.entry.command ≡ play_of heard plan
+    → AsksInRange placed
+play_range placed heard plan command =
+    let slot : asked_in placed.entry.command ≡ min heard (2 ^ 62) = ap asked_in command in omega (arith, slot)
 
-ask_range : (old : SessionState) (ask : Ask) (outcome : Outcome) (new : SessionState)
-    → IsAskAnswered old ask outcome new → InEntry AsksInRange outcome
-ask_range old ask Unasked new answered = tt
-ask_range old ask (Entered placed) new answered = entered_range old ask placed new answered
-ask_range old ask (WasFull more entries live) new answered = tt
-ask_range old ask (Offered at_slot note) new answered = tt
+ask_range : {asking new : SessionState} {ask : Ask} {outcome : Outcome} → AnswersAs asking new ask outcome
+    → InEntry AsksInRange outcome
+ask_range (NoneAsked is) = tt
+ask_range {asking} (PlayAdmitted {plan = plan} {placed = placed} play) =
+    play_range placed asking.heard plan play.command
+ask_range {asking} (PlayRefused {plan = plan} {placed = placed} play) =
+    play_range placed asking.heard plan play.command
+ask_range (PlayFull is) = tt
+ask_range (PlayHalted halt) = halt_range halt
+ask_range (LookMade {placed = placed} look) =
+    let none : asked_in placed.entry.command ≡ 0 = ap asked_in look.command in omega (arith, none)
+ask_range (LookFull is) = tt
+ask_range (OfferMade is) = tt
 
-unasked_range : (old : SessionState) (halt : Outcome) (new : SessionState) → IsFinished NoAnswer old halt new
+finish_range : {s new : SessionState} {awaited : Awaited} {halt : Outcome} → FinishesAs s new awaited halt
     → InEntry AsksInRange halt
-unasked_range old Unasked new is = tt
-unasked_range old (Entered placed) new is = absurd is
-unasked_range old (WasFull more entries live) new is = tt
-unasked_range old (Offered at_slot note) new is = tt
+finish_range (NothingLeft is) = tt
+finish_range (DoneHalted halt) = halt_range halt
 
-finished_range : (awaited : AwaitedAnswer) (old : SessionState) (halt : Outcome) (new : SessionState)
-    → IsFinished awaited old halt new → InEntry AsksInRange halt
-finished_range NoAnswer old halt new is = unasked_range old halt new is
-finished_range (PlayAnswer plan) old halt new is = absurd is
-finished_range (HaltAnswer keep) old halt new is = halted_range old keep halt new is
-finished_range LookAnswer old halt new is = absurd is
-finished_range OfferAnswer old halt new is = absurd is
+close_range : {old new : SessionState} {booking : Option OpenBooking} {halt : Outcome} → ClosesAs old new booking halt
+    → InEntry AsksInRange halt
+close_range (NothingOpen is) = tt
+close_range (BookingHalted halt) = halt_range halt
 
-closed_range : (booking : Option OpenBooking) (old : SessionState) (halt : Outcome) (new : SessionState)
-    → IsClosed booking old halt new → InEntry AsksInRange halt
-closed_range None old Unasked new is = tt
-closed_range None old (Entered placed) new is = absurd is
-closed_range None old (WasFull more entries live) new is = tt
-closed_range None old (Offered at_slot note) new is = tt
-closed_range (Some booking) old halt new is = halted_range old booking.due halt new is
+abbrev RangeOfCalls : SessionState → List StationCall → SessionState → Type 0
+RangeOfCalls old turns new = InEntries AsksInRange (map outcome_of turns)
 
-comes_range : (old opened : Stage) (event : IoEvent) (due : List SentPart) (halt : Outcome)
-    → Comes old event due halt opened → InEntry AsksInRange halt
-comes_range old opened (HeardBytes bytes) due halt comes = subst (InEntry AsksInRange) (sym comes.1) tt
-comes_range old opened (HeardSlot slot) due halt comes =
-    finished_range (awaited_answer (after_slot old.session slot)) (after_slot old.session slot) halt opened.session
-    comes.1.finished
-comes_range old opened HeardEnd due halt comes = absurd comes
-comes_range old opened (Sent byte) due halt comes = absurd comes
-
-takes_range : (old new : Stage) (takings : List ElementStep) → TakesAll old takings new
-    → InEntries AsksInRange (takings_outcomes takings)
-takes_range old new [] takes = tt
-takes_range old new (Passed n ∷ takings) takes = takes_range takes.0 new takings takes.1.1
-takes_range old new (Answered message outcome parts ∷ takings) takes =
-    let heard = takes.1.0.heard in (
-      ask_range heard.asking heard.ask outcome takes.1.0.answered heard.answered,
-      takes_range takes.0 new takings takes.1.1,
-    )
-
-round_range : (old : Stage) (round : Round) (new : Stage) → Runs old round new
-    → InEntries AsksInRange (round_outcomes round)
-round_range old round new runs = (
-  comes_range old runs.opened round.event round.due round.halt runs.comes,
-  takes_range runs.opened new round.takings runs.takes,
-)
-
-rounds_range : (old : Stage) (rounds : List Round) (new : Stage) → RunsAll old rounds new
-    → InEntries AsksInRange (rounds_outcomes rounds)
-rounds_range old [] new runs = tt
-rounds_range old (round ∷ rounds) new runs =
-    entries_join AsksInRange (round_outcomes round) (rounds_outcomes rounds) (round_range old round runs.0 runs.1.0)
-    (rounds_range runs.0 rounds new runs.1.2)
-
-ending_range : (old : Stage) (count : ℕ) (ending : Ending) (end : ConnEnd) (new : Stage)
-    → Ends old count ending end new → InEntries AsksInRange (ending_outcomes ending)
-ending_range old count Unheard end new ends = tt
-ending_range old count PeerEnded end new ends = tt
-ending_range old count (Overfull bytes) end new ends = tt
-ending_range old count (AtElement round) end new ends = round_range old round new ends.0
-ending_range old count (InSlot slot front) end new ends = tt
-ending_range old count (InReply round message outcome front) end new ends =
-    let heard = ends.1.fails.heard in
-    entries_join AsksInRange (round_outcomes round) (outcome ∷ []) (round_range old round ends.1.mid ends.1.runs)
-    (ask_range heard.asking heard.ask outcome ends.1.fails.answered heard.answered, tt)
+range_kept : IsKeptByDoings RangeOfCalls
+range_kept = record {
+  none = λ s. tt;
+  joins = λ a b c xs ys one two. subst (InEntries AsksInRange) (sym (map-append outcome_of xs ys))
+      (entries_join AsksInRange (map outcome_of xs) (map outcome_of ys) one two);
+  request = λ old new message outcome heard. (ask_range (answers_as heard.ask outcome heard.answered), tt);
+  reply = λ s. tt;
+  slot = λ s n. tt;
+  finish = λ awaited halt s new finishing asks. (finish_range finishing, tt);
+  bytes = λ s. (tt, tt);
+  failed = λ old new slot front failed. tt;
+  lost = λ s. tt;
+  close = λ held halt last closed closing opens rest. (close_range closing, tt);
+}
 
 -- a connection asks for no play in a slot after 2^62
 pub asked_range : (films : List Stored) (settings : Settings) (words : List ℕ) (doings : Activity)
     (report : ConnReport) → HasDone films settings words doings report
     → All AsksInRange (entries_in (doings_outcomes doings))
 asked_range films settings words doings report done =
-    let rounds = rounds_range (first_stage films settings words) doings.rounds done.mid done.runs in
-    let ending = ending_range done.mid (length doings.rounds) doings.ending report.end done.last done.ends in
-    let halt = closed_range (open_of done.last.session) done.last.session doings.halt done.closed done.closes in
-    let course = rounds_outcomes doings.rounds ++ ending_outcomes doings.ending in
     all_entries AsksInRange (doings_outcomes doings)
-    (entries_join AsksInRange course (doings.halt ∷ [])
-    (entries_join AsksInRange (rounds_outcomes doings.rounds) (ending_outcomes doings.ending) rounds ending)
-    (halt, tt))
+    (subst (InEntries AsksInRange) (turns_told films settings words doings report done)
+    (doings_kept range_kept films settings words doings report done))
 
 -- ---- the latest slot in which a play was asked for
 abbrev later : ℕ → Entry → ℕ

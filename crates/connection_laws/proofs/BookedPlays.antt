@@ -26,7 +26,9 @@ use Rattle.connection_laws.specs.Plays.{booking_of}
 use Rattle.connection_laws.specs.Plays.{kept_among, kept_in, kept_with, plays_of}
 use Rattle.connection_laws.proofs.FilmBytes.{Stands, opened_stands, round_step, stands_by, taken_stands}
 use Rattle.connection_laws.proofs.RequestEffects.{Ends, Starts, Stays, TurnsAs, told_by, turns_as}
-use Rattle.connection_laws.proofs.AnswerPremises.{HaltGiven}
+use Rattle.connection_laws.proofs.StationAnswers.{FinishesAs, NothingLeft, DoneHalted}
+use Rattle.connection_laws.proofs.StationAnswers.{ComesAs, BytesCame, SlotCame, comes_as}
+use Rattle.connection_laws.proofs.CourseAskings.{IsKeptByAskings, course_kept}
 
 -- the play that begins is the one that the entry records, if any
 abbrev pub IsToldBy : Awaited → Outcome → Type 0
@@ -102,19 +104,6 @@ turn_told old new asked outcome (Ends after halts) = λ askings made keeps.
     ∙ sym (ap (λ o. told_by o made) halts.outcome_is
     ∙ ap (λ c. booked_by (play_admitted c halts.placed.entry.answer) made) halts.command)
 
-takes_told : (old new : Stage) (takings : List ElementStep) (takes : TakesAll old takings new) → Stands old.session
-    → AreTold (takings_askings old takings new takes)
-takes_told old new [] takes stands = tt
-takes_told old new (Passed n ∷ takings) takes stands =
-    takes_told takes.0 new takings takes.1.1 (taken_stands old takes.0 (Passed n) takes.1.0 stands)
-takes_told old new (Answered message outcome parts ∷ takings) takes stands =
-    let replied = takes.1.0 in (
-      turn_told old.session replied.answered replied.heard.asking.awaited outcome
-          (turns_as old.session message outcome replied.answered replied.heard stands.rest),
-      takes_told takes.0 new takings takes.1.1
-          (taken_stands old takes.0 (Answered message outcome parts) takes.1.0 stands),
-    )
-
 takes_outcomes : (old new : Stage) (takings : List ElementStep) (takes : TakesAll old takings new)
     → outcomes_in (takings_askings old takings new takes) ≡ takings_outcomes takings
 takes_outcomes old new [] takes = refl
@@ -123,55 +112,31 @@ takes_outcomes old new (Answered message outcome parts ∷ takings) takes =
     ap (λ os. outcome ∷ os) (takes_outcomes takes.0 new takings takes.1.1)
 
 -- the halt of a play that is done records none
-halt_told : {s : SessionState} (asked : Awaited) (halt : Outcome) →
-    ((answer : _) (later : List StationRequest) → plays_admitted asked answer later ≡ []) → HaltGiven s halt →
-    IsToldBy asked halt
-halt_told asked Unasked none given = absurd given.halted
-halt_told asked (Entered placed) none given = λ askings made keeps.
-    ap (map booking_of) (none placed.entry.answer askings)
-    ∙ sym (ap (λ c. booked_by (play_admitted c placed.entry.answer) made) given.halted.command)
-halt_told asked (WasFull more entries live) none given = absurd given.halted
-halt_told asked (Offered at_slot note) none given = absurd given.halted
+finish_told : {s new : SessionState} {asked : Awaited} {halt : Outcome} → FinishesAs s new asked halt
+    → IsToldBy asked halt
+finish_told (NothingLeft is) = λ askings made keeps. refl
+finish_told (DoneHalted {placed = p} halt) = λ askings made keeps.
+    sym (ap (λ c. booked_by (play_admitted c p.entry.answer) made) halt.command)
 
-unasked_told : (asked : Awaited) (s : SessionState) (halt : Outcome) (new : SessionState)
-    → IsFinished NoAnswer s halt new → IsToldBy asked halt
-unasked_told asked s Unasked new is = λ askings made keeps. refl
-unasked_told asked s (Entered placed) new is = absurd is
-unasked_told asked s (WasFull more entries live) new is = absurd is
-unasked_told asked s (Offered at_slot note) new is = absurd is
+comes_told : {old opened : Stage} {event : IoEvent} {due : List SentPart} {halt : Outcome}
+    → ComesAs old opened event due halt → IsToldBy (asked_by old.session event) halt
+comes_told (BytesCame is) = λ askings made keeps. refl
+comes_told (SlotCame finish) = finish_told finish
 
-finished_told : (asked : Awaited) (s : SessionState) (halt : Outcome) (new : SessionState)
-    → IsFinished (awaited_answer_of asked) s halt new → IsToldBy asked halt
-finished_told Nothing s halt new is = unasked_told Nothing s halt new is
-finished_told (Play prepared) s halt new is = absurd is
-finished_told (Halt keep next) s halt new is = halt_told (Halt keep next) halt (λ answer later. refl)
-    (record { keep = keep; new = new; halted = is })
-finished_told (Look sequence) s halt new is = absurd is
-finished_told (Offer sequence) s halt new is = absurd is
+abbrev ToldAskings : SessionState → List StationRequest → SessionState → Type 0
+ToldAskings old made new = AreTold made
 
-comes_told : (old opened : Stage) (event : IoEvent) (due : List SentPart) (halt : Outcome)
-    → Comes old event due halt opened → IsToldBy (asked_by old.session event) halt
-comes_told old opened (HeardBytes bytes) due halt comes = subst (IsToldBy Nothing) (sym comes.1)
-    (λ askings made keeps. refl)
-comes_told old opened (HeardSlot slot) due halt comes =
-    finished_told (after_slot old.session slot).awaited (after_slot old.session slot) halt opened.session
-    comes.1.finished
-comes_told old opened HeardEnd due halt comes = absurd comes
-comes_told old opened (Sent byte) due halt comes = absurd comes
-
-course_told : (old new : Stage) (rounds : List Round) (follows : IsCourseBetween old rounds new) → Stands old.session
-    → AreTold (askings_of old rounds new follows)
-course_told old new [] follows stands = tt
-course_told old new (round ∷ rounds) follows stands =
-    let runs = follows.1.0 in
-    let mid : Stands follows.0.session =
-    stands_by old.session follows.0.session (round_askings old round follows.0 runs) (film_bytes round.due)
-    (round_step old follows.0 round runs stands) in
-    told_append (round_askings old round follows.0 runs) (askings_of follows.0 rounds new follows.1.1) (
-      comes_told old runs.opened round.event round.due round.halt runs.comes,
-      takes_told runs.opened follows.0 round.takings runs.takes (opened_stands old follows.0 round runs stands),
-    )
-    (course_told follows.0 new rounds follows.1.1 mid)
+told_kept : IsKeptByAskings ToldAskings
+told_kept = record {
+  none = λ s. tt;
+  joins = λ a b c made more one two. told_append made more one two;
+  request = λ old new message outcome parts replied stands. (
+    turn_told old.session replied.answered replied.heard.asking.awaited outcome
+        (turns_as old.session message outcome replied.answered replied.heard stands.rest),
+    tt,
+  );
+  event = λ old opened event due halt comes stands. (comes_told comes, tt);
+}
 
 pub course_outcomes : (old new : Stage) (rounds : List Round) (follows : IsCourseBetween old rounds new)
     → outcomes_in (askings_of old rounds new follows) ≡ rounds_outcomes rounds
@@ -191,5 +156,5 @@ pub plays_booked : (films : List Stored) (settings : Settings) (words : List ℕ
 plays_booked films settings words rounds new follows =
     let first : Stage = first_stage films settings words in
     let made : List StationRequest = askings_of first rounds new follows in
-    plays_told made (course_told first new rounds follows (record { rest = refl; sound = tt }))
+    plays_told made (course_kept told_kept first new rounds follows (record { rest = refl; sound = tt }))
     ∙ ap (λ os. booked_plays (entries_in os)) (course_outcomes first new rounds follows)

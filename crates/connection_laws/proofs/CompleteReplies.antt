@@ -45,14 +45,18 @@ use Rattle.conn.proofs.EventPremises.{EventCome}
 use Rattle.conn.proofs.ReplyContents.{halted_text}
 use Rattle.connection_laws.specs.Courses.{IsCourseBetween}
 use Rattle.connection_laws.specs.Replies.{PlacedText, replies_of, takings_replies, text_of}
-use Rattle.connection_laws.proofs.UniqueResults.{answered_names, names_in, replied_names, stepped_names}
+use Rattle.connection_laws.proofs.KeptParts.{answered_names, names_in, replied_names, stepped_names}
 use Rattle.connection_laws.proofs.Requests.{rounds_requests, takings_requests}
 use Rattle.connection_laws.proofs.SetupOnly.{Beginning}
-use Rattle.connection_laws.proofs.KeptSetups.{IsSameSetup, halt_setup, opened_setup, replied_setup}
+use Rattle.connection_laws.proofs.KeptSetups.{IsSameSetup, halted_setup, opened_setup, replied_setup}
 use Rattle.connection_laws.proofs.PrintedTexts.{IsPrinted, printed_w64}
 use Rattle.connection_laws.specs.WatchEnds.{AreAnswers}
 use Rattle.connection_laws.proofs.ReplyReadings.{teardown_read as read_teardown}
 use Rattle.connection_laws.proofs.RequestReplies.{IsNamed, named_still, teardown_replied}
+use Rattle.connection_laws.proofs.StationAnswers.{FinishesAs, NothingLeft, DoneHalted, nothing_left}
+use Rattle.connection_laws.proofs.StationAnswers.{ComesAs, BytesCame, SlotCame, comes_as}
+use Rattle.connection_laws.proofs.StationAnswers.{AnswersAs, NoneAsked, PlayAdmitted, PlayRefused, PlayFull, PlayHalted}
+use Rattle.connection_laws.proofs.StationAnswers.{LookMade, LookFull, OfferMade, answers_as}
 
 -- ---- the films and the id stay
 
@@ -73,19 +77,9 @@ answered_named {old} {new} {message} {outcome} replied named =
     subst (λ (s : Stage). HasValidIds s.session) (sym replied.new_is)
     (named_as (replied_names replied.answered) answered)
 
-comes_named : (old opened : Stage) (event : IoEvent) → EventCome old event opened → HasValidIds old.session
-    → HasValidIds opened.session
-comes_named old opened (HeardBytes bytes) come named =
-    subst (λ (s : Stage). HasValidIds s.session) (sym come.comes.3) named
-comes_named old opened (HeardSlot slot) come named =
-    named_as (stepped_names old.session slot come.due come.halt opened.session come.comes.1) named
-comes_named old opened HeardEnd come named = absurd come.comes
-comes_named old opened (Sent byte) come named = absurd come.comes
-
 pub opened_named : {old new : Stage} {round : Round} (runs : Runs old round new) → HasValidIds old.session
     → HasValidIds runs.opened.session
-opened_named {old} {new} {round} runs named =
-    comes_named old runs.opened round.event (record { due = round.due; halt = round.halt; comes = runs.comes }) named
+opened_named runs named = named_as (opened_setup runs).names named
 
 -- ---- one reply
 
@@ -102,29 +96,25 @@ pub record HasWholeReply (asking : SessionState) (ask : Ask) (outcome : Outcome)
   pub whole : RepliesAreComplete ask asking
   pub answered : IsAskAnswered asking ask outcome new
 
--- the session's own reply is the one that it made
-own_text : (asking new : SessionState) (ask : Ask) (outcome : Outcome) → IsOwnReply ask
-    → IsAskAnswered asking ask outcome new → new.text ≡ asking.text
-own_text asking new AskReply Unasked own answered = ap (λ (s : SessionState). s.text) answered
-own_text asking new AskReply (Entered placed) own answered = absurd answered
-own_text asking new AskReply (WasFull more entries live) own answered = absurd answered
-own_text asking new AskReply (Offered at_slot note) own answered = absurd answered
-own_text asking new (AskPlay plan) outcome own answered = absurd own
-own_text asking new (AskHalt keep) outcome own answered = halted_text asking keep outcome new answered
-own_text asking new (AskLook slot) outcome own answered = absurd own
-own_text asking new (AskOffer plan offers) outcome own answered = absurd own
+-- the session's own reply is the one that it made, and what SETUP settled stays
+record OwnReply (asking new : SessionState) : Type 0 where
+  text : new.text ≡ asking.text
+  setup : setup_in new.state ≡ setup_in asking.state
 
--- and what SETUP settled stays
-own_setup : (asking new : SessionState) (ask : Ask) (outcome : Outcome) → IsOwnReply ask
-    → IsAskAnswered asking ask outcome new → setup_in new.state ≡ setup_in asking.state
-own_setup asking new AskReply Unasked own answered = ap (λ (s : SessionState). setup_in s.state) answered
-own_setup asking new AskReply (Entered placed) own answered = absurd answered
-own_setup asking new AskReply (WasFull more entries live) own answered = absurd answered
-own_setup asking new AskReply (Offered at_slot note) own answered = absurd answered
-own_setup asking new (AskPlay plan) outcome own answered = absurd own
-own_setup asking new (AskHalt keep) outcome own answered = halt_setup asking keep outcome new answered
-own_setup asking new (AskLook slot) outcome own answered = absurd own
-own_setup asking new (AskOffer plan offers) outcome own answered = absurd own
+own_reply : {asking new : SessionState} {ask : Ask} {outcome : Outcome} → AnswersAs asking new ask outcome
+    → IsOwnReply ask → OwnReply asking new
+own_reply (NoneAsked is) own =
+    record { text = ap (λ (s : SessionState). s.text) is; setup = ap (λ (s : SessionState). setup_in s.state) is }
+own_reply {asking} (PlayHalted halt) own = record {
+  text = ap (λ (s : SessionState). s.text) halt.halts;
+  setup = ap (λ (s : SessionState). setup_in s.state) halt.halts ∙ halted_setup asking.state asking.awaited;
+}
+own_reply (PlayAdmitted play) own = absurd own
+own_reply (PlayRefused play) own = absurd own
+own_reply (PlayFull is) own = absurd own
+own_reply (LookMade look) own = absurd own
+own_reply (LookFull is) own = absurd own
+own_reply (OfferMade is) own = absurd own
 
 own_complete : (asking : SessionState) (ask : Ask) → IsOwnReply ask → RepliesAreComplete ask asking
     → IsMessage asking.text
@@ -137,7 +127,8 @@ own_complete asking (AskOffer plan offers) own whole = absurd own
 own_whole : {asking new : SessionState} (ask : Ask) (outcome : Outcome) → IsOwnReply ask
     → HasWholeReply asking ask outcome new → IsMessage new.text
 own_whole {asking} {new} ask outcome own has =
-    subst IsMessage (sym (own_text asking new ask outcome own has.answered)) (own_complete asking ask own has.whole)
+    subst IsMessage (sym (own_reply (answers_as ask outcome has.answered) own).text)
+    (own_complete asking ask own has.whole)
 
 -- the reply to a play that was admitted
 pub admitted_whole : {start : ℕ} {placed : PlacedEntry} {asking new : SessionState} (ask : Ask)
@@ -321,11 +312,12 @@ torn_reply {b} {old} {new} {message} {outcome} replied is valid named =
     let complete = replies_whole old.session message heard.ask heard.asking valid (teardown_room b is) heard.hears in
     let whole = own_whole heard.ask outcome own (record { whole = complete; answered = heard.answered }) in
     let told = teardown_replied b old.session heard.ask heard.asking named is heard.hears in
+    let its = own_reply (answers_as heard.ask outcome heard.answered) own in
     let text : replied.answered.text ≡ session_text 3 old.session.id =
-    own_text heard.asking replied.answered heard.ask outcome own heard.answered ∙ told.text in
+    its.text ∙ told.text in
     let same : IsSameSetup heard.asking replied.answered = record {
       names = answered_names heard.asking heard.ask outcome replied.answered heard.answered;
-      setup = own_setup heard.asking replied.answered heard.ask outcome own heard.answered;
+      setup = its.setup;
     } in
     let still = named_still (replied_setup replied.answered) (named_still same (named_still told.same named)) in
     record {

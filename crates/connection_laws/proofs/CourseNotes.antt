@@ -37,6 +37,12 @@ use Rattle.connection_laws.proofs.PlayNotes.{halt_turn, halted_open, heard_on, n
 use Rattle.connection_laws.proofs.PlayNotes.{notes_until, open_note, unasked_turn}
 use Rattle.session.proofs.StepInvariantLemmas.{nothing_of}
 use Rattle.conn.proofs.ReplyContents.{CourseEnd}
+use Rattle.connection_laws.proofs.StationAnswers.{FinishesAs, NothingLeft, DoneHalted}
+use Rattle.connection_laws.proofs.StationAnswers.{ClosesAs, NothingOpen, BookingHalted, closes_as}
+use Rattle.connection_laws.proofs.StationAnswers.{ComesAs, BytesCame, SlotCame, comes_as}
+use Rattle.connection_laws.proofs.CourseTurns.{IsKeptByDoings, doings_kept, last_rest}
+use Rattle.std.proofs.Common.{Option, Some}
+use Rattle.session.specs.SessionStates.{OpenBooking, open_of}
 
 abbrev CarriesOf : SessionState → List StationCall → SessionState → Type 0
 CarriesOf old turns new = Carries old.plays old.state turns new.plays new.state
@@ -121,80 +127,14 @@ kept_halt (Ready setup paused) awaited keep next is = tt
 kept_halt (Playing setup play) awaited keep next is = ap (λ a. kept_of a play.pacer.due) is
 kept_halt (Stopping setup stop) awaited keep next is = tt
 
-unasked_finished : (s new : SessionState) (halt : Outcome) → IsFinished NoAnswer s halt new
-    → CarriesOf s (station_call s halt ∷ []) new
-unasked_finished s new Unasked is =
+finished_turn : {s new : SessionState} {awaited : Awaited} {halt : Outcome} → FinishesAs s new awaited halt
+    → s.awaited ≡ awaited → CarriesOf s (station_call s halt ∷ []) new
+finished_turn {s} (NothingLeft is) asks =
     let C : SessionState → Type 0 = λ n. CarriesOf s (station_call s Unasked ∷ []) n in
     subst C (sym is) (unasked_turn s.plays s.state s)
-unasked_finished s new (Entered placed) is = absurd is
-unasked_finished s new (WasFull more entries live) is = absurd is
-unasked_finished s new (Offered at_slot note) is = absurd is
-
-finished_turn : (s new : SessionState) (awaited : Awaited) (halt : Outcome) → s.awaited ≡ awaited
-    → IsFinished (awaited_answer_of awaited) s halt new
-    → CarriesOf s (station_call s halt ∷ []) new
-finished_turn s new Nothing halt asks is = unasked_finished s new halt is
-finished_turn s new (Play prepared) halt asks is = absurd is
-finished_turn s new (Halt keep next) halt asks is =
-    halt_turn (record { keep = keep; new = new; halted = is }) s (kept_halt s.state s.awaited keep next asks)
-    (no_halt_note s.state asks)
-finished_turn s new (Look sequence) halt asks is = absurd is
-finished_turn s new (Offer sequence) halt asks is = absurd is
-
--- ---- events
-comes_turn : (old opened : Stage) (event : IoEvent) (due : List SentPart) (halt : Outcome) → Comes old event due halt
-    opened
-    → CarriesOf old.session (station_call (asking_at old.session event) halt ∷ []) opened.session
-comes_turn old opened (HeardBytes bytes) due halt comes =
-    let same : opened.session ≡ old.session = ap (λ (s : Stage). s.session) comes.3 in
-    let C : SessionState → Outcome → Type 0 = λ s h. CarriesOf old.session (station_call old.session h ∷ []) s in
-    subst (C opened.session) (sym comes.1)
-    (subst (λ s. C s Unasked) (sym same) (unasked_turn old.session.plays old.session.state old.session))
-comes_turn old opened (HeardSlot slot) due halt comes =
-    from_same old.session (after_slot old.session slot) opened.session
-    (station_call (after_slot old.session slot) halt ∷ []) (slotted_same old.session slot)
-    (finished_turn (after_slot old.session slot) opened.session (after_slot old.session slot).awaited halt refl
-    comes.1.finished)
-comes_turn old opened HeardEnd due halt comes = absurd comes
-comes_turn old opened (Sent byte) due halt comes = absurd comes
-
-takes_turns : (old new : Stage) (takings : List ElementStep) (takes : TakesAll old takings new)
-    → CarriesOf old.session (taken_calls old takings new takes) new.session
-takes_turns old new [] takes =
-    let C : Stage → Type 0 = λ s. CarriesOf old.session [] s.session in
-    subst C (sym takes) (carries_none old.session.plays old.session.state)
-takes_turns old new (Passed n ∷ takings) takes =
-    let same : takes.0.session ≡ old.session = ap (λ (s : Stage). s.session) takes.1.0.2 in
-    let C : SessionState → Type 0 = λ s. CarriesOf s (taken_calls takes.0 takings new takes.1.1) new.session in
-    subst C same (takes_turns takes.0 new takings takes.1.1)
-takes_turns old new (Answered message outcome parts ∷ takings) takes =
-    let replied = takes.1.0 in
-    let turn = station_call replied.heard.asking outcome in
-    let one : CarriesOf old.session (turn ∷ []) replied.answered =
-    heard_on old.session replied.answered message outcome replied.heard in
-    let sent : CarriesOf old.session (turn ∷ []) (after_reply replied.answered) =
-    to_same old.session replied.answered (after_reply replied.answered) (turn ∷ [])
-    (reply_same (can_reply replied.answered) replied.answered) one in
-    let C : Stage → Type 0 = λ s. CarriesOf old.session (turn ∷ []) s.session in
-    carries_then
-    (subst C (sym replied.new_is) sent) (takes_turns takes.0 new takings takes.1.1)
-
-round_carries : (old new : Stage) (round : Round) (runs : Runs old round new)
-    → CarriesOf old.session (round_calls old round new runs) new.session
-round_carries old new round runs =
-    carries_then
-    (comes_turn old runs.opened round.event round.due round.halt runs.comes)
-    (takes_turns runs.opened new round.takings runs.takes)
-
-rounds_carry : (old new : Stage) (rounds : List Round) (runs : RunsAll old rounds new)
-    → CarriesOf old.session (rounds_calls old rounds new runs) new.session
-rounds_carry old new [] runs =
-    let C : Stage → Type 0 = λ s. CarriesOf old.session [] s.session in
-    subst C (sym runs) (carries_none old.session.plays old.session.state)
-rounds_carry old new (round ∷ rounds) runs =
-    carries_then
-    (round_carries old runs.0 round runs.1.0)
-    (rounds_carry runs.0 new rounds runs.1.2)
+finished_turn {s} {new} (DoneHalted {keep = keep} {next = next} {placed = placed} halt) asks =
+    halt_turn {s = s} (record { keep = keep; placed = placed; new = new; halted = halt }) s
+    (kept_halt s.state s.awaited keep next asks) (no_halt_note s.state asks placed)
 
 -- a play that a failed send leaves as it was
 carried_open : (old new : State) → IsCarried old new → (later : List StationCall) → open_note new later ≡ open_note old
@@ -217,108 +157,61 @@ carried_open (Stopping setup stop) (Ready s p) carried later = absurd carried
 carried_open (Stopping setup stop) (Playing s p) carried later = absurd carried
 carried_open (Stopping setup stop) (Stopping s p) carried later = refl
 
--- ---- ends
-ending_carries : (old new : Stage) (count : ℕ) (ending : Ending) (end : ConnEnd) (ends : Ends old count ending end new)
-    → CarriesOf old.session (ending_calls old count ending end new ends) new.session
-ending_carries old new count Unheard end ends =
-    let C : Stage → Type 0 = λ s. CarriesOf old.session [] s.session in
-    subst C (sym ends.1) (carries_none old.session.plays old.session.state)
-ending_carries old new count PeerEnded end ends =
-    let C : Stage → Type 0 = λ s. CarriesOf old.session [] s.session in
-    subst C (sym ends.1) (carries_none old.session.plays old.session.state)
-ending_carries old new count (Overfull bytes) end ends =
-    let C : Stage → Type 0 = λ s. CarriesOf old.session [] s.session in
-    subst C (sym ends.3) (carries_none old.session.plays old.session.state)
-ending_carries old new count (AtElement round) end ends = round_carries old new round ends.0
-ending_carries old new count (InSlot slot front) end ends =
-    let failed = ends.1 in
-    to_same old.session old.session new.session [] (record {
-      plays = failed.plays;
-      open-same = carried_open old.session.state new.session.state failed.carried;
-    }) (carries_none old.session.plays old.session.state)
-ending_carries old new count (InReply round message outcome front) end ends =
-    let e = ends.1 in
-    let failed = e.fails in
-    let turn = station_call failed.heard.asking outcome in
-    let last : CarriesOf e.mid.session (turn ∷ []) failed.answered =
-    heard_on e.mid.session failed.answered message outcome failed.heard in
-    let C : Stage → Type 0 = λ s. CarriesOf e.mid.session (turn ∷ []) s.session in
-    carries_then
-    (round_carries old e.mid round e.runs) (subst C (sym failed.new_is) last)
-
--- ---- between doings nothing is awaited
-pub stands_all : (old new : Stage) (rounds : List Round) → RunsAll old rounds new → Stands old.session
-    → Stands new.session
-stands_all old new rounds runs stands =
-    let follows = follows_all old new rounds runs in
-    stands_by old.session new.session (askings_of old rounds new follows) (rounds_film rounds)
-    (course_step old new rounds follows stands)
-
-pub stands_round : (old new : Stage) (round : Round) → Runs old round new → Stands old.session → Stands new.session
-stands_round old new round runs stands =
-    stands_by old.session new.session (round_askings old round new runs) (film_bytes round.due)
-    (round_step old new round runs stands)
-
-pub ending_rest : {old : Stage} (ending : Ending) (ended : CourseEnd old ending) → Stands old.session →
-    ended.new.session.awaited ≡ Nothing
-ending_rest Unheard ended stands = ap (λ (s : Stage). s.session.awaited) ended.ends.1 ∙ stands.rest
-ending_rest PeerEnded ended stands = ap (λ (s : Stage). s.session.awaited) ended.ends.1 ∙ stands.rest
-ending_rest (Overfull bytes) ended stands = ap (λ (s : Stage). s.session.awaited) ended.ends.3 ∙ stands.rest
-ending_rest {old} (AtElement round) ended stands = (stands_round old ended.new round ended.ends.0 stands).rest
-ending_rest (InSlot slot front) ended stands = nothing_of ended.new.session.awaited ended.ends.1.rest
-ending_rest {old} (InReply round message outcome front) ended stands =
-    let e = ended.ends.1 in
-    let failed = e.fails in
-    let turns = turns_as e.mid.session message outcome failed.answered failed.heard
-    (stands_round old e.mid round e.runs stands).rest in
-    ap (λ (s : Stage). s.session.awaited) failed.new_is
-    ∙ (turn_after e.mid.session failed.answered failed.heard.asking.awaited outcome turns).awaited
-
 -- ---- the halt of a booking that is open at the end
 record IsShut (last closed : SessionState) (halt : Outcome) : Type 0 where
   on : CarriesOf last (station_call last halt ∷ []) closed
   none : (later : List StationCall) → open_note closed.state later ≡ []
 
-shut_none : (last closed : SessionState) (halt : Outcome) → ((later : List StationCall) → open_note last.state later ≡
-    [])
-    → IsClosed None last halt closed → IsShut last closed halt
-shut_none last closed Unasked none closes =
-    let C : SessionState → Type 0 = λ s. IsShut last s Unasked in
-    subst C (sym closes) (record { on = unasked_turn last.plays last.state last; none = none })
-shut_none last closed (Entered placed) none closes = absurd closes
-shut_none last closed (WasFull more entries live) none closes = absurd closes
-shut_none last closed (Offered at_slot note) none closes = absurd closes
+none_open : (state : State) (later : List StationCall) → open_in state ≡ None → open_note state later ≡ []
+none_open Init later none = refl
+none_open (Ready setup paused) later none = refl
+none_open (Playing setup play) later none = absurd (let no : ⊥ = cc in no)
+none_open (Stopping setup stop) later none = refl
 
-shut_halted : {last closed : SessionState} {halt : Outcome} (keep : ℕ) → IsKept last.state last.awaited keep
-    → last.awaited ≡ Nothing → IsHalted last keep halt closed
-    → IsShut last closed halt
-shut_halted {last} {closed} {halt = Unasked} keep kept rest halted = absurd halted
-shut_halted {last} {closed} {halt = Entered placed} keep kept rest halted = record {
-  on = halt_turn (record { keep = keep; new = closed; halted = halted }) last kept
-      (λ made later. no_note last.state last.awaited made later
+kept_open : {booking : OpenBooking} (state : State) (awaited : Awaited) → open_in state ≡ Some booking
+    → awaited ≡ Nothing → IsKept state awaited booking.due
+kept_open Init awaited opens rest = tt
+kept_open (Ready setup paused) awaited opens rest = tt
+kept_open {booking} (Playing setup play) awaited opens rest =
+    let same : record { plan = play.plan; start = play.start; due = play.pacer.due } ≡ booking = cc in
+    ap (λ a. kept_of a play.pacer.due) rest ∙ ap (λ (b : OpenBooking). b.due) same
+kept_open (Stopping setup stop) awaited opens rest = tt
+
+shut : {last closed : SessionState} {held : Option OpenBooking} {halt : Outcome} → ClosesAs last closed held halt
+    → open_of last ≡ held → last.awaited ≡ Nothing → IsShut last closed halt
+shut {last} (NothingOpen is) opens rest =
+    let C : SessionState → Type 0 = λ s. IsShut last s Unasked in
+    subst C (sym is) (record {
+      on = unasked_turn last.plays last.state last;
+      none = λ later. none_open last.state later opens;
+    })
+shut {last} {closed} (BookingHalted {booking = booking} {placed = placed} halted) opens rest = record {
+  on = halt_turn {s = last} (record { keep = booking.due; placed = placed; new = closed; halted = halted }) last
+      (kept_open last.state last.awaited opens rest)
+      (λ later. no_note last.state last.awaited placed later
       (λ prepared asks. let no : Nothing ≡ Play prepared = sym rest ∙ asks in cc no));
   none = λ later. ap (λ (s : SessionState). open_note s.state later) halted.halts
       ∙ halted_open last.state last.awaited later;
 }
-shut_halted {last} {closed} {halt = WasFull more entries live} keep kept rest halted = absurd halted
-shut_halted {last} {closed} {halt = Offered at_slot note} keep kept rest halted = absurd halted
-
-shut_in : {state : State} {last closed : SessionState} {halt : Outcome} → last.state ≡ state
-    → last.awaited ≡ Nothing → IsClosed (open_in state) last halt closed
-    → IsShut last closed halt
-shut_in {state = Init} {last} {closed} {halt} is rest closes =
-    shut_none last closed halt (λ later. ap (λ s. open_note s later) is) closes
-shut_in {state = Ready setup paused} {last} {closed} {halt} is rest closes =
-    shut_none last closed halt (λ later. ap (λ s. open_note s later) is) closes
-shut_in {state = Playing setup play} {last} {closed} {halt} is rest closes =
-    let K : State → Awaited → Type 0 = λ s a. IsKept s a play.pacer.due in
-    let kept : IsKept last.state last.awaited play.pacer.due =
-    subst (λ s. K s last.awaited) (sym is) (subst (K (Playing setup play)) (sym rest) refl) in
-    shut_halted play.pacer.due kept rest closes
-shut_in {state = Stopping setup stop} {last} {closed} {halt} is rest closes =
-    shut_none last closed halt (λ later. ap (λ s. open_note s later) is) closes
 
 -- ---- all notes
+carries_kept : IsKeptByDoings CarriesOf
+carries_kept = record {
+  none = λ s. carries_none s.plays s.state;
+  joins = λ a b c xs ys one two. carries_then one two;
+  request = λ old new message outcome heard. heard_on old new message outcome heard;
+  reply = λ s. to_same s s (sent_reply s) [] (reply_same true s) (carries_none s.plays s.state);
+  slot = λ s n. to_same s s (after_slot s n) [] (slotted_same s n) (carries_none s.plays s.state);
+  finish = λ awaited halt s new finishing asks. finished_turn finishing asks;
+  bytes = λ s. unasked_turn s.plays s.state s;
+  failed = λ old new slot front failed. to_same old.session old.session new.session [] (record {
+    plays = failed.plays;
+    open-same = carried_open old.session.state new.session.state failed.carried;
+  }) (carries_none old.session.plays old.session.state);
+  lost = λ s. carries_none s.plays s.state;
+  close = λ held halt last closed closing opens rest. (shut closing opens rest).on;
+}
+
 until_none : (turns : List StationCall) → notes_until turns [] ≡ notes_of turns
 until_none [] = refl
 until_none (turn ∷ turns) =
@@ -329,70 +222,9 @@ pub plays_noted : (films : List Stored) (settings : Settings) (words : List ℕ)
     (done : HasDone films settings words doings report)
     → report.plays.items ≡ notes_of (station_calls films settings words doings report done)
 plays_noted films settings words doings report done =
-    let first = first_stage films settings words in
-    let count = length doings.rounds in
-    let begun : Stands first.session = record { rest = refl; sound = tt } in
-    let mid = stands_all first done.mid doings.rounds done.runs begun in
-    let rest = ending_rest doings.ending
-    (record { count = count; end = report.end; new = done.last; ends = done.ends }) mid in
-    let shut = shut_in refl rest done.closes in
-    let heard = rounds_calls first doings.rounds done.mid done.runs in
-    let ended = ending_calls done.mid count doings.ending report.end done.last done.ends in
     let turns = station_calls films settings words doings report done in
-    let before : CarriesOf first.session (heard ++ ended) done.last.session =
-    carries_then
-    (rounds_carry first done.mid doings.rounds done.runs)
-    (ending_carries done.mid done.last count doings.ending report.end done.ends) in
-    let all : CarriesOf first.session turns done.closed =
-    carries_then
-    before shut.on in
+    let all = doings_kept carries_kept films settings words doings report done in
+    let closed = shut (closes_as (open_of done.last.session) doings.halt done.closes) refl
+    (last_rest films settings words doings report done) in
     done.report_is.plays ∙ sym (append-nil done.closed.plays)
-    ∙ ap (λ ns. done.closed.plays ++ ns) (sym (shut.none [])) ∙ sym (all.on []) ∙ until_none turns
-
--- ---- the answers of turns are those of the doings
-takes_outcomes : (old new : Stage) (takings : List ElementStep) (takes : TakesAll old takings new)
-    → map outcome_of (taken_calls old takings new takes) ≡ takings_outcomes takings
-takes_outcomes old new [] takes = refl
-takes_outcomes old new (Passed n ∷ takings) takes = takes_outcomes takes.0 new takings takes.1.1
-takes_outcomes old new (Answered message outcome parts ∷ takings) takes =
-    ap (λ os. outcome ∷ os) (takes_outcomes takes.0 new takings takes.1.1)
-
-round_outcomes_are : (old new : Stage) (round : Round) (runs : Runs old round new)
-    → map outcome_of (round_calls old round new runs) ≡ round_outcomes round
-round_outcomes_are old new round runs =
-    ap (λ os. round.halt ∷ os) (takes_outcomes runs.opened new round.takings runs.takes)
-
-rounds_outcomes_are : (old new : Stage) (rounds : List Round) (runs : RunsAll old rounds new)
-    → map outcome_of (rounds_calls old rounds new runs) ≡ rounds_outcomes rounds
-rounds_outcomes_are old new [] runs = refl
-rounds_outcomes_are old new (round ∷ rounds) runs =
-    map-append outcome_of (round_calls old round runs.0 runs.1.0) (rounds_calls runs.0 rounds new runs.1.2)
-    ∙ ap (λ os. os ++ map outcome_of (rounds_calls runs.0 rounds new runs.1.2))
-    (round_outcomes_are old runs.0 round runs.1.0)
-    ∙ ap (λ os. round_outcomes round ++ os) (rounds_outcomes_are runs.0 new rounds runs.1.2)
-
-ending_outcomes_are : (old new : Stage) (count : ℕ) (ending : Ending) (end : ConnEnd)
-    (ends : Ends old count ending end new)
-    → map outcome_of (ending_calls old count ending end new ends) ≡ ending_outcomes ending
-ending_outcomes_are old new count Unheard end ends = refl
-ending_outcomes_are old new count PeerEnded end ends = refl
-ending_outcomes_are old new count (Overfull bytes) end ends = refl
-ending_outcomes_are old new count (AtElement round) end ends = round_outcomes_are old new round ends.0
-ending_outcomes_are old new count (InSlot slot front) end ends = refl
-ending_outcomes_are old new count (InReply round message outcome front) end ends =
-    map-append outcome_of (round_calls old round ends.1.mid ends.1.runs)
-    (station_call ends.1.fails.heard.asking outcome ∷ [])
-    ∙ ap (λ os. os ++ outcome ∷ []) (round_outcomes_are old ends.1.mid round ends.1.runs)
-
-pub turns_told : (films : List Stored) (settings : Settings) (words : List ℕ) (doings : Activity) (report : ConnReport)
-    (done : HasDone films settings words doings report)
-    → map outcome_of (station_calls films settings words doings report done) ≡ doings_outcomes doings
-turns_told films settings words doings report done =
-    let first = first_stage films settings words in
-    let heard = rounds_calls first doings.rounds done.mid done.runs in
-    let ended = ending_calls done.mid (length doings.rounds) doings.ending report.end done.last done.ends in
-    map-append outcome_of (heard ++ ended) (station_call done.last.session doings.halt ∷ [])
-    ∙ ap (λ os. os ++ doings.halt ∷ []) (map-append outcome_of heard ended
-    ∙ ap (λ os. os ++ map outcome_of ended) (rounds_outcomes_are first done.mid doings.rounds done.runs)
-    ∙ ap (λ os. rounds_outcomes doings.rounds ++ os)
-    (ending_outcomes_are done.mid done.last (length doings.rounds) doings.ending report.end done.ends))
+    ∙ ap (λ ns. done.closed.plays ++ ns) (sym (closed.none [])) ∙ sym (all.on []) ∙ until_none turns

@@ -21,30 +21,22 @@ use Rattle.connection_laws.specs.Plays.{StationRequest, Asks, due_by as all_due,
 use Rattle.connection_laws.specs.Replies.{placed_texts}
 use Rattle.connection_laws.proofs.FilmBytes.{Stands, course_step, opened_rest, opened_stands, round_step, stands_by}
 use Rattle.connection_laws.proofs.JoinedFilms.{IsOnTime, IsSound, play_with}
-use Rattle.connection_laws.proofs.GreatestSlots.{comes_heard, course_heard, takes_left}
+use Rattle.connection_laws.proofs.KeptParts.{takes_heard}
+use Rattle.connection_laws.proofs.GreatestSlots.{comes_heard, course_heard}
 use Rattle.connection_laws.proofs.TextPlaces.{due_then}
 use Rattle.connection_laws.proofs.RequestEffects.{Going, Idle, Ending, Sends, sends_in, unasked_still}
 use Rattle.connection_laws.proofs.WaitingReplies.{Fits, IsHeld, IsHeldUp, Stand, due_going, due_here, point}
 use Rattle.connection_laws.proofs.SessionMoves.{HeldIn, Move, move_none, move_then, takes_move}
-use Rattle.connection_laws.proofs.SlotMoves.{slot_move, slotted_sound, still_move}
+use Rattle.connection_laws.proofs.SlotMoves.{StandingHeld, slot_move, still_move}
+use Rattle.connection_laws.proofs.StationAnswers.{FinishesAs, NothingLeft, DoneHalted, nothing_left}
+use Rattle.connection_laws.proofs.StationAnswers.{ComesAs, BytesCame, SlotCame, comes_as}
 
-comes_move : {due : List SentPart} {halt : Outcome} {pending : Option ℕ} (old opened : Stage) (event : IoEvent)
-    → Comes old event due halt opened
-    → Stands old.session → HeldIn pending old.session
+comes_move : {old opened : Stage} {event : IoEvent} {due : List SentPart} {halt : Outcome} {pending : Option ℕ}
+    → ComesAs old opened event due halt → StandingHeld old.session pending
     → Move old.session opened.session pending (Asks (asked_by old.session event) halt ∷ []) [] due
-comes_move {halt} {pending} old opened (HeardBytes bytes) comes stands held =
-    subst (λ ps. Move old.session opened.session pending (Asks Nothing halt ∷ []) [] ps) (sym comes.0)
-    (subst (λ h. Move old.session opened.session pending (Asks Nothing h ∷ []) [] []) (sym comes.1)
-    (still_move (ap (λ (s : Stage). s.session) comes.3) (unasked_still Nothing) held))
-comes_move {halt} {pending} old opened (HeardSlot slot) comes stands held =
-    subst (λ ps. Move old.session opened.session pending (Asks (after_slot old.session slot).awaited halt ∷ [])
-    [] ps) (sym comes.1.parts_are)
-    (slot_move slot (record { stands = stands; held = held })
-    (λ taken. ltb-true old.session.heard slot
-    (and_parts (nat_lt old.session.heard slot) (nat_le slot (2 ^ 62)) taken).0) refl
-    (slotted_sound old.session slot stands) comes.1.finished)
-comes_move {halt} old opened HeardEnd comes stands held = absurd comes
-comes_move {halt} old opened (Sent byte) comes stands held = absurd comes
+comes_move (BytesCame is) standing =
+    still_move (ap (λ (s : Stage). s.session) is) (unasked_still Nothing) standing.held
+comes_move (SlotCame {slot = slot} finish) standing = slot_move slot standing finish
 
 round_move : {old new : Stage} {round : Round} {pending : Option ℕ} (runs : Runs old round new)
     → Stands old.session → HeldIn pending old.session
@@ -54,7 +46,8 @@ round_move : {old new : Stage} {round : Round} {pending : Option ℕ} (runs : Ru
 round_move {old} {new} {round} {pending} runs stands held =
     let opened : Stage = runs.opened in
     let made : List StationRequest = Asks (asked_by old.session round.event) round.halt ∷ [] in
-    let one = comes_move old opened round.event runs.comes stands held in
+    let one = comes_move {pending = pending} (comes_as round.event round.due round.halt runs.comes)
+    (record { stands = stands; held = held }) in
     let two = takes_move opened new round.takings runs.takes (opened_stands old new round runs stands) one.held in
     let all : Move old.session new.session pending (round_askings old round new runs)
     (takings_slots opened.session.heard round.takings) (round.due ++ takings_parts round.takings) =
@@ -62,7 +55,7 @@ round_move {old} {new} {round} {pending} runs stands held =
     one two in
     subst (λ h. Move old.session new.session pending (round_askings old round new runs)
     (takings_slots h round.takings) (round.due ++ takings_parts round.takings))
-    (comes_heard old opened round.event round.due round.halt runs.comes) all
+    (comes_heard (comes_as round.event round.due round.halt runs.comes)) all
 
 course_move : {pending : Option ℕ} (old new : Stage) (rounds : List Round) (follows : IsCourseBetween old rounds new)
     → Stands old.session
@@ -81,8 +74,8 @@ course_move {pending} old new (round ∷ rounds) follows stands held =
     stands_by old.session mid.session (round_askings old round mid runs) _ (round_step old mid round runs stands) in
     let rest = course_move {pending = one.after} mid new rounds follows.1.1 mids one.held in
     let heard : mid.session.heard ≡ now =
-    (takes_left runs.opened mid round.takings runs.takes (opened_rest old mid round runs stands)).1
-    ∙ comes_heard old runs.opened round.event round.due round.halt runs.comes in
+    takes_heard runs.opened mid round.takings runs.takes
+    ∙ comes_heard (comes_as round.event round.due round.halt runs.comes) in
     subst (λ h. Move old.session new.session pending
     (round_askings old round mid runs ++ askings_of mid rounds new follows.1.1)
     (takings_slots now round.takings ++ slots_from h rounds)

@@ -31,8 +31,8 @@ use Rattle.conn.specs.declared.reports.ConnEnd.TheVariants.{BodyTooLong, TurnsSp
 use Rattle.connection_laws.specs.InputSplits.{AllLackMemoryAlike, AreSameAnswers, HeardRequest, IsDrained}
 use Rattle.connection_laws.specs.InputSplits.{LackMemoryAlike, answer_in, answers_in}
 use Rattle.connection_laws.specs.InputSplits.{heard_requests_taken}
-use Rattle.connection_laws.proofs.UniqueResults.{answered_names, answers_same, hearing, hears_same, replied_names}
-use Rattle.connection_laws.proofs.UniqueResults.{AnswersAlike}
+use Rattle.connection_laws.proofs.KeptParts.{answered_names, replied_names}
+use Rattle.connection_laws.proofs.UniqueResults.{AnswersAlike, answers_same, hears_same}
 
 -- a request that was processed, what was asked, and what came of it
 pub record StationCall : Type 0 where
@@ -42,6 +42,9 @@ pub record StationCall : Type 0 where
   pub asking : SessionState
   pub outcome : Outcome
   pub answered : SessionState
+
+abbrev pub hearing : SessionState → List ℕ → Ask → SessionState → HeardRequest
+hearing session message ask asking = record { session = session; message = message; ask = ask; asking = asking }
 
 pub data Element : Type 0 where
   Over : ℕ → Element
@@ -363,48 +366,43 @@ message_same old one other is also =
     ∙ ap (λ n. take n old.input) (total_once old.input (length other) (length one) also.first.1 is.first.1)
     ∙ sym is.message_is
 
--- two hearings that are the one of a session and a message
-record SameHearing (session s r : SessionState) (message m k : List ℕ) : Type 0 where
-  session_is : s ≡ session
-  also_session : r ≡ session
-  message_is : m ≡ message
-  also_message : k ≡ message
+-- two requests were processed from one stage, and memory ran out for both or for neither
+record TakenTwice (old : Stage) (turn again : StationCall) : Type 0 where
+  one : Stage
+  other : Stage
+  films : AreFilms old.session.films
+  taken : IsTaken old turn one
+  also : IsTaken old again other
+  alike : LackMemoryAlike (hearing turn.session turn.message turn.ask turn.asking)
+      (hearing again.session again.message again.ask again.asking)
 
-lacks_same : {session s r : SessionState} {message m k : List ℕ} (ask again : Ask) (asking other : SessionState) →
-    SameHearing session s r message m k → LackMemoryAlike (hearing s m ask asking) (hearing r k again other) →
-    LackMemoryAlike (hearing session message ask asking) (hearing session message again other)
-lacks_same {session} {s} {r} {message} {m} ask again asking other same alike =
-    subst (λ z. LackMemoryAlike (hearing z message ask asking) (hearing session message again other)) same.session_is
-    (subst (λ z. LackMemoryAlike (hearing s message ask asking) (hearing z message again other)) same.also_session
-    (subst (λ z. LackMemoryAlike (hearing s z ask asking) (hearing r message again other)) same.message_is
-    (subst (λ z. LackMemoryAlike (hearing s m ask asking) (hearing r z again other)) same.also_message alike)))
-
-turns_same : {old one other : Stage} {turn again : StationCall} (given : AnswersAlike turn.outcome again.outcome) →
-    AreFilms old.session.films → IsTaken old turn one → IsTaken old again other →
-    LackMemoryAlike (hearing turn.session turn.message turn.ask turn.asking)
-    (hearing again.session again.message again.ask again.asking) →
-    (other ≡ one) × (parts_bytes (reply_parts again.answered) ≡ parts_bytes (reply_parts turn.answered))
+turns_same : {old : Stage} {turn again : StationCall} (given : AnswersAlike turn.outcome again.outcome)
+    (twice : TakenTwice old turn again) →
+    (twice.other ≡ twice.one) × (parts_bytes (reply_parts again.answered) ≡ parts_bytes (reply_parts turn.answered))
     × AreSameAnswers given.ones given.others
-turns_same {old} {one} {other} {turn} {again} given films taken also alike =
+turns_same {old} {turn} {again} given twice =
     let message : again.message ≡ turn.message = message_same old turn.message again.message taken.next also.next in
-    let heard = hears_same films taken.hears
-    (subst (λ m. Hears old.session m again.ask again.asking) message also.hears)
-    (lacks_same turn.ask again.ask turn.asking again.asking (record {
-      session_is = taken.session_is;
-      also_session = also.session_is;
-      message_is = refl;
-      also_message = message;
-    }) alike) in
+    let heard = hears_same {one = hearing turn.session turn.message turn.ask turn.asking}
+    {other = hearing again.session again.message again.ask again.asking} (record {
+      films = subst (λ (s : SessionState). AreFilms s.films) (sym taken.session_is) films;
+      session = also.session_is ∙ sym taken.session_is;
+      message = message;
+      hears = subst (λ s. Hears s turn.message turn.ask turn.asking) (sym taken.session_is) taken.hears;
+      also = subst (λ s. Hears s again.message again.ask again.asking) (sym also.session_is) also.hears;
+      alike = alike;
+    }) in
     let answered : IsAskAnswered turn.asking turn.ask again.outcome again.answered =
     subst (λ a. IsAskAnswered turn.asking a again.outcome again.answered) heard.0
     (subst (λ s. IsAskAnswered s again.ask again.outcome again.answered) heard.1 also.answered) in
-    let both = answers_same turn.asking turn.ask given taken.answered answered in (
+    let both = answers_same turn.asking turn.ask given (taken.answered, answered) in (
       also.new_is
           ∙ stage_is (ap after_reply both.0) (ap (λ (m : List ℕ). drop (length m) old.input) message)
           ∙ sym taken.new_is,
       ap (λ s. parts_bytes (reply_parts s)) both.0,
       both.1,
     )
+  where
+    open twice use {films, taken, also, alike}
 
 -- these elements lead from a stage to one at which nothing more can be processed
 pub record PathDone (old : Stage) (xs : List Element) (one : Stage) : Type 0 where
@@ -417,6 +415,23 @@ pub record PathsAlike (xs ys : List Element) (ones others : List Outcome) (heard
     pub answers : AreSameAnswers (elements_answers xs ++ ones) (elements_answers ys ++ others)
     pub memory : AllLackMemoryAlike (elements_hearings xs ++ heard) (elements_hearings ys ++ also)
 
+answers_from : {turn again : StationCall} {xs ys : List Element} {ones others : List Outcome}
+    {heard also : List HeardRequest}
+    → PathsAlike (RequestElement turn ∷ xs) (RequestElement again ∷ ys) ones others heard also
+    → AreSameAnswers (answer_in turn.outcome ++ (elements_answers xs ++ ones))
+    (answer_in again.outcome ++ (elements_answers ys ++ others))
+answers_from {turn} {again} {xs} {ys} {ones} {others} alike =
+    subst (λ os. AreSameAnswers os (answer_in again.outcome ++ (elements_answers ys ++ others)))
+    (append_assoc (answer_in turn.outcome) (elements_answers xs) ones)
+    (subst (λ os. AreSameAnswers ((answer_in turn.outcome ++ elements_answers xs) ++ ones) os)
+    (append_assoc (answer_in again.outcome) (elements_answers ys) others) alike.answers)
+
+overs_same : {old one other : Stage} {n m : ℕ} → IsPassing old n one → IsPassing old m other → other ≡ one
+overs_same {old} {n = n} {m = m} is also =
+    let size : m ≡ n =
+    element_once old.input m n (over_element old.input m also.over) (over_element old.input n is.over) in
+    also.new_is ∙ ap (λ k. stage old.session (drop k old.input)) size ∙ sym is.new_is
+
 pub ends_same : {one other : Stage} {ones others : List Outcome} {heard also : List HeardRequest} {old : Stage}
     (xs ys : List Element) → AreFilms old.session.films → PathDone old xs one → PathDone old ys other →
     PathsAlike xs ys ones others heard also →
@@ -428,38 +443,26 @@ ends_same {one} {other} {old} [] (y ∷ ys) films way other_way alike =
 ends_same {one} {other} {old} (x ∷ xs) [] films way other_way alike =
     absurd (done_goes old way.goes.0 x (subst IsDrained other_way.goes other_way.done) way.goes.1.0)
 ends_same {one} {other} {old} (Over n ∷ xs) (Over m ∷ ys) films way other_way alike =
-    let mid : Stage = goes.0 in
-    let size : m ≡ n = element_once old.input m n (over_element old.input m too.1.0.over)
-    (over_element old.input n goes.1.0.over) in
-    let same : too.0 ≡ mid = too.1.0.new_is ∙ ap (λ k. stage old.session (drop k old.input)) size
-    ∙ sym goes.1.0.new_is in
-    let kept : AreFilms mid.session.films =
-    subst AreFilms (sym (ap (λ (s : Stage). s.session.films) goes.1.0.new_is)) films in
+    let same : too.0 ≡ goes.0 = overs_same goes.1.0 too.1.0 in
+    let kept = subst AreFilms (sym (ap (λ (s : Stage). s.session.films) goes.1.0.new_is)) films in
     ends_same xs ys kept (record { goes = goes.1.1; done = done })
     (record { goes = subst (λ s. GoesAll s ys other) same too.1.1; done = stops })
     (record { answers = alike.answers; memory = alike.memory })
   where
     open way use {goes, done}
     open other_way use {goes as too, done as stops}
-ends_same {one} {other} {old} (Over n ∷ xs) (RequestElement turn ∷ ys) films way other_way alike =
+ends_same {old = old} (Over n ∷ xs) (RequestElement turn ∷ ys) films way other_way alike =
     absurd (over_no_request old.input n way.goes.1.0.over other_way.goes.1.0.next.first.0)
 ends_same {one} {other} {old} (RequestElement turn ∷ xs) (Over m ∷ ys) films way other_way alike =
     absurd (over_no_request old.input m other_way.goes.1.0.over way.goes.1.0.next.first.0)
-ends_same {one} {other} {ones} {others} {old} (RequestElement turn ∷ xs) (RequestElement again ∷ ys) films way other_way
-    alike =
-    let mid : Stage = goes.0 in
-    let split : AreSameAnswers (answer_in turn.outcome ++ (elements_answers xs ++ ones))
-    (answer_in again.outcome ++ (elements_answers ys ++ others)) =
-    subst (λ os. AreSameAnswers os (answer_in again.outcome ++ (elements_answers ys ++ others)))
-    (append_assoc (answer_in turn.outcome) (elements_answers xs) ones)
-    (subst (λ os. AreSameAnswers ((answer_in turn.outcome ++ elements_answers xs) ++ ones) os)
-    (append_assoc (answer_in again.outcome) (elements_answers ys) others) answers) in
-    let both = turns_same
-    (record { ones = elements_answers xs ++ ones; others = elements_answers ys ++ others; same = split }) films
-    goes.1.0 other_way.goes.1.0 memory.0 in
-    let kept : AreFilms mid.session.films = subst AreFilms (sym (taken_films old mid turn goes.1.0)) films in
+ends_same {other = other} {ones} {others} {old = old} (RequestElement turn ∷ xs) (RequestElement again ∷ ys) films way
+    other_way alike =
+    let both = turns_same {old = old} {turn = turn} {again = again}
+    (record { ones = elements_answers xs ++ ones; others = elements_answers ys ++ others; same = answers_from alike })
+    (record { one = goes.0; other = too.0; films = films; taken = goes.1.0; also = too.1.0; alike = memory.0 }) in
+    let kept : AreFilms goes.0.session.films = subst AreFilms (sym (taken_films old goes.0 turn goes.1.0)) films in
     let rest = ends_same xs ys kept (record { goes = goes.1.1; done = done })
-    (record { goes = subst (λ s. GoesAll s ys other) both.0 other_way.goes.1.1; done = other_way.done })
+    (record { goes = subst (λ s. GoesAll s ys other) both.0 too.1.1; done = stops })
     (record { answers = both.2; memory = memory.1 }) in
     record {
       last = rest.last;
@@ -470,4 +473,5 @@ ends_same {one} {other} {ones} {others} {old} (RequestElement turn ∷ xs) (Requ
     }
   where
     open way use {goes, done}
-    open alike use {answers, memory}
+    open other_way use {goes as too, done as stops}
+    open alike use {memory}

@@ -50,6 +50,7 @@ use Rattle.connection_laws.proofs.SentStreams.{AreEvents, IsCounted, IsEvent, Is
 use Rattle.connection_laws.proofs.SentStreams.{counted_by, framed_append, parts_length, rounds_latest}
 use Rattle.connection_laws.proofs.SentStreams.{rounds_sent_are, texts_parts, texts_within, texts_length}
 use Rattle.connection_laws.proofs.SentStreams.{whole_rounds}
+use Rattle.connection_laws.specs.Replies.{course_texts}
 
 -- ---- the stream
 
@@ -253,6 +254,22 @@ film_in wish stored course played =
       blocks = run_blocks stored.film played.identity;
     }
 
+-- the texts of a course in two parts, by where the first part's film ends
+split_texts : {texts : List PlacedText} (course : Course) (first later : List Round) → course.rounds ≡ first ++ later
+    → course_texts course ≡ texts
+    → placed_texts 0 (rounds_parts first) ++ placed_texts (0 + length (film_bytes (rounds_parts first)))
+    (rounds_parts later) ≡ texts
+split_texts course first later split are =
+    sym (texts_parts 0 (rounds_parts first) (rounds_parts later))
+    ∙ (ap (placed_texts 0) (sym (ap rounds_parts split ∙ parts-more first later)) ∙ are)
+
+-- a text of the later part stands at or after that film's end
+later_text : (film place : ℕ) (parts : List SentPart) → place ≡ film → (placed : PlacedText) (rest : List PlacedText)
+    → placed_texts place parts ≡ placed ∷ rest → film ≤ placed.place
+later_text film place parts same placed rest at =
+    let T : List PlacedText → Type 0 = λ l. IsFromTo place (place + length (film_bytes parts)) l in
+    let its = subst T at (texts_within place parts) in omega (arith, its.0, same)
+
 fed_by : {wish : Wish} {stored : Stored} {course : Course} (played : HasPlayedWhole wish stored course)
     (first later : List Round) (j : ℕ) → course.rounds ≡ first ++ later →
     greatest_slot first ≡ played.play.start + j →
@@ -276,24 +293,16 @@ fed_by {wish} {stored} {course} played first later j split slot =
     let bytes : length (rounds_bytes first) ≡ film + texts_length (placed_texts 0 one) =
     ap (λ (l : List ℕ). length l) (rounds_sent first)
     ∙ (parts_length 0 one ∙ ap (λ n. n + texts_length (placed_texts 0 one)) size) in
-    let texts : placed_texts 0 one ++ placed_texts (0 + length (film_bytes one)) two
-    ≡ placed_text 0 played.setup ∷ placed_text 0 played.played ∷ played.later =
-    sym (texts_parts 0 one two) ∙ (ap (placed_texts 0) (sym (ap rounds_parts split ∙ parts-more first later))
-    ∙ played.texts) in
+    let texts = split_texts course first later split played.texts in
     let F : ℕ → Type 0 = λ n. IsFromTo 0 n (placed_texts 0 one) in
     let same : 0 + length (film_bytes one) ≡ film = omega (arith, size) in
     let within : IsFromTo 0 film (placed_texts 0 one) = subst F same (texts_within 0 one) in
-    let next : (placed : PlacedText) (rest : List PlacedText)
-    → placed_texts (0 + length (film_bytes one)) two ≡ placed ∷ rest → film ≤ placed.place = λ placed rest at.
-    let T : List PlacedText → Type 0 =
-    λ l. IsFromTo (0 + length (film_bytes one)) (0 + length (film_bytes one) + length (film_bytes two)) l in
-    let its = subst T at (texts_within (0 + length (film_bytes one)) two) in omega (arith, its.0, same) in
     let counted = counted_by (record {
       setup = played.setup;
       played = played.played;
       some_setup = played.setup_is.starts.0;
       some_played = played.played_is.starts.0;
-    }) (placed_texts 0 one) texts within next
+    }) (placed_texts 0 one) texts within (later_text film (0 + length (film_bytes one)) two same)
     (record { after = played.after; few = between.few }) in
     let C : ℕ → Type 0 = λ n. IsCounted (length x.first) (length x.second) film (length (framed_bytes x.blocks)) n in
     let here = subst C (sym bytes) counted in

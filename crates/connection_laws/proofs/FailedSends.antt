@@ -181,6 +181,12 @@ takes_more {new} old mid [] taking takes more =
 takes_more {new} old mid (first ∷ takings) taking takes more =
     (takes.0, (takes.1.0, takes_more {new = new} takes.0 mid takings taking takes.1.1 more))
 
+replied_bytes : (answered : SessionState) (message : List ℕ) (outcome : Outcome) → can_reply answered ≡ true
+    → takings_bytes (Answered message outcome (reply_parts answered) ∷ []) ≡ answered.text
+replied_bytes answered message outcome can =
+    append-nil (parts_bytes (reply_parts answered))
+    ∙ ap parts_bytes (cond-true (can_reply answered) (Text answered.text ∷ []) [] can) ∙ append-nil answered.text
+
 pub failed_reply : {round : Round} {message : List ℕ} {outcome : Outcome} {front : List ℕ} {new : Stage}
     (course : Course) (ends : EndsInReply course.last round message outcome front new) →
     IsCutShort course round.event (round.takings ++ Answered message outcome (reply_parts ends.fails.answered) ∷ [])
@@ -211,10 +217,7 @@ failed_reply {round} {message} {outcome} {front} course ends =
       comes = ends.runs.comes;
       takes = takes_more ends.runs.opened ends.mid round.takings taking ends.runs.takes more;
     } in
-    let text : takings_bytes (taking ∷ []) ≡ answered.text =
-    append-nil (parts_bytes parts)
-    ∙ ap parts_bytes (cond-true (can_reply answered) (Text answered.text ∷ []) [] failed.can)
-    ∙ append-nil answered.text in
+    let text = replied_bytes answered message outcome failed.can in
     let bytes : round_bytes longer ≡ round_bytes round ++ answered.text =
     ap (λ bs. parts_bytes round.due ++ bs)
     (takings_bytes-append round.takings (taking ∷ []) ∙ ap (λ bs. takings_bytes round.takings ++ bs) text)

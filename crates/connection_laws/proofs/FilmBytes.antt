@@ -34,6 +34,10 @@ use Rattle.connection_laws.proofs.Slots.{reply_on, same_on, slot_goes, state_aft
 use Rattle.connection_laws.proofs.FilmSteps.{GoesOn, sound_waits, still_rest, then_on, turn_goes}
 use Rattle.connection_laws.proofs.RequestEffects.{Ends, Going, Idle, IsAfter, Starts, Stays, TurnsAs, sends_in}
 use Rattle.connection_laws.proofs.RequestEffects.{turns_as}
+use Rattle.connection_laws.proofs.StationAnswers.{FinishesAs, NothingLeft, DoneHalted, nothing_left}
+use Rattle.connection_laws.proofs.StationAnswers.{ComesAs, BytesCame, SlotCame, comes_as}
+use Rattle.session.specs.SlotSteps.{is_taken}
+use Rattle.session.specs.declared.states.AfterHalt.{AfterHalt}
 
 -- between doings nothing is awaited, and what is sent is on time
 pub record Stands (session : SessionState) : Type 0 where
@@ -159,16 +163,57 @@ halt_state {awaited} {setup} {play} is asks =
     ap (λ (s : State). sends_in (halted_in s awaited)) is
     ∙ ap (λ (a : Awaited). sends_in (halted_in (Playing setup play) a)) asks
 
-done_step : {s : SessionState} {setup : Setup} {play : Played} {placed : PlacedEntry} {keep : ℕ} {new : SessionState}
-    → s.state ≡ Playing setup play
-    → IsSound (sends_in s.state) s.waits s.heard → is_done play.pacer ≡ true → keep ≡ play.pacer.sent
-    → s.awaited ≡ Halt keep Done
+-- a session's play is done, and its halt, which keeps what was sent, is asked for
+pub record DonePlay (s : SessionState) (keep : ℕ) : Type 0 where
+  pub setup : Setup
+  pub play : Played
+  pub state_is : s.state ≡ Playing setup play
+  pub on : IsOnTime play.pacer s.heard
+  pub done : is_done play.pacer ≡ true
+  pub sent : keep ≡ play.pacer.sent
+  pub asks : s.awaited ≡ Halt keep Done
+
+halt_if : {awaited : Awaited} {keep sent : ℕ} {next : AfterHalt} (done : Bool) → awaited ≡ Halt keep next
+    → awaited ≡ (if done then Halt sent Done else Nothing)
+    → (done ≡ true) × (keep ≡ sent) × (awaited ≡ Halt keep Done)
+halt_if {keep = keep} {sent} {next} true asks is =
+    let same : Halt keep next ≡ Halt sent Done = sym asks ∙ is in
+    let size : keep ≡ sent = cc in (refl, size, is ∙ ap (λ n. Halt n Done) (sym size))
+halt_if {keep = keep} {next = next} false asks is =
+    let no : Halt keep next ≡ Nothing = sym asks ∙ is in absurd (let clash : ⊥ = cc in clash)
+
+done_in : {s : SessionState} {keep : ℕ} {next : AfterHalt} (state : State) → s.state ≡ state
+    → IsSound (sends_in state) s.waits s.heard → s.awaited ≡ Halt keep next
+    → s.awaited ≡ (if is_done_in state then Halt (sent_in state) Done else Nothing) → DonePlay s keep
+done_in Init is sound asks finished = absurd (true≢false (sym (halt_if {sent = 0} false asks finished).0))
+done_in (Ready setup paused) is sound asks finished = absurd (true≢false (sym (halt_if {sent = 0} false asks finished).0))
+done_in (Playing setup play) is sound asks finished =
+    let halt = halt_if (is_done play.pacer) asks finished in record {
+      setup = setup;
+      play = play;
+      state_is = is;
+      on = sound.0;
+      done = halt.0;
+      sent = halt.1;
+      asks = halt.2;
+    }
+done_in (Stopping setup stop) is sound asks finished = absurd (true≢false (sym (halt_if {sent = 0} false asks finished).0))
+
+-- a slot is over: what is sent is on time, and the halt of a play that is done is asked for
+pub record IsSlotOver (s : SessionState) : Type 0 where
+  pub sound : IsSound (sends_in s.state) s.waits s.heard
+  pub asks : s.awaited ≡ (if is_done_in s.state then Halt (sent_in s.state) Done else Nothing)
+
+pub done_play : {s : SessionState} {keep : ℕ} {next : AfterHalt} → IsSlotOver s → s.awaited ≡ Halt keep next
+    → DonePlay s keep
+done_play {s} over asks = done_in s.state refl over.sound asks over.asks
+
+done_step : {s new : SessionState} {keep : ℕ} {placed : PlacedEntry} → DonePlay s keep
     → IsHaltAnswered s keep placed new → Step s new (Asks s.awaited (Entered placed) ∷ []) []
-done_step {s} {play} {placed} {new} is sound done sent asks halted =
+done_step {s} {new} {placed = placed} finished halted =
     let p : PacerState = play.pacer in
-    let on : IsOnTime p s.heard = (subst (λ st. IsSound (sends_in st) s.waits s.heard) is sound).0 in
     let sends : sends_in new.state ≡ Idle =
-    ap (λ (n : SessionState). sends_in n.state) halted.halts ∙ halt_state is asks in
+    ap (λ (n : SessionState). sends_in n.state) halted.halts ∙ halt_state state_is asks in
     let heard : new.heard ≡ s.heard = ap (λ (n : SessionState). n.heard) halted.halts in
     let goes : GoesOn (Going p) Idle s.heard s.heard new.waits (Asks s.awaited (Entered placed) ∷ []) [] = record {
       sound = tt;
@@ -179,32 +224,14 @@ done_step {s} {play} {placed} {new} is sound done sent asks halted =
     record {
       rest = ap (λ (n : SessionState). n.awaited) halted.halts;
       on = subst (λ x. GoesOn x (sends_in new.state) s.heard new.heard new.waits
-          (Asks s.awaited (Entered placed) ∷ []) []) (sym (ap sends_in is))
+          (Asks s.awaited (Entered placed) ∷ []) []) (sym (ap sends_in state_is))
           (subst (λ x. GoesOn (Going p) x s.heard new.heard new.waits (Asks s.awaited (Entered placed) ∷ [])
           []) (sym sends)
           (subst (λ h. GoesOn (Going p) Idle s.heard h new.waits (Asks s.awaited (Entered placed) ∷ []) [])
           (sym heard) goes));
     }
-
-halted_step : {s : SessionState} {setup : Setup} {play : Played} {halt : Outcome} {keep : ℕ} {new : SessionState}
-    → s.state ≡ Playing setup play
-    → IsSound (sends_in s.state) s.waits s.heard → is_done play.pacer ≡ true → keep ≡ play.pacer.sent
-    → s.awaited ≡ Halt keep Done
-    → IsHalted s keep halt new → Step s new (Asks s.awaited halt ∷ []) []
-halted_step {s} {halt = Unasked} {new} is sound done sent asks halted = absurd halted
-halted_step {s} {halt = Entered placed} {new} is sound done sent asks halted = done_step is sound done sent asks halted
-halted_step {s} {halt = WasFull more entries live} {new} is sound done sent asks halted = absurd halted
-halted_step {s} {halt = Offered at_slot note} {new} is sound done sent asks halted = absurd halted
-
-finishes : {s : SessionState} {state : State} {halt : Outcome} {new : SessionState} → s.state ≡ state
-    → IsSound (sends_in s.state) s.waits s.heard
-    → is_done_in state ≡ true → s.awaited ≡ Halt (sent_in state) Done → IsFinished (awaited_answer s) s halt new
-    → Step s new (Asks s.awaited halt ∷ []) []
-finishes {s} {state = Init} {halt} {new} is sound done asks finished = absurd (true≢false (sym done))
-finishes {s} {state = Ready setup paused} {halt} {new} is sound done asks finished = absurd (true≢false (sym done))
-finishes {s} {state = Playing setup play} {halt} {new} is sound done asks finished =
-    halted_step is sound done refl asks (subst (λ a. IsFinished (awaited_answer_of a) s halt new) asks finished)
-finishes {s} {state = Stopping setup stop} {halt} {new} is sound done asks finished = absurd (true≢false (sym done))
+  where
+    open finished use {play, state_is, on, sent, asks}
 
 -- nothing is asked
 same_step : (s new : SessionState) → Stands s → new ≡ s → Step s new (Asks s.awaited Unasked ∷ []) []
@@ -219,26 +246,17 @@ same_step s new stands same = subst (λ n. Step s n (Asks s.awaited Unasked ∷ 
   };
 })
 
-unasked_same : (s : SessionState) (halt : Outcome) (new : SessionState) → Stands s → IsFinished NoAnswer s halt new
+-- what a slot's end asks for was answered
+finished_step : {s new : SessionState} {awaited : Awaited} {halt : Outcome} → IsSlotOver s → s.awaited ≡ awaited
+    → FinishesAs s new awaited halt → Step s new (Asks s.awaited halt ∷ []) []
+finished_step {s} {new} over asks (NothingLeft is) = same_step s new (record { rest = asks; sound = over.sound }) is
+finished_step over asks (DoneHalted halt) = done_step (done_play over asks) halt
+
+unasked_step : {s new : SessionState} {halt : Outcome} → Stands s → FinishesAs s new s.awaited halt
     → Step s new (Asks s.awaited halt ∷ []) []
-unasked_same s Unasked new stands finished = same_step s new stands finished
-unasked_same s (Entered placed) new stands finished = absurd finished
-unasked_same s (WasFull more entries live) new stands finished = absurd finished
-unasked_same s (Offered at_slot note) new stands finished = absurd finished
-
-unasked_step : (s : SessionState) (halt : Outcome) (new : SessionState) → Stands s
-    → IsFinished (awaited_answer s) s halt new → Step s new (Asks s.awaited halt ∷ []) []
-unasked_step s halt new stands finished =
-    unasked_same s halt new stands (subst (λ a. IsFinished (awaited_answer_of a) s halt new) stands.rest finished)
-
--- a slot that is processed by what is being sent
-finished_step : {s : SessionState} {halt : Outcome} {new : SessionState} {done : Bool}
-    → IsSound (sends_in s.state) s.waits s.heard → is_done_in s.state ≡ done
-    → s.awaited ≡ (if done then Halt (sent_in s.state) Done else Nothing)
-    → IsFinished (awaited_answer s) s halt new → Step s new (Asks s.awaited halt ∷ []) []
-finished_step {s} {halt} {new} {done = true} sound done asks finished = finishes refl sound done asks finished
-finished_step {s} {halt} {new} {done = false} sound done asks finished =
-    unasked_step s halt new (record { rest = asks; sound = sound }) finished
+unasked_step {s} {new} stands finishing =
+    let none = nothing_left finishing stands.rest in
+    subst (λ o. Step s new (Asks s.awaited o ∷ []) []) (sym none.1) (same_step s new stands none.0)
 
 pub reply_waits : (goes : Bool) (s : SessionState) → (if goes then sent_reply s else s).waits
     ≡ (if goes then false else s.waits)
@@ -276,19 +294,23 @@ sent_on old slot stands sending later =
     [] (film_bytes (due_parts old slot))) (sym waits)
     (slot_goes old.state old.waits old.text sending stands.sound later)))
 
-sent_step : {old : SessionState} {halt : Outcome} {new : SessionState} (slot : ℕ) → Stands old
+-- a slot's end, once what is due was sent
+pub sent_over : (old : SessionState) (slot : ℕ) → Stands old → is_sending old.state ≡ true → old.heard < slot
+    → IsSlotOver (after_play (sent_slot old slot))
+sent_over old slot stands sending later =
+    let goes : Bool = old.waits && is_between (stepped_in true slot old.state) in record {
+      sound = (sent_on old slot stands sending later).sound;
+      asks = ap (λ a. if is_done_in (sent_slot old slot).state then Halt (sent_in (sent_slot old slot).state) Done else a)
+          (reply_awaited goes (sent_due old slot) ∙ stands.rest);
+    }
+
+sent_step : {old new : SessionState} {halt : Outcome} (slot : ℕ) → Stands old
     → is_sending old.state ≡ true → old.heard < slot
-    → IsFinished (awaited_answer (after_play (sent_slot old slot))) (after_play (sent_slot old slot)) halt new
+    → FinishesAs (after_play (sent_slot old slot)) new (after_play (sent_slot old slot)).awaited halt
     → Step old new (Asks (after_play (sent_slot old slot)).awaited halt ∷ []) (film_bytes (due_parts old slot))
-sent_step {old} {halt} {new} slot stands sending later finishing =
-    let s : SessionState = after_play (sent_slot old slot) in
-    let goes : Bool = old.waits && is_between (stepped_in true slot old.state) in
-    let asks : s.awaited ≡ (if is_done_in s.state then Halt (sent_in s.state) Done else Nothing) =
-    ap (λ a. if is_done_in s.state then Halt (sent_in s.state) Done else a)
-    (reply_awaited goes (sent_due old slot) ∙ stands.rest) in
-    let on = sent_on old slot stands sending later in
-    then_asked on
-    (finished_step on.sound refl asks finishing)
+sent_step {old} slot stands sending later finishing =
+    then_asked (sent_on old slot stands sending later)
+    (finished_step (sent_over old slot stands sending later) refl finishing)
 
 -- nothing is being sent
 pub idle_sound : (state : State) (waits : Bool) (from to : ℕ) → is_sending state ≡ false
@@ -311,58 +333,54 @@ slot_cases : {old : SessionState} {halt : Outcome} {new : SessionState} {taken s
     → is_sending old.state ≡ sending
     → let s : SessionState =
     if taken then (if sending then after_play (sent_slot old slot) else record old { heard = slot }) else old in
-    IsFinished (awaited_answer s) s halt new
+    FinishesAs s new s.awaited halt
     → Step old new (Asks s.awaited halt ∷ []) (film_bytes (if taken && sending then due_parts old slot else []))
-slot_cases {old} {halt} {new} {taken = false} slot stands later is finishing =
-    unasked_step old halt new stands finishing
-slot_cases {halt} {new} {taken = true} {sending = true} slot stands later is finishing =
+slot_cases {taken = false} slot stands later is finishing = unasked_step stands finishing
+slot_cases {taken = true} {sending = true} slot stands later is finishing =
     sent_step slot stands is (later refl) finishing
-slot_cases {old} {halt} {new} {taken = true} {sending = false} slot stands later is finishing =
+slot_cases {old} {taken = true} {sending = false} slot stands later is finishing =
     let s : SessionState = record old { heard = slot } in
     let on : On old s [] [] = idle_on old slot stands is (later refl) in
-    then_asked on (unasked_step s halt new (record { rest = stands.rest; sound = on.sound }) finishing)
+    then_asked on (unasked_step (record { rest = stands.rest; sound = on.sound }) finishing)
 
-pub slot_step : (old : SessionState) (slot : ℕ) (halt : Outcome) (new : SessionState) → Stands old
-    → IsFinished (awaited_answer (after_slot old slot)) (after_slot old slot) halt new
+-- a slot that is taken is later than the last
+pub taken_later : (old : SessionState) (slot : ℕ) → is_taken old slot ≡ true → old.heard < slot
+taken_later old slot taken =
+    ltb-true old.heard slot (and_parts (nat_lt old.heard slot) (nat_le slot (2 ^ 62)) taken).0
+
+slot_step : {new : SessionState} {halt : Outcome} (old : SessionState) (slot : ℕ) → Stands old
+    → FinishesAs (after_slot old slot) new (after_slot old slot).awaited halt
     → Step old new (Asks (after_slot old slot).awaited halt ∷ []) (film_bytes (slot_parts old slot))
-slot_step old slot halt new stands finishing =
-    slot_cases slot stands
-    (λ taken. ltb-true old.heard slot (and_parts (nat_lt old.heard slot) (nat_le slot (2 ^ 62)) taken).0) refl finishing
+slot_step old slot stands finishing = slot_cases slot stands (taken_later old slot) refl finishing
 
 -- ---- events
 
-comes_step : {halt : Outcome} (old opened : Stage) (event : IoEvent) (due : List SentPart)
-    → Comes old event due halt opened → Stands old.session
+comes_step : {old opened : Stage} {event : IoEvent} {due : List SentPart} {halt : Outcome}
+    → ComesAs old opened event due halt → Stands old.session
     → Step old.session opened.session (Asks (asked_by old.session event) halt ∷ []) (film_bytes due)
-comes_step {halt} old opened (HeardBytes bytes) due comes stands =
-    subst (λ ps. Step old.session opened.session (Asks Nothing halt ∷ []) (film_bytes ps)) (sym comes.0)
-    (subst (λ h. Step old.session opened.session (Asks Nothing h ∷ []) []) (sym comes.1)
-    (subst (λ (s : Stage). Step old.session s.session (Asks Nothing Unasked ∷ []) []) (sym comes.3)
+comes_step {old} (BytesCame is) stands =
+    subst (λ (s : Stage). Step old.session s.session (Asks Nothing Unasked ∷ []) []) (sym is)
     (subst (λ a. Step old.session old.session (Asks a Unasked ∷ []) []) stands.rest
-    (same_step old.session old.session stands refl))))
-comes_step {halt} old opened (HeardSlot slot) due comes stands =
-    subst (λ ps. Step old.session opened.session (Asks (after_slot old.session slot).awaited halt ∷ [])
-    (film_bytes ps)) (sym comes.1.parts_are)
-    (slot_step old.session slot halt opened.session stands comes.1.finished)
-comes_step {halt} old opened HeardEnd due comes stands = absurd comes
-comes_step {halt} old opened (Sent byte) due comes stands = absurd comes
+    (same_step old.session old.session stands refl))
+comes_step {old} (SlotCame {slot = slot} finish) stands = slot_step old.session slot stands finish
 
 pub opened_stands : (old new : Stage) (round : Round) (runs : Runs old round new) → Stands old.session
     → Stands runs.opened.session
 opened_stands old new round runs stands =
     stands_by old.session runs.opened.session (Asks (asked_by old.session round.event) round.halt ∷ [])
     (film_bytes round.due)
-    (comes_step old runs.opened round.event round.due runs.comes stands)
+    (comes_step (comes_as round.event round.due round.halt runs.comes) stands)
 
 pub opened_rest : (old new : Stage) (round : Round) (runs : Runs old round new) → Stands old.session
     → runs.opened.session.awaited ≡ Nothing
-opened_rest old new round runs stands = (comes_step old runs.opened round.event round.due runs.comes stands).rest
+opened_rest old new round runs stands =
+    (comes_step (comes_as round.event round.due round.halt runs.comes) stands).rest
 
 pub round_step : (old new : Stage) (round : Round) (runs : Runs old round new) → Stands old.session
     → Step old.session new.session (round_askings old round new runs) (film_bytes round.due)
 round_step old new round runs stands =
     let made : List StationRequest = Asks (asked_by old.session round.event) round.halt ∷ [] in
-    let one = comes_step old runs.opened round.event round.due runs.comes stands in
+    let one = comes_step (comes_as round.event round.due round.halt runs.comes) stands in
     let two = takes_step runs.opened new round.takings runs.takes
     (stands_by old.session runs.opened.session made (film_bytes round.due) one) in
     let more : List StationRequest = takings_askings runs.opened round.takings new runs.takes in

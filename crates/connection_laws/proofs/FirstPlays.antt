@@ -36,6 +36,7 @@ use Rattle.connection_laws.proofs.RequestedPlan.{playback_same}
 use Rattle.session_laws.proofs.PlayInReadyLemmas.{IsPlayHeard}
 use Rattle.connection_laws.proofs.ClientSetups.{IsSettled, range_is}
 use Rattle.connection_laws.proofs.SetupOnly.{Beginning, IsUnbegun, IsWaiting}
+use Rattle.session.specs.declared.plans.Planned.{Planned}
 
 -- a play of the entire film, as the client wished
 pub record IsWished (b : Beginning) (play : FilmPlay) : Type 0 where
@@ -57,69 +58,74 @@ some_time stored =
     let rate = film-rate (read_after [] film.bytes.items) film.grammar.accepted in
     (time_bounds film.rate (omega (arith, film.grammar.rate, rate.0)) (omega (arith, film.grammar.rate, rate.1))).0
 
+-- a play from `npt=0-` on, in a session that has played nothing, is planned for the entire film
+pub planned_whole : {old : SessionState} {stored : Stored} {setup : Setup} {paused : Option Run}
+    {range : Option (List ℕ)} {planned : Planned} → IsPlannedRun old stored setup paused range planned
+    → paused ≡ None → range ≡ Some (codes "npt=0-") → planned.run ≡ whole_run stored
+planned_whole {old} {stored} {setup} {range = range} {planned = planned} is none whole =
+    let P : Option Run → Option (List ℕ) → Type 0 = λ p r. IsPlannedRun old stored setup p r planned in
+    let its = subst (P None) whole (subst (λ p. P p range) none is) in
+    its.run_is ∙ asked-whole stored its.wanted (some_time stored) its.asked
+
 -- a session planned a run for the client, which is the entire film
-record IsPlannedFor (b : Beginning) (settings : Settings) (stored : Stored) (plan : List Segment) : Type 0 where
-  setup : Setup
-  run : Run
+record IsPlannedFor (b : Beginning) (settings : Settings) (stored : Stored) (setup : Setup) (planned : Planned)
+    : Type 0 where
   settled : IsSettled b.wish b.films setup
   slot_units : settings.slot_units ≡ b.wish.slot_units
-  run_is : run ≡ whole_run stored
-  sending : IsSending (stored_sizes stored) (session_playback stored.film settings setup) run plan
+  run_is : planned.run ≡ whole_run stored
+  sending : IsSending (stored_sizes stored) (session_playback stored.film settings setup) planned.run planned.plan
 
-sending_for : (b : Beginning) (settings : Settings) (stored : Stored) (plan : List Segment)
-    → IsPlannedFor b settings stored plan
-    → IsSending (stored_sizes stored) (playback_of b.wish stored) (whole_run stored) plan
-sending_for b settings stored plan planned =
-    let S : Playback → Run → Type 0 = λ p r. IsSending (stored_sizes stored) p r plan in
-    let playback = playback_same (session_playback stored.film settings planned.setup) (playback_of b.wish stored) refl
-    planned.slot_units planned.settled.buffer planned.settled.delay in
-    subst (S (playback_of b.wish stored)) planned.run_is (subst (λ p. S p planned.run) playback planned.sending)
+sending_for : {b : Beginning} {settings : Settings} {stored : Stored} {setup : Setup} {planned : Planned}
+    → IsPlannedFor b settings stored setup planned
+    → IsSending (stored_sizes stored) (playback_of b.wish stored) (whole_run stored) planned.plan
+sending_for {b} {settings} {stored} {setup} {planned} is =
+    let S : Playback → Run → Type 0 = λ p r. IsSending (stored_sizes stored) p r planned.plan in
+    let playback = playback_same (session_playback stored.film settings setup) (playback_of b.wish stored) refl
+    is.slot_units is.settled.buffer is.settled.delay in
+    subst (S (playback_of b.wish stored)) is.run_is (subst (λ p. S p planned.run) playback is.sending)
 
-pub wished_play : {b : Beginning} {old : SessionState} {message : List ℕ} {prepared : Prepared} {play : FilmPlay}
-    → IsWaiting b old → message ≡ play_text b.wish b.session → IsPlayHeard old message prepared
-    → play.plan ≡ prepared.plan → play.before ≡ prepared.run.sent → play.pieces ≡ run_pieces prepared.frames
-    → IsWished b play
-wished_play {b} {old} {message} {prepared} {play} waits is heard plan before pieces =
-    let stored = heard.stored in
-    let setup = heard.setup in
-    let planned = heard.planned in
+heard_planned : {b : Beginning} {old : SessionState} {message : List ℕ} {prepared : Prepared} → IsWaiting b old
+    → message ≡ play_text b.wish b.session → (heard : IsPlayHeard old message prepared)
+    → IsPlannedFor b old.settings heard.stored heard.setup heard.planned
+heard_planned {b} {old} waits is heard =
     let begun = subst (IsUnbegun b.wish b.films) heard.ready waits.unbegun in
-    let settled = begun.1 in
     let asked = play-asked b.wish b.session b.wished b.port b.session_is in
     let R : List ℕ → Type 0 = λ m.
     IsRequest m (codes "PLAY") (film_url b.wish) 2 (request_head (play_parts b.wish b.session)) [] in
     let same = request_once heard.is_request (subst R (sym is) asked.read) in
     let range : header_value heard.request.head.now (codes "Range") ≡ Some (codes "npt=0-") =
     ap (λ h. header_value h (codes "Range")) same.head_is ∙ range_is b.wish b.session b.wished b.port b.session_is in
-    let P : Option Run → Option (List ℕ) → Type 0 = λ p r. IsPlannedRun old stored setup p r planned in
-    let asked_range = header_value heard.request.head.now (codes "Range") in
-    let planned_is = subst (P None) range (subst (λ p. P p asked_range) begun.0 heard.planned_is) in
-    let run : planned.run ≡ whole_run stored =
-    planned_is.run_is ∙ asked-whole stored planned_is.wanted (some_time stored) planned_is.asked in
-    let prepared_is = heard.prepared_is in
-    let identity = identity_of old.source setup planned.counts in
-    let at = subst (λ films. IsFilmAt films setup.film stored) waits.films_are heard.planned_is.at in
-    let plan_is : play.plan ≡ planned.plan = plan ∙ ap (λ (p : Prepared). p.plan) prepared_is in
-    let planned_for : IsPlannedFor b old.settings stored planned.plan = record {
-      setup = setup;
-      run = planned.run;
-      settled = settled;
+    record {
+      settled = begun.1;
       slot_units = ap (λ (s : Settings). s.slot_units) waits.settings_are ∙ b.slot_units;
-      run_is = run;
-      sending = record { can_play = planned_is.can_play; plan_is = planned_is.plan_is };
-    } in
+      run_is = planned_whole heard.planned_is begun.0 range;
+      sending = record { can_play = heard.planned_is.can_play; plan_is = heard.planned_is.plan_is };
+    }
+
+pub wished_play : {b : Beginning} {old : SessionState} {message : List ℕ} {prepared : Prepared} {play : FilmPlay}
+    → IsWaiting b old → message ≡ play_text b.wish b.session → IsPlayHeard old message prepared
+    → play.plan ≡ prepared.plan → play.before ≡ prepared.run.sent → play.pieces ≡ run_pieces prepared.frames
+    → IsWished b play
+wished_play {b} {old} {prepared = prepared} {play} waits is heard plan before pieces =
+    let stored = heard.stored in
+    let setup = heard.setup in
+    let its = heard_planned waits is heard in
+    let identity = identity_of old.source setup heard.planned.counts in
+    let at = subst (λ films. IsFilmAt films setup.film stored) waits.films_are heard.planned_is.at in
+    let plan_is : play.plan ≡ heard.planned.plan = plan ∙ ap (λ (p : Prepared). p.plan) heard.prepared_is in
     record {
       number = setup.film;
       stored = stored;
       at = at;
-      name_is = settled.film stored at;
+      name_is = its.settled.film stored at;
       identity = identity;
-      media = settled.media;
-      control = settled.control;
+      media = its.settled.media;
+      control = its.settled.control;
       ssrc = ap (λ (s : StreamSource). s.ssrc) waits.source_is;
-      pieces = pieces ∙ (ap (λ (p : Prepared). run_pieces p.frames) prepared_is
-          ∙ ap (λ (r : Run). run_pieces (run_of stored.film r.first_unit r.end_unit identity)) run);
-      before = before ∙ (ap (λ (p : Prepared). p.run.sent) prepared_is ∙ ap (λ (r : Run). r.sent) run);
+      pieces = pieces ∙ (ap (λ (p : Prepared). run_pieces p.frames) heard.prepared_is
+          ∙ ap (λ (r : Run). run_pieces (run_of stored.film r.first_unit r.end_unit identity)) its.run_is);
+      before = before
+          ∙ (ap (λ (p : Prepared). p.run.sent) heard.prepared_is ∙ ap (λ (r : Run). r.sent) its.run_is);
       sending = subst (IsSending (stored_sizes stored) (playback_of b.wish stored) (whole_run stored)) (sym plan_is)
-          (sending_for b old.settings stored planned.plan planned_for);
+          (sending_for its);
     }

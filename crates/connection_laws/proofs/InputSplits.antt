@@ -5,7 +5,7 @@ use Rattle.std.proofs.lemmas.List.{append-nil, append_assoc}
 use Rattle.vod_base.specs.Links.{IoEvent, HeardBytes, HeardEnd, HeardSlot, Sent}
 use Rattle.film_frames.specs.declared.stored_films.Stored.{Stored}
 use Rattle.film_streams.specs.SettingRanges.{AreFilms}
-use Rattle.conn.specs.EventSteps.{Round, Runs, RunsAll, IsStopped, rounds_outcomes, takings_bytes, takings_outcomes}
+use Rattle.conn.specs.EventSteps.{Comes, Round, Runs, RunsAll, IsStopped, rounds_outcomes, takings_bytes, takings_outcomes}
 use Rattle.conn.specs.InputSteps.{HasStepped, Outcome, SentPart, Stage, parts_bytes, stage}
 use Rattle.conn.specs.declared.reports.ConnEnd.{ConnEnd}
 use Rattle.connection_laws.specs.Courses.{first_stage, rounds_bytes}
@@ -13,11 +13,11 @@ use Rattle.connection_laws.specs.InputSplits.{AllLackMemoryAlike, HaveSameInput,
 use Rattle.connection_laws.specs.InputSplits.{Beginning}
 use Rattle.connection_laws.specs.InputSplits.{InputSplit, HeardRequest, IsDrained, TakesUp, all_heard, answer_in}
 use Rattle.connection_laws.specs.InputSplits.{answers_in, heard_in, heard_requests_in, heard_requests_taken}
-use Rattle.connection_laws.proofs.UniqueResults.{stepped_names, steps_same}
+use Rattle.connection_laws.proofs.KeptParts.{stepped_names}
+use Rattle.connection_laws.proofs.UniqueResults.{steps_same}
 use Rattle.connection_laws.proofs.ElementPaths.{GoesAll, Path, Element, ends_same, goes_films, goes_grow}
 use Rattle.connection_laws.proofs.ElementPaths.{join_answers, join_bytes, join_goes, join_hearings, longer}
 use Rattle.connection_laws.proofs.ElementPaths.{path_of, elements_answers, elements_bytes, elements_hearings}
-use Rattle.conn.proofs.EventPremises.{EventCome}
 
 -- a slot, and the bytes that came after it
 record Leg : Type 0 where
@@ -58,43 +58,70 @@ abbrev legs_hearings : List Leg → List HeardRequest
 legs_hearings [] = []
 legs_hearings (leg ∷ legs) = elements_hearings leg.elements ++ legs_hearings legs
 
--- a course from a place on: the bytes that came before the next slot, and then slot after slot
-record Split (base new : Stage) (heard : List IoEvent) (bytes : List ℕ) (answers : List Outcome)
-    (hearings : List HeardRequest) : Type 0 where
-  first : List ℕ
-  elements : List Element
-  until : Stage
-  legs : List Leg
-  goes : GoesAll (longer base first) elements until
-  done : IsDrained until
-  legs_are : LegsAll until legs new
-  heard_is : heard ≡ bytes_heard first ++ legs_heard legs
-  bytes_are : bytes ≡ elements_bytes elements ++ legs_bytes legs
-  answers_are : answers ≡ elements_answers elements ++ legs_answers legs
-  hearings_are : hearings ≡ elements_hearings elements ++ legs_hearings legs
+-- what a connection received, what it sent, what the station answered, and the requests that were received
+record Exchange : Type 0 where
+  heard : List IoEvent
+  bytes : List ℕ
+  answers : List Outcome
+  hearings : List HeardRequest
 
-split_as : {base new : Stage} {heard heard' : List IoEvent} {bytes bytes' : List ℕ} {answers answers' : List Outcome}
-    {hearings hearings' : List HeardRequest}
-    → heard' ≡ heard → bytes' ≡ bytes → answers' ≡ answers → hearings' ≡ hearings
-    → Split base new heard bytes answers hearings
-    → Split base new heard' bytes' answers' hearings'
-split_as {base} {new} {answers} one two three four split = record {
-  first = split.first;
-  elements = split.elements;
-  until = split.until;
-  legs = split.legs;
-  goes = split.goes;
-  done = split.done;
-  legs_are = split.legs_are;
-  heard_is = one ∙ split.heard_is;
-  bytes_are = two ∙ split.bytes_are;
-  answers_are = three ∙ split.answers_are;
-  hearings_are = four ∙ split.hearings_are;
+-- one after another
+abbrev joined : Exchange → Exchange → Exchange
+joined a b = record {
+  heard = a.heard ++ b.heard;
+  bytes = a.bytes ++ b.bytes;
+  answers = a.answers ++ b.answers;
+  hearings = a.hearings ++ b.hearings;
 }
+
+-- bytes, and the elements that were processed after them
+abbrev elements_exchange : List ℕ → List Element → Exchange
+elements_exchange bytes elements = record {
+  heard = bytes_heard bytes;
+  bytes = elements_bytes elements;
+  answers = elements_answers elements;
+  hearings = elements_hearings elements;
+}
+
+-- an event, before elements are processed
+abbrev event_exchange : IoEvent → List SentPart → Outcome → Exchange
+event_exchange event due halt = record {
+  heard = heard_in event;
+  bytes = parts_bytes due;
+  answers = answer_in halt;
+  hearings = [];
+}
+
+abbrev legs_exchange : List Leg → Exchange
+legs_exchange legs = record {
+  heard = legs_heard legs;
+  bytes = legs_bytes legs;
+  answers = legs_answers legs;
+  hearings = legs_hearings legs;
+}
+
+exchange_same : (a b : Exchange) → a.heard ≡ b.heard → a.bytes ≡ b.bytes → a.answers ≡ b.answers
+    → a.hearings ≡ b.hearings → a ≡ b
+exchange_same a b heard bytes answers hearings =
+    ap (λ l. record a { heard = l }) heard ∙ ap (λ l. record a { heard = b.heard; bytes = l }) bytes
+    ∙ ap (λ l. record b { answers = l; hearings = a.hearings }) answers ∙ ap (λ l. record b { hearings = l }) hearings
+
+joined_assoc : (a b c : Exchange) → joined (joined a b) c ≡ joined a (joined b c)
+joined_assoc a b c =
+    exchange_same (joined (joined a b) c) (joined a (joined b c)) (append_assoc a.heard b.heard c.heard)
+    (append_assoc a.bytes b.bytes c.bytes) (append_assoc a.answers b.answers c.answers)
+    (append_assoc a.hearings b.hearings c.hearings)
 
 heard_append : (xs ys : List ℕ) → bytes_heard (xs ++ ys) ≡ bytes_heard xs ++ bytes_heard ys
 heard_append [] ys = refl
 heard_append (x ∷ xs) ys = ap (λ ds. HeardBytes (x ∷ []) ∷ ds) (heard_append xs ys)
+
+elements_join : (xs ys : List ℕ) (one two : List Element)
+    → elements_exchange (xs ++ ys) (one ++ two) ≡ joined (elements_exchange xs one) (elements_exchange ys two)
+elements_join xs ys one two =
+    exchange_same (elements_exchange (xs ++ ys) (one ++ two))
+    (joined (elements_exchange xs one) (elements_exchange ys two)) (heard_append xs ys) (join_bytes one two)
+    (join_answers one two) (join_hearings one two)
 
 answers_append : (xs ys : List Outcome) → answers_in (xs ++ ys) ≡ answers_in xs ++ answers_in ys
 answers_append [] ys = refl
@@ -102,12 +129,21 @@ answers_append (x ∷ xs) ys =
     ap (λ os. answer_in x ++ os) (answers_append xs ys)
     ∙ sym (append_assoc (answer_in x) (answers_in xs) (answers_in ys))
 
+-- a course from a place on: the bytes that came before the next slot, and then slot after slot
+record Split (base new : Stage) (all : Exchange) : Type 0 where
+  first : List ℕ
+  elements : List Element
+  until : Stage
+  legs : List Leg
+  goes : GoesAll (longer base first) elements until
+  done : IsDrained until
+  legs_are : LegsAll until legs new
+  all_is : all ≡ joined (elements_exchange first elements) (legs_exchange legs)
+
 -- what comes after an event: the course from there, for each place that it begins at
-record Later (mid new : Stage) (heard : List IoEvent) (bytes : List ℕ) (answers : List Outcome)
-    (hearings : List HeardRequest) : Type 0 where
+record Later (mid new : Stage) (all : Exchange) : Type 0 where
   each : (base : Stage) (first : List ℕ) (elements : List Element) → GoesAll (longer base first) elements mid
-      → Split base new (bytes_heard first ++ heard) (elements_bytes elements ++ bytes)
-      (elements_answers elements ++ answers) (elements_hearings elements ++ hearings)
+      → Split base new (joined (elements_exchange first elements) all)
 
 -- bytes that come first, and the elements that lead with them from one stage to another
 record FrontTaken (base cur : Stage) : Type 0 where
@@ -115,65 +151,54 @@ record FrontTaken (base cur : Stage) : Type 0 where
   elements : List Element
   goes : GoesAll (longer base bytes) elements cur
 
+abbrev front_exchange : {base cur : Stage} → FrontTaken base cur → Exchange
+front_exchange front = elements_exchange front.bytes front.elements
+
+-- an event, and the elements that are processed after it
+record EventTaken (cur mid : Stage) (event : IoEvent) : Type 0 where
+  opened : Stage
+  due : List SentPart
+  halt : Outcome
+  comes : Comes cur event due halt opened
+  elements : List Element
+  goes : GoesAll opened elements mid
+
 -- bytes came
-bytes_split : {base opened mid new : Stage} {heard : List IoEvent} {sent taken : List ℕ} {answers more : List Outcome}
-    {hearings also : List HeardRequest} {cur : Stage} (taken_front : FrontTaken base cur) (bytes : List ℕ) →
-    opened ≡ longer cur bytes → Path opened mid taken more also → Later mid new heard sent answers hearings →
-    Split base new (bytes_heard taken_front.bytes ++ (bytes_heard bytes ++ heard))
-    (elements_bytes taken_front.elements ++ (taken ++ sent))
-    (elements_answers taken_front.elements ++ (more ++ answers))
-    (elements_hearings taken_front.elements ++ (also ++ hearings))
-bytes_split {base} {opened} {mid} {new} {heard} {sent} {taken} {answers} {more} {hearings} {also} {cur}
-    taken_front bytes comes path later =
-    let ps : List Element = path.elements in
-    let front : GoesAll (longer base (first ++ bytes)) elements opened =
-    subst (λ s. GoesAll s elements opened)
+bytes_split : {base cur mid new : Stage} {bytes : List ℕ} {all : Exchange} (front : FrontTaken base cur)
+    (taken : EventTaken cur mid (HeardBytes bytes)) → Later mid new all
+    → Split base new (joined (front_exchange front) (joined (elements_exchange bytes taken.elements) all))
+bytes_split {base} {cur} {mid} {new} {bytes} {all} front taken later =
+    let ps : List Element = taken.elements in
+    let before : GoesAll (longer base (first ++ bytes)) elements taken.opened =
+    subst (λ s. GoesAll s elements taken.opened)
     (ap (λ input. stage base.session input) (append_assoc base.input first bytes))
-    (subst (GoesAll (longer (longer base first) bytes) elements) (sym comes)
+    (subst (GoesAll (longer (longer base first) bytes) elements) (sym taken.comes.3)
     (goes_grow (longer base first) cur elements bytes goes)) in
-    let all : GoesAll (longer base (first ++ bytes)) (elements ++ ps) mid =
-    join_goes (longer base (first ++ bytes)) (record { old = opened; new = mid; elements = ps; leads = path.goes })
-    elements front in
-    split_as {base = base} {new = new} {heard = bytes_heard (first ++ bytes) ++ heard}
-    {heard' = bytes_heard first ++ (bytes_heard bytes ++ heard)}
-    {bytes = elements_bytes (elements ++ ps) ++ sent} {bytes' = elements_bytes elements ++ (taken ++ sent)}
-    {answers = elements_answers (elements ++ ps) ++ answers}
-    {answers' = elements_answers elements ++ (more ++ answers)}
-    {hearings = elements_hearings (elements ++ ps) ++ hearings}
-    {hearings' = elements_hearings elements ++ (also ++ hearings)}
-    (sym (append_assoc (bytes_heard first) (bytes_heard bytes) heard)
-    ∙ ap (λ ds. ds ++ heard) (sym (heard_append first bytes)))
-    (sym (append_assoc (elements_bytes elements) taken sent) ∙ ap (λ bs. (elements_bytes elements ++ bs) ++ sent)
-    (sym path.bytes_are)
-    ∙ ap (λ bs. bs ++ sent) (sym (join_bytes elements ps)))
-    (sym (append_assoc (elements_answers elements) more answers)
-    ∙ ap (λ os. (elements_answers elements ++ os) ++ answers) (sym path.answers_are)
-    ∙ ap (λ os. os ++ answers) (sym (join_answers elements ps)))
-    (sym (append_assoc (elements_hearings elements) also hearings)
-    ∙ ap (λ hs. (elements_hearings elements ++ hs) ++ hearings) (sym path.hearings_are)
-    ∙ ap (λ hs. hs ++ hearings) (sym (join_hearings elements ps)))
-    (later.each base (first ++ bytes) (elements ++ ps) all)
+    let whole : GoesAll (longer base (first ++ bytes)) (elements ++ ps) mid =
+    join_goes (longer base (first ++ bytes)) (record {
+      old = taken.opened;
+      new = mid;
+      elements = ps;
+      leads = taken.goes;
+    }) elements before in
+    subst (Split base new)
+    (ap (λ x. joined x all) (elements_join first bytes elements ps)
+    ∙ joined_assoc (elements_exchange first elements) (elements_exchange bytes ps) all)
+    (later.each base (first ++ bytes) (elements ++ ps) whole)
   where
-    open taken_front use {bytes as first, elements, goes}
+    open front use {bytes as first, elements, goes}
 
 -- a slot came
-slot_split : {base cur opened mid new : Stage} {slot : ℕ} {due : List SentPart} {halt : Outcome} {heard : List IoEvent}
-    {sent taken : List ℕ} {answers more : List Outcome} {hearings also : List HeardRequest} (front : FrontTaken base
-    cur) →
-    IsDrained cur → opened.input ≡ cur.input → HasStepped cur.session slot due halt opened.session →
-    Path opened mid taken more also → Later mid new heard sent answers hearings →
-    Split base new (bytes_heard front.bytes ++ (HeardSlot slot ∷ heard))
-    (elements_bytes front.elements ++ (parts_bytes due ++ (taken ++ sent)))
-    (elements_answers front.elements ++ (answer_in halt ++ (more ++ answers)))
-    (elements_hearings front.elements ++ (also ++ hearings))
-slot_split {base} {cur} {opened} {mid} {new} {slot} {due} {halt} {sent} {taken} {answers} {more} {hearings}
-    front done input stepped path later =
-    let ps : List Element = path.elements in
-    let there : GoesAll (longer opened []) ps mid =
-    subst (λ s. GoesAll s ps mid) (ap (λ i. stage opened.session i) (sym (append-nil opened.input))) path.goes in
-    let rest = later.each opened [] ps there in
-    let leg : Leg =
-    record {
+slot_split : {base cur mid new : Stage} {slot : ℕ} {all : Exchange} (front : FrontTaken base cur)
+    (taken : EventTaken cur mid (HeardSlot slot)) → IsDrained cur → Later mid new all
+    → Split base new (joined (front_exchange front) (joined (event_exchange (HeardSlot slot) taken.due taken.halt)
+    (joined (elements_exchange [] taken.elements) all)))
+slot_split {cur = cur} {mid} {slot = slot} front taken done later =
+    let there : GoesAll (longer opened []) taken.elements mid =
+    subst (λ s. GoesAll s taken.elements mid) (ap (λ i. stage opened.session i) (sym (append-nil opened.input)))
+    taken.goes in
+    let rest = later.each opened [] taken.elements there in
+    let leg : Leg = record {
       slot = slot;
       due = due;
       halt = halt;
@@ -183,59 +208,62 @@ slot_split {base} {cur} {opened} {mid} {new} {slot} {due} {halt} {sent} {taken} 
       until = rest.until;
     } in
     record {
-      first = first;
-      elements = elements;
+      first = front.bytes;
+      elements = front.elements;
       until = cur;
       legs = leg ∷ rest.legs;
-      goes = goes;
+      goes = front.goes;
       done = done;
-      legs_are = (record { stepped = stepped; input = input; goes = rest.goes; done = rest.done }, rest.legs_are);
-      heard_is = ap (λ ds. bytes_heard first ++ (HeardSlot slot ∷ ds)) rest.heard_is;
-      bytes_are = ap (λ bs. elements_bytes elements ++ (parts_bytes due ++ bs))
-          (ap (λ bs. bs ++ sent) (sym path.bytes_are) ∙ rest.bytes_are);
-      answers_are =
-          ap (λ os. elements_answers elements ++ (answer_in halt ++ os))
-          (ap (λ os. os ++ answers) (sym path.answers_are) ∙ rest.answers_are);
-      hearings_are =
-          ap (λ hs. elements_hearings elements ++ hs) (ap (λ hs. hs ++ hearings) (sym path.hearings_are)
-          ∙ rest.hearings_are);
+      legs_are = (
+        record { stepped = taken.comes.1; input = taken.comes.0; goes = rest.goes; done = rest.done },
+        rest.legs_are,
+      );
+      all_is = ap (λ x. joined (front_exchange front) (joined (event_exchange (HeardSlot slot) due halt) x)) rest.all_is;
     }
   where
-    open front use {bytes as first, elements, goes}
+    open taken use {opened, due, halt}
 
-event_split : {base cur opened mid new : Stage} {heard : List IoEvent} {sent taken : List ℕ}
-    {answers more : List Outcome} {hearings also : List HeardRequest} {event : IoEvent} (front : FrontTaken base cur)
-    (come : EventCome cur event opened) → IsDrained cur → Path opened mid taken more also →
-    Later mid new heard sent answers hearings →
-    Split base new (bytes_heard front.bytes ++ (heard_in event ++ heard))
-    (elements_bytes front.elements ++ (parts_bytes come.due ++ (taken ++ sent)))
-    (elements_answers front.elements ++ (answer_in come.halt ++ (more ++ answers)))
-    (elements_hearings front.elements ++ (also ++ hearings))
-event_split {base} {cur} {opened} {new} {heard} {sent} {taken} {answers} {more} {hearings} {also}
-    {event = HeardBytes bytes} front
-    come done path later =
-    subst (λ ps. Split base new (bytes_heard first ++ (bytes_heard bytes ++ heard))
-    (elements_bytes elements ++ (parts_bytes ps ++ (taken ++ sent)))
-    (elements_answers elements ++ (answer_in come.halt ++ (more ++ answers)))
-    (elements_hearings elements ++ (also ++ hearings))) (sym come.comes.0)
-    (subst (λ h. Split base new (bytes_heard first ++ (bytes_heard bytes ++ heard))
-    (elements_bytes elements ++ (taken ++ sent))
-    (elements_answers elements ++ (answer_in h ++ (more ++ answers)))
-    (elements_hearings elements ++ (also ++ hearings))) (sym come.comes.1)
-    (bytes_split front bytes come.comes.3 path later))
-  where
-    open front use {bytes as first, elements}
-event_split {base} {opened} {new} {taken} {answers} {more} {event = HeardSlot slot} front come done path later =
-    slot_split front done come.comes.0 come.comes.1 path later
-event_split {base} {opened} {new} {taken} {answers} {more} {event = HeardEnd} front come done path later =
-    absurd come.comes
-event_split {base} {opened} {new} {taken} {answers} {more} {event = Sent byte} front come done path later =
-    absurd come.comes
+event_split : {base cur mid new : Stage} {event : IoEvent} {all : Exchange} (front : FrontTaken base cur)
+    (taken : EventTaken cur mid event) → IsDrained cur → Later mid new all
+    → Split base new (joined (front_exchange front) (joined (event_exchange event taken.due taken.halt)
+    (joined (elements_exchange [] taken.elements) all)))
+event_split {base} {new = new} {event = HeardBytes bytes} {all} front taken done later =
+    let S : List SentPart → Outcome → Type 0 = λ ps o. Split base new (joined (front_exchange front)
+    (joined (event_exchange (HeardBytes bytes) ps o) (joined (elements_exchange [] taken.elements) all))) in
+    subst (λ ps. S ps taken.halt) (sym taken.comes.0)
+    (subst (S []) (sym taken.comes.1) (bytes_split front taken later))
+event_split {event = HeardSlot slot} front taken done later = slot_split front taken done later
+event_split {event = HeardEnd} front taken done later = absurd taken.comes
+event_split {event = Sent byte} front taken done later = absurd taken.comes
 
 -- event after event
+abbrev rounds_exchange : (cur : Stage) (rounds : List Round) (new : Stage) → TakesUp cur rounds new → Exchange
+rounds_exchange cur rounds new takes = record {
+  heard = all_heard rounds;
+  bytes = rounds_bytes rounds;
+  answers = answers_in (rounds_outcomes rounds);
+  hearings = heard_requests_in cur rounds new takes;
+}
+
+round_exchange : {cur : Stage} (new : Stage) (round : Round) (rounds : List Round) (takes : TakesUp cur (round ∷ rounds) new)
+    (path : Path takes.1.0.opened takes.0 (takings_bytes round.takings) (answers_in (takings_outcomes round.takings))
+    (heard_requests_taken takes.1.0.opened round.takings takes.0 takes.1.0.takes))
+    → joined (event_exchange round.event round.due round.halt)
+    (joined (elements_exchange [] path.elements) (rounds_exchange takes.0 rounds new takes.1.2))
+    ≡ rounds_exchange cur (round ∷ rounds) new takes
+round_exchange {cur} new round rounds takes path =
+    let rest = rounds_exchange takes.0 rounds new takes.1.2 in
+    exchange_same (joined (event_exchange round.event round.due round.halt)
+    (joined (elements_exchange [] path.elements) rest)) (rounds_exchange cur (round ∷ rounds) new takes) refl
+    (ap (λ bs. parts_bytes round.due ++ (bs ++ rest.bytes)) path.bytes_are
+    ∙ sym (append_assoc (parts_bytes round.due) (takings_bytes round.takings) rest.bytes))
+    (ap (λ os. answer_in round.halt ++ (os ++ rest.answers)) path.answers_are
+    ∙ ap (λ os. answer_in round.halt ++ os)
+    (sym (answers_append (takings_outcomes round.takings) (rounds_outcomes rounds))))
+    (ap (λ hs. hs ++ rest.hearings) path.hearings_are)
+
 rounds_split : (cur new : Stage) (rounds : List Round) (takes : TakesUp cur rounds new) → IsDrained cur
-    → Later cur new (all_heard rounds) (rounds_bytes rounds) (answers_in (rounds_outcomes rounds))
-    (heard_requests_in cur rounds new takes)
+    → Later cur new (rounds_exchange cur rounds new takes)
 rounds_split cur new [] takes done = record {
   each = λ base first elements goes. record {
     first = first;
@@ -245,10 +273,7 @@ rounds_split cur new [] takes done = record {
     goes = goes;
     done = done;
     legs_are = takes;
-    heard_is = refl;
-    bytes_are = refl;
-    answers_are = refl;
-    hearings_are = refl;
+    all_is = refl;
   };
 }
 rounds_split cur new (round ∷ rounds) takes done =
@@ -256,21 +281,19 @@ rounds_split cur new (round ∷ rounds) takes done =
     let runs = takes.1.0 in
     let later = rounds_split mid new rounds takes.1.2 takes.1.1 in
     let path = path_of runs.opened mid round.takings runs.takes in
-    let tb : List ℕ = takings_bytes round.takings in
-    let rb : List ℕ = rounds_bytes rounds in
-    let ta : List Outcome = answers_in (takings_outcomes round.takings) in
-    let ra : List Outcome = answers_in (rounds_outcomes rounds) in
-    let th : List HeardRequest = heard_requests_taken runs.opened round.takings mid runs.takes in
-    let rh : List HeardRequest = heard_requests_in mid rounds new takes.1.2 in
+    let taken : EventTaken cur mid round.event = record {
+      opened = runs.opened;
+      due = round.due;
+      halt = round.halt;
+      comes = runs.comes;
+      elements = path.elements;
+      goes = path.goes;
+    } in
     record {
       each = λ base first elements goes.
-          split_as
-          refl
-          (ap (λ bs. elements_bytes elements ++ bs) (append_assoc (parts_bytes round.due) tb rb))
-          (ap (λ os. elements_answers elements ++ (answer_in round.halt ++ os))
-          (answers_append (takings_outcomes round.takings) (rounds_outcomes rounds))) refl
-          (event_split (record { bytes = first; elements = elements; goes = goes })
-          (record { due = round.due; halt = round.halt; comes = runs.comes }) done path later);
+          subst (Split base new)
+          (ap (joined (elements_exchange first elements)) (round_exchange new round rounds takes path))
+          (event_split (record { bytes = first; elements = elements; goes = goes }) taken done later);
     }
 
 -- ---- what was received has one split
@@ -348,9 +371,14 @@ legs_same {one} {other} {xs = x ∷ xs} {ys = y ∷ ys} old films legs too alike
     let again : IsLeg old y = too.0 in
     let slots : y.slot ≡ x.slot = sym (ap slot_of heard) in
     let cut = heard_split x.bytes y.bytes xs ys (ap tail_of heard) in
-    let step = steps_same (elements_answers x.elements ++ legs_answers xs)
-    (elements_answers y.elements ++ legs_answers ys) leg.stepped
-    (subst (λ t. HasStepped old.session t y.due y.halt y.opened.session) slots again.stepped) answers in
+    let L : ℕ → Type 0 = λ t. HasStepped old.session t y.due y.halt y.opened.session in
+    let step = steps_same {old = old.session} {slot = x.slot} {one = x.halt} {other = y.halt}
+    (record {
+      ones = elements_answers x.elements ++ legs_answers xs;
+      others = elements_answers y.elements ++ legs_answers ys;
+      same = answers;
+    }) (record { due = x.due; new = x.opened.session; stepped = leg.stepped })
+    (record { due = y.due; new = y.opened.session; stepped = subst L slots again.stepped }) in
     let opened : y.opened ≡ x.opened = opened_same x.opened y.opened step.1 (again.input ∙ sym leg.input) in
     let place : longer y.opened y.bytes ≡ longer x.opened x.bytes =
     ap (λ s. longer s y.bytes) opened ∙ ap (λ bs. longer x.opened bs) (sym cut.0) in
@@ -375,21 +403,24 @@ legs_same {one} {other} {xs = x ∷ xs} {ys = y ∷ ys} old films legs too alike
 
 -- ---- from a connection's beginning on
 
-splits_same : {base one other : Stage} {heard also : List IoEvent} {sent again : List ℕ} {ones others : List Outcome}
-    {hearings too : List HeardRequest}
-    → AreFilms base.session.films → Split base one heard sent ones hearings → Split base other also again others too
-    → heard ≡ also → AreSameAnswers ones others → AllLackMemoryAlike hearings too → SameLegs one other sent again
-splits_same {base} {one} {other} {ones} {hearings} films x y same answers memory =
-    let cut = heard_split x.first y.first x.legs y.legs (sym x.heard_is ∙ same ∙ y.heard_is) in
+-- what two connections received is the same, so are the answers, and memory ran out alike
+record ExchangesAlike (a b : Exchange) : Type 0 where
+  heard : a.heard ≡ b.heard
+  answers : AreSameAnswers a.answers b.answers
+  memory : AllLackMemoryAlike a.hearings b.hearings
+
+splits_same : {base one other : Stage} {a b : Exchange} → AreFilms base.session.films → Split base one a
+    → Split base other b → ExchangesAlike a b → SameLegs one other a.bytes b.bytes
+splits_same {base} {other = other} {a} {b} films x y alike =
+    let cut = heard_split x.first y.first x.legs y.legs
+    (sym (ap (λ (e : Exchange). e.heard) x.all_is) ∙ alike.heard ∙ ap (λ (e : Exchange). e.heard) y.all_is) in
+    let both : ExchangesAlike (joined (elements_exchange x.first x.elements) (legs_exchange x.legs))
+    (joined (elements_exchange y.first y.elements) (legs_exchange y.legs)) =
+    subst (ExchangesAlike (joined (elements_exchange x.first x.elements) (legs_exchange x.legs))) y.all_is
+    (subst (λ e. ExchangesAlike e b) x.all_is alike) in
     let ends = ends_same x.elements y.elements films (record { goes = x.goes; done = x.done })
     (record { goes = subst (λ bs. GoesAll (longer base bs) y.elements y.until) (sym cut.0) y.goes; done = y.done })
-    (record {
-      answers = subst (λ os. AreSameAnswers os (elements_answers y.elements ++ legs_answers y.legs)) x.answers_are
-          (subst (AreSameAnswers ones) y.answers_are answers);
-      memory =
-          subst (λ hs. AllLackMemoryAlike hs (elements_hearings y.elements ++ legs_hearings y.legs)) x.hearings_are
-          (subst (AllLackMemoryAlike hearings) y.hearings_are memory);
-    }) in
+    (record { answers = both.answers; memory = both.memory }) in
     let there : AreFilms x.until.session.films =
     subst AreFilms (sym (goes_films (longer base x.first) x.until x.elements x.goes)) films in
     let rest = legs_same {xs = x.legs} x.until there x.legs_are
@@ -397,29 +428,26 @@ splits_same {base} {one} {other} {ones} {hearings} films x y same answers memory
     (record { heard = cut.1; answers = ends.answers; memory = ends.memory }) in
     record {
       last = rest.last;
-      bytes = y.bytes_are ∙ ap (λ bs. bs ++ legs_bytes y.legs) ends.bytes
-          ∙ ap (λ bs. elements_bytes x.elements ++ bs) rest.bytes ∙ sym x.bytes_are;
+      bytes = ap (λ (e : Exchange). e.bytes) y.all_is ∙ ap (λ bs. bs ++ legs_bytes y.legs) ends.bytes
+          ∙ ap (λ bs. elements_bytes x.elements ++ bs) rest.bytes ∙ sym (ap (λ (e : Exchange). e.bytes) x.all_is);
     }
 
 abbrev first_of : Beginning → Stage
 first_of beginning = first_stage beginning.films beginning.settings beginning.words
 
 whole_split : (beginning : Beginning) (cutting : InputSplit beginning)
-    → Split (first_of beginning) cutting.last (all_heard cutting.rounds) (rounds_bytes cutting.rounds)
-    (answers_in (rounds_outcomes cutting.rounds))
-    (heard_requests_in (first_of beginning) cutting.rounds cutting.last cutting.takes)
+    → Split (first_of beginning) cutting.last
+    (rounds_exchange (first_of beginning) cutting.rounds cutting.last cutting.takes)
 whole_split beginning cutting =
-    let first : Stage = first_of beginning in
-    (rounds_split first cutting.last cutting.rounds cutting.takes
-    (inl (record { torn = refl; waits = inl (inl refl) }))).each first [] [] refl
+    (rounds_split (first_of beginning) cutting.last cutting.rounds cutting.takes
+    (inl (record { torn = refl; waits = inl (inl refl) }))).each (first_of beginning) [] [] refl
 
 pub two_cuttings : (beginning : Beginning) (one other : InputSplit beginning) → AreFilms beginning.films
     → HaveSameInput beginning one other
     → HaveSameOutput beginning one other
 two_cuttings beginning one other films cuts =
-    let first : Stage = first_of beginning in
-    let same = splits_same
-    films (whole_split beginning one) (whole_split beginning other) cuts.heard cuts.answers cuts.memory in
+    let same = splits_same films (whole_split beginning one) (whole_split beginning other)
+    (record { heard = cuts.heard; answers = cuts.answers; memory = cuts.memory }) in
     record { bytes = sym same.bytes; last = sym same.last }
 
 -- ---- a connection's course is such a split, and so is each prefix of it

@@ -1,7 +1,6 @@
 -- What SETUP settled stays, through slots, halts and replies.
-use Rattle.std.proofs.Common.{◌≡◌, ◌&&◌, ℕ, if◌then◌else◌, Bool, true, false, Some, refl, ap}
-use Rattle.std.proofs.Common.{◌∙◌}
-use Rattle.vod_base.specs.Links.{IoEvent, HeardBytes, HeardEnd, HeardSlot, Sent}
+use Rattle.std.proofs.Common.{◌≡◌, ℕ, if◌then◌else◌, Bool, true, false, List, Some, refl, ap, ◌∙◌}
+use Rattle.vod_base.specs.Links.{IoEvent}
 use Rattle.session.specs.declared.states.AfterHalt.{AfterHalt}
 use Rattle.session.specs.declared.states.AfterHalt.TheVariants.{Done, Paused, Torn}
 use Rattle.session.specs.declared.states.Awaited.{Awaited}
@@ -11,16 +10,16 @@ use Rattle.session.specs.declared.states.State.{State}
 use Rattle.session.specs.declared.states.State.TheVariants.{Init, Ready, Playing, Stopping}
 use Rattle.session_laws.specs.MethodLaws.{setup_in}
 use Rattle.session.specs.SlotSteps.{halted_in, next_of, state_once_halted}
-use Rattle.session.specs.SessionStates.{AwaitedAnswer, HaltAnswer, LookAnswer, NoAnswer, OfferAnswer, PlayAnswer}
-use Rattle.session.specs.SessionStates.{SessionState, awaited_answer}
-use Rattle.session.specs.SlotSteps.{after_play, after_slot, can_reply, is_between, is_sending, is_taken, sent_due}
-use Rattle.session.specs.SlotSteps.{sent_reply, sent_slot, stepped_in}
+use Rattle.session.specs.SessionStates.{SessionState}
+use Rattle.session.specs.SlotSteps.{after_slot, can_reply, is_between, stepped_in}
 use Rattle.session.specs.SlotTransitions.{after_stop}
-use Rattle.conn.proofs.EventPremises.{EventCome}
+use Rattle.conn.proofs.HaltAnswers.{halted_same}
 use Rattle.conn.specs.EventSteps.{Round, Runs}
-use Rattle.conn.specs.InputSteps.{Entered, IsFinished, IsHalted, Offered, Outcome}
-use Rattle.conn.specs.InputSteps.{Stage, Unasked, WasFull, after_reply}
-use Rattle.connection_laws.proofs.UniqueResults.{names_in, replied_names, stepped_names}
+use Rattle.conn.specs.InputSteps.{IsHalted, Outcome, SentPart, Stage, after_reply}
+use Rattle.connection_laws.proofs.StationAnswers.{ComesAs, BytesCame, SlotCame, comes_as}
+use Rattle.connection_laws.proofs.StationAnswers.{FinishesAs, NothingLeft, DoneHalted}
+use Rattle.connection_laws.proofs.KeptParts.{finish_keeps, names_in, replied_names, reply_keeps, same_names}
+use Rattle.connection_laws.proofs.KeptParts.{slot_keeps, slot_names}
 
 -- ---- states
 
@@ -44,18 +43,13 @@ stop_setup (Ready setup paused) = refl
 stop_setup (Playing setup play) = refl
 stop_setup (Stopping setup stopped) = refl
 
-reply_setup : (goes : Bool) (s : SessionState)
-    → setup_in (if goes then sent_reply s else s).state ≡ setup_in s.state
-reply_setup true s = stop_setup s.state
-reply_setup false s = refl
-
 once_halted : (setup : Setup) (play : Played) (next : AfterHalt)
     → setup_in (state_once_halted setup play next) ≡ Some setup
 once_halted setup play Done = refl
 once_halted setup play (Paused run) = refl
 once_halted setup play Torn = refl
 
-halted_setup : (state : State) (awaited : Awaited) → setup_in (halted_in state awaited) ≡ setup_in state
+pub halted_setup : (state : State) (awaited : Awaited) → setup_in (halted_in state awaited) ≡ setup_in state
 halted_setup Init awaited = refl
 halted_setup (Ready setup paused) awaited = refl
 halted_setup (Playing setup play) awaited = once_halted setup play (next_of awaited)
@@ -63,36 +57,20 @@ halted_setup (Stopping setup stopped) awaited = refl
 
 -- ---- steps
 
-slot_setup : (old : SessionState) (slot : ℕ) (taken sending : Bool)
-    → setup_in (if taken then (if sending then after_play (sent_slot old slot) else record old { heard = slot })
-    else old).state ≡ setup_in old.state
-slot_setup old slot true true =
-    reply_setup (old.waits && is_between (stepped_in true slot old.state)) (sent_due old slot)
-    ∙ due_setup old.waits (is_between (stepped_in true slot old.state)) old.state slot
-slot_setup old slot true false = refl
-slot_setup old slot false sending = refl
+slot_setup : (old : SessionState) (slot : ℕ) → setup_in (after_slot old slot).state ≡ setup_in old.state
+slot_setup old slot =
+    slot_keeps {part = λ (s : SessionState). setup_in s.state} (record {
+      reply = λ s. stop_setup s.state;
+      due = λ s n. due_setup s.waits (is_between (stepped_in true n s.state)) s.state n;
+      done = λ s. refl;
+      idle = λ s n. refl;
+    }) old slot
 
-pub halt_setup : (old : SessionState) (keep : ℕ) (outcome : Outcome) (new : SessionState)
-    → IsHalted old keep outcome new → setup_in new.state ≡ setup_in old.state
-halt_setup old keep Unasked new is = absurd is
-halt_setup old keep (Entered placed) new is =
-    ap (λ (s : SessionState). setup_in s.state) is.halts ∙ halted_setup old.state old.awaited
-halt_setup old keep (WasFull more entries live) new is = absurd is
-halt_setup old keep (Offered at_slot note) new is = absurd is
-
-finished_setup : (asks : AwaitedAnswer) (old : SessionState) (outcome : Outcome) (new : SessionState)
-    → IsFinished asks old outcome new → setup_in new.state ≡ setup_in old.state
-finished_setup NoAnswer old Unasked new is = ap (λ (s : SessionState). setup_in s.state) is
-finished_setup NoAnswer old (Entered placed) new is = absurd is
-finished_setup NoAnswer old (WasFull more entries live) new is = absurd is
-finished_setup NoAnswer old (Offered at_slot note) new is = absurd is
-finished_setup (PlayAnswer plan) old outcome new is = absurd is
-finished_setup (HaltAnswer keep) old outcome new is = halt_setup old keep outcome new is
-finished_setup LookAnswer old outcome new is = absurd is
-finished_setup OfferAnswer old outcome new is = absurd is
-
-pub reply_sent_setup : (s : SessionState) → setup_in (after_reply s).state ≡ setup_in s.state
-reply_sent_setup s = reply_setup (can_reply s) s
+finish_setup : {s new : SessionState} {awaited : Awaited} {outcome : Outcome} → FinishesAs s new awaited outcome
+    → setup_in new.state ≡ setup_in s.state
+finish_setup (NothingLeft is) = ap (λ (t : SessionState). setup_in t.state) is
+finish_setup {s} (DoneHalted halt) =
+    ap (λ (t : SessionState). setup_in t.state) halt.halts ∙ halted_setup s.state s.awaited
 
 -- ---- events
 
@@ -104,23 +82,21 @@ pub record IsSameSetup (old new : SessionState) : Type 0 where
 same_session : (old new : SessionState) → new ≡ old → IsSameSetup old new
 same_session old new is = record { names = ap names_in is; setup = ap (λ (s : SessionState). setup_in s.state) is }
 
-comes_setup : (old opened : Stage) (event : IoEvent) → EventCome old event opened
-    → IsSameSetup old.session opened.session
-comes_setup old opened (HeardBytes bytes) come =
-    same_session old.session opened.session (ap (λ (s : Stage). s.session) come.comes.3)
-comes_setup old opened (HeardSlot slot) come = record {
-  names = stepped_names old.session slot come.due come.halt opened.session come.comes.1;
-  setup = finished_setup (awaited_answer (after_slot old.session slot)) (after_slot old.session slot) come.halt
-      opened.session come.comes.1.finished
-      ∙ slot_setup old.session slot (is_taken old.session slot) (is_sending old.session.state);
+comes_setup : {old opened : Stage} {event : IoEvent} {due : List SentPart} {halt : Outcome}
+    → ComesAs old opened event due halt → IsSameSetup old.session opened.session
+comes_setup {old} {opened} (BytesCame is) =
+    same_session old.session opened.session (ap (λ (s : Stage). s.session) is)
+comes_setup {old} {opened} (SlotCame {slot = slot} finish) = record {
+  names = same_names (after_slot old.session slot) opened.session (finish_keeps finish) ∙ slot_names old.session slot;
+  setup = finish_setup finish ∙ slot_setup old.session slot;
 }
-comes_setup old opened HeardEnd come = absurd come.comes
-comes_setup old opened (Sent byte) come = absurd come.comes
 
 pub opened_setup : {old new : Stage} {round : Round} (runs : Runs old round new)
     → IsSameSetup old.session runs.opened.session
-opened_setup {old} {new} {round} runs =
-    comes_setup old runs.opened round.event (record { due = round.due; halt = round.halt; comes = runs.comes })
+opened_setup {round = round} runs = comes_setup (comes_as round.event round.due round.halt runs.comes)
 
 pub replied_setup : (s : SessionState) → IsSameSetup s (after_reply s)
-replied_setup s = record { names = replied_names s; setup = reply_sent_setup s }
+replied_setup s = record {
+  names = replied_names s;
+  setup = reply_keeps (λ (t : SessionState). setup_in t.state) (λ t. stop_setup t.state) (can_reply s) s;
+}

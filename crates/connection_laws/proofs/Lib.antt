@@ -1,10 +1,13 @@
-mod AnswerPremises
+mod StationAnswers
+mod KeptParts
+mod RequestAnswers
 mod RequestEffects
 mod JoinedFilms
 mod FilmSteps
 mod Slots
 mod FilmBytes
 mod GreatestSlots
+mod CourseAskings
 mod CourseJoins
 mod BookedPlays
 mod TextPlacement
@@ -57,6 +60,7 @@ mod AnsweredRequests
 mod AcceptedMoments
 mod AcceptedFilms
 mod WatchedFilms
+mod CourseTurns
 mod PlayNotes
 mod CourseNotes
 mod EntryNotes

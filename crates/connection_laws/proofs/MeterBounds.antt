@@ -213,8 +213,7 @@ pub always_all : {wish : Wish} {film : Film} {identity : Identity} {x : Stream} 
     IsBetweenAlways wish (film_sizes film) (picture_time film.rate) old.history →
     IsBetweenAlways wish (film_sizes film) (picture_time film.rate) new.history
 always_all {wish} {film} {rounds = []} through all counted known fed met =
-    let A : WatchStage → Type 0 =
-    λ s. IsBetweenAlways wish (film_sizes film) (picture_time film.rate) s.history in subst A (sym all) met
+    subst (λ (s : WatchStage). IsBetweenAlways wish (film_sizes film) (picture_time film.rate) s.history) (sym all) met
 always_all {wish} {film} {identity} {x} {begin} {bytes} {old} {rounds = round ∷ rounds} {new} through all counted
     known fed met =
     let mid = all.0 in
@@ -240,8 +239,7 @@ always_all {wish} {film} {identity} {x} {begin} {bytes} {old} {rounds = round �
     subst F (sym (append_assoc bytes (bytes_in round.event) (rounds_heard before)))
     (fed (round ∷ before) after_ r slot (ap (λ l. round ∷ l) split) event after_begin) in
     always_all {wish = wish} {film = film} {identity = identity} {x = x} {begin = begin}
-    {bytes = bytes ++ bytes_in round.event}
-    {old = mid} {rounds = rounds} (record {
+    {bytes = bytes ++ bytes_in round.event} {old = mid} {rounds = rounds} (record {
       heard = heard_round bytes old mid round heard all.1.0;
       idle = all.1.1;
       count = c;

@@ -14,6 +14,8 @@ use Rattle.session_laws.proofs.PlayInReadyLemmas.{play_heard}
 use Rattle.connection_laws.proofs.Requests.{rounds_requests, takings_requests}
 use Rattle.connection_laws.proofs.ServedPlays.{comes_none}
 use Rattle.connection_laws.proofs.RequestEffects.{Begins, Ends, Starts, Stays, TurnsAs, turns_as}
+use Rattle.connection_laws.proofs.StationAnswers.{FinishesAs, NothingLeft, DoneHalted, nothing_left}
+use Rattle.connection_laws.proofs.StationAnswers.{ComesAs, BytesCame, SlotCame, comes_as}
 
 abbrev pub IsNoPlay : List ℕ → Type 0
 IsNoPlay message = (request : Request) → IsReadAs message request → request.method.now ≢ codes "PLAY"
@@ -84,7 +86,7 @@ takes_stands old new (taking ∷ takings) takes stands =
 
 pub event_none : {old new : Stage} {round : Round} (runs : Runs old round new) (askings : List StationRequest)
     → plays_begun (asked_by old.session round.event) round.halt askings ≡ []
-event_none {round} runs askings = comes_none (record { due = round.due; halt = round.halt; comes = runs.comes }) askings
+event_none {round} runs askings = comes_none (comes_as round.event round.due round.halt runs.comes) askings
 
 pub rounds_none : (old new : Stage) (rounds : List Round) (follows : IsCourseBetween old rounds new) → Stands
     old.session

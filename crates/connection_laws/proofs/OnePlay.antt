@@ -29,7 +29,9 @@ use Rattle.connection_laws.specs.Courses.{IsCourseBetween, askings_of, slot_in, 
 use Rattle.connection_laws.specs.ReplyPlaces.{slots_from, takings_slots}
 use Rattle.connection_laws.specs.Plays.{StationRequest, Asks, FilmPlay, kept_in, plays_admitted, plays_begun, plays_of}
 use Rattle.connection_laws.proofs.FilmBytes.{Stands, taken_stands}
-use Rattle.connection_laws.proofs.GreatestSlots.{comes_heard, takes_left}
+use Rattle.connection_laws.proofs.StationAnswers.{comes_as}
+use Rattle.connection_laws.proofs.KeptParts.{LastingPart, taken_keeps}
+use Rattle.connection_laws.proofs.GreatestSlots.{comes_heard}
 use Rattle.connection_laws.proofs.NoPlays.{AreNoPlays, IsNoPlay, event_none, no_play_begins, no_plays_front}
 use Rattle.connection_laws.proofs.NoPlays.{no_plays_rest}
 use Rattle.connection_laws.proofs.NoPlays.{rounds_none, takes_stands, takings_none}
@@ -292,6 +294,142 @@ setup_reply {old} {new} {outcome = outcome} b replied is reply whole valid fresh
           (ap (λ (s : SessionState). s.text) same ∙ text)
     ]
 
+-- a request that is processed, and the elements that are processed after it
+record TakenFirst (old new : Stage) : Type 0 where
+  mid : Stage
+  message : List ℕ
+  outcome : Outcome
+  parts : List SentPart
+  replied : IsReplied old message outcome parts mid
+  takings : List ElementStep
+  takes : TakesAll mid takings new
+
+abbrev from_first : {old new : Stage} → ℕ → TakenFirst old new → Later → Later
+from_first {old} {new} slot first later =
+    from_takings slot old (Answered first.message first.outcome first.parts ∷ first.takings) new
+    (first.mid, (first.replied, first.takes)) later
+
+-- what is asked of the station after the request
+abbrev asked_after : {old new : Stage} → TakenFirst old new → Later → List StationRequest
+asked_after {new = new} first later = takings_askings first.mid first.takings new first.takes ++ later.askings
+
+-- where all SETUPs were processed, PLAY is processed
+play_first : {b : Beginning} {out : Outlook} {slot : ℕ} {later : Later} {old new : Stage} (first : TakenFirst old new)
+    → Leads b out new.session slot later → IsAhead b out old.session slot [] (from_first slot first later)
+    → IsPlayTaken b out old.session first.message (Asks first.replied.heard.asking.awaited first.outcome)
+    (asked_after first later) × (takings_requests first.takings ++ later.requests ≡ out.last)
+play_first {b} {out} {slot} {later} {old} {new} first leads is =
+    let front = takings_requests takings in
+    let all : message ∷ (front ++ later.requests) ≡ play_text b.wish b.session ∷ out.last = is.requests_are in
+    let at : message ≡ play_text b.wish b.session = cc in
+    let rest : front ++ later.requests ≡ out.last = cc in
+    let nones : AreNoPlays (front ++ later.requests) = subst AreNoPlays (sym rest) out.last_are in
+    let stands = taken_stands old mid (Answered message outcome parts) replied is.waits.stands in
+    let last = leads.none (takes_stands mid new takings takes stands) (no_plays_rest front later.requests nones) in
+    let none = takings_none mid new takings takes later.askings (record {
+      stands = stands;
+      requests = no_plays_front front later.requests nones;
+      none = last;
+    }) in
+    (record { waits = is.waits; message_is = at; none = none; plays = is.plays }, rest)
+  where
+    open first use {mid, message, outcome, parts, replied, takings, takes}
+
+play_walk : {b : Beginning} {out : Outlook} {slot : ℕ} {later : Later} {old new : Stage} (first : TakenFirst old new)
+    → Leads b out new.session slot later → IsAhead b out old.session slot [] (from_first slot first later)
+    → IsPlayedWhole b out old.session slot 0 (from_first slot first later).slots (from_first slot first later).replies
+play_walk {b} {out} {slot} {later} {old} {new} first leads is =
+    let more = asked_after first later in
+    let front = takings_requests takings in
+    let play = play_first first leads is in
+    let taken = play.0 in
+    let heard = replied.heard in
+    let turns = turns_as old.session message outcome replied.answered heard is.waits.stands.rest in
+    let slots = takings_slots slot takings ++ later.slots in
+    let whole = replies_whole old.session message heard.ask heard.asking is.named (play_room b taken.message_is)
+    heard.hears in
+    let torn : AreTeardowns b (front ++ later.requests) = subst (AreTeardowns b) (sym play.1) is.teardowns in
+    let cut = teardowns_cut b front later.requests torn in
+    let mine = play_whole more heard taken whole turns in
+    let begun = play_read more heard is.named taken mine turns in
+    let own : IsNamed b mid.session =
+    subst (λ (s : Stage). IsNamed b s.session) (sym replied.new_is)
+    (named_still (replied_setup replied.answered) begun.own) in
+    let next = takings_torn {b = b} mid new takings takes
+    (record { named = answered_named replied is.named; own = own; teardowns = cut.0 }) in
+    let after = whole_later {b = b} later.replies next (λ named still. leads.torn named still cut.1) in
+    record {
+      one = subst (λ h. IsOnePlay b out h 0 (h ∷ slots)) is.heard (play_turn more slots heard taken turns);
+      whole = (mine, after.0);
+      ready = begun.ready;
+      read = λ few. (begun.answer few, after.1);
+    }
+  where
+    open first use {mid, message, outcome, replied, takings, takes}
+
+-- SETUP is processed before PLAY
+abbrev IsSetupFirst : Beginning → Outlook → ℕ → Later → {old new : Stage} → TakenFirst old new → Type 0
+IsSetupFirst b out slot later {old} first =
+    (one : List ℕ) × IsAhead b out old.session slot (one ∷ []) (from_first slot first later)
+
+-- after SETUP only PLAY is to come
+setup_first : {b : Beginning} {out : Outlook} {slot : ℕ} {old new : Stage} (later : Later) (first : TakenFirst old new)
+    (is : IsSetupFirst b out slot later first)
+    → (first.message ≡ setup_text b.wish)
+    × IsAhead b out first.mid.session slot []
+    (from_takings slot first.mid first.takings new first.takes later)
+setup_first {b} {out} {slot} {new = new} later first is =
+    let more = asked_after first later in
+    let ahead = is.1 in
+    let all : message ∷ (takings_requests takings ++ later.requests)
+    ≡ is.0 ∷ (play_text b.wish b.session ∷ out.last) = ahead.requests_are in
+    let here : message ≡ is.0 = cc in
+    let rest : takings_requests takings ++ later.requests ≡ play_text b.wish b.session ∷ out.last = cc in
+    let at : message ≡ setup_text b.wish = here ∙ ahead.setups.0 in
+    let none = no_play_begins replied ahead.waits.stands (setup_no_play b at) more in (
+      at,
+      record {
+        waits = answered_waits replied at ahead.waits;
+        named = answered_named replied ahead.named;
+        heard = ap (λ (part : LastingPart). part.heard) (taken_keeps replied) ∙ ahead.heard;
+        setups = ahead.setups.1;
+        fresh = tt;
+        requests_are = rest;
+        teardowns = ahead.teardowns;
+        plays = sym (ap (λ l. l ++ plays_of more) none) ∙ ahead.plays;
+      },
+    )
+  where
+    open first use {message, replied, takings}
+
+setup_walk : {b : Beginning} {out : Outlook} {slot : ℕ} {old new : Stage} (later : Later) (first : TakenFirst old new)
+    (is : IsSetupFirst b out slot later first)
+    → IsPlayedWhole b out first.mid.session slot 0
+    (takings_slots slot first.takings ++ later.slots)
+    (takings_replies first.mid first.takings new first.takes ++ later.replies)
+    → IsPlayedWhole b out old.session slot 1 (from_first slot first later).slots (from_first slot first later).replies
+setup_walk {b} {out} {slot} {old} later first is rec =
+    let ahead = is.1 in
+    let at = (setup_first later first is).0 in
+    let heard = replied.heard in
+    let whole = replies_whole old.session message heard.ask heard.asking ahead.named (setup_room b at) heard.hears in
+    let reply : heard.ask ≡ Reply = (setup_asked {outcome = outcome} {parts = parts} replied at ahead.waits).0 in
+    let mine = reply_whole heard reply whole in
+    let set = setup_reply b replied at reply mine ahead.named ahead.fresh rec.ready in
+    record {
+      one = record {
+        wished = rec.one.wished;
+        alone = rec.one.alone;
+        late = rec.one.late;
+        before = (rec.one.late, rec.one.before);
+      };
+      whole = (mine, rec.whole);
+      ready = tt;
+      read = λ few. (set, rec.read few);
+    }
+  where
+    open first use {message, outcome, parts, replied}
+
 takings_walk : {b : Beginning} {out : Outlook} {slot : ℕ} {later : Later} {ahead : List (List ℕ)} (old new : Stage)
     (takings : List ElementStep) (takes : TakesAll old takings new) → Leads b out new.session slot later
     → IsAhead b out old.session slot ahead (from_takings slot old takings new takes later)
@@ -304,90 +442,36 @@ takings_walk {b} {out} {slot} {later} {ahead} old new (Passed n ∷ takings) tak
     let same : takes.0.session ≡ old.session = ap (λ (s : Stage). s.session) takes.1.0.2 in
     let P : SessionState → Type 0 = λ s. IsPlayedWhole b out s slot (length ahead)
     (takings_slots slot takings ++ later.slots) (takings_replies takes.0 takings new takes.1.1 ++ later.replies) in
-    subst P same (takings_walk {ahead = ahead} takes.0 new takings takes.1.1 leads (record {
-      waits = subst (IsWaiting b) (sym same) is.waits;
-      named = subst HasValidIds (sym same) is.named;
-      heard = ap (λ (s : SessionState). s.heard) same ∙ is.heard;
-      setups = is.setups;
-      fresh = subst (IsFresh ahead) (sym same) is.fresh;
-      requests_are = is.requests_are;
-      teardowns = is.teardowns;
-      plays = is.plays;
-    }))
-takings_walk {b} {out} {slot} {later} {ahead = []} old new (Answered message outcome parts ∷ takings) takes leads is =
-    let more = takings_askings takes.0 takings new takes.1.1 ++ later.askings in
-    let front = takings_requests takings in
-    let all : message ∷ (front ++ later.requests) ≡ play_text b.wish b.session ∷ out.last = is.requests_are in
-    let at : message ≡ play_text b.wish b.session = cc in
-    let rest : front ++ later.requests ≡ out.last = cc in
-    let nones : AreNoPlays (front ++ later.requests) = subst AreNoPlays (sym rest) out.last_are in
-    let mid = taken_stands old takes.0 (Answered message outcome parts) takes.1.0 is.waits.stands in
-    let last = leads.none (takes_stands takes.0 new takings takes.1.1 mid) (no_plays_rest front later.requests nones) in
-    let none = takings_none takes.0 new takings takes.1.1 later.askings (record {
-      stands = mid;
-      requests = no_plays_front front later.requests nones;
-      none = last;
-    }) in
-    let heard = takes.1.0.heard in
-    let turns = turns_as old.session message outcome takes.1.0.answered heard is.waits.stands.rest in
-    let slots = takings_slots slot takings ++ later.slots in
-    let taken : IsPlayTaken b out old.session message (Asks heard.asking.awaited outcome) more =
-    record { waits = is.waits; message_is = at; none = none; plays = is.plays } in
-    let whole = replies_whole old.session message heard.ask heard.asking is.named (play_room b at) heard.hears in
-    let torn : AreTeardowns b (front ++ later.requests) = subst (AreTeardowns b) (sym rest) is.teardowns in
-    let cut = teardowns_cut b front later.requests torn in
-    let mine = play_whole more heard taken whole turns in
-    let begun = play_read more heard is.named taken mine turns in
-    let own : IsNamed b takes.0.session =
-    subst (λ (s : Stage). IsNamed b s.session) (sym takes.1.0.new_is)
-    (named_still (replied_setup takes.1.0.answered) begun.own) in
-    let first = takings_torn {b = b} takes.0 new takings takes.1.1
-    (record { named = answered_named takes.1.0 is.named; own = own; teardowns = cut.0 }) in
-    let after = whole_later {b = b} later.replies first (λ named still. leads.torn named still cut.1) in
-    record {
-      one = subst (λ h. IsOnePlay b out h 0 (h ∷ slots)) is.heard (play_turn more slots heard taken turns);
-      whole = (mine, after.0);
-      ready = begun.ready;
-      read = λ few. (begun.answer few, after.1);
-    }
+    let A : SessionState → Type 0 =
+    λ s. IsAhead b out s slot ahead (from_takings slot takes.0 takings new takes.1.1 later) in
+    subst P same (takings_walk {ahead = ahead} takes.0 new takings takes.1.1 leads (subst A (sym same) is))
+takings_walk {ahead = []} old new (Answered message outcome parts ∷ takings) takes leads is =
+    let first : TakenFirst old new = record {
+      mid = takes.0;
+      message = message;
+      outcome = outcome;
+      parts = parts;
+      replied = takes.1.0;
+      takings = takings;
+      takes = takes.1.1;
+    } in
+    play_walk first leads is
 takings_walk {ahead = one ∷ two ∷ ahead} old new (Answered message outcome parts ∷ takings) takes leads is =
     absurd is.fresh
-takings_walk {b} {out} {later} {ahead = one ∷ []} old new (Answered message outcome parts ∷ takings) takes leads is =
-    let more = takings_askings takes.0 takings new takes.1.1 ++ later.askings in
-    let all : message ∷ (takings_requests takings ++ later.requests)
-    ≡ one ∷ (play_text b.wish b.session ∷ out.last) = is.requests_are in
-    let here : message ≡ one = cc in
-    let rest : takings_requests takings ++ later.requests ≡ play_text b.wish b.session ∷ out.last = cc in
-    let at : message ≡ setup_text b.wish = here ∙ is.setups.0 in
-    let none = no_play_begins takes.1.0 is.waits.stands (setup_no_play b at) more in
-    let left = takes_left old takes.0 (Answered message outcome parts ∷ []) (takes.0, (takes.1.0, refl))
-    is.waits.stands.rest in
-    let rec = takings_walk {ahead = []} takes.0 new takings takes.1.1 leads (record {
-      waits = answered_waits takes.1.0 at is.waits;
-      named = answered_named takes.1.0 is.named;
-      heard = left.1 ∙ is.heard;
-      setups = is.setups.1;
-      fresh = tt;
-      requests_are = rest;
-      teardowns = is.teardowns;
-      plays = sym (ap (λ l. l ++ plays_of more) none) ∙ is.plays;
-    }) in
-    let heard = takes.1.0.heard in
-    let whole = replies_whole old.session message heard.ask heard.asking is.named (setup_room b at) heard.hears in
-    let reply : heard.ask ≡ Reply = (setup_asked {outcome = outcome} {parts = parts} takes.1.0 at is.waits).0 in
-    let mine = reply_whole heard reply whole in
-    let set = setup_reply b takes.1.0 at reply mine is.named is.fresh rec.ready in
-    record {
-      one = record {
-        wished = rec.one.wished;
-        alone = rec.one.alone;
-        late = rec.one.late;
-        before = (rec.one.late, rec.one.before);
-      };
-      whole = (mine, rec.whole);
-      ready = tt;
-      read = λ few. (set, rec.read few);
-    }
+takings_walk {b} {out} {slot} {later} {ahead = one ∷ []} old new (Answered message outcome parts ∷ takings) takes leads
+    is =
+    let first : TakenFirst old new = record {
+      mid = takes.0;
+      message = message;
+      outcome = outcome;
+      parts = parts;
+      replied = takes.1.0;
+      takings = takings;
+      takes = takes.1.1;
+    } in
+    let setup : IsSetupFirst b out slot later first = (one, is) in
+    setup_walk later first setup
+    (takings_walk {ahead = []} takes.0 new takings takes.1.1 leads (setup_first later first setup).1)
 
 ahead_some : (ahead : List (List ℕ)) (x : List ℕ) (xs : List (List ℕ)) → [] ≡ ahead ++ (x ∷ xs) → ⊥
 ahead_some [] x xs is = let no : ⊥ = cc in no
@@ -425,7 +509,7 @@ rounds_walk {b} {out} {slot} old new (round ∷ rounds) follows ahead is =
     let rec = takings_walk {ahead = ahead} runs.opened mid round.takings runs.takes leads (record {
       waits = opened_waits runs is.waits;
       named = opened_named runs is.named;
-      heard = comes_heard old runs.opened round.event round.due round.halt runs.comes
+      heard = comes_heard (comes_as round.event round.due round.halt runs.comes)
           ∙ ap (λ n. max n (slot_in round.event)) is.heard;
       setups = is.setups;
       fresh = fresh_still old.session runs.opened.session ahead (opened_setup runs).setup is.fresh;

@@ -28,12 +28,15 @@ use Rattle.session.specs.RequestSteps.{after_halt}
 use Rattle.session.specs.SlotSteps.{admitted_in, halted_in, halted_notes, kept_of, note_of, state_once_halted}
 use Rattle.session.specs.SessionStates.{SessionState}
 use Rattle.session_laws.proofs.RequestShapes.{HearsAs, Replies, SetsUp, AsksPlay, Stops, AsksLook, AsksOffer, hears_as}
-use Rattle.conn.specs.InputSteps.{HasHeard, IsAskAnswered, IsHalted, IsLookAnswered, IsPlayAnswered, Outcome, Unasked}
+use Rattle.conn.specs.InputSteps.{HasHeard, IsHaltAnswered, Outcome, Unasked}
 use Rattle.conn.specs.InputSteps.{Entered, WasFull, Offered}
 use Rattle.connection_laws.specs.Notes.{StationCall, kept_later, note_for, notes_of_calls, noted_entry, noted_for}
 use Rattle.connection_laws.specs.Notes.{station_call}
 use Rattle.connection_laws.specs.Plays.{kept_by, kept_with}
-use Rattle.connection_laws.proofs.AnswerPremises.{HaltGiven, PlayEntry, HaltAsked}
+use Rattle.connection_laws.proofs.StationAnswers.{IsAdmitted}
+use Rattle.connection_laws.proofs.RequestAnswers.{RequestAnswer, OwnReply, SetupReply, Admission, Refusal, HaltMade}
+use Rattle.connection_laws.proofs.RequestAnswers.{LookAnswer, JournalFull, OfferAnswer, HaltRequest, LookRequest}
+use Rattle.connection_laws.proofs.RequestAnswers.{PlayRequest, request_answer}
 
 -- the note of a play that is under way, by what comes later
 abbrev pub open_note : State → List StationCall → List PlayNote
@@ -154,19 +157,25 @@ halted_as (Playing setup play) awaited turn later is kept =
     ap (λ k. note_of setup play k ∷ []) (kept (kept_later later (total_bytes play.plan)) ∙ sym is)
 halted_as (Stopping setup stop) awaited turn later is kept = refl
 
-pub halt_turn : {halt : Outcome} {s : SessionState} (given : HaltGiven s halt) (asking : SessionState) →
-    IsKept s.state s.awaited given.keep →
-    ((placed : PlacedEntry) (later : List StationCall) → noted_entry asking.state asking.awaited placed later ≡ []) →
-    Carries s.plays s.state (station_call asking halt ∷ []) given.new.plays given.new.state
-halt_turn {halt = Unasked} given asking kept none = absurd given.halted
-halt_turn {halt = Entered placed} {s} given asking kept none =
+-- the entry of a halt, and the session after it
+pub record HaltEntry (s : SessionState) : Type 0 where
+  pub keep : ℕ
+  pub placed : PlacedEntry
+  pub new : SessionState
+  pub halted : IsHaltAnswered s keep placed new
+
+pub halt_turn : {s : SessionState} (entry : HaltEntry s) (asking : SessionState)
+    → IsKept s.state s.awaited entry.keep
+    → ((later : List StationCall) → noted_entry asking.state asking.awaited entry.placed later ≡ [])
+    → Carries s.plays s.state (station_call asking (Entered entry.placed) ∷ []) entry.new.plays entry.new.state
+halt_turn {s} entry asking kept none =
     let turn = station_call asking (Entered placed) in
     let is : new ≡ after_halt s placed.place = halted.halts in
     let plays : new.plays ≡ s.plays ++ halted_notes s.state s.awaited = ap (λ (n : SessionState). n.plays) is in
     let state : new.state ≡ halted_in s.state s.awaited = ap (λ (n : SessionState). n.state) is in
     record {
       on = λ later.
-          ap (λ ns. (s.plays ++ open_note s.state (turn ∷ later)) ++ (ns ++ [])) (none placed later)
+          ap (λ ns. (s.plays ++ open_note s.state (turn ∷ later)) ++ (ns ++ [])) (none later)
           ∙ append-nil (s.plays ++ open_note s.state (turn ∷ later))
           ∙ ap (λ ns. s.plays ++ ns)
           (halted_as s.state s.awaited turn later kept (λ k. ap (λ c. kept_by c k) halted.command))
@@ -176,34 +185,35 @@ halt_turn {halt = Entered placed} {s} given asking kept none =
           ∙ ap (λ ns. ns ++ open_note new.state later) (sym plays);
     }
   where
-    open given use {new, halted}
-halt_turn {halt = WasFull more entries live} given asking kept none = absurd given.halted
-halt_turn {halt = Offered at_slot note} given asking kept none = absurd given.halted
+    open entry use {placed, new, halted}
 
 -- ---- a request
 abbrev CarriesOn : SessionState → SessionState → Outcome → SessionState → Type 0
 CarriesOn old asking outcome new = Carries old.plays old.state (station_call asking outcome ∷ []) new.plays new.state
 
-stays_on : {asking : SessionState} {outcome : Outcome} (old new : SessionState) → new.plays ≡ old.plays
-    → new.state ≡ old.state → ((later : List StationCall) → notes_of_calls asking outcome later ≡ [])
+-- what is noted, and the state
+record NotePart : Type 0 where
+  plays : List PlayNote
+  state : State
+
+abbrev note_part : SessionState → NotePart
+note_part s = record { plays = s.plays; state = s.state }
+
+-- a turn without a play that begins or ends
+stays_on : {asking : SessionState} {outcome : Outcome} (old new : SessionState) → note_part new ≡ note_part old
+    → ((later : List StationCall) → notes_of_calls asking outcome later ≡ [])
     → ((k : ℕ) → kept_with outcome k ≡ k) → CarriesOn old asking outcome new
-stays_on {asking} {outcome} old new plays state none kept =
-    carries_as refl (λ later. refl) plays
-    (λ later. ap (λ s. open_note s later) state) (still_turn old.plays old.state asking outcome none kept)
+stays_on {asking} {outcome} old new same none kept =
+    carries_as refl (λ later. refl) (ap (λ (p : NotePart). p.plays) same)
+    (λ later. ap (λ (p : NotePart). open_note p.state later) same)
+    (still_turn old.plays old.state asking outcome none kept)
 
 -- the session's own reply
-replied_on : {asking : SessionState} {outcome : Outcome} (old new : SessionState)
-    → IsAskAnswered asking AskReply outcome new → asking.plays ≡ old.plays
-    → ((later : List StationCall) → open_note asking.state later ≡ open_note old.state later)
-    → CarriesOn old asking outcome new
-replied_on {asking} {outcome = Unasked} old new answered plays state =
-    carries_as refl (λ later. refl)
-    (ap (λ (s : SessionState). s.plays) answered ∙ plays)
-    (λ later. ap (λ (s : SessionState). open_note s.state later) answered ∙ state later)
-    (unasked_turn old.plays old.state asking)
-replied_on {outcome = Entered placed} old new answered plays state = absurd answered
-replied_on {outcome = WasFull more entries live} old new answered plays state = absurd answered
-replied_on {outcome = Offered at_slot note} old new answered plays state = absurd answered
+replied_on : (old asking new : SessionState) → new.plays ≡ old.plays
+    → ((later : List StationCall) → open_note new.state later ≡ open_note old.state later)
+    → CarriesOn old asking Unasked new
+replied_on old asking new plays state =
+    carries_as refl (λ later. refl) plays state (unasked_turn old.plays old.state asking)
 
 -- a play that begins
 begun_state : {state : State} {awaited : Awaited} {setup : Setup} {paused : Option Run} {prepared : Prepared}
@@ -216,173 +226,105 @@ begun_state {awaited} {setup} {paused} place start later ready asks =
     ap (λ s. open_note (admitted_in s awaited place start) later) ready
     ∙ ap (λ a. open_note (admitted_in (Ready setup paused) a place start) later) asks
 
-pub begun_note : {setup : Setup} {paused : Option Run} {prepared : Prepared} {answer : Answer} {asking : SessionState}
-    {placed : PlacedEntry} (later : List StationCall) → asking.state ≡ Ready setup paused → asking.awaited ≡ Play
-    prepared →
-    PlayEntry asking prepared placed answer →
-    notes_of_calls asking (Entered placed) later ≡ noted_for setup prepared.run placed.place
-    (play_admitted (play_of asking.heard prepared.plan) answer) later
-begun_note {setup} {paused} {prepared} {asking} {placed} later ready asks entry =
-    ap (λ s. noted_entry s asking.awaited placed later) ready
-    ∙ ap (λ a. noted_entry (Ready setup paused) a placed later) asks
-    ∙ ap (λ c. noted_for setup prepared.run placed.place (play_admitted c placed.entry.answer) later) entry.command
-    ∙ ap (λ a. noted_for setup prepared.run placed.place (play_admitted (play_of asking.heard prepared.plan) a)
-    later) entry.answer_is
+pub begun_note : {old asking : SessionState} (play : PlayRequest old asking) (placed : PlacedEntry)
+    (later : List StationCall) → placed.entry.command ≡ play_of asking.heard play.prepared.plan
+    → notes_of_calls asking (Entered placed) later
+    ≡ noted_for play.setup play.prepared.run placed.place
+    (play_admitted (play_of asking.heard play.prepared.plan) placed.entry.answer) later
+begun_note {old} {asking} play placed later command =
+    ap (λ (s : SessionState). noted_entry s.state s.awaited placed later) waiting.asking_is
+    ∙ ap (λ s. noted_entry s (Play prepared) placed later) ready
+    ∙ ap (λ c. noted_for setup prepared.run placed.place (play_admitted c placed.entry.answer) later) command
+  where
+    open play use {setup, prepared, ready, waiting}
 
--- a session that asks stands and has played as before
-record SameSession (old asking : SessionState) : Type 0 where
-  state : asking.state ≡ old.state
-  plays : asking.plays ≡ old.plays
-
-play_on : {asking : SessionState} {setup : Setup} {paused : Option Run} {prepared : Prepared} {placed : PlacedEntry}
-    {answer : Answer} {old : SessionState} (new : SessionState) → PlayEntry asking prepared placed answer →
-    IsPlayAnswered asking placed answer new → old.state ≡ Ready setup paused → SameSession old asking →
-    asking.awaited ≡ Play prepared → CarriesOn old asking (Entered placed) new
-play_on {asking} {setup} {paused} {prepared} {placed} {answer = Admitted start} {old} new entry answered ready
-    same awaited =
-    let there : asking.state ≡ Ready setup paused = same.state ∙ ready in
+play_on : {old asking : SessionState} {placed : PlacedEntry} (new : SessionState) (play : PlayRequest old asking)
+    → IsAdmitted asking play.prepared.plan placed new → CarriesOn old asking (Entered placed) new
+play_on {old} {asking} {placed} new play is =
+    let there : asking.state ≡ Ready setup paused = ap (λ (s : SessionState). s.state) waiting.asking_is ∙ ready in
+    let awaited : asking.awaited ≡ Play prepared = ap (λ (s : SessionState). s.awaited) waiting.asking_is in
     let note : List StationCall → PlayNote =
-    λ later. note_for setup prepared.run placed.place (whole_play start prepared.plan)
+    λ later. note_for setup prepared.run placed.place (whole_play is.start prepared.plan)
     (kept_later later (total_bytes prepared.plan)) in
-    let new-plays : new.plays ≡ old.plays = ap (λ (s : SessionState). s.plays) answered.1 ∙ same.plays in
-    let new-state : new.state ≡ admitted_in asking.state asking.awaited placed.place start =
-    ap (λ (s : SessionState). s.state) answered.1 in
+    let noted : (later : List StationCall) → notes_of_calls asking (Entered placed) later ≡ note later ∷ [] =
+    λ later. begun_note play placed later is.command
+    ∙ ap (λ a. noted_for setup prepared.run placed.place (play_admitted (play_of asking.heard prepared.plan) a)
+    later) is.answer in
+    let plays : new.plays ≡ old.plays =
+    ap (λ (s : SessionState). s.plays) is.new_is ∙ ap (λ (s : SessionState). s.plays) waiting.asking_is in
+    let state : new.state ≡ admitted_in asking.state asking.awaited placed.place is.start =
+    ap (λ (s : SessionState). s.state) is.new_is in
     record {
       on = λ later.
           ap (λ s. (old.plays ++ open_note s (station_call asking (Entered placed) ∷ later))
           ++ (notes_of_calls asking (Entered placed) later ++ [])) ready
           ∙ ap (λ ns. ns ++ (notes_of_calls asking (Entered placed) later ++ [])) (append-nil old.plays)
-          ∙ ap (λ ns. old.plays ++ ns) (append-nil (notes_of_calls asking (Entered placed) later)
-          ∙ begun_note later there awaited entry)
-          ∙ ap (λ ns. old.plays ++ ns) (sym (ap (λ s. open_note s later) new-state
-          ∙ begun_state placed.place start later there awaited))
-          ∙ ap (λ ns. ns ++ open_note new.state later) (sym new-plays);
+          ∙ ap (λ ns. old.plays ++ ns) (append-nil (notes_of_calls asking (Entered placed) later) ∙ noted later)
+          ∙ ap (λ ns. old.plays ++ ns) (sym (ap (λ s. open_note s later) state
+          ∙ begun_state placed.place is.start later there awaited))
+          ∙ ap (λ ns. ns ++ open_note new.state later) (sym plays);
     }
-play_on {asking} {placed} {answer = Overflow slot booked asks} {old} new entry answered ready same awaited =
-    stays_on old new (ap (λ (s : SessionState). s.plays) answered ∙ same.plays) (ap (λ (s : SessionState). s.state)
-    answered
-    ∙ same.state)
-    (λ later. begun_note later (same.state ∙ ready) awaited entry)
-    (λ k. ap (λ c. kept_by c k) entry.command)
-play_on {answer = Halted} new entry answered ready same awaited = absurd answered
-play_on {answer = Looked now at booked} new entry answered ready same awaited = absurd answered
-
-asks_play : {asking : SessionState} {setup : Setup} {paused : Option Run} {prepared : Prepared} {outcome : Outcome}
-    {old : SessionState} (new : SessionState) → IsAskAnswered asking (AskPlay prepared.plan) outcome new →
-    old.state ≡ Ready setup paused → SameSession old asking → asking.awaited ≡ Play prepared →
-    CarriesOn old asking outcome new
-asks_play {outcome = Unasked} new answered ready same awaited = absurd answered
-asks_play {outcome = Entered placed} new answered ready same awaited =
-    play_on new (record { answer_is = refl; command = answered.0 }) answered.1 ready same awaited
-asks_play {outcome = WasFull more entries live} {old} new answered ready same awaited =
-    stays_on old new (ap (λ (s : SessionState). s.plays) answered.0 ∙ same.plays)
-    (ap (λ (s : SessionState). s.state) answered.0 ∙ same.state)
-    (λ later. refl) (λ k. refl)
-asks_play {outcome = Offered at_slot note} new answered ready same awaited = absurd answered
-
--- a look
-no_play : (sequence : ℕ) (awaited : Awaited) → awaited ≡ Look sequence → (prepared : Prepared)
-    → awaited ≡ Play prepared → ⊥
-no_play sequence awaited looks prepared asks = let no : Look sequence ≡ Play prepared = sym looks ∙ asks in cc no
-
--- the look that a session asks for was entered, and so it was answered
-record LookEntered (asking : SessionState) (placed : PlacedEntry) (answer : Answer) (new : SessionState) : Type 0 where
-  slot : ℕ
-  command : placed.entry.command ≡ look_at slot
-  answered : IsLookAnswered asking placed answer new
-
-look_on : {asking : SessionState} {placed : PlacedEntry} {sequence : ℕ} {old new : SessionState} (answer : Answer) →
-    LookEntered asking placed answer new → SameSession old asking → asking.awaited ≡ Look sequence →
-    CarriesOn old asking (Entered placed) new
-look_on {asking} {placed} {sequence} {old} {new} (Looked now at booked) entered same awaited =
-    stays_on old new (ap (λ (s : SessionState). s.plays) entered.answered ∙ same.plays)
-    (ap (λ (s : SessionState). s.state) entered.answered ∙ same.state)
-    (λ later. no_note asking.state asking.awaited placed later (no_play sequence asking.awaited awaited))
-    (λ k. ap (λ c. kept_by c k) entered.command)
-look_on (Admitted start) entered same awaited = absurd entered.answered
-look_on (Overflow over booked asks) entered same awaited = absurd entered.answered
-look_on Halted entered same awaited = absurd entered.answered
-
-asks_look : {asking : SessionState} {sequence : ℕ} {outcome : Outcome} {old : SessionState} (new : SessionState) (slot :
-    ℕ) →
-    IsAskAnswered asking (AskLook slot) outcome new → SameSession old asking → asking.awaited ≡ Look sequence →
-    CarriesOn old asking outcome new
-asks_look {outcome = Unasked} new slot answered same awaited = absurd answered
-asks_look {outcome = Entered placed} new slot answered same awaited =
-    look_on placed.entry.answer (record { slot = slot; command = answered.0; answered = answered.1 }) same awaited
-asks_look {outcome = WasFull more entries live} {old} new slot answered same awaited =
-    stays_on old new (ap (λ (s : SessionState). s.plays) answered.0 ∙ same.plays)
-    (ap (λ (s : SessionState). s.state) answered.0 ∙ same.state)
-    (λ later. refl) (λ k. refl)
-asks_look {outcome = Offered at_slot note} new slot answered same awaited = absurd answered
-
-asks_offer : {asking : SessionState} {outcome : Outcome} {old : SessionState} (new : SessionState) (plan : List Segment)
-    (offers : Offers) → IsAskAnswered asking (AskOffer plan offers) outcome new → SameSession old asking →
-    CarriesOn old asking outcome new
-asks_offer {outcome = Unasked} new plan offers answered same = absurd answered
-asks_offer {outcome = Entered placed} new plan offers answered same = absurd answered
-asks_offer {outcome = WasFull more entries live} new plan offers answered same = absurd answered
-asks_offer {outcome = Offered at_slot note} {old} new plan offers answered same =
-    stays_on old new (ap (λ (s : SessionState). s.plays) answered.2 ∙ same.plays)
-    (ap (λ (s : SessionState). s.state) answered.2 ∙ same.state)
-    (λ later. refl) (λ k. refl)
+  where
+    open play use {setup, paused, prepared, ready, waiting}
 
 -- a halt that a request asks for
 pub no_halt_note : {awaited : Awaited} {keep : ℕ} {next : AfterHalt} (state : State) → awaited ≡ Halt keep next
-    → (placed : PlacedEntry) (later : List StationCall)
-    → noted_entry state awaited placed later ≡ []
+    → (placed : PlacedEntry) (later : List StationCall) → noted_entry state awaited placed later ≡ []
 no_halt_note {awaited} {keep} {next} state halts placed later =
     no_note state awaited placed later (λ prepared asks. let no : Halt keep next ≡ Play prepared = sym halts
     ∙ asks in cc no)
 
-asks_halt : {asking : SessionState} {setup : Setup} {play : Played} {keep : ℕ} {next : AfterHalt} {outcome : Outcome}
-    {old : SessionState} (new : SessionState) → IsHalted asking keep outcome new → asking.plays ≡ old.plays →
-    HaltAsked old asking setup play keep next → CarriesOn old asking outcome new
-asks_halt {asking} {setup} {play} {keep} {next} new halted plays asked =
+halt_on : {old asking : SessionState} {placed : PlacedEntry} (new : SessionState) (halt : HaltRequest old asking)
+    → IsHaltAnswered asking halt.keep placed new → CarriesOn old asking (Entered placed) new
+halt_on {old} {asking} {placed} new halt halted =
     let stopped : Played = record play { pacer = record play.pacer { keep = keep } } in
-    let K : State → Awaited → Type 0 = λ s a. IsKept s a keep in
+    let state : asking.state ≡ Playing setup stopped = ap (λ (s : SessionState). s.state) asking_is in
+    let awaited : asking.awaited ≡ Halt keep next = ap (λ (s : SessionState). s.awaited) asking_is in
     let kept : IsKept asking.state asking.awaited keep =
-    subst (λ s. K s asking.awaited) (sym state) (subst (K (Playing setup stopped)) (sym awaited) refl) in
-    carries_as (sym plays)
+    subst (λ (s : SessionState). IsKept s.state s.awaited keep) (sym asking_is) refl in
+    carries_as (sym (ap (λ (s : SessionState). s.plays) asking_is))
     (λ later. ap (λ s. open_note s later) playing ∙ sym (ap (λ s. open_note s later) state)) refl (λ later. refl)
-    (halt_turn (record { keep = keep; new = new; halted = halted }) asking kept (no_halt_note asking.state awaited))
+    (halt_turn {s = asking} (record { keep = keep; placed = placed; new = new; halted = halted }) asking kept
+    (no_halt_note asking.state awaited placed))
   where
-    open asked use {playing, state, awaited}
+    open halt use {setup, play, keep, next, playing, asking_is}
 
--- by what was asked
-answered_on : {old asking : SessionState} {ask : Ask} {outcome : Outcome} (new : SessionState)
-    → IsAskAnswered asking ask outcome new → HearsAs old ask asking → CarriesOn old asking outcome new
-answered_on {old} {asking} {ask} {outcome} new answered (Replies text tearing ask_is is) =
-    replied_on old new (subst (λ a. IsAskAnswered asking a outcome new) ask_is answered)
-    (ap (λ (s : SessionState). s.plays) is)
-    (λ later. ap (λ (s : SessionState). open_note s.state later) is)
-answered_on {old} {asking} {ask} {outcome} new answered (SetsUp text setup init ask_is is) =
-    replied_on old new (subst (λ a. IsAskAnswered asking a outcome new) ask_is answered)
-    (ap (λ (s : SessionState). s.plays) is)
-    (λ later. ap (λ (s : SessionState). open_note s.state later) is ∙ sym (ap (λ s. open_note s later) init))
-answered_on {old} {asking} {ask} {outcome} new answered (AsksPlay setup paused prepared text ready ask_is is) =
-    asks_play {old = old} new (subst (λ a. IsAskAnswered asking a outcome new) ask_is answered) ready
-    (record { state = ap (λ (s : SessionState). s.state) is; plays = ap (λ (s : SessionState). s.plays) is })
-    (ap (λ (s : SessionState). s.awaited) is)
-answered_on {old} {asking} {ask} {outcome} new answered
-    (Stops setup play keep next text playing told keep_is ask_is is) =
-    asks_halt {old = old} new (subst (λ a. IsAskAnswered asking a outcome new) ask_is answered)
-    (ap (λ (s : SessionState). s.plays) is)
-    (record {
-      playing = playing;
-      state = ap (λ (s : SessionState). s.state) is;
-      awaited = ap (λ (s : SessionState). s.awaited) is;
-    })
-answered_on {old} {asking} {ask} {outcome} new answered (AsksLook looks sequence ask_is is) =
-    asks_look {old = old} new old.heard (subst (λ a. IsAskAnswered asking a outcome new) ask_is answered)
-    (record { state = ap (λ (s : SessionState). s.state) is; plays = ap (λ (s : SessionState). s.plays) is })
-    (ap (λ (s : SessionState). s.awaited) is)
-answered_on {old} {asking} {ask} {outcome} new answered (AsksOffer plan offers sequence ask_is is) =
-    asks_offer {old = old} new plan offers (subst (λ a. IsAskAnswered asking a outcome new) ask_is answered)
-    (record { state = ap (λ (s : SessionState). s.state) is; plays = ap (λ (s : SessionState). s.plays) is })
+-- nothing is noted of a look
+no_look_note : {old asking : SessionState} (look : LookRequest old asking) (placed : PlacedEntry)
+    (later : List StationCall) → notes_of_calls asking (Entered placed) later ≡ []
+no_look_note {asking = asking} look placed later =
+    let awaited : asking.awaited ≡ Look look.sequence =
+    ap (λ (s : SessionState). s.awaited) look.waiting.asking_is in
+    no_note asking.state asking.awaited placed later
+    (λ prepared asks. let no : Look look.sequence ≡ Play prepared = sym awaited ∙ asks in cc no)
+
+-- by what was asked and answered
+answered_on : {old asking new : SessionState} {outcome : Outcome} → RequestAnswer old asking new outcome
+    → CarriesOn old asking outcome new
+answered_on {old} {asking} {new} (OwnReply text tearing is same) =
+    replied_on old asking new (ap (λ (s : SessionState). s.plays) (same ∙ is))
+    (λ later. ap (λ (s : SessionState). open_note s.state later) (same ∙ is))
+answered_on {old} {asking} {new} (SetupReply text setup init is same) =
+    replied_on old asking new (ap (λ (s : SessionState). s.plays) (same ∙ is))
+    (λ later. ap (λ (s : SessionState). open_note s.state later) (same ∙ is)
+    ∙ sym (ap (λ s. open_note s later) init))
+answered_on {new = new} (Admission play is) = play_on new play is
+answered_on {old} {asking} {new} (Refusal {placed = p} play is) =
+    stays_on old new (ap note_part is.new_is ∙ ap note_part play.waiting.asking_is)
+    (λ later. begun_note play p later is.command
+    ∙ ap (λ a. noted_for play.setup play.prepared.run p.place
+    (play_admitted (play_of asking.heard play.prepared.plan) a) later) is.answer)
+    (λ k. ap (λ c. kept_by c k) is.command)
+answered_on {new = new} (HaltMade halt is) = halt_on new halt is
+answered_on {old} {asking} {new} (LookAnswer {placed = p} look is) =
+    stays_on old new (ap note_part is.new_is ∙ ap note_part look.waiting.asking_is) (no_look_note look p)
+    (λ k. ap (λ c. kept_by c k) is.command)
+answered_on {old} {new = new} (JournalFull awaited waiting is) =
+    stays_on old new (ap note_part is ∙ ap note_part waiting.asking_is) (λ later. refl) (λ k. refl)
+answered_on {old} {new = new} (OfferAnswer sequence waiting is) =
+    stays_on old new (ap note_part is ∙ ap note_part waiting.asking_is) (λ later. refl) (λ k. refl)
 
 pub heard_on : (old new : SessionState) (message : List ℕ) (outcome : Outcome) (heard : HasHeard old message outcome
     new)
     → Carries old.plays old.state (station_call heard.asking outcome ∷ []) new.plays new.state
-heard_on old new message outcome heard =
-    answered_on new heard.answered (hears_as old message heard.ask heard.asking heard.hears)
+heard_on old new message outcome heard = answered_on (request_answer heard)

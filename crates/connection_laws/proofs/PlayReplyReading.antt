@@ -85,62 +85,85 @@ record ThreeDigits : Type 0 where
   second_is : second < 10
   third_is : third < 10
 
--- seconds, a point and three digits are read
-point_read : {text s : List ℕ} (n : ℕ) (after_point : ThreeDigits) →
-    text ≡ s ++ 46 ∷ (48 + after_point.first) ∷ (48 + after_point.second) ∷ (48 + after_point.third) ∷ [] →
-    s ≡ decimal n → n < 2 ^ 64 →
-    time_in text ≡ Some (n * 1000 + (after_point.first * 100 + after_point.second * 10 + after_point.third))
-point_read {text} {s} n after_point is s_is small =
-    let tail = 46 ∷ (48 + a) ∷ (48 + b) ∷ (48 + c) ∷ [] in
-    let size : length text ≡ length s + 4 = ap (λ (l : List ℕ). length l) is ∙ length-append s tail in
-    let some : 0 < length s = omega (arith, ap (λ (l : List ℕ). length l) s_is, decimal_nonempty n small) in
+abbrev digits_of : ThreeDigits → List ℕ
+digits_of digits = (48 + digits.first) ∷ (48 + digits.second) ∷ (48 + digits.third) ∷ []
+
+-- seconds, a point and three digits
+record PointText (n : ℕ) (digits : ThreeDigits) : Type 0 where
+  seconds : List ℕ
+  seconds_are : seconds ≡ decimal n
+  small : n < 2 ^ 64
+
+abbrev point_text : {n : ℕ} {digits : ThreeDigits} → PointText n digits → List ℕ
+point_text {digits = digits} text = text.seconds ++ 46 ∷ digits_of digits
+
+point_there : {n : ℕ} {digits : ThreeDigits} (text : PointText n digits) → has_point (point_text text) ≡ true
+point_there {n} {digits} point =
+    let s = point.seconds in
+    let text = point_text point in
+    let tail = 46 ∷ digits_of digits in
+    let size : length text ≡ length s + 4 = length-append s tail in
+    let some : 0 < length s = omega (
+      arith,
+      ap (λ (l : List ℕ). length l) point.seconds_are,
+      decimal_nonempty n point.small,
+    ) in
     let at : length text - 4 ≡ length s = omega (arith, size) in
-    let at3 : length text - 3 ≡ length s + 1 = omega (arith, size) in
     let dot : get_or text (length text - 4) 0 ≡ 46 =
-    ap (λ k. get_or text k 0) at ∙ (ap (λ l. get_or l (length s) 0) is
-    ∙ (get_or-append_right s tail (length s) (length s) 0 refl (omega arith)
-    ∙ ap (λ k. get_or tail k 0) (let z : length s - length s ≡ 0 = omega arith in z))) in
+    ap (λ k. get_or text k 0) at ∙ (get_or-append_right s tail (length s) (length s) 0 refl (omega arith)
+    ∙ ap (λ k. get_or tail k 0) (let z : length s - length s ≡ 0 = omega arith in z)) in
     let front : get_or text 0 0 ≡ get_or (decimal n) 0 0 =
-    ap (λ l. get_or l 0 0) is ∙ (get_or_append_left s tail 0 0 some ∙ ap (λ l. get_or l 0 0) s_is) in
+    get_or_append_left s tail 0 0 some ∙ ap (λ l. get_or l 0 0) point.seconds_are in
     let bare : not (nat_lt 5 (length text) && (get_or text 0 0 == 48)) ≡ true =
     no_zero (nat_lt 5 (length text)) (get_or text 0 0 == 48) (λ long zero_.
     let more : 1 < length (decimal n) = omega (
       arith,
       ltb-true 5 (length text) long,
       size,
-      ap (λ (l : List ℕ). length l) s_is,
+      ap (λ (l : List ℕ). length l) point.seconds_are,
     ) in
-    no_leading_zero n small more (sym front ∙ eqb-true (get_or text 0 0) 48 zero_)) in
-    let point : has_point text ≡ true =
+    no_leading_zero n point.small more (sym front ∙ eqb-true (get_or text 0 0) 48 zero_)) in
     and_three (nat_le 4 (length text)) (get_or text (length text - 4) 0 == 46)
     (not (nat_lt 5 (length text) && (get_or text 0 0 == 48)))
-    (le-leb 4 (length text) (omega (arith, size))) (eq-eqb (get_or text (length text - 4) 0) 46 dot) bare in
+    (le-leb 4 (length text) (omega (arith, size))) (eq-eqb (get_or text (length text - 4) 0) 46 dot) bare
+
+-- they are read
+point_read : {n : ℕ} {digits : ThreeDigits} (text : PointText n digits) →
+    time_in (point_text text) ≡ Some (n * 1000 + (digits.first * 100 + digits.second * 10 + digits.third))
+point_read {n} {digits} point =
+    let s = point.seconds in
+    let text = point_text point in
+    let last = digits_of digits in
+    let size : length text ≡ length s + 4 = length-append s (46 ∷ last) in
+    let at : length text - 4 ≡ length s = omega (arith, size) in
+    let at3 : length text - 3 ≡ length s + 1 = omega (arith, size) in
     let seconds : take (length text - 4) text ≡ decimal n =
-    ap (λ k. take k text) at ∙ (ap (λ l. take (length s) l) is ∙ (take_at s tail (length s) refl ∙ s_is)) in
-    let digits : drop (length text - 3) text ≡ (48 + a) ∷ (48 + b) ∷ (48 + c) ∷ [] =
-    ap (λ k. drop k text) at3 ∙ (ap (λ l. drop (length s + 1) l) is
-    ∙ (ap (λ l. drop (length s + 1) l) (sym (append_assoc s (46 ∷ []) ((48 + a) ∷ (48 + b) ∷ (48 + c) ∷ [])))
-    ∙ drop_at (s ++ 46 ∷ []) ((48 + a) ∷ (48 + b) ∷ (48 + c) ∷ []) (length s + 1) (length-append s (46 ∷ [])))) in
-    let read : milliseconds (decimal n) ((48 + a) ∷ (48 + b) ∷ (48 + c) ∷ [])
-    ≡ Some (n * 1000 + (a * 100 + b * 10 + c)) =
-    ap (λ o. option_and_then
-    (λ t. option_map (λ f. t * 1000 + f) (number_of ((48 + a) ∷ (48 + b) ∷ (48 + c) ∷ []))) o) (decimal_read n small)
+    ap (λ k. take k text) at ∙ (take_at s (46 ∷ last) (length s) refl ∙ point.seconds_are) in
+    let after : drop (length text - 3) text ≡ last =
+    ap (λ k. drop k text) at3 ∙ (ap (λ l. drop (length s + 1) l) (sym (append_assoc s (46 ∷ []) last))
+    ∙ drop_at (s ++ 46 ∷ []) last (length s + 1) (length-append s (46 ∷ []))) in
+    let read : milliseconds (decimal n) last ≡ Some (n * 1000 + (a * 100 + b * 10 + c)) =
+    ap (λ o. option_and_then (λ t. option_map (λ f. t * 1000 + f) (number_of last)) o) (decimal_read n point.small)
     ∙ ap (λ o. option_map (λ f. n * 1000 + f) o) (three a b c la lb lc) in
-    cond-true (has_point text) (milliseconds (take (length text - 4) text) (drop (length text - 3) text)) None point
-    ∙ (ap (λ l. milliseconds l (drop (length text - 3) text)) seconds ∙ (ap (milliseconds (decimal n)) digits ∙ read))
+    cond-true (has_point text) (milliseconds (take (length text - 4) text) (drop (length text - 3) text)) None
+    (point_there point)
+    ∙ (ap (λ l. milliseconds l (drop (length text - 3) text)) seconds ∙ (ap (milliseconds (decimal n)) after ∙ read))
   where
-    open after_point use {first as a, second as b, third as c, first_is as la, second_is as lb, third_is as lc}
+    open digits use {first as a, second as b, third as c, first_is as la, second_is as lb, third_is as lc}
 
 time_read : (ms : ℕ) → ms < 2 ^ 64 → time_in (seconds_text ms) ≡ Some ms
 time_read ms small =
-    point_read (ms / 1000) (record {
+    let digits : ThreeDigits = record {
       first = ms / 100 % 10;
       second = ms / 10 % 10;
       third = ms % 10;
       first_is = omega arith;
       second_is = omega arith;
       third_is = omega arith;
-    }) (seconds_is ms) refl (omega (arith, small))
+    } in
+    ap time_in (seconds_is ms)
+    ∙ point_read {n = ms / 1000} {digits = digits}
+    (record { seconds = decimal (ms / 1000); seconds_are = refl; small = omega (arith, small) })
     ∙ ap Some (let e : ms / 1000 * 1000 + (ms / 100 % 10 * 100 + ms / 10 % 10 * 10 + ms % 10) ≡ ms = omega arith in e)
 
 -- the range from a film's beginning to its end

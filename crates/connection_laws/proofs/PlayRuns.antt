@@ -55,6 +55,10 @@ use Rattle.connection_laws.specs.Plays.{plays_begun, plays_of}
 use Rattle.connection_laws.specs.LookLimits.{course_looks, look_in, looks_in}
 use Rattle.connection_laws.specs.PlayRuns.{AreRunsInOrder, IsFirstRun, IsLaterRun, RunPlace, SendsNext, run_place}
 use Rattle.connection_laws.proofs.FilmBytes.{Stands, opened_stands, reply_awaited, round_step, stands_by, taken_stands}
+use Rattle.connection_laws.proofs.StationAnswers.{FinishesAs, NothingLeft, DoneHalted, HaltsAs, HaltEntered, halts_as}
+use Rattle.connection_laws.proofs.StationAnswers.{ComesAs, BytesCame, SlotCame}
+use Rattle.connection_laws.proofs.CourseAskings.{IsKeptByAskings, course_kept}
+use Rattle.conn.specs.InputSteps.{IsHaltAnswered}
 
 -- what the runs of a session go by, and what of a reply matters to them
 record Stream : Type 0 where
@@ -306,14 +310,13 @@ module _ (words : List ℕ) where
   )
   halt_state s setup play keep place Torn kept last left way = (refl, inl refl)
 
-  abbrev Halts : SessionState → ℕ → Outcome → SessionState → Type 0
-  Halts s keep halt new = IsHalted s keep halt new → Leads s new (Asks s.awaited halt ∷ [])
+  abbrev Halts : SessionState → ℕ → PlacedEntry → SessionState → Type 0
+  Halts s keep placed new = IsHaltAnswered s keep placed new → Leads s new (Asks s.awaited (Entered placed) ∷ [])
 
-  halts : (s : SessionState) (setup : Setup) (play : Played) (keep : ℕ) (next : AfterHalt) (halt : Outcome)
+  halts : (s : SessionState) (setup : Setup) (play : Played) (keep : ℕ) (next : AfterHalt) (placed : PlacedEntry)
       (new : SessionState) → IsLeftBy play.run keep next
-      → Halts (record s { state = Playing setup play; awaited = Halt keep next }) keep halt new
-  halts s setup play keep next Unasked new left halted = absurd halted
-  halts s setup play keep next (Entered placed) new left halted =
+      → Halts (record s { state = Playing setup play; awaited = Halt keep next }) keep placed new
+  halts s setup play keep next placed new left halted =
       let asking : SessionState = record s { state = Playing setup play; awaited = Halt keep next } in
       subst (λ n. Leads asking n (Asks (Halt keep next) (Entered placed) ∷ [])) (sym halted.halts) (record {
         on = λ later follows last is. follows last (halt_state s setup play keep placed.place next (kept_in later) last
@@ -321,16 +324,14 @@ module _ (words : List ℕ) where
             (play.run.sent + kept_by c (kept_in later (total_bytes play.plan))) last) halted.command is));
         looks = sym (minus_none s.looks_left);
       })
-  halts s setup play keep next (WasFull more entries live) new left halted = absurd halted
-  halts s setup play keep next (Offered at_slot note) new left halted = absurd halted
 
-  halts_in : (s : SessionState) (setup : Setup) (play : Played) (keep : ℕ) (next : AfterHalt) (halt : Outcome)
+  halts_in : (s : SessionState) (setup : Setup) (play : Played) (keep : ℕ) (next : AfterHalt) (placed : PlacedEntry)
       (new : SessionState) → s.state ≡ Playing setup play → s.awaited ≡ Halt keep next → IsLeftBy play.run keep next
-      → Halts s keep halt new
-  halts_in s setup play keep next halt new state awaited left =
-      subst (λ a. Halts (record s { awaited = a }) keep halt new) (sym awaited)
-      (subst (λ st. Halts (record s { state = st; awaited = Halt keep next }) keep halt new) (sym state)
-      (halts s setup play keep next halt new left))
+      → Halts s keep placed new
+  halts_in s setup play keep next placed new state awaited left =
+      subst (λ a. Halts (record s { awaited = a }) keep placed new) (sym awaited)
+      (subst (λ st. Halts (record s { state = st; awaited = Halt keep next }) keep placed new) (sym state)
+      (halts s setup play keep next placed new left))
 
   -- a slot asks for nothing, or halts a play that is done
   record IsDone (state : State) (awaited : Awaited) : Type 0 where
@@ -365,39 +366,31 @@ module _ (words : List ℕ) where
   slot_asks s slot true false rest = inl rest
   slot_asks s slot false sending rest = inl rest
 
-  unasked : (s new : SessionState) (halt : Outcome) → s.awaited ≡ Nothing → IsFinished NoAnswer s halt new
-      → Leads s new (Asks s.awaited halt ∷ [])
-  unasked s new Unasked rest is =
-      subst (λ n. Leads s n (Asks s.awaited Unasked ∷ [])) (sym is)
-      (still (unasked_quiet s.awaited) (none_asked s.looks_left s.awaited rest) (moves_none s))
-  unasked s new (Entered placed) rest is = absurd is
-  unasked s new (WasFull more entries live) rest is = absurd is
-  unasked s new (Offered at_slot note) rest is = absurd is
+  finishes : {awaited : Awaited} {halt : Outcome} (s new : SessionState) → AsksIn s.state s.awaited
+      → s.awaited ≡ awaited → FinishesAs s new awaited halt → Leads s new (Asks s.awaited halt ∷ [])
+  finishes s new asks is (NothingLeft same) =
+      subst (λ n. Leads s n (Asks s.awaited Unasked ∷ [])) (sym same)
+      (still (unasked_quiet s.awaited) (none_asked s.looks_left s.awaited is) (moves_none s))
+  finishes s new (inl rest) is (DoneHalted {keep = keep} {next = next} halted) =
+      let no : Nothing ≡ Halt keep next = sym rest ∙ is in absurd (let clash : ⊥ = cc in clash)
+  finishes s new (inr done) is (DoneHalted {keep = keep} {next = next} {placed = placed} halted) =
+      let asked : Halt done.keep Done ≡ Halt keep next = sym done.halt ∙ is in
+      let size : keep ≡ done.keep = cc in
+      halts_in s done.setup done.play done.keep Done placed new done.playing done.halt tt
+      (subst (λ k. IsHaltAnswered s k placed new) size halted)
 
-  finishes : (s new : SessionState) (halt : Outcome) → AsksIn s.state s.awaited
-      → IsFinished (awaited_answer s) s halt new → Leads s new (Asks s.awaited halt ∷ [])
-  finishes s new halt (inl rest) is =
-      unasked s new halt rest (subst (λ a. IsFinished (awaited_answer_of a) s halt new) rest is)
-  finishes s new halt (inr done) is =
-      halts_in s done.setup done.play done.keep Done halt new done.playing done.halt tt
-      (subst (λ a. IsFinished (awaited_answer_of a) s halt new) done.halt is)
-
-  comes_leads : (old opened : Stage) (event : IoEvent) (parts : List SentPart) (halt : Outcome)
-      → Stands old.session → Comes old event parts halt opened
+  comes_leads : {old opened : Stage} {event : IoEvent} {parts : List SentPart} {halt : Outcome} → Stands old.session
+      → ComesAs old opened event parts halt
       → Leads old.session opened.session (Asks (asked_by old.session event) halt ∷ [])
-  comes_leads old opened (HeardBytes bytes) parts halt stands comes =
-      subst (λ h. Leads old.session opened.session (Asks Nothing h ∷ [])) (sym comes.1)
-      (subst (λ (t : Stage). Leads old.session t.session (Asks Nothing Unasked ∷ [])) (sym comes.3)
-      (still (unasked_quiet Nothing) (sym (minus_none old.session.looks_left)) (moves_none old.session)))
-  comes_leads old opened (HeardSlot slot) parts halt stands comes =
+  comes_leads {old} stands (BytesCame is) =
+      subst (λ (t : Stage). Leads old.session t.session (Asks Nothing Unasked ∷ [])) (sym is)
+      (still (unasked_quiet Nothing) (sym (minus_none old.session.looks_left)) (moves_none old.session))
+  comes_leads {old} {opened} stands (SlotCame {slot = slot} finish) =
       let s : SessionState = after_slot old.session slot in
       leads_then (moves (slot_looks old.session slot (is_taken old.session slot) (is_sending old.session.state))
       (slot_moves old.session slot (is_taken old.session slot) (is_sending old.session.state)))
-      (finishes s opened.session halt
-      (slot_asks old.session slot (is_taken old.session slot) (is_sending old.session.state) stands.rest)
-      comes.1.finished)
-  comes_leads old opened HeardEnd parts halt stands comes = absurd comes
-  comes_leads old opened (Sent byte) parts halt stands comes = absurd comes
+      (finishes s opened.session
+      (slot_asks old.session slot (is_taken old.session slot) (is_sending old.session.state) stands.rest) refl finish)
 
   -- ---- requests
 
@@ -629,14 +622,14 @@ module _ (words : List ℕ) where
         (inr (first.1, first.2))))
 
     -- a halt keeps what was sent up to a boundary
-    halt_asked : (setup : Setup) (play : Played) (keep : ℕ) (next : AfterHalt) (text : List ℕ) (new : SessionState)
-        (outcome : Outcome) → old.state ≡ Playing setup play → IsLeftBy play.run keep next
-        → Answers outcome new (AskHalt keep) (record old {
+    halt_entered : {outcome : Outcome} (setup : Setup) (play : Played) (keep : ℕ) (next : AfterHalt) (text : List ℕ)
+        (new : SessionState) → old.state ≡ Playing setup play → IsLeftBy play.run keep next
+        → (let asking : SessionState = record old {
           state = Playing setup (record play { pacer = record play.pacer { keep = keep } });
           awaited = Halt keep next;
           text = text;
-        })
-    halt_asked setup play keep next text new outcome playing left answered =
+        } in HaltsAs asking new keep outcome → Leads old new (Asks asking.awaited outcome ∷ []))
+    halt_entered setup play keep next text new playing left (HaltEntered {placed = placed} answered) =
         let stopping : Played = record play { pacer = record play.pacer { keep = keep } } in
         let asking : SessionState = record old {
           state = Playing setup stopping;
@@ -645,7 +638,17 @@ module _ (words : List ℕ) where
         } in
         let same : Moves old asking = λ kept last was.
         subst (λ st. IsLastIn words st (stream_of old) (flags_of old) kept last) playing was in
-        leads_then (moves refl same) (halts (record old { text = text }) setup stopping keep next outcome new left answered)
+        leads_then (moves refl same) (halts (record old { text = text }) setup stopping keep next placed new left answered)
+
+    halt_asked : (setup : Setup) (play : Played) (keep : ℕ) (next : AfterHalt) (text : List ℕ) (new : SessionState)
+        (outcome : Outcome) → old.state ≡ Playing setup play → IsLeftBy play.run keep next
+        → Answers outcome new (AskHalt keep) (record old {
+          state = Playing setup (record play { pacer = record play.pacer { keep = keep } });
+          awaited = Halt keep next;
+          text = text;
+        })
+    halt_asked setup play keep next text new outcome playing left answered =
+        halt_entered setup play keep next text new playing left (halts_as outcome answered)
 
     to : (outcome : Outcome) (new : SessionState) {ask command : Ask} {asking is : SessionState} → ask ≡ command
         → asking ≡ is → Answers outcome new command is → Answers outcome new ask asking
@@ -686,39 +689,24 @@ module _ (words : List ℕ) where
       (leads_then one (moves (reply_looks (can_reply replied.answered) replied.answered)
       (reply_moves (can_reply replied.answered) replied.answered)))
 
-  takes_lead : (old new : Stage) (takings : List ElementStep) (takes : TakesAll old takings new)
-      → Stands old.session → Leads old.session new.session (takings_askings old takings new takes)
-  takes_lead old new [] takes stands =
-      subst (λ (t : Stage). Leads old.session t.session []) (sym takes) (moves refl (moves_none old.session))
-  takes_lead old new (Passed n ∷ takings) takes stands =
-      let same : takes.0.session ≡ old.session = ap (λ (t : Stage). t.session) takes.1.0.2 in
-      subst (λ s. Leads s new.session (takings_askings takes.0 takings new takes.1.1)) same
-      (takes_lead takes.0 new takings takes.1.1 (subst Stands (sym same) stands))
-  takes_lead old new (Answered message outcome parts ∷ takings) takes stands =
-      leads_then (answered_leads old takes.0 message outcome parts takes.1.0 stands)
-      (takes_lead takes.0 new takings takes.1.1
-      (taken_stands old takes.0 (Answered message outcome parts) takes.1.0 stands))
+  abbrev LeadsOn : SessionState → List StationRequest → SessionState → Type 0
+  LeadsOn old made new = Leads old new made
 
-  rounds_lead : (old new : Stage) (rounds : List Round) (follows : IsCourseBetween old rounds new)
-      → Stands old.session → Leads old.session new.session (askings_of old rounds new follows)
-  rounds_lead old new [] follows stands =
-      subst (λ (t : Stage). Leads old.session t.session []) (sym follows) (moves refl (moves_none old.session))
-  rounds_lead old new (round ∷ rounds) follows stands =
-      let runs = follows.1.0 in
-      let mid : Stands follows.0.session =
-      stands_by old.session follows.0.session (round_askings old round follows.0 runs) (film_bytes round.due)
-      (round_step old follows.0 round runs stands) in
-      leads_then
-      (leads_then (comes_leads old runs.opened round.event round.due round.halt stands runs.comes)
-      (takes_lead runs.opened follows.0 round.takings runs.takes (opened_stands old follows.0 round runs stands)))
-      (rounds_lead follows.0 new rounds follows.1.1 mid)
+  leads_kept : IsKeptByAskings LeadsOn
+  leads_kept = record {
+    none = λ s. moves refl (moves_none s);
+    joins = λ a b c made more one two. leads_then one two;
+    request = λ old new message outcome parts replied stands. answered_leads old new message outcome parts replied
+        stands;
+    event = λ old opened event due halt comes stands. comes_leads stands comes;
+  }
 
 -- what leads through a course
 course_leads : (course : Course) → (let first : Stage = first_stage course.films course.settings course.words in
     Leads course.words first.session course.last.session (askings_of first course.rounds course.last course.follows))
 course_leads course =
-    rounds_lead course.words (first_stage course.films course.settings course.words) course.last course.rounds
-    course.follows (record { rest = refl; sound = tt })
+    course_kept (leads_kept course.words) (first_stage course.films course.settings course.words) course.last
+    course.rounds course.follows (record { rest = refl; sound = tt })
 
 pub runs_in_order : (course : Course) → AreRunsInOrder course.words None (course_plays course)
 runs_in_order course =

@@ -1,34 +1,40 @@
 -- The receipts and offers of a connection's report, event by event.
-use Rattle.std.proofs.Common.{◌≡◌, ℕ, ◌++◌, ◌&&◌, if◌then◌else◌, Bool, true, false, List, [], ◌∷◌, Option, Some, None}
-use Rattle.std.proofs.Common.{length, refl, sym, ap, subst, ◌∙◌}
+use Rattle.std.proofs.Common.{◌≡◌, ℕ, ◌++◌, List, [], ◌∷◌, Option, length, refl, sym, ap, subst, ◌∙◌}
 use Rattle.std.proofs.lemmas.List.{append_assoc, append-nil}
-use Rattle.vod_base.specs.Links.{IoEvent, HeardBytes, HeardEnd, HeardSlot, Sent}
+use Rattle.vod_base.specs.Links.{IoEvent}
 use Rattle.film_frames.specs.declared.stored_films.Stored.{Stored}
 use Rattle.admission.specs.declared.entries.Answer.{Answer}
-use Rattle.admission.specs.declared.entries.Answer.TheVariants.{Admitted, Halted, Looked, Overflow}
 use Rattle.admission.specs.Makers.{PlacedEntry}
 use Rattle.session.specs.declared.commands.Ask.{Ask}
-use Rattle.session.specs.declared.commands.Ask.TheVariants.{Reply as AskReply, Play as AskPlay, Halt as AskHalt}
-use Rattle.session.specs.declared.commands.Ask.TheVariants.{Look as AskLook, Offer as AskOffer}
-use Rattle.session_records.specs.declared.notes.Receipt.TheVariants.{Entry as EntryReceipt}
+use Rattle.session.specs.declared.states.Awaited.{Awaited}
+use Rattle.session_records.specs.declared.notes.OfferNote.{OfferNote}
+use Rattle.session_records.specs.declared.notes.Receipt.{Receipt}
+use Rattle.session_records.specs.declared.notes.Receipt.TheVariants.{Entry as EntryReceipt, Full as FullReceipt}
 use Rattle.film_streams.specs.declared.settings.Settings.{Settings}
-use Rattle.session.specs.SlotSteps.{after_play, after_slot, can_reply, is_between, is_sending, is_taken, sent_due}
-use Rattle.session.specs.SlotSteps.{sent_reply, sent_slot, stepped_in}
-use Rattle.session.specs.SessionStates.{AwaitedAnswer, HaltAnswer, LookAnswer, NoAnswer, OfferAnswer, OpenBooking}
-use Rattle.session.specs.SessionStates.{PlayAnswer, SessionState}
-use Rattle.session.specs.SessionStates.{awaited_answer, open_of}
+use Rattle.session.specs.SlotSteps.{after_slot, can_reply}
+use Rattle.session.specs.SessionStates.{OpenBooking, SessionState, open_of}
 use Rattle.session_laws.proofs.RequestShapes.{HearsAs, Replies, SetsUp, AsksPlay, Stops, AsksLook, AsksOffer, hears_as}
-use Rattle.conn.specs.EventSteps.{Comes, Ending, Unheard, PeerEnded, Overfull, AtElement, InSlot, InReply}
+use Rattle.conn.specs.EventSteps.{Ending, Unheard, PeerEnded, Overfull, AtElement, InSlot, InReply}
 use Rattle.conn.specs.EventSteps.{Ends, Round, Runs, RunsAll, ending_outcomes, round_outcomes}
 use Rattle.conn.specs.EventSteps.{rounds_outcomes, takings_outcomes}
-use Rattle.conn.specs.InputSteps.{HasHeard, IsAskAnswered, IsClosed, IsFinished, IsHalted, IsLookAnswered}
-use Rattle.conn.specs.InputSteps.{IsPlayAnswered, Outcome, Unasked, Entered, WasFull, Offered, SentPart}
-use Rattle.conn.specs.InputSteps.{Stage, ElementStep, Passed, Answered, TakesAll, after_reply}
+use Rattle.conn.specs.InputSteps.{HasHeard, Outcome, Unasked, Entered, WasFull, SentPart, Stage, ElementStep, Passed}
+use Rattle.conn.specs.InputSteps.{Answered, TakesAll, after_reply}
 use Rattle.conn.specs.declared.reports.ConnEnd.{ConnEnd}
 use Rattle.conn.specs.declared.reports.ConnReport.{ConnReport}
 use Rattle.conn.specs.Agreement.{Activity, HasDone, doings_outcomes}
 use Rattle.connection_laws.specs.Courses.{first_stage}
 use Rattle.connection_laws.specs.Receipts.{offer_in, offers_in, receipt_in, receipts_in}
+use Rattle.connection_laws.proofs.StationAnswers.{AnswersAs, NoneAsked, PlayAdmitted, PlayRefused, PlayFull, PlayHalted}
+use Rattle.connection_laws.proofs.StationAnswers.{LookMade, LookFull, OfferMade, answers_as}
+use Rattle.connection_laws.proofs.StationAnswers.{FinishesAs, NothingLeft, DoneHalted}
+use Rattle.connection_laws.proofs.StationAnswers.{ClosesAs, NothingOpen, BookingHalted, closes_as}
+use Rattle.connection_laws.proofs.StationAnswers.{ComesAs, BytesCame, SlotCame, comes_as}
+use Rattle.connection_laws.proofs.KeptParts.{reply_keeps, slot_keeps}
+use Rattle.std.proofs.lemmas.List.{map-append}
+use Rattle.connection_laws.specs.Notes.{StationCall, outcome_of}
+use Rattle.connection_laws.proofs.CourseTurns.{IsKeptByDoings, doings_kept, turns_told}
+use Rattle.session.specs.SlotSteps.{sent_reply}
+use Rattle.std.proofs.Common.{map, true}
 
 -- what is noted of answers grows by theirs
 record Logs (old new : SessionState) (outcomes : List Outcome) : Type 0 where
@@ -55,235 +61,120 @@ logs_then {a} {c} {xs} {ys} one two = record {
       ∙ ap (λ os. a.offers ++ os) (sym (offers_append xs ys));
 }
 
--- nothing is noted
-logs_same : (old new : SessionState) → new.receipts ≡ old.receipts → new.offers ≡ old.offers → Logs old new []
-logs_same old new receipts offers =
-    record { receipts = receipts ∙ sym (append-nil old.receipts); offers = offers ∙ sym (append-nil old.offers) }
+-- what a session has noted of the station's answers
+record Log : Type 0 where
+  receipts : List Receipt
+  offers : List OfferNote
 
--- one answer
-logs_one : (old new : SessionState) (outcome : Outcome) → new.receipts ≡ old.receipts ++ receipt_in outcome
-    → new.offers ≡ old.offers ++ offer_in outcome
-    → Logs old new (outcome ∷ [])
-logs_one old new outcome receipts offers = record {
-  receipts = receipts ∙ ap (λ rs. old.receipts ++ rs) (sym (append-nil (receipt_in outcome)));
-  offers = offers ∙ ap (λ os. old.offers ++ os) (sym (append-nil (offer_in outcome)));
+abbrev log_of : SessionState → Log
+log_of s = record { receipts = s.receipts; offers = s.offers }
+
+abbrev with_receipt : SessionState → Receipt → Log
+with_receipt s receipt = record { receipts = s.receipts ++ receipt ∷ []; offers = s.offers }
+
+-- nothing is noted
+logs_same : (old new : SessionState) → log_of new ≡ log_of old → Logs old new []
+logs_same old new same = record {
+  receipts = ap (λ (l : Log). l.receipts) same ∙ sym (append-nil old.receipts);
+  offers = ap (λ (l : Log). l.offers) same ∙ sym (append-nil old.offers);
 }
 
+logs_unasked : (old new : SessionState) → log_of new ≡ log_of old → Logs old new (Unasked ∷ [])
+logs_unasked old new same =
+    let none = logs_same old new same in record { receipts = none.receipts; offers = none.offers }
+
 -- an entry's answer is noted, and no offer
-logs_entry : {old new : SessionState} {placed : PlacedEntry} {answer : Answer} → placed.entry.answer ≡ answer
-    → new.receipts ≡ old.receipts ++ EntryReceipt placed.place answer ∷ [] → new.offers ≡ old.offers
-    → Logs old new (Entered placed ∷ [])
-logs_entry {old} {new} {placed} is receipts offers =
-    logs_one old new (Entered placed)
-    (receipts ∙ ap (λ a. old.receipts ++ EntryReceipt placed.place a ∷ []) (sym is))
-    (offers ∙ sym (append-nil old.offers))
+logs_entry : {answer : Answer} (old new : SessionState) (placed : PlacedEntry) → placed.entry.answer ≡ answer
+    → log_of new ≡ with_receipt old (EntryReceipt placed.place answer) → Logs old new (Entered placed ∷ [])
+logs_entry old new placed is noted = record {
+  receipts = ap (λ (l : Log). l.receipts) noted
+      ∙ ap (λ a. old.receipts ++ EntryReceipt placed.place a ∷ []) (sym is);
+  offers = ap (λ (l : Log). l.offers) noted ∙ sym (append-nil old.offers);
+}
+
+logs_full : {entries live : ℕ} (old new : SessionState) (more : ℕ)
+    → log_of new ≡ with_receipt old (FullReceipt entries live) → Logs old new (WasFull more entries live ∷ [])
+logs_full old new more noted = record {
+  receipts = ap (λ (l : Log). l.receipts) noted;
+  offers = ap (λ (l : Log). l.offers) noted ∙ sym (append-nil old.offers);
+}
 
 -- ---- the station's answers
-logs_play : (asking new : SessionState) (placed : PlacedEntry) (answer : Answer) → placed.entry.answer ≡ answer
-    → IsPlayAnswered asking placed answer new
-    → Logs asking new (Entered placed ∷ [])
-logs_play asking new placed (Admitted start) is answered =
-    logs_entry is (ap (λ (s : SessionState). s.receipts) answered.1) (ap (λ (s : SessionState). s.offers) answered.1)
-logs_play asking new placed (Overflow slot booked asked) is answered =
-    logs_entry is (ap (λ (s : SessionState). s.receipts) answered) (ap (λ (s : SessionState). s.offers) answered)
-logs_play asking new placed Halted is answered = absurd answered
-logs_play asking new placed (Looked now at booked) is answered = absurd answered
-
-logs_look : (asking new : SessionState) (placed : PlacedEntry) (answer : Answer) → placed.entry.answer ≡ answer
-    → IsLookAnswered asking placed answer new
-    → Logs asking new (Entered placed ∷ [])
-logs_look asking new placed (Looked now at booked) is answered =
-    logs_entry is (ap (λ (s : SessionState). s.receipts) answered) (ap (λ (s : SessionState). s.offers) answered)
-logs_look asking new placed (Admitted start) is answered = absurd answered
-logs_look asking new placed (Overflow slot booked asked) is answered = absurd answered
-logs_look asking new placed Halted is answered = absurd answered
-
-logs_full : {asking new : SessionState} {more entries live : ℕ}
-    → new.receipts ≡ asking.receipts ++ receipt_in (WasFull more entries live) → new.offers ≡ asking.offers
-    → Logs asking new (WasFull more entries live ∷ [])
-logs_full {asking} {new} {more} {entries} {live} receipts offers =
-    logs_one asking new (WasFull more entries live) receipts (offers ∙ sym (append-nil asking.offers))
-
-logs_halt : (asking new : SessionState) (keep : ℕ) (outcome : Outcome) → IsHalted asking keep outcome new
+logs_answer : {asking new : SessionState} {ask : Ask} {outcome : Outcome} → AnswersAs asking new ask outcome
     → Logs asking new (outcome ∷ [])
-logs_halt asking new keep Unasked halted = absurd halted
-logs_halt asking new keep (Entered placed) halted =
-    logs_entry halted.answer (ap (λ (s : SessionState). s.receipts) halted.halts)
-    (ap (λ (s : SessionState). s.offers) halted.halts)
-logs_halt asking new keep (WasFull more entries live) halted = absurd halted
-logs_halt asking new keep (Offered at_slot note) halted = absurd halted
-
--- nothing was asked
-logs_unasked : (old new : SessionState) (outcome : Outcome) → IsFinished NoAnswer old outcome new
-    → Logs old new (outcome ∷ [])
-logs_unasked old new Unasked is =
-    logs_one old new Unasked (ap (λ (s : SessionState). s.receipts) is ∙ sym (append-nil old.receipts))
-    (ap (λ (s : SessionState). s.offers) is ∙ sym (append-nil old.offers))
-logs_unasked old new (Entered placed) is = absurd is
-logs_unasked old new (WasFull more entries live) is = absurd is
-logs_unasked old new (Offered at_slot note) is = absurd is
-
-logs_answer : (asking new : SessionState) (ask : Ask) (outcome : Outcome) → IsAskAnswered asking ask outcome new
-    → Logs asking new (outcome ∷ [])
-logs_answer asking new AskReply Unasked answered = logs_unasked asking new Unasked answered
-logs_answer asking new AskReply (Entered placed) answered = absurd answered
-logs_answer asking new AskReply (WasFull more entries live) answered = absurd answered
-logs_answer asking new AskReply (Offered at_slot note) answered = absurd answered
-logs_answer asking new (AskPlay plan) Unasked answered = absurd answered
-logs_answer asking new (AskPlay plan) (Entered placed) answered =
-    logs_play asking new placed placed.entry.answer refl answered.1
-logs_answer asking new (AskPlay plan) (WasFull more entries live) answered =
-    logs_full (ap (λ (s : SessionState). s.receipts) answered.0) (ap (λ (s : SessionState). s.offers) answered.0)
-logs_answer asking new (AskPlay plan) (Offered at_slot note) answered = absurd answered
-logs_answer asking new (AskHalt keep) outcome answered = logs_halt asking new keep outcome answered
-logs_answer asking new (AskLook slot) Unasked answered = absurd answered
-logs_answer asking new (AskLook slot) (Entered placed) answered =
-    logs_look asking new placed placed.entry.answer refl answered.1
-logs_answer asking new (AskLook slot) (WasFull more entries live) answered =
-    logs_full (ap (λ (s : SessionState). s.receipts) answered.0) (ap (λ (s : SessionState). s.offers) answered.0)
-logs_answer asking new (AskLook slot) (Offered at_slot note) answered = absurd answered
-logs_answer asking new (AskOffer plan offers) Unasked answered = absurd answered
-logs_answer asking new (AskOffer plan offers) (Entered placed) answered = absurd answered
-logs_answer asking new (AskOffer plan offers) (WasFull more entries live) answered = absurd answered
-logs_answer asking new (AskOffer plan offers) (Offered at_slot note) answered =
-    logs_one asking new (Offered at_slot note) (ap (λ (s : SessionState). s.receipts) answered.2
-    ∙ sym (append-nil asking.receipts))
-    (ap (λ (s : SessionState). s.offers) answered.2)
+logs_answer {asking} {new} (NoneAsked is) = logs_unasked asking new (ap log_of is)
+logs_answer {asking} {new} (PlayAdmitted {placed = p} play) = logs_entry asking new p play.answer (ap log_of play.new_is)
+logs_answer {asking} {new} (PlayRefused {placed = p} play) = logs_entry asking new p play.answer (ap log_of play.new_is)
+logs_answer {asking} {new} (PlayFull {more = more} is) = logs_full asking new more (ap log_of is)
+logs_answer {asking} {new} (PlayHalted {placed = p} halt) = logs_entry asking new p halt.answer (ap log_of halt.halts)
+logs_answer {asking} {new} (LookMade {placed = p} look) = logs_entry asking new p look.answer (ap log_of look.new_is)
+logs_answer {asking} {new} (LookFull {more = more} is) = logs_full asking new more (ap log_of is)
+logs_answer {asking} {new} (OfferMade is) = record {
+  receipts = ap (λ (s : SessionState). s.receipts) is ∙ sym (append-nil asking.receipts);
+  offers = ap (λ (s : SessionState). s.offers) is;
+}
 
 -- a request notes nothing by itself
-logs_hears : (old asking : SessionState) (ask : Ask) → HearsAs old ask asking → Logs old asking []
-logs_hears old asking ask (Replies text tearing ask_is is) =
-    logs_same old asking (ap (λ (s : SessionState). s.receipts) is) (ap (λ (s : SessionState). s.offers) is)
-logs_hears old asking ask (SetsUp text setup init ask_is is) =
-    logs_same old asking (ap (λ (s : SessionState). s.receipts) is) (ap (λ (s : SessionState). s.offers) is)
-logs_hears old asking ask (AsksPlay setup paused prepared text ready ask_is is) =
-    logs_same old asking (ap (λ (s : SessionState). s.receipts) is) (ap (λ (s : SessionState). s.offers) is)
-logs_hears old asking ask (Stops setup play keep next text playing told keep_is ask_is is) =
-    logs_same old asking (ap (λ (s : SessionState). s.receipts) is) (ap (λ (s : SessionState). s.offers) is)
-logs_hears old asking ask (AsksLook looks sequence ask_is is) =
-    logs_same old asking (ap (λ (s : SessionState). s.receipts) is) (ap (λ (s : SessionState). s.offers) is)
-logs_hears old asking ask (AsksOffer plan offers sequence ask_is is) =
-    logs_same old asking (ap (λ (s : SessionState). s.receipts) is) (ap (λ (s : SessionState). s.offers) is)
+hears_log : {old asking : SessionState} {ask : Ask} → HearsAs old ask asking → log_of asking ≡ log_of old
+hears_log (Replies text tearing ask_is is) = ap log_of is
+hears_log (SetsUp text setup init ask_is is) = ap log_of is
+hears_log (AsksPlay setup paused prepared text ready ask_is is) = ap log_of is
+hears_log (Stops setup play keep next text playing told keep_is ask_is is) = ap log_of is
+hears_log (AsksLook looks sequence ask_is is) = ap log_of is
+hears_log (AsksOffer plan offers sequence ask_is is) = ap log_of is
 
 logs_heard : (old new : SessionState) (message : List ℕ) (outcome : Outcome) → HasHeard old message outcome new
     → Logs old new (outcome ∷ [])
 logs_heard old new message outcome heard =
-    logs_then (logs_hears old heard.asking heard.ask (hears_as old message heard.ask heard.asking heard.hears))
-    (logs_answer heard.asking new heard.ask outcome heard.answered)
+    logs_then (logs_same old heard.asking (hears_log (hears_as old message heard.ask heard.asking heard.hears)))
+    (logs_answer (answers_as heard.ask outcome heard.answered))
 
--- ---- slots and replies
-logs_reply : (goes : Bool) (s : SessionState) → Logs s (if goes then sent_reply s else s) []
-logs_reply true s = logs_same s (sent_reply s) refl refl
-logs_reply false s = logs_same s s refl refl
+-- ---- slots
+logs_slot : (old : SessionState) (slot : ℕ) → Logs old (after_slot old slot) []
+logs_slot old slot = logs_same old (after_slot old slot)
+    (slot_keeps {part = log_of} (record {
+      reply = λ s. refl;
+      due = λ s n. refl;
+      done = λ s. refl;
+      idle = λ s n. refl;
+    }) old slot)
 
-logs_sent : (old : SessionState) (slot : ℕ) → Logs old (sent_slot old slot) []
-logs_sent old slot =
-    logs_then (logs_same old (sent_due old slot) refl refl)
-    (logs_reply (old.waits && is_between (stepped_in true slot old.state)) (sent_due old slot))
-
-logs_slot : (old : SessionState) (slot : ℕ) (taken sending : Bool)
-    → Logs old (if taken then (if sending then after_play (sent_slot old slot) else record old
-    { heard = slot }) else old) []
-logs_slot old slot true true =
-    logs_then (logs_sent old slot) (logs_same (sent_slot old slot) (after_play (sent_slot old slot)) refl refl)
-logs_slot old slot true false = logs_same old (record old { heard = slot }) refl refl
-logs_slot old slot false sending = logs_same old old refl refl
-
-logs_finished : (s new : SessionState) (awaited : AwaitedAnswer) (halt : Outcome) → IsFinished awaited s halt new
+logs_finished : {s new : SessionState} {awaited : Awaited} {halt : Outcome} → FinishesAs s new awaited halt
     → Logs s new (halt ∷ [])
-logs_finished s new NoAnswer halt is = logs_unasked s new halt is
-logs_finished s new (PlayAnswer plan) halt is = absurd is
-logs_finished s new (HaltAnswer keep) halt is = logs_halt s new keep halt is
-logs_finished s new LookAnswer halt is = absurd is
-logs_finished s new OfferAnswer halt is = absurd is
+logs_finished {s} {new} (NothingLeft is) = logs_unasked s new (ap log_of is)
+logs_finished {s} {new} (DoneHalted {placed = p} halt) = logs_entry s new p halt.answer (ap log_of halt.halts)
 
--- ---- events
-logs_comes : (old opened : Stage) (event : IoEvent) (due : List SentPart) (halt : Outcome)
-    → Comes old event due halt opened → Logs old.session opened.session (halt ∷ [])
-logs_comes old opened (HeardBytes bytes) due halt comes =
-    let same : opened.session ≡ old.session = ap (λ (s : Stage). s.session) comes.3 in
-    subst (λ h. Logs old.session opened.session (h ∷ [])) (sym comes.1)
-    (logs_unasked old.session opened.session Unasked same)
-logs_comes old opened (HeardSlot slot) due halt comes =
-    logs_then
-    (logs_slot old.session slot (is_taken old.session slot) (is_sending old.session.state))
-    (logs_finished (after_slot old.session slot) opened.session (awaited_answer (after_slot old.session slot))
-    halt comes.1.finished)
-logs_comes old opened HeardEnd due halt comes = absurd comes
-logs_comes old opened (Sent byte) due halt comes = absurd comes
+logs_closed : {last closed : SessionState} {booking : Option OpenBooking} {halt : Outcome}
+    → ClosesAs last closed booking halt → Logs last closed (halt ∷ [])
+logs_closed {last} {closed} (NothingOpen is) = logs_unasked last closed (ap log_of is)
+logs_closed {last} {closed} (BookingHalted {placed = p} halt) =
+    logs_entry last closed p halt.answer (ap log_of halt.halts)
 
-logs_takes : (old new : Stage) (takings : List ElementStep) → TakesAll old takings new
-    → Logs old.session new.session (takings_outcomes takings)
-logs_takes old new [] takes =
-    subst (λ (s : Stage). Logs old.session s.session []) (sym takes) (logs_same old.session old.session refl refl)
-logs_takes old new (Passed n ∷ takings) takes =
-    let same : takes.0.session ≡ old.session = ap (λ (s : Stage). s.session) takes.1.0.2 in
-    subst (λ (s : SessionState). Logs s new.session (takings_outcomes takings)) same
-    (logs_takes takes.0 new takings takes.1.1)
-logs_takes old new (Answered message outcome parts ∷ takings) takes =
-    let replied = takes.1.0 in
-    let one : Logs old.session (after_reply replied.answered) (outcome ∷ []) =
-    logs_then (logs_heard old.session replied.answered message outcome replied.heard)
-    (logs_reply (can_reply replied.answered) replied.answered) in
-    logs_then
-    (subst (λ (s : Stage). Logs old.session s.session (outcome ∷ [])) (sym replied.new_is) one)
-    (logs_takes takes.0 new takings takes.1.1)
+-- ---- all that a connection did
+abbrev LogsCalls : SessionState → List StationCall → SessionState → Type 0
+LogsCalls old turns new = Logs old new (map outcome_of turns)
 
-logs_round : (old new : Stage) (round : Round) → Runs old round new
-    → Logs old.session new.session (round_outcomes round)
-logs_round old new round runs =
-    logs_then
-    (logs_comes old runs.opened round.event round.due round.halt runs.comes)
-    (logs_takes runs.opened new round.takings runs.takes)
-
-logs_rounds : (old new : Stage) (rounds : List Round) → RunsAll old rounds new
-    → Logs old.session new.session (rounds_outcomes rounds)
-logs_rounds old new [] runs =
-    subst (λ (s : Stage). Logs old.session s.session []) (sym runs) (logs_same old.session old.session refl refl)
-logs_rounds old new (round ∷ rounds) runs =
-    logs_then (logs_round old runs.0 round runs.1.0)
-    (logs_rounds runs.0 new rounds runs.1.2)
-
--- ---- ends
-logs_still : (old new : Stage) → new ≡ old → Logs old.session new.session []
-logs_still old new is =
-    logs_same old.session new.session (ap (λ (s : Stage). s.session.receipts) is)
-    (ap (λ (s : Stage). s.session.offers) is)
-
-logs_ending : (old new : Stage) (count : ℕ) (ending : Ending) (end : ConnEnd) → Ends old count ending end new
-    → Logs old.session new.session (ending_outcomes ending)
-logs_ending old new count Unheard end ends = logs_still old new ends.1
-logs_ending old new count PeerEnded end ends = logs_still old new ends.1
-logs_ending old new count (Overfull bytes) end ends = logs_still old new ends.3
-logs_ending old new count (AtElement round) end ends = logs_round old new round ends.0
-logs_ending old new count (InSlot slot front) end ends = logs_same old.session new.session ends.1.receipts ends.1.offers
-logs_ending old new count (InReply round message outcome front) end ends =
-    let e = ends.1 in
-    let last = logs_heard e.mid.session e.fails.answered message outcome e.fails.heard in
-    logs_then (logs_round old e.mid round e.runs) (record {
-      receipts = ap (λ (s : Stage). s.session.receipts) e.fails.new_is ∙ last.receipts;
-      offers = ap (λ (s : Stage). s.session.offers) e.fails.new_is ∙ last.offers;
-    })
-
-logs_closed : (booking : Option OpenBooking) (last closed : SessionState) (halt : Outcome)
-    → IsClosed booking last halt closed → Logs last closed (halt ∷ [])
-logs_closed None last closed Unasked is = logs_unasked last closed Unasked is
-logs_closed None last closed (Entered placed) is = absurd is
-logs_closed None last closed (WasFull more entries live) is = absurd is
-logs_closed None last closed (Offered at_slot note) is = absurd is
-logs_closed (Some booking) last closed halt is = logs_halt last closed booking.due halt is
+logs_kept : IsKeptByDoings LogsCalls
+logs_kept = record {
+  none = λ s. logs_same s s refl;
+  joins = λ a b c xs ys one two. subst (Logs a c) (sym (map-append outcome_of xs ys)) (logs_then one two);
+  request = λ old new message outcome heard. logs_heard old new message outcome heard;
+  reply = λ s. logs_same s (sent_reply s) refl;
+  slot = λ s n. logs_slot s n;
+  finish = λ awaited halt s new finishing asks. logs_finished finishing;
+  bytes = λ s. logs_unasked s s refl;
+  failed = λ old new slot front failed. logs_same old.session new.session (ap log_of failed.session_is);
+  lost = λ s. logs_same s (record s { lost = true }) refl;
+  close = λ held halt last closed closing opens rest. logs_closed closing;
+}
 
 logs_all : (films : List Stored) (settings : Settings) (words : List ℕ) (doings : Activity) (report : ConnReport)
     (done : HasDone films settings words doings report)
     → Logs (first_stage films settings words).session done.closed (doings_outcomes doings)
 logs_all films settings words doings report done =
-    let first = first_stage films settings words in
-    let heard = rounds_outcomes doings.rounds in
-    let ended = ending_outcomes doings.ending in
-    logs_then
-    (logs_then (logs_rounds first done.mid doings.rounds done.runs)
-    (logs_ending done.mid done.last (length doings.rounds) doings.ending report.end done.ends))
-    (logs_closed (open_of done.last.session) done.last.session done.closed doings.halt done.closes)
+    subst (Logs (first_stage films settings words).session done.closed)
+    (turns_told films settings words doings report done)
+    (doings_kept logs_kept films settings words doings report done)
 
 pub receipts_told : (films : List Stored) (settings : Settings) (words : List ℕ) (doings : Activity)
     (report : ConnReport) → HasDone films settings words doings report

@@ -35,6 +35,8 @@ use Rattle.connection_laws.proofs.RequestEffects.{pacing_for, sends_in}
 use Rattle.connection_laws.proofs.WaitingReplies.{Fits, GoesTo, IsHeld, Stand, after_slot, at_here, due_far}
 use Rattle.connection_laws.proofs.WaitingReplies.{due_going, due_here, goes_same, held_here, parts_in, slot_at}
 use Rattle.connection_laws.proofs.WaitingReplies.{point, still_held}
+use Rattle.film_streams.specs.declared.setups.Setup.{Setup}
+use Rattle.session.specs.declared.states.Play.{Play as Played}
 
 -- ---- a request is answered
 
@@ -430,14 +432,11 @@ ending_slot {p} {heard} {slot} {pending} text sound later held =
           };
     }
 
-pub slot_moves : {state : State} {waits : Bool} {heard slot : ℕ} {text : List ℕ} {pending : Option ℕ}
-    → is_sending state ≡ true
-    → IsSound (sends_in state) waits heard → heard < slot → IsHeld pending (sends_in state) waits heard
-    → SlotMoves state waits heard slot text pending
-slot_moves {state = Init} {waits} {slot} {text} sending sound later held = absurd (true≢false (sym sending))
-slot_moves {state = Ready setup paused} {waits} {slot} {text} sending sound later held =
-    absurd (true≢false (sym sending))
-slot_moves {state = Playing setup play} {waits} {heard} {slot} {text} {pending} sending sound later held =
+-- a session that plays
+going_moves : {heard slot : ℕ} {text : List ℕ} {pending : Option ℕ} (waits : Bool) (setup : Setup) (play : Played)
+    → IsSound (Going play.pacer) waits heard → heard < slot → IsHeld pending (Going play.pacer) waits heard
+    → SlotMoves (Playing setup play) waits heard slot text pending
+going_moves {heard} {slot} {text} {pending} waits setup play sound later held =
     let p : PacerState = play.pacer in
     let one : PacerState = after_step true slot p in
     let between : Bool = stands_at_boundary one in
@@ -458,6 +457,14 @@ slot_moves {state = Playing setup play} {waits} {heard} {slot} {text} {pending} 
           (parts_of waits (Playing setup play) text slot)) (sym sends)
           (going_slot waits text sound later held);
     }
+
+pub slot_moves : {state : State} {waits : Bool} {heard slot : ℕ} {text : List ℕ} {pending : Option ℕ}
+    → is_sending state ≡ true
+    → IsSound (sends_in state) waits heard → heard < slot → IsHeld pending (sends_in state) waits heard
+    → SlotMoves state waits heard slot text pending
+slot_moves {state = Init} sending sound later held = absurd (true≢false (sym sending))
+slot_moves {state = Ready setup paused} sending sound later held = absurd (true≢false (sym sending))
+slot_moves {state = Playing setup play} {waits} sending sound later held = going_moves waits setup play sound later held
 slot_moves {state = Stopping setup stop} {waits = false} {slot} {text} sending sound later held =
     absurd (true≢false (sym sound.1))
 slot_moves {state = Stopping setup stop} {waits = true} {heard} {slot} {text} {pending} sending sound later held =

@@ -31,6 +31,8 @@ use Rattle.connection_laws.proofs.GreatestSlots.{film_written_is}
 use Rattle.connection_laws.proofs.RequestEffects.{turns_as}
 use Rattle.connection_laws.proofs.TextPlacement.{course_film, parts_woven, rounds_sent}
 use Rattle.conn.proofs.EventPremises.{EventCome}
+use Rattle.connection_laws.proofs.StationAnswers.{FinishesAs, NothingLeft, DoneHalted, nothing_left}
+use Rattle.connection_laws.proofs.StationAnswers.{ComesAs, BytesCame, SlotCame, comes_as}
 
 -- the texts among parts
 abbrev texts_in : List SentPart → List (List ℕ)
@@ -117,26 +119,11 @@ takes_replies old new (Answered message outcome parts ∷ takings) takes stands 
     (answered_replies takes.1.0 stands))
 
 -- a play that is done is halted without a reply
-halted_waiting : (s : SessionState) (keep : ℕ) (halt : Outcome) (new : SessionState) → next_of s.awaited ≡ Done
-    → IsHalted s keep halt new → waiting_reply new ≡ waiting_reply s
-halted_waiting s keep Unasked new done halted = absurd halted
-halted_waiting s keep (Entered placed) new done halted =
-    ap waiting_reply halted.halts ∙ ap (λ n. if (if is_answered n then true else s.waits) then s.text ∷ [] else []) done
-halted_waiting s keep (WasFull more entries live) new done halted = absurd halted
-halted_waiting s keep (Offered at_slot note) new done halted = absurd halted
-
-finished_waiting : (asks : AwaitedAnswer) (s : SessionState) (halt : Outcome) (new : SessionState) → next_of s.awaited ≡
-    Done
-    → IsFinished asks s halt new
-    → waiting_reply new ≡ waiting_reply s
-finished_waiting NoAnswer s Unasked new done is = ap waiting_reply is
-finished_waiting NoAnswer s (Entered placed) new done is = absurd is
-finished_waiting NoAnswer s (WasFull more entries live) new done is = absurd is
-finished_waiting NoAnswer s (Offered at_slot note) new done is = absurd is
-finished_waiting (PlayAnswer plan) s halt new done is = absurd is
-finished_waiting (HaltAnswer keep) s halt new done is = halted_waiting s keep halt new done is
-finished_waiting LookAnswer s halt new done is = absurd is
-finished_waiting OfferAnswer s halt new done is = absurd is
+finished_waiting : {s new : SessionState} {awaited : Awaited} {halt : Outcome} → FinishesAs s new awaited halt
+    → next_of s.awaited ≡ Done → waiting_reply new ≡ waiting_reply s
+finished_waiting (NothingLeft is) done = ap waiting_reply is
+finished_waiting {s} (DoneHalted halt) done =
+    ap waiting_reply halt.halts ∙ ap (λ n. if (if is_answered n then true else s.waits) then s.text ∷ [] else []) done
 
 done_next : (done : Bool) (sent : ℕ) (awaited : Awaited) → awaited ≡ Nothing
     → next_of (if done then Halt sent Done else awaited) ≡ Done
@@ -174,25 +161,19 @@ slot_cases old slot true true rest =
       done_next (is_done_in sent.state) (sent_in sent.state) sent.awaited (reply_awaited goes due ∙ rest),
     )
 
-slot_replies : (old : SessionState) (slot : ℕ) (halt : Outcome) (new : SessionState) → old.awaited ≡ Nothing
-    → IsFinished (awaited_answer (after_slot old slot)) (after_slot old slot) halt new
+slot_replies : {new : SessionState} {halt : Outcome} (old : SessionState) (slot : ℕ) → old.awaited ≡ Nothing
+    → FinishesAs (after_slot old slot) new (after_slot old slot).awaited halt
     → Replies old (texts_in (slot_parts old slot)) [] new
-slot_replies old slot halt new rest finishing =
+slot_replies old slot rest finishing =
     let cases = slot_cases old slot (is_taken old slot) (is_sending old.state) rest in
-    ap (λ ts. texts_in (slot_parts old slot) ++ ts)
-    (finished_waiting (awaited_answer (after_slot old slot)) (after_slot old slot) halt new cases.1 finishing)
+    ap (λ ts. texts_in (slot_parts old slot) ++ ts) (finished_waiting finishing cases.1)
     ∙ cases.0 ∙ sym (append-nil (waiting_reply old))
 
-comes_replies : {old opened : Stage} {event : IoEvent} (come : EventCome old event opened) → Stands old.session →
-    Replies old.session (texts_in come.due) [] opened.session
-comes_replies {old} {opened} {event = HeardBytes bytes} come stands =
-    subst (λ ps. Replies old.session (texts_in ps) [] opened.session) (sym come.comes.0)
-    (waiting_same old.session opened.session (ap (λ (s : Stage). s.session) come.comes.3))
-comes_replies {old} {opened} {event = HeardSlot slot} come stands =
-    subst (λ ps. Replies old.session (texts_in ps) [] opened.session) (sym come.comes.1.parts_are)
-    (slot_replies old.session slot come.halt opened.session stands.rest come.comes.1.finished)
-comes_replies {event = HeardEnd} come stands = absurd come.comes
-comes_replies {event = Sent byte} come stands = absurd come.comes
+comes_replies : {old opened : Stage} {event : IoEvent} {due : List SentPart} {halt : Outcome}
+    → ComesAs old opened event due halt → Stands old.session → Replies old.session (texts_in due) [] opened.session
+comes_replies {old} {opened} (BytesCame is) stands =
+    waiting_same old.session opened.session (ap (λ (s : Stage). s.session) is)
+comes_replies {old} (SlotCame {slot = slot} finish) stands = slot_replies old.session slot stands.rest finish
 
 course_replies : (old new : Stage) (rounds : List Round) (follows : IsCourseBetween old rounds new) → Stands old.session
     → Replies old.session (texts_in (rounds_parts rounds)) (replies_of old rounds new follows) new.session
@@ -214,7 +195,7 @@ course_replies old new (round ∷ rounds) follows stands =
       messages = replies;
       replied = takes_replies opened follows.0 round.takings runs.takes (opened_stands old follows.0 round runs stands);
     }) due []
-    (comes_replies (record { due = round.due; halt = round.halt; comes = runs.comes }) stands) in
+    (comes_replies (comes_as round.event round.due round.halt runs.comes) stands) in
     let all : Replies old.session ((due ++ taken) ++ texts_in (rounds_parts rounds))
     (replies ++ replies_of follows.0 rounds new follows.1.1) new.session =
     replies_then old.session (record {

@@ -1,21 +1,15 @@
 -- What a request and its answer make of a session: what is sent of a film, and the play that begins or ends.
-use Rattle.std.proofs.Common.{◌≡◌, ℕ, ◌<◌, ◌^◌, if◌then◌else◌, Bool, true, false, List, [], Option, refl, sym, ap, subst}
+use Rattle.std.proofs.Common.{◌≡◌, ℕ, ◌<◌, ◌^◌, if◌then◌else◌, Bool, true, false, List, [], Option, None, refl, sym, ap, subst}
 use Rattle.std.proofs.Common.{◌∙◌}
 use Rattle.film_frames.specs.FramedRuns.{run_pieces}
 use Rattle.film_run.specs.declared.runs.Run.{Run}
 use Rattle.pacer.specs.PacerStates.{IsPacerState, PacerState, next_boundary, new_pacer_state}
-use Rattle.plan_cert.specs.declared.Segment.{Segment}
-use Rattle.early_start.specs.StartSearch.{Offers}
-use Rattle.admission.specs.declared.entries.Answer.{Answer}
-use Rattle.admission.specs.declared.entries.Answer.TheVariants.{Admitted, Halted, Looked, Overflow}
+use Rattle.admission.specs.declared.entries.Answer.TheVariants.{Admitted, Halted}
 use Rattle.admission.specs.declared.entries.Command.TheVariants.{Halt as HaltCommand}
 use Rattle.admission.specs.Histories.{play_admitted}
 use Rattle.admission.specs.Makers.{PlacedEntry}
 use Rattle.slot_calendar.specs.Plays.{Play as Booked}
-use Rattle.station.specs.Ledgers.{look_at, play_of}
-use Rattle.session.specs.declared.commands.Ask.{Ask}
-use Rattle.session.specs.declared.commands.Ask.TheVariants.{Reply as AskReply, Play as AskPlay, Look as AskLook}
-use Rattle.session.specs.declared.commands.Ask.TheVariants.{Offer as AskOffer}
+use Rattle.station.specs.Ledgers.{play_of}
 use Rattle.session.specs.declared.states.Awaited.{Awaited}
 use Rattle.session.specs.declared.states.Awaited.TheVariants.{Nothing, Play, Halt, Look}
 use Rattle.session.specs.declared.states.AfterHalt.{AfterHalt}
@@ -29,12 +23,12 @@ use Rattle.session.specs.RequestSteps.{after_halt, is_answered}
 use Rattle.session.specs.SlotSteps.{admitted_in, halted_in, next_of, state_once_halted}
 use Rattle.session.specs.SessionStates.{SessionState}
 use Rattle.session.specs.SlotTransitions.{IsPlayIn}
-use Rattle.conn.specs.InputSteps.{HasHeard, IsAskAnswered, IsHaltAnswered, IsHalted, IsLookAnswered, IsPlayAnswered}
-use Rattle.conn.specs.InputSteps.{Outcome}
-use Rattle.conn.specs.InputSteps.{Unasked, Entered, WasFull, Offered}
+use Rattle.conn.specs.InputSteps.{HasHeard, IsHaltAnswered, Outcome, Unasked, Entered, WasFull, Offered}
 use Rattle.connection_laws.specs.Plays.{StationRequest, plays_admitted, plays_begun, booked_by, kept_by, kept_with}
-use Rattle.session_laws.proofs.RequestShapes.{HearsAs, Replies, SetsUp, AsksPlay, Stops, AsksLook, AsksOffer, hears_as}
-use Rattle.connection_laws.proofs.AnswerPremises.{PlayEntry, HaltAsked}
+use Rattle.connection_laws.proofs.StationAnswers.{IsAdmitted, IsLooked, IsRefused}
+use Rattle.connection_laws.proofs.RequestAnswers.{RequestAnswer, OwnReply, SetupReply, Admission, Refusal, HaltMade}
+use Rattle.connection_laws.proofs.RequestAnswers.{LookAnswer, JournalFull, OfferAnswer, HaltRequest, IsAsking}
+use Rattle.connection_laws.proofs.RequestAnswers.{PlayRequest, request_answer}
 
 -- what of a film is being sent: nothing, a play, or the rest of one that was halted
 pub data Sends : Type 0 where
@@ -107,25 +101,65 @@ pub data TurnsAs (old : SessionState) (asked : Awaited) (outcome : Outcome) (new
 pub unasked_still : (asked : Awaited) → IsStill asked Unasked
 unasked_still asked = record { none = λ later. refl; kept = λ later. refl; untold = λ made. refl }
 
--- a session with a reply that waits, and else as before
-record ReplyWaits (old asked : SessionState) : Type 0 where
-  sends : sends_in asked.state ≡ sends_in old.state
-  heard : asked.heard ≡ old.heard
-  awaited : asked.awaited ≡ old.awaited
-  waits : asked.waits ≡ true
+-- what tells how a play goes on
+record PlayPart : Type 0 where
+  state : State
+  heard : ℕ
+  awaited : Awaited
+  waits : Bool
+
+abbrev play_part : SessionState → PlayPart
+play_part s = record { state = s.state; heard = s.heard; awaited = s.awaited; waits = s.waits }
+
+-- a session whose request was answered, and whose state is as it was
+answered_after : {new old asking : SessionState} {awaited : Awaited} → IsAsking old asking awaited
+    → play_part new ≡ record { state = asking.state; heard = asking.heard; awaited = Nothing; waits = true }
+    → IsAfter old new
+answered_after waiting is = record {
+  heard = ap (λ (p : PlayPart). p.heard) is ∙ ap (λ (s : SessionState). s.heard) waiting.asking_is;
+  awaited = ap (λ (p : PlayPart). p.awaited) is;
+  waits = ap (λ (p : PlayPart). p.waits) is;
+}
+
+answered_turn : {old asking : SessionState} {awaited : Awaited} {outcome : Outcome} (new : SessionState)
+    → IsAsking old asking awaited
+    → play_part new ≡ record { state = asking.state; heard = asking.heard; awaited = Nothing; waits = true }
+    → IsStill asking.awaited outcome → TurnsAs old asking.awaited outcome new
+answered_turn new waiting is still =
+    Stays
+    (ap (λ (p : PlayPart). sends_in p.state) is ∙ ap (λ (s : SessionState). sends_in s.state) waiting.asking_is)
+    (answered_after {new = new} waiting is) still
 
 -- a reply of the session's own
-reply_turns : {old : SessionState} {outcome : Outcome} {new asked : SessionState} → IsAskAnswered asked AskReply outcome
-    new →
-    old.awaited ≡ Nothing → ReplyWaits old asked → TurnsAs old asked.awaited outcome new
-reply_turns {old} {outcome = Unasked} {new} {asked} answered rest waiting =
-    subst (λ (s : SessionState). TurnsAs old asked.awaited Unasked s) (sym answered)
-    (Stays sends (record { heard = heard; awaited = awaited ∙ rest; waits = waits }) (unasked_still asked.awaited))
-  where
-    open waiting use {sends, heard, awaited, waits}
-reply_turns {outcome = Entered placed} {new} answered rest waiting = absurd answered
-reply_turns {outcome = WasFull more entries live} {new} answered rest waiting = absurd answered
-reply_turns {outcome = Offered at_slot note} {new} answered rest waiting = absurd answered
+reply_turn : {old new : SessionState} (state : State) (asking : SessionState) → sends_in state ≡ sends_in old.state
+    → play_part new ≡ record { state = state; heard = old.heard; awaited = old.awaited; waits = true }
+    → old.awaited ≡ Nothing → TurnsAs old asking.awaited Unasked new
+reply_turn state asking sends is rest =
+    Stays (ap (λ (p : PlayPart). sends_in p.state) is ∙ sends) (record {
+      heard = ap (λ (p : PlayPart). p.heard) is;
+      awaited = ap (λ (p : PlayPart). p.awaited) is ∙ rest;
+      waits = ap (λ (p : PlayPart). p.waits) is;
+    }) (unasked_still asking.awaited)
+
+-- a play that isn't admitted
+refused_still : {asking new : SessionState} {prepared : Prepared} {placed : PlacedEntry}
+    → asking.awaited ≡ Play prepared → IsRefused asking prepared.plan placed new
+    → IsStill asking.awaited (Entered placed)
+refused_still {asking} {prepared = prepared} {placed = placed} awaited refused = record {
+  none = λ later. ap (λ a. plays_admitted a placed.entry.answer later) awaited
+      ∙ ap (λ a. plays_admitted (Play prepared) a later) refused.answer;
+  kept = λ later. ap (λ c. kept_by c later) refused.command;
+  untold = λ made. ap (λ c. booked_by (play_admitted c placed.entry.answer) made) refused.command
+      ∙ ap (λ a. booked_by (play_admitted (play_of asking.heard prepared.plan) a) made) refused.answer;
+}
+
+looked_still : {asking new : SessionState} {slot sequence : ℕ} {placed : PlacedEntry}
+    → asking.awaited ≡ Look sequence → IsLooked asking slot placed new → IsStill asking.awaited (Entered placed)
+looked_still {placed = placed} awaited looked = record {
+  none = λ later. ap (λ a. plays_admitted a placed.entry.answer later) awaited;
+  kept = λ later. ap (λ c. kept_by c later) looked.command;
+  untold = λ made. ap (λ c. booked_by (play_admitted c placed.entry.answer) made) looked.command;
+}
 
 admitted_sends : {state : State} {setup : Setup} {paused : Option Run} {prepared : Prepared} {awaited : Awaited}
     (place start : ℕ)
@@ -145,72 +179,35 @@ play_in {setup} {paused} {prepared} {awaited} place start is asks plays =
     subst (At (Ready setup paused)) asks (subst (λ (s : State). At s awaited) is plays) in
     (there.pacing, there.plan)
 
--- a session that asks stands as before, and has received no more
-record SameHeard (old asked : SessionState) : Type 0 where
-  state : asked.state ≡ old.state
-  heard : asked.heard ≡ old.heard
-
-play_turns : {old : SessionState} {setup : Setup} {paused : Option Run} {prepared : Prepared} {placed : PlacedEntry}
-    {answer : Answer} {new asked : SessionState} → PlayEntry asked prepared placed answer →
-    IsPlayAnswered asked placed answer new → old.state ≡ Ready setup paused → SameHeard old asked →
-    asked.awaited ≡ Play prepared → TurnsAs old asked.awaited (Entered placed) new
-play_turns {prepared} {placed} {answer = Admitted start} {new} {asked} entry answered ready same awaited =
-    let plays : IsPlayIn (admitted_in asked.state asked.awaited placed.place start) =
-    subst IsPlayIn (ap (λ (s : SessionState). s.state) answered.1) answered.2 in
+begins_turn : {old asking new : SessionState} {placed : PlacedEntry} (play : PlayRequest old asking)
+    → IsAdmitted asking play.prepared.plan placed new → TurnsAs old asking.awaited (Entered placed) new
+begins_turn {old} {asking} {new} {placed} play is =
+    let there : asking.state ≡ Ready setup paused = ap (λ (s : SessionState). s.state) waiting.asking_is ∙ ready in
+    let heard : asking.heard ≡ old.heard = ap (λ (s : SessionState). s.heard) waiting.asking_is in
+    let awaited : asking.awaited ≡ Play prepared = ap (λ (s : SessionState). s.awaited) waiting.asking_is in
+    let plays = subst IsPlayIn (ap (λ (s : SessionState). s.state) is.new_is) is.playing in
     Starts (record {
-      heard = ap (λ (s : SessionState). s.heard) answered.1 ∙ heard;
-      awaited = ap (λ (s : SessionState). s.awaited) answered.1;
-      waits = ap (λ (s : SessionState). s.waits) answered.1;
+      heard = ap (λ (s : SessionState). s.heard) is.new_is ∙ heard;
+      awaited = ap (λ (s : SessionState). s.awaited) is.new_is;
+      waits = ap (λ (s : SessionState). s.waits) is.new_is;
     }) (record {
       prepared = prepared;
       placed = placed;
-      start = start;
+      start = is.start;
       idle = ap sends_in ready;
       asked_is = awaited;
       outcome_is = refl;
-      answer = entry.answer_is;
-      command = entry.command ∙ ap (λ h. play_of h prepared.plan) heard;
-      later = subst (λ h. h < start) heard answered.0;
-      small = answered.3;
-      paced = (play_in placed.place start (state ∙ ready) awaited plays).1;
-      sends = ap (λ (s : SessionState). sends_in s.state) answered.1
-          ∙ admitted_sends placed.place start (state ∙ ready) awaited;
-      pacing = (play_in placed.place start (state ∙ ready) awaited plays).0;
+      answer = is.answer;
+      command = is.command ∙ ap (λ h. play_of h prepared.plan) heard;
+      later = subst (λ h. h < is.start) heard is.later;
+      small = is.small;
+      paced = (play_in placed.place is.start there awaited plays).1;
+      sends = ap (λ (s : SessionState). sends_in s.state) is.new_is
+          ∙ admitted_sends placed.place is.start there awaited;
+      pacing = (play_in placed.place is.start there awaited plays).0;
     })
   where
-    open same use {state, heard}
-play_turns {prepared} {placed} {answer = Overflow slot booked asks} {new} {asked} entry answered ready same awaited =
-    Stays (ap (λ (s : SessionState). sends_in s.state) answered ∙ ap sends_in same.state) (record {
-      heard = ap (λ (s : SessionState). s.heard) answered ∙ same.heard;
-      awaited = ap (λ (s : SessionState). s.awaited) answered;
-      waits = ap (λ (s : SessionState). s.waits) answered;
-    }) (record {
-      none = λ later. ap (λ a. plays_admitted a placed.entry.answer later) awaited
-          ∙ ap (λ a. plays_admitted (Play prepared) a later)
-          entry.answer_is;
-      kept = λ later. ap (λ c. kept_by c later) entry.command;
-      untold = λ made. ap (λ c. booked_by (play_admitted c placed.entry.answer) made) entry.command
-          ∙ ap (λ a. booked_by (play_admitted (play_of asked.heard prepared.plan) a) made) entry.answer_is;
-    })
-play_turns {answer = Halted} {new} entry answered ready same awaited = absurd answered
-play_turns {answer = Looked now at booked} {new} entry answered ready same awaited = absurd answered
-
-asked_play : {old : SessionState} {setup : Setup} {paused : Option Run} {prepared : Prepared} {outcome : Outcome}
-    {new : SessionState} (asked : SessionState)
-    → IsAskAnswered asked (AskPlay prepared.plan) outcome new → old.state ≡ Ready setup paused
-    → asked.state ≡ old.state → asked.heard ≡ old.heard
-    → asked.awaited ≡ Play prepared → TurnsAs old asked.awaited outcome new
-asked_play {outcome = Unasked} {new} asked answered ready state heard awaited = absurd answered
-asked_play {outcome = Entered placed} {new} asked answered ready state heard awaited =
-    play_turns {asked = asked} (record { answer_is = refl; command = answered.0 }) answered.1 ready
-    (record { state = state; heard = heard }) awaited
-asked_play {outcome = WasFull more entries live} {new} asked answered ready state heard awaited =
-    Stays (ap (λ (s : SessionState). sends_in s.state) answered.0 ∙ ap sends_in state) (record {
-      heard = ap (λ (s : SessionState). s.heard) answered.0 ∙ heard;
-      awaited = ap (λ (s : SessionState). s.awaited) answered.0;
-      waits = ap (λ (s : SessionState). s.waits) answered.0;
-    }) (record { none = λ later. refl; kept = λ later. refl; untold = λ made. refl })
-asked_play {outcome = Offered at_slot note} {new} asked answered ready state heard awaited = absurd answered
+    open play use {setup, paused, prepared, ready, waiting}
 
 -- a halt's answer
 stopped_sends : (setup : Setup) (play : Played) (next : AfterHalt) → is_answered next ≡ true
@@ -229,18 +226,17 @@ halt_state : {state : State} {awaited : Awaited} {setup : Setup} {play : Played}
 halt_state {awaited} {setup} {play} {next} is asks =
     ap (λ (s : State). halted_in s awaited) is ∙ ap (λ (a : Awaited). halted_in (Playing setup play) a) asks
 
-halt_turns : {old : SessionState} {setup : Setup} {play : Played} {keep : ℕ} {next : AfterHalt} {placed : PlacedEntry}
-    {asked new : SessionState} → IsHaltAnswered asked keep placed new → is_answered next ≡ true →
-    keep ≡ next_boundary play.pacer → HaltAsked old asked setup play keep next → asked.heard ≡ old.heard →
-    TurnsAs old asked.awaited (Entered placed) new
-halt_turns {setup} {play} {keep} {next} {placed} {asked} {new} halted told keep_is halt heard =
+ends_turn : {old asking new : SessionState} {placed : PlacedEntry} (halt : HaltRequest old asking)
+    → IsHaltAnswered asking halt.keep placed new → TurnsAs old asking.awaited (Entered placed) new
+ends_turn {old} {asking} {new} {placed} halt halted =
     let stopped : Played = record play { pacer = record play.pacer { keep = keep } } in
-    let is : new ≡ after_halt asked placed.place = halted.halts in
+    let is : new ≡ after_halt asking placed.place = halted.halts in
+    let awaited : asking.awaited ≡ Halt keep next = ap (λ (s : SessionState). s.awaited) asking_is in
     Ends (record {
-      heard = ap (λ (s : SessionState). s.heard) is ∙ heard;
+      heard = ap (λ (s : SessionState). s.heard) is ∙ ap (λ (s : SessionState). s.heard) asking_is;
       awaited = ap (λ (s : SessionState). s.awaited) is;
       waits = ap (λ (s : SessionState). s.waits) is
-          ∙ told_if (is_answered (next_of asked.awaited)) asked.waits
+          ∙ told_if (is_answered (next_of asking.awaited)) asking.waits
           (ap (λ (a : Awaited). is_answered (next_of a)) awaited ∙ told);
     }) (record {
       pacing = play.pacer;
@@ -251,116 +247,37 @@ halt_turns {setup} {play} {keep} {next} {placed} {asked} {new} halted told keep_
       command = halted.command ∙ ap (λ k. HaltCommand halted.number k) keep_is;
       answer = halted.answer;
       none = λ later. ap (λ a. plays_admitted a placed.entry.answer later) awaited;
-      sends = ap (λ (s : SessionState). sends_in s.state) is ∙ ap sends_in (halt_state state awaited)
+      sends = ap (λ (s : SessionState). sends_in s.state) is
+          ∙ ap sends_in (halt_state (ap (λ (s : SessionState). s.state) asking_is) awaited)
           ∙ stopped_sends setup stopped next told ∙ ap (λ k. Ending (record play.pacer { keep = k })) keep_is;
     })
   where
-    open halt use {playing, state, awaited}
+    open halt use {setup, play, keep, next, playing, told, keep_is, asking_is}
 
-asked_halt : {old : SessionState} {setup : Setup} {play : Played} {keep : ℕ} {next : AfterHalt} {outcome : Outcome}
-    {new asked : SessionState} → IsHalted asked keep outcome new → is_answered next ≡ true →
-    keep ≡ next_boundary play.pacer → HaltAsked old asked setup play keep next → asked.heard ≡ old.heard →
-    TurnsAs old asked.awaited outcome new
-asked_halt {next} {outcome = Unasked} {new} halted told keep_is halt heard = absurd halted
-asked_halt {next} {outcome = Entered placed} {new} halted told keep_is halt heard =
-    halt_turns halted told keep_is halt heard
-asked_halt {next} {outcome = WasFull more entries live} {new} halted told keep_is halt heard = absurd halted
-asked_halt {next} {outcome = Offered at_slot note} {new} halted told keep_is halt heard = absurd halted
-
--- a look's answer, and an offer's
-look_answered : {old : SessionState} {placed : PlacedEntry} {sequence : ℕ} {new asked : SessionState} (answer : Answer)
-    →
-    placed.entry.command ≡ look_at asked.heard → IsLookAnswered asked placed answer new → SameHeard old asked →
-    asked.awaited ≡ Look sequence → TurnsAs old asked.awaited (Entered placed) new
-look_answered {placed} {new} (Looked now at booked) command answered same awaited =
-    Stays (ap (λ (s : SessionState). sends_in s.state) answered ∙ ap sends_in same.state) (record {
-      heard = ap (λ (s : SessionState). s.heard) answered ∙ same.heard;
-      awaited = ap (λ (s : SessionState). s.awaited) answered;
-      waits = ap (λ (s : SessionState). s.waits) answered;
-    }) (record {
-      none = λ later. ap (λ a. plays_admitted a placed.entry.answer later) awaited;
-      kept = λ later. ap (λ c. kept_by c later) command;
-      untold = λ made. ap (λ c. booked_by (play_admitted c placed.entry.answer) made) command;
-    })
-look_answered {new} (Admitted start) command answered same awaited = absurd answered
-look_answered {new} (Overflow slot booked asks) command answered same awaited = absurd answered
-look_answered {new} Halted command answered same awaited = absurd answered
-
-asked_look : {old : SessionState} {slot sequence : ℕ} {outcome : Outcome} {new : SessionState} (asked : SessionState)
-    → IsAskAnswered asked (AskLook slot) outcome new
-    → slot ≡ asked.heard → asked.state ≡ old.state → asked.heard ≡ old.heard → asked.awaited ≡ Look sequence
-    → TurnsAs old asked.awaited outcome new
-asked_look {slot} {outcome = Unasked} {new} asked answered slot_is state heard awaited = absurd answered
-asked_look {slot} {outcome = Entered placed} {new} asked answered slot_is state heard awaited =
-    look_answered {asked = asked} placed.entry.answer (answered.0 ∙ ap look_at slot_is) answered.1
-    (record { state = state; heard = heard }) awaited
-asked_look {slot} {outcome = WasFull more entries live} {new} asked answered slot_is state heard awaited =
-    Stays (ap (λ (s : SessionState). sends_in s.state) answered.0 ∙ ap sends_in state) (record {
-      heard = ap (λ (s : SessionState). s.heard) answered.0 ∙ heard;
-      awaited = ap (λ (s : SessionState). s.awaited) answered.0;
-      waits = ap (λ (s : SessionState). s.waits) answered.0;
-    }) (record { none = λ later. refl; kept = λ later. refl; untold = λ made. refl })
-asked_look {slot} {outcome = Offered at_slot note} {new} asked answered slot_is state heard awaited = absurd answered
-
-asked_offer : {old : SessionState} {outcome : Outcome} {new : SessionState} (plan : List Segment) (offers : Offers)
-    (asked : SessionState)
-    → IsAskAnswered asked (AskOffer plan offers) outcome new → asked.state ≡ old.state → asked.heard ≡ old.heard
-    → TurnsAs old asked.awaited outcome new
-asked_offer {outcome = Unasked} {new} plan offers asked answered state heard = absurd answered
-asked_offer {outcome = Entered placed} {new} plan offers asked answered state heard = absurd answered
-asked_offer {outcome = WasFull more entries live} {new} plan offers asked answered state heard = absurd answered
-asked_offer {outcome = Offered at_slot note} {new} plan offers asked answered state heard =
-    Stays (ap (λ (s : SessionState). sends_in s.state) answered.2 ∙ ap sends_in state) (record {
-      heard = ap (λ (s : SessionState). s.heard) answered.2 ∙ heard;
-      awaited = ap (λ (s : SessionState). s.awaited) answered.2;
-      waits = ap (λ (s : SessionState). s.waits) answered.2;
-    }) (record { none = λ later. refl; kept = λ later. refl; untold = λ made. refl })
-
--- by what was asked
-answers_as : {old : SessionState} {ask : Ask} {outcome : Outcome} {asked new : SessionState} → old.awaited ≡ Nothing
-    → IsAskAnswered asked ask outcome new
-    → HearsAs old ask asked → TurnsAs old asked.awaited outcome new
-answers_as {ask} {outcome} {asked} {new} rest answered (Replies text tearing ask_is is) =
-    reply_turns (subst (λ a. IsAskAnswered asked a outcome new) ask_is answered) rest
-    (record {
-      sends = ap (λ (s : SessionState). sends_in s.state) is;
-      heard = ap (λ (s : SessionState). s.heard) is;
-      awaited = ap (λ (s : SessionState). s.awaited) is;
-      waits = ap (λ (s : SessionState). s.waits) is;
-    })
-answers_as {ask} {outcome} {asked} {new} rest answered (SetsUp text setup init ask_is is) =
-    reply_turns (subst (λ a. IsAskAnswered asked a outcome new) ask_is answered) rest
-    (record {
-      sends = ap (λ (s : SessionState). sends_in s.state) is ∙ sym (ap sends_in init);
-      heard = ap (λ (s : SessionState). s.heard) is;
-      awaited = ap (λ (s : SessionState). s.awaited) is;
-      waits = ap (λ (s : SessionState). s.waits) is;
-    })
-answers_as {ask} {outcome} {asked} {new} rest answered (AsksPlay setup paused prepared text ready ask_is is) =
-    asked_play asked (subst (λ a. IsAskAnswered asked a outcome new) ask_is answered) ready
-    (ap (λ (s : SessionState). s.state) is) (ap (λ (s : SessionState). s.heard) is) (ap (λ (s : SessionState).
-    s.awaited) is)
-answers_as {ask} {outcome} {asked} {new} rest answered
-    (Stops setup play keep next text playing told keep_is ask_is is) =
-    asked_halt (subst (λ a. IsAskAnswered asked a outcome new) ask_is answered) told keep_is
-    (record {
-      playing = playing;
-      state = ap (λ (s : SessionState). s.state) is;
-      awaited = ap (λ (s : SessionState). s.awaited) is;
-    })
-    (ap (λ (s : SessionState). s.heard) is)
-answers_as {ask} {outcome} {asked} {new} rest answered (AsksLook looks sequence ask_is is) =
-    asked_look asked (subst (λ a. IsAskAnswered asked a outcome new) ask_is answered)
-    (sym (ap (λ (s : SessionState). s.heard) is)) (ap (λ (s : SessionState). s.state) is) (ap (λ (s : SessionState).
-    s.heard) is)
-    (ap (λ (s : SessionState). s.awaited) is)
-answers_as {ask} {outcome} {asked} {new} rest answered (AsksOffer plan offers sequence ask_is is) =
-    asked_offer plan offers asked (subst (λ a. IsAskAnswered asked a outcome new) ask_is answered)
-    (ap (λ (s : SessionState). s.state) is) (ap (λ (s : SessionState). s.heard) is)
+-- by what was asked and answered
+turn_of : {old asking new : SessionState} {outcome : Outcome} → RequestAnswer old asking new outcome
+    → old.awaited ≡ Nothing → TurnsAs old asking.awaited outcome new
+turn_of {old} {asking} (OwnReply text tearing is same) rest =
+    reply_turn old.state asking refl (ap play_part (same ∙ is)) rest
+turn_of {asking = asking} (SetupReply text setup init is same) rest =
+    reply_turn (Ready setup None) asking (sym (ap sends_in init)) (ap play_part (same ∙ is)) rest
+turn_of (Admission play is) rest = begins_turn play is
+turn_of {new = new} (Refusal play is) rest =
+    answered_turn new play.waiting (ap play_part is.new_is)
+    (refused_still (ap (λ (s : SessionState). s.awaited) play.waiting.asking_is) is)
+turn_of (HaltMade halt is) rest = ends_turn halt is
+turn_of {new = new} (LookAnswer look is) rest =
+    answered_turn new look.waiting (ap play_part is.new_is)
+    (looked_still (ap (λ (s : SessionState). s.awaited) look.waiting.asking_is) is)
+turn_of {new = new} (JournalFull awaited waiting is) rest =
+    answered_turn new waiting (ap play_part is)
+    (record { none = λ later. refl; kept = λ later. refl; untold = λ made. refl })
+turn_of {new = new} (OfferAnswer sequence waiting is) rest =
+    answered_turn new waiting (ap play_part is)
+    (record { none = λ later. refl; kept = λ later. refl; untold = λ made. refl })
 
 -- a request was received and answered
 pub turns_as : (old : SessionState) (message : List ℕ) (outcome : Outcome) (new : SessionState)
     (heard : HasHeard old message outcome new)
     → old.awaited ≡ Nothing → TurnsAs old heard.asking.awaited outcome new
-turns_as old message outcome new heard rest =
-    answers_as rest heard.answered (hears_as old message heard.ask heard.asking heard.hears)
+turns_as old message outcome new heard rest = turn_of (request_answer heard) rest

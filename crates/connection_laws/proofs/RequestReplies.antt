@@ -34,7 +34,8 @@ use Rattle.connection_laws.proofs.ClientSetups.{range_is, settled_by}
 use Rattle.connection_laws.proofs.FirstPlays.{some_time}
 use Rattle.connection_laws.proofs.KeptSetups.{IsSameSetup}
 use Rattle.connection_laws.proofs.SetupOnly.{Beginning, IsUnbegun, IsWaiting}
-use Rattle.connection_laws.proofs.UniqueResults.{names_in}
+use Rattle.connection_laws.proofs.KeptParts.{names_in}
+use Rattle.connection_laws.proofs.FirstPlays.{planned_whole}
 
 same_names : (old new : SessionState) → new.films ≡ old.films → new.id ≡ old.id → names_in new ≡ names_in old
 same_names old new films id = ap₂ (λ (f : List Stored) (i : List ℕ). (f, i)) films id
@@ -102,7 +103,16 @@ pub record AsksClientPlay (b : Beginning) (old new : SessionState) : Type 0 wher
   pub state : new.state ≡ old.state
   pub heard : new.heard ≡ old.heard
   pub same : names_in new ≡ names_in old
-  pub named : IsNamed b old
+  pub own : IsSession b.session old.id
+
+pub asked_named : {b : Beginning} {old new : SessionState} → AsksClientPlay b old new → IsNamed b old
+asked_named asked = record {
+  setup = asked.setup;
+  setup_is = ap setup_in asked.ready;
+  own = asked.own;
+  authority = asked.authority;
+  names = asked.names;
+}
 
 play_session : (b : Beginning)
     → header_value (request_head (play_parts b.wish b.session)) (codes "Session") ≡ Some b.session
@@ -112,6 +122,15 @@ play_session b =
     let is : value_named (codes "Session") (play_parts b.wish b.session).fields ≡ Some b.session = refl in
     asked.values (codes "Session") ∙ is
 
+-- the times of an entire film
+whole_front : (stored : Stored) (run : Run) (front : ℕ → ℕ → List ℕ) → run ≡ whole_run stored
+    → front (milliseconds_at stored.film run.from_unit) (milliseconds_at stored.film run.end_unit)
+    ≡ front 0 (length_ms stored.film)
+whole_front stored run front is =
+    let first : milliseconds_at stored.film run.from_unit ≡ 0 =
+    ap (λ (r : Run). milliseconds_at stored.film r.from_unit) is ∙ omega arith in
+    ap₂ front first (ap (λ (r : Run). milliseconds_at stored.film r.end_unit) is)
+
 pub play_asked : {message : List ℕ} (b : Beginning) (old : SessionState) (ask : Ask) (new : SessionState)
     (prepared : Prepared) → IsWaiting b old → new.awaited ≡ Play prepared → message ≡ play_text b.wish b.session
     → Hears old message ask new → AsksClientPlay b old new
@@ -119,25 +138,17 @@ play_asked {message} b old ask new prepared waits asks is hears =
     let asked = play-asked b.wish b.session b.wished b.port b.session_is in
     let head = request_head (play_parts b.wish b.session) in
     let R : List ℕ → Type 0 = λ m. IsRequest m (codes "PLAY") (film_url b.wish) 2 head [] in
-    let call : IsCall message (codes "PLAY") (film_url b.wish) 2 head =
-    record { body = []; read = subst R (sym is) asked.read } in
-    let told = play_answered old message (film_url b.wish) 2 head ask new prepared call waits.stands.rest asks hears in
+    let told = play_answered old message (film_url b.wish) 2 head ask new prepared
+    (record { body = []; read = subst R (sym is) asked.read }) waits.stands.rest asks hears in
     let stored = told.stored in
     let setup = told.setup in
     let begun = subst (IsUnbegun b.wish b.films) told.ready waits.unbegun in
-    let P : Option Run → Option (List ℕ) → Type 0 = λ p r. IsPlannedRun old stored setup p r told.planned in
-    let range = range_is b.wish b.session b.wished b.port b.session_is in
-    let its = subst (P None) range (subst (λ p. P p (header_value head (codes "Range"))) begun.0 told.planned_is) in
     let run : told.planned.run ≡ whole_run stored =
-    its.run_is ∙ asked-whole stored its.wanted (some_time stored) its.asked in
+    planned_whole told.planned_is begun.0 (range_is b.wish b.session b.wished b.port b.session_is) in
     let number = first_number old stored setup told.planned in
     let time = timestamp_at stored.film old.source told.planned.run.from_unit in
     let F : ℕ → ℕ → List ℕ = λ from to.
     reply_front 200 (Some 2) (play_fields old.id from to told.authority (string_bytes stored.name) number time) in
-    let first : milliseconds_at stored.film told.planned.run.from_unit ≡ 0 =
-    ap (λ (r : Run). milliseconds_at stored.film r.from_unit) run ∙ omega arith in
-    let last : milliseconds_at stored.film told.planned.run.end_unit ≡ length_ms stored.film =
-    ap (λ (r : Run). milliseconds_at stored.film r.end_unit) run in
     let S : Option (List ℕ) → Type 0 = λ v. IsOwnSession (has_session_in old.state) old.id v ⊥ in
     let own = subst S (play_session b) told.session in
     record {
@@ -152,17 +163,11 @@ play_asked {message} b old ask new prepared waits asks is hears =
       time = time;
       number_fits = omega arith;
       time_fits = omega arith;
-      text = told.text ∙ ap₂ F first last;
+      text = told.text ∙ whole_front stored told.planned.run F run;
       state = told.state;
       heard = told.heard;
       same = same_names old new told.films told.id;
-      named = record {
-        setup = setup;
-        setup_is = ap setup_in told.ready;
-        own = own.1;
-        authority = told.authority;
-        names = told.names;
-      };
+      own = own.1;
     }
 
 -- ---- TEARDOWN

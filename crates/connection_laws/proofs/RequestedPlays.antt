@@ -187,8 +187,6 @@ asked_played {wish} {stored} {course} asked =
     let sent = subst S plays
     (replies_sent course.films course.settings course.words course.rounds course.last course.follows) in
     let ordered = replies_in_order course.films course.settings course.words course.rounds course.last course.follows in
-    let messages = texts_whole (course_texts course) (waiting_reply course.last.session)
-    (subst AreWhole (sym ordered) played.whole) in
     let total = length (framed_bytes (film_blocks stored one.wished.identity)) in
     let replies : AreReplies play now total slots (course_texts course) = record {
       begins = one.wished.before;
@@ -196,7 +194,8 @@ asked_played {wish} {stored} {course} asked =
       before = one.before;
       due = asked.due;
       sent = sent;
-      messages = messages;
+      messages = texts_whole (course_texts course) (waiting_reply course.last.session)
+          (subst AreWhole (sym ordered) played.whole);
     } in
     let two = two_first slots (course_texts course) replies in (
       record {

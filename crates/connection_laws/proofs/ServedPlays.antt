@@ -30,6 +30,12 @@ use Rattle.connection_laws.proofs.FilmBytes.{Stands, opened_stands, round_step, 
 use Rattle.connection_laws.proofs.CourseJoins.{parts_of}
 use Rattle.connection_laws.proofs.RequestEffects.{Begins, Ends, Starts, Stays, TurnsAs, turns_as}
 use Rattle.conn.proofs.EventPremises.{EventCome}
+use Rattle.connection_laws.proofs.StationAnswers.{FinishesAs, NothingLeft, DoneHalted, nothing_left}
+use Rattle.connection_laws.proofs.StationAnswers.{ComesAs, BytesCame, SlotCame, comes_as}
+use Rattle.connection_laws.proofs.CourseAskings.{IsKeptByAskings, course_kept}
+use Rattle.connection_laws.proofs.GreatestSlots.{comes_heard}
+use Rattle.connection_laws.proofs.KeptParts.{LastingPart, taken_keeps}
+use Rattle.conn.specs.InputSteps.{SentPart}
 
 -- ---- askings in two parts
 
@@ -234,75 +240,45 @@ turn_late old new asked outcome (Stays same after still) = none_late old.heard a
 turn_late old new asked outcome (Starts after begins) = begins_late old new asked outcome begins
 turn_late old new asked outcome (Ends after halts) = none_late old.heard asked outcome halts.none
 
-takes_late : (old new : Stage) (takings : List ElementStep) (takes : TakesAll old takings new) → Stands old.session
-    → AreLate old.session.heard (takings_askings old takings new takes)
-takes_late old new [] takes stands = tt
-takes_late old new (Passed n ∷ takings) takes stands =
-    let same : takes.0.session ≡ old.session = ap (λ (s : Stage). s.session) takes.1.0.2 in
-    let P : SessionState → Type 0 = λ s. AreLate s.heard (takings_askings takes.0 takings new takes.1.1) in
-    subst P same (takes_late takes.0 new takings takes.1.1 (taken_stands old takes.0 (Passed n) takes.1.0 stands))
-takes_late old new (Answered message outcome parts ∷ takings) takes stands =
-    let replied = takes.1.0 in
-    let mid = taken_stands old takes.0 (Answered message outcome parts) takes.1.0 stands in
-    let one = takes_step old takes.0 (Answered message outcome parts ∷ []) (takes.0, (takes.1.0, refl)) stands in (
+-- the halt of a play that is done begins none
+halt_none : {s new : SessionState} {asked : Awaited} {halt : Outcome} → FinishesAs s new asked halt
+    → (askings : List StationRequest) → plays_begun asked halt askings ≡ []
+halt_none (NothingLeft is) = λ askings. refl
+halt_none (DoneHalted halt) = λ askings. refl
+
+pub comes_none : {old opened : Stage} {event : IoEvent} {due : List SentPart} {halt : Outcome}
+    → ComesAs old opened event due halt → (askings : List StationRequest)
+    → plays_begun (asked_by old.session event) halt askings ≡ []
+comes_none (BytesCame is) = λ askings. refl
+comes_none (SlotCame finish) = halt_none finish
+
+-- the slot that was received last stays or rises, and plays begin after it
+record LateAskings (old : SessionState) (made : List StationRequest) (new : SessionState) : Type 0 where
+  later : old.heard ≤ new.heard
+  late : AreLate old.heard made
+
+late_kept : IsKeptByAskings LateAskings
+late_kept = record {
+  none = λ s. record { later = omega arith; late = tt };
+  joins = λ a b c made more one two. record {
+    later = omega (arith, one.later, two.later);
+    late = late_append a.heard made more one.late (late_lower a.heard b.heard more one.later two.late);
+  };
+  request = λ old new message outcome parts replied stands. record {
+    later = let same = ap (λ (part : LastingPart). part.heard) (taken_keeps replied) in omega (arith, same);
+    late = (
       turn_late old.session replied.answered replied.heard.asking.awaited outcome
           (turns_as old.session message outcome replied.answered replied.heard stands.rest),
-      late_lower old.session.heard takes.0.session.heard (takings_askings takes.0 takings new takes.1.1)
-          one.on.later (takes_late takes.0 new takings takes.1.1 mid),
-    )
-
--- the halt of a play that is done begins none
-halt_none : (asked : Awaited) (halt : Outcome) (s new : SessionState)
-    → IsFinished (awaited_answer_of asked) s halt new → (askings : List StationRequest) → plays_begun asked halt askings
-    ≡ []
-halt_none Nothing Unasked s new is = λ askings. refl
-halt_none Nothing (Entered placed) s new is = absurd is
-halt_none Nothing (WasFull more entries live) s new is = λ askings. refl
-halt_none Nothing (Offered slot note) s new is = λ askings. refl
-halt_none (Play prepared) halt s new is = absurd is
-halt_none (Halt keep next) Unasked s new is = λ askings. refl
-halt_none (Halt keep next) (Entered placed) s new is = λ askings. refl
-halt_none (Halt keep next) (WasFull more entries live) s new is = λ askings. refl
-halt_none (Halt keep next) (Offered slot note) s new is = λ askings. refl
-halt_none (Look sequence) halt s new is = absurd is
-halt_none (Offer sequence) halt s new is = absurd is
-
-pub comes_none : {old opened : Stage} {event : IoEvent} (come : EventCome old event opened) (askings : List
-    StationRequest) →
-    plays_begun (asked_by old.session event) come.halt askings ≡ []
-comes_none {event = HeardBytes bytes} come = λ askings. ap (λ h. plays_begun Nothing h askings) come.comes.1
-comes_none {old} {opened} {event = HeardSlot slot} come =
-    halt_none (after_slot old.session slot).awaited come.halt (after_slot old.session slot) opened.session
-    come.comes.1.finished
-comes_none {event = HeardEnd} come = absurd come.comes
-comes_none {event = Sent byte} come = absurd come.comes
-
--- an event leaves the slot that was received last, or raises it
-opened_heard : (old new : Stage) (round : Round) (runs : Runs old round new) → Stands old.session
-    → old.session.heard ≤ runs.opened.session.heard
-opened_heard old new round runs stands =
-    let alone : Runs old (record round { takings = [] }) runs.opened =
-    record { opened = runs.opened; comes = runs.comes; takes = refl } in
-    (round_step old runs.opened (record round { takings = [] }) alone stands).on.later
+      tt,
+    );
+  };
+  event = λ old opened event due halt comes stands. record {
+    later = let heard = comes_heard comes in omega (arith, heard);
+    late = (none_late old.session.heard (asked_by old.session event) halt (comes_none comes), tt);
+  };
+}
 
 pub course_late : (old new : Stage) (rounds : List Round) (follows : IsCourseBetween old rounds new) → Stands
     old.session
     → AreLate old.session.heard (askings_of old rounds new follows)
-course_late old new [] follows stands = tt
-course_late old new (round ∷ rounds) follows stands =
-    let runs = follows.1.0 in
-    let step = round_step old follows.0 round runs stands in
-    let mid : Stands follows.0.session =
-    stands_by old.session follows.0.session (round_askings old round follows.0 runs) (film_bytes round.due) step in
-    let opened = opened_stands old follows.0 round runs stands in
-    let grown : old.session.heard ≤ runs.opened.session.heard = opened_heard old follows.0 round runs stands in
-    late_append old.session.heard (round_askings old round follows.0 runs)
-    (askings_of follows.0 rounds new follows.1.1) (
-      none_late old.session.heard (asked_by old.session round.event) round.halt
-          (comes_none (record { due = round.due; halt = round.halt; comes = runs.comes })),
-      late_lower old.session.heard runs.opened.session.heard
-          (takings_askings runs.opened round.takings follows.0 runs.takes) grown
-          (takes_late runs.opened follows.0 round.takings runs.takes opened),
-    )
-    (late_lower old.session.heard follows.0.session.heard (askings_of follows.0 rounds new follows.1.1)
-    step.on.later (course_late follows.0 new rounds follows.1.1 mid))
+course_late old new rounds follows stands = (course_kept late_kept old new rounds follows stands).late

@@ -14,7 +14,7 @@ use Rattle.connection_laws.specs.ReplyPlaces.{takings_slots}
 use Rattle.connection_laws.specs.Plays.{StationRequest, Asks}
 use Rattle.connection_laws.proofs.FilmBytes.{Stands, taken_stands, turn_after, turn_step}
 use Rattle.connection_laws.proofs.JoinedFilms.{IsSound}
-use Rattle.connection_laws.proofs.GreatestSlots.{takes_left}
+use Rattle.connection_laws.proofs.KeptParts.{LastingPart, taken_keeps}
 use Rattle.connection_laws.proofs.ReplyBoundaries.{Replying, replying, turn_fits}
 use Rattle.connection_laws.proofs.RequestEffects.{Going, Idle, Ending, Sends, sends_in, turns_as}
 use Rattle.connection_laws.proofs.WaitingReplies.{GoesTo, IsHeld, goes_same, goes_then, point}
@@ -99,11 +99,6 @@ answered_move {old} {new} {message} {outcome} replied stands =
     (subst (λ (n : Stage). Move old.session n.session None (Asks asked outcome ∷ []) (old.session.heard ∷ [])
     (reply_parts s)) (sym replied.new_is) all)
 
-one_taking : (old new : Stage) (message : List ℕ) (outcome : Outcome) (parts : List SentPart)
-    → IsReplied old message outcome parts new
-    → TakesAll old (Answered message outcome parts ∷ []) new
-one_taking old new message outcome parts replied = (new, (replied, refl))
-
 pub takes_move : {pending : Option ℕ} (old new : Stage) (takings : List ElementStep) (takes : TakesAll old takings new)
     → Stands old.session → HeldIn pending old.session
     → Move old.session new.session pending (takings_askings old takings new takes)
@@ -124,8 +119,7 @@ takes_move {pending} old new (Answered message outcome parts ∷ takings) takes 
     let rest = takes_move {pending = one.after} mid new takings takes.1.1
     (taken_stands old mid (Answered message outcome parts) replied stands) one.held in
     let same : mid.session.heard ≡ old.session.heard =
-    (takes_left old mid (Answered message outcome parts ∷ []) (one_taking old mid message outcome parts replied)
-    stands.rest).1 in
+    ap (λ (part : LastingPart). part.heard) (taken_keeps replied) in
     let made : List StationRequest = Asks replied.heard.asking.awaited outcome ∷ takings_askings mid takings new
     takes.1.1 in
     let all : Move old.session new.session None made

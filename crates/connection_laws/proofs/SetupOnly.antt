@@ -31,6 +31,8 @@ use Rattle.conn.specs.InputSteps.{Unasked, WasFull}
 use Rattle.connection_laws.proofs.FilmBytes.{Stands, opened_stands, taken_stands}
 use Rattle.connection_laws.proofs.ClientSetups.{IsSettled, settled_by, setup_is}
 use Rattle.session_laws.proofs.SetupLemmas.{IsSetupRequest, SetupHeard, Refused, Settled, setup_heard}
+use Rattle.connection_laws.proofs.StationAnswers.{FinishesAs, NothingLeft, DoneHalted, nothing_left}
+use Rattle.connection_laws.proofs.StationAnswers.{ComesAs, BytesCame, SlotCame, comes_as}
 
 -- no play has begun, and a SETUP that was answered 200 settled what the client wished
 abbrev pub IsUnbegun : Wish → List Stored → State → Type 0
@@ -64,68 +66,51 @@ unsending wish films (Ready setup paused) is = refl
 unsending wish films (Playing setup play) is = absurd is
 unsending wish films (Stopping setup stop) is = absurd is
 
--- a slot leaves all but the slot that was received last
-record IsHeardOn (old new : SessionState) : Type 0 where
-  films : new.films ≡ old.films
-  settings : new.settings ≡ old.settings
-  source : new.source ≡ old.source
-  state : new.state ≡ old.state
-  awaited : new.awaited ≡ old.awaited
+-- what a slot leaves where nothing is sent: all but the slot that was received last
+record UnsentPart : Type 0 where
+  films : List Stored
+  settings : Settings
+  source : StreamSource
+  state : State
+  awaited : Awaited
+
+abbrev unsent_part : SessionState → UnsentPart
+unsent_part s = record {
+  films = s.films;
+  settings = s.settings;
+  source = s.source;
+  state = s.state;
+  awaited = s.awaited;
+}
 
 heard_on : (old : SessionState) (slot : ℕ) (taken sending : Bool) → sending ≡ false
-    → IsHeardOn old
+    → unsent_part
     (if taken then (if sending then after_play (sent_slot old slot) else record old { heard = slot }) else old)
-heard_on old slot true false is = record { films = refl; settings = refl; source = refl; state = refl; awaited = refl }
+    ≡ unsent_part old
+heard_on old slot true false is = refl
 heard_on old slot true true is = absurd (true≢false is)
-heard_on old slot false sending is =
-    record { films = refl; settings = refl; source = refl; state = refl; awaited = refl }
+heard_on old slot false sending is = refl
 
-finished_same : (s : SessionState) (halt : Outcome) (new : SessionState) → IsFinished NoAnswer s halt new → new ≡ s
-finished_same s Unasked new is = is
-finished_same s (Entered placed) new is = absurd is
-finished_same s (WasFull more entries live) new is = absurd is
-finished_same s (Offered at_slot note) new is = absurd is
-
-comes_same : (old opened : Stage) (event : IoEvent) (come : EventCome old event opened)
-    → old.session.awaited ≡ Nothing → is_sending old.session.state ≡ false → IsHeardOn old.session opened.session
-comes_same old opened (HeardBytes bytes) come rest idle =
-    let same : opened.session ≡ old.session = ap (λ (s : Stage). s.session) come.comes.3 in
-    record {
-      films = ap (λ (s : SessionState). s.films) same;
-      settings = ap (λ (s : SessionState). s.settings) same;
-      source = ap (λ (s : SessionState). s.source) same;
-      state = ap (λ (s : SessionState). s.state) same;
-      awaited = ap (λ (s : SessionState). s.awaited) same;
-    }
-comes_same old opened (HeardSlot slot) come rest idle =
-    let s = after_slot old.session slot in
+comes_same : {old opened : Stage} {event : IoEvent} {due : List SentPart} {halt : Outcome}
+    → ComesAs old opened event due halt → old.session.awaited ≡ Nothing → is_sending old.session.state ≡ false
+    → unsent_part opened.session ≡ unsent_part old.session
+comes_same (BytesCame is) rest idle = ap (λ (s : Stage). unsent_part s.session) is
+comes_same {old} (SlotCame {slot = slot} finish) rest idle =
     let on = heard_on old.session slot (is_taken old.session slot) (is_sending old.session.state) idle in
-    let F : Awaited → Type 0 = λ a. IsFinished (awaited_answer_of a) s come.halt opened.session in
-    let same : opened.session ≡ s =
-    finished_same s come.halt opened.session (subst F (on.awaited ∙ rest) come.comes.1.finished) in
-    record {
-      films = ap (λ (x : SessionState). x.films) same ∙ on.films;
-      settings = ap (λ (x : SessionState). x.settings) same ∙ on.settings;
-      source = ap (λ (x : SessionState). x.source) same ∙ on.source;
-      state = ap (λ (x : SessionState). x.state) same ∙ on.state;
-      awaited = ap (λ (x : SessionState). x.awaited) same ∙ on.awaited;
-    }
-comes_same old opened HeardEnd come rest idle = absurd come.comes
-comes_same old opened (Sent byte) come rest idle = absurd come.comes
+    let same = nothing_left finish (ap (λ (part : UnsentPart). part.awaited) on ∙ rest) in
+    ap unsent_part same.0 ∙ on
 
 pub opened_waits : {b : Beginning} {old new : Stage} {round : Round} (runs : Runs old round new)
     → IsWaiting b old.session → IsWaiting b runs.opened.session
 opened_waits {b} {old} {new} {round} runs waits =
-    let come : EventCome old round.event runs.opened =
-    record { due = round.due; halt = round.halt; comes = runs.comes } in
-    let on = comes_same old runs.opened round.event come waits.stands.rest
+    let on = comes_same (comes_as round.event round.due round.halt runs.comes) waits.stands.rest
     (unsending b.wish b.films old.session.state waits.unbegun) in
     record {
       stands = opened_stands old new round runs waits.stands;
-      films_are = on.films ∙ waits.films_are;
-      settings_are = on.settings ∙ waits.settings_are;
-      source_is = on.source ∙ waits.source_is;
-      unbegun = subst (IsUnbegun b.wish b.films) (sym on.state) waits.unbegun;
+      films_are = ap (λ (part : UnsentPart). part.films) on ∙ waits.films_are;
+      settings_are = ap (λ (part : UnsentPart). part.settings) on ∙ waits.settings_are;
+      source_is = ap (λ (part : UnsentPart). part.source) on ∙ waits.source_is;
+      unbegun = subst (IsUnbegun b.wish b.films) (sym (ap (λ (part : UnsentPart). part.state) on)) waits.unbegun;
     }
 
 -- a reply that goes out leaves a film that isn't sent as it is

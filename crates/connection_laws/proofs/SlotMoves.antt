@@ -22,11 +22,11 @@ use Rattle.session.specs.SlotSteps.{sent_slot, after_slot, stepped_in}
 use Rattle.session.specs.SessionStates.{NoAnswer, SessionState, awaited_answer, awaited_answer_of}
 use Rattle.conn.specs.InputSteps.{Entered, IsFinished, IsHaltAnswered, IsHalted, Offered, Outcome, SentPart, Unasked}
 use Rattle.conn.specs.InputSteps.{WasFull}
-use Rattle.conn.specs.InputSteps.{due_parts}
+use Rattle.conn.specs.InputSteps.{due_parts, slot_parts}
 use Rattle.connection_laws.specs.Plays.{StationRequest, Asks, plays_admitted, plays_begun, kept_by, kept_in, kept_with}
 use Rattle.connection_laws.specs.Plays.{plays_of}
-use Rattle.connection_laws.proofs.FilmBytes.{Stands, done_kept, halt_state, idle_sound, reply_awaited, reply_waits}
-use Rattle.connection_laws.proofs.FilmBytes.{sent_on}
+use Rattle.connection_laws.proofs.FilmBytes.{DonePlay, IsSlotOver, Stands, done_kept, done_play, halt_state}
+use Rattle.connection_laws.proofs.FilmBytes.{reply_waits, sent_over, taken_later}
 use Rattle.connection_laws.proofs.JoinedFilms.{IsOnTime, IsSound}
 use Rattle.connection_laws.proofs.TextPlaces.{AreLater, StandAt, from_lower, later_lower, over_at}
 use Rattle.connection_laws.proofs.ReplyBoundaries.{slot_moves, still_fits}
@@ -34,6 +34,8 @@ use Rattle.connection_laws.proofs.Slots.{state_after, waits_after}
 use Rattle.connection_laws.proofs.RequestEffects.{Going, Idle, IsStill, sends_in, unasked_still}
 use Rattle.connection_laws.proofs.WaitingReplies.{Fits, GoesTo, IsHeld, point}
 use Rattle.connection_laws.proofs.SessionMoves.{HeldIn, Move, move_then}
+use Rattle.connection_laws.proofs.StationAnswers.{FinishesAs, NothingLeft, DoneHalted, nothing_left}
+use Rattle.connection_laws.proofs.StationAnswers.{ComesAs, BytesCame, SlotCame, comes_as}
 
 -- nothing is asked
 pub still_move : {s new : SessionState} {asked : Awaited} {outcome : Outcome} {pending : Option ℕ} → new ≡ s
@@ -49,19 +51,13 @@ still_move {s} {new} {asked} {outcome} {pending} same still held =
       };
     })
 
-unasked_move : (s : SessionState) (halt : Outcome) (new : SessionState) (pending : Option ℕ) → HeldIn pending s
-    → IsFinished NoAnswer s halt new
-    → Move s new pending (Asks s.awaited halt ∷ []) [] []
-unasked_move s Unasked new pending held finishing = still_move finishing (unasked_still s.awaited) held
-unasked_move s (Entered placed) new pending held finishing = absurd finishing
-unasked_move s (WasFull more entries live) new pending held finishing = absurd finishing
-unasked_move s (Offered at_slot note) new pending held finishing = absurd finishing
-
-rest_move : {s : SessionState} {halt : Outcome} {new : SessionState} {pending : Option ℕ} → s.awaited ≡ Nothing
-    → HeldIn pending s → IsFinished (awaited_answer s) s halt new
-    → Move s new pending (Asks s.awaited halt ∷ []) [] []
-rest_move {s} {halt} {new} {pending} rest held finishing =
-    unasked_move s halt new pending held (subst (λ a. IsFinished (awaited_answer_of a) s halt new) rest finishing)
+-- nothing is asked
+rest_move : {s new : SessionState} {halt : Outcome} {pending : Option ℕ} → s.awaited ≡ Nothing → HeldIn pending s
+    → FinishesAs s new s.awaited halt → Move s new pending (Asks s.awaited halt ∷ []) [] []
+rest_move {s} {new} {pending = pending} rest held finishing =
+    let none = nothing_left finishing rest in
+    subst (λ o. Move s new pending (Asks s.awaited o ∷ []) [] []) (sym none.1)
+    (still_move none.0 (unasked_still s.awaited) held)
 
 -- a play that is done: no reply is held up, and it is halted with all that was sent
 done_unheld : {p : PacerState} {pending : Option ℕ} (waits : Bool) (heard : ℕ) → IsPacerState p → p.sent ≡ p.keep
@@ -91,20 +87,10 @@ done_fits {p} {heard} {asked} {placed} {number} {keep} {askings} {end} {slots} {
           (over_at on (sym sent) ends fits.from fits.later fits.stand));
     }
 
--- a session's play is done, and its halt is asked for
-record DonePlay (s : SessionState) (setup : Setup) (play : Played) (keep : ℕ) : Type 0 where
-  state_is : s.state ≡ Playing setup play
-  sound : IsSound (sends_in s.state) s.waits s.heard
-  done : is_done play.pacer ≡ true
-  sent : keep ≡ play.pacer.sent
-  asks : s.awaited ≡ Halt keep Done
-
-done_move : {s : SessionState} {setup : Setup} {play : Played} {placed : PlacedEntry} {keep : ℕ} {new : SessionState}
-    {pending : Option ℕ} → DonePlay s setup play keep → IsHaltAnswered s keep placed new → HeldIn pending s →
-    Move s new pending (Asks s.awaited (Entered placed) ∷ []) [] []
-done_move {s} {play} {placed} {new} {pending} finished halted held =
+done_move : {s new : SessionState} {placed : PlacedEntry} {keep : ℕ} {pending : Option ℕ} → DonePlay s keep →
+    IsHaltAnswered s keep placed new → HeldIn pending s → Move s new pending (Asks s.awaited (Entered placed) ∷ []) [] []
+done_move {s} {new} {placed} {pending = pending} finished halted held =
     let p : PacerState = play.pacer in
-    let on : IsOnTime p s.heard = (subst (λ st. IsSound (sends_in st) s.waits s.heard) is sound).0 in
     let here : IsHeld pending (Going p) s.waits s.heard =
     subst (λ st. IsHeld pending (sends_in st) s.waits s.heard) is held in
     let none : pending ≡ None = done_unheld s.waits s.heard on.pacing (done_kept p done) here in
@@ -135,62 +121,30 @@ done_move {s} {play} {placed} {new} {pending} finished halted held =
           (sym heard) goes)));
     }
   where
-    open finished use {state_is as is, sound, done, sent, asks}
+    open finished use {play, state_is as is, on, done, sent, asks}
 
-halted_move : {s : SessionState} {setup : Setup} {play : Played} {halt : Outcome} {keep : ℕ} {new : SessionState}
-    {pending : Option ℕ} → DonePlay s setup play keep → IsHalted s keep halt new → HeldIn pending s →
+finished_move : {s new : SessionState} {awaited : Awaited} {halt : Outcome} {pending : Option ℕ} → IsSlotOver s →
+    s.awaited ≡ awaited → HeldIn pending s → FinishesAs s new awaited halt →
     Move s new pending (Asks s.awaited halt ∷ []) [] []
-halted_move {s} {halt = Unasked} {new} finished halted held = absurd halted
-halted_move {s} {halt = Entered placed} {new} finished halted held =
-    done_move finished halted held
-halted_move {s} {halt = WasFull more entries live} {new} finished halted held = absurd halted
-halted_move {s} {halt = Offered at_slot note} {new} finished halted held = absurd halted
-
-finishes_move : {s : SessionState} {state : State} {halt : Outcome} {new : SessionState} {pending : Option ℕ} → s.state
-    ≡ state
-    → IsSound (sends_in s.state) s.waits s.heard → is_done_in state ≡ true
-    → s.awaited ≡ Halt (sent_in state) Done → IsFinished (awaited_answer s) s halt new
-    → HeldIn pending s → Move s new pending (Asks s.awaited halt ∷ []) [] []
-finishes_move {s} {state = Init} {halt} {new} is sound done asks finishing held = absurd (true≢false (sym done))
-finishes_move {s} {state = Ready setup paused} {halt} {new} is sound done asks finishing held =
-    absurd (true≢false (sym done))
-finishes_move {s} {state = Playing setup play} {halt} {new} is sound done asks finishing held =
-    halted_move (record { state_is = is; sound = sound; done = done; sent = refl; asks = asks })
-    (subst (λ a. IsFinished (awaited_answer_of a) s halt new) asks finishing) held
-finishes_move {s} {state = Stopping setup stop} {halt} {new} is sound done asks finishing held =
-    absurd (true≢false (sym done))
-
-finished_move : {s : SessionState} {halt : Outcome} {new : SessionState} {done : Bool} {pending : Option ℕ}
-    → IsSound (sends_in s.state) s.waits s.heard
-    → is_done_in s.state ≡ done → s.awaited ≡ (if done then Halt (sent_in s.state) Done else Nothing)
-    → IsFinished (awaited_answer s) s halt new → HeldIn pending s
-    → Move s new pending (Asks s.awaited halt ∷ []) [] []
-finished_move {s} {halt} {new} {done = true} sound is asks finishing held =
-    finishes_move refl sound is asks finishing held
-finished_move {s} {halt} {new} {done = false} sound is asks finishing held = rest_move asks held finishing
+finished_move {s} over asks held (NothingLeft is) = still_move is (unasked_still s.awaited) held
+finished_move over asks held (DoneHalted halt) = done_move (done_play over asks) halt held
 
 -- a session that stands, with the slot in which a reply is held
 pub record StandingHeld (old : SessionState) (pending : Option ℕ) : Type 0 where
   pub stands : Stands old
   pub held : HeldIn pending old
 
-sent_move : {old : SessionState} {halt : Outcome} {new : SessionState} {pending : Option ℕ} (slot : ℕ) →
-    StandingHeld old pending →
-    IsSound (sends_in (after_play (sent_slot old slot)).state) (after_play (sent_slot old slot)).waits
-    (after_play (sent_slot old slot)).heard →
+sent_move : {old new : SessionState} {halt : Outcome} {pending : Option ℕ} (slot : ℕ) → StandingHeld old pending →
     is_sending old.state ≡ true → old.heard < slot →
-    IsFinished (awaited_answer (after_play (sent_slot old slot))) (after_play (sent_slot old slot)) halt new →
+    FinishesAs (after_play (sent_slot old slot)) new (after_play (sent_slot old slot)).awaited halt →
     Move old new pending (Asks (after_play (sent_slot old slot)).awaited halt ∷ []) [] (due_parts old slot)
-sent_move {old} {halt} {new} {pending} slot standing sound sending later finishing =
+sent_move {old} {new} {halt} {pending} slot standing sending later finishing =
     let s : SessionState = after_play (sent_slot old slot) in
     let goes : Bool = old.waits && is_between (stepped_in true slot old.state) in
     let due : SessionState = sent_due old slot in
     let state : s.state ≡ state_after old.waits old.state slot = reply_state goes due in
     let heard : s.heard ≡ slot = reply_heard goes due in
     let waits : s.waits ≡ waits_after old.waits old.state slot = reply_waits goes due in
-    let asks : s.awaited ≡ (if is_done_in s.state then Halt (sent_in s.state) Done else Nothing) =
-    ap (λ a. if is_done_in s.state then Halt (sent_in s.state) Done else a)
-    (reply_awaited goes due ∙ standing.stands.rest) in
     let slots = slot_moves sending standing.stands.sound later standing.held in
     let there : HeldIn slots.after s =
     subst (λ st. IsHeld slots.after (sends_in st) s.waits s.heard) (sym state)
@@ -207,7 +161,7 @@ sent_move {old} {halt} {new} {pending} slot standing sound sending later finishi
           (due_parts old slot)) (sym heard)
           slots.goes_on);
     } in
-    let second = finished_move sound refl asks finishing there in
+    let second = finished_move (sent_over old slot standing.stands sending later) refl there finishing in
     subst (λ ps. Move old new pending (Asks s.awaited halt ∷ []) [] ps) (append-nil (due_parts old slot))
     (move_then first second)
 
@@ -247,34 +201,21 @@ idle_move old slot pending held none later =
           (idle_later old.heard slot (omega (arith, later))));
     }
 
-slot_sound : {old : SessionState} {taken sending : Bool} (slot : ℕ) → Stands old → (taken ≡ true → old.heard < slot)
-    → is_sending old.state ≡ sending
-    → let s : SessionState =
-    if taken then (if sending then after_play (sent_slot old slot) else record old { heard = slot }) else old in
-    IsSound (sends_in s.state) s.waits s.heard
-slot_sound {taken = false} slot stands later is = stands.sound
-slot_sound {old} {taken = true} {sending = true} slot stands later is = (sent_on old slot stands is (later refl)).sound
-slot_sound {old} {taken = true} {sending = false} slot stands later is =
-    idle_sound old.state old.waits old.heard slot is stands.sound
-
-pub slot_move : {old : SessionState} {halt : Outcome} {new : SessionState} {pending : Option ℕ} {taken sending : Bool}
+slot_cases : {old new : SessionState} {halt : Outcome} {pending : Option ℕ} {taken sending : Bool}
     (slot : ℕ) → StandingHeld old pending → (taken ≡ true → old.heard < slot) → is_sending old.state ≡ sending →
     let s : SessionState =
     if taken then (if sending then after_play (sent_slot old slot) else record old { heard = slot }) else old in
-    IsSound (sends_in s.state) s.waits s.heard →
-    IsFinished (awaited_answer s) s halt new →
+    FinishesAs s new s.awaited halt →
     Move old new pending (Asks s.awaited halt ∷ []) [] (if taken && sending then due_parts old slot else [])
-slot_move {halt} {new} {taken = false} slot standing later is sound finishing =
+slot_cases {taken = false} slot standing later is finishing =
     rest_move standing.stands.rest standing.held finishing
-slot_move {halt} {new} {taken = true} {sending = true} slot standing later is sound finishing =
-    sent_move slot standing sound is (later refl) finishing
-slot_move {old} {halt} {new} {pending} {taken = true} {sending = false} slot standing later is sound finishing =
-    let s : SessionState = record old { heard = slot } in
+slot_cases {taken = true} {sending = true} slot standing later is finishing =
+    sent_move slot standing is (later refl) finishing
+slot_cases {old} {pending = pending} {taken = true} {sending = false} slot standing later is finishing =
     let first = idle_move old slot pending standing.held is (later refl) in
     move_then first (rest_move standing.stands.rest first.held finishing)
 
-pub slotted_sound : (old : SessionState) (slot : ℕ) → Stands old
-    → IsSound (sends_in (after_slot old slot).state) (after_slot old slot).waits (after_slot old slot).heard
-slotted_sound old slot stands =
-    slot_sound slot stands
-    (λ taken. ltb-true old.heard slot (and_parts (nat_lt old.heard slot) (nat_le slot (2 ^ 62)) taken).0) refl
+pub slot_move : {old new : SessionState} {halt : Outcome} {pending : Option ℕ} (slot : ℕ) → StandingHeld old pending →
+    FinishesAs (after_slot old slot) new (after_slot old slot).awaited halt →
+    Move old new pending (Asks (after_slot old slot).awaited halt ∷ []) [] (slot_parts old slot)
+slot_move {old} slot standing finishing = slot_cases slot standing (taken_later old slot) refl finishing

@@ -129,87 +129,77 @@ text_at {p} {keep} {slot} {plays} {end} {text} at is are far stand =
       );
     }
 
--- a play that is over: what comes then stands after all that is kept of it
-record IsOver (play : FilmPlay) (from : ℕ) : Type 0 where
+-- a play that is over from a slot on, before the last slot, with the plays after it, which begin at a boundary
+record PastPlay : Type 0 where
+  play : FilmPlay
+  plays : List FilmPlay
+  from : ℕ
+  end : ℕ
+  ends : from ≤ end
   over : (slot : ℕ) → from ≤ slot → due_of slot play ≡ play.keep
-
-past_due : (play : FilmPlay) (plays : List FilmPlay) (from slot : ℕ) → IsOver play from → from ≤ slot
-    → all_due slot (play ∷ plays) ≡ play.keep + all_due slot plays
-past_due play plays from slot is later = let own = is.over slot later in due_cons slot play plays ∙ omega (arith, own)
-
--- a play that is over, and plays after it that begin at a boundary
-record PlayOver (play : FilmPlay) (from : ℕ) (plays : List FilmPlay) : Type 0 where
-  is_over : IsOver play from
   begins : IsBoundaryIn plays 0
 
-past_unsent : {play : FilmPlay} {from end slot place : ℕ} {plays : List FilmPlay} → from ≤ slot → from ≤ end →
-    PlayOver play from plays → IsUnsentAt end plays slot → IsBoundaryIn (play ∷ plays) place →
-    all_due slot (play ∷ plays) ≤ place → all_due end (play ∷ plays) < place
-past_unsent {play} {from} {end} {slot} {place} {plays} later ends over none (inl own) due =
-    let first = past_due play plays from slot over.is_over later in
-    let nothing : all_due slot plays ≤ 0 = omega (arith, first, due, own.0) in
-    let bad = none 0 over.begins nothing in
+abbrev all_of : PastPlay → List FilmPlay
+all_of past = past.play ∷ past.plays
+
+past_due : (past : PastPlay) (slot : ℕ) → past.from ≤ slot
+    → all_due slot (all_of past) ≡ past.play.keep + all_due slot past.plays
+past_due past slot later =
+    let own = past.over slot later in due_cons slot past.play past.plays ∙ omega (arith, own)
+
+past_unsent : {slot place : ℕ} (past : PastPlay) → past.from ≤ slot → IsUnsentAt past.end past.plays slot
+    → all_due slot (all_of past) ≤ place → IsBoundaryIn (all_of past) place → all_due past.end (all_of past) < place
+past_unsent {slot} past later none due (inl own) =
+    let first = past_due past slot later in
+    let nothing : all_due slot past.plays ≤ 0 = omega (arith, first, due, own.0) in
+    let bad = none 0 past.begins nothing in
     absurd (omega (arith, bad))
-past_unsent {play} {from} {end} {slot} {place} {plays} later ends over none (inr past) due =
-    let first = past_due play plays from slot over.is_over later in
-    let last = past_due play plays from end over.is_over ends in
-    let less = none (place - play.keep) past.1 (omega (arith, first, due, past.0)) in
+past_unsent {slot} {place} past later none due (inr other) =
+    let first = past_due past slot later in
+    let last = past_due past past.end past.ends in
+    let less = none (place - past.play.keep) other.1 (omega (arith, first, due, other.0)) in
     omega (arith, last, less)
 
-past_least : {play : FilmPlay} {plays : List FilmPlay} {from at other : ℕ} (slot : ℕ) → from ≤ slot →
-    PlayOver play from plays → IsNextIn plays (all_due slot plays) at → all_due slot (play ∷ plays) ≤ other →
-    IsBoundaryIn (play ∷ plays) other → play.keep + at ≤ other
-past_least {play} {plays} {from} {at} {other} slot later over next due (inl own) =
-    let first = past_due play plays from slot over.is_over later in
-    let here = next.least 0 over.begins (omega (arith, first, due, own.0)) in
+past_least : {slot at other : ℕ} (past : PastPlay) → past.from ≤ slot → IsNextIn past.plays (all_due slot past.plays) at
+    → all_due slot (all_of past) ≤ other → IsBoundaryIn (all_of past) other → past.play.keep + at ≤ other
+past_least {slot} past later next due (inl own) =
+    let first = past_due past slot later in
+    let here = next.least 0 past.begins (omega (arith, first, due, own.0)) in
     omega (arith, here, first, due)
-past_least {play} {plays} {from} {at} {other} slot later over next due (inr past) =
-    let first = past_due play plays from slot over.is_over later in
-    let least = next.least (other - play.keep) past.1 (omega (arith, first, due, past.0)) in
-    omega (arith, least, past.0)
+past_least {slot} {other = other} past later next due (inr beyond) =
+    let first = past_due past slot later in
+    let least = next.least (other - past.play.keep) beyond.1 (omega (arith, first, due, beyond.0)) in
+    omega (arith, least, beyond.0)
 
-past_sent : {play : FilmPlay} {plays : List FilmPlay} {from end slot : ℕ} (at : ℕ) (text : List ℕ) → from ≤ slot →
-    from ≤ end → PlayOver play from plays → IsSentAt end plays slot (placed_text at text) →
-    IsSentAt end (play ∷ plays) slot (placed_text (play.keep + at) text)
-past_sent {play} {plays} {from} {end} {slot} at text later ends over sent =
-    let first = past_due play plays from slot over.is_over later in
-    let last = past_due play plays from end over.is_over ends in
+past_sent : {slot : ℕ} (past : PastPlay) (at : ℕ) (text : List ℕ) → past.from ≤ slot
+    → IsSentAt past.end past.plays slot (placed_text at text)
+    → IsSentAt past.end (all_of past) slot (placed_text (past.play.keep + at) text)
+past_sent {slot} past at text later sent =
+    let first = past_due past slot later in
+    let last = past_due past past.end past.ends in
     record {
       next = record {
-        boundary = inr (omega arith, subst (IsBoundaryIn plays) (omega arith) sent.next.boundary);
+        boundary = inr (omega arith, subst (IsBoundaryIn past.plays) (omega arith) sent.next.boundary);
         after = omega (arith, first, sent.next.after);
-        least = λ other boundary due. past_least slot later over sent.next due boundary;
+        least = λ other boundary due. past_least past later sent.next due boundary;
       };
       reached = omega (arith, last, sent.reached);
     }
 
--- slots from one on that is no later than the end
-record SlotsWithin (from end : ℕ) (slots : List ℕ) : Type 0 where
-  ends : from ≤ end
-  from_on : AreFrom from slots
-
-past_all : {play : FilmPlay} {from end : ℕ} {plays : List FilmPlay} (at : ℕ) (slots : List ℕ) (parts : List SentPart) →
-    SlotsWithin from end slots → PlayOver play from plays → AreSentAt end plays slots (placed_texts at parts) →
-    AreSentAt end (play ∷ plays) slots (placed_texts (play.keep + at) parts)
-past_all {from} {end} at [] [] within over sent = tt
-past_all {from} {end} {plays} at (slot ∷ slots) [] within over sent = (
-  λ place boundary due. past_unsent are.0 ends over sent.0 boundary due,
-  past_all at slots [] (record { ends = ends; from_on = are.1 }) over sent.1,
-)
-  where
-    open within use {ends, from_on as are}
-past_all {play} {from} {end} {plays} at slots (Film bytes ∷ parts) within over sent =
+past_all : (past : PastPlay) (at : ℕ) (slots : List ℕ) (parts : List SentPart) → AreFrom past.from slots
+    → AreSentAt past.end past.plays slots (placed_texts at parts)
+    → AreSentAt past.end (all_of past) slots (placed_texts (past.play.keep + at) parts)
+past_all past at [] [] are sent = tt
+past_all past at (slot ∷ slots) [] are sent =
+    (λ place boundary due. past_unsent past are.0 sent.0 due boundary, past_all past at slots [] are.1 sent.1)
+past_all past at slots (Film bytes ∷ parts) are sent =
     let n : ℕ = length bytes in
-    let same : play.keep + (at + n) ≡ play.keep + at + n = omega arith in
-    subst (λ m. AreSentAt end (play ∷ plays) slots (placed_texts m parts)) same
-    (past_all (at + n) slots parts within over sent)
-past_all {from} {end} at [] (Text text ∷ parts) within over sent = absurd sent
-past_all {from} {end} {plays} at (slot ∷ slots) (Text text ∷ parts) within over sent = (
-  past_sent at text are.0 ends over sent.0,
-  past_all at slots parts (record { ends = ends; from_on = are.1 }) over sent.1,
-)
-  where
-    open within use {ends, from_on as are}
+    let same : past.play.keep + (at + n) ≡ past.play.keep + at + n = omega arith in
+    subst (λ m. AreSentAt past.end (all_of past) slots (placed_texts m parts)) same
+    (past_all past (at + n) slots parts are sent)
+past_all past at [] (Text text ∷ parts) are sent = absurd sent
+past_all past at (slot ∷ slots) (Text text ∷ parts) are sent =
+    (past_sent past at text are.0 sent.0, past_all past at slots parts are.1 sent.1)
 
 stays_due : {p : PacerState} {heard keep : ℕ} (slot : ℕ) → IsOnTime p heard → p.sent ≡ keep → heard ≤ slot
     → due_of slot (play_with p keep) ≡ keep
@@ -226,10 +216,17 @@ pub over_at : {p : PacerState} {heard keep : ℕ} {plays : List FilmPlay} {end :
     → StandAt p keep None plays end slots parts
 over_at {p} {heard} {keep} {plays} {end} {slots} {parts} on sent ends are later all =
     let play : FilmPlay = play_with p keep in
-    let over : IsOver play heard = record { over = λ slot from. stays_due slot on sent from } in
+    let past : PastPlay = record {
+      play = play;
+      plays = plays;
+      from = heard;
+      end = end;
+      ends = ends;
+      over = λ slot from. stays_due slot on sent from;
+      begins = later.begins;
+    } in
     let shifted : AreSentAt end (play ∷ plays) slots (placed_texts (keep + 0) parts) =
-    past_all 0 slots parts (record { ends = ends; from_on = are })
-    (record { is_over = over; begins = later.begins }) all in
+    past_all past 0 slots parts are all in
     record {
       holds = omega (arith, sent);
       sent = subst (λ n. AreSentAt end (play ∷ plays) slots (placed_texts n parts)) (omega (arith, sent)) shifted;

@@ -133,13 +133,15 @@ record MarkedUnit : Type 0 where
   packets : List Packet
   marked : IsLastMarked packets
 
-part_unit : (starts : Bool) (from : RunFrom) (k : ℕ) (marked_unit : MarkedUnit) (s : Sum) →
-    k < length (report_if starts from.run marked_unit.unit from.frames from.octets
-    ++ frame_blocks from.run marked_unit.unit
-    from.frames marked_unit.packets) →
-    (steps s (events_of_elements (take k (report_if starts from.run marked_unit.unit from.frames from.octets
-    ++ frame_blocks from.run
-    marked_unit.unit from.frames marked_unit.packets)))).sizes ≡ s.sizes
+-- its report, where it starts a group, and its frames
+abbrev marked_blocks : Bool → RunFrom → MarkedUnit → List (List ℕ)
+marked_blocks starts from marked_unit =
+    report_if starts from.run marked_unit.unit from.frames from.octets
+    ++ frame_blocks from.run marked_unit.unit from.frames marked_unit.packets
+
+part_unit : (starts : Bool) (from : RunFrom) (k : ℕ) (marked_unit : MarkedUnit) (s : Sum)
+    → k < length (marked_blocks starts from marked_unit)
+    → (steps s (events_of_elements (take k (marked_blocks starts from marked_unit)))).sizes ≡ s.sizes
 part_unit false from k marked_unit s few =
     part_frames (record { run = run; frames = f; unit = marked_unit.unit; media = media }) k
     marked_unit.packets s marked_unit.marked few
@@ -162,14 +164,10 @@ pub record AtUnit (s : Sum) : Type 0 where
   pub none : s.pending ≡ 0
   pub outside : s.inside ≡ false
 
-whole_unit : {s : Sum} (starts : Bool) (from : RunFrom) (marked_unit : MarkedUnit) → 0 < length marked_unit.packets →
-    AtUnit s →
-    IsUnitDone s
-    (length (framed_bytes (report_if starts from.run marked_unit.unit from.frames from.octets ++ frame_blocks from.run
-    marked_unit.unit from.frames marked_unit.packets)))
-    (steps s (events_of_elements
-    (report_if starts from.run marked_unit.unit from.frames from.octets ++ frame_blocks from.run marked_unit.unit
-    from.frames marked_unit.packets)))
+whole_unit : {s : Sum} (starts : Bool) (from : RunFrom) (marked_unit : MarkedUnit) → 0 < length marked_unit.packets
+    → AtUnit s
+    → IsUnitDone s (length (framed_bytes (marked_blocks starts from marked_unit)))
+    (steps s (events_of_elements (marked_blocks starts from marked_unit)))
 whole_unit {s} false from marked_unit some between =
     let done = whole_frames (record { run = run; frames = f; unit = unit; media = media }) packets marked some in
     let size : s.pending + length (framed_bytes (frame_blocks run unit f packets)) ≡ length
@@ -286,10 +284,101 @@ blocks_one from starts (unit ∷ units) =
   where
     open from use {run, frames as f, octets as o}
 
+-- a unit that begins where a sum stands
+record FirstUnit (s : Sum) : Type 0 where
+  from : RunFrom
+  starts : List ℕ
+  unit : PictureUnit
+  laid : IsLaid starts unit
+  short : unit.to ≤ length from.run.film
+  between : AtUnit s
+
+abbrev first_blocks : {s : Sum} → FirstUnit s → List (List ℕ)
+first_blocks first = unit_blocks first.from.run first.starts first.unit first.from.frames first.from.octets
+
+abbrev first_size : {s : Sum} → FirstUnit s → ℕ
+first_size first = wire_size first.starts first.unit
+
+abbrev first_marked : {s : Sum} → FirstUnit s → MarkedUnit
+first_marked first = record {
+  unit = first.unit;
+  packets = unit_packets first.starts first.unit;
+  marked = unit_marked first.starts first.unit first.laid;
+}
+
+first_sized : {s : Sum} (first : FirstUnit s) → length (framed_bytes (first_blocks first)) ≡ first_size first
+first_sized first =
+    unit_size {starts = first.starts} {unit = first.unit} first.from.run first.from.frames first.from.octets first.laid
+    first.short
+
+-- of blocks those have come that end in so many bytes
+abbrev HaveCome : List ℕ → ℕ → Sum → List (List ℕ) → Type 0
+HaveCome sizes c s blocks = HasCome sizes c s (steps s (events_of_elements (take (count_ended c blocks) blocks)))
+
+-- not all bytes of the first unit have come
+come_within : {c : ℕ} {s : Sum} (first : FirstUnit s) (ys : List (List ℕ)) (sizes : List ℕ) → c < first_size first
+    → HaveCome (first_size first ∷ sizes) c s (first_blocks first ++ ys)
+come_within {c} {s} first ys sizes less =
+    let xs = first_blocks first in
+    let w = first_size first in
+    let within = count_within xs ys c (omega (arith, less, first_sized first)) in
+    let k = count_ended c xs in
+    let R : ℕ → Type 0 = λ n. HasCome (w ∷ sizes) c s (steps s (events_of_elements (take n (xs ++ ys)))) in
+    let S : List (List ℕ) → Type 0 = λ bs. HasCome (w ∷ sizes) c s (steps s (events_of_elements bs)) in
+    subst R (sym within.0) (subst S (sym (take-append-le k xs ys (omega (arith, within.1))))
+    (record {
+      count = 0;
+      sizes_are = part_unit first.unit.starts_group first.from k (first_marked first) s within.1
+          ∙ sym (append-nil s.sizes);
+      among = omega arith;
+      next = λ l. omega (arith, less, sum_by-cons (λ (y : ℕ). y) w (take 0 sizes));
+    }))
+
+-- a sum after the first unit, and what comes later
+first_done : {s : Sum} (first : FirstUnit s)
+    → IsUnitDone s (length (framed_bytes (first_blocks first))) (steps s (events_of_elements (first_blocks first)))
+first_done {s} first =
+    whole_unit {s = s} first.unit.starts_group first.from (first_marked first)
+    (packets_some first.unit (first_portion first.unit.from first.unit.head_end) (unit_lengths first.starts first.unit))
+    first.between
+
+come_past : {c : ℕ} {s : Sum} (first : FirstUnit s) (ys : List (List ℕ)) (sizes : List ℕ) → first_size first ≤ c
+    → ((t : Sum) → AtUnit t → HaveCome sizes (c - length (framed_bytes (first_blocks first))) t ys)
+    → HaveCome (first_size first ∷ sizes) c s (first_blocks first ++ ys)
+come_past {c} {s} first ys sizes more later =
+    let xs = first_blocks first in
+    let w = first_size first in
+    let size = first_sized first in
+    let d = c - length (framed_bytes xs) in
+    let k = count_ended d ys in
+    let past : count_ended c (xs ++ ys) ≡ length xs + k = count_past xs ys c (omega (arith, more, size)) in
+    let t = steps s (events_of_elements xs) in
+    let done = first_done first in
+    let same = blocks_same xs s (unit_one first.from first.starts first.unit) in
+    let still : plays t ≡ true = ap (λ n. nat_lt 1 n) same.replies ∙ first.between.on in
+    let come = later t (record { on = still; none = done.pending; outside = done.inside }) in
+    let u = steps t (events_of_elements (take k ys)) in
+    let all : steps s (events_of_elements (xs ++ take k ys)) ≡ u =
+    ap (steps s) (moments_parts xs (take k ys)) ∙ steps_on s (events_of_elements xs) (events_of_elements (take k ys)) in
+    let R : ℕ → Type 0 = λ n. HasCome (w ∷ sizes) c s (steps s (events_of_elements (take n (xs ++ ys)))) in
+    let S : List (List ℕ) → Type 0 = λ bs. HasCome (w ∷ sizes) c s (steps s (events_of_elements bs)) in
+    let T : Sum → Type 0 = λ v. HasCome (w ∷ sizes) c s v in
+    subst R (sym past) (subst S (sym (take-append-add xs ys k)) (subst T (sym all) (record {
+      count = suc come.count;
+      sizes_are = come.sizes_are
+          ∙ (ap (λ l. l ++ take come.count sizes) (done.sizes ∙ ap (λ n. s.sizes ++ n ∷ []) size)
+          ∙ append_assoc s.sizes (w ∷ []) (take come.count sizes));
+      among = omega (arith, come.among);
+      next = λ l.
+          let further : d < sum (take (come.count + 1) sizes) = come.next (omega (arith, l)) in
+          let same_count = ap (λ n. sum (take n (w ∷ sizes))) (one_more come.count) in
+          omega (arith, further, same_count, sum_by-cons (λ (y : ℕ). y) w (take (come.count + 1) sizes), size, more);
+    })))
+
 -- the sizes of the units that are complete
-pub units_come : {c : ℕ} {s : Sum} (from : RunFrom) (starts : List ℕ) (units : List PictureUnit) →
-    AreLaid (length from.run.film) starts units → AtUnit s →
-    HasCome (map (λ u. wire_size starts u) units) c s
+pub units_come : {c : ℕ} {s : Sum} (from : RunFrom) (starts : List ℕ) (units : List PictureUnit)
+    → AreLaid (length from.run.film) starts units → AtUnit s
+    → HasCome (map (λ u. wire_size starts u) units) c s
     (steps s (events_of_elements (take (count_ended c (blocks_from from.run from.frames from.octets (pieces_of starts
     units)))
     (blocks_from from.run from.frames from.octets (pieces_of starts units)))))
@@ -303,71 +392,21 @@ units_come {c} {s} from starts [] laid between =
 units_come {c} {s} from starts (unit ∷ units) laid between =
     let f2 = frames_after f (unit_pieces starts unit) in
     let o2 = octets_after o (unit_pieces starts unit) in
-    let xs = unit_blocks run starts unit f o in
     let ys = blocks_from run f2 o2 (pieces_of starts units) in
-    let w = wire_size starts unit in
     let sizes = map (λ u. wire_size starts u) units in
-    let size : length (framed_bytes xs) ≡ w = unit_size {starts = starts} {unit = unit} run f o laid.0.1 laid.0.0 in
-    let marked = unit_marked starts unit laid.0.1 in
-    let some : 0 < length (unit_packets starts unit) =
-    packets_some unit (first_portion unit.from unit.head_end) (unit_lengths starts unit) in
-    let Q : List (List ℕ)
-    → Type 0 = λ bs. HasCome (w ∷ sizes) c s (steps s (events_of_elements (take (count_ended c bs) bs))) in
-    let R : ℕ → Type 0 = λ k. HasCome (w ∷ sizes) c s (steps s (events_of_elements (take k (xs ++ ys)))) in
-    let S : List (List ℕ) → Type 0 = λ bs. HasCome (w ∷ sizes) c s (steps s (events_of_elements bs)) in
-    subst Q (sym (more_blocks run f o starts unit units))
-    (elim (cases_lt c w) [
-      | inl less ↦
-          let within = count_within xs ys c (omega (arith, less, size)) in
-          let k = count_ended c xs in
-          subst R (sym within.0) (subst S (sym (take-append-le k xs ys (omega (arith, within.1))))
-          (record {
-            count = 0;
-            sizes_are = part_unit unit.starts_group from k (record {
-              unit = unit;
-              packets = unit_packets starts unit;
-              marked = marked;
-            }) s within.1 ∙ sym (append-nil s.sizes);
-            among = omega arith;
-            next = λ l. omega (arith, less, sum_by-cons (λ (y : ℕ). y) w (take 0 sizes));
-          }))
-      | inr more ↦
-          let d = c - length (framed_bytes xs) in
-          let k = count_ended d ys in
-          let past : count_ended c (xs ++ ys) ≡ length xs + k = count_past xs ys c (omega (arith, more, size)) in
-          let t = steps s (events_of_elements xs) in
-          let done : IsUnitDone s (length (framed_bytes xs)) t =
-          whole_unit {s = s} unit.starts_group from
-          (record { unit = unit; packets = unit_packets starts unit; marked = marked })
-          some between in
-          let same = blocks_same xs s (unit_one from starts unit) in
-          let still : plays t ≡ true = ap (λ n. nat_lt 1 n) same.replies ∙ between.on in
-          let come = units_come {c = d} {s = t} (record from { frames = f2; octets = o2 }) starts units laid.1
-          (record { on = still; none = done.pending; outside = done.inside }) in
-          let u = steps t (events_of_elements (take k ys)) in
-          let all : steps s (events_of_elements (xs ++ take k ys)) ≡ u =
-          ap (steps s) (moments_parts xs (take k ys)) ∙ steps_on s (events_of_elements xs) (events_of_elements (take k
-          ys)) in
-          let T : Sum → Type 0 = λ v. HasCome (w ∷ sizes) c s v in
-          subst R (sym past) (subst S (sym (take-append-add xs ys k)) (subst T (sym all)
-          (record {
-            count = suc come.count;
-            sizes_are = come.sizes_are
-                ∙ (ap (λ l. l ++ take come.count sizes) (done.sizes ∙ ap (λ n. s.sizes ++ n ∷ []) size)
-                ∙ append_assoc s.sizes (w ∷ []) (take come.count sizes));
-            among = omega (arith, come.among);
-            next = λ l.
-                let later : d < sum (take (come.count + 1) sizes) = come.next (omega (arith, l)) in
-                let same_count = ap (λ n. sum (take n (w ∷ sizes))) (one_more come.count) in
-                omega (
-                  arith,
-                  later,
-                  same_count,
-                  sum_by-cons (λ (y : ℕ). y) w (take (come.count + 1) sizes),
-                  size,
-                  more,
-                );
-          })))
+    let first : FirstUnit s = record {
+      from = from;
+      starts = starts;
+      unit = unit;
+      laid = laid.0.1;
+      short = laid.0.0;
+      between = between;
+    } in
+    let C : List (List ℕ) → Type 0 = λ bs. HaveCome (first_size first ∷ sizes) c s bs in
+    subst C (sym (more_blocks run f o starts unit units)) (elim (cases_lt c (first_size first)) [
+      | inl less ↦ come_within first ys sizes less
+      | inr more ↦ come_past first ys sizes more
+          (λ t at. units_come {c = c - length (framed_bytes (first_blocks first))} {s = t} (record from { frames = f2; octets = o2 }) starts units laid.1 at)
     ])
   where
     open from use {run, frames as f, octets as o}

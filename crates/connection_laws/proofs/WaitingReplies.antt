@@ -242,31 +242,13 @@ pub record PlaysDue (p : PacerState) (keep slot : ℕ) (plays : List FilmPlay) :
       (first_slots p.plan (taken + 1 - p.start)) p.keep)
   pub later_plays : AreLater slot plays
 
--- the bytes of a slot, with the reply that waits
-pub slot_at : {p : PacerState} {keep : ℕ} {pending : Option ℕ} {heard slot : ℕ} {between : Bool} {plays : List FilmPlay}
-    {end : ℕ} {slots : List ℕ} {parts : List SentPart} (waits : Bool) (text : List ℕ) → SlotOn p heard slot end between
-    →
-    IsHeld pending (Going p) waits heard → PlaysDue p keep slot plays →
-    StandAt (sent_through slot p) keep (after_slot between pending) plays end slots parts →
-    StandAt p keep pending plays end slots (parts_in waits between p slot text ++ parts)
-slot_at {p} {pending = None} {slot} {between} {end} true text slot_on held plays_due stand = absurd (true≢false held)
-slot_at {p} {pending = None} {slot} {between} {end} false text slot_on held plays_due stand =
-    film_at refl
-    (size_to p (due_by p slot) slot_on.on.pacing (omega (arith, slot_on.on.pacing.sent))
-    (due_most p slot slot_on.on.pacing)) stand
-slot_at {p} {pending = Some taken} {slot} {between} {end} false text slot_on held plays_due stand =
-    absurd (true≢false (sym held.0))
-slot_at {p} {keep} {pending = Some taken} {slot} {between = false} {plays} {end} {slots} {parts} true text
-    slot_on held plays_due stand =
-    let all : step_end true (at_slot slot p) ≡ due_by p slot =
-    ap (λ (r : PacerState). r.sent) (slot_is true false slot p on.pacing stands) in
-    subst (λ to. StandAt p keep (Some taken) plays end slots (Film (plan_bytes p p.sent to) ∷ parts)) (sym all)
-    (film_at refl
-    (size_to p (due_by p slot) on.pacing (omega (arith, on.pacing.sent)) (due_most p slot on.pacing)) stand)
-  where
-    open slot_on use {on, stands}
-slot_at {p} {keep} {pending = Some taken} {heard} {slot} {between = true} {plays} {end} {slots} {parts} true
-    text slot_on held plays_due stand =
+-- the reply goes out between two parts of the film's bytes
+slot_between : {p : PacerState} {keep taken heard slot : ℕ} {plays : List FilmPlay} {end : ℕ} {slots : List ℕ}
+    {parts : List SentPart} (text : List ℕ) → SlotOn p heard slot end true →
+    IsHeld (Some taken) (Going p) true heard → PlaysDue p keep slot plays →
+    StandAt (sent_through slot p) keep None plays end slots parts →
+    StandAt p keep (Some taken) plays end slots (parts_in true true p slot text ++ parts)
+slot_between {p} {keep} {taken} {heard} {slot} {plays} {end} {slots} {parts} text slot_on held plays_due stand =
     let q : PacerState = after_step true slot p in
     let is = on.pacing in
     let most : due_by p slot ≤ p.keep = due_most p slot is in
@@ -292,3 +274,29 @@ slot_at {p} {keep} {pending = Some taken} {heard} {slot} {between = true} {plays
     (size_to p q.sent is from (omega (arith, to, most))) reply
   where
     open slot_on use {on, later, ends, stands}
+
+-- the bytes of a slot, with the reply that waits
+pub slot_at : {p : PacerState} {keep : ℕ} {pending : Option ℕ} {heard slot : ℕ} {between : Bool} {plays : List FilmPlay}
+    {end : ℕ} {slots : List ℕ} {parts : List SentPart} (waits : Bool) (text : List ℕ) → SlotOn p heard slot end between
+    →
+    IsHeld pending (Going p) waits heard → PlaysDue p keep slot plays →
+    StandAt (sent_through slot p) keep (after_slot between pending) plays end slots parts →
+    StandAt p keep pending plays end slots (parts_in waits between p slot text ++ parts)
+slot_at {p} {pending = None} {slot} {between} {end} true text slot_on held plays_due stand = absurd (true≢false held)
+slot_at {p} {pending = None} {slot} {between} {end} false text slot_on held plays_due stand =
+    film_at refl
+    (size_to p (due_by p slot) slot_on.on.pacing (omega (arith, slot_on.on.pacing.sent))
+    (due_most p slot slot_on.on.pacing)) stand
+slot_at {p} {pending = Some taken} {slot} {between} {end} false text slot_on held plays_due stand =
+    absurd (true≢false (sym held.0))
+slot_at {p} {keep} {pending = Some taken} {slot} {between = false} {plays} {end} {slots} {parts} true text
+    slot_on held plays_due stand =
+    let all : step_end true (at_slot slot p) ≡ due_by p slot =
+    ap (λ (r : PacerState). r.sent) (slot_is true false slot p on.pacing stands) in
+    subst (λ to. StandAt p keep (Some taken) plays end slots (Film (plan_bytes p p.sent to) ∷ parts)) (sym all)
+    (film_at refl
+    (size_to p (due_by p slot) on.pacing (omega (arith, on.pacing.sent)) (due_most p slot on.pacing)) stand)
+  where
+    open slot_on use {on, stands}
+slot_at {pending = Some taken} {between = true} true text slot_on held plays_due stand =
+    slot_between text slot_on held plays_due stand

@@ -1,0 +1,237 @@
+-- One induction over what a connection does, from its first event to its end.
+use Rattle.std.proofs.Common.{◌≡◌, ℕ, ◌++◌, if◌then◌else◌, Bool, true, false, List, [], ◌∷◌, Option, map, length, ap}
+use Rattle.std.proofs.Common.{refl, subst, sym, ◌∙◌}
+use Rattle.std.proofs.lemmas.List.{append-nil, map-append}
+use Rattle.vod_base.specs.Links.{IoEvent, HeardBytes, HeardEnd, HeardSlot, Sent}
+use Rattle.film_frames.specs.declared.stored_films.Stored.{Stored}
+use Rattle.film_streams.specs.declared.settings.Settings.{Settings}
+use Rattle.session.specs.declared.states.Awaited.{Awaited}
+use Rattle.session.specs.declared.states.Awaited.TheVariants.{Nothing, Play, Halt, Look, Offer}
+use Rattle.session.specs.declared.states.AfterHalt.{AfterHalt}
+use Rattle.session.specs.declared.states.State.{State}
+use Rattle.session.specs.declared.states.State.TheVariants.{Init, Ready, Playing, Stopping}
+use Rattle.session.specs.SlotSteps.{can_reply, due_state, after_play, is_between, is_sending}
+use Rattle.session.specs.SlotSteps.{is_taken, kept_of, sent_due, sent_reply, sent_slot, after_slot}
+use Rattle.session.specs.SlotSteps.{stepped_in}
+use Rattle.session.specs.SessionStates.{NoAnswer, SessionState, awaited_answer_of, open_in}
+use Rattle.session.specs.SlotTransitions.{IsCarried, after_stop}
+use Rattle.conn.specs.EventSteps.{Comes, Ending, Unheard, PeerEnded, Overfull, AtElement, InSlot, InReply}
+use Rattle.conn.specs.EventSteps.{Ends, Round, Runs, RunsAll, ending_outcomes, round_outcomes}
+use Rattle.conn.specs.EventSteps.{rounds_outcomes, takings_outcomes}
+use Rattle.conn.specs.InputSteps.{IsClosed, IsFinished, IsHalted, Outcome, Unasked, Entered, WasFull}
+use Rattle.conn.specs.InputSteps.{Offered, SentPart, Stage, ElementStep, Passed, Answered, TakesAll, after_reply}
+use Rattle.conn.specs.InputSteps.{film_bytes}
+use Rattle.conn.specs.declared.reports.ConnEnd.{ConnEnd}
+use Rattle.conn.specs.declared.reports.ConnReport.{ConnReport}
+use Rattle.conn.specs.Agreement.{Activity, HasDone, doings_outcomes}
+use Rattle.conn.specs.Films.{rounds_film}
+use Rattle.connection_laws.specs.Courses.{askings_of, first_stage, round_askings}
+use Rattle.connection_laws.specs.Notes.{StationCall, asking_at, ending_calls, notes_of_calls, notes_of}
+use Rattle.connection_laws.specs.Notes.{outcome_of, round_calls, rounds_calls, taken_calls, station_call}
+use Rattle.connection_laws.specs.Notes.{station_calls}
+use Rattle.connection_laws.proofs.FilmBytes.{Stands, course_step, round_step, stands_by, turn_after}
+use Rattle.connection_laws.proofs.RequestEffects.{turns_as}
+use Rattle.connection_laws.proofs.CourseJoins.{follows_all}
+use Rattle.connection_laws.proofs.PlayNotes.{Carries, IsKept, carries_as, carries_none, carries_then}
+use Rattle.connection_laws.proofs.PlayNotes.{halt_turn, halted_open, heard_on, no_halt_note, no_note}
+use Rattle.connection_laws.proofs.PlayNotes.{notes_until, open_note, unasked_turn}
+use Rattle.session.proofs.StepInvariantLemmas.{nothing_of}
+use Rattle.conn.proofs.ReplyContents.{CourseEnd}
+use Rattle.connection_laws.proofs.StationAnswers.{ClosesAs, closes_as, FinishesAs}
+use Rattle.connection_laws.proofs.StationAnswers.{ComesAs, BytesCame, SlotCame, comes_as}
+use Rattle.session.specs.SessionStates.{OpenBooking, open_of}
+use Rattle.conn.specs.InputSteps.{HasHeard}
+use Rattle.conn.specs.EventSteps.{HasFailedInSlot}
+
+-- a relation between a session, what the station is asked and answers, and the session after it, which each doing of
+-- the session satisfies
+pub record IsKeptByDoings (R : SessionState → List StationCall → SessionState → Type 0) : Type 0 where
+  pub none : (s : SessionState) → R s [] s
+  pub joins : (a b c : SessionState) (xs ys : List StationCall) → R a xs b → R b ys c → R a (xs ++ ys) c
+  pub request : (old new : SessionState) (message : List ℕ) (outcome : Outcome)
+      (heard : HasHeard old message outcome new) → R old (station_call heard.asking outcome ∷ []) new
+  pub reply : (s : SessionState) → R s [] (sent_reply s)
+  pub slot : (s : SessionState) (slot : ℕ) → R s [] (after_slot s slot)
+  pub finish : (awaited : Awaited) (halt : Outcome) (s new : SessionState) → FinishesAs s new awaited halt
+      → s.awaited ≡ awaited → R s (station_call s halt ∷ []) new
+  pub bytes : (s : SessionState) → R s (station_call s Unasked ∷ []) s
+  pub failed : (old new : Stage) (slot : ℕ) (front : List ℕ) → HasFailedInSlot old slot front new
+      → R old.session [] new.session
+  pub lost : (s : SessionState) → R s [] (record s { lost = true })
+  pub close : (held : Option OpenBooking) (halt : Outcome) (last closed : SessionState)
+      → ClosesAs last closed held halt → open_of last ≡ held → last.awaited ≡ Nothing
+      → R last (station_call last halt ∷ []) closed
+
+module _ {R : SessionState → List StationCall → SessionState → Type 0} (kept : IsKeptByDoings R) where
+  sent_if : (goes : Bool) (s : SessionState) → R s [] (if goes then sent_reply s else s)
+  sent_if true s = kept.reply s
+  sent_if false s = kept.none s
+
+  came : {old opened : Stage} {event : IoEvent} {due : List SentPart} {halt : Outcome}
+      → ComesAs old opened event due halt
+      → R old.session (station_call (asking_at old.session event) halt ∷ []) opened.session
+  came {old} (BytesCame is) =
+      subst (λ (s : Stage). R old.session (station_call old.session Unasked ∷ []) s.session) (sym is)
+      (kept.bytes old.session)
+  came {old} {opened} (SlotCame {slot = slot} {halt = halt} finish) =
+      let s : SessionState = after_slot old.session slot in
+      kept.joins old.session s opened.session [] (station_call s halt ∷ []) (kept.slot old.session slot)
+      (kept.finish s.awaited halt s opened.session finish refl)
+
+  still : (old new : Stage) → new ≡ old → R old.session [] new.session
+  still old new is = subst (λ (s : Stage). R old.session [] s.session) (sym is) (kept.none old.session)
+
+  taken : (old new : Stage) (takings : List ElementStep) (takes : TakesAll old takings new)
+      → R old.session (taken_calls old takings new takes) new.session
+  taken old new [] takes = still old new takes
+  taken old new (Passed n ∷ takings) takes =
+      let same : takes.0.session ≡ old.session = ap (λ (s : Stage). s.session) takes.1.0.2 in
+      subst (λ s. R s (taken_calls takes.0 takings new takes.1.1) new.session) same
+      (taken takes.0 new takings takes.1.1)
+  taken old new (Answered message outcome parts ∷ takings) takes =
+      let replied = takes.1.0 in
+      let s : SessionState = replied.answered in
+      let turn = station_call replied.heard.asking outcome in
+      let one : R old.session (turn ∷ []) (after_reply s) =
+      kept.joins old.session s (after_reply s) (turn ∷ []) [] (kept.request old.session s message outcome replied.heard)
+      (sent_if (can_reply s) s) in
+      kept.joins old.session takes.0.session new.session (turn ∷ []) (taken_calls takes.0 takings new takes.1.1)
+      (subst (λ (t : Stage). R old.session (turn ∷ []) t.session) (sym replied.new_is) one)
+      (taken takes.0 new takings takes.1.1)
+
+  round_kept : (old new : Stage) (round : Round) (runs : Runs old round new)
+      → R old.session (round_calls old round new runs) new.session
+  round_kept old new round runs =
+      kept.joins old.session runs.opened.session new.session
+      (station_call (asking_at old.session round.event) round.halt ∷ [])
+      (taken_calls runs.opened round.takings new runs.takes)
+      (came (comes_as round.event round.due round.halt runs.comes)) (taken runs.opened new round.takings runs.takes)
+
+  rounds_kept : (old new : Stage) (rounds : List Round) (runs : RunsAll old rounds new)
+      → R old.session (rounds_calls old rounds new runs) new.session
+  rounds_kept old new [] runs = still old new runs
+  rounds_kept old new (round ∷ rounds) runs =
+      kept.joins old.session runs.0.session new.session (round_calls old round runs.0 runs.1.0)
+      (rounds_calls runs.0 rounds new runs.1.2) (round_kept old runs.0 round runs.1.0)
+      (rounds_kept runs.0 new rounds runs.1.2)
+
+  ending_kept : (old new : Stage) (count : ℕ) (ending : Ending) (end : ConnEnd)
+      (ends : Ends old count ending end new) → R old.session (ending_calls old count ending end new ends) new.session
+  ending_kept old new count Unheard end ends = still old new ends.1
+  ending_kept old new count PeerEnded end ends = still old new ends.1
+  ending_kept old new count (Overfull bytes) end ends = still old new ends.3
+  ending_kept old new count (AtElement round) end ends = round_kept old new round ends.0
+  ending_kept old new count (InSlot slot front) end ends = kept.failed old new slot front ends.1
+  ending_kept old new count (InReply round message outcome front) end ends =
+      let e = ends.1 in
+      let s : SessionState = e.fails.answered in
+      let turn = station_call e.fails.heard.asking outcome in
+      let last : R e.mid.session (turn ∷ []) (record s { lost = true }) =
+      kept.joins e.mid.session s (record s { lost = true }) (turn ∷ []) []
+      (kept.request e.mid.session s message outcome e.fails.heard) (kept.lost s) in
+      kept.joins old.session e.mid.session new.session (round_calls old round e.mid e.runs) (turn ∷ [])
+      (round_kept old e.mid round e.runs)
+      (subst (λ (t : Stage). R e.mid.session (turn ∷ []) t.session) (sym e.fails.new_is) last)
+
+-- ---- between doings nothing is awaited
+pub stands_all : (old new : Stage) (rounds : List Round) → RunsAll old rounds new → Stands old.session
+    → Stands new.session
+stands_all old new rounds runs stands =
+    let follows = follows_all old new rounds runs in
+    stands_by old.session new.session (askings_of old rounds new follows) (rounds_film rounds)
+    (course_step old new rounds follows stands)
+
+pub stands_round : (old new : Stage) (round : Round) → Runs old round new → Stands old.session → Stands new.session
+stands_round old new round runs stands =
+    stands_by old.session new.session (round_askings old round new runs) (film_bytes round.due)
+    (round_step old new round runs stands)
+
+pub ending_rest : {old : Stage} (ending : Ending) (ended : CourseEnd old ending) → Stands old.session →
+    ended.new.session.awaited ≡ Nothing
+ending_rest Unheard ended stands = ap (λ (s : Stage). s.session.awaited) ended.ends.1 ∙ stands.rest
+ending_rest PeerEnded ended stands = ap (λ (s : Stage). s.session.awaited) ended.ends.1 ∙ stands.rest
+ending_rest (Overfull bytes) ended stands = ap (λ (s : Stage). s.session.awaited) ended.ends.3 ∙ stands.rest
+ending_rest {old} (AtElement round) ended stands = (stands_round old ended.new round ended.ends.0 stands).rest
+ending_rest (InSlot slot front) ended stands = nothing_of ended.new.session.awaited ended.ends.1.rest
+ending_rest {old} (InReply round message outcome front) ended stands =
+    let e = ended.ends.1 in
+    let failed = e.fails in
+    let turns = turns_as e.mid.session message outcome failed.answered failed.heard
+    (stands_round old e.mid round e.runs stands).rest in
+    ap (λ (s : Stage). s.session.awaited) failed.new_is
+    ∙ (turn_after e.mid.session failed.answered failed.heard.asking.awaited outcome turns).awaited
+
+-- nothing is awaited as a connection ends
+pub last_rest : (films : List Stored) (settings : Settings) (words : List ℕ) (doings : Activity) (report : ConnReport)
+    (done : HasDone films settings words doings report) → done.last.session.awaited ≡ Nothing
+last_rest films settings words doings report done =
+    ending_rest doings.ending
+    (record { count = length doings.rounds; end = report.end; new = done.last; ends = done.ends })
+    (stands_all (first_stage films settings words) done.mid doings.rounds done.runs
+    (record { rest = refl; sound = tt }))
+
+-- all that a connection did
+pub doings_kept : {R : SessionState → List StationCall → SessionState → Type 0} (kept : IsKeptByDoings R)
+    (films : List Stored) (settings : Settings) (words : List ℕ) (doings : Activity) (report : ConnReport)
+    (done : HasDone films settings words doings report)
+    → R (first_stage films settings words).session (station_calls films settings words doings report done) done.closed
+doings_kept {R} kept films settings words doings report done =
+    let first : Stage = first_stage films settings words in
+    let count = length doings.rounds in
+    let heard = rounds_calls first doings.rounds done.mid done.runs in
+    let ended = ending_calls done.mid count doings.ending report.end done.last done.ends in
+    let last : SessionState = done.last.session in
+    kept.joins first.session last done.closed (heard ++ ended) (station_call last doings.halt ∷ [])
+    (kept.joins first.session done.mid.session last heard ended
+    (rounds_kept kept first done.mid doings.rounds done.runs)
+    (ending_kept kept done.mid done.last count doings.ending report.end done.ends))
+    (kept.close (open_of last) doings.halt last done.closed (closes_as (open_of last) doings.halt done.closes) refl
+    (last_rest films settings words doings report done))
+
+-- ---- the answers of turns are those of the doings
+takes_outcomes : (old new : Stage) (takings : List ElementStep) (takes : TakesAll old takings new)
+    → map outcome_of (taken_calls old takings new takes) ≡ takings_outcomes takings
+takes_outcomes old new [] takes = refl
+takes_outcomes old new (Passed n ∷ takings) takes = takes_outcomes takes.0 new takings takes.1.1
+takes_outcomes old new (Answered message outcome parts ∷ takings) takes =
+    ap (λ os. outcome ∷ os) (takes_outcomes takes.0 new takings takes.1.1)
+
+round_outcomes_are : (old new : Stage) (round : Round) (runs : Runs old round new)
+    → map outcome_of (round_calls old round new runs) ≡ round_outcomes round
+round_outcomes_are old new round runs =
+    ap (λ os. round.halt ∷ os) (takes_outcomes runs.opened new round.takings runs.takes)
+
+rounds_outcomes_are : (old new : Stage) (rounds : List Round) (runs : RunsAll old rounds new)
+    → map outcome_of (rounds_calls old rounds new runs) ≡ rounds_outcomes rounds
+rounds_outcomes_are old new [] runs = refl
+rounds_outcomes_are old new (round ∷ rounds) runs =
+    map-append outcome_of (round_calls old round runs.0 runs.1.0) (rounds_calls runs.0 rounds new runs.1.2)
+    ∙ ap (λ os. os ++ map outcome_of (rounds_calls runs.0 rounds new runs.1.2))
+    (round_outcomes_are old runs.0 round runs.1.0)
+    ∙ ap (λ os. round_outcomes round ++ os) (rounds_outcomes_are runs.0 new rounds runs.1.2)
+
+ending_outcomes_are : (old new : Stage) (count : ℕ) (ending : Ending) (end : ConnEnd)
+    (ends : Ends old count ending end new)
+    → map outcome_of (ending_calls old count ending end new ends) ≡ ending_outcomes ending
+ending_outcomes_are old new count Unheard end ends = refl
+ending_outcomes_are old new count PeerEnded end ends = refl
+ending_outcomes_are old new count (Overfull bytes) end ends = refl
+ending_outcomes_are old new count (AtElement round) end ends = round_outcomes_are old new round ends.0
+ending_outcomes_are old new count (InSlot slot front) end ends = refl
+ending_outcomes_are old new count (InReply round message outcome front) end ends =
+    map-append outcome_of (round_calls old round ends.1.mid ends.1.runs)
+    (station_call ends.1.fails.heard.asking outcome ∷ [])
+    ∙ ap (λ os. os ++ outcome ∷ []) (round_outcomes_are old ends.1.mid round ends.1.runs)
+
+pub turns_told : (films : List Stored) (settings : Settings) (words : List ℕ) (doings : Activity) (report : ConnReport)
+    (done : HasDone films settings words doings report)
+    → map outcome_of (station_calls films settings words doings report done) ≡ doings_outcomes doings
+turns_told films settings words doings report done =
+    let first = first_stage films settings words in
+    let heard = rounds_calls first doings.rounds done.mid done.runs in
+    let ended = ending_calls done.mid (length doings.rounds) doings.ending report.end done.last done.ends in
+    map-append outcome_of (heard ++ ended) (station_call done.last.session doings.halt ∷ [])
+    ∙ ap (λ os. os ++ doings.halt ∷ []) (map-append outcome_of heard ended
+    ∙ ap (λ os. os ++ map outcome_of ended) (rounds_outcomes_are first done.mid doings.rounds done.runs)
+    ∙ ap (λ os. rounds_outcomes doings.rounds ++ os)
+    (ending_outcomes_are done.mid done.last (length doings.rounds) doings.ending report.end done.ends))

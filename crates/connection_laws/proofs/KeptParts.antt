@@ -1,0 +1,161 @@
+-- Parts of a session that requests, replies and slots leave as they were.
+use Rattle.std.proofs.Common.{◌≡◌, ℕ, ◌&&◌, if◌then◌else◌, Bool, true, false, List, [], ◌∷◌, Option, refl, ap, ◌∙◌}
+use Rattle.film_frames.specs.declared.stored_films.Stored.{Stored}
+use Rattle.film_streams.specs.declared.settings.Settings.{Settings}
+use Rattle.film_streams.specs.declared.stream_numbers.StreamSource.{StreamSource}
+use Rattle.session.specs.declared.commands.Ask.{Ask}
+use Rattle.session.specs.declared.states.Awaited.{Awaited}
+use Rattle.session.specs.SlotSteps.{after_play, after_slot, can_reply, is_between, is_sending, is_taken, sent_due}
+use Rattle.session.specs.SlotSteps.{sent_reply, sent_slot, stepped_in}
+use Rattle.session.specs.SessionStates.{OpenBooking, SessionState, awaited_answer}
+use Rattle.session_laws.proofs.RequestShapes.{HearsAs, Replies, SetsUp, AsksPlay, Stops, AsksLook, AsksOffer, hears_as}
+use Rattle.conn.proofs.HaltAnswers.{finished_as_before}
+use Rattle.conn.specs.InputSteps.{Answered, ElementStep, HasHeard, HasStepped, IsAskAnswered, IsReplied, Outcome}
+use Rattle.conn.specs.InputSteps.{Passed, SentPart, Stage, TakesAll, after_reply}
+use Rattle.connection_laws.proofs.StationAnswers.{AnswersAs, NoneAsked, PlayAdmitted, PlayRefused, PlayFull, PlayHalted}
+use Rattle.connection_laws.proofs.StationAnswers.{LookMade, LookFull, OfferMade, answers_as}
+use Rattle.connection_laws.proofs.StationAnswers.{ClosesAs, NothingOpen, BookingHalted, FinishesAs, NothingLeft}
+use Rattle.connection_laws.proofs.StationAnswers.{DoneHalted}
+
+-- what no request and no reply to one changes
+pub record LastingPart : Type 0 where
+  pub films : List Stored
+  pub settings : Settings
+  pub id : List ℕ
+  pub source : StreamSource
+  pub heard : ℕ
+  pub late : ℕ
+  pub lost : Bool
+
+abbrev pub lasting_part : SessionState → LastingPart
+lasting_part s = record {
+  films = s.films;
+  settings = s.settings;
+  id = s.id;
+  source = s.source;
+  heard = s.heard;
+  late = s.late;
+  lost = s.lost;
+}
+
+pub hears_keep : {old asking : SessionState} {ask : Ask} → HearsAs old ask asking
+    → lasting_part asking ≡ lasting_part old
+hears_keep (Replies text tearing ask_is is) = ap lasting_part is
+hears_keep (SetsUp text setup init ask_is is) = ap lasting_part is
+hears_keep (AsksPlay setup paused prepared text ready ask_is is) = ap lasting_part is
+hears_keep (Stops setup play keep next text playing told keep_is ask_is is) = ap lasting_part is
+hears_keep (AsksLook looks sequence ask_is is) = ap lasting_part is
+hears_keep (AsksOffer plan offers sequence ask_is is) = ap lasting_part is
+
+pub answer_keeps : {asking new : SessionState} {ask : Ask} {outcome : Outcome} → AnswersAs asking new ask outcome
+    → lasting_part new ≡ lasting_part asking
+answer_keeps (NoneAsked is) = ap lasting_part is
+answer_keeps (PlayAdmitted play) = ap lasting_part play.new_is
+answer_keeps (PlayRefused play) = ap lasting_part play.new_is
+answer_keeps (PlayFull is) = ap lasting_part is
+answer_keeps (PlayHalted halt) = ap lasting_part halt.halts
+answer_keeps (LookMade look) = ap lasting_part look.new_is
+answer_keeps (LookFull is) = ap lasting_part is
+answer_keeps (OfferMade is) = ap lasting_part is
+
+pub request_keeps : {old new : SessionState} {message : List ℕ} {outcome : Outcome}
+    → HasHeard old message outcome new → lasting_part new ≡ lasting_part old
+request_keeps {old} {new} {message} {outcome} heard =
+    answer_keeps (answers_as heard.ask outcome heard.answered)
+    ∙ hears_keep (hears_as old message heard.ask heard.asking heard.hears)
+
+-- a part of a session that a reply leaves as it was
+pub reply_keeps : {A : Type 0} (part : SessionState → A) → ((s : SessionState) → part (sent_reply s) ≡ part s)
+    → (goes : Bool) (s : SessionState) → part (if goes then sent_reply s else s) ≡ part s
+reply_keeps part same true s = same s
+reply_keeps part same false s = refl
+
+pub taken_keeps : {old new : Stage} {message : List ℕ} {outcome : Outcome} {parts : List SentPart}
+    → IsReplied old message outcome parts new → lasting_part new.session ≡ lasting_part old.session
+taken_keeps replied =
+    ap (λ (s : Stage). lasting_part s.session) replied.new_is
+    ∙ reply_keeps lasting_part (λ s. refl) (can_reply replied.answered) replied.answered
+    ∙ request_keeps replied.heard
+
+pub takes_keep : (old new : Stage) (takings : List ElementStep) → TakesAll old takings new
+    → lasting_part new.session ≡ lasting_part old.session
+takes_keep old new [] takes = ap (λ (s : Stage). lasting_part s.session) takes
+takes_keep old new (Passed n ∷ takings) takes =
+    takes_keep takes.0 new takings takes.1.1 ∙ ap (λ (s : Stage). lasting_part s.session) takes.1.0.2
+takes_keep old new (Answered message outcome parts ∷ takings) takes =
+    takes_keep takes.0 new takings takes.1.1 ∙ taken_keeps takes.1.0
+
+pub takes_heard : (old new : Stage) (takings : List ElementStep) → TakesAll old takings new
+    → new.session.heard ≡ old.session.heard
+takes_heard old new takings takes = ap (λ (part : LastingPart). part.heard) (takes_keep old new takings takes)
+
+-- the halt of a play that is done
+pub finish_keeps : {s new : SessionState} {awaited : Awaited} {outcome : Outcome} → FinishesAs s new awaited outcome
+    → lasting_part new ≡ lasting_part s
+finish_keeps (NothingLeft is) = ap lasting_part is
+finish_keeps (DoneHalted halt) = ap lasting_part halt.halts
+
+-- the end of a connection
+pub close_keeps : {old new : SessionState} {held : Option OpenBooking} {outcome : Outcome}
+    → ClosesAs old new held outcome → lasting_part new ≡ lasting_part old
+close_keeps (NothingOpen is) = ap lasting_part is
+close_keeps (BookingHalted halt) = ap lasting_part halt.halts
+
+-- a part of a session that what is sent in a slot leaves as it was
+pub record IsKeptInSlots {A : Type 0} (part : SessionState → A) : Type 0 where
+  pub reply : (s : SessionState) → part (sent_reply s) ≡ part s
+  pub due : (s : SessionState) (slot : ℕ) → part (sent_due s slot) ≡ part s
+  pub done : (s : SessionState) → part (after_play s) ≡ part s
+  pub idle : (s : SessionState) (slot : ℕ) → part (record s { heard = slot }) ≡ part s
+
+sent_keeps : {A : Type 0} {part : SessionState → A} → IsKeptInSlots part → (old : SessionState) (slot : ℕ)
+    → part (after_play (sent_slot old slot)) ≡ part old
+sent_keeps {part = part} kept old slot =
+    kept.done (sent_slot old slot)
+    ∙ reply_keeps part kept.reply (old.waits && is_between (stepped_in true slot old.state)) (sent_due old slot)
+    ∙ kept.due old slot
+
+slot_cases : {A : Type 0} {part : SessionState → A} → IsKeptInSlots part → (old : SessionState) (slot : ℕ)
+    (taken sending : Bool)
+    → part (if taken then (if sending then after_play (sent_slot old slot) else record old { heard = slot }) else old)
+    ≡ part old
+slot_cases kept old slot true true = sent_keeps kept old slot
+slot_cases kept old slot true false = kept.idle old slot
+slot_cases kept old slot false sending = refl
+
+pub slot_keeps : {A : Type 0} {part : SessionState → A} → IsKeptInSlots part → (old : SessionState) (slot : ℕ)
+    → part (after_slot old slot) ≡ part old
+slot_keeps kept old slot = slot_cases kept old slot (is_taken old slot) (is_sending old.state)
+
+-- ---- the films and the id stay
+
+-- what a session is named by: its films, and its id
+abbrev pub names_in : SessionState → List Stored × List ℕ
+names_in s = (s.films, s.id)
+
+pub same_names : (old new : SessionState) → lasting_part new ≡ lasting_part old → names_in new ≡ names_in old
+same_names old new same = ap (λ (part : LastingPart). (part.films, part.id)) same
+
+pub answered_names : (asking : SessionState) (ask : Ask) (outcome : Outcome) (new : SessionState)
+    → IsAskAnswered asking ask outcome new → names_in new ≡ names_in asking
+answered_names asking ask outcome new answered =
+    same_names asking new (answer_keeps (answers_as ask outcome answered))
+
+pub replied_names : (s : SessionState) → names_in (after_reply s) ≡ names_in s
+replied_names s = reply_keeps names_in (λ t. refl) (can_reply s) s
+
+pub slot_names : (old : SessionState) (slot : ℕ) → names_in (after_slot old slot) ≡ names_in old
+slot_names old slot =
+    slot_keeps {part = names_in} (record {
+      reply = λ s. refl;
+      due = λ s n. refl;
+      done = λ s. refl;
+      idle = λ s n. refl;
+    }) old slot
+
+pub stepped_names : (old : SessionState) (slot : ℕ) (due : List SentPart) (halt : Outcome) (new : SessionState)
+    → HasStepped old slot due halt new → names_in new ≡ names_in old
+stepped_names old slot due halt new is =
+    finished_as_before names_in (λ s place. refl) (awaited_answer (after_slot old slot)) (after_slot old slot) halt new
+    is.finished
+    ∙ slot_names old slot

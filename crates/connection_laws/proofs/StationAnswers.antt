@@ -1,0 +1,243 @@
+-- What the station can answer, case by case: to what a session asks after a request, in a slot, and
+-- as its connection ends.
+use Rattle.std.proofs.Common.{◌≡◌, ℕ, ◌+◌, ◌^◌, ◌<◌, ◌++◌, List, [], Option, Some, None, refl, ap, sym, subst, ◌∙◌}
+use Rattle.vod_base.specs.Links.{IoEvent, HeardBytes, HeardEnd, HeardSlot, Sent}
+use Rattle.admission.specs.declared.entries.Answer.{Answer}
+use Rattle.admission.specs.declared.entries.Answer.TheVariants.{Admitted, Halted, Looked, Overflow}
+use Rattle.admission.specs.Makers.{PlacedEntry}
+use Rattle.early_start.specs.StartSearch.{Offers}
+use Rattle.plan_cert.specs.declared.Segment.{Segment}
+use Rattle.station.specs.Ledgers.{look_at, play_of}
+use Rattle.session.specs.declared.commands.Ask.{Ask}
+use Rattle.session.specs.declared.commands.Ask.TheVariants.{Reply as AskReply, Play as AskPlay, Halt as AskHalt}
+use Rattle.session.specs.declared.commands.Ask.TheVariants.{Look as AskLook, Offer as AskOffer}
+use Rattle.session.specs.declared.states.AfterHalt.{AfterHalt}
+use Rattle.session.specs.declared.states.Awaited.{Awaited}
+use Rattle.session.specs.declared.states.Awaited.TheVariants.{Nothing, Play, Halt, Look, Offer}
+use Rattle.session.specs.RequestSteps.{after_admission, after_full, after_halt, after_look, after_offer}
+use Rattle.session.specs.RequestSteps.{after_overflow}
+use Rattle.session.specs.SlotSteps.{after_slot}
+use Rattle.session.specs.SlotTransitions.{IsPlayIn}
+use Rattle.session.specs.SessionStates.{OpenBooking, SessionState, awaited_answer_of}
+use Rattle.session_records.specs.declared.notes.OfferNote.{OfferNote}
+use Rattle.conn.specs.EventSteps.{Comes}
+use Rattle.conn.specs.InputSteps.{IsAskAnswered, IsClosed, IsFinished, IsHaltAnswered, IsHalted, IsLookAnswered}
+use Rattle.conn.specs.InputSteps.{IsPlayAnswered, Outcome, Unasked, Entered, WasFull, Offered, SentPart, Stage}
+use Rattle.conn.specs.InputSteps.{slot_parts, stage}
+
+-- a play of this plan was admitted
+pub record IsAdmitted (asking : SessionState) (plan : List Segment) (placed : PlacedEntry) (new : SessionState) : Type 0
+  where
+    pub start : ℕ
+    pub answer : placed.entry.answer ≡ Admitted start
+    pub command : placed.entry.command ≡ play_of asking.heard plan
+    pub later : asking.heard < start
+    pub new_is : new ≡ after_admission asking placed.place start
+    pub playing : IsPlayIn new.state
+    pub small : start < 2 ^ 64
+
+-- the link has no room for it
+pub record IsRefused (asking : SessionState) (plan : List Segment) (placed : PlacedEntry) (new : SessionState) : Type 0
+  where
+    pub slot : ℕ
+    pub booked : ℕ
+    pub asked : ℕ
+    pub answer : placed.entry.answer ≡ Overflow slot booked asked
+    pub command : placed.entry.command ≡ play_of asking.heard plan
+    pub new_is : new ≡ after_overflow asking placed.place slot booked asked
+
+-- the station looked
+pub record IsLooked (asking : SessionState) (slot : ℕ) (placed : PlacedEntry) (new : SessionState) : Type 0 where
+  pub now : ℕ
+  pub at : ℕ
+  pub booked : ℕ
+  pub answer : placed.entry.answer ≡ Looked now at booked
+  pub command : placed.entry.command ≡ look_at slot
+  pub new_is : new ≡ after_look asking placed.place now at booked
+
+-- the station's answer to what was asked, and the session after it
+pub data AnswersAs (asking new : SessionState) : Ask → Outcome → Type 0 where
+  NoneAsked : new ≡ asking → AnswersAs asking new AskReply Unasked
+  PlayAdmitted : {plan : List Segment} {placed : PlacedEntry} → IsAdmitted asking plan placed new
+      → AnswersAs asking new (AskPlay plan) (Entered placed)
+  PlayRefused : {plan : List Segment} {placed : PlacedEntry} → IsRefused asking plan placed new
+      → AnswersAs asking new (AskPlay plan) (Entered placed)
+  PlayFull : {plan : List Segment} {more entries live : ℕ} → new ≡ after_full asking entries live
+      → AnswersAs asking new (AskPlay plan) (WasFull more entries live)
+  PlayHalted : {keep : ℕ} {placed : PlacedEntry} → IsHaltAnswered asking keep placed new
+      → AnswersAs asking new (AskHalt keep) (Entered placed)
+  LookMade : {slot : ℕ} {placed : PlacedEntry} → IsLooked asking slot placed new
+      → AnswersAs asking new (AskLook slot) (Entered placed)
+  LookFull : {slot more entries live : ℕ} → new ≡ after_full asking entries live
+      → AnswersAs asking new (AskLook slot) (WasFull more entries live)
+  OfferMade : {plan : List Segment} {offers : Offers} {at_slot : ℕ} {note : OfferNote} → new ≡ after_offer asking note
+      → AnswersAs asking new (AskOffer plan offers) (Offered at_slot note)
+
+-- the session after an answer
+abbrev after_entry : SessionState → PlacedEntry → Answer → SessionState
+after_entry asking placed (Admitted start) = after_admission asking placed.place start
+after_entry asking placed (Overflow slot booked asked) = after_overflow asking placed.place slot booked asked
+after_entry asking placed Halted = after_halt asking placed.place
+after_entry asking placed (Looked now at booked) = after_look asking placed.place now at booked
+
+abbrev pub after_outcome : SessionState → Outcome → SessionState
+after_outcome asking Unasked = asking
+after_outcome asking (Entered placed) = after_entry asking placed placed.entry.answer
+after_outcome asking (WasFull more entries live) = after_full asking entries live
+after_outcome asking (Offered at_slot note) = after_offer asking note
+
+entry_leaves : {new : SessionState} {answer : Answer} (asking : SessionState) (placed : PlacedEntry)
+    → placed.entry.answer ≡ answer → new ≡ after_entry asking placed answer → new ≡ after_outcome asking (Entered placed)
+entry_leaves asking placed is new_is = new_is ∙ ap (after_entry asking placed) (sym is)
+
+pub answer_leaves : {new : SessionState} {ask : Ask} {outcome : Outcome} (asking : SessionState)
+    → AnswersAs asking new ask outcome → new ≡ after_outcome asking outcome
+answer_leaves asking (NoneAsked is) = is
+answer_leaves asking (PlayAdmitted {placed = p} play) = entry_leaves asking p play.answer play.new_is
+answer_leaves asking (PlayRefused {placed = p} play) = entry_leaves asking p play.answer play.new_is
+answer_leaves asking (PlayFull is) = is
+answer_leaves asking (PlayHalted {placed = p} halt) = entry_leaves asking p halt.answer halt.halts
+answer_leaves asking (LookMade {placed = p} look) = entry_leaves asking p look.answer look.new_is
+answer_leaves asking (LookFull is) = is
+answer_leaves asking (OfferMade is) = is
+
+play_as : {asking new : SessionState} {plan : List Segment} {placed : PlacedEntry} (answer : Answer)
+    → placed.entry.answer ≡ answer → placed.entry.command ≡ play_of asking.heard plan
+    → IsPlayAnswered asking placed answer new → AnswersAs asking new (AskPlay plan) (Entered placed)
+play_as (Admitted start) is command answered = PlayAdmitted (record {
+  start = start;
+  answer = is;
+  command = command;
+  later = answered.0;
+  new_is = answered.1;
+  playing = answered.2;
+  small = answered.3;
+})
+play_as (Overflow slot booked asked) is command answered = PlayRefused (record {
+  slot = slot;
+  booked = booked;
+  asked = asked;
+  answer = is;
+  command = command;
+  new_is = answered;
+})
+play_as Halted is command answered = absurd answered
+play_as (Looked now at booked) is command answered = absurd answered
+
+look_as : {asking new : SessionState} {slot : ℕ} {placed : PlacedEntry} (answer : Answer)
+    → placed.entry.answer ≡ answer → placed.entry.command ≡ look_at slot
+    → IsLookAnswered asking placed answer new → AnswersAs asking new (AskLook slot) (Entered placed)
+look_as (Looked now at booked) is command answered = LookMade (record {
+  now = now;
+  at = at;
+  booked = booked;
+  answer = is;
+  command = command;
+  new_is = answered;
+})
+look_as (Admitted start) is command answered = absurd answered
+look_as (Overflow slot booked asked) is command answered = absurd answered
+look_as Halted is command answered = absurd answered
+
+-- a halt's entry
+pub data HaltsAs (old new : SessionState) (keep : ℕ) : Outcome → Type 0 where
+  HaltEntered : {placed : PlacedEntry} → IsHaltAnswered old keep placed new → HaltsAs old new keep (Entered placed)
+
+pub halts_as : {old new : SessionState} {keep : ℕ} (outcome : Outcome) → IsHalted old keep outcome new
+    → HaltsAs old new keep outcome
+halts_as Unasked halted = absurd halted
+halts_as (Entered placed) halted = HaltEntered halted
+halts_as (WasFull more entries live) halted = absurd halted
+halts_as (Offered at_slot note) halted = absurd halted
+
+halt_as : {asking new : SessionState} {keep : ℕ} {outcome : Outcome} → HaltsAs asking new keep outcome
+    → AnswersAs asking new (AskHalt keep) outcome
+halt_as (HaltEntered halted) = PlayHalted halted
+
+pub answers_as : {asking new : SessionState} (ask : Ask) (outcome : Outcome) → IsAskAnswered asking ask outcome new
+    → AnswersAs asking new ask outcome
+answers_as AskReply Unasked answered = NoneAsked answered
+answers_as (AskPlay plan) (Entered placed) answered = play_as placed.entry.answer refl answered.0 answered.1
+answers_as (AskPlay plan) (WasFull more entries live) answered = PlayFull answered.0
+answers_as (AskHalt keep) outcome answered = halt_as (halts_as outcome answered)
+answers_as (AskLook slot) (Entered placed) answered = look_as placed.entry.answer refl answered.0 answered.1
+answers_as (AskLook slot) (WasFull more entries live) answered = LookFull answered.0
+answers_as (AskOffer plan offers) (Offered at_slot note) answered = OfferMade answered.2
+answers_as AskReply (Entered placed) answered = absurd answered
+answers_as AskReply (WasFull more entries live) answered = absurd answered
+answers_as AskReply (Offered at_slot note) answered = absurd answered
+answers_as (AskPlay plan) Unasked answered = absurd answered
+answers_as (AskPlay plan) (Offered at_slot note) answered = absurd answered
+answers_as (AskLook slot) Unasked answered = absurd answered
+answers_as (AskLook slot) (Offered at_slot note) answered = absurd answered
+answers_as (AskOffer plan offers) Unasked answered = absurd answered
+answers_as (AskOffer plan offers) (Entered placed) answered = absurd answered
+answers_as (AskOffer plan offers) (WasFull more entries live) answered = absurd answered
+
+-- a slot leaves nothing to ask, or a play that is done is halted
+pub data FinishesAs (s new : SessionState) : Awaited → Outcome → Type 0 where
+  NothingLeft : new ≡ s → FinishesAs s new Nothing Unasked
+  DoneHalted : {keep : ℕ} {next : AfterHalt} {placed : PlacedEntry} → IsHaltAnswered s keep placed new
+      → FinishesAs s new (Halt keep next) (Entered placed)
+
+pub finish_leaves : {new : SessionState} {awaited : Awaited} {outcome : Outcome} (s : SessionState)
+    → FinishesAs s new awaited outcome → new ≡ after_outcome s outcome
+finish_leaves s (NothingLeft is) = is
+finish_leaves s (DoneHalted {placed = p} halt) = entry_leaves s p halt.answer halt.halts
+
+pub nothing_left : {s new : SessionState} {awaited : Awaited} {outcome : Outcome} → FinishesAs s new awaited outcome
+    → awaited ≡ Nothing → (new ≡ s) × (outcome ≡ Unasked)
+nothing_left (NothingLeft is) none = (is, refl)
+nothing_left (DoneHalted {keep = keep} {next = next} halt) none = absurd (let no : ⊥ = cc in no)
+
+done_as : {s new : SessionState} {keep : ℕ} {next : AfterHalt} {outcome : Outcome} → HaltsAs s new keep outcome
+    → FinishesAs s new (Halt keep next) outcome
+done_as (HaltEntered halted) = DoneHalted halted
+
+pub finishes_as : {s new : SessionState} (awaited : Awaited) (outcome : Outcome)
+    → IsFinished (awaited_answer_of awaited) s outcome new → FinishesAs s new awaited outcome
+finishes_as Nothing Unasked is = NothingLeft is
+finishes_as Nothing (Entered placed) is = absurd is
+finishes_as Nothing (WasFull more entries live) is = absurd is
+finishes_as Nothing (Offered at_slot note) is = absurd is
+finishes_as (Halt keep next) outcome is = done_as (halts_as outcome is)
+finishes_as (Play prepared) outcome is = absurd is
+finishes_as (Look sequence) outcome is = absurd is
+finishes_as (Offer sequence) outcome is = absurd is
+
+-- a connection ends without an open booking, or it halts its booking with what is due
+pub data ClosesAs (old new : SessionState) : Option OpenBooking → Outcome → Type 0 where
+  NothingOpen : new ≡ old → ClosesAs old new None Unasked
+  BookingHalted : {booking : OpenBooking} {placed : PlacedEntry} → IsHaltAnswered old booking.due placed new
+      → ClosesAs old new (Some booking) (Entered placed)
+
+booking_as : {old new : SessionState} {booking : OpenBooking} {outcome : Outcome} → HaltsAs old new booking.due outcome
+    → ClosesAs old new (Some booking) outcome
+booking_as (HaltEntered halted) = BookingHalted halted
+
+pub closes_as : {old new : SessionState} (held : Option OpenBooking) (outcome : Outcome) → IsClosed held old outcome new
+    → ClosesAs old new held outcome
+closes_as None Unasked is = NothingOpen is
+closes_as None (Entered placed) is = absurd is
+closes_as None (WasFull more entries live) is = absurd is
+closes_as None (Offered at_slot note) is = absurd is
+closes_as (Some booking) outcome is = booking_as (halts_as outcome is)
+
+-- an event came: bytes, or a slot
+pub data ComesAs (old opened : Stage) : IoEvent → List SentPart → Outcome → Type 0 where
+  BytesCame : {bytes : List ℕ} → opened ≡ stage old.session (old.input ++ bytes)
+      → ComesAs old opened (HeardBytes bytes) [] Unasked
+  SlotCame : {slot : ℕ} {halt : Outcome}
+      → FinishesAs (after_slot old.session slot) opened.session (after_slot old.session slot).awaited halt
+      → ComesAs old opened (HeardSlot slot) (slot_parts old.session slot) halt
+
+pub comes_as : {old opened : Stage} (event : IoEvent) (due : List SentPart) (halt : Outcome)
+    → Comes old event due halt opened → ComesAs old opened event due halt
+comes_as {old} {opened} (HeardBytes bytes) due halt comes =
+    subst (λ ps. ComesAs old opened (HeardBytes bytes) ps halt) (sym comes.0)
+    (subst (λ h. ComesAs old opened (HeardBytes bytes) [] h) (sym comes.1) (BytesCame comes.3))
+comes_as {old} {opened} (HeardSlot slot) due halt comes =
+    subst (λ ps. ComesAs old opened (HeardSlot slot) ps halt) (sym comes.1.parts_are)
+    (SlotCame (finishes_as (after_slot old.session slot).awaited halt comes.1.finished))
+comes_as HeardEnd due halt comes = absurd comes
+comes_as (Sent byte) due halt comes = absurd comes
