@@ -1,11 +1,10 @@
 -- In which slots a connection asks for plays, and in which slots its plays begin.
-use Rattle.std.specs.Prelude.{⊤, All, Option, Some, None}
+use Rattle.std.specs.Prelude.{⊤, All, Option}
 use Rattle.std.specs.List.{fold}
-use Rattle.std.proofs.Common.{◌≡◌, ℕ, zero, suc, ◌+◌, ◌^◌, ◌≤◌, ◌++◌, List, [], ◌∷◌, length, max, min}
+use Rattle.std.proofs.Common.{◌≡◌, ℕ, zero, suc, ◌+◌, ◌^◌, ◌≤◌, ◌++◌, List, [], ◌∷◌, max, min}
 use Rattle.std.proofs.Common.{take, arith, refl, sym, ap, subst}
 use Rattle.std.proofs.lemmas.List.Elements.{All-append, All-contains, All-cons, All-get_or, All-head, All-nil, All-tail}
 use Rattle.std.proofs.lemmas.List.Elements.{All-weaker}
-use Rattle.vod_base.specs.Links.{IoEvent, HeardBytes, HeardEnd, HeardSlot, Sent}
 use Rattle.plan_cert.specs.PlanSlots.{total_bytes}
 use Rattle.film_frames.specs.declared.stored_films.Stored.{Stored}
 use Rattle.film_frames.specs.FramedRuns.{run_pieces}
@@ -22,24 +21,19 @@ use Rattle.admission.specs.Makers.{PlacedEntry}
 use Rattle.admission.proofs.HistoryPrefixes.{legal-take, no_entry}
 use Rattle.admission.proofs.PlayCounts.{tally}
 use Rattle.session.specs.declared.commands.Ask.{Ask}
-use Rattle.session.specs.declared.commands.Ask.TheVariants.{Reply as AskReply, Play as AskPlay, Halt as AskHalt}
-use Rattle.session.specs.declared.commands.Ask.TheVariants.{Look as AskLook, Offer as AskOffer}
 use Rattle.film_streams.specs.declared.settings.Settings.{Settings}
 use Rattle.session.specs.declared.states.Awaited.{Awaited}
 use Rattle.session.specs.declared.states.Awaited.TheVariants.{Nothing, Play, Halt, Look, Offer}
-use Rattle.session.specs.SessionStates.{AwaitedAnswer, HaltAnswer, LookAnswer, NoAnswer, OfferAnswer, OpenBooking}
-use Rattle.session.specs.SessionStates.{PlayAnswer, SessionState, awaited_answer, open_of}
-use Rattle.session.specs.SlotSteps.{after_slot}
+use Rattle.session.specs.SessionStates.{OpenBooking}
+use Rattle.session.specs.SessionStates.{SessionState}
 use Rattle.rtsp_client.specs.declared.watch_request.Wish.{Wish}
 use Rattle.conn.specs.Agreement.{Activity, HasDone, Visit, doings_outcomes}
-use Rattle.conn.specs.EventSteps.{Comes, Ending, Ends, Unheard, PeerEnded, Overfull, AtElement, InSlot, InReply}
-use Rattle.conn.specs.EventSteps.{Round, Runs, RunsAll, ending_outcomes, entries_in, round_outcomes, rounds_outcomes}
-use Rattle.conn.specs.EventSteps.{takings_outcomes}
-use Rattle.conn.specs.InputSteps.{IsAskAnswered, IsClosed, IsFinished, IsHalted, Outcome, Unasked, Entered, WasFull}
-use Rattle.conn.specs.InputSteps.{Offered, SentPart, Stage, ElementStep, Passed, Answered, TakesAll}
+use Rattle.conn.specs.EventSteps.{Ending, Unheard, PeerEnded, Overfull, AtElement, InSlot, InReply}
+use Rattle.conn.specs.EventSteps.{Round, ending_outcomes, entries_in, round_outcomes, rounds_outcomes}
+use Rattle.conn.specs.InputSteps.{Outcome, Unasked, Entered, WasFull}
+use Rattle.conn.specs.InputSteps.{Offered}
 use Rattle.conn.specs.Journals.{AgreeWith, StandsIn, Terms}
 use Rattle.conn.specs.Plays.{ending_rounds}
-use Rattle.conn.specs.declared.reports.ConnEnd.{ConnEnd}
 use Rattle.conn.specs.declared.reports.ConnReport.{ConnReport}
 use Rattle.connection_laws.specs.ClientRequests.{IsAskedFor}
 use Rattle.connection_laws.specs.Courses.{Course, askings_of, course_plays, first_stage}
@@ -49,8 +43,7 @@ use Rattle.connection_laws.proofs.BookedPlays.{course_outcomes, outcomes_in}
 use Rattle.connection_laws.proofs.StationAnswers.{AnswersAs, NoneAsked, PlayAdmitted, PlayRefused, PlayFull, PlayHalted}
 use Rattle.connection_laws.proofs.StationAnswers.{LookMade, LookFull, OfferMade, answers_as}
 use Rattle.connection_laws.proofs.StationAnswers.{FinishesAs, NothingLeft, DoneHalted}
-use Rattle.connection_laws.proofs.StationAnswers.{ClosesAs, NothingOpen, BookingHalted, closes_as}
-use Rattle.connection_laws.proofs.StationAnswers.{ComesAs, BytesCame, SlotCame, comes_as}
+use Rattle.connection_laws.proofs.StationAnswers.{ClosesAs, NothingOpen, BookingHalted}
 use Rattle.std.proofs.lemmas.List.{map-append}
 use Rattle.connection_laws.specs.Notes.{StationCall, outcome_of}
 use Rattle.connection_laws.proofs.CourseTurns.{IsKeptByDoings, doings_kept, turns_told}

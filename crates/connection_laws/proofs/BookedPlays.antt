@@ -1,8 +1,8 @@
 -- The plays of a course are those that its entries record.
 use Rattle.std.specs.Prelude.{⊤}
-use Rattle.std.proofs.Common.{◌≡◌, ℕ, ◌++◌, List, [], ◌∷◌, map, refl, ap, sym, ◌∙◌, subst}
+use Rattle.std.proofs.Common.{◌≡◌, ℕ, ◌++◌, List, [], ◌∷◌, map, refl, ap, sym, ◌∙◌}
 use Rattle.std.proofs.lemmas.List.{map-append}
-use Rattle.vod_base.specs.Links.{IoEvent, HeardBytes, HeardEnd, HeardSlot, Sent}
+use Rattle.vod_base.specs.Links.{IoEvent}
 use Rattle.plan_cert.specs.PlanSlots.{total_bytes}
 use Rattle.slot_calendar.specs.Plays.{truncated_play}
 use Rattle.film_frames.specs.declared.stored_films.Stored.{Stored}
@@ -12,22 +12,20 @@ use Rattle.admission.specs.declared.entries.Answer.TheVariants.{Admitted}
 use Rattle.station.specs.Ledgers.{play_of}
 use Rattle.film_streams.specs.declared.settings.Settings.{Settings}
 use Rattle.session.specs.declared.states.Awaited.{Awaited}
-use Rattle.session.specs.declared.states.Awaited.TheVariants.{Nothing, Play, Halt, Look, Offer}
-use Rattle.session.specs.SlotSteps.{after_slot}
-use Rattle.session.specs.SessionStates.{NoAnswer, SessionState, awaited_answer_of}
-use Rattle.conn.specs.EventSteps.{Comes, Round, entries_in, round_outcomes, rounds_outcomes, takings_outcomes}
+use Rattle.session.specs.declared.states.Awaited.TheVariants.{Play}
+use Rattle.session.specs.SessionStates.{SessionState}
+use Rattle.conn.specs.EventSteps.{Round, entries_in, round_outcomes, rounds_outcomes, takings_outcomes}
 use Rattle.conn.specs.InputSteps.{Outcome, Unasked, Entered, WasFull, Offered, SentPart, Stage, ElementStep, Passed}
 use Rattle.conn.specs.InputSteps.{Answered}
-use Rattle.conn.specs.InputSteps.{IsFinished, TakesAll, entry_in, film_bytes}
+use Rattle.conn.specs.InputSteps.{TakesAll, entry_in}
 use Rattle.connection_laws.specs.Courses.{IsCourseBetween, asked_by, askings_of, first_stage, round_askings}
 use Rattle.connection_laws.specs.Courses.{takings_askings}
 use Rattle.connection_laws.specs.Plays.{StationRequest, Asks, plays_admitted, plays_begun, booked_by, booked_plays}
 use Rattle.connection_laws.specs.Plays.{booking_of}
 use Rattle.connection_laws.specs.Plays.{kept_among, kept_in, kept_with, plays_of}
-use Rattle.connection_laws.proofs.FilmBytes.{Stands, opened_stands, round_step, stands_by, taken_stands}
 use Rattle.connection_laws.proofs.RequestEffects.{Ends, Starts, Stays, TurnsAs, told_by, turns_as}
 use Rattle.connection_laws.proofs.StationAnswers.{FinishesAs, NothingLeft, DoneHalted}
-use Rattle.connection_laws.proofs.StationAnswers.{ComesAs, BytesCame, SlotCame, comes_as}
+use Rattle.connection_laws.proofs.StationAnswers.{ComesAs, BytesCame, SlotCame}
 use Rattle.connection_laws.proofs.CourseAskings.{IsKeptByAskings, course_kept}
 
 -- the play that begins is the one that the entry records, if any

@@ -21,7 +21,6 @@ use Rattle.rtsp_text.specs.Requests.{IsRequest}
 use Rattle.rtsp_text.specs.RequestTexts.{request_head}
 use Rattle.rtsp_text.proofs.MessageUniqueness.{request_once}
 use Rattle.vod_base.specs.Names.{good_name, is_name_byte}
-use Rattle.vod_base.specs.Links.{IoEvent, HeardBytes, HeardEnd, HeardSlot, Sent}
 use Rattle.session.specs.declared.commands.Ask.{Ask}
 use Rattle.session.specs.declared.commands.Ask.TheVariants.{Reply as AskReply, Play as AskPlay, Halt as AskHalt}
 use Rattle.session.specs.declared.commands.Ask.TheVariants.{Look as AskLook, Offer as AskOffer}
@@ -39,13 +38,10 @@ use Rattle.session_laws.proofs.PauseTeardownLemmas.{teardown_ends}
 use Rattle.session_laws.proofs.CompleteReplyLemmas.{keeps_named, replies_whole}
 use Rattle.conn.specs.EventSteps.{Round, Runs}
 use Rattle.conn.specs.InputSteps.{Answered, Entered, HasHeard, IsAskAnswered, IsLookAnswered, IsPlayAnswered, IsReplied}
-use Rattle.conn.specs.InputSteps.{Offered}
-use Rattle.conn.specs.InputSteps.{Outcome, SentPart, Passed, Stage, ElementStep, TakesAll, Unasked, WasFull}
-use Rattle.conn.proofs.EventPremises.{EventCome}
-use Rattle.conn.proofs.ReplyContents.{halted_text}
+use Rattle.conn.specs.InputSteps.{Outcome, SentPart, Passed, Stage, ElementStep, TakesAll}
 use Rattle.connection_laws.specs.Courses.{IsCourseBetween}
 use Rattle.connection_laws.specs.Replies.{PlacedText, replies_of, takings_replies, text_of}
-use Rattle.connection_laws.proofs.KeptParts.{answered_names, names_in, replied_names, stepped_names}
+use Rattle.connection_laws.proofs.KeptParts.{answered_names, names_in, replied_names}
 use Rattle.connection_laws.proofs.Requests.{rounds_requests, takings_requests}
 use Rattle.connection_laws.proofs.SetupOnly.{Beginning}
 use Rattle.connection_laws.proofs.KeptSetups.{IsSameSetup, halted_setup, opened_setup, replied_setup}
@@ -53,8 +49,6 @@ use Rattle.connection_laws.proofs.PrintedTexts.{IsPrinted, printed_w64}
 use Rattle.connection_laws.specs.WatchEnds.{AreAnswers}
 use Rattle.connection_laws.proofs.ReplyReadings.{teardown_read as read_teardown}
 use Rattle.connection_laws.proofs.RequestReplies.{IsNamed, named_still, teardown_replied}
-use Rattle.connection_laws.proofs.StationAnswers.{FinishesAs, NothingLeft, DoneHalted, nothing_left}
-use Rattle.connection_laws.proofs.StationAnswers.{ComesAs, BytesCame, SlotCame, comes_as}
 use Rattle.connection_laws.proofs.StationAnswers.{AnswersAs, NoneAsked, PlayAdmitted, PlayRefused, PlayFull, PlayHalted}
 use Rattle.connection_laws.proofs.StationAnswers.{LookMade, LookFull, OfferMade, answers_as}
 

@@ -1,45 +1,30 @@
 -- The notes of a connection's report, event by event.
-use Rattle.std.proofs.Common.{◌≡◌, ℕ, ◌++◌, ◌&&◌, if◌then◌else◌, Bool, true, false, List, [], ◌∷◌, None, length, map}
+use Rattle.std.proofs.Common.{◌≡◌, ℕ, ◌++◌, ◌&&◌, if◌then◌else◌, Bool, true, false, List, [], ◌∷◌, None}
 use Rattle.std.proofs.Common.{refl, sym, ap, subst, ◌∙◌}
-use Rattle.std.proofs.lemmas.List.{append-nil, map-append}
-use Rattle.vod_base.specs.Links.{IoEvent, HeardBytes, HeardEnd, HeardSlot, Sent}
+use Rattle.std.proofs.lemmas.List.{append-nil}
 use Rattle.film_frames.specs.declared.stored_films.Stored.{Stored}
 use Rattle.film_streams.specs.declared.settings.Settings.{Settings}
 use Rattle.session.specs.declared.states.Awaited.{Awaited}
-use Rattle.session.specs.declared.states.Awaited.TheVariants.{Nothing, Play, Halt, Look, Offer}
+use Rattle.session.specs.declared.states.Awaited.TheVariants.{Nothing, Play, Halt}
 use Rattle.session.specs.declared.states.AfterHalt.{AfterHalt}
 use Rattle.session.specs.declared.states.State.{State}
 use Rattle.session.specs.declared.states.State.TheVariants.{Init, Ready, Playing, Stopping}
-use Rattle.session.specs.SlotSteps.{can_reply, due_state, after_play, is_between, is_sending}
+use Rattle.session.specs.SlotSteps.{due_state, after_play, is_between, is_sending}
 use Rattle.session.specs.SlotSteps.{is_taken, kept_of, sent_due, sent_reply, sent_slot, after_slot}
 use Rattle.session.specs.SlotSteps.{stepped_in}
-use Rattle.session.specs.SessionStates.{NoAnswer, SessionState, awaited_answer_of, open_in}
+use Rattle.session.specs.SessionStates.{SessionState, open_in}
 use Rattle.session.specs.SlotTransitions.{IsCarried, after_stop}
-use Rattle.conn.specs.EventSteps.{Comes, Ending, Unheard, PeerEnded, Overfull, AtElement, InSlot, InReply}
-use Rattle.conn.specs.EventSteps.{Ends, Round, Runs, RunsAll, ending_outcomes, round_outcomes}
-use Rattle.conn.specs.EventSteps.{rounds_outcomes, takings_outcomes}
-use Rattle.conn.specs.InputSteps.{IsClosed, IsFinished, IsHalted, Outcome, Unasked, Entered, WasFull}
-use Rattle.conn.specs.InputSteps.{Offered, SentPart, Stage, ElementStep, Passed, Answered, TakesAll, after_reply}
-use Rattle.conn.specs.InputSteps.{film_bytes}
-use Rattle.conn.specs.declared.reports.ConnEnd.{ConnEnd}
+use Rattle.conn.specs.InputSteps.{Outcome, Unasked}
 use Rattle.conn.specs.declared.reports.ConnReport.{ConnReport}
-use Rattle.conn.specs.Agreement.{Activity, HasDone, doings_outcomes}
-use Rattle.conn.specs.Films.{rounds_film}
-use Rattle.connection_laws.specs.Courses.{askings_of, first_stage, round_askings}
-use Rattle.connection_laws.specs.Notes.{StationCall, asking_at, ending_calls, notes_of_calls, notes_of}
-use Rattle.connection_laws.specs.Notes.{outcome_of, round_calls, rounds_calls, taken_calls, station_call}
+use Rattle.conn.specs.Agreement.{Activity, HasDone}
+use Rattle.connection_laws.specs.Notes.{StationCall, notes_of_calls, notes_of}
+use Rattle.connection_laws.specs.Notes.{station_call}
 use Rattle.connection_laws.specs.Notes.{station_calls}
-use Rattle.connection_laws.proofs.FilmBytes.{Stands, course_step, round_step, stands_by, turn_after}
-use Rattle.connection_laws.proofs.RequestEffects.{turns_as}
-use Rattle.connection_laws.proofs.CourseJoins.{follows_all}
 use Rattle.connection_laws.proofs.PlayNotes.{Carries, IsKept, carries_as, carries_none, carries_then}
 use Rattle.connection_laws.proofs.PlayNotes.{halt_turn, halted_open, heard_on, no_halt_note, no_note}
 use Rattle.connection_laws.proofs.PlayNotes.{notes_until, open_note, unasked_turn}
-use Rattle.session.proofs.StepInvariantLemmas.{nothing_of}
-use Rattle.conn.proofs.ReplyContents.{CourseEnd}
 use Rattle.connection_laws.proofs.StationAnswers.{FinishesAs, NothingLeft, DoneHalted}
 use Rattle.connection_laws.proofs.StationAnswers.{ClosesAs, NothingOpen, BookingHalted, closes_as}
-use Rattle.connection_laws.proofs.StationAnswers.{ComesAs, BytesCame, SlotCame, comes_as}
 use Rattle.connection_laws.proofs.CourseTurns.{IsKeptByDoings, doings_kept, last_rest}
 use Rattle.std.proofs.Common.{Option, Some}
 use Rattle.session.specs.SessionStates.{OpenBooking, open_of}

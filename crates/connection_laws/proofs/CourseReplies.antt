@@ -1,25 +1,23 @@
 -- The replies of a connection's course, one after another, each at its place.
-use Rattle.std.proofs.Common.{◌≡◌, ℕ, ◌+◌, ◌-◌, ◌^◌, ◌<◌, ◌≤◌, ◌++◌, Bool, nat_lt, nat_le, min, max}
+use Rattle.std.proofs.Common.{◌≡◌, ℕ, ◌+◌, ◌-◌, ◌<◌, ◌≤◌, ◌++◌, Bool, min, max}
 use Rattle.std.proofs.Common.{List, [], ◌∷◌, Option, Some, None, refl, ap, sym, ◌∙◌, subst, inl}
 use Rattle.std.proofs.Common.{inr, arith}
-use Rattle.std.proofs.lemmas.Bool.{ltb-true, and_parts}
 use Rattle.std.proofs.lemmas.List.{append-nil}
-use Rattle.vod_base.specs.Links.{IoEvent, HeardBytes, HeardEnd, HeardSlot, Sent}
+use Rattle.vod_base.specs.Links.{IoEvent}
 use Rattle.film_frames.specs.declared.stored_films.Stored.{Stored}
 use Rattle.plan_cert.specs.PlanSlots.{total_bytes}
 use Rattle.pacer.specs.PacerStates.{PacerState, first_slots}
 use Rattle.film_streams.specs.declared.settings.Settings.{Settings}
 use Rattle.session.specs.declared.states.Awaited.TheVariants.{Nothing}
-use Rattle.session.specs.SlotSteps.{after_slot}
 use Rattle.conn.specs.Films.{rounds_parts, takings_parts}
-use Rattle.conn.specs.EventSteps.{Comes, Round, Runs}
+use Rattle.conn.specs.EventSteps.{Round, Runs}
 use Rattle.conn.specs.InputSteps.{Outcome, SentPart, Stage}
 use Rattle.connection_laws.specs.Courses.{IsCourseBetween, asked_by, askings_of, first_stage, greatest_slot}
 use Rattle.connection_laws.specs.Courses.{round_askings, slot_in}
 use Rattle.connection_laws.specs.ReplyPlaces.{AreSentAt, IsBoundaryIn, slots_from, takings_slots}
 use Rattle.connection_laws.specs.Plays.{StationRequest, Asks, due_by as all_due, due_of, plays_of}
 use Rattle.connection_laws.specs.Replies.{placed_texts}
-use Rattle.connection_laws.proofs.FilmBytes.{Stands, course_step, opened_rest, opened_stands, round_step, stands_by}
+use Rattle.connection_laws.proofs.FilmBytes.{Stands, course_step, opened_stands, round_step, stands_by}
 use Rattle.connection_laws.proofs.JoinedFilms.{IsOnTime, IsSound, play_with}
 use Rattle.connection_laws.proofs.KeptParts.{takes_heard}
 use Rattle.connection_laws.proofs.GreatestSlots.{comes_heard, course_heard}
@@ -28,7 +26,6 @@ use Rattle.connection_laws.proofs.RequestEffects.{Going, Idle, Ending, Sends, se
 use Rattle.connection_laws.proofs.WaitingReplies.{Fits, IsHeld, IsHeldUp, Stand, due_going, due_here, point}
 use Rattle.connection_laws.proofs.SessionMoves.{HeldIn, Move, move_none, move_then, takes_move}
 use Rattle.connection_laws.proofs.SlotMoves.{StandingHeld, slot_move, still_move}
-use Rattle.connection_laws.proofs.StationAnswers.{FinishesAs, NothingLeft, DoneHalted, nothing_left}
 use Rattle.connection_laws.proofs.StationAnswers.{ComesAs, BytesCame, SlotCame, comes_as}
 
 comes_move : {old opened : Stage} {event : IoEvent} {due : List SentPart} {halt : Outcome} {pending : Option ℕ}

@@ -426,6 +426,10 @@ answers_from {turn} {again} {xs} {ys} {ones} {others} alike =
     (subst (λ os. AreSameAnswers ((answer_in turn.outcome ++ elements_answers xs) ++ ones) os)
     (append_assoc (answer_in again.outcome) (elements_answers ys) others) alike.answers)
 
+passing_films : {old new : Stage} {n : ℕ} → IsPassing old n new → AreFilms old.session.films
+    → AreFilms new.session.films
+passing_films passing films = subst AreFilms (sym (ap (λ (s : Stage). s.session.films) passing.new_is)) films
+
 overs_same : {old one other : Stage} {n m : ℕ} → IsPassing old n one → IsPassing old m other → other ≡ one
 overs_same {old} {n = n} {m = m} is also =
     let size : m ≡ n =
@@ -443,10 +447,8 @@ ends_same {one} {other} {old} [] (y ∷ ys) films way other_way alike =
 ends_same {one} {other} {old} (x ∷ xs) [] films way other_way alike =
     absurd (done_goes old way.goes.0 x (subst IsDrained other_way.goes other_way.done) way.goes.1.0)
 ends_same {one} {other} {old} (Over n ∷ xs) (Over m ∷ ys) films way other_way alike =
-    let same : too.0 ≡ goes.0 = overs_same goes.1.0 too.1.0 in
-    let kept = subst AreFilms (sym (ap (λ (s : Stage). s.session.films) goes.1.0.new_is)) films in
-    ends_same xs ys kept (record { goes = goes.1.1; done = done })
-    (record { goes = subst (λ s. GoesAll s ys other) same too.1.1; done = stops })
+    ends_same xs ys (passing_films goes.1.0 films) (record { goes = goes.1.1; done = done })
+    (record { goes = subst (λ s. GoesAll s ys other) (overs_same goes.1.0 too.1.0) too.1.1; done = stops })
     (record { answers = alike.answers; memory = alike.memory })
   where
     open way use {goes, done}
@@ -459,11 +461,11 @@ ends_same {other = other} {ones} {others} {old = old} (RequestElement turn ∷ x
     other_way alike =
     let both = turns_same {old = old} {turn = turn} {again = again}
     (record { ones = elements_answers xs ++ ones; others = elements_answers ys ++ others; same = answers_from alike })
-    (record { one = goes.0; other = too.0; films = films; taken = goes.1.0; also = too.1.0; alike = memory.0 }) in
+    (record { one = goes.0; other = too.0; films = films; taken = goes.1.0; also = too.1.0; alike = alike.memory.0 }) in
     let kept : AreFilms goes.0.session.films = subst AreFilms (sym (taken_films old goes.0 turn goes.1.0)) films in
     let rest = ends_same xs ys kept (record { goes = goes.1.1; done = done })
     (record { goes = subst (λ s. GoesAll s ys other) both.0 too.1.1; done = stops })
-    (record { answers = both.2; memory = memory.1 }) in
+    (record { answers = both.2; memory = alike.memory.1 }) in
     record {
       last = rest.last;
       bytes = ap (λ bs. bs ++ elements_bytes ys) both.1
@@ -474,4 +476,3 @@ ends_same {other = other} {ones} {others} {old = old} (RequestElement turn ∷ x
   where
     open way use {goes, done}
     open other_way use {goes as too, done as stops}
-    open alike use {memory}

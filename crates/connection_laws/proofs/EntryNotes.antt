@@ -1,53 +1,38 @@
 -- Each play that a connection's entries admit has its note.
 use Rattle.std.specs.Prelude.{⊤}
-use Rattle.std.proofs.Common.{◌≡◌, ℕ, ◌++◌, List, [], ◌∷◌, Option, Some, None, length, map, refl, sym, ap, subst, ◌∙◌}
+use Rattle.std.proofs.Common.{◌≡◌, ℕ, ◌++◌, List, [], ◌∷◌, Option, Some, None, map, refl, sym, ap, ◌∙◌}
 use Rattle.std.proofs.lemmas.List.{map-append}
-use Rattle.vod_base.specs.Links.{IoEvent, HeardBytes, HeardEnd, HeardSlot, Sent}
 use Rattle.film_frames.specs.declared.stored_films.Stored.{Stored}
 use Rattle.film_run.specs.declared.runs.Run.{Run}
-use Rattle.plan_cert.specs.declared.Segment.{Segment}
 use Rattle.slot_calendar.specs.Plays.{Play as Booked, truncated_play}
-use Rattle.early_start.specs.StartSearch.{Offers}
 use Rattle.admission.specs.Histories.{play_admitted}
 use Rattle.admission.specs.Makers.{PlacedEntry}
 use Rattle.station.specs.Ledgers.{play_of}
-use Rattle.session.specs.declared.commands.Ask.{Ask}
-use Rattle.session.specs.declared.commands.Ask.TheVariants.{Reply as AskReply, Play as AskPlay, Look as AskLook}
-use Rattle.session.specs.declared.commands.Ask.TheVariants.{Offer as AskOffer}
 use Rattle.film_streams.specs.declared.settings.Settings.{Settings}
 use Rattle.session.specs.declared.states.Awaited.{Awaited}
-use Rattle.session.specs.declared.states.Awaited.TheVariants.{Nothing, Play, Halt, Look, Offer}
+use Rattle.session.specs.declared.states.Awaited.TheVariants.{Nothing, Play, Halt, Look}
 use Rattle.session.specs.declared.states.AfterHalt.{AfterHalt}
 use Rattle.session.specs.declared.states.Prepared.{Prepared}
 use Rattle.film_streams.specs.declared.setups.Setup.{Setup}
-use Rattle.session.specs.declared.states.State.{State}
-use Rattle.session.specs.declared.states.State.TheVariants.{Init, Ready, Playing, Stopping}
-use Rattle.session.specs.SlotSteps.{after_slot}
-use Rattle.session.specs.SessionStates.{NoAnswer, SessionState, awaited_answer_of, open_in}
-use Rattle.session_laws.proofs.RequestShapes.{HearsAs, Replies, SetsUp, AsksPlay, Stops, AsksLook, AsksOffer, hears_as}
+use Rattle.session.specs.SessionStates.{SessionState}
 use Rattle.conn.specs.Agreement.{Activity, HasDone, doings_outcomes}
-use Rattle.conn.specs.EventSteps.{Comes, Ending, Unheard, PeerEnded, Overfull, AtElement, InSlot, InReply}
-use Rattle.conn.specs.EventSteps.{Ends, Round, Runs, RunsAll, entries_in}
-use Rattle.conn.specs.InputSteps.{HasHeard, IsAskAnswered, IsClosed, IsFinished, IsHalted, Outcome, Unasked, Entered}
+use Rattle.conn.specs.EventSteps.{entries_in}
+use Rattle.conn.specs.InputSteps.{Outcome, Unasked, Entered}
 use Rattle.conn.specs.InputSteps.{WasFull}
-use Rattle.conn.specs.InputSteps.{Offered, SentPart, Stage, ElementStep, Passed, Answered, TakesAll, entry_in}
-use Rattle.conn.specs.declared.reports.ConnEnd.{ConnEnd}
+use Rattle.conn.specs.InputSteps.{Offered, entry_in}
 use Rattle.conn.specs.declared.reports.ConnReport.{ConnReport}
-use Rattle.connection_laws.specs.Courses.{first_stage}
-use Rattle.connection_laws.specs.Notes.{StationCall, asking_at, ending_calls, kept_later, noted_for, noted_play}
-use Rattle.connection_laws.specs.Notes.{notes_of, notes_of_calls, outcome_of, placed_play, placed_plays, round_calls}
-use Rattle.connection_laws.specs.Notes.{PlacedPlay, rounds_calls, taken_calls, station_call, station_calls}
+use Rattle.connection_laws.specs.Notes.{StationCall, kept_later, noted_for, noted_play}
+use Rattle.connection_laws.specs.Notes.{notes_of, notes_of_calls, outcome_of, placed_play, placed_plays}
+use Rattle.connection_laws.specs.Notes.{PlacedPlay, station_calls}
 use Rattle.connection_laws.specs.Plays.{booked_by, kept_among, kept_with}
-use Rattle.connection_laws.proofs.FilmBytes.{Stands}
 use Rattle.connection_laws.proofs.CourseTurns.{IsKeptByDoings, doings_kept, turns_told}
 use Rattle.connection_laws.proofs.CourseNotes.{plays_noted}
 use Rattle.connection_laws.proofs.StationAnswers.{FinishesAs, NothingLeft, DoneHalted}
-use Rattle.connection_laws.proofs.StationAnswers.{ClosesAs, NothingOpen, BookingHalted, closes_as}
-use Rattle.connection_laws.proofs.StationAnswers.{ComesAs, BytesCame, SlotCame, comes_as}
+use Rattle.connection_laws.proofs.StationAnswers.{ClosesAs, NothingOpen, BookingHalted}
 use Rattle.connection_laws.proofs.RequestAnswers.{RequestAnswer, OwnReply, SetupReply, Admission, Refusal, HaltMade}
 use Rattle.connection_laws.proofs.RequestAnswers.{LookAnswer, JournalFull, OfferAnswer, PlayRequest, request_answer}
 use Rattle.connection_laws.proofs.PlayNotes.{begun_note, no_note}
-use Rattle.session.specs.SessionStates.{OpenBooking, open_of}
+use Rattle.session.specs.SessionStates.{OpenBooking}
 use Rattle.conn.specs.InputSteps.{IsHaltAnswered}
 
 -- the play that an answer's entry records

@@ -5,7 +5,7 @@ use Rattle.std.proofs.Common.{arith}
 use Rattle.conn.proofs.PlayProgress.{reply_state, reply_heard}
 use Rattle.std.proofs.lemmas.Bool.{eqb-true, ltb-true, true≢false, and_parts}
 use Rattle.std.proofs.lemmas.List.{append-nil}
-use Rattle.vod_base.specs.Links.{IoEvent, HeardBytes, HeardEnd, HeardSlot, Sent}
+use Rattle.vod_base.specs.Links.{IoEvent}
 use Rattle.pacer.specs.PacerStates.{PacerState, is_done}
 use Rattle.plan_cert.specs.PlanSlots.{total_bytes}
 use Rattle.admission.specs.declared.entries.Command.TheVariants.{Halt as HaltCommand}
@@ -20,11 +20,11 @@ use Rattle.session.specs.declared.states.State.TheVariants.{Init, Ready, Playing
 use Rattle.session.specs.SlotSteps.{can_reply, after_play, halted_in, is_between, is_done_in}
 use Rattle.session.specs.SlotSteps.{is_sending, sent_due, sent_in, sent_reply, sent_slot, after_slot}
 use Rattle.session.specs.SlotSteps.{stepped_in}
-use Rattle.session.specs.SessionStates.{NoAnswer, SessionState, awaited_answer, awaited_answer_of}
+use Rattle.session.specs.SessionStates.{SessionState}
 use Rattle.conn.specs.Films.{rounds_film}
-use Rattle.conn.specs.EventSteps.{Comes, Round, Runs}
-use Rattle.conn.specs.InputSteps.{Outcome, Unasked, Entered, WasFull, Offered, SentPart, Stage, ElementStep}
-use Rattle.conn.specs.InputSteps.{Passed, Answered, IsFinished, IsHaltAnswered, IsHalted, IsReplied}
+use Rattle.conn.specs.EventSteps.{Round, Runs}
+use Rattle.conn.specs.InputSteps.{Outcome, Unasked, Entered, SentPart, Stage, ElementStep}
+use Rattle.conn.specs.InputSteps.{Passed, Answered, IsHaltAnswered, IsReplied}
 use Rattle.conn.specs.InputSteps.{Takes, TakesAll, after_reply, due_parts, film_bytes, slot_parts}
 use Rattle.connection_laws.specs.Courses.{IsCourseBetween, asked_by, askings_of, round_askings, takings_askings}
 use Rattle.connection_laws.specs.Plays.{StationRequest, Asks, plays_admitted, plays_begun, kept_by, kept_in, kept_with}

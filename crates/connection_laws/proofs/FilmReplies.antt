@@ -18,7 +18,7 @@ use Rattle.rtsp_text.specs.Replies.{Field, field_line, reply_front, reply_text}
 use Rattle.rtsp_text.proofs.UrlBytes.{name_in_url}
 use Rattle.vod_base.specs.Names.{good_name, is_name_byte}
 use Rattle.film_streams.specs.Films.{IsFilmAt, length_ms}
-use Rattle.rtsp_replies.specs.Replies.{field, play_fields, play_text as play_reply}
+use Rattle.rtsp_replies.specs.Replies.{field, play_fields}
 use Rattle.rtsp_replies.specs.Replies.{started_text}
 use Rattle.session_laws.specs.MethodLaws.{setup_in}
 use Rattle.session.specs.SessionStates.{SessionState, has_session_in}

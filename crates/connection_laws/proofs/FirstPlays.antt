@@ -10,7 +10,6 @@ use Rattle.film_run.specs.Units.{stored_sizes}
 use Rattle.mpeg_scan.specs.StartCodes.{read_after}
 use Rattle.mpeg_scan.specs.PictureRates.{picture_time}
 use Rattle.mpeg_scan.proofs.FilmBoundLemmas.{film-rate}
-use Rattle.plan_cert.specs.declared.Segment.{Segment}
 use Rattle.rtp_pack.specs.declared.reports.Identity.{Identity}
 use Rattle.rtsp_client.specs.RequestParts.{play_parts}
 use Rattle.rtsp_client.specs.Requests.{film_url, play_text}

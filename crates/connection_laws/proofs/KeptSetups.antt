@@ -13,9 +13,8 @@ use Rattle.session.specs.SlotSteps.{halted_in, next_of, state_once_halted}
 use Rattle.session.specs.SessionStates.{SessionState}
 use Rattle.session.specs.SlotSteps.{after_slot, can_reply, is_between, stepped_in}
 use Rattle.session.specs.SlotTransitions.{after_stop}
-use Rattle.conn.proofs.HaltAnswers.{halted_same}
 use Rattle.conn.specs.EventSteps.{Round, Runs}
-use Rattle.conn.specs.InputSteps.{IsHalted, Outcome, SentPart, Stage, after_reply}
+use Rattle.conn.specs.InputSteps.{Outcome, SentPart, Stage, after_reply}
 use Rattle.connection_laws.proofs.StationAnswers.{ComesAs, BytesCame, SlotCame, comes_as}
 use Rattle.connection_laws.proofs.StationAnswers.{FinishesAs, NothingLeft, DoneHalted}
 use Rattle.connection_laws.proofs.KeptParts.{finish_keeps, names_in, replied_names, reply_keeps, same_names}

@@ -3,19 +3,13 @@ use Rattle.std.proofs.Common.{◌≡◌, ℕ, ◌-◌, ◌++◌, List, Option, c
 use Rattle.std.proofs.lemmas.List.{append_assoc}
 use Rattle.std.specs.Fmt.{digits}
 use Rattle.rtsp_text.specs.Replies.{Field, field_line, reply_front, reply_text, status_line}
-use Rattle.admission.specs.declared.entries.Answer.{Answer}
-use Rattle.admission.specs.declared.entries.Answer.TheVariants.{Admitted, Halted, Looked, Overflow}
-use Rattle.admission.specs.Makers.{PlacedEntry}
 use Rattle.session.specs.declared.commands.Ask.{Ask}
-use Rattle.session.specs.declared.commands.Ask.TheVariants.{Reply as AskReply, Play as AskPlay, Halt as AskHalt}
-use Rattle.session.specs.declared.commands.Ask.TheVariants.{Look as AskLook, Offer as AskOffer}
 use Rattle.session.specs.Laws.{Is500, NeverLacks}
 use Rattle.rtsp_replies.specs.Replies.{field, full_text, overflow_text}
 use Rattle.session.specs.RequestEffects.{HasCode}
 use Rattle.session.specs.SessionStates.{SessionState}
 use Rattle.session.proofs.ReplyCodeLemmas.{hears_may, hears_never}
-use Rattle.conn.specs.InputSteps.{HasHeard, IsAskAnswered, IsHalted, IsLookAnswered, IsPlayAnswered, Outcome, Unasked}
-use Rattle.conn.specs.InputSteps.{Entered, WasFull, Offered}
+use Rattle.conn.specs.InputSteps.{HasHeard, Outcome}
 use Rattle.connection_laws.specs.Courses.{Course}
 use Rattle.connection_laws.specs.LookLimits.{MayLackMemory}
 use Rattle.connection_laws.proofs.PlayRuns.{looks_used}

@@ -1,5 +1,5 @@
 -- A report's missed slots are those of its events.
-use Rattle.std.proofs.Common.{◌≡◌, ℕ, ◌+◌, ◌&&◌, if◌then◌else◌, Option, Some, None, Bool, true, false, List, [], ◌∷◌}
+use Rattle.std.proofs.Common.{◌≡◌, ℕ, ◌+◌, ◌&&◌, if◌then◌else◌, Option, Bool, true, false, List, [], ◌∷◌}
 use Rattle.std.proofs.Common.{length, arith, refl, sym, ap, ◌∙◌}
 use Rattle.std.proofs.lemmas.Bool.{and_from}
 use Rattle.vod_base.specs.Links.{IoEvent}

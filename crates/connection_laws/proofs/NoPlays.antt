@@ -14,8 +14,7 @@ use Rattle.session_laws.proofs.PlayInReadyLemmas.{play_heard}
 use Rattle.connection_laws.proofs.Requests.{rounds_requests, takings_requests}
 use Rattle.connection_laws.proofs.ServedPlays.{comes_none}
 use Rattle.connection_laws.proofs.RequestEffects.{Begins, Ends, Starts, Stays, TurnsAs, turns_as}
-use Rattle.connection_laws.proofs.StationAnswers.{FinishesAs, NothingLeft, DoneHalted, nothing_left}
-use Rattle.connection_laws.proofs.StationAnswers.{ComesAs, BytesCame, SlotCame, comes_as}
+use Rattle.connection_laws.proofs.StationAnswers.{comes_as}
 
 abbrev pub IsNoPlay : List ℕ → Type 0
 IsNoPlay message = (request : Request) → IsReadAs message request → request.method.now ≢ codes "PLAY"

@@ -304,6 +304,18 @@ record TakenFirst (old new : Stage) : Type 0 where
   takings : List ElementStep
   takes : TakesAll mid takings new
 
+abbrev taken_first : {old new : Stage} (message : List ℕ) (outcome : Outcome) (parts : List SentPart)
+    (takings : List ElementStep) → TakesAll old (Answered message outcome parts ∷ takings) new → TakenFirst old new
+taken_first message outcome parts takings takes = record {
+  mid = takes.0;
+  message = message;
+  outcome = outcome;
+  parts = parts;
+  replied = takes.1.0;
+  takings = takings;
+  takes = takes.1.1;
+}
+
 abbrev from_first : {old new : Stage} → ℕ → TakenFirst old new → Later → Later
 from_first {old} {new} slot first later =
     from_takings slot old (Answered first.message first.outcome first.parts ∷ first.takings) new
@@ -446,29 +458,13 @@ takings_walk {b} {out} {slot} {later} {ahead} old new (Passed n ∷ takings) tak
     λ s. IsAhead b out s slot ahead (from_takings slot takes.0 takings new takes.1.1 later) in
     subst P same (takings_walk {ahead = ahead} takes.0 new takings takes.1.1 leads (subst A (sym same) is))
 takings_walk {ahead = []} old new (Answered message outcome parts ∷ takings) takes leads is =
-    let first : TakenFirst old new = record {
-      mid = takes.0;
-      message = message;
-      outcome = outcome;
-      parts = parts;
-      replied = takes.1.0;
-      takings = takings;
-      takes = takes.1.1;
-    } in
+    let first : TakenFirst old new = taken_first message outcome parts takings takes in
     play_walk first leads is
 takings_walk {ahead = one ∷ two ∷ ahead} old new (Answered message outcome parts ∷ takings) takes leads is =
     absurd is.fresh
 takings_walk {b} {out} {slot} {later} {ahead = one ∷ []} old new (Answered message outcome parts ∷ takings) takes leads
     is =
-    let first : TakenFirst old new = record {
-      mid = takes.0;
-      message = message;
-      outcome = outcome;
-      parts = parts;
-      replied = takes.1.0;
-      takings = takings;
-      takes = takes.1.1;
-    } in
+    let first : TakenFirst old new = taken_first message outcome parts takings takes in
     let setup : IsSetupFirst b out slot later first = (one, is) in
     setup_walk later first setup
     (takings_walk {ahead = []} takes.0 new takings takes.1.1 leads (setup_first later first setup).1)

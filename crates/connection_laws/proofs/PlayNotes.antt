@@ -1,19 +1,12 @@
 -- A report's notes are those of the plays that were admitted.
 use Rattle.std.proofs.Common.{◌≡◌, ℕ, ◌++◌, List, [], ◌∷◌, Option, refl, sym, ap, subst, ◌∙◌}
 use Rattle.std.proofs.lemmas.List.{append_assoc, append-nil}
-use Rattle.plan_cert.specs.declared.Segment.{Segment}
 use Rattle.plan_cert.specs.PlanSlots.{total_bytes}
 use Rattle.slot_calendar.specs.Plays.{whole_play}
 use Rattle.film_run.specs.declared.runs.Run.{Run}
-use Rattle.early_start.specs.StartSearch.{Offers}
 use Rattle.admission.specs.Histories.{play_admitted}
 use Rattle.admission.specs.Makers.{PlacedEntry}
-use Rattle.admission.specs.declared.entries.Answer.{Answer}
-use Rattle.admission.specs.declared.entries.Answer.TheVariants.{Admitted, Halted, Looked, Overflow}
-use Rattle.station.specs.Ledgers.{look_at, play_of}
-use Rattle.session.specs.declared.commands.Ask.{Ask}
-use Rattle.session.specs.declared.commands.Ask.TheVariants.{Reply as AskReply, Play as AskPlay, Look as AskLook}
-use Rattle.session.specs.declared.commands.Ask.TheVariants.{Offer as AskOffer}
+use Rattle.station.specs.Ledgers.{play_of}
 use Rattle.session_records.specs.declared.notes.PlayNote.{PlayNote}
 use Rattle.session.specs.declared.states.Awaited.{Awaited}
 use Rattle.session.specs.declared.states.Awaited.TheVariants.{Nothing, Play, Halt, Look, Offer}
@@ -27,9 +20,8 @@ use Rattle.session.specs.declared.states.State.TheVariants.{Init, Ready, Playing
 use Rattle.session.specs.RequestSteps.{after_halt}
 use Rattle.session.specs.SlotSteps.{admitted_in, halted_in, halted_notes, kept_of, note_of, state_once_halted}
 use Rattle.session.specs.SessionStates.{SessionState}
-use Rattle.session_laws.proofs.RequestShapes.{HearsAs, Replies, SetsUp, AsksPlay, Stops, AsksLook, AsksOffer, hears_as}
 use Rattle.conn.specs.InputSteps.{HasHeard, IsHaltAnswered, Outcome, Unasked}
-use Rattle.conn.specs.InputSteps.{Entered, WasFull, Offered}
+use Rattle.conn.specs.InputSteps.{Entered}
 use Rattle.connection_laws.specs.Notes.{StationCall, kept_later, note_for, notes_of_calls, noted_entry, noted_for}
 use Rattle.connection_laws.specs.Notes.{station_call}
 use Rattle.connection_laws.specs.Plays.{kept_by, kept_with}

@@ -5,7 +5,7 @@ use Rattle.std.proofs.Common.{subst, ◌∙◌, inl, inr, arith}
 use Rattle.std.proofs.lemmas.Bool.{true≢false}
 use Rattle.std.proofs.lemmas.List.{append_assoc, append-nil}
 use Rattle.plan_cert.specs.PlanSlots.{total_bytes}
-use Rattle.vod_base.specs.Links.{IoEvent, HeardBytes, HeardEnd, HeardSlot, Sent}
+use Rattle.vod_base.specs.Links.{IoEvent}
 use Rattle.film_frames.specs.declared.stored_films.Stored.{Stored}
 use Rattle.film_frames.specs.FramedRuns.{FramedRun, frames_before, octets_before, run_of, run_pieces}
 use Rattle.plan_cert.specs.declared.Segment.{Segment}
@@ -37,24 +37,21 @@ use Rattle.session.specs.Laws.{GoesOn}
 use Rattle.session.specs.RequestSteps.{after_admission, after_halt, counts_done}
 use Rattle.film_streams.specs.StreamNumbers.{source_of}
 use Rattle.session.specs.RunRequests.{counts_before}
-use Rattle.session.specs.SessionStates.{NoAnswer, SessionState, awaited_answer, awaited_answer_of}
+use Rattle.session.specs.SessionStates.{SessionState}
 use Rattle.session.specs.SlotSteps.{admitted_in, after_play, after_slot, can_reply, due_state, finished_in, is_between, is_sending}
 use Rattle.session.specs.SlotSteps.{is_done_in, is_taken, sent_due, sent_reply, sent_slot}
 use Rattle.session.specs.SlotSteps.{stepped_in}
 use Rattle.session.specs.SlotTransitions.{after_stop}
 use Rattle.session_laws.proofs.RunLemmas.{IsLeftBy, IsNextRun, RunsAs, Replies, SetsUp, AsksPlay, Stops, AsksLook}
 use Rattle.session_laws.proofs.RunLemmas.{AsksOffer, one_film, run_goes_on, runs_as}
-use Rattle.conn.specs.EventSteps.{Comes, Round}
-use Rattle.conn.specs.InputSteps.{IsAskAnswered, IsFinished, IsHalted, IsLookAnswered, IsPlayAnswered}
-use Rattle.conn.specs.InputSteps.{IsReplied, Outcome, Unasked, Entered, WasFull, Offered, SentPart, Stage, ElementStep}
-use Rattle.conn.specs.InputSteps.{Passed, Answered, TakesAll, film_bytes}
-use Rattle.connection_laws.specs.Courses.{Course, IsCourseBetween, asked_by, askings_of, course_plays, first_stage}
-use Rattle.connection_laws.specs.Courses.{round_askings, takings_askings}
+use Rattle.conn.specs.InputSteps.{IsAskAnswered, IsLookAnswered, IsPlayAnswered}
+use Rattle.conn.specs.InputSteps.{IsReplied, Outcome, Unasked, Entered, WasFull, Offered, SentPart, Stage}
+use Rattle.connection_laws.specs.Courses.{Course, asked_by, askings_of, course_plays, first_stage}
 use Rattle.connection_laws.specs.Plays.{FilmPlay, StationRequest, Asks, kept_by, kept_in, kept_with, plays_admitted}
 use Rattle.connection_laws.specs.Plays.{plays_begun, plays_of}
 use Rattle.connection_laws.specs.LookLimits.{course_looks, look_in, looks_in}
 use Rattle.connection_laws.specs.PlayRuns.{AreRunsInOrder, IsFirstRun, IsLaterRun, RunPlace, SendsNext, run_place}
-use Rattle.connection_laws.proofs.FilmBytes.{Stands, opened_stands, reply_awaited, round_step, stands_by, taken_stands}
+use Rattle.connection_laws.proofs.FilmBytes.{Stands, reply_awaited}
 use Rattle.connection_laws.proofs.StationAnswers.{FinishesAs, NothingLeft, DoneHalted, HaltsAs, HaltEntered, halts_as}
 use Rattle.connection_laws.proofs.StationAnswers.{ComesAs, BytesCame, SlotCame}
 use Rattle.connection_laws.proofs.CourseAskings.{IsKeptByAskings, course_kept}

@@ -2,7 +2,7 @@
 use Rattle.std.proofs.Common.{◌≡◌, ℕ, ◌+◌, ◌++◌, ◌&&◌, if◌then◌else◌, Bool, true, false, List, [], ◌∷◌, length, map}
 use Rattle.std.proofs.Common.{refl, ap, sym, ◌∙◌, subst}
 use Rattle.std.proofs.lemmas.List.{append-nil, append_assoc}
-use Rattle.vod_base.specs.Links.{IoEvent, HeardBytes, HeardEnd, HeardSlot, Sent}
+use Rattle.vod_base.specs.Links.{IoEvent}
 use Rattle.film_frames.specs.declared.stored_films.Stored.{Stored}
 use Rattle.film_streams.specs.declared.settings.Settings.{Settings}
 use Rattle.session.specs.declared.states.Awaited.{Awaited}
@@ -12,13 +12,11 @@ use Rattle.session.specs.RequestSteps.{is_answered}
 use Rattle.session.specs.SlotSteps.{can_reply, after_play, is_between, is_done_in, is_sending}
 use Rattle.session.specs.SlotSteps.{is_taken, next_of, sent_due, sent_in, sent_reply, sent_slot}
 use Rattle.session.specs.SlotSteps.{after_slot, step_bytes, stepped_in}
-use Rattle.session.specs.SessionStates.{AwaitedAnswer, NoAnswer, PlayAnswer, HaltAnswer, LookAnswer, OfferAnswer}
 use Rattle.session.specs.SessionStates.{SessionState}
-use Rattle.session.specs.SessionStates.{awaited_answer}
 use Rattle.conn.specs.Films.{round_parts, rounds_parts, takings_parts}
 use Rattle.conn.specs.EventSteps.{Round}
-use Rattle.conn.specs.InputSteps.{Answered, Entered, Film, IsFinished, IsHalted, IsReplied, Offered}
-use Rattle.conn.specs.InputSteps.{Outcome, SentPart, Passed, Stage, ElementStep, TakesAll, Text, Unasked, WasFull}
+use Rattle.conn.specs.InputSteps.{Answered, Film, IsReplied}
+use Rattle.conn.specs.InputSteps.{Outcome, SentPart, Passed, Stage, ElementStep, TakesAll, Text}
 use Rattle.conn.specs.InputSteps.{due_parts, film_bytes, slot_parts}
 use Rattle.connection_laws.specs.Courses.{IsCourseBetween, askings_of, first_stage, greatest_slot, rounds_bytes}
 use Rattle.connection_laws.specs.Courses.{round_askings}
@@ -30,8 +28,7 @@ use Rattle.connection_laws.proofs.FilmBytes.{reply_awaited}
 use Rattle.connection_laws.proofs.GreatestSlots.{film_written_is}
 use Rattle.connection_laws.proofs.RequestEffects.{turns_as}
 use Rattle.connection_laws.proofs.TextPlacement.{course_film, parts_woven, rounds_sent}
-use Rattle.conn.proofs.EventPremises.{EventCome}
-use Rattle.connection_laws.proofs.StationAnswers.{FinishesAs, NothingLeft, DoneHalted, nothing_left}
+use Rattle.connection_laws.proofs.StationAnswers.{FinishesAs, NothingLeft, DoneHalted}
 use Rattle.connection_laws.proofs.StationAnswers.{ComesAs, BytesCame, SlotCame, comes_as}
 
 -- the texts among parts

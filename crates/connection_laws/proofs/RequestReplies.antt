@@ -25,13 +25,10 @@ use Rattle.session.specs.RefusalOrder.{IsOwnSession}
 use Rattle.rtsp_methods.specs.RequiredOptions.{first_of}
 use Rattle.rtsp_replies.specs.Replies.{play_fields, session_text, setup_text as setup_reply}
 use Rattle.session.specs.RequestSteps.{Hears}
-use Rattle.session.specs.RequestedPlans.{IsPlannedRun}
 use Rattle.session.specs.SessionStates.{SessionState, has_session_in}
 use Rattle.session_laws.proofs.ClientReplyLemmas.{IsCall, play_answered, setup_answered, teardown_answered}
-use Rattle.session_laws.proofs.WholeFilmLemmas.{asked-whole}
 use Rattle.connection_laws.specs.WholePlays.{whole_run}
 use Rattle.connection_laws.proofs.ClientSetups.{range_is, settled_by}
-use Rattle.connection_laws.proofs.FirstPlays.{some_time}
 use Rattle.connection_laws.proofs.KeptSetups.{IsSameSetup}
 use Rattle.connection_laws.proofs.SetupOnly.{Beginning, IsUnbegun, IsWaiting}
 use Rattle.connection_laws.proofs.KeptParts.{names_in}

@@ -2,7 +2,7 @@
 use Rattle.std.specs.Prelude.{⊤}
 use Rattle.std.proofs.Common.{◌≡◌, ℕ, ◌<◌, ◌≤◌, ◌⊎◌, List, [], ◌∷◌, ◌++◌, refl, sym, ap, subst, ◌∙◌, append_assoc}
 use Rattle.std.proofs.Common.{arith, inl, inr}
-use Rattle.vod_base.specs.Links.{IoEvent, HeardBytes, HeardEnd, HeardSlot, Sent}
+use Rattle.vod_base.specs.Links.{IoEvent}
 use Rattle.plan_cert.specs.Plan.{IsPlan}
 use Rattle.plan_cert.specs.PlanSlots.{total_bytes}
 use Rattle.film_frames.specs.FramedRuns.{run_pieces}
@@ -15,23 +15,18 @@ use Rattle.admission.specs.Makers.{PlacedEntry}
 use Rattle.session.specs.declared.states.Awaited.{Awaited}
 use Rattle.session.specs.declared.states.Awaited.TheVariants.{Nothing, Play, Halt, Look, Offer}
 use Rattle.session.specs.declared.states.Prepared.{Prepared}
-use Rattle.session.specs.SlotSteps.{after_slot}
-use Rattle.session.specs.SessionStates.{SessionState, awaited_answer_of}
-use Rattle.conn.specs.EventSteps.{Round, Runs}
-use Rattle.conn.specs.InputSteps.{Outcome, Unasked, Entered, WasFull, Offered, Stage, ElementStep, Passed, Answered}
-use Rattle.conn.specs.InputSteps.{IsFinished}
-use Rattle.conn.specs.InputSteps.{TakesAll, film_bytes}
+use Rattle.session.specs.SessionStates.{SessionState}
+use Rattle.conn.specs.EventSteps.{Round}
+use Rattle.conn.specs.InputSteps.{Outcome, Unasked, Entered, WasFull, Offered, Stage}
 use Rattle.connection_laws.specs.Courses.{IsCourseBetween, IsCourseSplit, asked_by, askings_of, round_askings}
-use Rattle.connection_laws.specs.Courses.{takings_askings}
 use Rattle.connection_laws.specs.Plays.{StationRequest, Asks, FilmPlay, plays_admitted, plays_begun, kept_by, kept_in}
 use Rattle.connection_laws.specs.Plays.{kept_with}
 use Rattle.connection_laws.specs.Plays.{plays_of}
-use Rattle.connection_laws.proofs.FilmBytes.{Stands, opened_stands, round_step, stands_by, taken_stands, takes_step}
+use Rattle.connection_laws.proofs.FilmBytes.{Stands}
 use Rattle.connection_laws.proofs.CourseJoins.{parts_of}
 use Rattle.connection_laws.proofs.RequestEffects.{Begins, Ends, Starts, Stays, TurnsAs, turns_as}
-use Rattle.conn.proofs.EventPremises.{EventCome}
-use Rattle.connection_laws.proofs.StationAnswers.{FinishesAs, NothingLeft, DoneHalted, nothing_left}
-use Rattle.connection_laws.proofs.StationAnswers.{ComesAs, BytesCame, SlotCame, comes_as}
+use Rattle.connection_laws.proofs.StationAnswers.{FinishesAs, NothingLeft, DoneHalted}
+use Rattle.connection_laws.proofs.StationAnswers.{ComesAs, BytesCame, SlotCame}
 use Rattle.connection_laws.proofs.CourseAskings.{IsKeptByAskings, course_kept}
 use Rattle.connection_laws.proofs.GreatestSlots.{comes_heard}
 use Rattle.connection_laws.proofs.KeptParts.{LastingPart, taken_keeps}

@@ -4,7 +4,7 @@ use Rattle.std.specs.Prelude.{⊤}
 use Rattle.std.proofs.Common.{◌≡◌, ℕ, ◌<◌, ◌^◌, if◌then◌else◌, Bool, true, false, List, ◌++◌, None, codes, refl, sym}
 use Rattle.std.proofs.Common.{ap, subst, ◌∙◌}
 use Rattle.std.proofs.lemmas.Bool.{true≢false}
-use Rattle.vod_base.specs.Links.{IoEvent, HeardBytes, HeardEnd, HeardSlot, Sent}
+use Rattle.vod_base.specs.Links.{IoEvent}
 use Rattle.film_frames.specs.declared.stored_films.Stored.{Stored}
 use Rattle.rtsp_text.specs.RequestTexts.{request_head}
 use Rattle.rtsp_client.specs.RequestParts.{IsSessionId, setup_parts}
@@ -20,18 +20,17 @@ use Rattle.session.specs.declared.states.State.{State}
 use Rattle.film_streams.specs.declared.stream_numbers.StreamSource.{StreamSource}
 use Rattle.session.specs.declared.states.State.TheVariants.{Init, Ready, Playing, Stopping}
 use Rattle.film_streams.specs.Films.{Names}
-use Rattle.session.specs.SlotSteps.{after_play, after_slot, can_reply, is_sending, is_taken, sent_reply, sent_slot}
-use Rattle.session.specs.SessionStates.{NoAnswer, SessionState, awaited_answer_of}
+use Rattle.session.specs.SlotSteps.{after_play, can_reply, is_sending, is_taken, sent_reply, sent_slot}
+use Rattle.session.specs.SessionStates.{SessionState}
 use Rattle.session.specs.SlotTransitions.{after_stop}
-use Rattle.conn.proofs.EventPremises.{EventCome}
 use Rattle.conn.specs.EventSteps.{Round, Runs}
-use Rattle.conn.specs.InputSteps.{Answered, Entered, IsAskAnswered, IsFinished, Offered, Outcome, SentPart, Stage}
+use Rattle.conn.specs.InputSteps.{Answered, Entered, IsAskAnswered, Offered, Outcome, SentPart, Stage}
 use Rattle.conn.specs.InputSteps.{Takes}
 use Rattle.conn.specs.InputSteps.{Unasked, WasFull}
 use Rattle.connection_laws.proofs.FilmBytes.{Stands, opened_stands, taken_stands}
 use Rattle.connection_laws.proofs.ClientSetups.{IsSettled, settled_by, setup_is}
 use Rattle.session_laws.proofs.SetupLemmas.{IsSetupRequest, SetupHeard, Refused, Settled, setup_heard}
-use Rattle.connection_laws.proofs.StationAnswers.{FinishesAs, NothingLeft, DoneHalted, nothing_left}
+use Rattle.connection_laws.proofs.StationAnswers.{nothing_left}
 use Rattle.connection_laws.proofs.StationAnswers.{ComesAs, BytesCame, SlotCame, comes_as}
 
 -- no play has begun, and a SETUP that was answered 200 settled what the client wished

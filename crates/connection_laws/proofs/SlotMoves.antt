@@ -1,33 +1,30 @@
 -- What a slot makes of a session and of the reply that is held up.
-use Rattle.std.proofs.Common.{◌≡◌, ℕ, ◌+◌, ◌^◌, ◌<◌, ◌≤◌, ◌++◌, ◌&&◌, if◌then◌else◌, Bool}
-use Rattle.std.proofs.Common.{true, false, nat_lt, nat_le, List, [], ◌∷◌, Option, Some, None, refl}
+use Rattle.std.proofs.Common.{◌≡◌, ℕ, ◌+◌, ◌<◌, ◌≤◌, ◌++◌, ◌&&◌, if◌then◌else◌, Bool}
+use Rattle.std.proofs.Common.{true, false, List, [], ◌∷◌, Option, Some, None, refl}
 use Rattle.std.proofs.Common.{ap, sym, ◌∙◌, subst, arith}
 use Rattle.conn.proofs.PlayProgress.{reply_state, reply_heard}
-use Rattle.std.proofs.lemmas.Bool.{ltb-true, true≢false, and_parts}
+use Rattle.std.proofs.lemmas.Bool.{true≢false}
 use Rattle.std.proofs.lemmas.List.{append-nil}
 use Rattle.plan_cert.specs.PlanSlots.{total_bytes}
-use Rattle.pacer.specs.PacerStates.{IsPacerState, PacerState, is_done}
+use Rattle.pacer.specs.PacerStates.{IsPacerState, PacerState}
 use Rattle.admission.specs.declared.entries.Command.TheVariants.{Halt as HaltCommand}
 use Rattle.admission.specs.Makers.{PlacedEntry}
 use Rattle.session.specs.declared.states.Awaited.{Awaited}
 use Rattle.session.specs.declared.states.Awaited.TheVariants.{Nothing, Halt}
 use Rattle.session.specs.declared.states.AfterHalt.TheVariants.{Done}
-use Rattle.session.specs.declared.states.Play.{Play as Played}
-use Rattle.film_streams.specs.declared.setups.Setup.{Setup}
 use Rattle.session.specs.declared.states.State.{State}
 use Rattle.session.specs.declared.states.State.TheVariants.{Init, Ready, Playing, Stopping}
 use Rattle.session.specs.RequestSteps.{is_answered}
-use Rattle.session.specs.SlotSteps.{after_play, is_between, is_done_in, is_sending, next_of, sent_due, sent_in}
+use Rattle.session.specs.SlotSteps.{after_play, is_between, is_sending, next_of, sent_due}
 use Rattle.session.specs.SlotSteps.{sent_slot, after_slot, stepped_in}
-use Rattle.session.specs.SessionStates.{NoAnswer, SessionState, awaited_answer, awaited_answer_of}
-use Rattle.conn.specs.InputSteps.{Entered, IsFinished, IsHaltAnswered, IsHalted, Offered, Outcome, SentPart, Unasked}
-use Rattle.conn.specs.InputSteps.{WasFull}
+use Rattle.session.specs.SessionStates.{SessionState}
+use Rattle.conn.specs.InputSteps.{Entered, IsHaltAnswered, Outcome, SentPart}
 use Rattle.conn.specs.InputSteps.{due_parts, slot_parts}
 use Rattle.connection_laws.specs.Plays.{StationRequest, Asks, plays_admitted, plays_begun, kept_by, kept_in, kept_with}
 use Rattle.connection_laws.specs.Plays.{plays_of}
 use Rattle.connection_laws.proofs.FilmBytes.{DonePlay, IsSlotOver, Stands, done_kept, done_play, halt_state}
 use Rattle.connection_laws.proofs.FilmBytes.{reply_waits, sent_over, taken_later}
-use Rattle.connection_laws.proofs.JoinedFilms.{IsOnTime, IsSound}
+use Rattle.connection_laws.proofs.JoinedFilms.{IsOnTime}
 use Rattle.connection_laws.proofs.TextPlaces.{AreLater, StandAt, from_lower, later_lower, over_at}
 use Rattle.connection_laws.proofs.ReplyBoundaries.{slot_moves, still_fits}
 use Rattle.connection_laws.proofs.Slots.{state_after, waits_after}
@@ -35,7 +32,6 @@ use Rattle.connection_laws.proofs.RequestEffects.{Going, Idle, IsStill, sends_in
 use Rattle.connection_laws.proofs.WaitingReplies.{Fits, GoesTo, IsHeld, point}
 use Rattle.connection_laws.proofs.SessionMoves.{HeldIn, Move, move_then}
 use Rattle.connection_laws.proofs.StationAnswers.{FinishesAs, NothingLeft, DoneHalted, nothing_left}
-use Rattle.connection_laws.proofs.StationAnswers.{ComesAs, BytesCame, SlotCame, comes_as}
 
 -- nothing is asked
 pub still_move : {s new : SessionState} {asked : Awaited} {outcome : Outcome} {pending : Option ℕ} → new ≡ s
