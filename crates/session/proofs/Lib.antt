@@ -13,3 +13,4 @@ pub mod RequestEffectLemmas
 pub mod ReplyCodeLemmas
 pub mod RequestUniqueness
 pub mod RequestCaseAnalysis
+pub mod TestFilms

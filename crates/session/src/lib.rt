@@ -21,3 +21,6 @@ pub use play_requests::PlayRequest;
 pub use refusals::Task;
 pub use session_records::{Notes, OfferNote, PlayNote, Receipt};
 pub use sessions::Session;
+
+#[cfg(test)]
+mod tests;

@@ -1,0 +1,14 @@
+-- A server of one film.
+use Rattle.std.proofs.Common.{◌≡◌, true, [], ◌∷◌, string_bytes, arith}
+use Rattle.std.proofs.lemmas.List.Elements.{All-cons, All-nil}
+use Rattle.vod_base.specs.Names.{good_name}
+use Rattle.film_frames.specs.declared.stored_films.Stored.{Stored}
+use Rattle.film_streams.specs.SettingRanges.{AreFilms}
+
+pub one_film : (film : Stored) → good_name (string_bytes film.name) ≡ true → AreFilms (film ∷ [])
+one_film film good = record {
+  few = omega arith;
+  good = All-cons (λ (f : Stored). good_name (string_bytes f.name) ≡ true) film [] good
+      (All-nil (λ (f : Stored). good_name (string_bytes f.name) ≡ true));
+  differ = λ i j before inside. absurd (omega (arith, before, inside));
+}

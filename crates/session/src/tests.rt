@@ -1,0 +1,257 @@
+//! A session over a link in memory: requests, the station's answers and slots, and what is sent.
+
+ghost use Rattle.std.specs.Prelude.{◌≡◌, [], ◌∷◌, IfOk, length, true};
+ghost use Rattle.film_streams.specs.SettingRanges.{AreFilms};
+ghost use Rattle.interleave.specs.Elements.{IsMessageLength};
+ghost use Rattle.session.specs.SessionStates.{AsksFor, AwaitsNoAnswer, IsHalt, IsLook, IsOffer};
+ghost use Rattle.session.specs.SessionStates.{IsPlay, awaited_answer, open_of};
+
+use super::*;
+use admission::Answer;
+use film_frames::Stored;
+use interleave::{Demux, Step};
+use mpeg_scan::scan;
+use std::alloc::Global;
+use std::process::Abort;
+use std::test::Fail;
+use vod_base::{MemoryLink, NoMemory, good_name};
+
+mod talks;
+
+use talks::{Comes, Row, Told};
+
+/// Two pictures: a sequence header, a group header, an I picture and one slice; a P picture and one
+/// slice. On the wire: a report of 52 bytes, and frames of 54 and 35.
+const FILM: [u8; 49] = [
+    0, 0, 1, 0xb3, 0x16, 1, 0x20, 0x13, 0xff, 0xff, 0xe0, 0xa0, 0, 0, 1, 0xb8, 0, 8, 0, 0x40, 0, 0,
+    1, 0, 0, 0xf, 0xff, 0xf8, 0, 0, 1, 1, 0x12, 0x34, 0, 0, 1, 0, 0, 0x57, 0xff, 0xf8, 0x80, 0, 0,
+    1, 1, 0x12, 0x34,
+];
+
+/// The session's id is 0123456789abcdef, the SSRC 0x01020304, the first sequence number 1.
+const WORDS: [u32; 5] = [0x0123_4567, 0x89ab_cdef, 0x0102_0304, 1, 0];
+
+/// Slots of 40 ms, and the defaults of a server.
+const SETTINGS: Settings = Settings {
+    slot_units: 14_400,
+    buffer: 1_048_576,
+    startup: 25,
+};
+
+/// A session over a link in memory, and how many of its bytes were compared.
+#[derive(Drop)]
+struct Talk<'a> {
+    session: Session<'a>,
+    link: MemoryLink,
+    read: usize,
+}
+
+/// A server's film of two pictures, `b.mpg`.
+#[tactic(auto, using(crate::proofs::TestFilms::one_film))]
+fn films_of(rt: &impl Abort, alloc: Global) -> Result<[Stored; 1], Fail>
+    ensures { IfOk result (λ films. AreFilms films) }
+{
+    let film = scan(alloc, Vec::from_slice(alloc, &FILM)?)?;
+    let stored = Stored::new(alloc, String::from_str(alloc, "b.mpg")?, film)?;
+    assert!(rt; good_name(stored.name.as_bytes()));
+    Ok([stored])
+}
+
+/// Whether a message is one complete request.
+fn is_request(alloc: Global, message: &[u8]) -> Result<bool, NoMemory>
+    ensures { IfOk result (λ whole. whole ≡ true →
+        IsMessageLength message.now (length message.now)) }
+{
+    let mut input = Demux::new(alloc)?;
+    if input.put(message).is_err() {
+        return Ok(false);
+    }
+    match input.look() {
+        Ok(Step::Request(length)) => Ok(length == message.len()),
+        _ => Ok(false),
+    }
+}
+
+impl<'a> Talk<'a> {
+    fn new(alloc: Global, films: &'a [Stored]) -> Result<Talk<'a>, NoMemory>
+        requires { AreFilms films.now }
+        ensures { IfOk result (λ talk. AwaitsNoAnswer talk.session) }
+    {
+        let session = Session::new(alloc, films, SETTINGS, WORDS)?;
+        let events = Vec::new(alloc);
+        let link = MemoryLink::new(alloc, events, 1 << 12, Vec::new(alloc), Vec::new(alloc))?;
+        Ok(Talk {
+            session,
+            link,
+            read: 0,
+        })
+    }
+
+    /// What was sent and not compared yet.
+    fn unread(&self) -> &[u8] {
+        self.link.sent().get(self.read..).unwrap_or(&[])
+    }
+
+    fn play<R: Abort>(&mut self, rt: &R, told: Told)
+        requires { IsPlay (awaited_answer self.old.session) }
+        ensures { AwaitsNoAnswer self.new.session }
+    {
+        match told {
+            Told::Admitted(place, start) => {
+                assert!(rt; self.session.heard_slot() < start);
+                self.session.admitted(place, start);
+            }
+            Told::Overflow(place, slot, booked, asked) => {
+                self.session.overflowed(place, slot, booked, asked);
+            }
+            Told::Full(entries, live) => self.session.full(entries, live),
+            _ => assert!(rt; false, "a play was asked for"),
+        }
+    }
+
+    fn halt<R: Abort>(&mut self, rt: &R, keep: u64, told: Told)
+        requires { IsHalt (awaited_answer self.old.session) (open_of self.old.session) }
+        ensures { AwaitsNoAnswer self.new.session }
+    {
+        match told {
+            Told::Halted(place, kept) => {
+                assert_eq!(rt; keep, kept);
+                self.session.halted(place);
+            }
+            _ => assert!(rt; false, "a halt was asked for"),
+        }
+    }
+
+    fn look<R: Abort>(&mut self, rt: &R, told: Told)
+        requires { IsLook (awaited_answer self.old.session) }
+        ensures { AwaitsNoAnswer self.new.session }
+    {
+        match told {
+            Told::Looked(place, now, at, booked) => self.session.looked(place, now, at, booked),
+            Told::Full(entries, live) => self.session.full(entries, live),
+            _ => assert!(rt; false, "a look was asked for"),
+        }
+    }
+
+    fn answer<R: Abort>(&mut self, rt: &R, ask: Ask, told: Told)
+        requires { AsksFor ask self.old.session }
+        ensures { AwaitsNoAnswer self.new.session }
+    {
+        match ask {
+            Ask::Reply => {}
+            Ask::Play(_) => self.play(rt, told),
+            Ask::Halt(keep) => self.halt(rt, keep, told),
+            Ask::Look(_) => self.look(rt, told),
+            // No start was tried: the offers are those of a link that has no room at all.
+            Ask::Offer(plan, offers) => self.session.offered(5, 1, plan, offers),
+        }
+    }
+
+    fn hear<R: Abort>(
+        &mut self,
+        rt: &R,
+        alloc: Global,
+        message: &[u8],
+        told: Told,
+    ) -> Result<(), NoMemory>
+        requires { AwaitsNoAnswer self.old.session }
+        ensures { AwaitsNoAnswer self.new.session }
+    {
+        let whole = is_request(alloc, message)?;
+        assert!(rt; whole);
+        assert!(rt; !self.session.waits());
+        assert!(rt; !self.session.torn());
+        assert!(rt; !self.session.link_failed());
+        let ask = self.session.hear(message);
+        self.answer(rt, ask, told);
+        let replied = self.session.reply(&mut self.link);
+        assert!(rt; replied.is_ok());
+        Ok(())
+    }
+
+    fn slot<R: Abort>(&mut self, rt: &R, slot: u64, told: Told)
+        requires { AwaitsNoAnswer self.old.session }
+        ensures { AwaitsNoAnswer self.new.session }
+    {
+        match self.session.slot(slot, &mut self.link) {
+            Ok(Slotted::Going) => {}
+            Ok(Slotted::Finished(keep)) => self.halt(rt, keep, told),
+            Err(_) => assert!(rt; false, "the link failed"),
+        }
+    }
+
+    fn take<R: Abort>(&mut self, rt: &R, alloc: Global, row: &Row) -> Result<(), NoMemory>
+        requires { AwaitsNoAnswer self.old.session }
+        ensures { AwaitsNoAnswer self.new.session }
+    {
+        match row.comes {
+            Comes::Request(message) => self.hear(rt, alloc, message, row.told)?,
+            Comes::Slot(slot) => self.slot(rt, slot, row.told),
+        }
+        Ok(())
+    }
+
+    /// Compares what was sent since the last time.
+    fn compare<R: Abort>(&mut self, rt: &R, alloc: Global, row: &Row) -> Result<(), NoMemory>
+        ensures { self.new.session ≡ self.old.session }
+    {
+        assert!(rt;
+            self.unread() == row.sent,
+            "{}",
+            String::from_utf8_lossy(alloc, self.unread())?
+        );
+        self.read = self.link.sent().len();
+        Ok(())
+    }
+}
+
+/// Talks to a session row by row, compares what it sends, and returns what it noted.
+fn run_rows<R: Abort>(rt: &R, alloc: Global, rows: &[Row]) -> Result<Notes, Fail> {
+    let films = films_of(rt, alloc)?;
+    let mut talk = Talk::new(alloc, &films)?;
+    for row in rows {
+        talk.take(rt, alloc, row)?;
+        talk.compare(rt, alloc, row)?;
+    }
+    let session = talk.session;
+    assert!(rt; session.open_due().is_none());
+    Ok(session.notes())
+}
+
+#[test]
+fn answers_each_method(rt: HostRuntime) -> Result<(), Fail> {
+    let notes = run_rows(&rt, rt.alloc(), talks::methods())?;
+    let places = [
+        Receipt::Entry {
+            place: 0,
+            answer: Answer::Looked {
+                now: 3,
+                at: 0,
+                booked: 77,
+            },
+        },
+        Receipt::Entry {
+            place: 1,
+            answer: Answer::Admitted { start: 1 },
+        },
+        Receipt::Entry {
+            place: 2,
+            answer: Answer::Halted,
+        },
+    ];
+    assert_eq!(rt; notes.receipts.as_slice(), places.as_slice());
+    assert_eq!(rt;
+        (notes.plays.len(), notes.offers.len(), notes.late),
+        (1, 1, 0)
+    );
+    Ok(())
+}
+
+#[test]
+fn refuses_with_each_code(rt: HostRuntime) -> Result<(), Fail> {
+    for (rows, receipts) in [(talks::refusals(), 2), (talks::small_buffer(), 0)] {
+        let notes = run_rows(&rt, rt.alloc(), rows)?;
+        assert_eq!(rt; (notes.receipts.len(), notes.plays.len()), (receipts, 0));
+    }
+    Ok(())
+}
