@@ -1,6 +1,7 @@
 //! The numbers of a stream, and what a SETUP names, by worked values.
 
 use super::*;
+use rtsp_methods::Refusal;
 use rtsp_text::Request;
 
 /// Slots of 40 ms, a buffer of 1,000 bytes and a start delay of a second.
@@ -76,5 +77,46 @@ fn reads_what_a_setup_names(rt: HostRuntime) {
         assert_eq!(rt; found, channels, "at {head}");
         assert_eq!(rt; buffer_of(&request, &SETTINGS), buffer, "at {head}");
         assert_eq!(rt; delay_of(&request, &SETTINGS), delay, "at {head}");
+    }
+}
+
+#[test]
+fn reads_a_setup(rt: HostRuntime) {
+    for (head, want) in [
+        (
+            "SETUP rtsp://h/b.mpg/video RTSP/1.0\r\nCSeq: 1\r\n\
+                Transport: RTP/AVP/TCP;interleaved=2-3\r\nx-Buffer: 500\r\n\r\n",
+            Ok((1, (2, 3), 500, 25)),
+        ),
+        (
+            "SETUP rtsp://h/b.mpg/video RTSP/1.0\r\nCSeq: 1\r\nx-Buffer: 0\r\n\r\n",
+            Err(Refusal::Transport),
+        ),
+        (
+            "SETUP rtsp://h/b.mpg/video RTSP/1.0\r\nCSeq: 1\r\n\
+                Transport: RTP/AVP/TCP\r\nx-Startup: 10001\r\n\r\n",
+            Err(Refusal::Parameter),
+        ),
+    ] {
+        let request = Request {
+            method: b"SETUP",
+            url: b"rtsp://h/b.mpg/video",
+            sequence: 1,
+            head: head.as_bytes(),
+            body: b"",
+        };
+        let read = match read_setup(&request, 1, &SETTINGS) {
+            Ok(setup) => {
+                let on = setup.channels();
+                Ok((
+                    setup.film,
+                    (on.media, on.control),
+                    setup.buffer,
+                    setup.delay,
+                ))
+            }
+            Err(refusal) => Err(refusal),
+        };
+        assert_eq!(rt; read, want, "at {head}");
     }
 }
