@@ -1,26 +1,48 @@
 //! What a peer sees of a gate and its connections.
 
-use super::{HOW, link_of, open_gate};
+use super::{HOW, expect, link_of, next_slot, open_gate};
+use crate::tests::test_gates::TestGate;
+use crate::{TcpGate, TcpPort};
 use std::io::{self, Read, Write};
-use std::net::{Ipv4Addr, Net, SocketAddr, TcpListener, TcpStream};
+use std::net::{Ipv4Addr, Net, SocketAddr, TcpStream};
 use std::test::Fail;
-use std::thread;
+use std::thread::{self, Threads};
 use std::time::{Clock, Duration, Instant};
-use vod_base::{Gate, Heard, Link, Opening};
+use vod_base::{Link, Opening};
 
 /// A connection to a port, at 127.0.0.1 or another address of this machine.
-fn connect<R: Net<Stream = TcpStream>>(rt: &R, last: u8, port: u16) -> io::Result<TcpStream> {
+pub(crate) fn connect<R: Net<Stream = TcpStream>>(
+    rt: &R,
+    last: u8,
+    port: u16,
+) -> io::Result<TcpStream> {
     TcpStream::connect(rt, SocketAddr::from((Ipv4Addr::new(127, 0, 0, last), port)))
+}
+
+/// A gate listens at 127.0.0.1, and at 127.0.0.2 where it listens at all addresses.
+fn listens_at<R: Net<Stream = TcpStream>, G: TestGate>(
+    rt: &R,
+    gate: &mut G,
+    all: bool,
+) -> Result<(), Fail> {
+    let port = open_gate(gate, &Opening { all, ..HOW })?;
+    expect(connect(rt, 1, port).is_ok(), "not at 127.0.0.1")?;
+    expect(connect(rt, 2, port).is_ok() == all, "at 127.0.0.2")
+}
+
+/// A gate listens at one address, and then at all.
+fn listens_as_asked<R: Net<Stream = TcpStream>, G: TestGate>(
+    rt: &R,
+    gate: &mut G,
+) -> Result<(), Fail> {
+    listens_at(rt, gate, false)?;
+    listens_at(rt, gate, true)
 }
 
 #[test]
 fn listens_at_one_address(rt: HostRuntime) -> Result<(), Fail> {
-    for all in [false, true] {
-        let (_gate, port) = open_gate(&rt, rt.alloc(), &Opening { all, ..HOW })?;
-        assert!(rt; connect(&rt, 1, port).is_ok());
-        assert_eq!(rt; connect(&rt, 2, port).is_ok(), all);
-    }
-    Ok(())
+    let mut gate = TcpGate::new(TcpPort::new(&rt, rt.alloc()));
+    listens_as_asked(&rt, &mut gate)
 }
 
 /// How many blocks are sent in the tests that send much: more than the buffers of the system hold.
@@ -57,48 +79,85 @@ fn read_blocks<R: Clock>(rt: &R, client: &mut TcpStream) -> bool {
     true
 }
 
+/// Sends the blocks over a gate's connection, which then ends; returns whether all were sent.
+fn send_and_end<G: TestGate>(gate: &mut G, mut link: G::Conn) -> bool {
+    let sent = send_blocks(&mut link);
+    gate.end_conn(link);
+    sent
+}
+
+/// A client that reads late gets all that was sent before its connection ended.
+fn serves_late_reader<R, G: TestGate + Send>(rt: &R, gate: &mut G) -> Result<(), Fail>
+where
+    R: Net<Stream = TcpStream> + Clock + Threads + Sync,
+    G::Conn: Send,
+{
+    let port = open_gate(gate, &HOW)?;
+    let mut client = connect(rt, 1, port)?;
+    let link = link_of(gate)?;
+    let (sent, read) = thread::join(
+        rt,
+        || send_and_end(gate, link),
+        || read_blocks(rt, &mut client),
+    );
+    expect(sent && read, "bytes were lost")
+}
+
 #[test]
 fn a_late_reader_gets_all_bytes(rt: HostRuntime) -> Result<(), Fail> {
-    let (mut gate, port) = open_gate(&rt, rt.alloc(), &HOW)?;
-    let mut client = connect(&rt, 1, port)?;
-    let mut link = link_of(&mut gate)?;
-    let (sent, read) = thread::join(
-        &rt,
-        || {
-            let sent = send_blocks(&mut link);
-            gate.give_back(link);
-            sent
-        },
-        || read_blocks(&rt, &mut client),
-    );
-    assert!(rt; sent && read);
+    let mut gate = TcpGate::new(TcpPort::new(&rt, rt.alloc()));
+    serves_late_reader(&rt, &mut gate)
+}
+
+/// The slots of a link are 10 or 50 ms long, as their length in 1/360,000 second says. Slot 0 began
+/// between these times.
+fn counts_slots<R: Clock, K: Link>(
+    rt: &R,
+    link: &mut K,
+    slot_units: u32,
+    before: Instant,
+    after: Instant,
+) -> Result<(), Fail> {
+    let ms = if slot_units == 3_600 { 10 } else { 50 };
+    for _ in 0..6 {
+        let least = after.elapsed(rt)?.as_millis() / ms;
+        let Some(slot) = next_slot(link) else {
+            return Err(Fail::from("no slot"));
+        };
+        let slot = u128::from(slot);
+        let most = before.elapsed(rt)?.as_millis() / ms;
+        expect(slot >= least && slot <= most, "another slot")?;
+    }
     Ok(())
 }
 
-/// The next slot of a link to which nothing comes.
-fn slot_of<K: Link>(link: &mut K) -> Result<u64, Fail> {
-    match link.next(&mut [0; 8]) {
-        Ok(Heard::Slot(slot)) => Ok(slot),
-        _ => Err(Fail::from("no slot")),
-    }
+/// The slots of a gate begin at its opening, and have this length.
+fn has_slots_of<R: Net<Stream = TcpStream> + Clock, G: TestGate>(
+    rt: &R,
+    gate: &mut G,
+    slot_units: u32,
+) -> Result<(), Fail> {
+    let before = Instant::now(rt)?;
+    let port = open_gate(gate, &Opening { slot_units, ..HOW })?;
+    let after = Instant::now(rt)?;
+    let _client = connect(rt, 1, port)?;
+    let mut link = link_of(gate)?;
+    counts_slots(rt, &mut link, slot_units, before, after)
+}
+
+/// A gate is opened with slots of 10 ms, and then with slots of 50 ms.
+fn has_both_slots<R: Net<Stream = TcpStream> + Clock, G: TestGate>(
+    rt: &R,
+    gate: &mut G,
+) -> Result<(), Fail> {
+    has_slots_of(rt, gate, 3_600)?;
+    has_slots_of(rt, gate, 18_000)
 }
 
 #[test]
 fn slots_have_their_length(rt: HostRuntime) -> Result<(), Fail> {
-    for (slot_units, ms) in [(3_600, 10), (18_000, 50)] {
-        let before = Instant::now(&rt)?;
-        let (mut gate, port) = open_gate(&rt, rt.alloc(), &Opening { slot_units, ..HOW })?;
-        let after = Instant::now(&rt)?;
-        let _client = connect(&rt, 1, port)?;
-        let mut link = link_of(&mut gate)?;
-        for _ in 0..6 {
-            let least = after.elapsed(&rt)?.as_millis() / ms;
-            let slot = u128::from(slot_of(&mut link)?);
-            let most = before.elapsed(&rt)?.as_millis() / ms;
-            assert!(rt; slot >= least && slot <= most, "{slot} of {slot_units}");
-        }
-    }
-    Ok(())
+    let mut gate = TcpGate::new(TcpPort::new(&rt, rt.alloc()));
+    has_both_slots(&rt, &mut gate)
 }
 
 /// The network and the clock of a runtime, but the clock goes a hundred times as fast.
@@ -129,18 +188,27 @@ impl<R: Clock> Clock for Hurried<'_, R> {
     }
 }
 
+/// A link gives its peer up 0.6 s after the peer stopped reading: 60 s by a hurried clock.
+fn gives_up<R: Net<Stream = TcpStream> + Clock, G: TestGate>(
+    rt: &R,
+    gate: &mut G,
+) -> Result<(), Fail> {
+    let port = open_gate(gate, &HOW)?;
+    let client = connect(rt, 1, port)?;
+    let mut link = link_of(gate)?;
+    let begun = Instant::now(rt)?;
+    expect(!send_blocks(&mut link), "all blocks were sent")?;
+    let waited = begun.elapsed(rt)?;
+    expect(waited >= Duration::from_millis(600), "given up early")?;
+    drop(client);
+    Ok(())
+}
+
 #[test]
 fn gives_up_a_peer_that_takes_nothing(rt: HostRuntime) -> Result<(), Fail> {
     let hurried = Hurried(&rt);
-    let (mut gate, port) = open_gate(&hurried, rt.alloc(), &HOW)?;
-    let client = connect(&rt, 1, port)?;
-    let mut link = link_of(&mut gate)?;
-    let begun = Instant::now(&rt)?;
-    assert!(rt; !send_blocks(&mut link));
-    // by the hurried clock 60 s went by, and not many more
-    assert!(rt; begun.elapsed(&rt)? >= Duration::from_millis(600));
-    drop(client);
-    Ok(())
+    let mut gate = TcpGate::new(TcpPort::new(&hurried, rt.alloc()));
+    gives_up(&rt, &mut gate)
 }
 
 /// Sends for a while, and then reads to the end; returns whether these bytes came.
@@ -156,20 +224,27 @@ fn send_and_read<R: Clock>(rt: &R, client: &mut TcpStream, want: &[u8; 4]) -> bo
     client.read_exact(&mut came).is_ok() && &came == want && matches!(client.read(&mut more), Ok(0))
 }
 
+/// The last bytes of a connection arrive at a client that still sends while the connection ends.
+fn ends_with_last_bytes<R, G: TestGate + Send>(rt: &R, gate: &mut G) -> Result<(), Fail>
+where
+    R: Net<Stream = TcpStream> + Clock + Threads + Sync,
+    G::Conn: Send,
+{
+    let port = open_gate(gate, &HOW)?;
+    let mut client = connect(rt, 1, port)?;
+    client.write_all(&[b' '; 1_000])?;
+    let mut link = link_of(gate)?;
+    expect(link.send(b"last").is_ok(), "not sent")?;
+    let ((), came) = thread::join(
+        rt,
+        || gate.end_conn(link),
+        || send_and_read(rt, &mut client, b"last"),
+    );
+    expect(came, "other bytes came")
+}
+
 #[test]
 fn the_last_bytes_arrive_though_the_client_sends(rt: HostRuntime) -> Result<(), Fail> {
-    let (mut gate, port) = open_gate(&rt, rt.alloc(), &HOW)?;
-    let mut client = connect(&rt, 1, port)?;
-    client.write_all(&[b' '; 1_000])?;
-    let mut link = link_of(&mut gate)?;
-    if link.send(b"last").is_err() {
-        return Err(Fail::from("not sent"));
-    }
-    let ((), came) = thread::join(
-        &rt,
-        || gate.give_back(link),
-        || send_and_read(&rt, &mut client, b"last"),
-    );
-    assert!(rt; came);
-    Ok(())
+    let mut gate = TcpGate::new(TcpPort::new(&rt, rt.alloc()));
+    ends_with_last_bytes(&rt, &mut gate)
 }
