@@ -156,13 +156,6 @@ done_rest {p} {slot} {asked} {number} {keep} {end} {placed} askings more on halt
     (subst (λ ps. IsFilm end (play_with p keep ∷ (ps ++ plays_of askings)) (take p.sent (film_in p) ++ more)) (sym none)
     (film_over (plays_of askings) more on (sym halt.sent) later is))
 
-pub halt_state : {state : State} {awaited : Awaited} {setup : Setup} {play : Played} {keep : ℕ}
-    → state ≡ Playing setup play → awaited ≡ Halt keep Done
-    → sends_in (halted_in state awaited) ≡ Idle
-halt_state {awaited} {setup} {play} is asks =
-    ap (λ (s : State). sends_in (halted_in s awaited)) is
-    ∙ ap (λ (a : Awaited). sends_in (halted_in (Playing setup play) a)) asks
-
 -- a session's play is done, and its halt, which keeps what was sent, is asked for
 pub record DonePlay (s : SessionState) (keep : ℕ) : Type 0 where
   pub setup : Setup
@@ -172,6 +165,11 @@ pub record DonePlay (s : SessionState) (keep : ℕ) : Type 0 where
   pub done : is_done play.pacer ≡ true
   pub sent : keep ≡ play.pacer.sent
   pub asks : s.awaited ≡ Halt keep Done
+
+pub halted_idle : {s : SessionState} {keep : ℕ} → DonePlay s keep → sends_in (halted_in s.state s.awaited) ≡ Idle
+halted_idle {s} finished =
+    ap (λ (t : State). sends_in (halted_in t s.awaited)) finished.state_is
+    ∙ ap (λ (a : Awaited). sends_in (halted_in (Playing finished.setup finished.play) a)) finished.asks
 
 halt_if : {awaited : Awaited} {keep sent : ℕ} {next : AfterHalt} (done : Bool) → awaited ≡ Halt keep next
     → awaited ≡ (if done then Halt sent Done else Nothing)
@@ -213,7 +211,7 @@ done_step : {s new : SessionState} {keep : ℕ} {placed : PlacedEntry} → DoneP
 done_step {s} {new} {placed = placed} finished halted =
     let p : PacerState = play.pacer in
     let sends : sends_in new.state ≡ Idle =
-    ap (λ (n : SessionState). sends_in n.state) halted.halts ∙ halt_state state_is asks in
+    ap (λ (n : SessionState). sends_in n.state) halted.halts ∙ halted_idle finished in
     let heard : new.heard ≡ s.heard = ap (λ (n : SessionState). n.heard) halted.halts in
     let goes : GoesOn (Going p) Idle s.heard s.heard new.waits (Asks s.awaited (Entered placed) ∷ []) [] = record {
       sound = tt;

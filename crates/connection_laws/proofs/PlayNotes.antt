@@ -208,15 +208,13 @@ replied_on old asking new plays state =
     carries_as refl (λ later. refl) plays state (unasked_turn old.plays old.state asking)
 
 -- a play that begins
-begun_state : {state : State} {awaited : Awaited} {setup : Setup} {paused : Option Run} {prepared : Prepared}
-    (place start : ℕ) (later : List StationCall)
-    → state ≡ Ready setup paused → awaited ≡ Play prepared
-    → open_note (admitted_in state awaited place start) later
-    ≡ note_for setup prepared.run place (whole_play start prepared.plan)
-    (kept_later later (total_bytes prepared.plan)) ∷ []
-begun_state {awaited} {setup} {paused} place start later ready asks =
-    ap (λ s. open_note (admitted_in s awaited place start) later) ready
-    ∙ ap (λ a. open_note (admitted_in (Ready setup paused) a place start) later) asks
+begun_state : {old asking : SessionState} (play : PlayRequest old asking) (place start : ℕ) (later : List StationCall)
+    → open_note (admitted_in asking.state asking.awaited place start) later
+    ≡ note_for play.setup play.prepared.run place (whole_play start play.prepared.plan)
+    (kept_later later (total_bytes play.prepared.plan)) ∷ []
+begun_state play place start later =
+    ap (λ (s : SessionState). open_note (admitted_in s.state s.awaited place start) later) play.waiting.asking_is
+    ∙ ap (λ s. open_note (admitted_in s (Play play.prepared) place start) later) play.ready
 
 pub begun_note : {old asking : SessionState} (play : PlayRequest old asking) (placed : PlacedEntry)
     (later : List StationCall) → placed.entry.command ≡ play_of asking.heard play.prepared.plan
@@ -233,8 +231,6 @@ begun_note {old} {asking} play placed later command =
 play_on : {old asking : SessionState} {placed : PlacedEntry} (new : SessionState) (play : PlayRequest old asking)
     → IsAdmitted asking play.prepared.plan placed new → CarriesOn old asking (Entered placed) new
 play_on {old} {asking} {placed} new play is =
-    let there : asking.state ≡ Ready setup paused = ap (λ (s : SessionState). s.state) waiting.asking_is ∙ ready in
-    let awaited : asking.awaited ≡ Play prepared = ap (λ (s : SessionState). s.awaited) waiting.asking_is in
     let note : List StationCall → PlayNote =
     λ later. note_for setup prepared.run placed.place (whole_play is.start prepared.plan)
     (kept_later later (total_bytes prepared.plan)) in
@@ -253,11 +249,11 @@ play_on {old} {asking} {placed} new play is =
           ∙ ap (λ ns. ns ++ (notes_of_calls asking (Entered placed) later ++ [])) (append-nil old.plays)
           ∙ ap (λ ns. old.plays ++ ns) (append-nil (notes_of_calls asking (Entered placed) later) ∙ noted later)
           ∙ ap (λ ns. old.plays ++ ns) (sym (ap (λ s. open_note s later) state
-          ∙ begun_state placed.place is.start later there awaited))
+          ∙ begun_state play placed.place is.start later))
           ∙ ap (λ ns. ns ++ open_note new.state later) (sym plays);
     }
   where
-    open play use {setup, paused, prepared, ready, waiting}
+    open play use {setup, prepared, ready, waiting}
 
 -- a halt that a request asks for
 pub no_halt_note : {awaited : Awaited} {keep : ℕ} {next : AfterHalt} (state : State) → awaited ≡ Halt keep next

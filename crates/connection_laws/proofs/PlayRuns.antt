@@ -52,6 +52,8 @@ use Rattle.connection_laws.specs.Plays.{plays_begun, plays_of}
 use Rattle.connection_laws.specs.LookLimits.{course_looks, look_in, looks_in}
 use Rattle.connection_laws.specs.PlayRuns.{AreRunsInOrder, IsFirstRun, IsLaterRun, RunPlace, SendsNext, run_place}
 use Rattle.connection_laws.proofs.FilmBytes.{Stands, reply_awaited}
+use Rattle.connection_laws.proofs.StationAnswers.{AnswersAs, NoneAsked, PlayAdmitted, PlayRefused, PlayFull, PlayHalted}
+use Rattle.connection_laws.proofs.StationAnswers.{LookMade, LookFull, OfferMade, answers_as}
 use Rattle.connection_laws.proofs.StationAnswers.{FinishesAs, NothingLeft, DoneHalted, HaltsAs, HaltEntered, halts_as}
 use Rattle.connection_laws.proofs.StationAnswers.{ComesAs, BytesCame, SlotCame}
 use Rattle.connection_laws.proofs.CourseAskings.{IsKeptByAskings, course_kept}
@@ -403,8 +405,7 @@ module _ (words : List ℕ) where
 
   module _ (old : SessionState) (replied : old.waits ≡ false) (linked : old.torn ≡ false) where
     abbrev Answers : Outcome → SessionState → Ask → SessionState → Type 0
-    Answers outcome new ask asking = IsAskAnswered asking ask outcome new
-        → Leads old new (Asks asking.awaited outcome ∷ [])
+    Answers outcome new ask asking = AnswersAs asking new ask outcome → Leads old new (Asks asking.awaited outcome ∷ [])
 
     -- a reply waits, and else all is as before
     waiting : (tearing : Bool) (kept : ℕ → ℕ) (last : Option RunPlace) → IsLast old kept last
@@ -412,43 +413,26 @@ module _ (words : List ℕ) where
         last
     waiting tearing kept last is = said (standing old kept last) old.state tearing replied linked is
 
-    replies : (asking new : SessionState) (outcome : Outcome) → asking.awaited ≡ Nothing
+    replies : {outcome : Outcome} (asking new : SessionState) → asking.awaited ≡ Nothing
         → asking.looks_left ≡ old.looks_left → Moves old asking → Answers outcome new AskReply asking
-    replies asking new Unasked rest looks move answered =
+    replies asking new rest looks move (NoneAsked answered) =
         subst (λ n. Leads old n (Asks asking.awaited Unasked ∷ [])) (sym answered)
         (still (unasked_quiet asking.awaited) (looks ∙ none_asked old.looks_left asking.awaited rest) move)
-    replies asking new (Entered placed) rest looks move answered = absurd answered
-    replies asking new (WasFull more entries live) rest looks move answered = absurd answered
-    replies asking new (Offered at_slot note) rest looks move answered = absurd answered
 
-    looked : (sequence slot : ℕ) (new : SessionState) (placed : PlacedEntry) (answer : Answer)
-        → placed.entry.command ≡ look_at slot
-        → IsLookAnswered (record old { looks_left = old.looks_left - 1; awaited = Look sequence }) placed answer new
-        → Leads old new (Asks (Look sequence) (Entered placed) ∷ [])
-    looked sequence slot new placed (Looked now at booked) command answered =
-        subst (λ n. Leads old n (Asks (Look sequence) (Entered placed) ∷ [])) (sym answered)
-        (still (record { none = λ later. refl; kept = λ k. ap (λ c. kept_by c k) command }) refl (waiting old.tearing))
-    looked sequence slot new placed (Admitted start) command answered = absurd answered
-    looked sequence slot new placed (Overflow over booked asks) command answered = absurd answered
-    looked sequence slot new placed Halted command answered = absurd answered
-
-    looks_at : (sequence slot : ℕ) (new : SessionState) (outcome : Outcome)
+    looks_at : {outcome : Outcome} (sequence slot : ℕ) (new : SessionState)
         → Answers outcome new (AskLook slot) (record old { looks_left = old.looks_left - 1; awaited = Look sequence })
-    looks_at sequence slot new Unasked answered = absurd answered
-    looks_at sequence slot new (Entered placed) answered =
-        looked sequence slot new placed placed.entry.answer answered.0 answered.1
-    looks_at sequence slot new (WasFull more entries live) answered =
-        subst (λ n. Leads old n (Asks (Look sequence) (WasFull more entries live) ∷ [])) (sym answered.0)
+    looks_at sequence slot new (LookMade {placed = placed} is) =
+        subst (λ n. Leads old n (Asks (Look sequence) (Entered placed) ∷ [])) (sym is.new_is)
+        (still (record { none = λ later. refl; kept = λ k. ap (λ c. kept_by c k) is.command }) refl
+        (waiting old.tearing))
+    looks_at sequence slot new (LookFull {more = more} {entries = entries} {live = live} is) =
+        subst (λ n. Leads old n (Asks (Look sequence) (WasFull more entries live) ∷ [])) (sym is)
         (still (record { none = λ later. refl; kept = λ k. refl }) refl (waiting old.tearing))
-    looks_at sequence slot new (Offered at_slot note) answered = absurd answered
 
-    offers_of : (plan : List Segment) (offers : Offers) (sequence : ℕ) (new : SessionState) (outcome : Outcome)
+    offers_of : {outcome : Outcome} (plan : List Segment) (offers : Offers) (sequence : ℕ) (new : SessionState)
         → Answers outcome new (AskOffer plan offers) (record old { awaited = Offer sequence })
-    offers_of plan offers sequence new Unasked answered = absurd answered
-    offers_of plan offers sequence new (Entered placed) answered = absurd answered
-    offers_of plan offers sequence new (WasFull more entries live) answered = absurd answered
-    offers_of plan offers sequence new (Offered at_slot note) answered =
-        subst (λ n. Leads old n (Asks (Offer sequence) (Offered at_slot note) ∷ [])) (sym answered.2)
+    offers_of plan offers sequence new (OfferMade {at_slot = at_slot} {note = note} is) =
+        subst (λ n. Leads old n (Asks (Offer sequence) (Offered at_slot note) ∷ [])) (sym is)
         (still (record { none = λ later. refl; kept = λ k. refl }) (sym (minus_none old.looks_left))
         (waiting old.tearing))
 
@@ -582,29 +566,19 @@ module _ (words : List ℕ) where
           })
 
       -- or refused
-      entered : (new : SessionState) (placed : PlacedEntry) (answer : Answer) → placed.entry.answer ≡ answer
-          → placed.entry.command ≡ play_of old.heard asked.plan
-          → IsPlayAnswered (asking_for asked text) placed answer new
-          → Leads old new (Asks (Play asked) (Entered placed) ∷ [])
-      entered new placed (Admitted start) answer command answered = admitted new placed start answer answered.1
-      entered new placed (Overflow slot booked asks) answer command answered =
-          subst (λ n. Leads old n (Asks (Play asked) (Entered placed) ∷ [])) (sym answered)
+      plays : {plan : List Segment} {outcome : Outcome} (new : SessionState)
+          → Answers outcome new (AskPlay plan) (asking_for asked text)
+      plays new (PlayAdmitted {placed = placed} is) = admitted new placed is.start is.answer is.new_is
+      plays new (PlayRefused {placed = placed} is) =
+          subst (λ n. Leads old n (Asks (Play asked) (Entered placed) ∷ [])) (sym is.new_is)
           (still (record {
-            none = λ later. ap (λ a. plays_admitted (Play asked) a later) answer;
-            kept = λ k. ap (λ c. kept_by c k) command;
+            none = λ later. ap (λ a. plays_admitted (Play asked) a later) is.answer;
+            kept = λ k. ap (λ c. kept_by c k) is.command;
           }) (sym (minus_none old.looks_left)) (waiting old.tearing))
-      entered new placed Halted answer command answered = absurd answered
-      entered new placed (Looked now at booked) answer command answered = absurd answered
-
-      plays : (new : SessionState) (outcome : Outcome)
-          → Answers outcome new (AskPlay asked.plan) (asking_for asked text)
-      plays new Unasked answered = absurd answered
-      plays new (Entered placed) answered = entered new placed placed.entry.answer refl answered.0 answered.1
-      plays new (WasFull more entries live) answered =
-          subst (λ n. Leads old n (Asks (Play asked) (WasFull more entries live) ∷ [])) (sym answered.0)
+      plays new (PlayFull {more = more} {entries = entries} {live = live} is) =
+          subst (λ n. Leads old n (Asks (Play asked) (WasFull more entries live) ∷ [])) (sym is)
           (still (record { none = λ later. refl; kept = λ k. refl }) (sym (minus_none old.looks_left))
           (waiting old.tearing))
-      plays new (Offered at_slot note) answered = absurd answered
 
     -- ---- by what a message comes to
 
@@ -619,14 +593,14 @@ module _ (words : List ℕ) where
         (inr (first.1, first.2))))
 
     -- a halt keeps what was sent up to a boundary
-    halt_entered : {outcome : Outcome} (setup : Setup) (play : Played) (keep : ℕ) (next : AfterHalt) (text : List ℕ)
+    halt_asked : {outcome : Outcome} (setup : Setup) (play : Played) (keep : ℕ) (next : AfterHalt) (text : List ℕ)
         (new : SessionState) → old.state ≡ Playing setup play → IsLeftBy play.run keep next
-        → (let asking : SessionState = record old {
+        → Answers outcome new (AskHalt keep) (record old {
           state = Playing setup (record play { pacer = record play.pacer { keep = keep } });
           awaited = Halt keep next;
           text = text;
-        } in HaltsAs asking new keep outcome → Leads old new (Asks asking.awaited outcome ∷ []))
-    halt_entered setup play keep next text new playing left (HaltEntered {placed = placed} answered) =
+        })
+    halt_asked setup play keep next text new playing left (PlayHalted {placed = placed} answered) =
         let stopping : Played = record play { pacer = record play.pacer { keep = keep } } in
         let asking : SessionState = record old {
           state = Playing setup stopping;
@@ -636,16 +610,6 @@ module _ (words : List ℕ) where
         let same : Moves old asking = λ kept last was.
         subst (λ st. IsLastIn words st (stream_of old) (flags_of old) kept last) playing was in
         leads_then (moves refl same) (halts (record old { text = text }) setup stopping keep next placed new left answered)
-
-    halt_asked : (setup : Setup) (play : Played) (keep : ℕ) (next : AfterHalt) (text : List ℕ) (new : SessionState)
-        (outcome : Outcome) → old.state ≡ Playing setup play → IsLeftBy play.run keep next
-        → Answers outcome new (AskHalt keep) (record old {
-          state = Playing setup (record play { pacer = record play.pacer { keep = keep } });
-          awaited = Halt keep next;
-          text = text;
-        })
-    halt_asked setup play keep next text new outcome playing left answered =
-        halt_entered setup play keep next text new playing left (halts_as outcome answered)
 
     to : (outcome : Outcome) (new : SessionState) {ask command : Ask} {asking is : SessionState} → ask ≡ command
         → asking ≡ is → Answers outcome new command is → Answers outcome new ask asking
@@ -657,19 +621,19 @@ module _ (words : List ℕ) where
         → RunsAs old ask asking → Answers outcome new ask asking
     message_leads ask asking new outcome rest (Replies text tearing command is) =
         to outcome new command is
-        (replies (record old { text = text; waits = true; tearing = tearing }) new outcome rest refl (waiting tearing))
+        (replies (record old { text = text; waits = true; tearing = tearing }) new rest refl (waiting tearing))
     message_leads ask asking new outcome rest (SetsUp text setup init command is) =
         let asked : SessionState = record old { text = text; waits = true; state = Ready setup None } in
-        to outcome new command is (replies asked new outcome rest refl (set_up asked setup init refl refl))
+        to outcome new command is (replies asked new rest refl (set_up asked setup init refl refl))
     message_leads ask asking new outcome rest
         (AsksPlay stored setup paused prepared text ready at next frames command is) =
-        to outcome new command is (plays stored setup paused prepared text ready at next frames new outcome)
+        to outcome new command is (plays stored setup paused prepared text ready at next frames new)
     message_leads ask asking new outcome rest (Stops setup play keep next text playing left command is) =
-        to outcome new command is (halt_asked setup play keep next text new outcome playing left)
+        to outcome new command is (halt_asked setup play keep next text new playing left)
     message_leads ask asking new outcome rest (AsksLook sequence command is) =
-        to outcome new command is (looks_at sequence old.heard new outcome)
+        to outcome new command is (looks_at sequence old.heard new)
     message_leads ask asking new outcome rest (AsksOffer plan offers sequence command is) =
-        to outcome new command is (offers_of plan offers sequence new outcome)
+        to outcome new command is (offers_of plan offers sequence new)
 
   -- ---- elements and events
 
@@ -681,7 +645,8 @@ module _ (words : List ℕ) where
       let made : List StationRequest = Asks heard.asking.awaited outcome ∷ [] in
       let one : Leads old.session replied.answered made =
       message_leads old.session replied.next.replied replied.next.torn heard.ask heard.asking replied.answered outcome
-      stands.rest (runs_as old.session message heard.ask heard.asking stands.rest heard.hears) heard.answered in
+      stands.rest (runs_as old.session message heard.ask heard.asking stands.rest heard.hears)
+      (answers_as heard.ask outcome heard.answered) in
       subst (λ (t : Stage). Leads old.session t.session made) (sym replied.new_is)
       (leads_then one (moves (reply_looks (can_reply replied.answered) replied.answered)
       (reply_moves (can_reply replied.answered) replied.answered)))

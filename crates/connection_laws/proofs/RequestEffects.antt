@@ -29,6 +29,7 @@ use Rattle.connection_laws.proofs.StationAnswers.{IsAdmitted, IsLooked, IsRefuse
 use Rattle.connection_laws.proofs.RequestAnswers.{RequestAnswer, OwnReply, SetupReply, Admission, Refusal, HaltMade}
 use Rattle.connection_laws.proofs.RequestAnswers.{LookAnswer, JournalFull, OfferAnswer, HaltRequest, IsAsking}
 use Rattle.connection_laws.proofs.RequestAnswers.{PlayRequest, request_answer}
+use Rattle.connection_laws.proofs.RequestAnswers.{LookRequest}
 
 -- what of a film is being sent: nothing, a play, or the rest of one that was halted
 pub data Sends : Type 0 where
@@ -153,36 +154,34 @@ refused_still {asking} {prepared = prepared} {placed = placed} awaited refused =
       ∙ ap (λ a. booked_by (play_admitted (play_of asking.heard prepared.plan) a) made) refused.answer;
 }
 
-looked_still : {asking new : SessionState} {slot sequence : ℕ} {placed : PlacedEntry}
-    → asking.awaited ≡ Look sequence → IsLooked asking slot placed new → IsStill asking.awaited (Entered placed)
-looked_still {placed = placed} awaited looked = record {
-  none = λ later. ap (λ a. plays_admitted a placed.entry.answer later) awaited;
-  kept = λ later. ap (λ c. kept_by c later) looked.command;
-  untold = λ made. ap (λ c. booked_by (play_admitted c placed.entry.answer) made) looked.command;
-}
+looked_still : {old asking new : SessionState} {placed : PlacedEntry} (look : LookRequest old asking)
+    → IsLooked asking old.heard placed new → IsStill asking.awaited (Entered placed)
+looked_still {placed = placed} look looked = let awaited = ap (λ (s : SessionState). s.awaited) look.waiting.asking_is in
+    record {
+      none = λ later. ap (λ a. plays_admitted a placed.entry.answer later) awaited;
+      kept = λ later. ap (λ c. kept_by c later) looked.command;
+      untold = λ made. ap (λ c. booked_by (play_admitted c placed.entry.answer) made) looked.command;
+    }
 
-admitted_sends : {state : State} {setup : Setup} {paused : Option Run} {prepared : Prepared} {awaited : Awaited}
-    (place start : ℕ)
-    → state ≡ Ready setup paused → awaited ≡ Play prepared
-    → sends_in (admitted_in state awaited place start) ≡ Going (pacing_for prepared start)
-admitted_sends {setup} {paused} {awaited} place start is asks =
-    ap (λ (s : State). sends_in (admitted_in s awaited place start)) is
-    ∙ ap (λ (a : Awaited). sends_in (admitted_in (Ready setup paused) a place start)) asks
+admitted_sends : {old asking : SessionState} (play : PlayRequest old asking) (place start : ℕ)
+    → sends_in (admitted_in asking.state asking.awaited place start) ≡ Going (pacing_for play.prepared start)
+admitted_sends play place start =
+    ap (λ (s : SessionState). sends_in (admitted_in s.state s.awaited place start)) play.waiting.asking_is
+    ∙ ap (λ (s : State). sends_in (admitted_in s (Play play.prepared) place start)) play.ready
 
-play_in : {state : State} {setup : Setup} {paused : Option Run} {prepared : Prepared} {awaited : Awaited}
-    (place start : ℕ)
-    → state ≡ Ready setup paused → awaited ≡ Play prepared → IsPlayIn (admitted_in state awaited place start)
-    → IsPacerState (pacing_for prepared start) × (prepared.paced ≡ prepared.plan)
-play_in {setup} {paused} {prepared} {awaited} place start is asks plays =
+play_in : {old asking : SessionState} (play : PlayRequest old asking) (place start : ℕ)
+    → IsPlayIn (admitted_in asking.state asking.awaited place start)
+    → IsPacerState (pacing_for play.prepared start) × (play.prepared.paced ≡ play.prepared.plan)
+play_in play place start plays =
     let At : State → Awaited → Type 0 = λ s a. IsPlayIn (admitted_in s a place start) in
-    let there : At (Ready setup paused) (Play prepared) =
-    subst (At (Ready setup paused)) asks (subst (λ (s : State). At s awaited) is plays) in
+    let there : At (Ready play.setup play.paused) (Play play.prepared) =
+    subst (λ (s : State). At s (Play play.prepared)) play.ready
+    (subst (λ (s : SessionState). At s.state s.awaited) play.waiting.asking_is plays) in
     (there.pacing, there.plan)
 
 begins_turn : {old asking new : SessionState} {placed : PlacedEntry} (play : PlayRequest old asking)
     → IsAdmitted asking play.prepared.plan placed new → TurnsAs old asking.awaited (Entered placed) new
 begins_turn {old} {asking} {new} {placed} play is =
-    let there : asking.state ≡ Ready setup paused = ap (λ (s : SessionState). s.state) waiting.asking_is ∙ ready in
     let heard : asking.heard ≡ old.heard = ap (λ (s : SessionState). s.heard) waiting.asking_is in
     let awaited : asking.awaited ≡ Play prepared = ap (λ (s : SessionState). s.awaited) waiting.asking_is in
     let plays = subst IsPlayIn (ap (λ (s : SessionState). s.state) is.new_is) is.playing in
@@ -201,13 +200,13 @@ begins_turn {old} {asking} {new} {placed} play is =
       command = is.command ∙ ap (λ h. play_of h prepared.plan) heard;
       later = subst (λ h. h < is.start) heard is.later;
       small = is.small;
-      paced = (play_in placed.place is.start there awaited plays).1;
+      paced = (play_in play placed.place is.start plays).1;
       sends = ap (λ (s : SessionState). sends_in s.state) is.new_is
-          ∙ admitted_sends placed.place is.start there awaited;
-      pacing = (play_in placed.place is.start there awaited plays).0;
+          ∙ admitted_sends play placed.place is.start;
+      pacing = (play_in play placed.place is.start plays).0;
     })
   where
-    open play use {setup, paused, prepared, ready, waiting}
+    open play use {prepared, ready, waiting}
 
 -- a halt's answer
 stopped_sends : (setup : Setup) (play : Played) (next : AfterHalt) → is_answered next ≡ true
@@ -220,11 +219,10 @@ told_if : (b waits : Bool) → b ≡ true → (if b then true else waits) ≡ tr
 told_if true waits is = refl
 told_if false waits is = absurd (let no : ⊥ = cc in no)
 
-halt_state : {state : State} {awaited : Awaited} {setup : Setup} {play : Played} {keep : ℕ} {next : AfterHalt}
-    → state ≡ Playing setup play
-    → awaited ≡ Halt keep next → halted_in state awaited ≡ state_once_halted setup play next
-halt_state {awaited} {setup} {play} {next} is asks =
-    ap (λ (s : State). halted_in s awaited) is ∙ ap (λ (a : Awaited). halted_in (Playing setup play) a) asks
+halt_state : {old asking : SessionState} (halt : HaltRequest old asking)
+    → halted_in asking.state asking.awaited
+    ≡ state_once_halted halt.setup (record halt.play { pacer = record halt.play.pacer { keep = halt.keep } }) halt.next
+halt_state halt = ap (λ (s : SessionState). halted_in s.state s.awaited) halt.asking_is
 
 ends_turn : {old asking new : SessionState} {placed : PlacedEntry} (halt : HaltRequest old asking)
     → IsHaltAnswered asking halt.keep placed new → TurnsAs old asking.awaited (Entered placed) new
@@ -248,7 +246,7 @@ ends_turn {old} {asking} {new} {placed} halt halted =
       answer = halted.answer;
       none = λ later. ap (λ a. plays_admitted a placed.entry.answer later) awaited;
       sends = ap (λ (s : SessionState). sends_in s.state) is
-          ∙ ap sends_in (halt_state (ap (λ (s : SessionState). s.state) asking_is) awaited)
+          ∙ ap sends_in (halt_state halt)
           ∙ stopped_sends setup stopped next told ∙ ap (λ k. Ending (record play.pacer { keep = k })) keep_is;
     })
   where
@@ -268,7 +266,7 @@ turn_of {new = new} (Refusal play is) rest =
 turn_of (HaltMade halt is) rest = ends_turn halt is
 turn_of {new = new} (LookAnswer look is) rest =
     answered_turn new look.waiting (ap play_part is.new_is)
-    (looked_still (ap (λ (s : SessionState). s.awaited) look.waiting.asking_is) is)
+    (looked_still look is)
 turn_of {new = new} (JournalFull awaited waiting is) rest =
     answered_turn new waiting (ap play_part is)
     (record { none = λ later. refl; kept = λ later. refl; untold = λ made. refl })

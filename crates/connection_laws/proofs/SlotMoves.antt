@@ -22,7 +22,7 @@ use Rattle.conn.specs.InputSteps.{Entered, IsHaltAnswered, Outcome, SentPart}
 use Rattle.conn.specs.InputSteps.{due_parts, slot_parts}
 use Rattle.connection_laws.specs.Plays.{StationRequest, Asks, plays_admitted, plays_begun, kept_by, kept_in, kept_with}
 use Rattle.connection_laws.specs.Plays.{plays_of}
-use Rattle.connection_laws.proofs.FilmBytes.{DonePlay, IsSlotOver, Stands, done_kept, done_play, halt_state}
+use Rattle.connection_laws.proofs.FilmBytes.{DonePlay, IsSlotOver, Stands, done_kept, done_play, halted_idle}
 use Rattle.connection_laws.proofs.FilmBytes.{reply_waits, sent_over, taken_later}
 use Rattle.connection_laws.proofs.JoinedFilms.{IsOnTime}
 use Rattle.connection_laws.proofs.TextPlaces.{AreLater, StandAt, from_lower, later_lower, over_at}
@@ -92,7 +92,7 @@ done_move {s} {new} {placed} {pending = pending} finished halted held =
     let none : pending ≡ None = done_unheld s.waits s.heard on.pacing (done_kept p done) here in
     let waits : s.waits ≡ false = subst (λ o. IsHeld o (Going p) s.waits s.heard) none here in
     let sends : sends_in new.state ≡ Idle =
-    ap (λ (n : SessionState). sends_in n.state) halted.halts ∙ halt_state is asks in
+    ap (λ (n : SessionState). sends_in n.state) halted.halts ∙ halted_idle finished in
     let heard : new.heard ≡ s.heard = ap (λ (n : SessionState). n.heard) halted.halts in
     let later : new.waits ≡ false =
     ap (λ (n : SessionState). n.waits) halted.halts
