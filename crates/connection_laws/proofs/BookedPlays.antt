@@ -43,7 +43,7 @@ abbrev pub outcomes_in : List StationRequest → List Outcome
 outcomes_in [] = []
 outcomes_in (Asks asked outcome ∷ askings) = outcome ∷ outcomes_in askings
 
-kept_more : (outcome : Outcome) (made : List PlacedEntry) (all : ℕ)
+pub kept_more : (outcome : Outcome) (made : List PlacedEntry) (all : ℕ)
     → kept_with outcome (kept_among made all) ≡ kept_among (entry_in outcome ++ made) all
 kept_more Unasked made all = refl
 kept_more (Entered placed) made all = refl

@@ -28,6 +28,7 @@ use Rattle.connection_laws.proofs.StationAnswers.{ClosesAs, NothingOpen, Booking
 use Rattle.connection_laws.proofs.CourseTurns.{IsKeptByDoings, doings_kept, last_rest}
 use Rattle.std.proofs.Common.{Option, Some}
 use Rattle.session.specs.SessionStates.{OpenBooking, open_of}
+use Rattle.connection_laws.proofs.KeptParts.{slot_keeps}
 
 abbrev CarriesOf : SessionState → List StationCall → SessionState → Type 0
 CarriesOf old turns new = Carries old.plays old.state turns new.plays new.state
@@ -36,19 +37,6 @@ CarriesOf old turns new = Carries old.plays old.state turns new.plays new.state
 record IsSame (old new : SessionState) : Type 0 where
   plays : new.plays ≡ old.plays
   open-same : (later : List StationCall) → open_note new.state later ≡ open_note old.state later
-
-same_then : (a b c : SessionState) → IsSame a b → IsSame b c → IsSame a c
-same_then a b c one two = record {
-  plays = two.plays ∙ one.plays;
-  open-same = λ later. two.open-same later
-      ∙ one.open-same later;
-}
-
-from_same : (old mid new : SessionState) (turns : List StationCall) → IsSame old mid → CarriesOf mid turns new
-    → CarriesOf old turns new
-from_same old mid new turns same on =
-    carries_as (sym same.plays) (λ later. sym (same.open-same later)) refl
-    (λ later. refl) on
 
 to_same : (old mid new : SessionState) (turns : List StationCall) → IsSame mid new → CarriesOf old turns mid
     → CarriesOf old turns new
@@ -81,29 +69,21 @@ settled_open (Ready setup paused) later = refl
 settled_open (Playing setup play) later = refl
 settled_open (Stopping setup stop) later = refl
 
-reply_same : (goes : Bool) (s : SessionState) → IsSame s (if goes then sent_reply s else s)
-reply_same true s = record { plays = refl; open-same = λ later. settled_open s.state later }
-reply_same false s = record { plays = refl; open-same = λ later. refl }
-
-due_same : (old : SessionState) (slot : ℕ) → IsSame old (sent_due old slot)
-due_same old slot = record { plays = refl; open-same = λ later. due_open old.waits slot old.state later }
-
-slot_same : (old : SessionState) (slot : ℕ) → IsSame old (sent_slot old slot)
-slot_same old slot =
-    same_then old (sent_due old slot) (sent_slot old slot) (due_same old slot)
-    (reply_same (old.waits && is_between (stepped_in true slot old.state)) (sent_due old slot))
-
-slotted_if : (old : SessionState) (slot : ℕ) (taken sending : Bool)
-    → IsSame old (if taken then (if sending then after_play (sent_slot old slot) else record old
-    { heard = slot }) else old)
-slotted_if old slot true true =
-    let same = slot_same old slot in
-    record { plays = same.plays; open-same = same.open-same }
-slotted_if old slot true false = record { plays = refl; open-same = λ later. refl }
-slotted_if old slot false sending = record { plays = refl; open-same = λ later. refl }
-
 slotted_same : (old : SessionState) (slot : ℕ) → IsSame old (after_slot old slot)
-slotted_same old slot = slotted_if old slot (is_taken old slot) (is_sending old.state)
+slotted_same old slot = record {
+  plays = slot_keeps {part = λ (s : SessionState). s.plays} (record {
+    reply = λ s. refl;
+    due = λ s n. refl;
+    done = λ s. refl;
+    idle = λ s n. refl;
+  }) old slot;
+  open-same = λ later. slot_keeps {part = λ (s : SessionState). open_note s.state later} (record {
+    reply = λ s. settled_open s.state later;
+    due = λ s n. due_open s.waits n s.state later;
+    done = λ s. refl;
+    idle = λ s n. refl;
+  }) old slot;
+}
 
 kept_halt : (state : State) (awaited : Awaited) (keep : ℕ) (next : AfterHalt) → awaited ≡ Halt keep next
     → IsKept state awaited keep
@@ -185,7 +165,8 @@ carries_kept = record {
   none = λ s. carries_none s.plays s.state;
   joins = λ a b c xs ys one two. carries_then one two;
   request = λ old new message outcome heard. heard_on old new message outcome heard;
-  reply = λ s. to_same s s (sent_reply s) [] (reply_same true s) (carries_none s.plays s.state);
+  reply = λ s. to_same s s (sent_reply s) []
+      (record { plays = refl; open-same = λ later. settled_open s.state later }) (carries_none s.plays s.state);
   slot = λ s n. to_same s s (after_slot s n) [] (slotted_same s n) (carries_none s.plays s.state);
   finish = λ awaited halt s new finishing asks. finished_turn finishing asks;
   bytes = λ s. unasked_turn s.plays s.state s;

@@ -34,6 +34,7 @@ use Rattle.connection_laws.proofs.RequestAnswers.{LookAnswer, JournalFull, Offer
 use Rattle.connection_laws.proofs.PlayNotes.{begun_note, no_note}
 use Rattle.session.specs.SessionStates.{OpenBooking}
 use Rattle.conn.specs.InputSteps.{IsHaltAnswered}
+use Rattle.connection_laws.proofs.BookedPlays.{kept_more}
 
 -- the play that an answer's entry records
 abbrev placed_by : Outcome → List PlacedEntry → List PlacedPlay
@@ -69,13 +70,6 @@ noted_append (x ∷ xs) ys one two = (one.0, noted_append xs ys one.1 two)
 -- ---- turns and entries
 abbrev made_by_turns : List StationCall → List PlacedEntry
 made_by_turns turns = entries_in (map outcome_of turns)
-
-kept_more : (outcome : Outcome) (made : List PlacedEntry) (all : ℕ)
-    → kept_with outcome (kept_among made all) ≡ kept_among (entry_in outcome ++ made) all
-kept_more Unasked made all = refl
-kept_more (Entered placed) made all = refl
-kept_more (WasFull more entries live) made all = refl
-kept_more (Offered at_slot note) made all = refl
 
 keeps_as : (turns : List StationCall) → KeepsAs turns (made_by_turns turns)
 keeps_as [] all = refl

@@ -58,6 +58,7 @@ use Rattle.connection_laws.proofs.StationAnswers.{FinishesAs, NothingLeft, DoneH
 use Rattle.connection_laws.proofs.StationAnswers.{ComesAs, BytesCame, SlotCame}
 use Rattle.connection_laws.proofs.CourseAskings.{IsKeptByAskings, course_kept}
 use Rattle.conn.specs.InputSteps.{IsHaltAnswered}
+use Rattle.connection_laws.proofs.KeptParts.{reply_keeps, slot_keeps}
 
 -- what the runs of a session go by, and what of a reply matters to them
 record Stream : Type 0 where
@@ -240,16 +241,14 @@ module _ (words : List ℕ) where
     | inr rest ↦ inr rest
   ]
 
-  reply_looks : (goes : Bool) (s : SessionState) → (if goes then sent_reply s else s).looks_left ≡ s.looks_left
-  reply_looks true s = refl
-  reply_looks false s = refl
-
-  slot_looks : (s : SessionState) (slot : ℕ) (taken sending : Bool)
-      → (if taken then (if sending then after_play (sent_slot s slot) else record s { heard = slot }) else s).looks_left
-      ≡ s.looks_left
-  slot_looks s slot true true = reply_looks (s.waits && is_between (stepped_in true slot s.state)) (sent_due s slot)
-  slot_looks s slot true false = refl
-  slot_looks s slot false sending = refl
+  slot_looks : (s : SessionState) (slot : ℕ) → (after_slot s slot).looks_left ≡ s.looks_left
+  slot_looks s slot =
+      slot_keeps {part = λ (t : SessionState). t.looks_left} (record {
+        reply = λ t. refl;
+        due = λ t n. refl;
+        done = λ t. refl;
+        idle = λ t n. refl;
+      }) s slot
 
   reply_moves : (goes : Bool) (s : SessionState) → Moves s (if goes then sent_reply s else s)
   reply_moves true s = λ kept last is. stopped (standing s kept last) s.state is
@@ -386,7 +385,7 @@ module _ (words : List ℕ) where
       (still (unasked_quiet Nothing) (sym (minus_none old.session.looks_left)) (moves_none old.session))
   comes_leads {old} {opened} stands (SlotCame {slot = slot} finish) =
       let s : SessionState = after_slot old.session slot in
-      leads_then (moves (slot_looks old.session slot (is_taken old.session slot) (is_sending old.session.state))
+      leads_then (moves (slot_looks old.session slot)
       (slot_moves old.session slot (is_taken old.session slot) (is_sending old.session.state)))
       (finishes s opened.session
       (slot_asks old.session slot (is_taken old.session slot) (is_sending old.session.state) stands.rest) refl finish)
@@ -648,7 +647,7 @@ module _ (words : List ℕ) where
       stands.rest (runs_as old.session message heard.ask heard.asking stands.rest heard.hears)
       (answers_as heard.ask outcome heard.answered) in
       subst (λ (t : Stage). Leads old.session t.session made) (sym replied.new_is)
-      (leads_then one (moves (reply_looks (can_reply replied.answered) replied.answered)
+      (leads_then one (moves (reply_keeps (λ (s : SessionState). s.looks_left) (λ s. refl) (can_reply replied.answered) replied.answered)
       (reply_moves (can_reply replied.answered) replied.answered)))
 
   abbrev LeadsOn : SessionState → List StationRequest → SessionState → Type 0
