@@ -51,6 +51,7 @@ use Rattle.connection_laws.proofs.ReplyReadings.{teardown_read as read_teardown}
 use Rattle.connection_laws.proofs.RequestReplies.{IsNamed, named_still, teardown_replied}
 use Rattle.connection_laws.proofs.StationAnswers.{AnswersAs, NoneAsked, PlayAdmitted, PlayRefused, PlayFull, PlayHalted}
 use Rattle.connection_laws.proofs.StationAnswers.{LookMade, LookFull, OfferMade, answers_as}
+use Rattle.admission.specs.declared.entries.Answer.TheVariants.{Overflow, Looked}
 
 -- ---- the films and the id stay
 
@@ -85,21 +86,21 @@ IsOwnReply (AskHalt keep) = ⊤
 IsOwnReply (AskLook slot) = ⊥
 IsOwnReply (AskOffer plan offers) = ⊥
 
--- what is asked was answered, and each reply that it can have is complete
-pub record HasWholeReply (asking : SessionState) (ask : Ask) (outcome : Outcome) (new : SessionState) : Type 0 where
-  pub whole : RepliesAreComplete ask asking
-  pub answered : IsAskAnswered asking ask outcome new
-
 -- the session's own reply is the one that it made, and what SETUP settled stays
-record OwnReply (asking new : SessionState) : Type 0 where
+record OwnReply (asking new : SessionState) (ask : Ask) : Type 0 where
+  complete : RepliesAreComplete ask asking → IsMessage asking.text
   text : new.text ≡ asking.text
   setup : setup_in new.state ≡ setup_in asking.state
 
 own_reply : {asking new : SessionState} {ask : Ask} {outcome : Outcome} → AnswersAs asking new ask outcome
-    → IsOwnReply ask → OwnReply asking new
-own_reply (NoneAsked is) own =
-    record { text = ap (λ (s : SessionState). s.text) is; setup = ap (λ (s : SessionState). setup_in s.state) is }
+    → IsOwnReply ask → OwnReply asking new ask
+own_reply (NoneAsked is) own = record {
+  complete = λ whole. whole;
+  text = ap (λ (s : SessionState). s.text) is;
+  setup = ap (λ (s : SessionState). setup_in s.state) is;
+}
 own_reply {asking} (PlayHalted halt) own = record {
+  complete = λ whole. whole;
   text = ap (λ (s : SessionState). s.text) halt.halts;
   setup = ap (λ (s : SessionState). setup_in s.state) halt.halts ∙ halted_setup asking.state asking.awaited;
 }
@@ -110,59 +111,45 @@ own_reply (LookMade look) own = absurd own
 own_reply (LookFull is) own = absurd own
 own_reply (OfferMade is) own = absurd own
 
-own_complete : (asking : SessionState) (ask : Ask) → IsOwnReply ask → RepliesAreComplete ask asking
-    → IsMessage asking.text
-own_complete asking AskReply own whole = whole
-own_complete asking (AskPlay plan) own whole = absurd own
-own_complete asking (AskHalt keep) own whole = whole
-own_complete asking (AskLook slot) own whole = absurd own
-own_complete asking (AskOffer plan offers) own whole = absurd own
+own_whole : {asking new : SessionState} {ask : Ask} {outcome : Outcome} → AnswersAs asking new ask outcome
+    → IsOwnReply ask → RepliesAreComplete ask asking → IsMessage new.text
+own_whole answers own whole =
+    let its = own_reply answers own in subst IsMessage (sym its.text) (its.complete whole)
 
-own_whole : {asking new : SessionState} (ask : Ask) (outcome : Outcome) → IsOwnReply ask
-    → HasWholeReply asking ask outcome new → IsMessage new.text
-own_whole {asking} {new} ask outcome own has =
-    subst IsMessage (sym (own_reply (answers_as ask outcome has.answered) own).text)
-    (own_complete asking ask own has.whole)
-
--- the reply to a play that was admitted
-pub admitted_whole : {start : ℕ} {placed : PlacedEntry} {asking new : SessionState} (ask : Ask)
-    → placed.entry.answer ≡ Admitted start → start < 2 ^ 64
-    → HasWholeReply asking ask (Entered placed) new → IsMessage new.text
-admitted_whole AskReply is small has = absurd has.answered
-admitted_whole {start} {placed} {asking} {new} (AskPlay plan) is small has =
-    let P : Answer → Type 0 = λ a. IsPlayAnswered asking placed a new in
-    let admitted = subst P is has.answered.1 in
-    subst IsMessage (sym (ap (λ (s : SessionState). s.text) admitted.1)) (has.whole.admission placed.place start small)
-admitted_whole (AskHalt keep) is small has =
-    subst IsMessage (sym (ap (λ (s : SessionState). s.text) has.answered.halts)) has.whole
-admitted_whole {start} {placed} {asking} {new} (AskLook slot) is small has =
-    let L : Answer → Type 0 = λ a. IsLookAnswered asking placed a new in absurd (subst L is has.answered.1)
-admitted_whole (AskOffer plan offers) is small has = absurd has.answered
-
--- the session after a play was admitted
-pub record IsAdmittedFrom (asking : SessionState) (place start : ℕ) (new : SessionState) : Type 0 where
+-- the session after a play was admitted, whose reply is complete if each one that it can have is
+pub record IsAdmittedFrom (asking : SessionState) (ask : Ask) (place start : ℕ) (new : SessionState) : Type 0 where
   pub later : asking.heard < start
   pub new_is : new ≡ after_admission asking place start
+  pub whole : RepliesAreComplete ask asking → start < 2 ^ 64 → IsMessage new.text
 
-pub admitted_from : {start : ℕ} (placed : PlacedEntry) (asking new : SessionState) (ask : Ask)
-    → placed.entry.answer ≡ Admitted start → IsAskAnswered asking ask (Entered placed) new
-    → IsAdmittedFrom asking placed.place start new
-admitted_from placed asking new AskReply is answered = absurd answered
-admitted_from {start} placed asking new (AskPlay plan) is answered =
-    let P : Answer → Type 0 = λ a. IsPlayAnswered asking placed a new in
-    let admitted = subst P is answered.1 in
-    record { later = admitted.0; new_is = admitted.1 }
-admitted_from {start} placed asking new (AskHalt keep) is answered =
-    let clash : Halted ≡ Admitted start = sym answered.answer ∙ is in absurd (let no : ⊥ = cc in no)
-admitted_from {start} placed asking new (AskLook slot) is answered =
-    let L : Answer → Type 0 = λ a. IsLookAnswered asking placed a new in absurd (subst L is answered.1)
-admitted_from placed asking new (AskOffer plan offers) is answered = absurd answered
+pub admitted_from : {start : ℕ} {placed : PlacedEntry} {asking new : SessionState} {ask : Ask}
+    → placed.entry.answer ≡ Admitted start → AnswersAs asking new ask (Entered placed)
+    → IsAdmittedFrom asking ask placed.place start new
+admitted_from {start} {placed} {asking} {new} is (PlayAdmitted play) =
+    let both : Admitted play.start ≡ Admitted start = sym play.answer ∙ is in
+    let same : play.start ≡ start = cc in
+    let new_is : new ≡ after_admission asking placed.place start =
+    play.new_is ∙ ap (after_admission asking placed.place) same in
+    record {
+      later = subst (λ n. asking.heard < n) same play.later;
+      new_is = new_is;
+      whole = λ whole small. subst IsMessage (sym (ap (λ (s : SessionState). s.text) new_is))
+          (whole.admission placed.place start small);
+    }
+admitted_from {start} is (PlayRefused play) =
+    let clash : Overflow play.slot play.booked play.asked ≡ Admitted start = sym play.answer ∙ is in
+    absurd (let no : ⊥ = cc in no)
+admitted_from {start} is (PlayHalted halt) =
+    let clash : Halted ≡ Admitted start = sym halt.answer ∙ is in absurd (let no : ⊥ = cc in no)
+admitted_from {start} is (LookMade look) =
+    let clash : Looked look.now look.at look.booked ≡ Admitted start = sym look.answer ∙ is in
+    absurd (let no : ⊥ = cc in no)
 
 pub reply_whole : {old new : SessionState} {message : List ℕ} {outcome : Outcome} (heard : HasHeard old message outcome
     new)
     → heard.ask ≡ AskReply → RepliesAreComplete heard.ask heard.asking → IsMessage new.text
 reply_whole {outcome = outcome} heard is whole =
-    own_whole heard.ask outcome (subst IsOwnReply (sym is) tt) (record { whole = whole; answered = heard.answered })
+    own_whole (answers_as heard.ask outcome heard.answered) (subst IsOwnReply (sym is) tt) whole
 
 -- ---- TEARDOWN
 
@@ -304,7 +291,7 @@ torn_reply {b} {old} {new} {message} {outcome} replied is valid named =
     let heard = replied.heard in
     let own = teardown_own {message = message} b old.session heard.asking heard.ask is heard.hears in
     let complete = replies_whole old.session message heard.ask heard.asking valid (teardown_room b is) heard.hears in
-    let whole = own_whole heard.ask outcome own (record { whole = complete; answered = heard.answered }) in
+    let whole = own_whole (answers_as heard.ask outcome heard.answered) own complete in
     let told = teardown_replied b old.session heard.ask heard.asking named is heard.hears in
     let its = own_reply (answers_as heard.ask outcome heard.answered) own in
     let text : replied.answered.text ≡ session_text 3 old.session.id =

@@ -39,6 +39,8 @@ use Rattle.connection_laws.proofs.SetupOnly.{Beginning, IsUnbegun, IsWaiting}
 use Rattle.connection_laws.proofs.KeptParts.{answered_names}
 use Rattle.connection_laws.proofs.RequestReplies.{asked_named}
 use Rattle.connection_laws.proofs.RequestReplies.{AsksClientPlay}
+use Rattle.conn.specs.InputSteps.{Entered}
+use Rattle.connection_laws.proofs.StationAnswers.{answers_as}
 
 -- ---- numbers in their ranges
 
@@ -157,8 +159,8 @@ play_begun {b} {old} {new} {outcome = outcome} waits valid heard is begins whole
     let asking = heard.asking in
     let asked = play_asked b old heard.ask asking begins.prepared waits begins.asked_is is heard.hears in
     let place = begins.placed.place in
-    let admitted = admitted_from begins.placed asking new heard.ask begins.answer
-    (subst (λ o. IsAskAnswered asking heard.ask o new) begins.outcome_is heard.answered) in
+    let admitted = admitted_from begins.answer (answers_as heard.ask (Entered begins.placed)
+    (subst (λ o. IsAskAnswered asking heard.ask o new) begins.outcome_is heard.answered)) in
     let state : setup_in new.state ≡ Some asked.setup =
     ap (λ (s : SessionState). setup_in s.state) admitted.new_is
     ∙ ap₂ (λ s a. setup_in (admitted_in s a place begins.start)) (asked.state ∙ asked.ready) begins.asked_is in

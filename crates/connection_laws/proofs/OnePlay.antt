@@ -42,7 +42,7 @@ use Rattle.session_laws.proofs.SetupLemmas.{IsSetupRequest}
 use Rattle.connection_laws.proofs.RequestEffects.{Begins, Ends, Starts, Stays, TurnsAs, turns_as}
 use Rattle.connection_laws.proofs.SetupOnly.{Beginning, IsWaiting, answered_waits, opened_waits, reply_same}
 use Rattle.connection_laws.proofs.SetupOnly.{setup_asked}
-use Rattle.connection_laws.proofs.CompleteReplies.{AreTeardowns, AreWhole, admitted_whole, answered_named, opened_named}
+use Rattle.connection_laws.proofs.CompleteReplies.{AreTeardowns, AreWhole, admitted_from, answered_named, opened_named}
 use Rattle.connection_laws.proofs.CompleteReplies.{id_printed, play_room, reply_whole, rounds_torn, setup_room}
 use Rattle.connection_laws.proofs.CompleteReplies.{takings_torn}
 use Rattle.connection_laws.proofs.CompleteReplies.{teardowns_cut, whole_later}
@@ -53,6 +53,8 @@ use Rattle.connection_laws.proofs.KeptSetups.{opened_setup, replied_setup}
 use Rattle.connection_laws.specs.WatchEnds.{AreAnswers}
 use Rattle.connection_laws.proofs.ReplyReadings.{IsSetupRead, setup_read}
 use Rattle.connection_laws.proofs.RequestReplies.{IsNamed, named_still, setup_replied}
+use Rattle.conn.specs.InputSteps.{Entered}
+use Rattle.connection_laws.proofs.StationAnswers.{answers_as}
 
 -- ---- the walk to PLAY
 
@@ -243,10 +245,8 @@ play_whole : {b : Beginning} {out : Outlook} {old : SessionState} {message : Lis
 play_whole later heard taken whole (Stays same after still) = absurd (not_begun later taken (still.none later))
 play_whole later heard taken whole (Ends after halts) = absurd (not_begun later taken (halts.none later))
 play_whole {out = out} {new = new} later heard taken whole (Starts after begins) =
-    admitted_whole heard.ask begins.answer begins.small (record {
-      whole = whole;
-      answered = subst (λ o. IsAskAnswered heard.asking heard.ask o new) begins.outcome_is heard.answered;
-    })
+    (admitted_from begins.answer (answers_as heard.ask (Entered begins.placed)
+    (subst (λ o. IsAskAnswered heard.asking heard.ask o new) begins.outcome_is heard.answered))).whole whole begins.small
 
 -- and what the client reads in it
 play_read : {b : Beginning} {out : Outlook} {old : SessionState} {message : List ℕ} {outcome : Outcome}
