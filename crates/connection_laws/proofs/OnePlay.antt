@@ -186,79 +186,85 @@ record IsPlayBegun (out : Outlook) (mine : FilmPlay) (later : List StationReques
   same : mine ≡ out.play
   rest : plays_of later ≡ out.others
 
-begun_same : {b : Beginning} {out : Outlook} {old : SessionState} {message : List ℕ} {asked : Awaited} {outcome :
-    Outcome}
-    {new : SessionState} (later : List StationRequest) → IsPlayTaken b out old message (Asks asked outcome) later
-    → (begins : Begins old asked outcome new) → IsPlayBegun out (play_begun later begins) later
-begun_same {out = out} {asked = asked} {outcome = outcome} later taken begins =
+-- PLAY is processed with this answer, before what is asked later
+record PlayTurn (b : Beginning) (out : Outlook) : Type 0 where
+  old : SessionState
+  new : SessionState
+  message : List ℕ
+  outcome : Outcome
+  later : List StationRequest
+  heard : HasHeard old message outcome new
+  taken : IsPlayTaken b out old message (Asks heard.asking.awaited outcome) later
+
+abbrev Turns : {b : Beginning} {out : Outlook} → PlayTurn b out → Type 0
+Turns turn = TurnsAs turn.old turn.heard.asking.awaited turn.outcome turn.new
+
+begun_same : {b : Beginning} {out : Outlook} (turn : PlayTurn b out)
+    (begins : Begins turn.old turn.heard.asking.awaited turn.outcome turn.new)
+    → IsPlayBegun out (play_begun turn.later begins) turn.later
+begun_same {out = out} turn begins =
     let mine = play_begun later begins in
-    let made : plays_begun asked outcome later ≡ mine ∷ [] =
-    ap (λ o. plays_begun asked o later) begins.outcome_is
+    let made : plays_begun heard.asking.awaited outcome later ≡ mine ∷ [] =
+    ap (λ o. plays_begun heard.asking.awaited o later) begins.outcome_is
     ∙ (ap (λ a. plays_admitted a begins.placed.entry.answer later) begins.asked_is
     ∙ ap (λ a. plays_admitted (Play begins.prepared) a later) begins.answer) in
     let all : mine ∷ plays_of later ≡ out.play ∷ out.others = sym (ap (λ l. l ++ plays_of later) made) ∙ taken.plays in
     record { same = cc; rest = cc }
+  where
+    open turn use {outcome, later, heard, taken}
 
 -- a play begins at PLAY
-begun_play : {b : Beginning} {out : Outlook} {old : SessionState} {message : List ℕ} {asked : Awaited} {outcome :
-    Outcome}
-    {new : SessionState} (later : List StationRequest) (slots : List ℕ) → IsPlayTaken b out old message (Asks asked
-    outcome) later
-    → (begins : Begins old asked outcome new) → IsPlayHeard old message begins.prepared
-    → IsOnePlay b out old.heard 0 (old.heard ∷ slots)
-begun_play {b} {out} {old} {message} {asked} {outcome} {new} later slots taken begins hears =
-    let begun = begun_same later taken begins in
+begun_play : {b : Beginning} {out : Outlook} (turn : PlayTurn b out) (slots : List ℕ)
+    (begins : Begins turn.old turn.heard.asking.awaited turn.outcome turn.new)
+    → IsPlayHeard turn.old turn.message begins.prepared
+    → IsOnePlay b out turn.old.heard 0 (turn.old.heard ∷ slots)
+begun_play {b} {out} turn slots begins hears =
+    let begun = begun_same turn begins in
     let same = begun.same in
-    let late : old.heard < out.play.start = subst (λ (p : FilmPlay). old.heard < p.start) same begins.later in
+    let late : turn.old.heard < out.play.start =
+    subst (λ (p : FilmPlay). turn.old.heard < p.start) same begins.later in
     record {
-      wished = subst (IsWished b) same (wished_play taken.waits taken.message_is hears refl refl refl);
-      alone = sym begun.rest ∙ taken.none;
+      wished = subst (IsWished b) same (wished_play turn.taken.waits turn.taken.message_is hears refl refl refl);
+      alone = sym begun.rest ∙ turn.taken.none;
       late = late;
       before = (late, tt);
     }
 
 -- nothing begins at PLAY, though a play is to come
-not_begun : {b : Beginning} {out : Outlook} {old : SessionState} {message : List ℕ} {asked : Awaited} {outcome :
-    Outcome}
-    (later : List StationRequest) → IsPlayTaken b out old message (Asks asked outcome) later
-    → plays_begun asked outcome later ≡ [] → ⊥
-not_begun {out = out} later taken begun =
+not_begun : {b : Beginning} {out : Outlook} (turn : PlayTurn b out)
+    → plays_begun turn.heard.asking.awaited turn.outcome turn.later ≡ [] → ⊥
+not_begun {out = out} turn begun =
     let clash : [] ≡ out.play ∷ out.others =
-    sym taken.none ∙ (sym (ap (λ l. l ++ plays_of later) begun) ∙ taken.plays) in
+    sym turn.taken.none ∙ (sym (ap (λ l. l ++ plays_of turn.later) begun) ∙ turn.taken.plays) in
     let no : ⊥ = cc in no
 
-play_turn : {b : Beginning} {out : Outlook} {old : SessionState} {message : List ℕ} {outcome : Outcome}
-    {new : SessionState} (later : List StationRequest) (slots : List ℕ) (heard : HasHeard old message outcome new)
-    → IsPlayTaken b out old message (Asks heard.asking.awaited outcome) later
-    → TurnsAs old heard.asking.awaited outcome new → IsOnePlay b out old.heard 0 (old.heard ∷ slots)
-play_turn later slots heard taken (Stays same after still) = absurd (not_begun later taken (still.none later))
-play_turn later slots heard taken (Ends after halts) = absurd (not_begun later taken (halts.none later))
-play_turn {b} {out} {old} {message} {outcome} {new} later slots heard taken (Starts after begins) =
-    begun_play later slots taken begins
-    (play_heard old message heard.ask heard.asking begins.prepared taken.waits.stands.rest begins.asked_is heard.hears)
+play_turn : {b : Beginning} {out : Outlook} (turn : PlayTurn b out) (slots : List ℕ) → Turns turn
+    → IsOnePlay b out turn.old.heard 0 (turn.old.heard ∷ slots)
+play_turn turn slots (Stays same after still) = absurd (not_begun turn (still.none turn.later))
+play_turn turn slots (Ends after halts) = absurd (not_begun turn (halts.none turn.later))
+play_turn turn slots (Starts after begins) =
+    begun_play turn slots begins
+    (play_heard turn.old turn.message turn.heard.ask turn.heard.asking begins.prepared turn.taken.waits.stands.rest
+    begins.asked_is turn.heard.hears)
 
 -- its reply is complete
-play_whole : {b : Beginning} {out : Outlook} {old : SessionState} {message : List ℕ} {outcome : Outcome}
-    {new : SessionState} (later : List StationRequest) (heard : HasHeard old message outcome new)
-    → IsPlayTaken b out old message (Asks heard.asking.awaited outcome) later
-    → RepliesAreComplete heard.ask heard.asking → TurnsAs old heard.asking.awaited outcome new → IsMessage new.text
-play_whole later heard taken whole (Stays same after still) = absurd (not_begun later taken (still.none later))
-play_whole later heard taken whole (Ends after halts) = absurd (not_begun later taken (halts.none later))
-play_whole {out = out} {new = new} later heard taken whole (Starts after begins) =
-    (admitted_from begins.answer (answers_as heard.ask (Entered begins.placed)
-    (subst (λ o. IsAskAnswered heard.asking heard.ask o new) begins.outcome_is heard.answered))).whole whole begins.small
+play_whole : {b : Beginning} {out : Outlook} (turn : PlayTurn b out)
+    → RepliesAreComplete turn.heard.ask turn.heard.asking → Turns turn → IsMessage turn.new.text
+play_whole turn whole (Stays same after still) = absurd (not_begun turn (still.none turn.later))
+play_whole turn whole (Ends after halts) = absurd (not_begun turn (halts.none turn.later))
+play_whole turn whole (Starts after begins) =
+    (admitted_from begins.answer (answers_as turn.heard.ask (Entered begins.placed)
+    (subst (λ o. IsAskAnswered turn.heard.asking turn.heard.ask o turn.new) begins.outcome_is
+    turn.heard.answered))).whole whole begins.small
 
 -- and what the client reads in it
-play_read : {b : Beginning} {out : Outlook} {old : SessionState} {message : List ℕ} {outcome : Outcome}
-    {new : SessionState} (later : List StationRequest) (heard : HasHeard old message outcome new) → HasValidIds old
-    → IsPlayTaken b out old message (Asks heard.asking.awaited outcome) later → IsMessage new.text
-    → TurnsAs old heard.asking.awaited outcome new → IsPlayBegunAt b out.play.start old new
-play_read later heard valid taken whole (Stays same after still) = absurd (not_begun later taken (still.none later))
-play_read later heard valid taken whole (Ends after halts) = absurd (not_begun later taken (halts.none later))
-play_read {b} {out} {old} {new = new} later heard valid taken whole (Starts after begins) =
-    let same = (begun_same later taken begins).same in
-    subst (λ (p : FilmPlay). IsPlayBegunAt b p.start old new) same
-    (play_begun_at taken.waits valid heard taken.message_is begins whole)
+play_read : {b : Beginning} {out : Outlook} (turn : PlayTurn b out) → HasValidIds turn.old → IsMessage turn.new.text
+    → Turns turn → IsPlayBegunAt b out.play.start turn.old turn.new
+play_read turn valid whole (Stays same after still) = absurd (not_begun turn (still.none turn.later))
+play_read turn valid whole (Ends after halts) = absurd (not_begun turn (halts.none turn.later))
+play_read {b} turn valid whole (Starts after begins) =
+    subst (λ (p : FilmPlay). IsPlayBegunAt b p.start turn.old turn.new) (begun_same turn begins).same
+    (play_begun_at turn.taken.waits valid turn.heard turn.taken.message_is begins whole)
 
 -- what is processed from these elements on, in this slot
 abbrev from_takings : (slot : ℕ) (old : Stage) (takings : List ElementStep) (new : Stage) → TakesAll old takings new
@@ -351,19 +357,26 @@ play_walk : {b : Beginning} {out : Outlook} {slot : ℕ} {later : Later} {old ne
     → Leads b out new.session slot later → IsAhead b out old.session slot [] (from_first slot first later)
     → IsPlayedWhole b out old.session slot 0 (from_first slot first later).slots (from_first slot first later).replies
 play_walk {b} {out} {slot} {later} {old} {new} first leads is =
-    let more = asked_after first later in
     let front = takings_requests takings in
     let play = play_first first leads is in
-    let taken = play.0 in
     let heard = replied.heard in
     let turns = turns_as old.session message outcome replied.answered heard is.waits.stands.rest in
     let slots = takings_slots slot takings ++ later.slots in
-    let whole = replies_whole old.session message heard.ask heard.asking is.named (play_room b taken.message_is)
+    let whole = replies_whole old.session message heard.ask heard.asking is.named (play_room b play.0.message_is)
     heard.hears in
+    let turn : PlayTurn b out = record {
+      old = old.session;
+      new = replied.answered;
+      message = message;
+      outcome = outcome;
+      later = asked_after first later;
+      heard = heard;
+      taken = play.0;
+    } in
     let torn : AreTeardowns b (front ++ later.requests) = subst (AreTeardowns b) (sym play.1) is.teardowns in
     let cut = teardowns_cut b front later.requests torn in
-    let mine = play_whole more heard taken whole turns in
-    let begun = play_read more heard is.named taken mine turns in
+    let mine = play_whole turn whole turns in
+    let begun = play_read turn is.named mine turns in
     let own : IsNamed b mid.session =
     subst (λ (s : Stage). IsNamed b s.session) (sym replied.new_is)
     (named_still (replied_setup replied.answered) begun.own) in
@@ -371,7 +384,7 @@ play_walk {b} {out} {slot} {later} {old} {new} first leads is =
     (record { named = answered_named replied is.named; own = own; teardowns = cut.0 }) in
     let after = whole_later {b = b} later.replies next (λ named still. leads.torn named still cut.1) in
     record {
-      one = subst (λ h. IsOnePlay b out h 0 (h ∷ slots)) is.heard (play_turn more slots heard taken turns);
+      one = subst (λ h. IsOnePlay b out h 0 (h ∷ slots)) is.heard (play_turn turn slots turns);
       whole = (mine, after.0);
       ready = begun.ready;
       read = λ few. (begun.answer few, after.1);
