@@ -9,7 +9,7 @@ use Rattle.wire_curve.specs.declared.film.CurveFault.TheVariants.{NoPictures, To
 use Rattle.wire_curve.specs.declared.film.Timing.{Timing}
 use Rattle.wire_curve.specs.CurveFaults.{HasCurveFault, IsAccepted}
 use Rattle.film_run.specs.Pauses.{IsRemainingRun}
-use Rattle.film_run.specs.Plans.{rest_sizes, timing_of}
+use Rattle.film_run.specs.Plans.{IsPlanOf, rest_sizes, timing_of}
 use Rattle.film_run.proofs.RemainingRunLemmas.{left-one}
 use Rattle.film_run.proofs.PlanLemmas.{sending-one}
 use Rattle.slot_calendar.specs.Plays.{truncated_play}
@@ -27,6 +27,7 @@ use Rattle.day_script.specs.declared.scripts.Line.TheVariants as lines
 use Rattle.day_run.specs.DayLaws.{IsLink, IsSoundRest, IsSoundClient}
 use Rattle.day_script.specs.Scripts.{AreClients}
 use Rattle.day_run.specs.Days.{AreLineSteps, AskedPlay, IsAnsweredPlay, IsAsked, IsDay, IsFaulty, IsFull}
+use Rattle.day_run.specs.Days.{rest_at}
 use Rattle.day_run.specs.Days.{IsHaltedPlay, IsLine, IsLookLine, IsNoted, IsOfferLine, IsPauseLine}
 use Rattle.day_run.specs.Days.{IsResumeLine, IsTold, SharedLink, DayState, entry_by}
 use Rattle.day_run.specs.Days.{last_journal, last_lines, state_at, with_play}
@@ -50,94 +51,126 @@ fault-apart sizes timing (BufferTooSmall slot used least) has accepted =
     omega (arith, x.used_is, x.above_buffer, accepted.buffer_holds slot x.in_range)
 
 -- ---- a line has one outcome
-pub record IsOne (new new' : DayState) (text text' : List ℕ) : Type 0 where
-  pub new_is : new ≡ new'
-  pub text_is : text ≡ text'
+-- a day after a line, and what the line prints
+pub record Outcome : Type 0 where
+  pub new : DayState
+  pub text : List ℕ
 
-pub one-told : {told : List ℕ} {old new new' : DayState} {text text' : List ℕ} → IsTold told old new text
-    → IsTold told old new' text' → IsOne new new' text text'
-one-told {new} {text} a b = record { new_is = a.kept ∙ sym b.kept; text_is = a.text_is ∙ sym b.text_is }
+-- two outcomes of a moment on a link
+pub record OutcomePair : Type 0 where
+  pub link : SharedLink
+  pub old : DayState
+  pub one : Outcome
+  pub other : Outcome
 
-one-noted : {link : SharedLink} {one other : Entry} {states states' : List ClientState} {old new new' : DayState}
-    {text text' : List ℕ} → one ≡ other → states ≡ states'
-    → IsNoted link one states old new text → IsNoted link other states' old new' text' → IsOne new new' text text'
-one-noted {one} {other} {states} {old} {new} {text} e s a b = record {
-  new_is =
-      a.new_is ∙ ap (λ x. record { entries = old.entries ++ x ∷ []; states = states; heard = old.heard }) e
-      ∙ ap (λ l. record { entries = old.entries ++ other ∷ []; states = l; heard = old.heard }) s ∙ sym b.new_is;
-  text_is = a.text_is ∙ ap (entry_line (length old.entries)) e ∙ sym b.text_is;
-}
+-- they are the same
+pub record IsOne (pair : OutcomePair) : Type 0 where
+  pub new_is : pair.one.new ≡ pair.other.new
+  pub text_is : pair.one.text ≡ pair.other.text
 
-one-planned : {link : SharedLink} {ask : AskedPlay} {old new new' : DayState} {text text' : List ℕ}
-    → (IsFull link 2 old new text ⊎ IsAnsweredPlay link ask old new text)
-    → (IsFull link 2 old new' text' ⊎ IsAnsweredPlay link ask old new' text')
-    → IsOne new new' text text'
-one-planned {ask} {new} {text} (inl a) (inl b) = one-told a.told b.told
-one-planned {ask} {new} {text} (inl a) (inr b) = absurd (omega (arith, a.full, b.room))
-one-planned {ask} {new} {text} (inr a) (inl b) = absurd (omega (arith, a.room, b.full))
-one-planned {link} {ask} {old} {new} {text} (inr a) (inr b) =
+-- both are such outcomes
+record AreBoth (pair : OutcomePair) (Is : DayState → DayState → List ℕ → Type 0) : Type 0 where
+  a : Is pair.old pair.one.new pair.one.text
+  b : Is pair.old pair.other.new pair.other.text
+
+pub one-told : {told : List ℕ} (pair : OutcomePair) → IsTold told pair.old pair.one.new pair.one.text
+    → IsTold told pair.old pair.other.new pair.other.text → IsOne pair
+one-told pair a b = record { new_is = a.kept ∙ sym b.kept; text_is = a.text_is ∙ sym b.text_is }
+
+-- the same entry and the same clients
+record SameNoted (one other : Entry) (states states' : List ClientState) : Type 0 where
+  entry : one ≡ other
+  clients : states ≡ states'
+
+one-noted : {one other : Entry} {states states' : List ClientState} (pair : OutcomePair)
+    → SameNoted one other states states'
+    → IsNoted pair.link one states pair.old pair.one.new pair.one.text
+    → IsNoted pair.link other states' pair.old pair.other.new pair.other.text → IsOne pair
+one-noted {one} {other} {states} pair same a b =
+    let old = pair.old in
+    record {
+      new_is =
+          a.new_is
+          ∙ ap (λ x. record { entries = old.entries ++ x ∷ []; states = states; heard = old.heard }) same.entry
+          ∙ ap (λ l. record { entries = old.entries ++ other ∷ []; states = l; heard = old.heard }) same.clients
+          ∙ sym b.new_is;
+      text_is = a.text_is ∙ ap (entry_line (length old.entries)) same.entry ∙ sym b.text_is;
+    }
+
+-- the journal is full, or the play is answered
+abbrev IsFullOrAnswered : SharedLink → AskedPlay → DayState → DayState → List ℕ → Type 0
+IsFullOrAnswered link ask old new text = IsFull link 2 old new text ⊎ IsAnsweredPlay link ask old new text
+
+one-planned : {ask : AskedPlay} (pair : OutcomePair)
+    → IsFullOrAnswered pair.link ask pair.old pair.one.new pair.one.text
+    → IsFullOrAnswered pair.link ask pair.old pair.other.new pair.other.text → IsOne pair
+one-planned pair (inl a) (inl b) = one-told pair a.told b.told
+one-planned pair (inl a) (inr b) = absurd (omega (arith, a.full, b.room))
+one-planned pair (inr a) (inl b) = absurd (omega (arith, a.room, b.full))
+one-planned {ask} pair (inr a) (inr b) =
+    let old = pair.old in
     let same : a.answer ≡ b.answer =
-    answer-once (record { steps = link.steps; state = state_after old.entries }) (commands.Play old.heard ask.plan)
-    a.answer b.answer a.noted.answered b.noted.answered in
-    one-noted (ap (entry_by ask.client (commands.Play old.heard ask.plan)) same)
-    (ap (λ x. with_play ask.client ask.rest ask.plan (length old.entries) x old.states) same) a.noted b.noted
+    answer-once (record { steps = pair.link.steps; state = state_after old.entries })
+    (commands.Play old.heard ask.plan) a.answer b.answer a.noted.answered b.noted.answered in
+    one-noted pair (record {
+      entry = ap (entry_by ask.client (commands.Play old.heard ask.plan)) same;
+      clients = ap (λ x. with_play ask.client ask.rest ask.plan (length old.entries) x old.states) same;
+    }) a.noted b.noted
 
-one-fault : {rest : Rest} {old new new' : DayState} {text text' : List ℕ} → IsFaulty rest old new text
-    → IsFaulty rest old new' text' → IsOne new new' text text'
-one-fault {rest} {old} {new} {text} a b =
+one-fault : {rest : Rest} (pair : OutcomePair) → IsFaulty rest pair.old pair.one.new pair.one.text
+    → IsFaulty rest pair.old pair.other.new pair.other.text → IsOne pair
+one-fault {rest} pair a b =
     let same = HasCurveFault-unique (rest_sizes rest.sizes rest.run) (timing_of rest.playback rest.run) a.fault
     b.fault a.fault_is b.fault_is in
-    let T : CurveFault → Type 0 = λ f. IsTold (fault_text f) old new text in
-    one-told (subst T same a.told) b.told
+    let T : CurveFault → Type 0 = λ f. IsTold (fault_text f) pair.old pair.one.new pair.one.text in
+    one-told pair (subst T same a.told) b.told
 
-one-asked : {link : SharedLink} {c : ℕ} {rest : Rest} {old new new' : DayState} {text text' : List ℕ}
-    → (0 < length (rest_sizes rest.sizes rest.run) → IsSoundRest rest)
-    → IsAsked link c rest old new text → IsAsked link c rest old new' text' → IsOne new new' text text'
-one-asked {c} {new} {text} own (inl a) (inl b) = one-fault a b
-one-asked {c} {rest} {new} {text} own (inl a) (inr b) =
+-- what is to be sent is sound, if there is a picture
+abbrev IsSoundIfAny : Rest → Type 0
+IsSoundIfAny rest = 0 < length (rest_sizes rest.sizes rest.run) → IsSoundRest rest
+
+one-plan : {one other : List Segment} (rest : Rest) → IsSoundIfAny rest
+    → IsPlanOf rest.sizes rest.playback rest.run one → IsPlanOf rest.sizes rest.playback rest.run other → one ≡ other
+one-plan {one} {other} rest own a b =
+    sending-one rest.sizes rest.playback rest.run other
+    (record { can_play = (own b.accepted.some_picture).can; plan_is = b }) one a
+
+one-asked : {c : ℕ} {rest : Rest} (pair : OutcomePair) → IsSoundIfAny rest
+    → IsAsked pair.link c rest pair.old pair.one.new pair.one.text
+    → IsAsked pair.link c rest pair.old pair.other.new pair.other.text → IsOne pair
+one-asked pair own (inl a) (inl b) = one-fault pair a b
+one-asked {rest} pair own (inl a) (inr b) =
     absurd (fault-apart (rest_sizes rest.sizes rest.run)
     (timing_of rest.playback rest.run) a.fault a.fault_is b.plan_is.accepted)
-one-asked {c} {rest} {new} {text} own (inr a) (inl b) =
+one-asked {rest} pair own (inr a) (inl b) =
     absurd (fault-apart (rest_sizes rest.sizes rest.run)
     (timing_of rest.playback rest.run) b.fault b.fault_is a.plan_is.accepted)
-one-asked {link} {c} {rest} {old} {new} {text} own (inr a) (inr b) =
-    let can = (own b.plan_is.accepted.some_picture).can in
-    let same : a.plan ≡ b.plan =
-    sending-one rest.sizes rest.playback rest.run b.plan
-    (record { can_play = can; plan_is = b.plan_is }) a.plan a.plan_is in
+one-asked {c} {rest} pair own (inr a) (inr b) =
     let D : List Segment → Type 0 =
-    λ p. IsFull link 2 old new text
-    ⊎ IsAnsweredPlay link (record { client = c; rest = rest; plan = p }) old new text in
-    one-planned (subst D same a.done) b.done
+    λ p. IsFullOrAnswered pair.link (record { client = c; rest = rest; plan = p }) pair.old pair.one.new
+    pair.one.text in
+    one-planned pair (subst D (one-plan rest own a.plan_is b.plan_is) a.done) b.done
 
--- a client that asks for something at a moment
-record Asker : Type 0 where
-  pub link : SharedLink
-  pub c : ℕ
-  pub old : DayState
+one-play : (pair : OutcomePair) (c : ℕ) (rest : Rest) (state : ClientState) → IsSoundIfAny rest
+    → AreBoth pair (λ old new text. IfBusy state (IsTold state_text old new text)
+    (IsAsked pair.link c rest old new text)) → IsOne pair
+one-play pair c rest Idle own both = one-asked pair own both.a both.b
+one-play pair c rest (Playing play) own both = one-told pair both.a both.b
+one-play pair c rest (Pausing stop left) own both = one-told pair both.a both.b
+one-play pair c rest (Paused left) own both = one-asked pair own both.a both.b
 
-one-play : {rest : Rest} {new new' : DayState} {text text' : List ℕ} (asker : Asker) (state : ClientState)
-    → (0 < length (rest_sizes rest.sizes rest.run) → IsSoundRest rest)
-    → IfBusy state (IsTold state_text asker.old new text) (IsAsked asker.link asker.c rest asker.old new text)
-    → IfBusy state (IsTold state_text asker.old new' text') (IsAsked asker.link asker.c rest asker.old new' text')
-    → IsOne new new' text text'
-one-play {new} {text} asker Idle own a b = one-asked own a b
-one-play {new} {text} asker (Playing play) own a b = one-told a b
-one-play {new} {text} asker (Pausing stop left) own a b = one-told a b
-one-play {new} {text} asker (Paused left) own a b = one-asked own a b
+one-resume : (pair : OutcomePair) (c : ℕ) (state : ClientState) → IsSoundClient pair.old.heard state
+    → AreBoth pair (IsResumeLine pair.link c state) → IsOne pair
+one-resume pair c Idle own both = one-told pair both.a both.b
+one-resume pair c (Playing play) own both = one-told pair both.a both.b
+one-resume pair c (Pausing stop rest) own both = one-told pair both.a both.b
+one-resume pair c (Paused rest) own both = one-asked pair (λ some. own) both.a both.b
 
-one-resume : {new new' : DayState} {text text' : List ℕ} (asker : Asker) (state : ClientState)
-    → IsSoundClient asker.old.heard state → IsResumeLine asker.link asker.c state asker.old new text
-    → IsResumeLine asker.link asker.c state asker.old new' text' → IsOne new new' text text'
-one-resume {new} {text} asker Idle own a b = one-told a b
-one-resume {new} {text} asker (Playing play) own a b = one-told a b
-one-resume {new} {text} asker (Pausing stop rest) own a b = one-told a b
-one-resume {new} {text} asker (Paused rest) own a b = one-asked (λ some. own) a b
-
-one-halted : {link : SharedLink} {c : ℕ} {play : ClientPlay} {old new new' : DayState} {text text' : List ℕ}
-    → IsHaltedPlay link c play old new text
-    → IsHaltedPlay link c play old new' text' → IsOne new new' text text'
-one-halted {c} {play} {old} {new} {text} a b =
+one-halted : {c : ℕ} {play : ClientPlay} (pair : OutcomePair)
+    → IsHaltedPlay pair.link c play pair.old pair.one.new pair.one.text
+    → IsHaltedPlay pair.link c play pair.old pair.other.new pair.other.text → IsOne pair
+one-halted {c} {play} pair a b =
+    let old = pair.old in
     let x = a.pause.boundary in
     let y = b.pause.boundary in
     let keep : a.keep ≡ b.keep = omega (arith, x.least _ y.boundary y.after, y.least _ x.boundary x.after) in
@@ -153,27 +186,27 @@ one-halted {c} {play} {old} {new} {text} a b =
     })) keep
     ∙ ap (λ r. pausing_state old.heard (truncated_play play.start play.plan b.keep) (record play.rest { run = r }))
     left ∙ sym b.pause.state_is in
-    one-noted (ap (λ k. entry_by c (commands.Halt play.number k) Halted) keep)
-    (ap (set old.states c) state) a.noted b.noted
+    one-noted pair (record {
+      entry = ap (λ k. entry_by c (commands.Halt play.number k) Halted) keep;
+      clients = ap (set old.states c) state;
+    }) a.noted b.noted
 
-one-pause : {new new' : DayState} {text text' : List ℕ} (link : SharedLink) (c : ℕ) (state : ClientState)
-    (old : DayState) → IsPauseLine link c state old new text
-    → IsPauseLine link c state old new' text' → IsOne new new' text text'
-one-pause {new} {text} link c Idle old a b = one-told a b
-one-pause {new} {text} link c (Playing play) old a b = one-halted a b
-one-pause {new} {text} link c (Pausing stop rest) old a b = one-told a b
-one-pause {new} {text} link c (Paused rest) old a b = one-told a b
+one-pause : (pair : OutcomePair) (c : ℕ) (state : ClientState) → AreBoth pair (IsPauseLine pair.link c state)
+    → IsOne pair
+one-pause pair c Idle both = one-told pair both.a both.b
+one-pause pair c (Playing play) both = one-halted pair both.a both.b
+one-pause pair c (Pausing stop rest) both = one-told pair both.a both.b
+one-pause pair c (Paused rest) both = one-told pair both.a both.b
 
-one-look : {link : SharedLink} {slot : ℕ} {old new new' : DayState} {text text' : List ℕ}
-    → IsLookLine link slot old new text → IsLookLine link slot old new' text'
-    → IsOne new new' text text'
-one-look {slot} {new} {text} (inl a) (inl b) = one-told a.told b.told
-one-look {slot} {new} {text} (inl a) (inr b) = absurd (omega (arith, a.full, b.room))
-one-look {slot} {new} {text} (inr a) (inl b) = absurd (omega (arith, a.room, b.full))
-one-look {link} {slot} {old} {new} {text} (inr a) (inr b) =
-    let same = answer-once (record { steps = link.steps; state = state_after old.entries }) (commands.Look slot)
-    a.answer b.answer a.noted.answered b.noted.answered in
-    one-noted (ap (entry_by 0 (commands.Look slot)) same) refl a.noted b.noted
+one-look : {slot : ℕ} (pair : OutcomePair) → IsLookLine pair.link slot pair.old pair.one.new pair.one.text
+    → IsLookLine pair.link slot pair.old pair.other.new pair.other.text → IsOne pair
+one-look pair (inl a) (inl b) = one-told pair a.told b.told
+one-look pair (inl a) (inr b) = absurd (omega (arith, a.full, b.room))
+one-look pair (inr a) (inl b) = absurd (omega (arith, a.room, b.full))
+one-look {slot} pair (inr a) (inr b) =
+    let same = answer-once (record { steps = pair.link.steps; state = state_after pair.old.entries })
+    (commands.Look slot) a.answer b.answer a.noted.answered b.noted.answered in
+    one-noted pair (record { entry = ap (entry_by 0 (commands.Look slot)) same; clients = refl }) a.noted b.noted
 
 one-found : (one other : Offers) → one.wait ≡ other.wait → one.start ≡ other.start → one.tried ≡ other.tried
     → one ≡ other
@@ -182,46 +215,46 @@ one-found one other w s t =
     ∙ ap (λ n. record { wait = other.wait; start = n; tried = one.tried }) s
     ∙ ap (λ l. record { wait = other.wait; start = other.start; tried = l }) t
 
-one-offer : {link : SharedLink} {rest : Rest} {wait : ℕ} {old new new' : DayState} {text text' : List ℕ}
-    → (0 < length (rest_sizes rest.sizes rest.run) → IsSoundRest rest)
-    → IsOfferLine link rest wait old new text → IsOfferLine link rest wait old new' text' → IsOne new new' text text'
-one-offer {new} {text} own (inl a) (inl b) = one-fault a b
-one-offer {rest} {new} {text} own (inl a) (inr b) =
+one-offer : {rest : Rest} {wait : ℕ} (pair : OutcomePair) → IsSoundIfAny rest
+    → IsOfferLine pair.link rest wait pair.old pair.one.new pair.one.text
+    → IsOfferLine pair.link rest wait pair.old pair.other.new pair.other.text → IsOne pair
+one-offer pair own (inl a) (inl b) = one-fault pair a b
+one-offer {rest} pair own (inl a) (inr b) =
     absurd (fault-apart (rest_sizes rest.sizes rest.run)
     (timing_of rest.playback rest.run) a.fault a.fault_is b.plan_is.accepted)
-one-offer {rest} {new} {text} own (inr a) (inl b) =
+one-offer {rest} pair own (inr a) (inl b) =
     absurd (fault-apart (rest_sizes rest.sizes rest.run)
     (timing_of rest.playback rest.run) b.fault b.fault_is a.plan_is.accepted)
-one-offer {link} {rest} {old} {new} {text} own (inr a) (inr b) =
-    let can = (own b.plan_is.accepted.some_picture).can in
-    let same : a.plan ≡ b.plan =
-    sending-one rest.sizes rest.playback rest.run b.plan
-    (record { can_play = can; plan_is = b.plan_is }) a.plan a.plan_is in
+one-offer {rest} pair own (inr a) (inr b) =
+    let old = pair.old in
     let booked = booked_in (state_after old.entries) in
     let first = max (state_after old.entries).now old.heard + 1 in
-    let O : List Segment → Type 0 = λ p. IsOffer 0 booked (capacity_at link.steps) p first a.found in
-    let mine : IsOffer 0 booked (capacity_at link.steps) b.plan first a.found = subst O same a.found_is in
+    let O : List Segment → Type 0 = λ p. IsOffer 0 booked (capacity_at pair.link.steps) p first a.found in
+    let mine : IsOffer 0 booked (capacity_at pair.link.steps) b.plan first a.found =
+    subst O (one-plan rest own a.plan_is b.plan_is) a.found_is in
     let waits = a.wait_is ∙ sym b.wait_is in
     let found : a.found ≡ b.found =
     one-found a.found b.found waits (same_start waits mine b.found_is)
     (same_tried waits mine b.found_is) in
-    let T : Offers → Type 0 = λ f. IsTold (offer_text f) old new text in
-    one-told (subst T found a.told) b.told
+    let T : Offers → Type 0 = λ f. IsTold (offer_text f) old pair.one.new pair.one.text in
+    one-told pair (subst T found a.told) b.told
 
-pub one-line : {link : SharedLink} {old new new' : DayState} {text text' : List ℕ} (line : Line) → IsLink link
-    → StandingLine old.heard (length link.media) line → IsSound old → IsLine link line old new text
-    → IsLine link line old new' text' → IsOne new new' text text'
-one-line {link} {old} {new} {text} (lines.Play c source buffer delay) link-is standing sound a b =
-    one-play (record { link = link; c = c; old = old }) (state_at old c) (whole-sound link-is standing.stands) a b
-one-line {link} {old} {new} {text} (lines.Pause c) link-is standing sound a b =
-    one-pause link c (state_at old c) old a b
-one-line {link} {old} {new} {text} (lines.Resume c) link-is standing sound a b =
-    one-resume (record { link = link; c = c; old = old }) (state_at old c) (sound.each c standing.client) a b
-one-line {new} {text} (lines.Look slot) link-is standing sound a b = one-look a b
-one-line {new} {text} (lines.Slot slot) link-is standing sound a b =
+pub one-line : (pair : OutcomePair) (line : Line) → IsLink pair.link
+    → StandingLine pair.old.heard (length pair.link.media) line → IsSound pair.old
+    → IsLine pair.link line pair.old pair.one.new pair.one.text
+    → IsLine pair.link line pair.old pair.other.new pair.other.text → IsOne pair
+one-line pair (lines.Play c source buffer delay) link-is standing sound a b =
+    one-play pair c (rest_at pair.link source buffer delay) (state_at pair.old c) (whole-sound link-is standing.stands)
+    (record { a = a; b = b })
+one-line pair (lines.Pause c) link-is standing sound a b =
+    one-pause pair c (state_at pair.old c) (record { a = a; b = b })
+one-line pair (lines.Resume c) link-is standing sound a b =
+    one-resume pair c (state_at pair.old c) (sound.each c standing.client) (record { a = a; b = b })
+one-line pair (lines.Look slot) link-is standing sound a b = one-look pair a b
+one-line pair (lines.Slot slot) link-is standing sound a b =
     record { new_is = a.0 ∙ sym b.0; text_is = a.1 ∙ sym b.1 }
-one-line {new} {text} (lines.Offer c source buffer delay wait) link-is standing sound a b =
-    one-offer (whole-sound link-is standing.stands.0) a b
+one-line pair (lines.Offer c source buffer delay wait) link-is standing sound a b =
+    one-offer pair (whole-sound link-is standing.stands.0) a b
 
 -- ---- a run of lines has one outcome
 pub record IsOneRun (new new' : DayState) (texts texts' : List (List ℕ)) : Type 0 where
@@ -240,7 +273,13 @@ one-run {texts = t ∷ ts} {texts' = []} {new} (l ∷ ls) link-is standing sound
 one-run {link} {texts = t ∷ ts} {texts' = t' ∷ ts'} {old} {new} {new'} (l ∷ ls) link-is standing sound a b =
     let step : LineStep = record { link = link; old = old; new = a.0; text = t } in
     let first = first-standing standing in
-    let one = one-line l link-is first sound a.1.0 b.1.0 in
+    let pair : OutcomePair = record {
+      link = link;
+      old = old;
+      one = record { new = a.0; text = t };
+      other = record { new = b.0; text = t' };
+    } in
+    let one = one-line pair l link-is first sound a.1.0 b.1.0 in
     let next = line-sound step l link-is first sound a.1.0 in
     let after = rest-standing standing (outcome-heard step (line-outcome step l first a.1.0)) in
     let R : DayState → Type 0 = λ m. AreLineSteps link ls ts' m new' in

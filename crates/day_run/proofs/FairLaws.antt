@@ -1,10 +1,10 @@
 -- What is true of every large day.
 use Rattle.std.proofs.Common.{◌≡◌, ◌≤◌, ◌+◌, ◌-◌, ◌*◌, ◌%◌, ◌==◌, ℕ, max, Bool, true, false, cond}
-use Rattle.std.proofs.Common.{List, [], ◌∷◌, ◌++◌, length, map, take, arith, refl, sym, ap}
+use Rattle.std.proofs.Common.{List, [], ◌∷◌, length, map, take, arith, refl, sym, ap}
 use Rattle.std.proofs.Common.{subst, ◌∙◌}
 use Rattle.std.specs.Prelude.{sum_by}
 use Rattle.std.specs.List.{fold, range_with_len}
-use Rattle.std.proofs.lemmas.List.{append-nil, append_assoc, take_at}
+use Rattle.std.proofs.lemmas.List.{take_at}
 use Rattle.std.proofs.lemmas.List.Sums.{sum_by-cons}
 use Rattle.slot_calendar.specs.declared.profiles.CapStep.{CapStep}
 use Rattle.slot_calendar.specs.Profiles.{capacity_at}
@@ -19,9 +19,8 @@ use Rattle.day_run.specs.Days.{at_slot, halts_at, last_halts, last_journal}
 use Rattle.day_run.specs.FairDays.{AreTurns, IsTurn, FairTurn, after_turn, at_later}
 use Rattle.day_run.specs.FairDays.{most_up_to, turn_booked, turn_peak, turn_sent}
 use Rattle.day_run.proofs.LineBalance.{outcome-ready, ready-sent, slot-ready}
-use Rattle.day_run.proofs.LineOutcomes.{LineOutcome, Kept, Asked, Stopped, Looks, Reached, outcome-heard}
-use Rattle.day_run.proofs.LineOutcomes.{turn-outcome, turn_step}
-use Rattle.day_run.proofs.ScriptLineFacts.{LineStep}
+use Rattle.day_run.proofs.LineOutcomes.{HasGrown, grown-on, kept-grown, outcome-grown, outcome-heard, turn-outcome}
+use Rattle.day_run.proofs.LineOutcomes.{turn_step}
 
 -- ---- what is sent is what is booked
 pub later-ready : (old : DayState) (later : ℕ) → IsReady old → IsReady (at_later old later)
@@ -67,32 +66,6 @@ turns-balanced link words (turn ∷ turns) new run ready =
     )
 
 -- ---- a journal only grows
-pub record HasGrown (old new : List Entry) : Type 0 where
-  pub made : List Entry
-  pub new_is : new ≡ old ++ made
-
-kept-grown : (old new : DayState) → new ≡ old → HasGrown old.entries new.entries
-kept-grown old new kept =
-    record { made = []; new_is = ap (λ (m : DayState). m.entries) kept ∙ sym (append-nil old.entries) }
-
-grown-on : (a b c : List Entry) → HasGrown a b → HasGrown b c → HasGrown a c
-grown-on a b c one two =
-    record {
-      made = one.made ++ two.made;
-      new_is = two.new_is ∙ ap (λ l. l ++ two.made) one.new_is ∙ append_assoc a one.made two.made;
-    }
-
-outcome-grown : {slot : ℕ} (step : LineStep) → LineOutcome step slot → HasGrown step.old.entries step.new.entries
-outcome-grown step (Kept kept at) = kept-grown step.old step.new kept
-outcome-grown step (Asked own at) =
-    record { made = _; new_is = ap (λ (m : DayState). m.entries) own.made.noted.new_is }
-outcome-grown step (Stopped own at) =
-    record { made = _; new_is = ap (λ (m : DayState). m.entries) own.is.noted.new_is }
-outcome-grown step (Looks own at) =
-    record { made = _; new_is = ap (λ (m : DayState). m.entries) own.made.noted.new_is }
-outcome-grown {slot} step (Reached own) =
-    record { made = halts_at step.old slot; new_is = ap (λ (m : DayState). m.entries) own.is }
-
 later-grown : (old : DayState) (later : ℕ) → HasGrown old.entries (at_later old later).entries
 later-grown old later = grown-if (later == 0)
   where

@@ -21,7 +21,7 @@ use Rattle.day_script.specs.LineTexts.{fair_text}
 use Rattle.day_run.proofs.LineBalance.{morning-ready}
 use Rattle.day_run.proofs.DrawnTraceLemmas.{drawn-trace}
 use Rattle.day_run.proofs.FairLaws.{TurnRun}
-use Rattle.day_run.proofs.DayUniqueness.{IsOne, one-line, one-told}
+use Rattle.day_run.proofs.DayUniqueness.{IsOne, OutcomePair, one-line, one-told}
 use Rattle.day_run.proofs.SoundClients.{IsSound, idle-sound, line-sound, slot-sound}
 use Rattle.day_run.proofs.ScriptLineFacts.{LineStep, StandingLine}
 
@@ -99,11 +99,11 @@ line-stands : {link : SharedLink} (words : ℕ → ℕ) (turn : FairTurn) → Is
 line-stands words turn fair =
     drawn-stands turn.mid (words_after 2 words) (state_in words turn) fair (mod_below (words 1) 256 (omega arith))
 
-one-done : {link : SharedLink} {old new new' : DayState} {text text' : List ℕ} (line : Option Line) → IsBegun link old
-    → MayStand link old line → IsDone link line old new text → IsDone link line old new' text'
-    → IsOne new new' text text'
-one-done {new} {text} (Some line) begun stands a b = one-line line begun.fair.link_is stands begun.sound a b
-one-done {new} {text} None begun stands a b = one-told a b
+one-done : (pair : OutcomePair) (line : Option Line) → IsBegun pair.link pair.old → MayStand pair.link pair.old line
+    → IsDone pair.link line pair.old pair.one.new pair.one.text
+    → IsDone pair.link line pair.old pair.other.new pair.other.text → IsOne pair
+one-done pair (Some line) begun stands a b = one-line pair line begun.fair.link_is stands begun.sound a b
+one-done pair None begun stands a b = one-told pair a b
 
 done-sound : (step : LineStep) (line : Option Line) → IsBegun step.link step.old → MayStand step.link step.old line
     → IsDone step.link line step.old step.new step.text → IsSound step.new
@@ -144,7 +144,12 @@ one-turn {link} {words} turn other begun old a b =
     λ m. line_drawn (words_after 2 words) (client_of words) (state_at m (client_of words)) in
     let D : DayState → Type 0 = λ m. IsDone link (line m) m other.new other.text in
     let one =
-    one-done (line_in words turn) (mid-begun turn begun a) (line-stands words turn begun.fair) a.done
+    one-done (record {
+      link = link;
+      old = turn.mid;
+      one = record { new = turn.new; text = turn.text };
+      other = record { new = other.new; text = other.text };
+    }) (line_in words turn) (mid-begun turn begun a) (line-stands words turn begun.fair) a.done
     (subst D (sym mid) b.done) in
     ap (λ m. record { old = m; mid = turn.mid; new = turn.new; text = turn.text }) old
     ∙ ap (λ m. record { old = other.old; mid = m; new = turn.new; text = turn.text }) mid

@@ -1,5 +1,7 @@
 -- What a line of a script, or a turn's client, does to a day, in five cases.
-use Rattle.std.proofs.Common.{◌≡◌, ◌<◌, ◌≤◌, ◌%◌, ◌+◌, ℕ, List, get_or, refl, sym, ap, ◌∙◌, inl, inr, arith}
+use Rattle.std.proofs.Common.{◌≡◌, ◌<◌, ◌≤◌, ◌%◌, ◌+◌, ◌++◌, ℕ, List, [], get_or, refl, sym, ap, ◌∙◌, inl, inr, arith}
+use Rattle.std.proofs.lemmas.List.{append-nil, append_assoc}
+use Rattle.admission.specs.declared.entries.Entry.{Entry}
 use Rattle.plan_cert.specs.declared.Segment.{Segment}
 use Rattle.film_make.specs.Generator.{words_after}
 use Rattle.day_script.specs.declared.scripts.Line.{Line}
@@ -8,7 +10,8 @@ use Rattle.day_script.specs.Scripts.{slot_after}
 use Rattle.day_run.specs.declared.fairs.TheConstants.{BUFFER_SIZES, LEAST_BUFFER}
 use Rattle.day_run.specs.ClientStates.{ClientPlay, ClientState, Idle, Playing, Pausing, Paused, Rest}
 use Rattle.day_run.specs.Days.{DayState, IsAnsweredLook, IsAnsweredPlay, IsAsked, IsHaltedPlay, IsLine}
-use Rattle.day_run.specs.Days.{IsLookLine, IsOfferLine, IsPauseLine, IsResumeLine, SharedLink, at_slot, rest_at}
+use Rattle.day_run.specs.Days.{IsLookLine, IsOfferLine, IsPauseLine, IsResumeLine, SharedLink, at_slot, halts_at}
+use Rattle.day_run.specs.Days.{rest_at}
 use Rattle.day_run.specs.FairDays.{FairTurn, IsDone, IsTurn, line_drawn}
 use Rattle.day_run.proofs.ScriptLineFacts.{ClientOf, IsPlayTaken, LineStep, StandingLine}
 use Rattle.day_run.proofs.SentBookedLemmas.{IsFree, idle-free, paused-free}
@@ -56,6 +59,33 @@ outcome-heard step (Asked own at) = ap (λ (m : DayState). m.heard) own.made.not
 outcome-heard step (Stopped own at) = ap (λ (m : DayState). m.heard) own.is.noted.new_is ∙ sym at
 outcome-heard step (Looks own at) = ap (λ (m : DayState). m.heard) own.made.noted.new_is ∙ sym at
 outcome-heard step (Reached own) = ap (λ (m : DayState). m.heard) own.is
+
+-- ---- a journal only grows
+pub record HasGrown (old new : List Entry) : Type 0 where
+  pub made : List Entry
+  pub new_is : new ≡ old ++ made
+
+pub kept-grown : (old new : DayState) → new ≡ old → HasGrown old.entries new.entries
+kept-grown old new kept =
+    record { made = []; new_is = ap (λ (m : DayState). m.entries) kept ∙ sym (append-nil old.entries) }
+
+pub grown-on : (a b c : List Entry) → HasGrown a b → HasGrown b c → HasGrown a c
+grown-on a b c one two =
+    record {
+      made = one.made ++ two.made;
+      new_is = two.new_is ∙ ap (λ l. l ++ two.made) one.new_is ∙ append_assoc a one.made two.made;
+    }
+
+pub outcome-grown : {slot : ℕ} (step : LineStep) → LineOutcome step slot → HasGrown step.old.entries step.new.entries
+outcome-grown step (Kept kept at) = kept-grown step.old step.new kept
+outcome-grown step (Asked own at) =
+    record { made = _; new_is = ap (λ (m : DayState). m.entries) own.made.noted.new_is }
+outcome-grown step (Stopped own at) =
+    record { made = _; new_is = ap (λ (m : DayState). m.entries) own.is.noted.new_is }
+outcome-grown step (Looks own at) =
+    record { made = _; new_is = ap (λ (m : DayState). m.entries) own.made.noted.new_is }
+outcome-grown {slot} step (Reached own) =
+    record { made = halts_at step.old slot; new_is = ap (λ (m : DayState). m.entries) own.is }
 
 -- ---- the lines
 asked-outcome : {c : ℕ} {rest : Rest} (step : LineStep) → c < 256 → IsFree (get_or step.old.states c Idle)
