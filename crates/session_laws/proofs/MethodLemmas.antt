@@ -52,7 +52,7 @@ use Rattle.session_laws.specs.MethodLaws.{IsPlayAskedOf, IsPlayConfirmed, IsPlay
 use Rattle.session_laws.specs.MethodLaws.{IsSetupRequest, IsUnknownBody, MayNameSession, NamesOtherFilm}
 use Rattle.session_laws.specs.MethodLaws.{NamesSession, PlanRefusal, NoMeaning, NoCurves, SmallBuffer, NoMemory}
 use Rattle.session_laws.specs.MethodLaws.{SettlesSetup, setup_in}
-use Rattle.session.specs.Methods.{AsksOfferOr, AsksPlayOr, Describes, GetsOffer, GetsParameter, Gets, HasWait, IsRefused}
+use Rattle.session.specs.Methods.{AsksOfferOr, AsksPlay, AsksPlayOr, Describes, GetsOffer, GetsParameter, Gets, HasWait, IsRefused}
 use Rattle.session.specs.Methods.{IsReplied, IsSetUp, IsWaitOf, Looks, Plays, PlaysReady, SetsUp, Takes, play_call}
 use Rattle.session.specs.Methods.{play_front, prepared_of}
 use Rattle.session.specs.OfferLaws.{IsLeastBufferReply, IsWaitIn}
@@ -574,34 +574,72 @@ ready_play h request setup paused ready is =
       asks = done.asks;
     }
 
-ready_done : {old new : SessionState} {setup : Setup} {paused : Option Run} {ask : Ask} (request other : Request)
-    (authority : List ℕ) (planned : Result Planned Refusal) → AreAlike request other
-    → Names old.films request.url.now authority setup.film
-    → IsPlanned old setup paused (header_value request.head.now (codes "Range")) planned
-    → AsksPlayOr old (play_call other.sequence authority setup) planned ask new
-    → IsPlayAskedOf old request setup paused ask new
-    ⊎ PlanRefusal old setup paused (header_value request.head.now (codes "Range")) request.sequence ask new
-ready_done {old} {new} {setup} {paused} {ask} request other authority (Ok planned) alike named is (inl asks) =
-    let film : asks.stored ≡ is.0 = film_at_once old.films setup.film is.0 asks.stored is.1.at asks.at in
-    let F : Stored → ℕ → SessionState = λ s n. record old {
-      awaited = ToAwaitPlay (prepared_of old s setup planned n);
-      text = play_front old s setup planned n authority;
-    } in
-    inl (record {
-      stored = is.0;
-      planned = planned;
-      authority = authority;
-      planned_is = is.1;
-      named = named;
-      command = asks.command;
-      leaves = asks.state ∙ ap (λ (s : Stored). F s other.sequence) film ∙ ap (F is.0) alike.sequence;
-    })
-ready_done request other authority (Ok planned) alike named is (inr refused) =
-    inr (NoMemory (renumbered alike.sequence (refused_as other.sequence Memory [] refused)))
-ready_done {old} {new} {setup} {paused} {ask} request other authority (Err refusal) alike named is refused =
-    let range = header_value request.head.now (codes "Range") in
-    inr (subst (λ n. PlanRefusal old setup paused range n ask new) alike.sequence
-    (plan_refusal old setup paused range ask new other.sequence refusal is refused))
+memory_of : {refusal : Refusal} {planned : Planned} (one other : Result Planned Refusal) → one ≡ Ok planned
+    → other ≡ Err refusal → (other ≡ one) ⊎ ((one ≡ Err Memory) ⊎ (other ≡ Err Memory)) → refusal ≡ Memory
+memory_of one other ok err (inl same) = absurd (let no : ⊥ = cc (ok, err, same) in no)
+memory_of one other ok err (inr (inl same)) = absurd (let no : ⊥ = cc (ok, same) in no)
+memory_of one other ok err (inr (inr same)) = cc (err, same)
+
+-- a PLAY in Ready that is processed
+module _ {setup : Setup} {paused : Option Run} (h : HeardMessage) (request : Request)
+    (p : ReadyPlay h.old request setup paused h.ask h.new) where
+  -- it was planned: the station is asked for the play
+  planned_asks : {planned : Planned}
+      → IsPlanned h.old setup paused (header_value request.head.now (codes "Range")) (Ok planned)
+      → AsksPlay h.old p.other.sequence p.authority setup planned h.ask h.new
+      → IsPlayAskedOf h.old request setup paused h.ask h.new
+  planned_asks {planned} is asks =
+      let film : asks.stored ≡ is.0 = film_at_once h.old.films setup.film is.0 asks.stored is.1.at asks.at in
+      let F : Stored → ℕ → SessionState = λ s n. record h.old {
+        awaited = ToAwaitPlay (prepared_of h.old s setup planned n);
+        text = play_front h.old s setup planned n p.authority;
+      } in
+      record {
+        stored = is.0;
+        planned = planned;
+        authority = p.authority;
+        planned_is = is.1;
+        named = p.named;
+        command = asks.command;
+        leaves = asks.state ∙ ap (λ (s : Stored). F s p.other.sequence) film ∙ ap (F is.0) p.alike.sequence;
+      }
+
+  -- and memory may run out
+  planned_done : {planned : Planned}
+      → IsPlanned h.old setup paused (header_value request.head.now (codes "Range")) (Ok planned)
+      → AsksPlayOr h.old (play_call p.other.sequence p.authority setup) (Ok planned) h.ask h.new
+      → IsPlayAskedOf h.old request setup paused h.ask h.new ⊎ IsRefusedBy h.old 500 request.sequence h.ask h.new
+  planned_done is (inl asks) = inl (planned_asks is asks)
+  planned_done is (inr refused) =
+      inr (renumbered p.alike.sequence (refused_as p.other.sequence Memory [] refused))
+
+  ready_done : (planned : Result Planned Refusal)
+      → IsPlanned h.old setup paused (header_value request.head.now (codes "Range")) planned
+      → AsksPlayOr h.old (play_call p.other.sequence p.authority setup) planned h.ask h.new
+      → IsPlayAskedOf h.old request setup paused h.ask h.new
+      ⊎ PlanRefusal h.old setup paused (header_value request.head.now (codes "Range")) request.sequence h.ask h.new
+  ready_done (Ok planned) is asks = elim (planned_done is asks) [
+    | inl asked ↦ inl asked
+    | inr refused ↦ inr (NoMemory refused)
+  ]
+  ready_done (Err refusal) is refused =
+      let range = header_value request.head.now (codes "Range") in
+      inr (subst (λ n. PlanRefusal h.old setup paused range n h.ask h.new) p.alike.sequence
+      (plan_refusal h.old setup paused range h.ask h.new p.other.sequence refusal is refused))
+
+  -- a PLAY that can be planned asks the station for the play, or memory runs out
+  asked_done : {stored : Stored} {given : Planned} (found : Result Planned Refusal)
+      → IsPlannedRun h.old stored setup paused (header_value request.head.now (codes "Range")) given
+      → IsPlanned h.old setup paused (header_value request.head.now (codes "Range")) found
+      → AsksPlayOr h.old (play_call p.other.sequence p.authority setup) found h.ask h.new
+      → IsPlayAskedOf h.old request setup paused h.ask h.new ⊎ IsRefusedBy h.old 500 request.sequence h.ask h.new
+  asked_done (Ok planned) run is asks = planned_done is asks
+  asked_done {stored} {given} (Err refusal) run is refused =
+      let range = header_value request.head.now (codes "Range") in
+      let memory : refusal ≡ Memory = memory_of {refusal = refusal} {planned = given} (Ok given) (Err refusal) refl refl
+      (planned_once h.old setup paused range (Ok given) (Err refusal) (stored, run) is) in
+      inr (renumbered p.alike.sequence (refused_as p.other.sequence Memory []
+      (subst (λ (r : Refusal). IsRefused h.old (Some p.other.sequence) r [] h.ask h.new) memory refused)))
 
 pub play_ready : (h : HeardMessage) (request : Request) (setup : Setup) (paused : Option Run)
     → h.old.state ≡ Ready setup paused → IsPlayRequest h.old h.message request setup
@@ -609,48 +647,7 @@ pub play_ready : (h : HeardMessage) (request : Request) (setup : Setup) (paused 
     ⊎ PlanRefusal h.old setup paused (header_value request.head.now (codes "Range")) request.sequence h.ask h.new
 play_ready h request setup paused ready is =
     let p = ready_play h request setup paused ready is in
-    ready_done request p.other p.authority p.planned p.alike p.named p.is_planned p.asks
-
-memory_of : {refusal : Refusal} {planned : Planned} (one other : Result Planned Refusal) → one ≡ Ok planned
-    → other ≡ Err refusal → (other ≡ one) ⊎ ((one ≡ Err Memory) ⊎ (other ≡ Err Memory)) → refusal ≡ Memory
-memory_of one other ok err (inl same) = absurd (let no : ⊥ = cc (ok, err, same) in no)
-memory_of one other ok err (inr (inl same)) = absurd (let no : ⊥ = cc (ok, same) in no)
-memory_of one other ok err (inr (inr same)) = cc (err, same)
-
-asked_done : {old new : SessionState} {setup : Setup} {paused : Option Run} {ask : Ask} {planned : Planned}
-    (request other : Request) (stored : Stored) (authority : List ℕ) (found : Result Planned Refusal)
-    → AreAlike request other
-    → Names old.films request.url.now authority setup.film
-    → IsPlannedRun old stored setup paused (header_value request.head.now (codes "Range")) planned
-    → IsPlanned old setup paused (header_value request.head.now (codes "Range")) found
-    → AsksPlayOr old (play_call other.sequence authority setup) found ask new
-    → IsPlayAskedOf old request setup paused ask new ⊎ IsRefusedBy old 500 request.sequence ask new
-asked_done {old} {new} {setup} {paused} {ask} request other stored authority (Ok planned) alike named given is
-    (inl asks) =
-    let film : asks.stored ≡ is.0 = film_at_once old.films setup.film is.0 asks.stored is.1.at asks.at in
-    let F : Stored → ℕ → SessionState = λ s n. record old {
-      awaited = ToAwaitPlay (prepared_of old s setup planned n);
-      text = play_front old s setup planned n authority;
-    } in
-    inl (record {
-      stored = is.0;
-      planned = planned;
-      authority = authority;
-      planned_is = is.1;
-      named = named;
-      command = asks.command;
-      leaves = asks.state ∙ ap (λ (s : Stored). F s other.sequence) film ∙ ap (F is.0) alike.sequence;
-    })
-asked_done request other stored authority (Ok planned) alike named given is (inr refused) =
-    inr (renumbered alike.sequence (refused_as other.sequence Memory [] refused))
-asked_done {old} {new} {setup} {paused} {ask} {planned} request other stored authority (Err refusal) alike named given
-    is refused =
-    let range = header_value request.head.now (codes "Range") in
-    let memory : refusal ≡ Memory = memory_of {refusal = refusal} {planned = planned}
-    (Ok planned) (Err refusal) refl refl
-    (planned_once old setup paused range (Ok planned) (Err refusal) (stored, given) is) in
-    inr (renumbered alike.sequence (refused_as other.sequence Memory []
-    (subst (λ (r : Refusal). IsRefused old (Some other.sequence) r [] ask new) memory refused)))
+    ready_done h request p p.planned p.is_planned p.asks
 
 pub play_asked : (h : HeardMessage) (request : Request) (setup : Setup) (paused : Option Run) (stored : Stored)
     (planned : Planned) → h.old.state ≡ Ready setup paused → IsPlayRequest h.old h.message request setup
@@ -658,7 +655,7 @@ pub play_asked : (h : HeardMessage) (request : Request) (setup : Setup) (paused 
     → IsPlayAskedOf h.old request setup paused h.ask h.new ⊎ IsRefusedBy h.old 500 request.sequence h.ask h.new
 play_asked h request setup paused stored planned ready is given =
     let p = ready_play h request setup paused ready is in
-    asked_done request p.other stored p.authority p.planned p.alike p.named given p.is_planned p.asks
+    asked_done h request p p.planned given p.is_planned p.asks
 
 -- ---- GET_PARAMETER
 
