@@ -136,7 +136,8 @@ play_noted {asking = asking} play placed command = λ later.
     ap (map noted_play) (begun_note play placed later.turns command)
     ∙ note_is play.setup play.prepared.run placed.place
     (play_admitted (play_of asking.heard play.prepared.plan) placed.entry.answer) later
-    ∙ sym (ap (λ c. map (placed_play placed.place) (booked_by (play_admitted c placed.entry.answer) later.made)) command)
+    ∙ sym (ap (λ c. map (placed_play placed.place) (booked_by (play_admitted c placed.entry.answer) later.made))
+    command)
 
 -- by what was asked and answered
 answered_noted : {old asking new : SessionState} {outcome : Outcome} → RequestAnswer old asking new outcome

@@ -184,7 +184,8 @@ done_in : {s : SessionState} {keep : ℕ} {next : AfterHalt} (state : State) →
     → IsSound (sends_in state) s.waits s.heard → s.awaited ≡ Halt keep next
     → s.awaited ≡ (if is_done_in state then Halt (sent_in state) Done else Nothing) → DonePlay s keep
 done_in Init is sound asks finished = absurd (true≢false (sym (halt_if {sent = 0} false asks finished).0))
-done_in (Ready setup paused) is sound asks finished = absurd (true≢false (sym (halt_if {sent = 0} false asks finished).0))
+done_in (Ready setup paused) is sound asks finished =
+    absurd (true≢false (sym (halt_if {sent = 0} false asks finished).0))
 done_in (Playing setup play) is sound asks finished =
     let halt = halt_if (is_done play.pacer) asks finished in record {
       setup = setup;
@@ -195,7 +196,8 @@ done_in (Playing setup play) is sound asks finished =
       sent = halt.1;
       asks = halt.2;
     }
-done_in (Stopping setup stop) is sound asks finished = absurd (true≢false (sym (halt_if {sent = 0} false asks finished).0))
+done_in (Stopping setup stop) is sound asks finished =
+    absurd (true≢false (sym (halt_if {sent = 0} false asks finished).0))
 
 -- a slot is over: what is sent is on time, and the halt of a play that is done is asked for
 pub record IsSlotOver (s : SessionState) : Type 0 where
@@ -298,7 +300,8 @@ pub sent_over : (old : SessionState) (slot : ℕ) → Stands old → is_sending 
 sent_over old slot stands sending later =
     let goes : Bool = old.waits && is_between (stepped_in true slot old.state) in record {
       sound = (sent_on old slot stands sending later).sound;
-      asks = ap (λ a. if is_done_in (sent_slot old slot).state then Halt (sent_in (sent_slot old slot).state) Done else a)
+      asks = ap
+          (λ a. if is_done_in (sent_slot old slot).state then Halt (sent_in (sent_slot old slot).state) Done else a)
           (reply_awaited goes (sent_due old slot) ∙ stands.rest);
     }
 

@@ -5,7 +5,8 @@ use Rattle.std.proofs.lemmas.List.{append-nil, append_assoc}
 use Rattle.vod_base.specs.Links.{IoEvent, HeardBytes, HeardEnd, HeardSlot, Sent}
 use Rattle.film_frames.specs.declared.stored_films.Stored.{Stored}
 use Rattle.film_streams.specs.SettingRanges.{AreFilms}
-use Rattle.conn.specs.EventSteps.{Comes, Round, Runs, RunsAll, IsStopped, rounds_outcomes, takings_bytes, takings_outcomes}
+use Rattle.conn.specs.EventSteps.{Comes, Round, Runs, RunsAll, IsStopped, rounds_outcomes, takings_bytes}
+use Rattle.conn.specs.EventSteps.{takings_outcomes}
 use Rattle.conn.specs.InputSteps.{HasStepped, Outcome, SentPart, Stage, parts_bytes, stage}
 use Rattle.conn.specs.declared.reports.ConnEnd.{ConnEnd}
 use Rattle.connection_laws.specs.Courses.{first_stage, rounds_bytes}
@@ -218,7 +219,8 @@ slot_split {cur = cur} {mid} {slot = slot} front taken done later =
         record { stepped = taken.comes.1; input = taken.comes.0; goes = rest.goes; done = rest.done },
         rest.legs_are,
       );
-      all_is = ap (λ x. joined (front_exchange front) (joined (event_exchange (HeardSlot slot) due halt) x)) rest.all_is;
+      all_is =
+          ap (λ x. joined (front_exchange front) (joined (event_exchange (HeardSlot slot) due halt) x)) rest.all_is;
     }
   where
     open taken use {opened, due, halt}
@@ -245,7 +247,8 @@ rounds_exchange cur rounds new takes = record {
   hearings = heard_requests_in cur rounds new takes;
 }
 
-round_exchange : {cur : Stage} (new : Stage) (round : Round) (rounds : List Round) (takes : TakesUp cur (round ∷ rounds) new)
+round_exchange : {cur : Stage} (new : Stage) (round : Round) (rounds : List Round)
+    (takes : TakesUp cur (round ∷ rounds) new)
     (path : Path takes.1.0.opened takes.0 (takings_bytes round.takings) (answers_in (takings_outcomes round.takings))
     (heard_requests_taken takes.1.0.opened round.takings takes.0 takes.1.0.takes))
     → joined (event_exchange round.event round.due round.halt)

@@ -219,13 +219,13 @@ pub reading_of : {x : Stream} {bytes : List ℕ} {c : ℕ} {at : WatchStage} →
     → bytes ≡ take c (framed_bytes (all_of x)) → 1 < replies at.history → replies at.history ≤ 2 → IsReadingOf x c at
 reading_of {x} {bytes} {c} {at} heard none is playing few =
     let all = all_of x in
-    let sum = (reading_sum x c heard none is).0 in
+    let whole = reading_sum x c heard none is in
     let after_first = x.second ∷ (x.blocks ++ x.later) in
     elim (cases_lt c (length x.first)) [
       | inl short ↦
           let nothing = ap (λ n. steps no_sum (events_of_elements (take n all))) (count_less x.first after_first c
           short) in
-          absurd (omega (arith, playing, ap (λ (z : Sum). z.replies) (sum ∙ nothing)))
+          absurd (omega (arith, playing, ap (λ (z : Sum). z.replies) (whole.0 ∙ nothing)))
       | inr long ↦
           let c1 = c - length x.first in
           let one = count_more x.first after_first c long in
@@ -239,7 +239,7 @@ reading_of {x} {bytes} {c} {at} heard none is playing few =
                 absurd (omega (
                   arith,
                   playing,
-                  ap (λ (z : Sum). z.replies) (sum ∙ (ap (λ l. steps no_sum (events_of_elements l)) only ∙ single)),
+                  ap (λ (z : Sum). z.replies) (whole.0 ∙ (ap (λ l. steps no_sum (events_of_elements l)) only ∙ single)),
                 ))
             | inr more ↦
                 let k = count_ended (film_place x c) (x.blocks ++ x.later) in
@@ -247,9 +247,9 @@ reading_of {x} {bytes} {c} {at} heard none is playing few =
                 ap (λ n. take n all) (one ∙ ap suc (count_more x.second (x.blocks ++ x.later) c1 more)) in
                 reading_film {x = x} {c = c} {at = at} (record {
                   past = omega (arith, long, more);
-                  sum = sum ∙ (ap (λ l. steps no_sum (events_of_elements l)) two
+                  sum = whole.0 ∙ (ap (λ l. steps no_sum (events_of_elements l)) two
                       ∙ two_moments x (take k (x.blocks ++ x.later)));
-                  rest = (reading_sum x c heard none is).1 ∙ (rest_one ∙ rest_more x.second (x.blocks ++ x.later) c1 more);
+                  rest = whole.1 ∙ (rest_one ∙ rest_more x.second (x.blocks ++ x.later) c1 more);
                   few = few;
                 })
           ]

@@ -608,7 +608,8 @@ module _ (words : List ℕ) where
         } in
         let same : Moves old asking = λ kept last was.
         subst (λ st. IsLastIn words st (stream_of old) (flags_of old) kept last) playing was in
-        leads_then (moves refl same) (halts (record old { text = text }) setup stopping keep next placed new left answered)
+        leads_then (moves refl same)
+        (halts (record old { text = text }) setup stopping keep next placed new left answered)
 
     to : (outcome : Outcome) (new : SessionState) {ask command : Ask} {asking is : SessionState} → ask ≡ command
         → asking ≡ is → Answers outcome new command is → Answers outcome new ask asking
@@ -647,7 +648,8 @@ module _ (words : List ℕ) where
       stands.rest (runs_as old.session message heard.ask heard.asking stands.rest heard.hears)
       (answers_as heard.ask outcome heard.answered) in
       subst (λ (t : Stage). Leads old.session t.session made) (sym replied.new_is)
-      (leads_then one (moves (reply_keeps (λ (s : SessionState). s.looks_left) (λ s. refl) (can_reply replied.answered) replied.answered)
+      (leads_then one (moves
+      (reply_keeps (λ (s : SessionState). s.looks_left) (λ s. refl) (can_reply replied.answered) replied.answered)
       (reply_moves (can_reply replied.answered) replied.answered)))
 
   abbrev LeadsOn : SessionState → List StationRequest → SessionState → Type 0

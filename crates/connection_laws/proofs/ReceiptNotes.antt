@@ -96,8 +96,10 @@ logs_full old new more noted = record {
 logs_answer : {asking new : SessionState} {ask : Ask} {outcome : Outcome} → AnswersAs asking new ask outcome
     → Logs asking new (outcome ∷ [])
 logs_answer {asking} {new} (NoneAsked is) = logs_unasked asking new (ap log_of is)
-logs_answer {asking} {new} (PlayAdmitted {placed = p} play) = logs_entry asking new p play.answer (ap log_of play.new_is)
-logs_answer {asking} {new} (PlayRefused {placed = p} play) = logs_entry asking new p play.answer (ap log_of play.new_is)
+logs_answer {asking} {new} (PlayAdmitted {placed = p} play) =
+    logs_entry asking new p play.answer (ap log_of play.new_is)
+logs_answer {asking} {new} (PlayRefused {placed = p} play) =
+    logs_entry asking new p play.answer (ap log_of play.new_is)
 logs_answer {asking} {new} (PlayFull {more = more} is) = logs_full asking new more (ap log_of is)
 logs_answer {asking} {new} (PlayHalted {placed = p} halt) = logs_entry asking new p halt.answer (ap log_of halt.halts)
 logs_answer {asking} {new} (LookMade {placed = p} look) = logs_entry asking new p look.answer (ap log_of look.new_is)

@@ -1,5 +1,6 @@
 -- What a request and its answer make of a session: what is sent of a film, and the play that begins or ends.
-use Rattle.std.proofs.Common.{◌≡◌, ℕ, ◌<◌, ◌^◌, if◌then◌else◌, Bool, true, false, List, [], Option, None, refl, sym, ap, subst}
+use Rattle.std.proofs.Common.{◌≡◌, ℕ, ◌<◌, ◌^◌, if◌then◌else◌, Bool, true, false, List, [], Option, None, refl, sym}
+use Rattle.std.proofs.Common.{ap, subst}
 use Rattle.std.proofs.Common.{◌∙◌}
 use Rattle.film_frames.specs.FramedRuns.{run_pieces}
 use Rattle.film_run.specs.declared.runs.Run.{Run}
@@ -156,7 +157,8 @@ refused_still {asking} {prepared = prepared} {placed = placed} awaited refused =
 
 looked_still : {old asking new : SessionState} {placed : PlacedEntry} (look : LookRequest old asking)
     → IsLooked asking old.heard placed new → IsStill asking.awaited (Entered placed)
-looked_still {placed = placed} look looked = let awaited = ap (λ (s : SessionState). s.awaited) look.waiting.asking_is in
+looked_still {placed = placed} look looked =
+    let awaited = ap (λ (s : SessionState). s.awaited) look.waiting.asking_is in
     record {
       none = λ later. ap (λ a. plays_admitted a placed.entry.answer later) awaited;
       kept = λ later. ap (λ c. kept_by c later) looked.command;

@@ -84,7 +84,8 @@ done_fits {p} {heard} {asked} {placed} {number} {keep} {askings} {end} {slots} {
     }
 
 done_move : {s new : SessionState} {placed : PlacedEntry} {keep : ℕ} {pending : Option ℕ} → DonePlay s keep →
-    IsHaltAnswered s keep placed new → HeldIn pending s → Move s new pending (Asks s.awaited (Entered placed) ∷ []) [] []
+    IsHaltAnswered s keep placed new → HeldIn pending s →
+    Move s new pending (Asks s.awaited (Entered placed) ∷ []) [] []
 done_move {s} {new} {placed} {pending = pending} finished halted held =
     let p : PacerState = play.pacer in
     let here : IsHeld pending (Going p) s.waits s.heard =

@@ -87,7 +87,8 @@ after_outcome asking (WasFull more entries live) = after_full asking entries liv
 after_outcome asking (Offered at_slot note) = after_offer asking note
 
 entry_leaves : {new : SessionState} {answer : Answer} (asking : SessionState) (placed : PlacedEntry)
-    → placed.entry.answer ≡ answer → new ≡ after_entry asking placed answer → new ≡ after_outcome asking (Entered placed)
+    → placed.entry.answer ≡ answer → new ≡ after_entry asking placed answer
+    → new ≡ after_outcome asking (Entered placed)
 entry_leaves asking placed is new_is = new_is ∙ ap (after_entry asking placed) (sym is)
 
 pub answer_leaves : {new : SessionState} {ask : Ask} {outcome : Outcome} (asking : SessionState)

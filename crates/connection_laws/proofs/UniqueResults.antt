@@ -93,7 +93,8 @@ outcomes_same : {one other : Outcome} (asked : Bool) (alike : AnswersAlike one o
 outcomes_same {one} {other} true alike is also =
     let both : AreSameAnswers (one ∷ alike.ones) (other ∷ alike.others) =
     subst (λ l. AreSameAnswers (l ++ alike.ones) (other ∷ alike.others)) (answer_one one is)
-    (subst (λ l. AreSameAnswers (answer_in one ++ alike.ones) (l ++ alike.others)) (answer_one other also) alike.same) in
+    (subst (λ l. AreSameAnswers (answer_in one ++ alike.ones) (l ++ alike.others)) (answer_one other also)
+    alike.same) in
     (sym both.0, both.1)
 outcomes_same {one} {other} false alike is also = (
   also ∙ sym is,

@@ -406,7 +406,8 @@ units_come {c} {s} from starts (unit ∷ units) laid between =
     subst C (sym (more_blocks run f o starts unit units)) (elim (cases_lt c (first_size first)) [
       | inl less ↦ come_within first ys sizes less
       | inr more ↦ come_past first ys sizes more
-          (λ t at. units_come {c = c - length (framed_bytes (first_blocks first))} {s = t} (record from { frames = f2; octets = o2 }) starts units laid.1 at)
+          (λ t at. units_come {c = c - length (framed_bytes (first_blocks first))} {s = t}
+          (record from { frames = f2; octets = o2 }) starts units laid.1 at)
     ])
   where
     open from use {run, frames as f, octets as o}

@@ -52,7 +52,8 @@ use Rattle.session_laws.specs.MethodLaws.{IsPlayAskedOf, IsPlayConfirmed, IsPlay
 use Rattle.session_laws.specs.MethodLaws.{IsSetupRequest, IsUnknownBody, MayNameSession, NamesOtherFilm}
 use Rattle.session_laws.specs.MethodLaws.{NamesSession, PlanRefusal, NoMeaning, NoCurves, SmallBuffer, NoMemory}
 use Rattle.session_laws.specs.MethodLaws.{SettlesSetup, setup_in}
-use Rattle.session.specs.Methods.{AsksOfferOr, AsksPlay, AsksPlayOr, Describes, GetsOffer, GetsParameter, Gets, HasWait, IsRefused}
+use Rattle.session.specs.Methods.{AsksOfferOr, AsksPlay, AsksPlayOr, Describes, GetsOffer, GetsParameter, Gets}
+use Rattle.session.specs.Methods.{HasWait, IsRefused}
 use Rattle.session.specs.Methods.{IsReplied, IsSetUp, IsWaitOf, Looks, Plays, PlaysReady, SetsUp, Takes, play_call}
 use Rattle.session.specs.Methods.{play_front, prepared_of}
 use Rattle.session.specs.OfferLaws.{IsLeastBufferReply, IsWaitIn}
