@@ -9,7 +9,6 @@ use Rattle.std.proofs.lemmas.Bool.Decides.{nat_tests}
 use Rattle.std.proofs.lemmas.Fmt.{length-decimal-le}
 use Rattle.std.proofs.lemmas.List.{length-append}
 use Rattle.film_frames.specs.declared.stored_films.Stored.{Stored}
-use Rattle.admission.specs.declared.entries.Answer.{Answer}
 use Rattle.admission.specs.declared.entries.Answer.TheVariants.{Admitted, Halted}
 use Rattle.admission.specs.Makers.{PlacedEntry}
 use Rattle.rtsp_client.specs.RequestParts.{teardown_parts}
@@ -37,7 +36,7 @@ use Rattle.rtsp_replies.specs.Messages.{IsMessage}
 use Rattle.session_laws.proofs.PauseTeardownLemmas.{teardown_ends}
 use Rattle.session_laws.proofs.CompleteReplyLemmas.{keeps_named, replies_whole}
 use Rattle.conn.specs.EventSteps.{Round, Runs}
-use Rattle.conn.specs.InputSteps.{Answered, Entered, HasHeard, IsAskAnswered, IsLookAnswered, IsPlayAnswered, IsReplied}
+use Rattle.conn.specs.InputSteps.{Answered, Entered, HasHeard, IsReplied}
 use Rattle.conn.specs.InputSteps.{Outcome, SentPart, Passed, Stage, ElementStep, TakesAll}
 use Rattle.connection_laws.specs.Courses.{IsCourseBetween}
 use Rattle.connection_laws.specs.Replies.{PlacedText, replies_of, takings_replies, text_of}

@@ -1,5 +1,5 @@
 -- The notes of a connection's report, event by event.
-use Rattle.std.proofs.Common.{◌≡◌, ℕ, ◌++◌, ◌&&◌, if◌then◌else◌, Bool, true, false, List, [], ◌∷◌, None}
+use Rattle.std.proofs.Common.{◌≡◌, ℕ, ◌++◌, if◌then◌else◌, Bool, true, false, List, [], ◌∷◌, None}
 use Rattle.std.proofs.Common.{refl, sym, ap, subst, ◌∙◌}
 use Rattle.std.proofs.lemmas.List.{append-nil}
 use Rattle.film_frames.specs.declared.stored_films.Stored.{Stored}
@@ -9,8 +9,8 @@ use Rattle.session.specs.declared.states.Awaited.TheVariants.{Nothing, Play, Hal
 use Rattle.session.specs.declared.states.AfterHalt.{AfterHalt}
 use Rattle.session.specs.declared.states.State.{State}
 use Rattle.session.specs.declared.states.State.TheVariants.{Init, Ready, Playing, Stopping}
-use Rattle.session.specs.SlotSteps.{due_state, after_play, is_between, is_sending}
-use Rattle.session.specs.SlotSteps.{is_taken, kept_of, sent_due, sent_reply, sent_slot, after_slot}
+use Rattle.session.specs.SlotSteps.{due_state, is_between}
+use Rattle.session.specs.SlotSteps.{kept_of, sent_reply, after_slot}
 use Rattle.session.specs.SlotSteps.{stepped_in}
 use Rattle.session.specs.SessionStates.{SessionState, open_in}
 use Rattle.session.specs.SlotTransitions.{IsCarried, after_stop}

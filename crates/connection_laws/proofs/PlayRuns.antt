@@ -12,10 +12,8 @@ use Rattle.plan_cert.specs.declared.Segment.{Segment}
 use Rattle.early_start.specs.StartSearch.{Offers}
 use Rattle.film_run.specs.declared.runs.Run.{Run}
 use Rattle.rtp_pack.specs.declared.reports.Identity.{Identity}
-use Rattle.admission.specs.declared.entries.Answer.{Answer}
-use Rattle.admission.specs.declared.entries.Answer.TheVariants.{Admitted, Halted, Looked, Overflow}
+use Rattle.admission.specs.declared.entries.Answer.TheVariants.{Admitted}
 use Rattle.admission.specs.Makers.{PlacedEntry}
-use Rattle.station.specs.Ledgers.{look_at, play_of}
 use Rattle.session.specs.declared.commands.Ask.{Ask}
 use Rattle.session.specs.declared.commands.Ask.TheVariants.{Reply as AskReply, Play as AskPlay, Halt as AskHalt}
 use Rattle.session.specs.declared.commands.Ask.TheVariants.{Look as AskLook, Offer as AskOffer}
@@ -44,7 +42,6 @@ use Rattle.session.specs.SlotSteps.{stepped_in}
 use Rattle.session.specs.SlotTransitions.{after_stop}
 use Rattle.session_laws.proofs.RunLemmas.{IsLeftBy, IsNextRun, RunsAs, Replies, SetsUp, AsksPlay, Stops, AsksLook}
 use Rattle.session_laws.proofs.RunLemmas.{AsksOffer, one_film, run_goes_on, runs_as}
-use Rattle.conn.specs.InputSteps.{IsAskAnswered, IsLookAnswered, IsPlayAnswered}
 use Rattle.conn.specs.InputSteps.{IsReplied, Outcome, Unasked, Entered, WasFull, Offered, SentPart, Stage}
 use Rattle.connection_laws.specs.Courses.{Course, asked_by, askings_of, course_plays, first_stage}
 use Rattle.connection_laws.specs.Plays.{FilmPlay, StationRequest, Asks, kept_by, kept_in, kept_with, plays_admitted}
@@ -54,7 +51,7 @@ use Rattle.connection_laws.specs.PlayRuns.{AreRunsInOrder, IsFirstRun, IsLaterRu
 use Rattle.connection_laws.proofs.FilmBytes.{Stands, reply_awaited}
 use Rattle.connection_laws.proofs.StationAnswers.{AnswersAs, NoneAsked, PlayAdmitted, PlayRefused, PlayFull, PlayHalted}
 use Rattle.connection_laws.proofs.StationAnswers.{LookMade, LookFull, OfferMade, answers_as}
-use Rattle.connection_laws.proofs.StationAnswers.{FinishesAs, NothingLeft, DoneHalted, HaltsAs, HaltEntered, halts_as}
+use Rattle.connection_laws.proofs.StationAnswers.{FinishesAs, NothingLeft, DoneHalted}
 use Rattle.connection_laws.proofs.StationAnswers.{ComesAs, BytesCame, SlotCame}
 use Rattle.connection_laws.proofs.CourseAskings.{IsKeptByAskings, course_kept}
 use Rattle.conn.specs.InputSteps.{IsHaltAnswered}

@@ -1,9 +1,8 @@
 -- What a request and its answer make of a session: what is sent of a film, and the play that begins or ends.
-use Rattle.std.proofs.Common.{◌≡◌, ℕ, ◌<◌, ◌^◌, if◌then◌else◌, Bool, true, false, List, [], Option, None, refl, sym}
+use Rattle.std.proofs.Common.{◌≡◌, ℕ, ◌<◌, ◌^◌, if◌then◌else◌, Bool, true, false, List, [], None, refl, sym}
 use Rattle.std.proofs.Common.{ap, subst}
 use Rattle.std.proofs.Common.{◌∙◌}
 use Rattle.film_frames.specs.FramedRuns.{run_pieces}
-use Rattle.film_run.specs.declared.runs.Run.{Run}
 use Rattle.pacer.specs.PacerStates.{IsPacerState, PacerState, next_boundary, new_pacer_state}
 use Rattle.admission.specs.declared.entries.Answer.TheVariants.{Admitted, Halted}
 use Rattle.admission.specs.declared.entries.Command.TheVariants.{Halt as HaltCommand}
@@ -12,7 +11,7 @@ use Rattle.admission.specs.Makers.{PlacedEntry}
 use Rattle.slot_calendar.specs.Plays.{Play as Booked}
 use Rattle.station.specs.Ledgers.{play_of}
 use Rattle.session.specs.declared.states.Awaited.{Awaited}
-use Rattle.session.specs.declared.states.Awaited.TheVariants.{Nothing, Play, Halt, Look}
+use Rattle.session.specs.declared.states.Awaited.TheVariants.{Nothing, Play, Halt}
 use Rattle.session.specs.declared.states.AfterHalt.{AfterHalt}
 use Rattle.session.specs.declared.states.AfterHalt.TheVariants.{Done, Paused, Torn}
 use Rattle.session.specs.declared.states.Play.{Play as Played}
