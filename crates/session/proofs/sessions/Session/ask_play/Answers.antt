@@ -1,11 +1,10 @@
-use Rattle.std.proofs.Common.{◌≡◌, ℕ, List, Ok, refl, sym, ap, subst, ◌∙◌, string_bytes, arith, inl}
+use Rattle.std.proofs.Common.{◌≡◌, ℕ, Ok, refl, sym, ap, subst, ◌∙◌, string_bytes, arith, inl}
 use Rattle.std.proofs.lemmas.List.{length-map}
 use Rattle.film_frames.specs.Pieces.{wire_size}
 use Rattle.film_frames.specs.FramedRuns.{FramedRun}
 use Rattle.mpeg_scan.specs.declared.units.Unit.{Unit as PictureUnit}
 use Rattle.rtsp_text.specs.Lines.{is_one_line}
 use Rattle.rtsp_text.proofs.SingleLineTexts.{one_line-name}
-use Rattle.session.specs.RunRequests.{sending_of}
 use Rattle.film_streams.specs.Films.{IsFilmAt, OfFilm}
 use Rattle.film_streams.specs.StreamNumbers.{counts_after, identity_of}
 use Rattle.session.specs.SessionInvariant.{open_receipts, session_state_of}
@@ -13,11 +12,8 @@ use Rattle.session.specs.Methods.{AsksPlayOr, first_number, play_call, play_fron
 use Rattle.session.specs.declared.commands.Ask.TheVariants.{Play as AskPlay}
 use Rattle.session.specs.RunRequests.{IsPlayable}
 use Rattle.session.specs.SessionStates.{IsReadyIn, SessionState}
-use Rattle.plan_cert.specs.declared.Segment.{Segment}
-use Rattle.session_records.specs.declared.notes.OfferNote.{OfferNote}
-use Rattle.session_records.specs.declared.notes.PlayNote.{PlayNote}
-use Rattle.session_records.specs.declared.notes.Receipt.{Receipt}
 use Rattle.session.specs.declared.states.Awaited.TheVariants.{Play}
+use Rattle.session.specs.declared.states.Prepared.{Prepared}
 use Rattle.session.proofs.PlayRequestLemmas.{PlayPrepared, prepared_in, ready_closed}
 use Rattle.session.proofs.sessions.Session.ask_play.Goals as goal
 
@@ -97,63 +93,41 @@ returns-clause-exact c =
     let planned = c.args.planned in
     let sequence = c.args.sequence in
     let authority = c.args.authority.now in
-    let info = c.info_of-info.result in
     let old = session_state_of inside in
-    let number : info.sequence ≡ first_number old stored setup planned =
-    c.info_of-info.ensures.number
+    let info = c.info_of-info.ensures in
+    let frames = c.frames_of-frames.ensures.frames in
+    let number : c.info_of-info.result.sequence ≡ first_number old stored setup planned =
+    info.number
     ∙ ap (λ (s : FramedRun). (identity_of inside.source setup
-    (counts_after planned.counts s planned.run.sent)).sequence)
-    c.frames_of-frames.ensures.frames in
+    (counts_after planned.counts s planned.run.sent)).sequence) frames in
     let text : c.put_play.new.reply ≡ play_front old stored setup planned sequence authority =
-    c.put_play.ensures.text
-    ∙ rw (
-      c.info_of-info.ensures.first,
-      c.info_of-info.ensures.end,
-      c.info_of-info.ensures.authority,
-      c.info_of-info.ensures.name,
-      number,
-      c.info_of-info.ensures.time,
-    ) refl in
-    let new : FramedRun → List Segment → List Segment → List ℕ → List Receipt → List PlayNote → List OfferNote
-    → SessionState =
-    λ frames own paced reply receipts plays offers. record old {
-      awaited = Play (record {
-        run = planned.run;
-        counts = planned.counts;
-        frames = frames;
-        plan = own;
-        paced = paced;
-        sequence = sequence;
-      });
-      text = reply;
-      receipts = receipts;
-      plays = plays;
-      offers = offers;
+    c.put_play.ensures.text ∙ rw (info.first, info.end, info.authority, info.name, number, info.time) refl in
+    let own = c.in-Ok.ensures.own in
+    let paced = c.in-Ok.ensures.paced in
+    let receipts = c.plans_with_room.ensures.lists.receipts in
+    let plays = c.plans_with_room.ensures.lists.plays in
+    let offers = c.plans_with_room.ensures.lists.offers in
+    let prepared : Prepared = record {
+      run = planned.run;
+      counts = planned.counts;
+      frames = c.frames_of-frames.result;
+      plan = c.in-Ok.own;
+      paced = c.in-Ok.paced;
+      sequence = sequence;
     } in
-    let sending = sending_of stored.film inside.source setup planned.counts planned.run in
-    let plan = planned.plan in
-    let front = play_front old stored setup planned sequence authority in
-    let own = c.in-Ok.own in
-    let paced = c.in-Ok.paced in
     let log = c.plans_with_room.new.self in
-    let lists = c.plans_with_room.ensures.lists in
+    let new : SessionState = record old {
+      awaited = Play prepared;
+      text = c.put_play.new.reply;
+      receipts = log.receipts;
+      plays = log.plays;
+      offers = log.offers;
+    } in
     rw c.set.ensures (subst (λ (s : SessionState). AsksPlayOr s (play_call sequence authority setup) (Ok planned)
-    (AskPlay plan)
-    (new c.frames_of-frames.result own paced c.put_play.new.reply log.receipts log.plays log.offers)) c.self.view_is
+    (AskPlay planned.plan) new) c.self.view_is
     (inl (record {
       stored = stored;
       at = c.stored_at-stored.ensures.film;
       command = refl;
-      state =
-          ap (λ (f : FramedRun). new f own paced c.put_play.new.reply log.receipts log.plays log.offers)
-          c.frames_of-frames.ensures.frames
-          ∙ ap (λ (l : List Segment). new sending l paced c.put_play.new.reply log.receipts log.plays
-          log.offers) c.in-Ok.ensures.own
-          ∙ ap (λ (l : List Segment). new sending plan l c.put_play.new.reply log.receipts log.plays log.offers)
-          c.in-Ok.ensures.paced
-          ∙ ap (λ (t : List ℕ). new sending plan plan t log.receipts log.plays log.offers) text
-          ∙ ap (λ (r : List Receipt). new sending plan plan front r log.plays log.offers) lists.receipts
-          ∙ ap (λ (p : List PlayNote). new sending plan plan front inside.log.receipts p log.offers) lists.plays
-          ∙ ap (λ (o : List OfferNote).
-          new sending plan plan front inside.log.receipts inside.log.plays o) lists.offers;
+      state = cc;
     })))

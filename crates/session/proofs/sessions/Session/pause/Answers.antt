@@ -1,4 +1,4 @@
-use Rattle.std.proofs.Common.{◌≡◌, ℕ, List, refl, sym, ap, subst, ◌∙◌}
+use Rattle.std.proofs.Common.{◌≡◌, ℕ, refl, sym, ap, subst, ◌∙◌}
 use Rattle.film_run.specs.declared.plans.Playback.{Playback}
 use Rattle.film_run.specs.Pauses.{IsRemainingRun}
 use Rattle.film_run.specs.Units.{stored_sizes}
@@ -16,23 +16,24 @@ use Rattle.session.proofs.PlayRequestLemmas.{HeardInPlay, halt_asked, play_going
 use Rattle.session.proofs.HaltedRunLemmas.{halts_play, left_runs}
 use Rattle.session.proofs.ResumedPlayLemmas.{of_film}
 use Rattle.session.proofs.sessions.Session.pause.Goals as goal
+use Rattle.session.proofs.sessions.Session.pause.Goals.{In-Playing}
+
+-- the play, as the request is received
+abbrev in_hand : (c : In-Playing) → HeardInPlay c.self.inside
+in_hand c = record {
+  setup = c.in-Playing.setup;
+  play = c.in-Playing.play;
+  kept = c.self.invariant;
+  state = sym c.in-Playing.ensures.value;
+  hear = subst CanHandleRequest (sym c.self.view_is) c.requires.hear;
+}
 
 pub run_after-left-requires-clause-halt : goal.run_after-left-requires-clause-halt
 run_after-left-requires-clause-halt c =
     let inside = c.self.inside in
     let setup = c.in-Playing.setup in
     let play = c.in-Playing.play in
-    let state : inside.state ≡ Playing setup play = sym c.in-Playing.ensures.value in
-    let hear : CanHandleRequest (session_state_of inside) = subst CanHandleRequest (sym c.self.view_is) c.requires.hear
-    in
-    let hand : HeardInPlay inside = record {
-      setup = setup;
-      play = play;
-      kept = c.self.invariant;
-      state = state;
-      hear =
-          hear;
-    } in
+    let hand = in_hand (goal.at.run_after-left-requires-clause-halt c).In-Playing in
     halts_play c.last_slot-last.result (playing_in hand).1 (play_going hand) (record {
       state = c.ask_halt-keep.ensures.state;
       after = c.ask_halt-keep.ensures.boundary;
@@ -46,17 +47,7 @@ invariant_of-self c =
     let play = c.in-Playing.play in
     let stored = c.stored_at-stored.result.now in
     let left = c.run_after-left.result in
-    let state : inside.state ≡ Playing setup play = sym c.in-Playing.ensures.value in
-    let hear : CanHandleRequest (session_state_of inside) = subst CanHandleRequest (sym c.self.view_is) c.requires.hear
-    in
-    let hand : HeardInPlay inside = record {
-      setup = setup;
-      play = play;
-      kept = c.self.invariant;
-      state = state;
-      hear =
-          hear;
-    } in
+    let hand = in_hand (goal.at.invariant_of-self c).In-Playing in
     let kept = playing_in hand in
     let runs =
     left_runs
@@ -84,41 +75,31 @@ returns-clause-exact c =
     let setup = c.in-Playing.setup in
     let play = c.in-Playing.play in
     let stored = c.stored_at-stored.result.now in
-    let sizes = stored_sizes stored in
     let keep = c.ask_halt-keep.result in
     let left = c.run_after-left.result in
     let last = c.last_slot-last.result in
     let state : inside.state ≡ Playing setup play = sym c.in-Playing.ensures.value in
-    let new : PacerState → List ℕ → SessionState = λ p text. record (session_state_of inside) {
-      state = Playing setup (record play { pacer = p });
-      awaited = Halt keep (Paused left);
-      text = text;
-    } in
     let value : keep ≡ next_boundary play.pacer = c.ask_halt-keep.ensures.value in
     let pacer : c.ask_halt-keep.new.self ≡ record play.pacer { keep = keep } =
     c.ask_halt-keep.ensures.state ∙ ap (λ (n : ℕ). record play.pacer { keep = n }) (sym value) in
+    let new : SessionState = record (session_state_of inside) {
+      state = Playing setup (record play { pacer = c.ask_halt-keep.new.self });
+      awaited = Halt keep (Paused left);
+      text = c.put_session.new.reply;
+    } in
+    let text = c.put_session.ensures in
     rw (c.enter.ensures, c.set.ensures)
-    (subst (λ (old : SessionState). Pauses old.state old c.args.sequence (AskHalt keep)
-    (new c.ask_halt-keep.new.self c.put_session.new.reply))
-    c.self.view_is
-    (subst (λ (s : State). Pauses s (session_state_of inside) c.args.sequence (AskHalt keep)
-    (new c.ask_halt-keep.new.self c.put_session.new.reply)) (sym state)
+    (subst (λ (old : SessionState). Pauses old.state old c.args.sequence (AskHalt keep) new) c.self.view_is
+    (subst (λ (s : State). Pauses s (session_state_of inside) c.args.sequence (AskHalt keep) new) (sym state)
     (record {
       stored = stored;
       at = c.stored_at-stored.ensures.film;
       last = last;
       last_is = c.last_slot-last.ensures ∙ ap (λ (p : PacerState). p.passed) c.ask_halt-keep.ensures.state;
       left = left;
-      left_is = subst (λ (n : ℕ). IsRemainingRun sizes (playback_of stored.film inside.settings setup) play.run
-          play.plan last n left) value
-          (subst (λ (p : Playback).
-          IsRemainingRun sizes p play.run play.plan last keep left) c.playback_of-playback.ensures.playback
-          c.run_after-left.ensures.left);
-      asks = record {
-        keep = keep;
-        keep_is = value;
-        command = refl;
-        state = ap (λ (p : PacerState). new p c.put_session.new.reply) pacer
-            ∙ ap (λ (text : List ℕ). new (record play.pacer { keep = keep }) text) c.put_session.ensures;
-      };
+      left_is = subst (λ (n : ℕ). IsRemainingRun (stored_sizes stored)
+          (playback_of stored.film inside.settings setup) play.run play.plan last n left) value
+          (subst (λ (p : Playback). IsRemainingRun (stored_sizes stored) p play.run play.plan last keep left)
+          c.playback_of-playback.ensures.playback c.run_after-left.ensures.left);
+      asks = record { keep = keep; keep_is = value; command = refl; state = cc };
     })))
