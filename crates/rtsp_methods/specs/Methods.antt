@@ -1,5 +1,5 @@
--- The methods by their names, what each needs of its request, and what a GET_PARAMETER asks for (RFC
--- 2326 section 10).
+-- The methods by their names, what each needs of its request, and what a GET_PARAMETER asks for
+-- (RFC 2326 section 10).
 use Rattle.std.specs.Prelude.{ℕ, ◌≡◌, ◌≢◌, ◌⊎◌, ◌++◌, ◌==◌, if◌then◌else◌, List, [], ◌∷◌}
 use Rattle.std.specs.Prelude.{codes}
 use Rattle.rtsp_methods.specs.declared.methods.Method.{Method}
