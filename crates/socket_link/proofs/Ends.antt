@@ -3,14 +3,13 @@ use Rattle.std.proofs.Common.{◌≡◌, ℕ, ◌-◌, ◌≤◌, List, [], ◌�
 use Rattle.std.proofs.Common.{inr, subst, Bool, true, ◌==◌, IsTrue}
 use Rattle.std.proofs.lemmas.Bool.{eqb-true}
 use Rattle.std.proofs.lemmas.List.{append-nil}
-use Rattle.vod_base.specs.Links.{IoEvent}
 use Rattle.vod_base.specs.MemoryLinks.{sent_of}
-use Rattle.socket_link.specs.declared.limits.Watch.{Watch}
+use Rattle.socket_link.specs.declared.links.SocketLink.{SocketLink}
+use Rattle.socket_link.specs.declared.sockets.Socket.{Ghosts}
 use Rattle.socket_link.specs.declared.limits.TheConstants.{STUCK_LIMIT, LINGER}
 use Rattle.socket_link.specs.Calls.{SocketCall, ShutDown, taken_of}
 use Rattle.socket_link.specs.Purposes.{end_reading}
-use Rattle.socket_link.specs.Histories.{Follows, IsCause}
-use Rattle.socket_link.proofs.Steps.{served_on, cause_before}
+use Rattle.socket_link.specs.LinkCalls.{LeavesHistory}
 use Rattle.socket_link.specs.Steps.{HasServed, HasLasted, HasFoundEnd, HasClosed}
 
 -- from a first reading to a last one
@@ -32,38 +31,32 @@ no_bytes [] none = refl
 no_bytes (byte ∷ bytes) none = cc
 
 -- where nothing waits, all that was sent was taken
-pub all_taken : (units : ℕ) (watch : Watch) (calls : List SocketCall) (waiting : List ℕ) (old new : List IoEvent) →
-    Follows units watch calls waiting new → new ≡ old → length waiting ≡ 0 → sent_of old ≡ taken_of calls
-all_taken units watch calls waiting old new follows same none =
-    ap sent_of (sym same) ∙ follows.0 ∙ ap (λ (l : List ℕ). taken_of calls ++ l) (no_bytes waiting none) ∙ append-nil
-    (taken_of calls)
+all_taken : {S : Type 0} {G : Ghosts S} (link : SocketLink S G) → IsTrue G.tells → length link.buffer ≡ 0 →
+    sent_of link.history.doings ≡ taken_of (G.did link.socket)
+all_taken {G} link tells none =
+    let taken = taken_of (G.did link.socket) in
+    (link.follows tells).0 ∙ ap (λ (l : List ℕ). taken ++ l) (no_bytes link.buffer none) ∙ append-nil taken
 
-pub closed : (units : ℕ) (watch : Watch) (waiting : List ℕ) (old new : List IoEvent) (was before shut now : List
-    SocketCall) →
-    Follows units watch before waiting new → new ≡ old →
-    (length waiting ≡ 0) ⊎ HasLasted STUCK_LIMIT was before → shut ≡ before ++ ShutDown ∷ [] →
-    HasFoundEnd now ⊎ HasLasted LINGER shut now → HasClosed (sent_of old) was now
-closed units watch waiting old new was before shut now follows same written shut_is lingered = record {
-  before = before;
-  written = elim written as (λ _. (sent_of old ≡ taken_of before) ⊎ HasLasted STUCK_LIMIT was before) [
-    | inl none ↦ inl (all_taken units watch before waiting old new follows same none)
-    | inr lasted ↦ inr lasted
-  ];
-  lingered = let P : List SocketCall → Type 0 = λ s. HasFoundEnd now ⊎ HasLasted LINGER s now in subst P shut_is
-      lingered;
+-- the three steps of a close, after each of which the link is named
+pub record Closes {S : Type 0} {G : Ghosts S} (old written shut now : SocketLink S G) : Type 0 where
+  pub history : LeavesHistory old written
+  pub all : (length written.buffer ≡ 0) ⊎ HasLasted STUCK_LIMIT (G.did old.socket) (G.did written.socket)
+  pub shut_is : G.did shut.socket ≡ G.did written.socket ++ ShutDown ∷ []
+  pub lingered : HasFoundEnd (G.did now.socket) ⊎ HasLasted LINGER (G.did shut.socket) (G.did now.socket)
+
+pub closed : {S : Type 0} {G : Ghosts S} {old written shut now : SocketLink S G} → IsTrue G.tells →
+    Closes old written shut now → HasClosed (sent_of old.history.doings) (G.did old.socket) (G.did now.socket)
+closed {G} {old} {written} {now} tells closes = record {
+  before = G.did written.socket;
+  written = elim closes.all as (λ _. (sent_of old.history.doings ≡ taken_of (G.did written.socket))
+      ⊎ HasLasted STUCK_LIMIT (G.did old.socket) (G.did written.socket)) [
+        | inl none ↦ inl (ap sent_of (sym closes.history.doings) ∙ all_taken written tells none)
+        | inr lasted ↦ inr lasted
+      ];
+  lingered =
+      let P : List SocketCall → Type 0 = λ s. HasFoundEnd (G.did now.socket) ⊎ HasLasted LINGER s (G.did now.socket) in
+      subst P closes.shut_is closes.lingered;
 }
-
--- what follows a first step
-pub outer_served : {units later : ℕ} {tells : Bool} {was mid now : List SocketCall} → later ≡ units →
-    (IsTrue tells → HasServed units was mid) → (IsTrue tells → HasServed later mid now) → IsTrue tells → HasServed units
-    was now
-outer_served {units} {was} {mid} {now} same first rest t =
-    let P : ℕ → Type 0 = λ u. HasServed u mid now in
-    served_on units was mid now (first t) (subst P same (rest t))
-
-pub outer_cause : (old mid new : ℕ) (tells : Bool) (calls : List SocketCall) → old ≤ mid →
-    (IsTrue tells → IsCause mid new calls) → IsTrue tells → IsCause old new calls
-outer_cause old mid new tells calls below cause t = cause_before old mid new calls below (cause t)
 
 -- an empty buffer
 pub none_left : (buffer waiting : List ℕ) (empty : Bool) → waiting ≡ buffer → empty ≡ (length waiting == 0) → empty ≡

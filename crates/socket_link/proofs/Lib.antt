@@ -1,7 +1,9 @@
 pub mod Appends
 pub mod Ends
+pub mod HistorySteps
 pub mod Orders
 pub mod Parts
+pub mod Rounds
 pub mod Steps
 mod Walks
 mod SlotLengths

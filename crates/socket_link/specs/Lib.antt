@@ -2,6 +2,7 @@ pub mod Calls
 pub mod Flushes
 pub mod Histories
 pub mod Limits
+pub mod LinkCalls
 pub mod Notes
 pub mod Purposes
 pub mod Reads

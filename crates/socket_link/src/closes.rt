@@ -1,10 +1,11 @@
 //! The end of a connection: what waits is written out, and what the peer still sends is read on.
 
-ghost use Rattle.std.specs.Prelude.{◌≡◌, ◌<◌, ◌≤◌, ◌++◌, ◌∷◌, ◌⊎◌, [], IsTrue, length};
+ghost use Rattle.std.specs.Prelude.{◌≡◌, ◌≤◌, ◌++◌, ◌∷◌, ◌⊎◌, [], IsTrue, length};
 ghost use Rattle.std.specs.Prelude.{OnOk, OnErr};
 ghost use Rattle.vod_base.specs.MemoryLinks.{sent_of};
 ghost use Rattle.socket_link.specs.Calls.{ShutDown};
 ghost use Rattle.socket_link.specs.Histories.{IsCause};
+ghost use Rattle.socket_link.specs.LinkCalls.{CallsSocket, LeavesHistory, MakesCall};
 ghost use Rattle.socket_link.specs.Steps.{HasServed, HasLasted, HasFoundEnd, HasClosed};
 
 use crate::limits::{LINGER, RETRY, STUCK_LIMIT};
@@ -15,16 +16,10 @@ use vod_base::{Heard, LinkFault};
 impl<S: Socket> SocketLink<S> {
     /// Writes all waiting bytes, for as long as a peer has for them: 60 s.
     fn write_everything(&mut self) -> Result<(), LinkFault>
-        ensures same { (self.new.history.doings ≡ self.old.history.doings)
-            × (self.new.faults ≡ self.old.faults) × (self.new.slot_units ≡ self.old.slot_units)
-            × (self.new.slot ≡ self.old.slot) }
-        ensures count { S.faults self.old.socket ≤ S.faults self.new.socket }
-        ensures served { OnOk result (IsTrue S.tells →
-            HasServed self.old.slot_units (S.did self.old.socket) (S.did self.new.socket)) }
+        ensures calls { CallsSocket result self.old self.new }
+        ensures history { LeavesHistory self.old self.new }
         ensures written { OnOk result (IsTrue S.tells → (length self.new.buffer ≡ 0)
             ⊎ HasLasted STUCK_LIMIT (S.did self.old.socket) (S.did self.new.socket)) }
-        ensures cause { OnErr result (IsTrue S.tells → IsCause
-            (S.faults self.old.socket) (S.faults self.new.socket) (S.did self.new.socket)) }
     {
         // A reading from before the writes, so that the time they take counts.
         self.check(Purpose::End)?;
@@ -49,16 +44,9 @@ impl<S: Socket> SocketLink<S> {
 
     /// Shuts the sending half down.
     fn shut_down(&mut self) -> Result<(), LinkFault>
-        ensures same { (self.new.history.doings ≡ self.old.history.doings)
-            × (self.new.faults ≡ self.old.faults) × (self.new.slot_units ≡ self.old.slot_units)
-            × (self.new.slot ≡ self.old.slot) }
-        ensures count { S.faults self.old.socket ≤ S.faults self.new.socket }
-        ensures served { OnOk result (IsTrue S.tells →
-            HasServed self.old.slot_units (S.did self.old.socket) (S.did self.new.socket)) }
-        ensures longer { OnOk result (IsTrue S.tells →
-            length (S.did self.old.socket) < length (S.did self.new.socket)) }
-        ensures cause { OnErr result (IsTrue S.tells → IsCause
-            (S.faults self.old.socket) (S.faults self.new.socket) (S.did self.new.socket)) }
+        ensures calls { CallsSocket result self.old self.new }
+        ensures history { LeavesHistory self.old self.new }
+        ensures longer { OnOk result (MakesCall self.old self.new) }
         ensures shut { OnOk result (IsTrue S.tells →
             S.did self.new.socket ≡ S.did self.old.socket ++ ShutDown ∷ []) }
     {
@@ -74,15 +62,9 @@ impl<S: Socket> SocketLink<S> {
 
     /// Reads and drops what the peer still sends, until it ends, for 1 s at most.
     fn linger(&mut self) -> Result<(), LinkFault>
-        ensures same { (self.new.faults ≡ self.old.faults)
-            × (self.new.slot_units ≡ self.old.slot_units) }
-        ensures count { S.faults self.old.socket ≤ S.faults self.new.socket }
-        ensures served { OnOk result (IsTrue S.tells →
-            HasServed self.old.slot_units (S.did self.old.socket) (S.did self.new.socket)) }
+        ensures calls { CallsSocket result self.old self.new }
         ensures ended { OnOk result (IsTrue S.tells → HasFoundEnd (S.did self.new.socket)
             ⊎ HasLasted LINGER (S.did self.old.socket) (S.did self.new.socket)) }
-        ensures cause { OnErr result (IsTrue S.tells → IsCause
-            (S.faults self.old.socket) (S.faults self.new.socket) (S.did self.new.socket)) }
     {
         self.check(Purpose::End)?;
         let begun = self.watch.latest;

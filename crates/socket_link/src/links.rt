@@ -123,6 +123,9 @@ impl<S: Socket + Drop> SocketLink<S> {
 }
 
 impl<S: Socket> SocketLink<S> {
+    ghost use Rattle.socket_link.specs.LinkCalls.{CallsSocket, LeavesHistory, LeavesWaiting};
+    ghost use Rattle.socket_link.specs.LinkCalls.{MakesCall};
+
     /// How the link's history follows from the calls of its socket.
     pub fn law(&self)
         ensures { IsTrue S.tells → Follows self.now.slot_units self.now.watch
@@ -133,20 +136,12 @@ impl<S: Socket> SocketLink<S> {
     pub(crate) fn wait(&mut self, most: u64) -> Result<(), LinkFault>
         requires { IsTrue S.tells → FitsAfter self.old.slot_units
             (last_from None (S.did self.old.socket)) most }
-        ensures same { (self.new.history.doings ≡ self.old.history.doings)
-            × (self.new.faults ≡ self.old.faults) × (self.new.slot_units ≡ self.old.slot_units)
-            × (self.new.slot ≡ self.old.slot) }
-        ensures count { S.faults self.old.socket ≤ S.faults self.new.socket }
-        ensures served { OnOk result (IsTrue S.tells →
-            HasServed self.old.slot_units (S.did self.old.socket) (S.did self.new.socket)) }
-        ensures longer { OnOk result (IsTrue S.tells →
-            length (S.did self.old.socket) < length (S.did self.new.socket)) }
-        ensures cause { OnErr result (IsTrue S.tells → IsCause
-            (S.faults self.old.socket) (S.faults self.new.socket) (S.did self.new.socket)) }
+        ensures calls { CallsSocket result self.old self.new }
+        ensures history { LeavesHistory self.old self.new }
+        ensures longer { OnOk result (MakesCall self.old self.new) }
         ensures called { OnOk result (IsTrue S.tells →
             HasCalled (S.did self.old.socket) (S.did self.new.socket)) }
-        ensures waiting { (self.new.buffer ≡ self.old.buffer)
-            × (self.new.watch.stuck ≡ self.old.watch.stuck) }
+        ensures waiting { LeavesWaiting self.old self.new }
     {
         match self.socket.wait(most) {
             Ok(ready) => {
@@ -162,16 +157,9 @@ impl<S: Socket> SocketLink<S> {
     /// Reads the clock, and fails where the reading shows that a limit is reached.
     pub(crate) fn check(&mut self, purpose: Purpose) -> Result<(), LinkFault>
         requires { is_for_slots purpose ≡ false }
-        ensures same { (self.new.history.doings ≡ self.old.history.doings)
-            × (self.new.faults ≡ self.old.faults) × (self.new.slot_units ≡ self.old.slot_units)
-            × (self.new.slot ≡ self.old.slot) }
-        ensures count { S.faults self.old.socket ≤ S.faults self.new.socket }
-        ensures served { OnOk result (IsTrue S.tells →
-            HasServed self.old.slot_units (S.did self.old.socket) (S.did self.new.socket)) }
-        ensures longer { OnOk result (IsTrue S.tells →
-            length (S.did self.old.socket) < length (S.did self.new.socket)) }
-        ensures cause { OnErr result (IsTrue S.tells → IsCause
-            (S.faults self.old.socket) (S.faults self.new.socket) (S.did self.new.socket)) }
+        ensures calls { CallsSocket result self.old self.new }
+        ensures history { LeavesHistory self.old self.new }
+        ensures longer { OnOk result (MakesCall self.old self.new) }
         ensures read { OnOk result (IsTrue S.tells → S.did self.new.socket
             ≡ S.did self.old.socket ++ ReadClock purpose self.new.watch.latest ∷ []) }
         ensures watch { OnOk result
@@ -190,29 +178,19 @@ impl<S: Socket> SocketLink<S> {
 
     /// Reads the clock, and returns the slot if it is newer than the last one.
     fn new_slot(&mut self) -> Result<Option<u64>, LinkFault>
-        // leaves: the waiting bytes as they were; a reading of the clock
-        ensures same { (self.new.faults ≡ self.old.faults)
-            × (self.new.slot_units ≡ self.old.slot_units) }
-        ensures count { S.faults self.old.socket ≤ S.faults self.new.socket }
-        ensures served { OnOk result (IsTrue S.tells →
-            HasServed self.old.slot_units (S.did self.old.socket) (S.did self.new.socket)) }
-        ensures longer { OnOk result (IsTrue S.tells →
-            length (S.did self.old.socket) < length (S.did self.new.socket)) }
+        // leaves: the waiting bytes as they were; a reading of the clock. It fails where the socket
+        // failed.
+        ensures calls { CallsSocket result self.old self.new }
+        ensures longer { OnOk result (MakesCall self.old self.new) }
         ensures looked { IfOk result (λ slot. IsTrue S.tells → HasLooked self.old.slot_units
             self.old.slot slot self.new.watch.latest
             (S.did self.old.socket) (S.did self.new.socket)) }
-        ensures waiting { (self.new.buffer ≡ self.old.buffer)
-            × (self.new.watch.stuck ≡ self.old.watch.stuck) }
+        ensures waiting { LeavesWaiting self.old self.new }
         // answers: a slot that is one more event of the history, or None
         ensures told { IfOk result (λ slot. self.new.history.doings
             ≡ self.old.history.doings ++ doings_looked slot) }
-        ensures none { IfOk result (λ slot. slot ≡ None →
-            (self.new.history.doings ≡ self.old.history.doings)
-            × (self.new.slot ≡ self.old.slot)) }
+        ensures none { IfOk result (λ slot. slot ≡ None → LeavesHistory self.old self.new) }
         ensures lost { OnErr result (self.new.history.doings ≡ self.old.history.doings) }
-        // faults: the socket failed
-        ensures cause { OnErr result (IsTrue S.tells → IsCause
-            (S.faults self.old.socket) (S.faults self.new.socket) (S.did self.new.socket)) }
     {
         match self.socket.time(Purpose::Slot) {
             Ok(time) => {
@@ -232,16 +210,9 @@ impl<S: Socket> SocketLink<S> {
     /// Writes as many of the waiting bytes as the socket takes in one call.
     fn write(&mut self) -> Result<WriteOutcome, LinkFault>
         requires { 0 < length self.old.buffer }
-        ensures same { (self.new.history.doings ≡ self.old.history.doings)
-            × (self.new.faults ≡ self.old.faults) × (self.new.slot_units ≡ self.old.slot_units)
-            × (self.new.slot ≡ self.old.slot) }
-        ensures count { S.faults self.old.socket ≤ S.faults self.new.socket }
-        ensures served { OnOk result (IsTrue S.tells →
-            HasServed self.old.slot_units (S.did self.old.socket) (S.did self.new.socket)) }
-        ensures longer { OnOk result (IsTrue S.tells →
-            length (S.did self.old.socket) < length (S.did self.new.socket)) }
-        ensures cause { OnErr result (IsTrue S.tells → IsCause
-            (S.faults self.old.socket) (S.faults self.new.socket) (S.did self.new.socket)) }
+        ensures calls { CallsSocket result self.old self.new }
+        ensures history { LeavesHistory self.old self.new }
+        ensures longer { OnOk result (MakesCall self.old self.new) }
     {
         match self.socket.write(self.buffer.waiting_bytes()) {
             Ok(WriteOutcome::Bytes(count)) => {
@@ -258,16 +229,9 @@ impl<S: Socket> SocketLink<S> {
     /// Writes the waiting bytes until all are written, or the socket takes nothing now.
     fn flush(&mut self) -> Result<Flushed, LinkFault>
         requires { 0 < length self.old.buffer }
-        ensures same { (self.new.history.doings ≡ self.old.history.doings)
-            × (self.new.faults ≡ self.old.faults) × (self.new.slot_units ≡ self.old.slot_units)
-            × (self.new.slot ≡ self.old.slot) }
-        ensures count { S.faults self.old.socket ≤ S.faults self.new.socket }
-        ensures served { OnOk result (IsTrue S.tells →
-            HasServed self.old.slot_units (S.did self.old.socket) (S.did self.new.socket)) }
-        ensures longer { OnOk result (IsTrue S.tells →
-            length (S.did self.old.socket) < length (S.did self.new.socket)) }
-        ensures cause { OnErr result (IsTrue S.tells → IsCause
-            (S.faults self.old.socket) (S.faults self.new.socket) (S.did self.new.socket)) }
+        ensures calls { CallsSocket result self.old self.new }
+        ensures history { LeavesHistory self.old self.new }
+        ensures longer { OnOk result (MakesCall self.old self.new) }
         ensures left { IfOk result (λ flushed.
             IsLeft flushed self.new.buffer self.new.watch.stuck) }
         ensures stuck { IfOk result (λ flushed. flushed ≡ Flushed.Stuck → IsTrue S.tells →
@@ -292,16 +256,10 @@ impl<S: Socket> SocketLink<S> {
 
     /// Writes the waiting bytes, if there are any, as far as the socket takes them now.
     pub(crate) fn write_out(&mut self) -> Result<(), LinkFault>
-        ensures same { (self.new.history.doings ≡ self.old.history.doings)
-            × (self.new.faults ≡ self.old.faults) × (self.new.slot_units ≡ self.old.slot_units)
-            × (self.new.slot ≡ self.old.slot) }
-        ensures count { S.faults self.old.socket ≤ S.faults self.new.socket }
-        ensures served { OnOk result (IsTrue S.tells →
-            HasServed self.old.slot_units (S.did self.old.socket) (S.did self.new.socket)) }
+        ensures calls { CallsSocket result self.old self.new }
+        ensures history { LeavesHistory self.old self.new }
         ensures left { OnOk result
             ((length self.new.buffer ≡ 0) ⊎ IsSome self.new.watch.stuck) }
-        ensures cause { OnErr result (IsTrue S.tells → IsCause
-            (S.faults self.old.socket) (S.faults self.new.socket) (S.did self.new.socket)) }
     {
         if !self.buffer.waiting_bytes().is_empty() {
             self.flush()?;
@@ -311,10 +269,9 @@ impl<S: Socket> SocketLink<S> {
 
     /// Takes as many of the bytes as the buffer has room for, and returns how many.
     fn put(&mut self, bytes: &[u8]) -> usize
-        ensures same { (self.new.faults ≡ self.old.faults)
-            × (self.new.slot_units ≡ self.old.slot_units) }
-        ensures faults { S.faults self.new.socket ≡ S.faults self.old.socket }
-        ensures calls { S.did self.new.socket ≡ S.did self.old.socket }
+        ensures socket { self.new.socket ≡ self.old.socket }
+        ensures units { self.new.slot_units ≡ self.old.slot_units }
+        ensures faults { self.new.faults ≡ self.old.faults }
         ensures within { result ≤ length bytes.now }
         ensures told { self.new.history.doings
             ≡ self.old.history.doings ++ sends (take result bytes.now) }
@@ -328,16 +285,9 @@ impl<S: Socket> SocketLink<S> {
     /// Writes the waiting bytes, and waits for a while if the peer takes nothing now.
     fn make_room(&mut self) -> Result<(), LinkFault>
         requires { 0 < length self.old.buffer }
-        ensures same { (self.new.history.doings ≡ self.old.history.doings)
-            × (self.new.faults ≡ self.old.faults) × (self.new.slot_units ≡ self.old.slot_units)
-            × (self.new.slot ≡ self.old.slot) }
-        ensures count { S.faults self.old.socket ≤ S.faults self.new.socket }
-        ensures served { OnOk result (IsTrue S.tells →
-            HasServed self.old.slot_units (S.did self.old.socket) (S.did self.new.socket)) }
-        ensures longer { OnOk result (IsTrue S.tells →
-            length (S.did self.old.socket) < length (S.did self.new.socket)) }
-        ensures cause { OnErr result (IsTrue S.tells → IsCause
-            (S.faults self.old.socket) (S.faults self.new.socket) (S.did self.new.socket)) }
+        ensures calls { CallsSocket result self.old self.new }
+        ensures history { LeavesHistory self.old self.new }
+        ensures longer { OnOk result (MakesCall self.old self.new) }
     {
         match self.flush()? {
             Flushed::Everything => Ok(()),
@@ -348,18 +298,12 @@ impl<S: Socket> SocketLink<S> {
 
     /// Takes all the bytes. Where the buffer is full it is written out.
     fn gather(&mut self, bytes: &[u8]) -> Result<(), LinkFault>
-        ensures same { (self.new.faults ≡ self.old.faults)
-            × (self.new.slot_units ≡ self.old.slot_units) }
-        ensures count { S.faults self.old.socket ≤ S.faults self.new.socket }
+        ensures calls { CallsSocket result self.old self.new }
         ensures whole { OnOk result (self.new.history.doings
             ≡ self.old.history.doings ++ sends bytes.now) }
         ensures front { OnErr result ((count : ℕ) × ((count ≤ length bytes.now)
             × (self.new.history.doings
             ≡ self.old.history.doings ++ sends (take count bytes.now)))) }
-        ensures served { OnOk result (IsTrue S.tells →
-            HasServed self.old.slot_units (S.did self.old.socket) (S.did self.new.socket)) }
-        ensures cause { OnErr result (IsTrue S.tells → IsCause
-            (S.faults self.old.socket) (S.faults self.new.socket) (S.did self.new.socket)) }
     {
         let mut rest = bytes;
         for _ in 0..u64::MAX {
@@ -385,33 +329,23 @@ impl<S: Socket> SocketLink<S> {
         requires some { 0 < length into.now }
         requires fits { IsTrue S.tells → FitsAfter self.old.slot_units
             (last_from None (S.did self.old.socket)) most }
-        // leaves: the slot and the waiting bytes as they were; further calls of the socket
-        ensures same { (self.new.faults ≡ self.old.faults)
-            × (self.new.slot_units ≡ self.old.slot_units) }
-        ensures count { S.faults self.old.socket ≤ S.faults self.new.socket }
-        ensures served { OnOk result (IsTrue S.tells →
-            HasServed self.old.slot_units (S.did self.old.socket) (S.did self.new.socket)) }
-        ensures longer { OnOk result (IsTrue S.tells →
-            length (S.did self.old.socket) < length (S.did self.new.socket)) }
+        // leaves: the slot and the waiting bytes as they were; a further call of the socket
+        ensures calls { CallsSocket result self.old self.new }
+        ensures longer { OnOk result (MakesCall self.old self.new) }
         ensures called { OnOk result (IsTrue S.tells →
             HasCalled (S.did self.old.socket) (S.did self.new.socket)) }
         ensures slot { self.new.slot ≡ self.old.slot }
-        ensures waiting { (self.new.buffer ≡ self.old.buffer)
-            × (self.new.watch.stuck ≡ self.old.watch.stuck) }
+        ensures waiting { LeavesWaiting self.old self.new }
         // answers: what came, which is one more event of the history, or None
         ensures within { IfOk result (λ read. IfSome read (λ heard.
             IsWithin heard (length into.new))) }
         ensures event { IfOk result (λ read. IfSome read (λ heard. IsNoSlot heard)) }
         ensures told { IfOk result (λ read. self.new.history.doings
             ≡ self.old.history.doings ++ doings_read read into.new) }
-        ensures none { IfOk result (λ read. read ≡ None →
-            self.new.history.doings ≡ self.old.history.doings) }
+        ensures none { IfOk result (λ read. read ≡ None → LeavesHistory self.old self.new) }
         ensures ended { IfOk result (λ read. read ≡ Some Heard.End → IsTrue S.tells →
             HasFoundEnd (S.did self.new.socket)) }
         ensures lost { OnErr result (self.new.history.doings ≡ self.old.history.doings) }
-        // faults: the socket failed, or a limit is reached
-        ensures cause { OnErr result (IsTrue S.tells → IsCause
-            (S.faults self.old.socket) (S.faults self.new.socket) (S.did self.new.socket)) }
     {
         if !self.readable {
             self.wait(most)?;
@@ -444,9 +378,7 @@ impl<S: Socket> SocketLink<S> {
     fn hear(&mut self, into: &mut [u8]) -> Result<Heard, LinkFault>
         // needs: room for a byte
         requires some { 0 < length into.now }
-        ensures same { (self.new.faults ≡ self.old.faults)
-            × (self.new.slot_units ≡ self.old.slot_units) }
-        ensures count { S.faults self.old.socket ≤ S.faults self.new.socket }
+        ensures calls { CallsSocket result self.old self.new }
         // answers: one event, and the history has it
         ensures within { IfOk result (λ heard. IsWithin heard (length into.new)) }
         ensures heard { IfOk result (λ heard. self.new.history.doings
@@ -457,11 +389,6 @@ impl<S: Socket> SocketLink<S> {
             ((length self.new.buffer ≡ 0) ⊎ IsSome self.new.watch.stuck) }
         ensures order { IfOk result (λ heard. IsTrue S.tells → IsInOrder self.old.slot_units
             self.old.slot heard (S.did self.new.socket)) }
-        ensures served { OnOk result (IsTrue S.tells →
-            HasServed self.old.slot_units (S.did self.old.socket) (S.did self.new.socket)) }
-        // faults: the socket failed, or a limit is reached
-        ensures cause { OnErr result (IsTrue S.tells → IsCause
-            (S.faults self.old.socket) (S.faults self.new.socket) (S.did self.new.socket)) }
     {
         for _ in 0..u64::MAX {
             // Written before the wait, since the peer may wait for just these bytes.

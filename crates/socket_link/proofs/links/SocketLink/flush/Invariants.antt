@@ -1,14 +1,11 @@
-use Rattle.std.proofs.Common.{◌≡◌, ◌<◌, length}
-use Rattle.socket_link.proofs.Steps.{IsRound}
+use Rattle.std.proofs.Common.{◌<◌, length}
+use Rattle.socket_link.specs.LinkCalls.{LeavesHistory}
+use Rattle.socket_link.proofs.Rounds.{IsRound}
 use Rattle.socket_link.proofs.links.SocketLink.flush.Given as goal
 
 abbrev pub invariant-loop : goal.invariant-loop
 invariant-loop g l = record {
-  round : IsRound l.initial.self.slot_units g.S.Socket.tells l.counter (g.S.Socket.faults l.initial.self.socket)
-      (g.S.Socket.faults l.self.socket) (g.S.Socket.did l.initial.self.socket) (g.S.Socket.did l.self.socket);
-  history : l.self.history.doings ≡ l.initial.self.history.doings;
-  faults : l.self.faults ≡ l.initial.self.faults;
-  units : l.self.slot_units ≡ l.initial.self.slot_units;
-  slot : l.self.slot ≡ l.initial.self.slot;
+  round : IsRound l.counter l.initial.self l.self;
+  history : LeavesHistory l.initial.self l.self;
   some : 0 < length l.self.buffer;
 }

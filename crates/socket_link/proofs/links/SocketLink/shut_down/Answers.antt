@@ -1,13 +1,14 @@
 use Rattle.std.proofs.Common.{refl}
 use Rattle.socket_link.specs.Calls.{ShutDown}
-use Rattle.socket_link.proofs.Steps.{follows_call, served_call}
+use Rattle.socket_link.proofs.HistorySteps.{follows_silent, state_of}
+use Rattle.socket_link.proofs.Rounds.{calls_once}
 use Rattle.socket_link.proofs.links.SocketLink.shut_down.Goals as goal
 
 pub invariant_of-self-clause-follows : goal.invariant_of-self-clause-follows
 invariant_of-self-clause-follows g c = λ tells.
-    follows_call c.args.self.now.slot_units _ _ c.args.self.now.buffer c.args.self.now.buffer
-    c.args.self.now.history.doings ShutDown (c.args.self.now.follows tells)
-    (c.in-Ok.ensures.shut tells) refl refl (λ slots. refl) refl
+    follows_silent c.args.self.now.slot_units ShutDown (state_of c.args.self.now) tt (c.args.self.now.follows tells)
+    (c.in-Ok.ensures.shut tells)
 
-pub returns-in-Ok-clause-served : goal.returns-in-Ok-clause-served
-returns-in-Ok-clause-served g c = λ tells. served_call _ _ _ ShutDown (c.in-Ok.ensures.shut tells) refl tt
+pub returns-in-Ok-clause-calls : goal.returns-in-Ok-clause-calls
+returns-in-Ok-clause-calls g c =
+    calls_once ShutDown refl refl c.in-Ok.ensures.count c.in-Ok.ensures.shut (λ tells. refl) (λ tells. tt)

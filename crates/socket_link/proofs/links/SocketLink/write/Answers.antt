@@ -1,44 +1,49 @@
 use Rattle.std.proofs.Common.{refl, sym, ◌∙◌, ap, take, ◌++◌, List, ℕ}
 use Rattle.std.proofs.lemmas.List.{take-append-drop}
 use Rattle.socket_link.specs.Calls.{TookBytes, TookNothing, WasInterrupted}
-use Rattle.socket_link.proofs.Steps.{follows_call, served_call}
+use Rattle.socket_link.proofs.HistorySteps.{follows_call, follows_silent, state_of}
+use Rattle.socket_link.proofs.Rounds.{calls_once}
 use Rattle.socket_link.proofs.links.SocketLink.write.Goals as goal
 
 pub invariant_of-self-clause-follows : goal.invariant_of-self-clause-follows
 invariant_of-self-clause-follows g c =
     let count = c.in-Ok-Bytes.count in
-    let waiting = c.args.self.now.buffer in
+    let old = state_of c.args.self.now in
     let took = rw (c.in-Ok-Bytes.field-0-is, c.waiting_bytes.ensures) at c.in-Ok-Bytes.ensures.took in λ tells.
-    follows_call c.args.self.now.slot_units _ _ waiting _ c.args.self.now.history.doings
-    (TookBytes (take count waiting)) (c.args.self.now.follows tells) (took tells)
-    (sym (ap (λ (l : List ℕ). take count waiting ++ l) c.drop_front.ensures ∙ take-append-drop count waiting))
-    refl (λ slots. refl) c.sent-self.ensures
+    follows_call c.args.self.now.slot_units (TookBytes (take count old.waiting)) old
+    (record old { watch = _; calls = _; waiting = _ }) (c.args.self.now.follows tells) (record {
+      calls = took tells;
+      doings = refl;
+      waiting = sym (ap (λ (l : List ℕ). take count old.waiting ++ l) c.drop_front.ensures
+          ∙ take-append-drop count old.waiting);
+      watch = c.sent-self.ensures;
+      no_bytes = refl;
+      no_slot = λ slots. refl;
+    })
 
-pub returns-in-Ok-Bytes-clause-served : goal.returns-in-Ok-Bytes-clause-served
-returns-in-Ok-Bytes-clause-served g c =
-    let took = rw c.in-Ok-Bytes.field-0-is at c.in-Ok-Bytes.ensures.took in λ tells. served_call _ _ _ (TookBytes _)
-    (took tells) refl tt
+pub returns-in-Ok-Bytes-clause-calls : goal.returns-in-Ok-Bytes-clause-calls
+returns-in-Ok-Bytes-clause-calls g c =
+    let took = rw c.in-Ok-Bytes.field-0-is at c.in-Ok-Bytes.ensures.took in
+    calls_once (TookBytes _) refl refl c.write.ensures.count took (λ tells. refl) (λ tells. tt)
 
-pub returns-in-Ok-Nothing-clause-served : goal.returns-in-Ok-Nothing-clause-served
-returns-in-Ok-Nothing-clause-served g c =
-    let took = rw c.in-Ok-Nothing.field-0-is at c.in-Ok-Nothing.ensures.took in λ tells. served_call _ _ _ TookNothing
-    (took tells) refl tt
+pub returns-in-Ok-Nothing-clause-calls : goal.returns-in-Ok-Nothing-clause-calls
+returns-in-Ok-Nothing-clause-calls g c =
+    let took = rw c.in-Ok-Nothing.field-0-is at c.in-Ok-Nothing.ensures.took in
+    calls_once TookNothing refl refl c.write.ensures.count took (λ tells. refl) (λ tells. tt)
 
-pub returns-in-Ok-Interrupted-clause-served : goal.returns-in-Ok-Interrupted-clause-served
-returns-in-Ok-Interrupted-clause-served g c =
-    let took = rw c.in-Ok-Interrupted.field-0-is at c.in-Ok-Interrupted.ensures.took in λ tells. served_call _ _ _
-    WasInterrupted (took tells) refl tt
+pub returns-in-Ok-Interrupted-clause-calls : goal.returns-in-Ok-Interrupted-clause-calls
+returns-in-Ok-Interrupted-clause-calls g c =
+    let took = rw c.in-Ok-Interrupted.field-0-is at c.in-Ok-Interrupted.ensures.took in
+    calls_once WasInterrupted refl refl c.write.ensures.count took (λ tells. refl) (λ tells. tt)
 
 pub invariant_of-self-in-Ok-Nothing-clause-follows : goal.invariant_of-self-in-Ok-Nothing-clause-follows
 invariant_of-self-in-Ok-Nothing-clause-follows g c =
     let took = rw c.in-Ok-Nothing.field-0-is at c.in-Ok-Nothing.ensures.took in λ tells.
-    follows_call c.args.self.now.slot_units _ _ c.args.self.now.buffer c.args.self.now.buffer
-    c.args.self.now.history.doings TookNothing (c.args.self.now.follows tells) (took tells) refl refl (λ slots. refl)
-    refl
+    follows_silent c.args.self.now.slot_units TookNothing (state_of c.args.self.now) tt
+    (c.args.self.now.follows tells) (took tells)
 
 pub invariant_of-self-in-Ok-Interrupted-clause-follows : goal.invariant_of-self-in-Ok-Interrupted-clause-follows
 invariant_of-self-in-Ok-Interrupted-clause-follows g c =
     let took = rw c.in-Ok-Interrupted.field-0-is at c.in-Ok-Interrupted.ensures.took in λ tells.
-    follows_call c.args.self.now.slot_units _ _ c.args.self.now.buffer c.args.self.now.buffer
-    c.args.self.now.history.doings WasInterrupted (c.args.self.now.follows tells) (took tells) refl refl (λ slots. refl)
-    refl
+    follows_silent c.args.self.now.slot_units WasInterrupted (state_of c.args.self.now) tt
+    (c.args.self.now.follows tells) (took tells)
