@@ -38,7 +38,7 @@ pub enum ScriptedWrite {
 }
 
 /// What a call did.
-#[derive(Debug, Drop)]
+#[derive(Drop)]
 pub(crate) enum NotedCall {
     Gave(Vec<u8>),
     Empty,

@@ -9,206 +9,302 @@ use vod_base::{Heard, Link, LinkFault};
 /// Slots of 1 s.
 const SECOND: u32 = 360_000;
 
+/// A link as the tests call it.
+///
+/// The trait has no clauses: those of the link are long, and a proof over them repeats them at each
+/// call.
+trait TestLink {
+    /// Waits for the next event, of two bytes at most.
+    fn hear(&mut self) -> Result<Heard, LinkFault>;
+
+    /// Sends bytes.
+    fn say(&mut self, bytes: &[u8]) -> Result<(), LinkFault>;
+
+    /// Closes the connection.
+    fn finish(&mut self) -> Result<(), LinkFault>;
+
+    /// Returns what its socket did.
+    fn notes(&self) -> &[NotedCall];
+}
+
+impl TestLink for SocketLink<MemorySocket> {
+    fn hear(&mut self) -> Result<Heard, LinkFault> {
+        self.next(&mut [0; 2])
+    }
+
+    fn say(&mut self, bytes: &[u8]) -> Result<(), LinkFault> {
+        self.send(bytes)
+    }
+
+    fn finish(&mut self) -> Result<(), LinkFault> {
+        self.close()
+    }
+
+    fn notes(&self) -> &[NotedCall] {
+        self.socket.notes.as_slice()
+    }
+}
+
+/// What a read of a script answers.
+#[derive(Clone, Copy)]
+enum Read {
+    Bytes(&'static [u8]),
+    Nothing,
+    Interrupted,
+    End,
+    Fault,
+}
+
+/// The same, as a socket in memory takes it.
+fn scripted_read(alloc: Global, read: &Read) -> Result<ScriptedRead, AllocError> {
+    Ok(match read {
+        Read::Bytes(bytes) => ScriptedRead::Bytes(bytes.to_vec(alloc)?),
+        Read::Nothing => ScriptedRead::Nothing,
+        Read::Interrupted => ScriptedRead::Interrupted,
+        Read::End => ScriptedRead::End,
+        Read::Fault => ScriptedRead::Fault,
+    })
+}
+
+/// A script of reads.
+fn scripted_reads(alloc: Global, reads: &[Read]) -> Result<Vec<ScriptedRead>, AllocError> {
+    let mut script = Vec::new(alloc);
+    for read in reads {
+        script.push(scripted_read(alloc, read)?)?;
+    }
+    Ok(script)
+}
+
 /// A link over a socket that follows these scripts.
 fn scripted(
     alloc: Global,
     time: u64,
     slot_units: u32,
-    reads: Vec<ScriptedRead>,
-    writes: Vec<ScriptedWrite>,
+    reads: &[Read],
+    writes: &[ScriptedWrite],
 ) -> Result<SocketLink<MemorySocket>, Fail> {
-    let socket = MemorySocket::new(alloc, time, reads, writes);
-    Ok(SocketLink::new(LinkBuffer::new(alloc)?, socket, slot_units)?)
+    let buffer = LinkBuffer::new(alloc)?;
+    let reads = scripted_reads(alloc, reads)?;
+    let socket = MemorySocket::new(alloc, time, reads, writes.to_vec(alloc)?);
+    Ok(SocketLink::new(buffer, socket, slot_units)?)
+}
+
+/// Fails with a text, unless a condition is true.
+fn expect(condition: bool, otherwise: &str) -> Result<(), Fail> {
+    if condition {
+        Ok(())
+    } else {
+        Err(Fail::from(otherwise))
+    }
+}
+
+/// Expects that the link answers so.
+fn hears<K: TestLink>(link: &mut K, answers: &[Result<Heard, LinkFault>]) -> Result<(), Fail> {
+    for answer in answers {
+        expect(link.hear() == *answer, "another event")?;
+    }
+    Ok(())
 }
 
 /// How many events come before the link fails, of at most 10,000.
-fn events(link: &mut SocketLink<MemorySocket>) -> u64 {
-    let mut into = [0; 16];
+fn events<K: TestLink>(link: &mut K) -> u64 {
     for count in 0..10_000 {
-        if link.next(&mut into).is_err() {
+        if link.hear().is_err() {
             return count;
         }
     }
     10_000
 }
 
-/// What the socket took.
-fn written(alloc: Global, link: &SocketLink<MemorySocket>) -> Result<Vec<u8>, AllocError> {
-    let mut bytes = Vec::new(alloc);
-    for note in &link.socket.notes {
+/// Whether the socket took exactly these bytes.
+fn has_taken<K: TestLink>(link: &K, bytes: &[u8]) -> bool {
+    let mut rest = bytes;
+    for note in link.notes() {
         if let NotedCall::Took(taken) = note {
-            bytes.extend_from_slice(taken)?;
+            let Some(more) = rest.strip_prefix(taken.as_slice()) else {
+                return false;
+            };
+            rest = more;
         }
     }
-    Ok(bytes)
+    rest.is_empty()
 }
 
-#[test]
-fn nothing_is_sent_for_15_s(rt: HostRuntime) -> Result<(), Fail> {
-    let alloc = rt.alloc();
-    for (time, expected) in [(0, 15), (1, 16)] {
-        let mut link = scripted(alloc, time, SECOND, Vec::new(alloc), Vec::new(alloc))?;
-        assert_eq!(rt; events(&mut link), expected);
-    }
-    Ok(())
-}
-
-#[test]
-fn the_peer_takes_nothing_for_60_s(rt: HostRuntime) -> Result<(), Fail> {
-    let alloc = rt.alloc();
-    for (time, expected) in [(0, 60), (1, 61)] {
-        let mut writes = vec![in alloc; ScriptedWrite::Bytes(1)]?;
-        for _ in 0..200 {
-            writes.push(ScriptedWrite::Nothing)?;
+/// How often a link waited, and the shortest and the longest time, in nanoseconds.
+fn waits<K: TestLink>(link: &K) -> (u64, u64, u64) {
+    let mut count = 0_u64;
+    let mut shortest = u64::MAX;
+    let mut longest = 0;
+    for note in link.notes() {
+        if let NotedCall::Wait(most) = note {
+            count = count.saturating_add(1);
+            shortest = shortest.min(*most);
+            longest = longest.max(*most);
         }
-        let mut link = scripted(alloc, time, SECOND, Vec::new(alloc), writes)?;
-        assert!(rt; link.send(b"ab").is_ok());
-        assert_eq!(rt; events(&mut link), expected);
-        assert_eq!(rt; written(alloc, &link)?.as_slice(), b"a".as_slice());
+    }
+    (count, shortest, longest)
+}
+
+/// A link on which something is sent, if anything, fails after so many events.
+fn fails_after<K: TestLink + Drop>(
+    mut link: K,
+    sent: &str,
+    count: u64,
+    taken: &str,
+) -> Result<(), Fail> {
+    expect(
+        sent.is_empty() || link.say(sent.as_bytes()).is_ok(),
+        "not sent",
+    )?;
+    expect(events(&mut link) == count, "another number of events")?;
+    expect(has_taken(&link, taken.as_bytes()), "other bytes")
+}
+
+#[test]
+fn a_limit_ends_the_connection(rt: HostRuntime) -> Result<(), Fail> {
+    let mut stuck = [ScriptedWrite::Nothing; 201];
+    stuck[0] = ScriptedWrite::Bytes(1);
+    for (time, sent, writes, count, taken) in [
+        // nothing is sent for 15 s
+        (0, "", [].as_slice(), 15, ""),
+        (1, "", &[], 16, ""),
+        // the peer takes nothing for 60 s
+        (0, "ab", &stuck, 60, "a"),
+        (1, "ab", &stuck, 61, "a"),
+        // nothing happens for an hour
+        (0, "a", &[], 3_600, "a"),
+        (1, "a", &[], 3_601, "a"),
+    ] {
+        let link = scripted(rt.alloc(), time, SECOND, &[], writes)?;
+        fails_after(link, sent, count, taken)?;
     }
     Ok(())
 }
 
-#[test]
-fn nothing_happens_for_an_hour(rt: HostRuntime) -> Result<(), Fail> {
-    let alloc = rt.alloc();
-    for (time, expected) in [(0, 3600), (1, 3601)] {
-        let mut link = scripted(alloc, time, SECOND, Vec::new(alloc), Vec::new(alloc))?;
-        assert!(rt; link.send(b"a").is_ok());
-        assert_eq!(rt; events(&mut link), expected);
-    }
-    Ok(())
+/// A slot comes before bytes, which come two at most at a time, and each wait ends with a slot.
+fn hears_slots_first<K: TestLink + Drop>(mut link: K, slot: u64) -> Result<(), Fail> {
+    hears(
+        &mut link,
+        &[
+            Ok(Heard::Slot(0)),
+            Ok(Heard::Bytes(2)),
+            Ok(Heard::Bytes(1)),
+            Ok(Heard::Slot(1)),
+            Ok(Heard::End),
+        ],
+    )?;
+    let (count, shortest, longest) = waits(&link);
+    expect(
+        count > 0 && shortest == slot && longest == slot,
+        "another wait",
+    )
 }
 
 #[test]
 fn a_slot_comes_before_bytes_and_is_waited_for(rt: HostRuntime) -> Result<(), Fail> {
-    let alloc = rt.alloc();
+    let reads = [
+        Read::Interrupted,
+        Read::Bytes(b"abc"),
+        Read::Nothing,
+        Read::End,
+    ];
     for (slot_units, slot) in [(14_400, 40_000_000), (SECOND, 1_000_000_000)] {
-        let reads = vec![in alloc;
-            ScriptedRead::Interrupted,
-            ScriptedRead::Bytes(b"abc".to_vec(alloc)?),
-            ScriptedRead::Nothing,
-            ScriptedRead::End,
-        ]?;
-        let mut link = scripted(alloc, 0, slot_units, reads, Vec::new(alloc))?;
-        let mut into = [0; 2];
-        for expected in [
-            Heard::Slot(0),
-            Heard::Bytes(2),
-            Heard::Bytes(1),
-            Heard::Slot(1),
-            Heard::End,
-        ] {
-            assert_eq!(rt; link.next(&mut into), Ok(expected));
-        }
-        let mut waited = 0;
-        for note in &link.socket.notes {
-            if let NotedCall::Wait(most) = note {
-                assert_eq!(rt; *most, slot);
-                waited = 1;
-            }
-        }
-        assert_eq!(rt; waited, 1);
+        hears_slots_first(scripted(rt.alloc(), 0, slot_units, &reads, &[])?, slot)?;
     }
     Ok(())
 }
 
-#[test]
-fn a_megabyte_in_pieces_arrives_complete(rt: HostRuntime) -> Result<(), Fail> {
-    let alloc = rt.alloc();
-    let mut writes = Vec::new(alloc);
-    for size in [1, 7, 1_000, 16_383, 16_384, 3] {
-        writes.push(ScriptedWrite::Bytes(size))?;
-        writes.push(ScriptedWrite::Interrupted)?;
-        writes.push(ScriptedWrite::Nothing)?;
+/// The bytes are sent in pieces of 10,007, and all of them are taken until the connection ends.
+fn sends_in_pieces<K: TestLink + Drop>(mut link: K, bytes: &[u8]) -> Result<(), Fail> {
+    for piece in bytes.chunks(10_007) {
+        expect(link.say(piece).is_ok(), "not sent")?;
     }
-    let mut link = scripted(alloc, 0, SECOND, Vec::new(alloc), writes)?;
-    let mut sent = Vec::new(alloc);
-    for byte in 0..=255 {
-        sent.push(byte)?;
-    }
-    for _ in 0..12 {
-        let copy = sent.clone()?;
-        sent.extend_from_slice(&copy)?;
-    }
-    for piece in sent.chunks(10_007) {
-        assert!(rt; link.send(piece).is_ok());
-    }
-    assert!(rt; link.close().is_ok());
-    assert_eq!(rt; written(alloc, &link)?, sent);
-    Ok(())
+    expect(link.finish().is_ok(), "not closed")?;
+    expect(has_taken(&link, bytes), "other bytes")
 }
 
-#[test]
-fn faults_are_answered(rt: HostRuntime) -> Result<(), Fail> {
-    let alloc = rt.alloc();
-    let reads = vec![in alloc;
-        ScriptedRead::Fault,
-        ScriptedRead::Bytes(b"a".to_vec(alloc)?),
-    ]?;
-    let writes = vec![in alloc; ScriptedWrite::Fault]?;
-    let mut link = scripted(alloc, 0, SECOND, reads, writes)?;
-    let mut into = [0; 16];
-    assert_eq!(rt; link.next(&mut into), Ok(Heard::Slot(0)));
-    assert_eq!(rt; link.next(&mut into), Err(LinkFault));
-    assert_eq!(rt; link.next(&mut into), Ok(Heard::Bytes(1)));
-    assert!(rt; link.send(b"b").is_ok());
-    assert_eq!(rt; link.next(&mut into), Err(LinkFault));
-    Ok(())
-}
-
-#[test]
-fn a_closed_connection_is_written_out_and_read_on(rt: HostRuntime) -> Result<(), Fail> {
-    let alloc = rt.alloc();
-    let reads = vec![in alloc;
-        ScriptedRead::Bytes(b"late".to_vec(alloc)?),
-        ScriptedRead::End,
-    ]?;
-    let mut link = scripted(alloc, 0, SECOND, reads, Vec::new(alloc))?;
-    assert!(rt; link.send(b"last reply").is_ok());
-    assert!(rt; link.close().is_ok());
-    assert_eq!(rt; written(alloc, &link)?.as_slice(), b"last reply".as_slice());
-    assert!(rt; matches!(link.socket.notes.last(), Some(NotedCall::Ended)));
-    Ok(())
-}
-
-/// How often a link waited, and the longest time, in nanoseconds.
-fn waits(link: &SocketLink<MemorySocket>) -> (u64, u64) {
-    let mut count = 0_u64;
-    let mut longest = 0;
-    for note in &link.socket.notes {
-        if let NotedCall::Wait(most) = note {
-            count = count.saturating_add(1);
-            longest = longest.max(*most);
+/// A megabyte, in which the bytes from 0 to 255 come again and again.
+fn megabyte(alloc: Global) -> Result<Vec<u8>, AllocError> {
+    let mut bytes = Vec::with_capacity(alloc, 1_048_576)?;
+    for _ in 0..4_096 {
+        for byte in 0..=255 {
+            bytes.push(byte)?;
         }
     }
-    (count, longest)
-}
-
-#[test]
-fn a_closed_connection_is_written_to_each_second(rt: HostRuntime) -> Result<(), Fail> {
-    let alloc = rt.alloc();
-    // after this many writes that took nothing; and the answer, with the second of reading on
-    for (full, answer, waited) in [(2, Ok(()), 3), (200, Err(LinkFault), 60)] {
-        let mut writes = Vec::new(alloc);
-        for _ in 0..full {
-            writes.push(ScriptedWrite::Nothing)?;
-        }
-        let mut link = scripted(alloc, 0, SECOND, Vec::new(alloc), writes)?;
-        assert!(rt; link.send(b"last reply").is_ok());
-        assert_eq!(rt; link.close(), answer);
-        assert_eq!(rt; waits(&link), (waited, 1_000_000_000));
-    }
-    Ok(())
+    Ok(bytes)
 }
 
 /// Takes a value that may go to another thread.
 fn take_sent<T: Send>(_value: &T) {}
 
 #[test]
-fn a_link_may_go_to_another_thread(rt: HostRuntime) -> Result<(), Fail> {
-    let alloc = rt.alloc();
-    let link = scripted(alloc, 0, SECOND, Vec::new(alloc), Vec::new(alloc))?;
+fn a_megabyte_in_pieces_arrives_complete(rt: HostRuntime) -> Result<(), Fail> {
+    let mut writes = [ScriptedWrite::Nothing; 18];
+    for (index, size) in [1, 7, 1_000, 16_383, 16_384, 3].into_iter().enumerate() {
+        writes[index * 3] = ScriptedWrite::Bytes(size);
+        writes[index * 3 + 1] = ScriptedWrite::Interrupted;
+    }
+    let link = scripted(rt.alloc(), 0, SECOND, &[], &writes)?;
     take_sent(&link);
+    sends_in_pieces(link, megabyte(rt.alloc())?.as_slice())
+}
+
+/// A read and a write that fail are faults, and the link goes on after the first.
+fn answers_faults<K: TestLink + Drop>(mut link: K) -> Result<(), Fail> {
+    hears(
+        &mut link,
+        &[Ok(Heard::Slot(0)), Err(LinkFault), Ok(Heard::Bytes(1))],
+    )?;
+    expect(link.say(b"b").is_ok(), "not sent")?;
+    hears(&mut link, &[Err(LinkFault)])
+}
+
+#[test]
+fn faults_are_answered(rt: HostRuntime) -> Result<(), Fail> {
+    let reads = [Read::Fault, Read::Bytes(b"a")];
+    let writes = [ScriptedWrite::Fault];
+    answers_faults(scripted(rt.alloc(), 0, SECOND, &reads, &writes)?)
+}
+
+/// The last bytes are sent, and the peer's are read to their end.
+fn closes<K: TestLink + Drop>(mut link: K) -> Result<(), Fail> {
+    expect(link.say(b"last reply").is_ok(), "not sent")?;
+    expect(link.finish().is_ok(), "not closed")?;
+    expect(has_taken(&link, b"last reply"), "other bytes")?;
+    expect(
+        matches!(link.notes().last(), Some(NotedCall::Ended)),
+        "no end",
+    )
+}
+
+#[test]
+fn a_closed_connection_is_written_out_and_read_on(rt: HostRuntime) -> Result<(), Fail> {
+    let reads = [Read::Bytes(b"late"), Read::End];
+    closes(scripted(rt.alloc(), 0, SECOND, &reads, &[])?)
+}
+
+/// A close answers so, after so many waits of a second.
+fn closes_late<K: TestLink + Drop>(
+    mut link: K,
+    answer: Result<(), LinkFault>,
+    waited: u64,
+) -> Result<(), Fail> {
+    expect(link.say(b"last reply").is_ok(), "not sent")?;
+    expect(link.finish() == answer, "another answer")?;
+    let (count, _, longest) = waits(&link);
+    expect(count == waited && longest == 1_000_000_000, "another wait")
+}
+
+#[test]
+fn a_closed_connection_is_written_to_each_second(rt: HostRuntime) -> Result<(), Fail> {
+    let nothing = [ScriptedWrite::Nothing; 200];
+    // after this many writes that took nothing; and the answer, with the second of reading on
+    for (writes, answer, waited) in [
+        (&nothing[..2], Ok(()), 3),
+        (nothing.as_slice(), Err(LinkFault), 60),
+    ] {
+        let link = scripted(rt.alloc(), 0, SECOND, &[], writes)?;
+        closes_late(link, answer, waited)?;
+    }
     Ok(())
 }
