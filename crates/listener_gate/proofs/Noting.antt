@@ -2,11 +2,16 @@
 use Rattle.std.proofs.Common.{◌≡◌, ℕ, ◌+◌, ◌-◌, ◌^◌, min, Bool, true, false, List, [], ◌∷◌, ◌++◌, length, Option, Some}
 use Rattle.std.proofs.Common.{None, option_map, IfSome, refl, sym, ap, ◌∙◌, arith, length-append}
 use Rattle.std.proofs.lemmas.List.{length-set}
+use Rattle.vod_base.specs.declared.links.Link.{Ghosts as LinkGhosts}
 use Rattle.vod_base.specs.Links.{IoEvent}
-use Rattle.vod_base.specs.Gates.{Content, Part, MaySplit, fresh_part, new_part, told_rejoined}
+use Rattle.vod_base.specs.Gates.{Content, Part, MaySplit, after_rejoin, fresh_part, new_part, told_rejoined}
+use Rattle.listener_gate.specs.declared.gates.ListenerGate.{ListenerGate}
+use Rattle.listener_gate.specs.declared.listeners.Listener.{Ghosts}
+use Rattle.listener_gate.specs.declared.histories.PartHistory.{PartHistory}
 use Rattle.listener_gate.specs.declared.histories.PartNote.{PartNote}
 use Rattle.listener_gate.specs.declared.histories.GateNote.{GateNote}
 use Rattle.listener_gate.specs.declared.histories.GateNote.TheVariants.{Opened, NotOpened, Split, CameBack}
+use Rattle.listener_gate.specs.GateCalls.{LeavesGate}
 use Rattle.listener_gate.specs.Histories.{part_noted, part_after, Shared, shared_noted, shared_after, split_noted}
 use Rattle.listener_gate.specs.Histories.{splits_after, none_shared, content_with, told_if}
 
@@ -48,67 +53,117 @@ told_by : (tells : Bool) (f : Content → Content) (old new : Content) → new �
 told_by true f old new e = ap Some e
 told_by false f old new e = refl
 
--- after a note on the gate
-pub gate_told : {P : Type 0} (part_of : P → Part) (tells : Bool) (f : Content → Content) (own : Part)
-    (old new : List (Option P × GateNote)) (n : Option P × GateNote) → new ≡ old ++ n ∷ []
-    → ((s : Shared) → content_with (shared_noted part_of s n) own ≡ f (content_with s own))
-    → told_if tells (content_with (shared_after part_of none_shared new) own)
-    ≡ option_map f (told_if tells (content_with (shared_after part_of none_shared old) own))
-gate_told part_of tells f own old new n is step =
-    told_by tells f (content_with (shared_after part_of none_shared old) own)
-    (content_with (shared_after part_of none_shared new) own)
-    (ap (λ (l : List _). content_with (shared_after part_of none_shared l) own) is
-    ∙ ap (λ (s : Shared). content_with s own) (shared-append part_of none_shared old n)
-    ∙ step (shared_after part_of none_shared old))
+-- the same where the premise needs what is exposed
+told_where : (tells : Bool) (f : Content → Content) (P : Content → Type 0) (old new : Content) → (P old → new ≡ f old)
+    → IfSome (told_if tells old) P → told_if tells new ≡ option_map f (told_if tells old)
+told_where true f P old new step holds = ap Some (step holds)
+told_where false f P old new step holds = refl
 
--- after a note on the gate's own connections
-pub part_told : {C : Type 0} (faults : C → ℕ) (told : C → Option (List IoEvent)) (tells : Bool) (f : Content → Content)
-    (s' s : Shared) (number' number : ℕ) (old was new : List (Option C × PartNote)) (n : Option C × PartNote) →
-    s' ≡ s → number' ≡ number → was ≡ old → new ≡ was ++ n ∷ []
-    → ((p : Part) → content_with s (part_noted faults told p n) ≡ f (content_with s p))
-    → told_if tells (content_with s' (part_after faults told (fresh_part number') new))
-    ≡ option_map f (told_if tells (content_with s (part_after faults told (fresh_part number) old)))
-part_told faults told tells f s' s number' number old was new n same is_number same_notes is step =
-    told_by tells f (content_with s (part_after faults told (fresh_part number) old))
-    (content_with s' (part_after faults told (fresh_part number') new))
-    (ap (λ (t : Shared). content_with t (part_after faults told (fresh_part number') new)) same
-    ∙ ap (λ (k : ℕ). content_with s (part_after faults told (fresh_part k) new)) is_number
-    ∙ ap (λ (l : List _). content_with s (part_after faults told (fresh_part number) l)) (is ∙ ap (λ (l : List _). l ++
-    n ∷ []) same_notes)
-    ∙ ap (content_with s) (part-append faults told (fresh_part number) old n)
-    ∙ step (part_after faults told (fresh_part number) old))
+told_joined : (tells : Bool) (part old new : Content) → new ≡ after_rejoin part.own old
+    → told_if tells new ≡ told_rejoined (told_if tells part) (told_if tells old)
+told_joined true part old new e = ap Some e
+told_joined false part old new e = refl
+
+-- what connections expose, and whether the listener does
+pub record View (C : Type 0) : Type 0 where
+  pub faults : C → ℕ
+  pub told : C → Option (List IoEvent)
+  pub tells : Bool
+
+-- the two histories of a gate
+pub record GateState (C : Type 0) : Type 0 where
+  pub history : List (Option (PartHistory C) × GateNote)
+  pub own : PartHistory C
+
+abbrev pub view_of : {L C : Type 0} → Ghosts L C → LinkGhosts C → View C
+view_of G K = record { faults = K.faults; told = K.told; tells = G.tells }
+
+abbrev pub state_of : {L C : Type 0} {G : Ghosts L C} {K : LinkGhosts C} → ListenerGate L C G K → GateState C
+state_of gate = record { history = gate.history.items; own = gate.own }
+
+abbrev pub part_of : {C : Type 0} → View C → PartHistory C → Part
+part_of v part = part_after v.faults v.told (fresh_part part.number) part.notes.items
+
+abbrev pub content_of : {C : Type 0} → View C → GateState C → Content
+content_of v s = content_with (shared_after (part_of v) none_shared s.history) (part_of v s.own)
+
+abbrev pub exposed : {C : Type 0} → View C → GateState C → Option Content
+exposed v s = told_if v.tells (content_of v s)
+
+-- one more note on the gate
+pub record NotesGate {C : Type 0} (old new : GateState C) : Type 0 where
+  pub note : Option (PartHistory C) × GateNote
+  pub history : new.history ≡ old.history ++ note ∷ []
+  pub own : new.own ≡ old.own
+
+pub gate_told : {C : Type 0} (v : View C) (f : Content → Content) (old new : GateState C) (r : NotesGate old new)
+    → ((s : Shared) (own : Part) → content_with (shared_noted (part_of v) s r.note) own ≡ f (content_with s own))
+    → exposed v new ≡ option_map f (exposed v old)
+gate_told v f old new r step =
+    let own = part_of v old.own in
+    told_by v.tells f (content_of v old) (content_of v new)
+    (ap (λ o. content_with (shared_after (part_of v) none_shared new.history) (part_of v o)) r.own
+    ∙ ap (λ (l : List _). content_with (shared_after (part_of v) none_shared l) own) r.history
+    ∙ ap (λ (s : Shared). content_with s own) (shared-append (part_of v) none_shared old.history r.note)
+    ∙ step (shared_after (part_of v) none_shared old.history) own)
+
+-- one more note on the gate's own connections
+pub record NotesPart {C : Type 0} (note : Option C × PartNote) (old new : GateState C) : Type 0 where
+  pub history : new.history ≡ old.history
+  pub number : new.own.number ≡ old.own.number
+  pub notes : new.own.notes.items ≡ old.own.notes.items ++ note ∷ []
+
+-- a note after a call that leaves the gate
+module _ {L C : Type 0} {G : Ghosts L C} {K : LinkGhosts C} where
+  pub note_after : {old mid : ListenerGate L C G K} {own : PartHistory C} → LeavesGate old mid →
+      (note : Option C × PartNote) → own.number ≡ mid.own.number →
+      own.notes.items ≡ mid.own.notes.items ++ note ∷ [] →
+      NotesPart note (state_of old) (record { history = mid.history.items; own = own })
+  note_after same note number notes = record {
+    history = ap (λ h. h.items) same.history;
+    number = number ∙ ap (λ o. o.number) same.own;
+    notes = notes ∙ ap (λ o. o.notes.items ++ note ∷ []) same.own;
+  }
+
+pub part_told : {C : Type 0} (v : View C) (f : Content → Content) {note : Option C × PartNote} (old new : GateState C)
+    → NotesPart note old new
+    → ((s : Shared) (p : Part) → content_with s (part_noted v.faults v.told p note) ≡ f (content_with s p))
+    → exposed v new ≡ option_map f (exposed v old)
+part_told v f {note} old new r step =
+    let s = shared_after (part_of v) none_shared old.history in
+    told_by v.tells f (content_of v old) (content_of v new)
+    (ap (λ (l : List _). content_with (shared_after (part_of v) none_shared l) (part_of v new.own)) r.history
+    ∙ ap (λ (k : ℕ). content_with s (part_after v.faults v.told (fresh_part k) new.own.notes.items)) r.number
+    ∙ ap (λ (l : List _). content_with s (part_after v.faults v.told (fresh_part old.own.number) l)) r.notes
+    ∙ ap (content_with s) (part-append v.faults v.told (fresh_part old.own.number) old.own.notes.items note)
+    ∙ step s (part_of v old.own))
 
 -- a part that was split off
-pub new_part_told : {P C : Type 0} (part_of : P → Part) (faults : C → ℕ) (told : C → Option (List IoEvent)) (tells :
-    Bool) (own : Part)
-    (old : List (Option P × GateNote)) (number : ℕ) (none : List (Option P × GateNote)) (no_notes : List (Option C ×
-    PartNote))
-    → none ≡ [] → no_notes ≡ []
-    → IfSome (told_if tells (content_with (shared_after part_of none_shared old) own)) MaySplit
-    → number ≡ min (splits_after 0 old) (2 ^ 32 - 1)
-    → told_if tells (content_with (shared_after part_of none_shared none) (part_after faults told (fresh_part number)
-    no_notes))
-    ≡ option_map new_part (told_if tells (content_with (shared_after part_of none_shared old) own))
-new_part_told part_of faults told false own old number none no_notes e f may is = refl
-new_part_told part_of faults told true own old number none no_notes e f may is =
-    let parts = splits_are_parts part_of none_shared old in
+pub new_part_told : {C : Type 0} (v : View C) (old new : GateState C) → new.history ≡ []
+    → new.own.notes.items ≡ [] → IfSome (exposed v old) MaySplit
+    → new.own.number ≡ min (splits_after 0 old.history) (2 ^ 32 - 1)
+    → exposed v new ≡ option_map new_part (exposed v old)
+new_part_told v old new no_history no_notes may number_is =
+    told_where v.tells new_part MaySplit (content_of v old) (content_of v new) (λ may.
+    let parts = splits_are_parts (part_of v) none_shared old.history in
     let room = may.1 in
-    let right : number ≡ length (shared_after part_of none_shared old).parts = omega (arith, is, parts, room) in
-    ap Some (ap (λ (l : List _). content_with (shared_after part_of none_shared l) (part_after faults told (fresh_part
-    number) no_notes)) e
-    ∙ ap (λ (l : List _). content_with none_shared (part_after faults told (fresh_part number) l)) f
-    ∙ ap (λ (k : ℕ). content_with none_shared (fresh_part k)) right)
+    let right : new.own.number ≡ length (shared_after (part_of v) none_shared old.history).parts =
+    omega (arith, number_is, parts, room) in
+    ap (λ (l : List _). content_with (shared_after (part_of v) none_shared l) (part_of v new.own)) no_history
+    ∙ ap (λ (l : List _). content_with none_shared (part_after v.faults v.told (fresh_part new.own.number) l))
+    no_notes
+    ∙ ap (λ (k : ℕ). content_with none_shared (fresh_part k)) right) may
 
 -- a part that came back
-pub rejoin_told : {P : Type 0} (part_of : P → Part) (tells : Bool) (own : Part) (part : P) (part_shared : Shared)
-    (old new : List (Option P × GateNote)) → new ≡ old ++ (Some part, CameBack) ∷ []
-    → told_if tells (content_with (shared_after part_of none_shared new) own)
-    ≡ told_rejoined (told_if tells (content_with part_shared (part_of part)))
-    (told_if tells (content_with (shared_after part_of none_shared old) own))
-rejoin_told part_of false own part part_shared old new is = refl
-rejoin_told part_of true own part part_shared old new is =
-    ap (λ (l : List _). Some (content_with (shared_after part_of none_shared l) own)) is
-    ∙ ap (λ (s : Shared). Some (content_with s own)) (shared-append part_of none_shared old (Some part, CameBack))
+pub rejoin_told : {C : Type 0} (v : View C) (part old new : GateState C)
+    → new.history ≡ old.history ++ (Some part.own, CameBack) ∷ [] → new.own ≡ old.own
+    → exposed v new ≡ told_rejoined (exposed v part) (exposed v old)
+rejoin_told v part old new is own =
+    told_joined v.tells (content_of v part) (content_of v old) (content_of v new)
+    (ap (λ o. content_with (shared_after (part_of v) none_shared new.history) (part_of v o)) own
+    ∙ ap (λ (l : List _). content_with (shared_after (part_of v) none_shared l) (part_of v old.own)) is
+    ∙ ap (λ (s : Shared). content_with s (part_of v old.own))
+    (shared-append (part_of v) none_shared old.history (Some part.own, CameBack)))
 
 -- the count of splits after a note
 pub splits_stay : {P : Type 0} (splits : ℕ) (old new : List (Option P × GateNote)) (p : Option P) →

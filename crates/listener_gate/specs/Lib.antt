@@ -1,5 +1,6 @@
 pub mod Accepts
 pub mod Codes
+pub mod GateCalls
 pub mod Histories
 pub mod Listeners
 pub mod Openings

@@ -52,6 +52,8 @@ pub struct ListenerGate<L: Listener> {
 }
 
 impl<L: Listener> ListenerGate<L> {
+    ghost use Rattle.listener_gate.specs.GateCalls.{LeavesGate};
+
     /// Makes a gate that isn't open, over a listener that isn't bound.
     pub fn new(listener: L) -> ListenerGate<L>
         // leaves: a gate that has done nothing
@@ -86,10 +88,7 @@ impl<L: Listener> ListenerGate<L> {
     /// once at a shortage.
     fn try_accept(&mut self) -> Result<Option<L::Conn>, ListenerFault>
         // leaves: the gate's own counts as they were
-        ensures same { (self.new.faults ≡ self.old.faults) × (self.new.is_open ≡ self.old.is_open)
-            × (self.new.given ≡ self.old.given) × (self.new.most ≡ self.old.most)
-            × (self.new.splits ≡ self.old.splits) × (self.new.own ≡ self.old.own)
-            × (self.new.history ≡ self.old.history) }
+        ensures same { LeavesGate self.old self.new }
         ensures count { L.faults self.old.listener ≤ L.faults self.new.listener }
         // answers: a connection that has done nothing, or None after one wait or one lost
         // connection
@@ -128,10 +127,7 @@ impl<L: Listener> ListenerGate<L> {
 
     /// Waits for once where descriptors or memory are short, and makes the next wait longer.
     fn wait_out<C>(&mut self) -> Result<Option<C>, ListenerFault>
-        ensures same { (self.new.faults ≡ self.old.faults) × (self.new.is_open ≡ self.old.is_open)
-            × (self.new.given ≡ self.old.given) × (self.new.most ≡ self.old.most)
-            × (self.new.splits ≡ self.old.splits) × (self.new.own ≡ self.old.own)
-            × (self.new.history ≡ self.old.history) }
+        ensures same { LeavesGate self.old self.new }
         ensures none { IfOk result (λ none. none ≡ None) }
         ensures wait { OnOk result (self.new.wait ≡ longer_wait self.old.wait) }
         ensures count { L.faults self.old.listener ≤ L.faults self.new.listener }
@@ -156,10 +152,7 @@ impl<L: Listener> ListenerGate<L> {
     /// Accepts a connection. It skips those that failed before they were accepted, and waits out
     /// shortages.
     fn accept(&mut self) -> Result<L::Conn, ListenerFault>
-        ensures same { (self.new.faults ≡ self.old.faults) × (self.new.is_open ≡ self.old.is_open)
-            × (self.new.given ≡ self.old.given) × (self.new.most ≡ self.old.most)
-            × (self.new.splits ≡ self.old.splits) × (self.new.own ≡ self.old.own)
-            × (self.new.history ≡ self.old.history) }
+        ensures same { LeavesGate self.old self.new }
         ensures wait { OnOk result (self.new.wait ≡ first_wait) }
         ensures accepted { OnOk result (IsTrue L.tells →
             IsAcceptedAfter self.old.wait (L.did self.old.listener) (L.did self.new.listener)) }

@@ -8,7 +8,7 @@ use vod_base::Opening;
 
 /// What happened at a part: it gave a connection, it had no more, its listener failed, or a
 /// connection came back.
-#[derive(Clone, Copy, Drop)]
+#[derive(Clone, Copy, Debug, Drop)]
 pub enum PartNote {
     Gave,
     NoMore,
@@ -18,7 +18,7 @@ pub enum PartNote {
 
 /// What happened at a gate: it was opened, a call failed to open it, a part was split off, or a
 /// part came back.
-#[derive(Clone, Copy, Drop)]
+#[derive(Clone, Copy, Debug, Drop)]
 pub enum GateNote {
     Opened(Opening),
     NotOpened,

@@ -193,3 +193,14 @@ fn error_numbers_have_their_meaning(rt: HostRuntime) {
     }
     assert_eq!(rt; accept_error_of(None), AcceptError::Broken);
 }
+
+#[test]
+fn notes_are_printed(rt: HostRuntime) -> Result<(), AllocError> {
+    let alloc = rt.alloc();
+    let of_part = format!(in alloc; "{:?}", PartNote::NoMore)?;
+    assert!(rt; of_part.as_str() == "NoMore");
+    let of_gate = format!(in alloc; "{:?}", GateNote::Opened(HOW))?;
+    let printed = "Opened(Opening { port: 554, all: false, connections: 3, slot_units: 14400 })";
+    assert!(rt; of_gate.as_str() == printed);
+    Ok(())
+}

@@ -1,6 +1,5 @@
-use Rattle.vod_base.specs.Gates.{fresh_part}
-use Rattle.listener_gate.specs.Histories.{part_after, none_shared, shared_after}
-use Rattle.listener_gate.proofs.Noting.{rejoin_told, splits_stay}
+use Rattle.std.proofs.Common.{refl}
+use Rattle.listener_gate.proofs.Noting.{rejoin_told, splits_stay, state_of, view_of}
 use Rattle.listener_gate.proofs.gates.ListenerGateGate.rejoin.Goals as goal
 
 pub invariant_of-self : goal.invariant_of-self
@@ -12,8 +11,7 @@ invariant_of-self g c = record {
 
 pub returns-clause-joined : goal.returns-clause-joined
 returns-clause-joined g c =
-    rejoin_told (λ p. part_after g.L.Conn.Link.faults g.L.Conn.Link.told (fresh_part p.number) p.notes.items)
-    g.L.Listener.tells (part_after g.L.Conn.Link.faults g.L.Conn.Link.told (fresh_part c.args.self.now.own.number)
-    c.args.self.now.own.notes.items) c.args.part.own (shared_after (λ p. part_after g.L.Conn.Link.faults
-    g.L.Conn.Link.told (fresh_part p.number) p.notes.items) none_shared c.args.part.history.items)
-    c.args.self.now.history.items c.and-self.result.items c.and-self.ensures
+    let old = state_of c.args.self.now in
+    rejoin_told (view_of g.L.Listener g.L.Conn.Link)
+    (state_of c.args.part) old
+    (record old { history = c.and-self.result.items }) c.and-self.ensures refl
