@@ -11,7 +11,7 @@ use mpeg_scan::{Film, MAX_FILM_PICTURES};
 use rtsp_fields::read_url;
 
 /// The film that a request names, and how its URL names it.
-#[derive(Clone, Copy)]
+#[derive(Clone, Copy, Debug)]
 pub struct Asked<'m> {
     /// The number of the film.
     pub film: usize,

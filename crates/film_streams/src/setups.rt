@@ -12,7 +12,7 @@ use rtsp_text::{Request, header};
 use vod_base::{MAX_BYTES, MAX_DELAY};
 
 /// What SETUP settled (RFC 2326 section 10.4).
-#[derive(Clone, Copy)]
+#[derive(Clone, Copy, Debug)]
 pub struct Setup {
     /// The number of the film.
     pub film: usize,

@@ -10,7 +10,7 @@ use mpeg_scan::{Film, MAX_FILM_PICTURES};
 use rtp_pack::Identity;
 
 /// The frames that a session sent, and their octets, both modulo 2^32.
-#[derive(Clone, Copy)]
+#[derive(Clone, Copy, Debug)]
 pub struct Counts {
     /// The frames.
     pub frames: u32,
@@ -26,7 +26,7 @@ pub const NOTHING_SENT: Counts = Counts {
 
 /// The source of the stream that a connection sends, and where its numbers begin, from the
 /// connection's random words (RFC 3550 section 5.1).
-#[derive(Clone, Copy)]
+#[derive(Clone, Copy, Debug)]
 pub struct StreamSource {
     /// The SSRC.
     pub ssrc: u32,

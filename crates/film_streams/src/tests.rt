@@ -3,6 +3,7 @@
 use super::*;
 use rtsp_methods::Refusal;
 use rtsp_text::Request;
+use std::test::Fail;
 
 /// Slots of 40 ms, a buffer of 1,000 bytes and a start delay of a second.
 const SETTINGS: Settings = Settings {
@@ -119,4 +120,31 @@ fn reads_a_setup(rt: HostRuntime) {
         };
         assert_eq!(rt; read, want, "at {head}");
     }
+}
+
+#[test]
+fn prints_each_type(rt: HostRuntime) -> Result<(), Fail> {
+    let asked = Asked {
+        film: 1,
+        authority: b"h",
+    };
+    let setup = Setup {
+        film: 1,
+        media: 2,
+        control: 3,
+        buffer: 1_000,
+        delay: 25,
+    };
+    let source = StreamSource {
+        ssrc: 7,
+        sequence: 65_535,
+        timestamp: 9,
+    };
+    let text = format!(in rt.alloc(); "{asked:?} {setup:?} {source:?} {NOTHING_SENT:?}")?;
+    let want = "Asked { film: 1, authority: [104] } \
+        Setup { film: 1, media: 2, control: 3, buffer: 1000, delay: 25 } \
+        StreamSource { ssrc: 7, sequence: 65535, timestamp: 9 } \
+        Counts { frames: 0, octets: 0 }";
+    assert_eq!(rt; text.as_str(), want);
+    Ok(())
 }
