@@ -14,7 +14,7 @@ use vod_base::NoMemory;
 
 /// Receipts and notes, with the room that is reserved for more. Contracts see the three lists and
 /// how many more each has room for.
-#[derive(Drop)]
+#[derive(Debug, Drop)]
 pub struct Records {
     /// The station's answers.
     receipts: Vec<Receipt>,

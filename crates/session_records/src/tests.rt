@@ -70,3 +70,16 @@ fn notes_a_play_and_an_offer(rt: HostRuntime) -> Result<(), Fail> {
     assert_eq!(rt; notes.offers[0].offers.wait(), 3);
     Ok(())
 }
+
+#[test]
+fn prints_the_lists(rt: HostRuntime) -> Result<(), Fail> {
+    let mut log = Records::new(rt.alloc())?;
+    log.note(Receipt::Full {
+        entries: 7,
+        live: 1,
+    });
+    let text = format!(in rt.alloc(); "{log:?}")?;
+    let want = "Records { receipts: [Full { entries: 7, live: 1 }], plays: [], offers: [] }";
+    assert_eq!(rt; text.as_str(), want);
+    Ok(())
+}
