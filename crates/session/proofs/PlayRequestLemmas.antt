@@ -1,131 +1,155 @@
 -- What a play, a halt and an admission leave of how a session is kept.
-use Rattle.std.proofs.Common.{◌≡◌, ℕ, ◌≤◌, Bool, List, Option, length, refl, sym, ap, subst, ◌∙◌, arith}
-use Rattle.plan_cert.specs.declared.Segment.{Segment}
+use Rattle.std.proofs.Common.{◌≡◌, ℕ, ◌+◌, ◌-◌, ◌≤◌, Bool, true, List, Option, length, refl, sym, ap, subst, ◌∙◌, arith}
 use Rattle.plan_cert.specs.PlanSlots.{total_bytes}
 use Rattle.film_frames.specs.declared.stored_films.Stored.{Stored}
-use Rattle.film_frames.specs.FramedRuns.{FramedRun, run_pieces}
-use Rattle.film_frames.specs.Tracks.{IsBoundary, framed_bytes}
+use Rattle.film_frames.specs.FramedRuns.{run_pieces}
+use Rattle.film_frames.specs.Tracks.{framed_bytes}
 use Rattle.film_run.specs.declared.runs.Run.{Run}
 use Rattle.film_run.specs.Runs.{bytes_between}
 use Rattle.film_run.specs.Units.{stored_sizes}
-use Rattle.pacer.specs.PacerStates.{IsPacerState, PacerState, is_done, next_boundary, new_pacer_state}
+use Rattle.pacer.specs.PacerStates.{IsPacerState, PacerState, next_boundary}
 use Rattle.session.specs.RunRequests.{sending_of}
 use Rattle.film_streams.specs.Films.{IsFilmAt, OfFilm}
+use Rattle.session.specs.Methods.{prepared_of}
 use Rattle.session.specs.SessionInvariant.{SessionContext, IsAwaitedInvariant, IsGoing, IsSessionInvariant, IsNextIn}
 use Rattle.session.specs.SessionInvariant.{IsPlayUnfinished}
 use Rattle.session.specs.SessionInvariant.{IsPreparedAs, IsPreparedIn, IsStateInvariant, session_context_of}
-use Rattle.session.specs.SessionInvariant.{open_receipts}
+use Rattle.session.specs.SessionInvariant.{awaited_plays, awaited_receipts, open_receipts}
 use Rattle.session.specs.SessionInvariant.{session_state_of}
 use Rattle.session.specs.ResumedPlays.{IsPrepared}
 use Rattle.session.specs.RunRequests.{IsPlayable}
-use Rattle.film_streams.specs.SettingRanges.{IsSetup}
-use Rattle.session.specs.SlotSteps.{next_of}
+use Rattle.session.specs.SlotSteps.{next_of, play_of}
 use Rattle.session.specs.SessionStates.{CanHandleRequest, IsReadyIn}
-use Rattle.film_streams.specs.declared.settings.Settings.{Settings}
+use Rattle.session_records.specs.RecordLists.{SessionRecords}
+use Rattle.session.specs.declared.plans.Planned.{Planned}
 use Rattle.session.specs.declared.states.Awaited.{Awaited}
 use Rattle.session.specs.declared.states.Awaited.TheVariants.{Nothing, Play, Halt, Look, Offer}
 use Rattle.session.specs.declared.states.AfterHalt.{AfterHalt}
 use Rattle.session.specs.declared.states.Play.{Play as Played}
 use Rattle.session.specs.declared.states.Prepared.{Prepared}
 use Rattle.film_streams.specs.declared.setups.Setup.{Setup}
-use Rattle.film_streams.specs.declared.stream_numbers.StreamSource.{StreamSource}
 use Rattle.session.specs.declared.states.State.{State}
 use Rattle.session.specs.declared.states.State.TheVariants.{Init, Ready, Playing, Stopping}
 use Rattle.session.specs.declared.sessions.Session.TheInside.{Inside}
-use Rattle.session.proofs.StepInvariantLemmas.{nothing_of}
+use Rattle.session.proofs.StepInvariantLemmas.{nothing_of, step_kept}
 use Rattle.session.proofs.HaltedRunLemmas.{keeps_within}
 use Rattle.session.proofs.ResumedPlayLemmas.{of_film}
 
-ready_in : {source : StreamSource} {settings : Settings} {setup : Setup} {prepared : Prepared} (films : List Stored)
-    (state : State)
+ready_in : {setup : Setup} {prepared : Prepared} (ground : SessionContext) (state : State)
     → IsReadyIn state setup → IsPrepared prepared
-    → OfFilm films setup.film (λ stored. IsPreparedAs stored source settings setup prepared)
-    → IsPreparedIn films source settings state prepared
-ready_in films Init ready is all = absurd ready
-ready_in {source} {settings} {prepared} films (Ready own paused) ready is all =
-    subst (λ (x : Setup). IsPreparedIn films source settings (Ready x paused) prepared) (sym ready) (is, all)
-ready_in films (Playing own play) ready is all = absurd ready
-ready_in films (Stopping own stop) ready is all = absurd ready
+    → OfFilm ground.films setup.film (λ stored. IsPreparedAs stored ground.source ground.settings setup prepared)
+    → IsPreparedIn ground.films ground.source ground.settings state prepared
+ready_in ground Init ready is all = absurd ready
+ready_in {prepared} ground (Ready own paused) ready is all =
+    subst (λ (x : Setup). IsPreparedIn ground.films ground.source ground.settings (Ready x paused) prepared)
+    (sym ready) (is, all)
+ready_in ground (Playing own play) ready is all = absurd ready
+ready_in ground (Stopping own stop) ready is all = absurd ready
 
 -- no booking is open in Ready
-pub ready_closed : (state : State) (setup : Setup) → IsReadyIn state setup → open_receipts state ≡ 0
+ready_closed : (state : State) (setup : Setup) → IsReadyIn state setup → open_receipts state ≡ 0
 ready_closed Init setup ready = absurd ready
 ready_closed (Ready own paused) setup ready = refl
 ready_closed (Playing own play) setup ready = absurd ready
 ready_closed (Stopping own stop) setup ready = absurd ready
 
--- what was prepared for a PLAY: the frames of a run that can be played, and its plan
-pub record PlayPrepared
-    (source : StreamSource) (settings : Settings) (setup : Setup) (stored : Stored) (plan : List Segment)
-    (prepared : Prepared)
-    : Type 0 where
-  pub playable : IsPlayable stored source settings setup prepared.counts prepared.run plan
-  pub frames : prepared.frames ≡ sending_of stored.film source setup prepared.counts prepared.run
-  pub bytes : length (framed_bytes (run_pieces prepared.frames))
-      ≡ bytes_between (stored_sizes stored) prepared.run.first_unit prepared.run.end_unit
-  pub own : prepared.plan ≡ plan
-  pub paced : prepared.paced ≡ plan
+-- a play that the station is asked for, in Ready: its run can be played, and there is room for what
+-- it leaves for the report
+pub record AskedPlay (inside : Inside) : Type 0 where
+  pub setup : Setup
+  pub stored : Stored
+  pub planned : Planned
+  pub sequence : ℕ
+  pub reply : List ℕ
+  pub log : SessionRecords
+  pub kept : IsSessionInvariant inside
+  pub ready : IsReadyIn inside.state setup
+  pub at : IsFilmAt inside.films.now setup.film stored
+  pub playable : IsPlayable stored inside.source inside.settings setup planned.counts planned.run planned.plan
+  pub bytes : length (framed_bytes (run_pieces (sending_of stored.film inside.source setup planned.counts planned.run)))
+      ≡ bytes_between (stored_sizes stored) planned.run.first_unit planned.run.end_unit
+  pub receipt_room : inside.looks_left + 2 ≤ log.receipt_room
+  pub play_room : 1 ≤ log.play_room
+  pub short : length reply ≤ 20000
 
--- a play that is asked for can be sent
-pub prepared_in : {source : StreamSource} {settings : Settings} {setup : Setup} {stored : Stored} {plan : List Segment}
-    {prepared : Prepared} (films : List Stored) (state : State) → IsReadyIn state setup
-    → IsFilmAt films setup.film stored
-    → PlayPrepared source settings setup stored plan prepared → IsPreparedIn films source settings state prepared
-prepared_in {source} {settings} {setup} {stored} {prepared} films state ready at given =
-    let same : IsPlayable stored source settings setup prepared.counts prepared.run prepared.plan =
-    subst (λ (l : List Segment). IsPlayable stored source settings setup prepared.counts prepared.run l)
-    (sym own) playable in
-    let boundary : IsBoundary (run_pieces prepared.frames) prepared.run.sent =
-    subst (λ (s : FramedRun). IsBoundary (run_pieces s) prepared.run.sent) (sym frames) same.run_of.boundary in
-    ready_in films state ready
-    (record { going = record { boundary = boundary; whole = same.bytes ∙ sym bytes }; paced = paced ∙ sym own })
-    (of_film films setup.film stored (λ s. IsPreparedAs s source settings setup prepared) at
-    (record { playable = same; frames_are = frames }))
+-- a session is kept by asking for it
+pub play_asked : {inside : Inside} (ask : AskedPlay inside) → IsSessionInvariant (record inside {
+  awaited = Play (prepared_of (session_state_of inside) ask.stored ask.setup ask.planned ask.sequence);
+  reply = ask.reply;
+  log = ask.log;
+})
+play_asked {inside} ask =
+    let ground : SessionContext = session_context_of inside in
+    let prepared : Prepared = prepared_of (session_state_of inside) stored setup planned ask.sequence in
+    let closed : open_receipts inside.state ≡ 0 = ready_closed inside.state setup ready in
+    step_kept kept refl (record {
+      state = kept.state;
+      awaited = ready_in {prepared = prepared} ground inside.state ready
+          (record {
+            going = record { boundary = playable.run_of.boundary; whole = playable.bytes ∙ sym bytes };
+            paced = refl;
+          })
+          (of_film ground.films setup.film stored (λ s. IsPreparedAs s ground.source ground.settings setup prepared)
+          at (record { playable = playable; frames_are = refl }));
+      stop = kept.stop;
+      rooms = (omega arith, omega arith, omega arith);
+      torn = kept.torn;
+      slots = (kept.late, kept.heard);
+      front = λ asks. ask.short;
+    })
   where
-    open given use {playable, frames, bytes, own, paced}
+    open ask use {setup, stored, planned, kept, ready, at, playable, bytes}
 
--- a play is sent as it was prepared
-pub record PlayAdmitted (prepared : Prepared) (play : Played) : Type 0 where
-  pub pacing : IsPacerState play.pacer
-  pub run : play.run ≡ prepared.run
-  pub plan : play.plan ≡ prepared.plan
-  pub pacer : play.pacer ≡ new_pacer_state (run_pieces prepared.frames) prepared.run.sent prepared.paced play.start
+-- a play that the station admitted, in Ready: it is sent as it was prepared
+pub record AdmittedPlay (inside : Inside) : Type 0 where
+  pub setup : Setup
+  pub paused : Option Run
+  pub prepared : Prepared
+  pub place : ℕ
+  pub start : ℕ
+  pub reply : List ℕ
+  pub log : SessionRecords
+  pub kept : IsSessionInvariant inside
+  pub state : inside.state ≡ Ready setup paused
+  pub awaited : inside.awaited ≡ Play prepared
+  pub pacing : IsPacerState (play_of prepared place start).pacer
+  pub receipt_room : log.receipt_room ≡ inside.log.receipt_room - 1
+  pub play_room : log.play_room ≡ inside.log.play_room
 
--- what an admission makes of it
-pub admitted_state : {setup : Setup} {prepared : Prepared} {play : Played} (ground : SessionContext) (paused : Option
-    Run)
-    → IsSetup (length ground.films) setup
-    → IsPreparedIn ground.films ground.source ground.settings (Ready setup paused) prepared
-    → PlayAdmitted prepared play → IsStateInvariant (record ground { counts = prepared.counts }) (Playing setup play)
-admitted_state {setup} {prepared} {play} ground paused is_setup kept given = (
-  is_setup,
-  record {
-    pacing = pacing;
-    before = ap (λ (p : PacerState). p.before) pacer ∙ ap (λ (r : Run). r.sent) (sym run);
-    plan = ap (λ (p : PacerState). p.plan) pacer ∙ kept.0.paced ∙ sym plan;
-  },
-  λ stored at.
-      let made : IsPreparedAs stored source settings setup prepared = kept.1 stored at in
-      record {
-        playable = subst (λ (r : Run). IsPlayable stored source settings setup prepared.counts r play.plan) (sym run)
-            (subst (λ (l : List Segment). IsPlayable stored source settings setup prepared.counts prepared.run
-            l) (sym plan) made.playable);
-        pieces = ap (λ (p : PacerState). p.pieces) pacer ∙ ap run_pieces made.frames_are
-            ∙ ap (λ (r : Run). run_pieces (sending_of stored.film source setup prepared.counts r)) (sym run);
-      },
-)
+-- a session is kept by its admission
+pub play_admitted : {inside : Inside} (admission : AdmittedPlay inside) → IsSessionInvariant (record inside {
+  state = Playing admission.setup (play_of admission.prepared admission.place admission.start);
+  counts = admission.prepared.counts;
+  awaited = Nothing;
+  reply = admission.reply;
+  waits = true;
+  log = admission.log;
+})
+play_admitted {inside} admission =
+    let ground : SessionContext = session_context_of inside in
+    let ready = subst (λ (s : State). IsStateInvariant ground s) state kept.state in
+    let asked = subst (λ (s : State). IsPreparedIn ground.films ground.source ground.settings s prepared) state
+    (subst (λ (a : Awaited). IsAwaitedInvariant ground inside.lost inside.state a) awaited kept.awaited) in
+    let closed : open_receipts inside.state ≡ 0 = ap open_receipts state in
+    let receipts : awaited_receipts inside.awaited ≡ 2 = ap awaited_receipts awaited in
+    let plays : awaited_plays inside.awaited ≡ 1 = ap awaited_plays awaited in
+    step_kept kept refl (record {
+      state = (
+        ready.0,
+        record { pacing = admission.pacing; before = refl; plan = asked.0.paced },
+        λ stored at.
+            let made : IsPreparedAs stored ground.source ground.settings setup prepared = asked.1 stored at in
+            record { playable = made.playable; pieces = ap run_pieces made.frames_are },
+      );
+      awaited = λ linked. record { even = refl; whole = ap total_bytes asked.0.paced; going = refl };
+      stop = tt;
+      rooms = (omega (arith, kept.receipt_room), omega (arith, kept.play_room), omega arith);
+      torn = λ tears waits. cc;
+      slots = (kept.late, kept.heard);
+      front = λ asks. cc;
+    })
   where
-    open given use {pacing, run, plan, pacer}
-    open ground use {source, settings}
-
-pub admitted_going : {lost : Bool} {play : Played} {paced : List Segment} (setup : Setup) (pieces : List (List ℕ))
-    (before start : ℕ)
-    → play.pacer ≡ new_pacer_state pieces before paced start → paced ≡ play.plan → IsGoing lost (Playing setup play)
-admitted_going setup pieces before start pacer same = λ linked. record {
-  even = ap (λ (p : PacerState). p.due) pacer ∙ sym (ap (λ (p : PacerState). p.sent) pacer);
-  whole = ap (λ (p : PacerState). p.keep) pacer ∙ ap total_bytes same;
-  going = ap is_done pacer;
-}
+    open admission use {setup, prepared, kept, state, awaited}
 
 -- what a halt leads to can be sent on
 pub next_in : (ground : SessionContext) (lost : Bool) (state : State) (awaited : Awaited)
@@ -183,7 +207,7 @@ pub record AskedHalt (inside : Inside) (setup : Setup) (play : Played) : Type 0 
   pub most : keep ≤ play.pacer.keep
   pub left : IsNextIn inside.films.now inside.source inside.counts (Playing setup (record play { pacer = pacer })) next
 
--- how the session is kept once its halt was asked for
+-- a session is kept by asking for the halt
 pub halt_asked : {inside : Inside} (hand : HeardInPlay inside) (halt : AskedHalt inside hand.setup hand.play)
     → IsSessionInvariant (record inside {
       state = Playing hand.setup (record hand.play { pacer = halt.pacer });
@@ -191,23 +215,16 @@ pub halt_asked : {inside : Inside} (hand : HeardInPlay inside) (halt : AskedHalt
       reply = halt.reply;
     })
 halt_asked {inside} hand halt =
-    let open_one : open_receipts inside.state ≡ 1 = ap open_receipts state in
-    record {
-      films = kept.films;
-      settings = kept.settings;
-      id = kept.id;
+    let booked : open_receipts inside.state ≡ 1 = ap open_receipts state in
+    step_kept kept refl (record {
       state = halting_kept (session_context_of inside) (next_boundary play.pacer) (playing_in hand) pacing pacer_is;
       awaited = (keeps_within play keep (play_going hand) most, left);
       stop = tt;
-      receipt_room = omega (arith, kept.receipt_room);
-      play_room = omega (arith, kept.play_room);
-      offer_room = omega arith;
-      looks = kept.looks;
+      rooms = (omega (arith, kept.receipt_room), omega (arith, kept.play_room), omega arith);
       torn = kept.torn;
-      late = kept.late;
-      heard = kept.heard;
-      front = λ asks. absurd (omega (arith, asks));
-    }
+      slots = (kept.late, kept.heard);
+      front = λ asks. cc;
+    })
   where
     open hand use {play, kept, state}
     open halt use {keep, pacing, pacer_is, most, left}

@@ -1,29 +1,86 @@
 -- What a step leaves of how a session is kept.
-use Rattle.std.proofs.Common.{◌≡◌, Bool, true, false, List, Option, refl, sym, ap, subst, ◌∙◌}
+use Rattle.std.proofs.Common.{◌≡◌, ℕ, ◌+◌, ◌≤◌, Bool, true, false, List, Option, length, refl, sym, ap, subst, ◌∙◌, arith}
+use Rattle.vod_base.specs.declared.links.TheConstants.{LATEST_SLOT}
 use Rattle.plan_cert.specs.declared.Segment.{Segment}
 use Rattle.plan_cert.specs.PlanSlots.{total_bytes}
 use Rattle.film_frames.specs.declared.stored_films.Stored.{Stored}
 use Rattle.film_frames.specs.FramedRuns.{run_pieces}
 use Rattle.film_run.specs.declared.runs.Run.{Run}
 use Rattle.session.specs.RunRequests.{sending_of}
-use Rattle.session.specs.SessionInvariant.{SessionContext, IsAwaitedInvariant, IsGoing, IsPlaying, IsStateInvariant}
-use Rattle.session.specs.SessionInvariant.{IsStopAnswered, coming_of, open_receipts}
+use Rattle.session.specs.SessionInvariant.{SessionContext, IsAwaitedInvariant, IsGoing, IsPlaying, IsSessionInvariant}
+use Rattle.session.specs.SessionInvariant.{IsStateInvariant, IsStopAnswered, awaited_offers, awaited_plays}
+use Rattle.session.specs.SessionInvariant.{awaited_receipts, open_receipts, session_context_of}
 use Rattle.session.specs.RequestedPlans.{IsPausedIn}
 use Rattle.session.specs.ResumedPlays.{IsPacedPlay}
 use Rattle.session.specs.RunRequests.{IsPlayable}
 use Rattle.session.specs.SlotSteps.{HaltsIfDone, is_done_in}
 use Rattle.session.specs.SessionStates.{NoAnswer, awaited_answer_of}
 use Rattle.session.specs.SlotTransitions.{IsCarried, IsEven, IsSamePacing, after_stop}
-use Rattle.film_streams.specs.declared.settings.Settings.{Settings}
+use Rattle.session.specs.Teardowns.{is_tearing, is_torn_down}
+use Rattle.session.specs.declared.sessions.Session.TheInside.{Inside}
 use Rattle.session.specs.declared.states.Awaited.{Awaited}
 use Rattle.session.specs.declared.states.Awaited.TheVariants.{Nothing, Play, Halt, Look, Offer}
-use Rattle.film_streams.specs.declared.stream_numbers.Counts.{Counts}
 use Rattle.session.specs.declared.states.AfterHalt.{AfterHalt}
 use Rattle.session.specs.declared.states.Play.{Play as Played}
+use Rattle.session.specs.declared.states.Stop.{Stop}
+use Rattle.session.specs.declared.states.Teardown.{Teardown}
 use Rattle.film_streams.specs.declared.setups.Setup.{Setup}
-use Rattle.film_streams.specs.declared.stream_numbers.StreamSource.{StreamSource}
 use Rattle.session.specs.declared.states.State.{State}
 use Rattle.session.specs.declared.states.State.TheVariants.{Init, Ready, Playing, Stopping}
+
+-- a session has room for the receipts and the notes that are still to come
+abbrev pub HasRooms : Inside → Type 0
+HasRooms session = (session.looks_left
+    + (open_receipts session.state + awaited_receipts session.awaited) ≤ session.log.receipt_room)
+    × (open_receipts session.state + awaited_plays session.awaited ≤ session.log.play_room)
+    × (awaited_offers session.awaited ≤ session.log.offer_room)
+
+-- the parts that a step changes of a session fit each other
+pub record IsStepped (new : Inside) : Type 0 where
+  pub state : IsStateInvariant (session_context_of new) new.state
+  pub awaited : IsAwaitedInvariant (session_context_of new) new.lost new.state new.awaited
+  pub stop : IsStopAnswered new.state new.waits
+  pub rooms : HasRooms new
+  pub torn : is_tearing new.teardown ≡ true → new.waits ≡ false → is_torn_down new.teardown ≡ true
+  pub slots : (new.late ≤ new.heard) × (new.heard ≤ LATEST_SLOT)
+  pub front : awaited_plays new.awaited ≡ 1 → length new.reply ≤ 20000
+
+-- a session with the parts of an older one that a step changes
+abbrev pub with_parts_of : Inside → Inside → Inside
+with_parts_of old new = record new {
+  state = old.state;
+  counts = old.counts;
+  awaited = old.awaited;
+  reply = old.reply;
+  waits = old.waits;
+  teardown = old.teardown;
+  lost = old.lost;
+  heard = old.heard;
+  late = old.late;
+  log = old.log;
+}
+
+-- a session is kept by a step that changes no other part
+pub step_kept : {old new : Inside} → IsSessionInvariant old → with_parts_of old new ≡ old → IsStepped new
+    → IsSessionInvariant new
+step_kept {old} {new} kept same step =
+    let before : IsSessionInvariant (with_parts_of old new) = subst IsSessionInvariant (sym same) kept in
+    record {
+      films = before.films;
+      settings = before.settings;
+      id = before.id;
+      state = step.state;
+      awaited = step.awaited;
+      stop = step.stop;
+      receipt_room = step.rooms.0;
+      play_room = step.rooms.1;
+      offer_room = step.rooms.2;
+      looks = before.looks;
+      torn = step.torn;
+      late = step.slots.0;
+      heard = step.slots.1;
+      front = step.front;
+    }
 
 play_kept : (old new : Played) → IsPacedPlay old → new.run ≡ old.run → new.plan ≡ old.plan
     → IsSamePacing old.pacer new.pacer → IsPacedPlay new
@@ -33,112 +90,94 @@ play_kept old new kept run plan same = record {
   plan = same.plan ∙ kept.plan ∙ sym plan;
 }
 
-playing_kept : {stored : Stored} {source : StreamSource} {settings : Settings} {setup : Setup} {counts : Counts}
-    {old new : Played}
-    → IsPlaying stored source settings setup counts old → new.run ≡ old.run → new.plan ≡ old.plan
-    → IsSamePacing old.pacer new.pacer → IsPlaying stored source settings setup counts new
-playing_kept {stored} {source} {settings} {setup} {counts} {old} {new} kept run plan same = record {
+playing_kept : {stored : Stored} {setup : Setup} {old new : Played} (ground : SessionContext)
+    → IsPlaying stored ground.source ground.settings setup ground.counts old → new.run ≡ old.run → new.plan ≡ old.plan
+    → IsSamePacing old.pacer new.pacer → IsPlaying stored ground.source ground.settings setup ground.counts new
+playing_kept {stored} {setup} {old} {new} ground kept run plan same = record {
   playable = subst (λ (r : Run). IsPlayable stored source settings setup counts r new.plan) (sym run)
       (subst (λ (l : List Segment). IsPlayable stored source settings setup counts old.run l) (sym plan) kept.playable);
   pieces = same.pieces ∙ kept.pieces ∙ ap (λ (r : Run). run_pieces (sending_of stored.film source setup counts r))
       (sym run);
 }
+  where
+    open ground use {source, settings, counts}
 
-pub state_kept : (ground : SessionContext) (old new : State)
-    → IsStateInvariant ground old → IsCarried old new
-    → IsStateInvariant ground new
-state_kept ground Init Init kept carried = tt
-state_kept ground Init (Ready s p) kept carried = absurd carried
-state_kept ground Init (Playing s p) kept carried = absurd carried
-state_kept ground Init (Stopping s p) kept carried = absurd carried
-state_kept ground (Ready setup paused) Init kept carried = absurd carried
-state_kept ground (Ready setup paused) (Ready s p) kept carried =
-    subst (λ (x : State). IsStateInvariant ground x)
-    (let same : Ready setup paused ≡ Ready s p = cc in same) kept
-state_kept ground (Ready setup paused) (Playing s p) kept carried = absurd carried
-state_kept ground (Ready setup paused) (Stopping s p) kept carried = absurd carried
-state_kept ground (Playing setup play) Init kept carried = absurd carried
-state_kept ground (Playing setup play) (Ready s p) kept carried = absurd carried
-state_kept ground (Playing setup play) (Playing s p) kept carried =
-    subst (λ (x : Setup). IsStateInvariant ground (Playing x p)) (sym carried.0) (
-      kept.0,
-      play_kept play p kept.1 carried.1 carried.4 carried.5,
-      λ stored at. playing_kept (kept.2 stored at) carried.1 carried.4 carried.5,
-    )
-state_kept ground (Playing setup play) (Stopping s p) kept carried = absurd carried
-state_kept ground (Stopping setup stop) Init kept carried = absurd carried
-state_kept ground (Stopping setup stop) (Ready s p) kept carried = absurd carried
-state_kept ground (Stopping setup stop) (Playing s p) kept carried = absurd carried
-state_kept ground (Stopping setup stop) (Stopping s p) kept carried =
-    subst (λ (x : Setup). IsStateInvariant ground (Stopping x p)) (sym carried.0) (
-      kept.0,
-      carried.3.pacing,
-      subst (λ (paused : Option Run). IsPausedIn films source counts setup paused) (sym carried.1) kept.2,
-    )
+-- what is kept of a state that a slot carries on
+pub record CarriedState (ground : SessionContext) (old new : State) : Type 0 where
+  pub state : IsStateInvariant ground new
+  pub stop : (waits : Bool) → IsStopAnswered old waits → IsStopAnswered new waits
+  pub open_is : open_receipts new ≡ open_receipts old
+  pub going : (lost : Bool) → IsGoing lost old → IsEven new → is_done_in new ≡ false → IsGoing lost new
+
+carried_kept : (ground : SessionContext) (old new : State) → IsStateInvariant ground old → IsCarried old new
+    → CarriedState ground old new
+carried_kept ground Init Init kept carried =
+    record { state = tt; stop = λ waits is. tt; open_is = refl; going = λ lost is even undone. tt }
+carried_kept ground Init (Ready s p) kept carried = absurd carried
+carried_kept ground Init (Playing s p) kept carried = absurd carried
+carried_kept ground Init (Stopping s p) kept carried = absurd carried
+carried_kept ground (Ready setup paused) Init kept carried = absurd carried
+carried_kept ground (Ready setup paused) (Ready s p) kept carried = record {
+  state = subst (λ (x : State). IsStateInvariant ground x) (let same : Ready setup paused ≡ Ready s p = cc in same) kept;
+  stop = λ waits is. tt;
+  open_is = refl;
+  going = λ lost is even undone. tt;
+}
+carried_kept ground (Ready setup paused) (Playing s p) kept carried = absurd carried
+carried_kept ground (Ready setup paused) (Stopping s p) kept carried = absurd carried
+carried_kept ground (Playing setup play) Init kept carried = absurd carried
+carried_kept ground (Playing setup play) (Ready s p) kept carried = absurd carried
+carried_kept ground (Playing setup play) (Playing s p) kept carried = record {
+  state = subst (λ (x : Setup). IsStateInvariant ground (Playing x p)) (sym carried.0) (
+    kept.0,
+    play_kept play p kept.1 carried.1 carried.4 carried.5,
+    λ stored at. playing_kept ground (kept.2 stored at) carried.1 carried.4 carried.5,
+  );
+  stop = λ waits is. tt;
+  open_is = refl;
+  going = λ lost is even undone linked. record {
+    even = even;
+    whole = carried.5.keep ∙ (is linked).whole ∙ ap total_bytes (sym carried.4);
+    going = undone;
+  };
+}
+carried_kept ground (Playing setup play) (Stopping s p) kept carried = absurd carried
+carried_kept ground (Stopping setup stop) Init kept carried = absurd carried
+carried_kept ground (Stopping setup stop) (Ready s p) kept carried = absurd carried
+carried_kept ground (Stopping setup stop) (Playing s p) kept carried = absurd carried
+carried_kept ground (Stopping setup stop) (Stopping s p) kept carried = record {
+  state = subst (λ (x : Setup). IsStateInvariant ground (Stopping x p)) (sym carried.0) (
+    kept.0,
+    carried.3.pacing,
+    subst (λ (paused : Option Run). IsPausedIn films source counts setup paused) (sym carried.1) kept.2,
+  );
+  stop = λ waits is. is;
+  open_is = refl;
+  going = λ lost is even undone. tt;
+}
   where
     open ground use {films, source, counts}
 
-pub settled_kept : (ground : SessionContext) (state : State)
-    → IsStateInvariant ground state
-    → IsStateInvariant ground (after_stop state)
-settled_kept ground Init kept = kept
-settled_kept ground (Ready setup paused) kept = kept
-settled_kept ground (Playing setup play) kept = kept
-settled_kept ground (Stopping setup stop) kept = (kept.0, kept.2)
+-- what a session awaits once the halt of a play that is done is asked for: nothing for the report
+pub record FinishedAwaited (ground : SessionContext) (lost : Bool) (state : State) (awaited : Awaited) : Type 0 where
+  pub kept : IsAwaitedInvariant ground lost state awaited
+  pub receipts : awaited_receipts awaited ≡ 0
+  pub plays : awaited_plays awaited ≡ 0
+  pub offers : awaited_offers awaited ≡ 0
 
--- a slot carried a state on in which no halt is asked, and all that is due was sent
-pub record SteppedState (lost : Bool) (old new : State) : Type 0 where
-  pub going : IsGoing lost old
-  pub carried : IsCarried old new
-  pub even : IsEven new
-
-going_kept : {lost : Bool} (old new : State) → SteppedState lost old new → is_done_in new ≡ false → IsGoing lost new
-going_kept old Init given undone = tt
-going_kept old (Ready s p) given undone = tt
-going_kept Init (Playing s p) given undone = absurd given.carried
-going_kept (Ready setup paused) (Playing s p) given undone = absurd given.carried
-going_kept (Playing setup play) (Playing s p) given undone = λ linked. record {
-  even = given.even;
-  whole = given.carried.5.keep ∙ (given.going linked).whole ∙ ap total_bytes (sym given.carried.4);
-  going = undone;
+finished_kept : {lost : Bool} {state : State} (ground : SessionContext) (awaited : Awaited)
+    → (is_done_in state ≡ false → IsGoing lost state) → HaltsIfDone state awaited
+    → FinishedAwaited ground lost state awaited
+finished_kept ground Nothing going is = record { kept = going is; receipts = refl; plays = refl; offers = refl }
+finished_kept ground (Play prepared) going is = absurd is
+finished_kept {lost} {state} ground (Halt keep next) going is = record {
+  kept = subst (λ (n : AfterHalt). IsAwaitedInvariant ground lost state (Halt keep n)) (sym is.1) (is.0, tt);
+  receipts = refl;
+  plays = refl;
+  offers = refl;
 }
-going_kept (Stopping setup stop) (Playing s p) given undone = absurd given.carried
-going_kept old (Stopping s p) given undone = tt
-
-pub awaited_kept : {lost : Bool} {old new : State} (ground : SessionContext) (awaited : Awaited) → SteppedState lost old
-    new
-    → HaltsIfDone new awaited → IsAwaitedInvariant ground lost new awaited
-awaited_kept {old} {new} ground Nothing step is = going_kept old new step is
-awaited_kept ground (Play prepared) step is = absurd is
-awaited_kept {lost} {new} ground (Halt keep next) step is =
-    subst (λ (n : AfterHalt). IsAwaitedInvariant ground lost new
-    (Halt keep n)) (sym is.1) (is.0, tt)
-awaited_kept ground (Look sequence) step is = absurd is
-awaited_kept ground (Offer sequence) step is = absurd is
-
--- the same once the reply of a PAUSE or a TEARDOWN was sent
-pub awaited_settled : {lost : Bool} {old : State} (ground : SessionContext) (new : State) (awaited : Awaited)
-    → SteppedState lost old new → HaltsIfDone (after_stop new) awaited
-    → IsAwaitedInvariant ground lost (after_stop new) awaited
-awaited_settled {lost} ground Init awaited step is =
-    awaited_kept {lost = lost} {old = Init} {new = Init} ground awaited
-    (record { going = tt; carried = tt; even = tt }) is
-awaited_settled {lost} ground (Ready s p) awaited step is =
-    awaited_kept {lost = lost} {old = Ready s p} {new = Ready s p} ground awaited
-    (record { going = tt; carried = (refl, refl); even = tt }) is
-awaited_settled ground (Playing s p) awaited step is =
-    awaited_kept ground awaited step is
-awaited_settled {lost} ground (Stopping s p) awaited step is =
-    awaited_kept {lost = lost} {old = Ready s p.paused} {new = Ready s p.paused} ground awaited
-    (record { going = tt; carried = (refl, refl); even = tt }) is
-
--- and where the link failed
-pub awaited_lost : (ground : SessionContext) (state : State)
-    → IsAwaitedInvariant ground true state Nothing
-awaited_lost ground Init = tt
-awaited_lost ground (Ready setup paused) = tt
-awaited_lost ground (Playing setup play) = λ linked. cc
-awaited_lost ground (Stopping setup stop) = tt
+finished_kept ground (Look sequence) going is = absurd is
+finished_kept ground (Offer sequence) going is = absurd is
 
 -- nothing is awaited
 pub nothing_of : (awaited : Awaited) → awaited_answer_of awaited ≡ NoAnswer → awaited ≡ Nothing
@@ -148,53 +187,114 @@ nothing_of (Halt keep next) is = cc
 nothing_of (Look sequence) is = cc
 nothing_of (Offer sequence) is = cc
 
--- the same receipts are still to come
-pub receipts_kept : (old new : State) → IsCarried old new → open_receipts new ≡ open_receipts old
-receipts_kept Init Init carried = refl
-receipts_kept Init (Ready s p) carried = absurd carried
-receipts_kept Init (Playing s p) carried = absurd carried
-receipts_kept Init (Stopping s p) carried = absurd carried
-receipts_kept (Ready setup paused) Init carried = absurd carried
-receipts_kept (Ready setup paused) (Ready s p) carried = refl
-receipts_kept (Ready setup paused) (Playing s p) carried = absurd carried
-receipts_kept (Ready setup paused) (Stopping s p) carried = absurd carried
-receipts_kept (Playing setup play) Init carried = absurd carried
-receipts_kept (Playing setup play) (Ready s p) carried = absurd carried
-receipts_kept (Playing setup play) (Playing s p) carried = refl
-receipts_kept (Playing setup play) (Stopping s p) carried = absurd carried
-receipts_kept (Stopping setup stop) Init carried = absurd carried
-receipts_kept (Stopping setup stop) (Ready s p) carried = absurd carried
-receipts_kept (Stopping setup stop) (Playing s p) carried = absurd carried
-receipts_kept (Stopping setup stop) (Stopping s p) carried = refl
+-- a slot that a session receives while it awaits nothing, and the state as the slot carries it on
+pub record ReceivedSlot (inside : Inside) : Type 0 where
+  pub kept : IsSessionInvariant inside
+  pub none : inside.awaited ≡ Nothing
+  pub heard : ℕ
+  pub late : ℕ
+  pub slots : (late ≤ heard) × (heard ≤ LATEST_SLOT)
+  pub state : State
+  pub carried : IsCarried inside.state state
 
-pub receipts_settled : (state : State) → open_receipts (after_stop state) ≡ open_receipts state
-receipts_settled Init = refl
-receipts_settled (Ready setup paused) = refl
-receipts_settled (Playing setup play) = refl
-receipts_settled (Stopping setup stop) = refl
+-- a session is kept by a slot in which all that is due was sent
+pub slot_kept : {inside : Inside} (slot : ReceivedSlot inside) (awaited : Awaited) → IsEven slot.state
+    → HaltsIfDone slot.state awaited
+    → IsSessionInvariant
+    (record inside { heard = slot.heard; late = slot.late; state = slot.state; awaited = awaited })
+slot_kept {inside} slot awaited even is =
+    let ground : SessionContext = session_context_of inside in
+    let same : CarriedState ground inside.state slot.state =
+    carried_kept ground inside.state slot.state kept.state slot.carried in
+    let going : IsGoing inside.lost inside.state =
+    subst (λ (a : Awaited). IsAwaitedInvariant ground inside.lost inside.state a) slot.none kept.awaited in
+    let finished : FinishedAwaited ground inside.lost slot.state awaited =
+    finished_kept ground awaited (same.going inside.lost going even) is in
+    step_kept kept refl (record {
+      state = same.state;
+      awaited = finished.kept;
+      stop = same.stop inside.waits kept.stop;
+      rooms = (omega (arith, kept.receipt_room), omega (arith, kept.play_room), omega arith);
+      torn = kept.torn;
+      slots = slot.slots;
+      front = λ asks. absurd (omega (arith, asks));
+    })
+  where
+    open slot use {kept}
 
--- no receipt, note of a play or offer is to come of a halt
-pub finished_none : (state : State) (awaited : Awaited) → HaltsIfDone state awaited
-    → coming_of awaited ≡ coming_of Nothing
-finished_none state Nothing is = refl
-finished_none state (Play prepared) is = absurd is
-finished_none state (Halt keep next) is = refl
-finished_none state (Look sequence) is = absurd is
-finished_none state (Offer sequence) is = absurd is
+lost_going : (state : State) → IsGoing true state
+lost_going Init = tt
+lost_going (Ready setup paused) = tt
+lost_going (Playing setup play) = λ linked. cc
+lost_going (Stopping setup stop) = tt
 
--- the reply to a request that stopped a play still waits
-pub stop_kept : (waits : Bool) (old new : State) → IsStopAnswered old waits → IsCarried old new
-    → IsStopAnswered new waits
-stop_kept waits old Init kept carried = tt
-stop_kept waits old (Ready s p) kept carried = tt
-stop_kept waits old (Playing s p) kept carried = tt
-stop_kept waits Init (Stopping s p) kept carried = absurd carried
-stop_kept waits (Ready setup paused) (Stopping s p) kept carried = absurd carried
-stop_kept waits (Playing setup play) (Stopping s p) kept carried = absurd carried
-stop_kept waits (Stopping setup stop) (Stopping s p) kept carried = kept
+-- and by one in which the link failed
+pub slot_lost : {inside : Inside} (slot : ReceivedSlot inside)
+    → IsSessionInvariant (record inside { heard = slot.heard; late = slot.late; state = slot.state; lost = true })
+slot_lost {inside} slot =
+    let ground : SessionContext = session_context_of inside in
+    let same : CarriedState ground inside.state slot.state =
+    carried_kept ground inside.state slot.state kept.state slot.carried in
+    step_kept kept refl (record {
+      state = same.state;
+      awaited = subst (λ (a : Awaited). IsAwaitedInvariant ground true slot.state a) (sym slot.none)
+          (lost_going slot.state);
+      stop = same.stop inside.waits kept.stop;
+      rooms = (omega (arith, kept.receipt_room), omega (arith, kept.play_room), kept.offer_room);
+      torn = kept.torn;
+      slots = slot.slots;
+      front = kept.front;
+    })
+  where
+    open slot use {kept}
 
-pub stop_settled : (waits : Bool) (state : State) → IsStopAnswered (after_stop state) waits
-stop_settled waits Init = tt
-stop_settled waits (Ready setup paused) = tt
-stop_settled waits (Playing setup play) = tt
-stop_settled waits (Stopping setup stop) = tt
+stopped_awaited : (ground : SessionContext) (lost : Bool) (setup : Setup) (stop : Stop) (awaited : Awaited)
+    → IsAwaitedInvariant ground lost (Stopping setup stop) awaited
+    → IsAwaitedInvariant ground lost (Ready setup stop.paused) awaited
+stopped_awaited ground lost setup stop Nothing kept = tt
+stopped_awaited ground lost setup stop (Play prepared) kept = absurd kept
+stopped_awaited ground lost setup stop (Halt keep next) kept = absurd kept.0
+stopped_awaited ground lost setup stop (Look sequence) kept = tt
+stopped_awaited ground lost setup stop (Offer sequence) kept = tt
+
+-- what is kept of a state once the reply of a PAUSE or a TEARDOWN was sent
+record SettledState (ground : SessionContext) (lost : Bool) (old : State) (awaited : Awaited) : Type 0 where
+  pub state : IsStateInvariant ground (after_stop old)
+  pub kept : IsAwaitedInvariant ground lost (after_stop old) awaited
+  pub stop : IsStopAnswered (after_stop old) false
+  pub open_is : open_receipts (after_stop old) ≡ open_receipts old
+
+settled_kept : (ground : SessionContext) (lost : Bool) (old : State) (awaited : Awaited)
+    → IsStateInvariant ground old → IsAwaitedInvariant ground lost old awaited
+    → SettledState ground lost old awaited
+settled_kept ground lost Init awaited is kept = record { state = is; kept = kept; stop = tt; open_is = refl }
+settled_kept ground lost (Ready s p) awaited is kept = record { state = is; kept = kept; stop = tt; open_is = refl }
+settled_kept ground lost (Playing s p) awaited is kept = record { state = is; kept = kept; stop = tt; open_is = refl }
+settled_kept ground lost (Stopping setup stop) awaited is kept =
+    record { state = (is.0, is.2); kept = stopped_awaited ground lost setup stop awaited kept; stop = tt; open_is = refl }
+
+-- a session is kept by a reply that was sent
+pub reply_kept : {inside : Inside} (teardown : Teardown) → IsSessionInvariant inside
+    → is_tearing teardown ≡ is_tearing inside.teardown → is_torn_down teardown ≡ is_tearing inside.teardown
+    → IsSessionInvariant (record inside { state = after_stop inside.state; waits = false; teardown = teardown })
+reply_kept {inside} teardown kept tearing torn =
+    let ground : SessionContext = session_context_of inside in
+    let same : SettledState ground inside.lost inside.state inside.awaited =
+    settled_kept ground inside.lost inside.state inside.awaited kept.state kept.awaited in
+    step_kept kept refl (record {
+      state = same.state;
+      awaited = same.kept;
+      stop = same.stop;
+      rooms = (omega (arith, kept.receipt_room), omega (arith, kept.play_room), kept.offer_room);
+      torn = λ tears waits. torn ∙ sym tearing ∙ tears;
+      slots = (kept.late, kept.heard);
+      front = kept.front;
+    })
+
+-- a halt that is asked of a state without a stop is asked of it with one, too
+pub done_before : (state : State) (awaited : Awaited) → HaltsIfDone (after_stop state) awaited
+    → HaltsIfDone state awaited
+done_before Init awaited is = is
+done_before (Ready setup paused) awaited is = is
+done_before (Playing setup play) awaited is = is
+done_before (Stopping setup stop) awaited is = is

@@ -1,20 +1,21 @@
-use Rattle.std.proofs.Common.{◌≡◌, ℕ, Ok, refl, sym, ap, subst, ◌∙◌, string_bytes, arith, inl}
+use Rattle.std.proofs.Common.{◌≡◌, ℕ, Ok, refl, sym, ap, subst, ◌∙◌, length, string_bytes, inl}
+use Rattle.std.proofs.Common.{arith}
 use Rattle.std.proofs.lemmas.List.{length-map}
 use Rattle.film_frames.specs.Pieces.{wire_size}
-use Rattle.film_frames.specs.FramedRuns.{FramedRun}
+use Rattle.film_frames.specs.FramedRuns.{FramedRun, run_pieces}
+use Rattle.film_frames.specs.Tracks.{framed_bytes}
 use Rattle.mpeg_scan.specs.declared.units.Unit.{Unit as PictureUnit}
 use Rattle.rtsp_text.specs.Lines.{is_one_line}
 use Rattle.rtsp_text.proofs.SingleLineTexts.{one_line-name}
 use Rattle.film_streams.specs.Films.{IsFilmAt, OfFilm}
 use Rattle.film_streams.specs.StreamNumbers.{counts_after, identity_of}
-use Rattle.session.specs.SessionInvariant.{open_receipts, session_state_of}
-use Rattle.session.specs.Methods.{AsksPlayOr, first_number, play_call, play_front}
+use Rattle.session.specs.SessionInvariant.{session_state_of}
+use Rattle.session.specs.Methods.{AsksPlayOr, first_number, play_call, play_front, prepared_of}
 use Rattle.session.specs.declared.commands.Ask.TheVariants.{Play as AskPlay}
 use Rattle.session.specs.RunRequests.{IsPlayable}
 use Rattle.session.specs.SessionStates.{IsReadyIn, SessionState}
 use Rattle.session.specs.declared.states.Awaited.TheVariants.{Play}
-use Rattle.session.specs.declared.states.Prepared.{Prepared}
-use Rattle.session.proofs.PlayRequestLemmas.{PlayPrepared, prepared_in, ready_closed}
+use Rattle.session.proofs.PlayRequestLemmas.{play_asked}
 use Rattle.session.proofs.sessions.Session.ask_play.Goals as goal
 
 pub put_play-requires-clause-name_line : goal.put_play-requires-clause-name_line
@@ -41,93 +42,59 @@ info_of-info-requires-clause-end c =
 
 pub invariant_of-self-2 : goal.invariant_of-self-2
 invariant_of-self-2 c =
-    let inside = c.self.inside in
-    let films = inside.films.now in
     let setup = c.args.setup.now in
-    let stored = c.stored_at-stored.result.now in
     let planned = c.args.planned in
-    let sequence = c.args.sequence in
-    let ready : IsReadyIn inside.state setup =
-    subst (λ (s : SessionState). IsReadyIn s.state setup) (sym c.self.view_is) c.requires.ready in
-    let playable : IsPlayable stored inside.source inside.settings setup planned.counts planned.run planned.plan =
-    subst (λ (s : SessionState). OfFilm s.films setup.film
-    (λ film. IsPlayable film s.source s.settings setup planned.counts planned.run
-    planned.plan)) (sym c.self.view_is) c.requires.run stored c.stored_at-stored.ensures.film in
-    let closed : open_receipts inside.state ≡ 0 = ready_closed inside.state setup ready in
-    let prepared : PlayPrepared inside.source inside.settings setup stored planned.plan (record {
-      run = planned.run;
-      counts = planned.counts;
-      frames = c.frames_of-frames.result;
-      plan = c.in-Ok.own;
-      paced = c.in-Ok.paced;
-      sequence = sequence;
-    }) = record {
-      playable = playable;
-      frames = c.frames_of-frames.ensures.frames;
-      bytes = c.frames_of-frames.ensures.bytes;
-      own = c.in-Ok.ensures.own;
-      paced = c.in-Ok.ensures.paced;
-    } in
-    rw c.set.ensures (record {
-      films = c.self.invariant.films;
-      settings = c.self.invariant.settings;
-      id = c.self.invariant.id;
-      state = c.self.invariant.state;
-      awaited = prepared_in films inside.state ready c.stored_at-stored.ensures.film prepared;
-      stop = c.self.invariant.stop;
-      receipt_room = omega (arith, c.in-Ok.ensures.room);
-      play_room = omega (arith, c.in-Ok.ensures.plays);
-      offer_room = omega arith;
-      looks = c.self.invariant.looks;
-      torn = c.self.invariant.torn;
-      late = c.self.invariant.late;
-      heard = c.self.invariant.heard;
-      front = λ asks. c.put_play.ensures.short;
-    })
+    let frames = c.frames_of-frames.ensures.frames in
+    rw (c.set.ensures, frames, c.in-Ok.ensures.own, c.in-Ok.ensures.paced) (play_asked (record {
+      setup = setup;
+      stored = c.stored_at-stored.result.now;
+      planned = planned;
+      sequence = c.args.sequence;
+      reply = c.put_play.new.reply;
+      log = c.plans_with_room.new.self;
+      kept = c.self.invariant;
+      ready = subst (λ (s : SessionState). IsReadyIn s.state setup) (sym c.self.view_is) c.requires.ready;
+      at = c.stored_at-stored.ensures.film;
+      playable = subst (λ (s : SessionState). OfFilm s.films setup.film (λ film. IsPlayable film s.source s.settings
+          setup planned.counts planned.run planned.plan)) (sym c.self.view_is) c.requires.run
+          c.stored_at-stored.result.now c.stored_at-stored.ensures.film;
+      bytes = ap (λ (run : FramedRun). length (framed_bytes (run_pieces run))) (sym frames)
+          ∙ c.frames_of-frames.ensures.bytes;
+      receipt_room = c.in-Ok.ensures.room;
+      play_room = c.in-Ok.ensures.plays;
+      short = c.put_play.ensures.short;
+    }))
 
 pub returns-clause-exact : goal.returns-clause-exact
 returns-clause-exact c =
-    let inside = c.self.inside in
     let setup = c.args.setup.now in
     let stored = c.stored_at-stored.result.now in
     let planned = c.args.planned in
     let sequence = c.args.sequence in
     let authority = c.args.authority.now in
-    let old = session_state_of inside in
+    let old = session_state_of c.self.inside in
     let info = c.info_of-info.ensures in
     let frames = c.frames_of-frames.ensures.frames in
     let number : c.info_of-info.result.sequence ≡ first_number old stored setup planned =
     info.number
-    ∙ ap (λ (s : FramedRun). (identity_of inside.source setup
+    ∙ ap (λ (s : FramedRun). (identity_of old.source setup
     (counts_after planned.counts s planned.run.sent)).sequence) frames in
     let text : c.put_play.new.reply ≡ play_front old stored setup planned sequence authority =
     c.put_play.ensures.text ∙ rw (info.first, info.end, info.authority, info.name, number, info.time) refl in
-    let own = c.in-Ok.ensures.own in
-    let paced = c.in-Ok.ensures.paced in
-    let receipts = c.plans_with_room.ensures.lists.receipts in
-    let plays = c.plans_with_room.ensures.lists.plays in
-    let offers = c.plans_with_room.ensures.lists.offers in
-    let prepared : Prepared = record {
-      run = planned.run;
-      counts = planned.counts;
-      frames = c.frames_of-frames.result;
-      plan = c.in-Ok.own;
-      paced = c.in-Ok.paced;
-      sequence = sequence;
-    } in
-    let log = c.plans_with_room.new.self in
-    let new : SessionState = record old {
-      awaited = Play prepared;
-      text = c.put_play.new.reply;
-      receipts = log.receipts;
-      plays = log.plays;
-      offers = log.offers;
-    } in
-    rw c.set.ensures (subst (λ (s : SessionState). AsksPlayOr s (play_call sequence authority setup) (Ok planned)
-    (AskPlay planned.plan) new) c.self.view_is
-    (inl (record {
-      stored = stored;
-      at = c.stored_at-stored.ensures.film;
-      command = refl;
-      state = cc;
-    })))
+    let lists = c.plans_with_room.ensures.lists in
+    rw (
+      c.set.ensures,
+      frames,
+      c.in-Ok.ensures.own,
+      c.in-Ok.ensures.paced,
+      text,
+      lists.receipts,
+      lists.plays,
+      lists.offers,
+    )
+    (subst (λ (s : SessionState). AsksPlayOr s (play_call sequence authority setup) (Ok planned)
+    (AskPlay planned.plan) (record old {
+      awaited = Play (prepared_of old stored setup planned sequence);
+      text = play_front old stored setup planned sequence authority;
+    })) c.self.view_is
+    (inl (record { stored = stored; at = c.stored_at-stored.ensures.film; command = refl; state = refl })))
