@@ -19,7 +19,7 @@ use plan_cert::Plan;
 use rtsp_methods::Refusal;
 
 /// A run that is to be sent, what was sent before it, and the plan by which it is sent.
-#[derive(Drop)]
+#[derive(Debug, Drop)]
 pub struct Planned {
     /// The run.
     pub(crate) run: Run,

@@ -11,7 +11,7 @@ use mpeg_scan::Film;
 use rtsp_fields::{Origin, Span, read_range};
 
 /// The run that a PLAY asks for.
-#[derive(Clone, Copy)]
+#[derive(Clone, Copy, Debug)]
 pub enum PlayRequest {
     /// The paused one, on from where it was paused.
     Resumed(Run),

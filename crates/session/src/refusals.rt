@@ -22,7 +22,7 @@ use rtsp_methods::{
 use rtsp_text::{Request, header};
 
 /// A request that is processed.
-#[derive(Clone, Copy)]
+#[derive(Clone, Copy, Debug)]
 pub enum Task<'m> {
     /// Lists the methods.
     Options,

@@ -9,8 +9,11 @@ ghost use Rattle.session.specs.SessionStates.{IsPlay, awaited_answer, open_of};
 use super::*;
 use admission::Answer;
 use film_frames::Stored;
+use film_run::Run;
+use film_streams::NOTHING_SENT;
 use interleave::{Demux, Step};
 use mpeg_scan::scan;
+use plan_cert::{Plan, Segment};
 use std::alloc::Global;
 use std::process::Abort;
 use std::test::Fail;
@@ -253,5 +256,35 @@ fn refuses_with_each_code(rt: HostRuntime) -> Result<(), Fail> {
         let notes = run_rows(&rt, rt.alloc(), rows)?;
         assert_eq!(rt; (notes.receipts.len(), notes.plays.len()), (receipts, 0));
     }
+    Ok(())
+}
+
+#[test]
+fn prints_each_type(rt: HostRuntime) -> Result<(), Fail> {
+    let run = Run {
+        first_unit: 0,
+        end_unit: 9,
+        from_unit: 4,
+        sent: 30,
+        played: 20,
+    };
+    let segments = [Segment {
+        slots: 3,
+        bytes: 30,
+    }];
+    assert!(rt; Plan::is_allowed(&segments));
+    let planned = Planned {
+        run,
+        counts: NOTHING_SENT,
+        plan: Plan::new(Vec::from_slice(rt.alloc(), &segments)?),
+    };
+    let (request, task) = (PlayRequest::Resumed(run), Task::Setup(1));
+    let text = format!(in rt.alloc(); "{task:?} {request:?} {planned:?}")?;
+    let want =
+        "Setup(1) Resumed(Run { first_unit: 0, end_unit: 9, from_unit: 4, sent: 30, played: 20 }) \
+        Planned { run: Run { first_unit: 0, end_unit: 9, from_unit: 4, sent: 30, played: 20 }, \
+        counts: Counts { frames: 0, octets: 0 }, \
+        plan: Plan { segments: [Segment { slots: 3, bytes: 30 }], slots: 3, bytes: 30 } }";
+    assert_eq!(rt; text.as_str(), want);
     Ok(())
 }
