@@ -17,14 +17,11 @@ use Rattle.plan_cert.specs.declared.Segment.{Segment}
 use Rattle.pacer.specs.PacerStates.{IsPacerState, PacerState, first_slots, is_done, next_boundary, slots_through}
 use Rattle.session.specs.RunRequests.{sending_of}
 use Rattle.film_streams.specs.StreamNumbers.{identity_of}
-use Rattle.session.specs.SessionInvariant.{IsPlaying, IsPlayUnfinished}
+use Rattle.session.specs.SessionInvariant.{SessionContext, IsPlaying, IsPlayUnfinished}
 use Rattle.session.specs.ResumedPlays.{IsPacedPlay}
 use Rattle.session.specs.RunRequests.{IsRunOf, playback_of}
-use Rattle.film_streams.specs.declared.settings.Settings.{Settings}
-use Rattle.film_streams.specs.declared.stream_numbers.Counts.{Counts}
 use Rattle.session.specs.declared.states.Play.{Play as Played}
 use Rattle.film_streams.specs.declared.setups.Setup.{Setup}
-use Rattle.film_streams.specs.declared.stream_numbers.StreamSource.{StreamSource}
 
 -- a pacing that is halted at a boundary before all that it keeps was sent
 pub record HaltedPacing (p : PacerState) (keep : ℕ) : Type 0 where
@@ -104,41 +101,41 @@ pub keeps_within : (play : Played) (keep : ℕ) → IsPlayUnfinished play → ke
     play.plan
 keeps_within play keep unhalted most = subst (λ (n : ℕ). keep ≤ n) unhalted.whole most
 
--- what a halt leaves of a play's run, which fits in the client's buffer
-pub record LeftRun (stored : Stored) (play : Played) (playback : Playback) (last : Option ℕ) (keep : ℕ) (left : Run)
-    : Type 0 where
+-- what a halt leaves of the run of a play that is sent: it fits in the client's buffer
+pub record LeftRun (ground : SessionContext) (stored : Stored) (setup : Setup) (play : Played) : Type 0 where
+  pub playback : Playback
+  pub last : Option ℕ
+  pub keep : ℕ
+  pub left : Run
+  pub paced : IsPacedPlay play
+  pub playing : IsPlaying stored ground.source ground.settings setup ground.counts play
+  pub playback_is : playback ≡ playback_of stored.film ground.settings setup
+  pub boundary : IsBoundary play.pacer.pieces (play.pacer.before + keep)
   pub left_is : IsRemainingRun (stored_sizes stored) playback play.run play.plan last keep left
   pub run_is : IsRun (stored_sizes stored) left
   pub fits : Fits playback.buffer left
 
 -- it ends at the boundary where the halt is
-left_boundary : {stored : Stored} {source : StreamSource} {settings : Settings} {setup : Setup}
-    {counts : Counts} {play : Played}
-    {playback : Playback} {last : Option ℕ} {keep : ℕ} {left : Run} → IsPacedPlay play
-    → IsPlaying stored source settings setup counts play → IsBoundary play.pacer.pieces (play.pacer.before + keep)
-    → IsRemainingRun (stored_sizes stored) playback play.run play.plan last keep left
-    → IsBoundary (run_pieces (sending_of stored.film source setup counts left)) left.sent
-left_boundary {stored} {source} {setup} {counts} {play} {keep} {left} is playing boundary left_is =
+left_boundary : {ground : SessionContext} {stored : Stored} {setup : Setup} {play : Played}
+    (rest : LeftRun ground stored setup play)
+    → IsBoundary (run_pieces (sending_of stored.film ground.source setup ground.counts rest.left)) rest.left.sent
+left_boundary {ground} {stored} {setup} {play} rest =
     let p = play.pacer in
-    let place : p.before + keep ≡ left.sent = ap (λ n. n + keep) is.before ∙ sym left_is.sent_is in
-    let same : p.pieces ≡ run_pieces (sending_of stored.film source setup counts left) =
-    playing.pieces
-    ∙ ap (λ n. run_pieces (run_of stored.film n play.run.end_unit (identity_of source setup counts)))
-    (sym left_is.first_is)
-    ∙ ap (λ n. run_pieces (run_of stored.film left.first_unit n (identity_of source setup counts)))
-    (sym left_is.end_is) in
-    subst (λ (n : ℕ). IsBoundary (run_pieces (sending_of stored.film source setup counts left)) n) place
-    (subst (λ (all : List (List ℕ)). IsBoundary all (p.before + keep)) same boundary)
+    let sent = identity_of ground.source setup ground.counts in
+    let place : p.before + rest.keep ≡ rest.left.sent = ap (λ n. n + rest.keep) rest.paced.before
+    ∙ sym rest.left_is.sent_is in
+    let same : p.pieces ≡ run_pieces (sending_of stored.film ground.source setup ground.counts rest.left) =
+    rest.playing.pieces
+    ∙ ap (λ n. run_pieces (run_of stored.film n play.run.end_unit sent)) (sym rest.left_is.first_is)
+    ∙ ap (λ n. run_pieces (run_of stored.film rest.left.first_unit n sent)) (sym rest.left_is.end_is) in
+    subst (λ (n : ℕ). IsBoundary (run_pieces (sending_of stored.film ground.source setup ground.counts rest.left)) n)
+    place (subst (λ (all : List (List ℕ)). IsBoundary all (p.before + rest.keep)) same rest.boundary)
 
 -- what it leaves can be sent on
-pub left_runs : {stored : Stored} {source : StreamSource} {settings : Settings} {setup : Setup}
-    {counts : Counts} {play : Played}
-    {playback : Playback} {last : Option ℕ} {keep : ℕ} {left : Run} → IsPacedPlay play
-    → IsPlaying stored source settings setup counts play
-    → playback ≡ playback_of stored.film settings setup → IsBoundary play.pacer.pieces (play.pacer.before + keep)
-    → LeftRun stored play playback last keep left → IsRunOf stored source setup counts left
-left_runs {left} is playing same boundary rest = record {
+pub left_runs : {ground : SessionContext} {stored : Stored} {setup : Setup} {play : Played}
+    (rest : LeftRun ground stored setup play) → IsRunOf stored ground.source setup ground.counts rest.left
+left_runs rest = record {
   run_is = rest.run_is;
-  fits = subst (λ (p : Playback). Fits p.buffer left) same rest.fits;
-  boundary = left_boundary is playing boundary rest.left_is;
+  fits = subst (λ (p : Playback). Fits p.buffer rest.left) rest.playback_is rest.fits;
+  boundary = left_boundary rest;
 }

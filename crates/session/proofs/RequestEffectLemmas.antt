@@ -29,6 +29,7 @@ use Rattle.session.specs.Laws.{AsksNoHalt}
 use Rattle.session.specs.Methods.{AsksPlayOr, IsRefused, IsReplied, Plays, Takes, play_call, play_front, prepared_of}
 use Rattle.session.specs.RequestedPlans.{IsPlanned, IsPlannedRun}
 use Rattle.session.specs.SessionStates.{SessionState}
+use Rattle.session.proofs.InitialStateLemmas.{TakenRequest}
 use Rattle.session.proofs.ResumedPlayLemmas.{of_film}
 use Rattle.session.proofs.RequestCaseAnalysis.{ComesTo, Lacks, Refuses, Says, SettlesSetup, AsksForPlay, AsksForHalt}
 use Rattle.session.proofs.RequestCaseAnalysis.{AsksForLook}
@@ -144,64 +145,70 @@ pub hears_unstopped : (old new : SessionState) (message : List ℕ) (ask : Ask) 
     → AwaitsNoStop old → AwaitsNoStop new
 hears_unstopped old new message ask hears free none = comes_unstopped free none (comes_to old message ask new hears)
 
--- a PLAY to which no refusal applies
-no_refusal : {old : SessionState} {request : Request} {setup : Setup} {paused : Option Run} {ask : Ask} {new :
-    SessionState}
-    (authority : List ℕ) (planned : Result Planned Refusal) → old.state ≡ Ready setup paused
-    → IsGoodPlay old setup paused request
-    → IsPlanned old setup paused (header_value request.head.now (codes "Range")) planned
-    → AsksPlayOr old (play_call request.sequence authority setup) planned ask new → AsksOrLacks old ask new
-no_refusal {old} {request} {setup} {paused} {ask} {new} authority (Ok planned) ready good is (inl asks) =
-    let range = header_value request.head.now (codes "Range") in
-    let own = of_film old.films setup.film is.0 (λ s. IsPlannedRun old s setup paused range planned) is.1.at
-    is.1 asks.stored asks.at in
-    inl (subst (λ a. IsPlayAskedFor old a new) (sym asks.command)
-    (play_asked request.sequence authority ready own asks.state))
-no_refusal {request} {ask} {new} authority (Ok planned) ready good is (inr refused) =
-    inr (record { sequence = request.sequence; refused = refused })
-no_refusal {old} {request} {ask} {new} authority (Err refusal) ready good is refused =
+-- a request in Ready that is a PLAY to which no refusal applies
+record ReadyPlay (old : SessionState) (request : Request) : Type 0 where
+  setup : Setup
+  paused : Option Run
+  ready : old.state ≡ Ready setup paused
+  good : IsGoodPlay old setup paused request
+
+no_refusal : (taken : TakenRequest) (play : ReadyPlay taken.old taken.request) (authority : List ℕ)
+    (planned : Result Planned Refusal)
+    → IsPlanned taken.old play.setup play.paused (header_value taken.request.head.now (codes "Range")) planned
+    → AsksPlayOr taken.old (play_call taken.request.sequence authority play.setup) planned taken.ask taken.new
+    → AsksOrLacks taken.old taken.ask taken.new
+no_refusal taken play authority (Ok planned) is (inl asks) =
+    let range = header_value taken.request.head.now (codes "Range") in
+    let own = of_film taken.old.films play.setup.film is.0
+    (λ s. IsPlannedRun taken.old s play.setup play.paused range planned) is.1.at is.1 asks.stored asks.at in
+    inl (subst (λ a. IsPlayAskedFor taken.old a taken.new) (sym asks.command)
+    (play_asked taken.request.sequence authority play.ready own asks.state))
+no_refusal taken play authority (Ok planned) is (inr refused) =
+    inr (record { sequence = taken.request.sequence; refused = refused })
+no_refusal taken play authority (Err refusal) is refused =
     elim (is_memory refusal) [
       | inl memory ↦ inr (record {
-        sequence = request.sequence;
-        refused = subst (λ r. IsRefused old (Some request.sequence) r [] ask new) memory refused;
+        sequence = taken.request.sequence;
+        refused = subst (λ r. IsRefused taken.old (Some taken.request.sequence) r [] taken.ask taken.new) memory
+            refused;
       })
-      | inr other ↦ absurd (good.plan refusal other is)
+      | inr other ↦ absurd (play.good.plan refusal other is)
     ]
 
-good_plays : {old : SessionState} {request : Request} {setup : Setup} {paused : Option Run} {ask : Ask} {new :
-    SessionState}
-    (authority : List ℕ)
-    → old.state ≡ Ready setup paused → IsGoodPlay old setup paused request
-    → Plays old.state old request authority ask new → AsksOrLacks old ask new
-good_plays {old} {request} {ask} {new} authority ready good plays =
-    let is = subst (λ (s : State). Plays s old request authority ask new) ready plays in
-    no_refusal authority is.planned ready good is.is_planned is.asks
+good_plays : (taken : TakenRequest) → ReadyPlay taken.old taken.request → (authority : List ℕ)
+    → Plays taken.old.state taken.old taken.request authority taken.ask taken.new
+    → AsksOrLacks taken.old taken.ask taken.new
+good_plays taken play authority plays =
+    let is = subst (λ (s : State). Plays s taken.old taken.request authority taken.ask taken.new) play.ready plays in
+    no_refusal taken play authority is.planned is.is_planned is.asks
 
-good_takes : {old : SessionState} {request : Request} {setup : Setup} {paused : Option Run} {ask : Ask} {new :
-    SessionState}
-    (judgement : Result Task Refusal) → old.state ≡ Ready setup paused → IsGoodPlay old setup paused request
-    → IsJudged old.films old.id old.state request judgement → Takes old request judgement ask new
-    → AsksOrLacks old ask new
-good_takes {ask} {new} (Ok (ToPlay asked)) ready good judged takes =
-    good_plays asked.authority.now ready good takes
-good_takes {ask} {new} (Err refusal) ready good judged takes = absurd (good.taken refusal judged)
-good_takes {ask} {new} (Ok ToOptions) ready good judged takes =
-    absurd (let no : ⊥ = cc (judged.talk.spoken.named, good.method) in no)
-good_takes {ask} {new} (Ok (ToDescribe asked)) ready good judged takes =
-    absurd (let no : ⊥ = cc (judged.talk.spoken.named, good.method) in no)
-good_takes {ask} {new} (Ok (ToSetup film)) ready good judged takes =
-    absurd (let no : ⊥ = cc (judged.talk.spoken.named, good.method) in no)
-good_takes {ask} {new} (Ok ToPause) ready good judged takes =
-    absurd (let no : ⊥ = cc (judged.talk.spoken.named, good.method) in no)
-good_takes {ask} {new} (Ok ToTeardown) ready good judged takes =
-    absurd (let no : ⊥ = cc (judged.talk.spoken.named, good.method) in no)
-good_takes {ask} {new} (Ok ToGetParameter) ready good judged takes =
-    absurd (let no : ⊥ = cc (judged.talk.spoken.named, good.method) in no)
+good_takes : (taken : TakenRequest) → ReadyPlay taken.old taken.request → (judgement : Result Task Refusal)
+    → IsJudged taken.old.films taken.old.id taken.old.state taken.request judgement
+    → Takes taken.old taken.request judgement taken.ask taken.new → AsksOrLacks taken.old taken.ask taken.new
+good_takes taken play (Ok (ToPlay asked)) judged takes = good_plays taken play asked.authority.now takes
+good_takes taken play (Err refusal) judged takes = absurd (play.good.taken refusal judged)
+good_takes taken play (Ok ToOptions) judged takes =
+    absurd (let no : ⊥ = cc (judged.talk.spoken.named, play.good.method) in no)
+good_takes taken play (Ok (ToDescribe asked)) judged takes =
+    absurd (let no : ⊥ = cc (judged.talk.spoken.named, play.good.method) in no)
+good_takes taken play (Ok (ToSetup film)) judged takes =
+    absurd (let no : ⊥ = cc (judged.talk.spoken.named, play.good.method) in no)
+good_takes taken play (Ok ToPause) judged takes =
+    absurd (let no : ⊥ = cc (judged.talk.spoken.named, play.good.method) in no)
+good_takes taken play (Ok ToTeardown) judged takes =
+    absurd (let no : ⊥ = cc (judged.talk.spoken.named, play.good.method) in no)
+good_takes taken play (Ok ToGetParameter) judged takes =
+    absurd (let no : ⊥ = cc (judged.talk.spoken.named, play.good.method) in no)
 
 pub hears_good : (old new : SessionState) (message : List ℕ) (ask : Ask) → Hears old message ask new
     → CanBePlayed old message
     → AsksOrLacks old ask new
 hears_good old new message ask (inl fault) can = absurd (can.sound fault.fault fault.is_fault)
 hears_good old new message ask (inr whole) can =
-    good_takes {ask = ask} {new = new} whole.hears.judgement can.ready (can.good whole.request whole.is_request)
-    whole.hears.judged whole.hears.takes
+    good_takes (record { old = old; new = new; request = whole.request; ask = ask })
+    (record {
+      setup = can.setup;
+      paused = can.paused;
+      ready = can.ready;
+      good = can.good whole.request whole.is_request;
+    }) whole.hears.judgement whole.hears.judged whole.hears.takes

@@ -146,8 +146,15 @@ impl<'a> Session<'a> {
         // A halt that nobody asked for is that of a connection that ends: it keeps what was due,
         // which may have been sent.
         let (keep, next) = kept_and_next(&asked, play.pacer.due());
-        let (films, source, counts) = (self.films, self.source, self.counts);
-        self.counts = counts_next(films, source, counts, &setup, &play.run, keep, next);
+        self.counts = counts_next(
+            self.films,
+            self.source,
+            self.counts,
+            &setup,
+            &play.run,
+            keep,
+            next,
+        );
         let answer = Answer::Halted;
         self.log.note(Receipt::Entry { place, answer });
         let (state, note) = state_and_note(setup, play, keep, next);

@@ -1,5 +1,8 @@
 //! Talks of a client with a session, row by row.
 
+use admission::Answer;
+use session_records::Receipt;
+
 /// What happens.
 #[derive(Clone, Copy)]
 pub(super) enum Comes {
@@ -225,11 +228,35 @@ static SMALL_BUFFER: [Row; 2] = [
     },
 ];
 
+/// The receipts of [`METHODS`].
+static RECEIPTS: [Receipt; 3] = [
+    Receipt::Entry {
+        place: 0,
+        answer: Answer::Looked {
+            now: 3,
+            at: 0,
+            booked: 77,
+        },
+    },
+    Receipt::Entry {
+        place: 1,
+        answer: Answer::Admitted { start: 1 },
+    },
+    Receipt::Entry {
+        place: 2,
+        answer: Answer::Halted,
+    },
+];
+
 // The proofs of the tests see the rows through these calls, which say nothing of them: so they
 // don't carry the texts.
 
 pub(super) fn methods() -> &'static [Row] {
     &METHODS
+}
+
+pub(super) fn receipts() -> &'static [Receipt] {
+    &RECEIPTS
 }
 
 pub(super) fn refusals() -> &'static [Row] {

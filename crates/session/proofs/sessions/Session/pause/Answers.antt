@@ -3,7 +3,7 @@ use Rattle.film_run.specs.declared.plans.Playback.{Playback}
 use Rattle.film_run.specs.Pauses.{IsRemainingRun}
 use Rattle.film_run.specs.Units.{stored_sizes}
 use Rattle.pacer.specs.PacerStates.{PacerState, next_boundary}
-use Rattle.session.specs.SessionInvariant.{session_state_of}
+use Rattle.session.specs.SessionInvariant.{session_context_of, session_state_of}
 use Rattle.session.specs.Methods.{Pauses}
 use Rattle.session.specs.RunRequests.{IsRunOf, playback_of}
 use Rattle.session.specs.SessionStates.{CanHandleRequest, SessionState}
@@ -50,9 +50,15 @@ invariant_of-self c =
     let hand = in_hand (goal.at.invariant_of-self c).In-Playing in
     let kept = playing_in hand in
     let runs =
-    left_runs
-    kept.1 (kept.2 stored c.stored_at-stored.ensures.film) c.playback_of-playback.ensures.playback
-    c.ask_halt-keep.ensures.boundary.boundary (record {
+    left_runs {ground = session_context_of inside} {stored = stored} {setup = setup} {play = play} (record {
+      playback = c.playback_of-playback.result;
+      last = c.last_slot-last.result;
+      keep = c.ask_halt-keep.result;
+      left = left;
+      paced = kept.1;
+      playing = kept.2 stored c.stored_at-stored.ensures.film;
+      playback_is = c.playback_of-playback.ensures.playback;
+      boundary = c.ask_halt-keep.ensures.boundary.boundary;
       left_is = c.run_after-left.ensures.left;
       run_is = c.run_after-left.ensures.run;
       fits = c.run_after-left.ensures.fits;

@@ -1,5 +1,5 @@
 use Rattle.session.specs.SessionStates.{AwaitsNoAnswer}
-use Rattle.session.proofs.tests.run_rows.Given as goal
+use Rattle.session.proofs.tests.Talk.run.Given as goal
 
 abbrev pub invariant-loop-row : goal.invariant-loop-row
-invariant-loop-row g l = AwaitsNoAnswer l.talk.session
+invariant-loop-row g l = AwaitsNoAnswer l.self.session
