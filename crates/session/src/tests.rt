@@ -244,16 +244,23 @@ impl<'a> Talk<'a> {
 }
 
 /// Talks to a session row by row, compares what it sends, and returns what it noted.
-fn run_rows<R: Abort>(rt: &R, alloc: Global, rows: &[Row]) -> Result<Notes, Fail> {
-    let films = films_of(rt, alloc)?;
-    let mut talk = Talk::new(alloc, &films)?;
+fn run_rows<R: Abort>(
+    rt: &R,
+    alloc: Global,
+    films: &[Stored],
+    rows: &[Row],
+) -> Result<Notes, NoMemory>
+    requires { AreFilms films.now }
+{
+    let mut talk = Talk::new(alloc, films)?;
     talk.run(rt, alloc, rows)?;
     Ok(talk.into_notes(rt))
 }
 
 #[test]
 fn answers_each_method(rt: HostRuntime) -> Result<(), Fail> {
-    let notes = run_rows(&rt, rt.alloc(), talks::methods())?;
+    let films = films_of(&rt, rt.alloc())?;
+    let notes = run_rows(&rt, rt.alloc(), &films, talks::methods())?;
     assert!(rt; notes.receipts.as_slice() == talks::receipts());
     assert!(rt; notes.plays.len() == 1);
     assert!(rt; notes.offers.len() == 1);
@@ -265,10 +272,13 @@ fn answers_each_method(rt: HostRuntime) -> Result<(), Fail> {
 fn expect_receipts<R: Abort>(
     rt: &R,
     alloc: Global,
+    films: &[Stored],
     rows: &[Row],
     receipts: usize,
-) -> Result<(), Fail> {
-    let notes = run_rows(rt, alloc, rows)?;
+) -> Result<(), NoMemory>
+    requires { AreFilms films.now }
+{
+    let notes = run_rows(rt, alloc, films, rows)?;
     assert!(rt; notes.receipts.len() == receipts);
     assert!(rt; notes.plays.is_empty());
     Ok(())
@@ -276,8 +286,10 @@ fn expect_receipts<R: Abort>(
 
 #[test]
 fn refuses_with_each_code(rt: HostRuntime) -> Result<(), Fail> {
-    expect_receipts(&rt, rt.alloc(), talks::refusals(), 2)?;
-    expect_receipts(&rt, rt.alloc(), talks::small_buffer(), 0)
+    let films = films_of(&rt, rt.alloc())?;
+    expect_receipts(&rt, rt.alloc(), &films, talks::refusals(), 2)?;
+    expect_receipts(&rt, rt.alloc(), &films, talks::small_buffer(), 0)?;
+    Ok(())
 }
 
 #[test]
