@@ -1,5 +1,5 @@
 //! Tests across crates: sessions and connections by scripts of complete requests, replies and
-//! frames, failing links, long films, a link's days, and a film that is served and watched.
+//! frames, failing links, long films, the largest texts, and a film that is served and watched.
 //!
 //! Each test is a script, as data, that one reader of its kind runs; so a row more costs no proof.
 //! Nothing here is public.
@@ -7,8 +7,6 @@
 
 #[cfg(test)]
 mod connections;
-#[cfg(test)]
-mod days;
 #[cfg(test)]
 mod films;
 #[cfg(test)]

@@ -3,7 +3,8 @@
 use crate::tests::scenes::{passes, refusals_of};
 use std::test::Fail;
 
-/// A link that has room for one play at a time, a pause in mid-report, and what is refused.
+/// A link that has room for one play at a time, lines that end with CR LF, a client that can't be
+/// asked, a pause in mid-report, and what is refused.
 const DAYS: &str = "\
 file T 1 1 5
 file S play 0 trace T 7 0|play 1 trace T 7 0|slot 1|slot 2|play 1 trace T 7 0|slot 3|
@@ -37,6 +38,23 @@ slot 1 sent=2 booked=2|\
 2 seat=1 play slot=1 slots=3 bytes=7 overflow slot=3 booked=3 asked=2|\
 slot 3 sent=5 booked=5|3 seat=0 halt number=0 keep=7 halted|\
 calendar from=1|at 1 booked=2|at 2 booked=2|at 3 booked=3|end|
+reply E play 0 trace T 7 0|play 1 trace T 7 0|slot 1|play 1 trace T 7 0||slot 3
+> day script=E capacity=0:5,3:3
+0 0 seat=0 play slot=0 slots=3 bytes=7 admitted start=1|\
+1 seat=1 play slot=0 slots=3 bytes=7 overflow slot=3 booked=3 asked=3|\
+slot 1 sent=2 booked=2|\
+2 seat=1 play slot=1 slots=3 bytes=7 overflow slot=3 booked=3 asked=2|\
+slot 3 sent=5 booked=5|3 seat=0 halt number=0 keep=7 halted|\
+calendar from=1|at 1 booked=2|at 2 booked=2|at 3 booked=3|end|
+file B pause 0|resume 0|play 0 trace T 4 0|play 0 trace T 7 0|play 0 trace T 4 0|look 1
+> day script=B capacity=5 journal=2
+0 refused state|refused state|refused BufferTooSmall 2 5 5|\
+0 seat=0 play slot=0 slots=3 bytes=7 admitted start=1|refused state|\
+refused journal entries=1 open=1|\
+1 seat=0 halt number=0 keep=0 halted|calendar from=0|end|
+bytes K 706175736520300d
+> day script=K
+3 vodserve: K: BadScript 1|
 > day script=C capacity=1:5
 2 vodserve: usage|
 > day script=C capacity=0:5,0:6
@@ -119,6 +137,11 @@ const BAD_SCRIPTS: &[(&str, &str)] = &[
     ("slot 5||look 1|slot 4|", "BadScript 4"),
     ("stop 0|", "BadScript 1"),
     ("pause 0|slot 0|", "BadScript 2"),
+    ("pause 0|stop 0|", "BadScript 2"),
+    ("||pause 256|", "BadScript 3"),
+    ("pause  0|", "BadScript 1"),
+    (" pause 0|", "BadScript 1"),
+    ("slot 5|look 1|slot 6|slot 5", "BadScript 4"),
 ];
 
 #[test]
