@@ -5,6 +5,7 @@ ghost use Rattle.film_streams.specs.SettingRanges.{AreFilms};
 
 use crate::films::server_films;
 use crate::link_scripts::{Failing, Visit, serve_all, station_of};
+use crate::script_text::expect;
 use admission::{Answer, Book};
 use conn::{ConnEnd, ConnReport};
 use film_frames::Stored;
@@ -60,14 +61,12 @@ fn phrase_of(line: &'static str) -> &'static str {
     line
 }
 
-/// A script with all its lines in full.
+/// A script with all its lines in full, each with its end.
 fn in_full(alloc: Global, script: &'static str) -> Result<String, NoMemory> {
     let mut text = String::new(alloc);
-    for (place, line) in script.lines().enumerate() {
-        if 0 < place {
-            text.push('\n')?;
-        }
+    for line in script.lines() {
         text.push_str(phrase_of(line))?;
+        text.push('\n')?;
     }
     Ok(text)
 }
@@ -79,7 +78,8 @@ fn serve_script<R: Wait + Abort>(
     script: &'static str,
 ) -> Result<(), NoMemory> {
     let films = server_films(rt, alloc)?;
-    serve_all(rt, alloc, &films, &in_full(alloc, script)?)
+    let text = in_full(alloc, script)?;
+    serve_all(rt, alloc, &films, text.trim_end())
 }
 
 /// Plays of the film of two pictures.
@@ -381,25 +381,31 @@ fn fail_at<R: Wait + Abort>(
         Some(_) => ConnEnd::LinkFault,
         None => ConnEnd::TornDown,
     };
-    assert_eq!(rt; visit.end, end);
-    check_book(rt, &station.close(seat), heard.unwrap_or(5));
+    expect(rt, visit.end == end, "another end");
+    let book = station.close(seat);
+    check_book(rt, &book, heard.unwrap_or(5));
+    // Taken apart here, so that no book is dropped.
+    let _entries = book.into_entries();
     Ok(())
 }
 
 /// One halt for each admission, and nothing booked after a slot.
 fn check_book<R: Abort>(rt: &R, book: &Book, heard: u64) {
-    let halted = book
-        .entries()
-        .iter()
-        .filter(|entry| entry.answer == Answer::Halted);
-    assert_eq!(rt; halted.count() * 2, book.entries().len());
-    assert_eq!(rt; book.calendar().now(), 0);
+    let mut halted = 0usize;
+    for entry in book.entries() {
+        if entry.answer == Answer::Halted {
+            halted = halted.saturating_add(2);
+        }
+    }
+    expect(
+        rt,
+        halted == book.entries().len(),
+        "a play without its halt",
+    );
+    expect(rt, book.calendar().now() == 0, "a slot has come");
     for slot in 0..20 {
-        let booked = book.calendar().booked(slot);
-        assert!(rt;
-            slot <= heard || booked == 0,
-            "booked at {slot} after {heard}"
-        );
+        let is_free = slot <= heard || book.calendar().booked(slot) == 0;
+        expect(rt, is_free, "a slot is booked after the end");
     }
 }
 

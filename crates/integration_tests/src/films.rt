@@ -39,7 +39,10 @@ pub(crate) fn server_films(rt: &impl Abort, alloc: Global) -> Result<Vec<Stored>
     assert!(rt; good_name(short.name.as_bytes()));
     assert!(rt; good_name(long.name.as_bytes()));
     assert!(rt; short.name.len() < long.name.len());
-    Ok(Vec::from_array(alloc, [short, long])?)
+    let mut films = Vec::new(alloc);
+    films.push(short)?;
+    films.push(long)?;
+    Ok(films)
 }
 
 /// A server's film of so many pictures, 1 to 100,000: `film.mpg`.
@@ -54,5 +57,7 @@ pub(crate) fn film_of<R: Abort>(
     assert!(rt; 1 <= pictures && pictures <= 100_000);
     let film = stored(alloc, "film.mpg", make_film(alloc, 1, pictures)?)?;
     assert!(rt; good_name(film.name.as_bytes()));
-    Ok(Vec::from_array(alloc, [film])?)
+    let mut films = Vec::new(alloc);
+    films.push(film)?;
+    Ok(films)
 }

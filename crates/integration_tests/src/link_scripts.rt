@@ -4,15 +4,18 @@ ghost use Rattle.std.specs.Prelude.{◌≡◌, IfOk};
 ghost use Rattle.film_streams.specs.SettingRanges.{AreFilms};
 ghost use Rattle.station.specs.Seats.{IsSameSeat, first_seat};
 
-use crate::script_text::{bytes_of, compare_front, message_of, numbers_of, word_and_rest};
+use crate::script_text::{
+    bytes_of, compare_front, expect, film_in, message_of, numbers_of, word_and_rest,
+};
 use crate::session_scripts::{SETTINGS, WORDS};
-use admission::{Answer, Book, Command, Entry, MAX_ENTRIES};
+use admission::{Book, MAX_ENTRIES};
 use conn::{ConnEnd, serve_connection};
 use film_frames::Stored;
-use report::calendar_text;
+use report::laws::law_answers_match_commands;
+use report::{calendar_text, journal_text};
 use slot_calendar::Profile;
 use station::{Seat, Station};
-use std::alloc::{AllocError, Global};
+use std::alloc::Global;
 use std::process::Abort;
 use std::sync::Wait;
 use vod_base::{Event, MemoryLink, NoMemory};
@@ -38,6 +41,17 @@ pub(crate) struct Failing<'a> {
 fn has_refusal(sent: &[u8]) -> bool {
     sent.windows(13)
         .any(|part| part == b"RTSP/1.0 500 ".as_slice())
+}
+
+/// A link in memory that has these events and fails at these calls.
+fn link_of(
+    alloc: Global,
+    events: Vec<Event>,
+    failing: Failing<'_>,
+) -> Result<MemoryLink, NoMemory> {
+    let sends = Vec::from_slice(alloc, failing.sends)?;
+    let nexts = Vec::from_slice(alloc, failing.nexts)?;
+    MemoryLink::new(alloc, events, 1 << 20, sends, nexts)
 }
 
 impl Visit {
@@ -66,9 +80,7 @@ impl Visit {
         ensures { IsSameSeat seat.old seat.new }
     {
         let events = std::mem::replace(&mut self.events, Vec::new(alloc));
-        let sends = Vec::from_slice(alloc, failing.sends)?;
-        let nexts = Vec::from_slice(alloc, failing.nexts)?;
-        let mut link = MemoryLink::new(alloc, events, 1 << 20, sends, nexts)?;
+        let mut link = link_of(alloc, events, failing)?;
         let report = serve_connection(
             rt, alloc, station, seat, films, &SETTINGS, WORDS, 0, &mut link,
         );
@@ -95,18 +107,9 @@ impl Visit {
 
     /// Reads the blocks that were sent next, of which those of channel 0 must hold these bytes.
     fn read_film<R: Abort>(&mut self, rt: &R, alloc: Global, film: &[u8]) -> Result<(), NoMemory> {
-        let mut payloads = Vec::new(alloc);
-        for _ in 0..self.sent.len() {
-            let [b'$', channel, high, low, after @ ..] = self.unread() else {
-                break;
-            };
-            let length = usize::from(*high) * 256 + usize::from(*low);
-            if *channel == 0 {
-                payloads.extend_from_slice(after.get(16..length).unwrap_or(&[]))?;
-            }
-            self.read = self.read.saturating_add(4 + length);
-        }
-        assert!(rt; payloads.as_slice() == film, "another film");
+        let (payloads, read) = film_in(alloc, self.unread())?;
+        expect(rt, payloads.as_slice() == film, "another film");
+        self.read = self.read.saturating_add(read);
         Ok(())
     }
 
@@ -132,7 +135,7 @@ impl Visit {
                 self.events.push(Event::Slot(slot))?;
             }
         } else {
-            assert!(rt; word == "slot", "no such line: {line}");
+            expect(rt, word == "slot", line);
             self.events.push(Event::Slot(numbers_of(rest)[0]))?;
         }
         Ok(())
@@ -157,9 +160,8 @@ impl Visit {
             assert!(rt; films.len() == 2);
             self.read_film(rt, alloc, &films[1].film.bytes)?;
         } else if word == "ends" {
-            assert!(rt; self.unread().is_empty(), "unread at {line}");
             let end = format!(in alloc; "{:?} {}", self.end, self.late)?;
-            assert_eq!(rt; end.as_str(), rest);
+            expect(rt, self.unread().is_empty() && end.as_str() == rest, line);
         } else {
             return Ok(false);
         }
@@ -209,51 +211,15 @@ pub(crate) fn station_of<R: Abort>(
     Station::new(alloc, Profile::flat(alloc, capacity)?, limit)
 }
 
-/// The line of an entry, as a journal has it.
-fn push_entry(
-    alloc: Global,
-    text: &mut String,
-    place: usize,
-    entry: &Entry,
-) -> Result<(), AllocError> {
-    let front = format!(in alloc; "{place} seat={}", entry.maker)?;
-    text.push_str(&front)?;
-    let asked = match &entry.command {
-        Command::Play { slot, plan } => {
-            format!(in alloc;
-                " play slot={slot} slots={} bytes={}",
-                plan.slots(),
-                plan.bytes()
-            )?
-        }
-        Command::Halt { number, keep } => format!(in alloc; " halt number={number} keep={keep}")?,
-        Command::Look { slot } => format!(in alloc; " look slot={slot}")?,
-    };
-    text.push_str(&asked)?;
-    let told = match entry.answer {
-        Answer::Admitted { start } => format!(in alloc; " admitted start={start}\n")?,
-        Answer::Overflow {
-            slot,
-            booked,
-            asked,
-        } => format!(in alloc; " overflow slot={slot} booked={booked} asked={asked}\n")?,
-        Answer::Halted => format!(in alloc; " halted\n")?,
-        Answer::Looked { now, at, booked } => {
-            format!(in alloc; " looked now={now} at={at} booked={booked}\n")?
-        }
-    };
-    text.push_str(&told)
-}
-
 /// The journal and the calendar of a book.
 fn journal_of(alloc: Global, book: &Book) -> Result<Vec<u8>, NoMemory> {
-    let mut text = String::new(alloc);
-    for (place, entry) in book.entries().iter().enumerate() {
-        push_entry(alloc, &mut text, place, entry)?;
-    }
-    let mut bytes = Vec::from_slice(alloc, text.as_bytes())?;
-    calendar_text(book.calendar(), &mut bytes)?;
-    Ok(bytes)
+    let entries = book.entries();
+    // This call does nothing at run time: the prover gets the law from it.
+    law_answers_match_commands();
+    let mut text = Vec::new(alloc);
+    journal_text(0, entries, &mut text)?;
+    calendar_text(book.calendar(), &mut text)?;
+    Ok(text)
 }
 
 /// Serves the connections of a scene at a station.
@@ -273,9 +239,10 @@ fn visit_station<R: Wait + Abort>(
     for line in lines.lines() {
         visit.take(rt, alloc, station, seat, films, line)?;
     }
-    assert!(rt;
+    expect(
+        rt,
         visit.events.is_empty() && visit.unread().is_empty(),
-        "left over: {lines}"
+        lines,
     );
     Ok(())
 }
@@ -295,14 +262,28 @@ fn visit_all<R: Wait + Abort>(
     let (station, mut seat) = station_of(rt, alloc, capacity, limit)?;
     visit_station(rt, alloc, &station, &mut seat, films, lines)?;
     let book = station.close(seat);
-    let text = journal_of(alloc, &book)?;
-    if let Some(journal) = journal {
-        assert!(rt;
-            text.strip_suffix(b"\n") == Some(journal.as_bytes()),
-            "{}",
-            String::from_utf8_lossy(alloc, &text)?
-        );
+    let text = journal_of(alloc, &book);
+    // Taken apart here, so that no book is dropped.
+    let _entries = book.into_entries();
+    match journal {
+        Some(journal) => compare_journal(rt, alloc, &text?, journal),
+        None => Ok(()),
     }
+}
+
+/// Compares a journal and calendar, without the end of their last line.
+fn compare_journal<R: Abort>(
+    rt: &R,
+    alloc: Global,
+    text: &[u8],
+    journal: &str,
+) -> Result<(), NoMemory> {
+    let shown = String::from_utf8_lossy(alloc, text)?;
+    expect(
+        rt,
+        text.strip_suffix(b"\n") == Some(journal.as_bytes()),
+        shown.as_str(),
+    );
     Ok(())
 }
 

@@ -2,6 +2,7 @@
 
 ghost use Rattle.std.specs.Prelude.{⊤};
 
+use crate::script_text::expect;
 use film_frames::Stored;
 use film_make::make_film;
 use inputs::size_film;
@@ -12,7 +13,7 @@ use std::test::Fail;
 use vod_base::{MemoryLibrary, NoMemory};
 
 /// What the scanner reported.
-#[derive(Clone, Copy, Debug, PartialEq, Eq)]
+#[derive(Clone, Copy, PartialEq, Eq)]
 enum Told {
     Head(u64, u64),
     Slice(u64, u64),
@@ -70,18 +71,22 @@ fn told_in_chunks(alloc: Global, film: &[u8], chunk: usize) -> Result<Vec<Told>,
     Ok(found.told)
 }
 
+/// A library that holds this film alone.
+fn library_of(alloc: Global, film: &[u8]) -> Result<MemoryLibrary, NoMemory> {
+    let name = String::from_str(alloc, "film.mpg")?;
+    let bytes = Vec::from_slice(alloc, film)?;
+    let mut files = Vec::new(alloc);
+    files.push((name, bytes))?;
+    Ok(MemoryLibrary::new(files, Vec::new(alloc)))
+}
+
 /// The sizes of the film's units on the wire, as a scan in chunks of 65,536 bytes gives them.
 fn sizes_in_chunks(alloc: Global, film: &[u8]) -> Result<Vec<u64>, NoMemory> {
-    let mut files = Vec::new(alloc);
-    files.push((
-        String::from_str(alloc, "film.mpg")?,
-        Vec::from_slice(alloc, film)?,
-    ))?;
-    let mut library = MemoryLibrary::new(files, Vec::new(alloc));
-    let Ok(sized) = size_film(alloc, &mut library, "film.mpg") else {
-        return Err(NoMemory);
-    };
-    Ok(sized.sizes)
+    let mut library = library_of(alloc, film)?;
+    match size_film(alloc, &mut library, "film.mpg") {
+        Ok(sized) => Ok(sized.sizes),
+        Err(_) => Err(NoMemory),
+    }
 }
 
 /// The sizes of the units of a film that is held.
@@ -97,17 +102,47 @@ fn sizes_of_held(alloc: Global, film: Vec<u8>) -> Result<Vec<u64>, NoMemory> {
     Ok(sizes)
 }
 
-/// Compares the reports on one film in chunks, and what its units take on the wire.
+/// Compares the reports on a film in chunks.
+fn compare_reports<R: Abort>(
+    rt: &R,
+    alloc: Global,
+    film: &[u8],
+    pictures: u32,
+) -> Result<(), ScanRefused> {
+    let large = told_in_chunks(alloc, film, 65_536)?;
+    let small = told_in_chunks(alloc, film, 1)?;
+    expect(
+        rt,
+        large.len() == pictures as usize * 6,
+        "another number of calls",
+    );
+    expect(rt, large.as_slice() == small.as_slice(), "the calls differ");
+    Ok(())
+}
+
+/// Compares what the units of a film take on the wire.
+fn compare_sizes<R: Abort>(
+    rt: &R,
+    alloc: Global,
+    film: Vec<u8>,
+    pictures: u32,
+) -> Result<(), NoMemory> {
+    let sizes = sizes_in_chunks(alloc, &film)?;
+    let held = sizes_of_held(alloc, film)?;
+    expect(
+        rt,
+        sizes.len() == pictures as usize,
+        "another number of units",
+    );
+    expect(rt, sizes.as_slice() == held.as_slice(), "the sizes differ");
+    Ok(())
+}
+
+/// Compares a film in chunks of two lengths, and as it is held.
 fn compare<R: Abort>(rt: &R, alloc: Global, number: u64, pictures: u32) -> Result<(), Fail> {
     let film = make_film(alloc, number, pictures)?;
-    let large = told_in_chunks(alloc, &film, 65_536)?;
-    assert_eq!(rt; large.len(), pictures as usize * 6);
-    let small = told_in_chunks(alloc, &film, 1)?;
-    assert!(rt; large.as_slice() == small.as_slice(), "the calls differ");
-    let sizes = sizes_in_chunks(alloc, &film)?;
-    assert_eq!(rt; sizes.len(), pictures as usize);
-    let held = sizes_of_held(alloc, film)?;
-    assert!(rt; sizes.as_slice() == held.as_slice(), "the sizes differ");
+    compare_reports(rt, alloc, &film, pictures)?;
+    compare_sizes(rt, alloc, film, pictures)?;
     Ok(())
 }
 

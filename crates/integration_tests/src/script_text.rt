@@ -1,9 +1,18 @@
 //! The parts of a script's lines.
 
+ghost use Rattle.std.specs.Prelude.{◌≡◌, true};
+
 use hex::FromHexError;
 use std::alloc::Global;
 use std::process::Abort;
 use vod_base::{NoMemory, read_number};
+
+/// Stops the test with a text, unless a condition is true.
+pub(crate) fn expect<R: Abort>(rt: &R, condition: bool, otherwise: &str)
+    ensures { condition ≡ true }
+{
+    assert!(rt; condition, "{otherwise}");
+}
 
 /// A line's first word, and what stands after it.
 pub(crate) fn word_and_rest(line: &str) -> (&str, &str) {
@@ -44,6 +53,32 @@ pub(crate) fn numbers_of(text: &str) -> [u64; 4] {
         }
     }
     numbers
+}
+
+/// The bytes of films in blocks of an interleaved connection: the payloads on channel 0 after their
+/// headers, up to the first byte that begins no block; and how long the blocks are.
+pub(crate) fn film_in(alloc: Global, sent: &[u8]) -> Result<(Vec<u8>, usize), NoMemory> {
+    let mut film = Vec::new(alloc);
+    let mut read = 0usize;
+    for _ in 0..sent.len() {
+        let Some((channel, block)) = block_at(sent.get(read..).unwrap_or(&[])) else {
+            break;
+        };
+        if channel == 0 {
+            film.extend_from_slice(block.get(16..).unwrap_or(&[]))?;
+        }
+        read = read.saturating_add(4 + block.len());
+    }
+    Ok((film, read))
+}
+
+/// The block that bytes begin with: its channel, and its bytes after the header of four.
+fn block_at(sent: &[u8]) -> Option<(u8, &[u8])> {
+    let [b'$', channel, high, low, after @ ..] = sent else {
+        return None;
+    };
+    let length = usize::from(*high) * 256 + usize::from(*low);
+    Some((*channel, after.get(..length)?))
 }
 
 /// Compares what was sent next, which must begin so.

@@ -8,7 +8,7 @@ ghost use Rattle.session.specs.SessionStates.{IsPlay};
 ghost use Rattle.session.specs.SessionStates.{awaited_answer, open_of};
 
 use crate::films::server_films;
-use crate::script_text::{bytes_of, compare_front, message_of, numbers_of, word_and_rest};
+use crate::script_text::{bytes_of, compare_front, expect, message_of, numbers_of, word_and_rest};
 use early_start::Offers;
 use film_frames::Stored;
 use interleave::{Demux, Step};
@@ -104,13 +104,14 @@ impl<'a> Talk<'a> {
     {
         let [first, second, third, fourth] = told.numbers;
         if told.kind == "admitted" {
-            assert!(rt; third == 0 || (plan.slots(), plan.bytes()) == (third, fourth));
+            let is_plan = plan.slots() == third && plan.bytes() == fourth;
+            expect(rt, third == 0 || is_plan, "another plan");
             assert!(rt; self.session.heard_slot() < second);
             self.session.admitted(first, second);
         } else if told.kind == "overflow" {
             self.session.overflowed(first, second, third, fourth);
         } else {
-            assert!(rt; told.kind == "full", "a play was asked for");
+            expect(rt, told.kind == "full", "a play was asked for");
             self.session.full(first, second);
         }
     }
@@ -119,9 +120,12 @@ impl<'a> Talk<'a> {
         requires { IsHalt (awaited_answer self.old.session) (open_of self.old.session) }
         ensures { AwaitsNoAnswer self.new.session }
     {
-        assert!(rt; told.kind == "halted", "a halt was asked for");
         let [place, kept, _, _] = told.numbers;
-        assert_eq!(rt; keep, kept);
+        expect(
+            rt,
+            told.kind == "halted" && keep == kept,
+            "another halt was asked for",
+        );
         self.session.halted(place);
     }
 
@@ -133,7 +137,7 @@ impl<'a> Talk<'a> {
         if told.kind == "looked" {
             self.session.looked(first, second, third, fourth);
         } else {
-            assert!(rt; told.kind == "full", "a look was asked for");
+            expect(rt, told.kind == "full", "a look was asked for");
             self.session.full(first, second);
         }
     }
@@ -213,10 +217,10 @@ impl<'a> Talk<'a> {
         requires { AwaitsNoAnswer self.old.session }
         ensures { AwaitsNoAnswer self.new.session }
     {
-        assert!(rt;
+        expect(
+            rt,
             self.unread().is_empty(),
-            "{}",
-            String::from_utf8_lossy(alloc, self.unread())?
+            "bytes are unread before a request",
         );
         self.hear_once(rt, alloc, message, told)?;
         if self.unread().starts_with(b"RTSP/1.0 500 ") {
@@ -230,11 +234,15 @@ impl<'a> Talk<'a> {
         requires { AwaitsNoAnswer self.old.session }
         ensures { AwaitsNoAnswer self.new.session }
     {
-        assert!(rt; self.unread().is_empty(), "unread at slot {slot}");
+        expect(
+            rt,
+            self.unread().is_empty(),
+            "bytes are unread before a slot",
+        );
         match self.session.slot(slot, &mut self.link) {
             Ok(Slotted::Going) => {}
             Ok(Slotted::Finished(keep)) => self.halt(rt, keep, told),
-            Err(_) => assert!(rt; false, "the link failed"),
+            Err(_) => expect(rt, false, "the link failed"),
         }
     }
 
@@ -294,7 +302,7 @@ impl<'a> Talk<'a> {
             let want = bytes_of(rt, alloc, rest)?;
             self.read(rt, alloc, &want)
         } else {
-            assert!(rt; word == "in", "no such line: {line}");
+            expect(rt, word == "in", line);
             self.reach(rt, alloc, rest)
         }
     }
@@ -327,7 +335,7 @@ fn run_scene<R: Abort>(rt: &R, alloc: Global, films: &[Stored], scene: &str) -> 
             talk.take(rt, alloc, line, told)?;
         }
     }
-    assert!(rt; talk.unread().is_empty(), "unread after {scene}");
+    expect(rt, talk.unread().is_empty(), scene);
     Ok(())
 }
 

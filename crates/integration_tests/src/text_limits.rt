@@ -4,6 +4,7 @@ use day_script::{ScriptRefused, read_script};
 use inputs::{TraceRefused, read_trace};
 use plan_cert::{CertRead, read_cert, write_cert};
 use std::alloc::Global;
+use std::process::Abort;
 use std::test::Fail;
 use taut_plan::plan;
 use vod_base::{NoMemory, push_number};
@@ -12,98 +13,113 @@ use wire_curve::{Timing, film_curves};
 /// The most lines of a script, sizes of a trace and segments of a certificate.
 const MOST: u64 = 1_000_000;
 
-/// A text, so many times after itself, between two others.
-fn repeated(
-    alloc: Global,
-    front: &str,
-    text: &str,
-    times: u64,
-    end: &str,
-) -> Result<Vec<u8>, NoMemory> {
+/// A kind of text that is read.
+#[derive(Clone, Copy)]
+enum Kind {
+    Script,
+    Trace,
+    Cert,
+}
+
+/// A text: its kind, a part of it, how often this stands there, and what stands after it.
+type Text = (Kind, &'static str, u64, &'static str);
+
+/// Texts, each with its size, or with the first line or byte that is refused.
+const TEXTS: [(Text, Result<u64, u64>); 12] = [
+    ((Kind::Script, "\n", MOST, ""), Ok(0)),
+    ((Kind::Script, "\n", MOST - 1, "slot 7"), Ok(1)),
+    ((Kind::Script, "\n", MOST, "\r\n"), Err(MOST + 1)),
+    ((Kind::Script, "\n", MOST, "slot 7"), Err(MOST + 1)),
+    ((Kind::Trace, "1 ", MOST, "\r\n"), Ok(MOST)),
+    ((Kind::Trace, "1 ", MOST, "1"), Err(2 * MOST)),
+    ((Kind::Trace, "4294967296\n", 256, "0"), Ok(257)),
+    ((Kind::Trace, "4294967296\n", 256, "1"), Err(2816)),
+    ((Kind::Trace, "1 ", 1, "4294967297"), Err(2)),
+    ((Kind::Cert, "segment 1 2\n", MOST, "end\n"), Ok(MOST)),
+    (
+        (Kind::Cert, "segment 1 2\n", MOST, "segment 0 0\nend\n"),
+        Err(MOST + 4),
+    ),
+    ((Kind::Cert, "segment 1 2\n", MOST - 1, "end\n"), Err(2)),
+];
+
+/// What a certificate of a million slots of two bytes begins with.
+const CERT: &str = "smooth 1\nslots 1000000\nbytes 2000000\n";
+
+/// The bytes of a text.
+fn bytes_of(alloc: Global, text: Text) -> Result<Vec<u8>, NoMemory> {
+    let (kind, part, times, end) = text;
+    let front = match kind {
+        Kind::Cert => CERT,
+        _ => "",
+    };
     let mut bytes = Vec::from_slice(alloc, front.as_bytes())?;
     for _ in 0..times {
-        bytes.extend_from_slice(text.as_bytes())?;
+        bytes.extend_from_slice(part.as_bytes())?;
     }
     bytes.extend_from_slice(end.as_bytes())?;
     Ok(bytes)
 }
 
-#[test]
-fn scripts_have_a_million_lines(rt: HostRuntime) -> Result<(), Fail> {
-    for (times, end, lines) in [
-        (MOST, "", Some(0)),
-        (MOST - 1, "slot 7", Some(1)),
-        (MOST, "\r\n", None),
-        (MOST, "slot 7", None),
-    ] {
-        let text = repeated(rt.alloc(), "", "\n", times, end)?;
-        match read_script(rt.alloc(), &text) {
-            Ok(script) => assert_eq!(rt; Some(script.lines.len()), lines, "{times} {end:?}"),
-            Err(ScriptRefused::BadScript { line }) => {
-                assert_eq!(rt; (line, lines), (MOST + 1, None), "{times} {end:?}");
-            }
-            Err(ScriptRefused::NoMemory) => return Err(NoMemory.into()),
-        }
+/// The size of a text: the lines of a script, the sizes of a trace, or the slots of a certificate
+/// of two bytes a slot; or else the first line or byte that is refused.
+fn size_of(alloc: Global, kind: Kind, text: &[u8]) -> Result<Result<u64, u64>, NoMemory> {
+    match kind {
+        Kind::Script => match read_script(alloc, text) {
+            Ok(script) => Ok(Ok(script.lines.len() as u64)),
+            Err(ScriptRefused::BadScript { line }) => Ok(Err(line)),
+            Err(ScriptRefused::NoMemory) => Err(NoMemory),
+        },
+        Kind::Trace => match read_trace(alloc, text) {
+            Ok(sizes) => Ok(Ok(sizes.len() as u64)),
+            Err(TraceRefused::BadTrace(at)) => Ok(Err(at)),
+            Err(TraceRefused::NoMemory) => Err(NoMemory),
+        },
+        Kind::Cert => match read_cert(alloc, text) {
+            Ok(cert) if cert.bytes == 2 * MOST => Ok(Ok(cert.slots)),
+            Ok(_) => Ok(Ok(0)),
+            Err(CertRead::BadCert { line }) => Ok(Err(line)),
+            Err(CertRead::NoMemory) => Err(NoMemory),
+        },
+    }
+}
+
+/// Reads each of the texts.
+fn read_all<R: Abort>(rt: &R, alloc: Global) -> Result<(), NoMemory> {
+    for (number, (text, want)) in TEXTS.iter().enumerate() {
+        let bytes = bytes_of(alloc, *text)?;
+        let size = size_of(alloc, text.0, &bytes)?;
+        assert!(rt; size == *want, "text {number}");
     }
     Ok(())
 }
 
-#[test]
-fn traces_have_a_million_sizes_and_a_tebibyte(rt: HostRuntime) -> Result<(), Fail> {
-    for (text, times, end, want) in [
-        ("1 ", MOST, "\r\n", Ok(MOST as usize)),
-        ("1 ", MOST, "1", Err(2 * MOST)),
-        ("4294967296\n", 256, "0", Ok(257)),
-        ("4294967296\n", 256, "1", Err(2816)),
-        ("1 ", 1, "4294967297", Err(2)),
-    ] {
-        let trace = repeated(rt.alloc(), "", text, times, end)?;
-        match read_trace(rt.alloc(), &trace) {
-            Ok(sizes) => assert_eq!(rt; Ok(sizes.len()), want, "{text:?} {times} {end:?}"),
-            Err(TraceRefused::BadTrace(at)) => {
-                assert_eq!(rt; Err(at), want, "{text:?} {times} {end:?}");
-            }
-            Err(TraceRefused::NoMemory) => return Err(NoMemory.into()),
-        }
-    }
-    Ok(())
-}
+/// The largest size of a picture.
+const LARGEST: u64 = 100_000;
 
-#[test]
-fn certificates_have_a_million_segments(rt: HostRuntime) -> Result<(), Fail> {
-    let front = "smooth 1\nslots 1000000\nbytes 2000000\n";
-    for (times, end, bad_line) in [
-        (MOST, "end\n", None),
-        (MOST, "segment 0 0\nend\n", Some(MOST + 4)),
-        (MOST - 1, "end\n", Some(2)),
-    ] {
-        let text = repeated(rt.alloc(), front, "segment 1 2\n", times, end)?;
-        match read_cert(rt.alloc(), &text) {
-            Ok(cert) => {
-                assert_eq!(rt; (cert.slots, cert.bytes, bad_line), (MOST, 2 * MOST, None));
-            }
-            Err(CertRead::BadCert { line }) => {
-                assert_eq!(rt; Some(line), bad_line, "{times} {end:?}");
-            }
-            Err(CertRead::NoMemory) => return Err(NoMemory.into()),
-        }
-    }
-    Ok(())
-}
-
-/// Sizes that fall by one from picture to picture have a segment each.
-#[test]
-fn falling_sizes_have_this_certificate(rt: HostRuntime) -> Result<(), Fail> {
-    let alloc = rt.alloc();
-    let mut want = Vec::from_slice(alloc, b"smooth 1\nslots 100000\nbytes 5000050000\n")?;
+/// Sizes that fall by one from picture to picture.
+fn falling_sizes(alloc: Global) -> Result<Vec<u64>, NoMemory> {
     let mut sizes = Vec::new(alloc);
-    for fallen in 0..100_000u64 {
-        sizes.push(100_000 - fallen)?;
-        want.extend_from_slice(b"segment 1 ")?;
-        push_number(&mut want, 100_000 - fallen)?;
-        want.push(b'\n')?;
+    for fallen in 0..LARGEST {
+        sizes.push(LARGEST - fallen)?;
     }
-    want.extend_from_slice(b"end\n")?;
+    Ok(sizes)
+}
+
+/// The text of a certificate that has a segment of one slot for each of these sizes.
+fn segments_of(alloc: Global, sizes: &[u64]) -> Result<Vec<u8>, NoMemory> {
+    let mut text = Vec::from_slice(alloc, b"smooth 1\nslots 100000\nbytes 5000050000\n")?;
+    for size in sizes {
+        text.extend_from_slice(b"segment 1 ")?;
+        push_number(&mut text, *size)?;
+        text.push(b'\n')?;
+    }
+    text.extend_from_slice(b"end\n")?;
+    Ok(text)
+}
+
+/// The text of the certificate of a film of pictures of these sizes, one each slot.
+fn cert_of<R: Abort>(rt: &R, alloc: Global, sizes: &[u64]) -> Result<Vec<u8>, NoMemory> {
     let timing = Timing {
         picture_units: 14_400,
         slot_units: 14_400,
@@ -112,11 +128,30 @@ fn falling_sizes_have_this_certificate(rt: HostRuntime) -> Result<(), Fail> {
         played: 0,
         sent: 0,
     };
-    assert!(rt; timing.is_within_limits(&sizes));
-    let Ok(curves) = film_curves(alloc, &sizes, &timing) else {
-        return Err(NoMemory.into());
+    assert!(rt; timing.is_within_limits(sizes));
+    let Ok(curves) = film_curves(alloc, sizes, &timing) else {
+        return Err(NoMemory);
     };
-    let text = write_cert(alloc, &plan(alloc, &curves)?)?;
+    write_cert(alloc, &plan(alloc, &curves)?)
+}
+
+/// Sizes that fall by one from picture to picture have a segment each.
+fn plan_falling_sizes<R: Abort>(rt: &R, alloc: Global) -> Result<(), NoMemory> {
+    let sizes = falling_sizes(alloc)?;
+    let text = cert_of(rt, alloc, &sizes)?;
+    let want = segments_of(alloc, &sizes)?;
     assert!(rt; text == want);
+    Ok(())
+}
+
+#[test]
+fn reads_the_largest_texts(rt: HostRuntime) -> Result<(), Fail> {
+    read_all(&rt, rt.alloc())?;
+    Ok(())
+}
+
+#[test]
+fn falling_sizes_have_this_certificate(rt: HostRuntime) -> Result<(), Fail> {
+    plan_falling_sizes(&rt, rt.alloc())?;
     Ok(())
 }

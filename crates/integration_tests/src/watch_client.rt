@@ -5,13 +5,11 @@ ghost use Rattle.std.specs.Prelude.{◌≤◌};
 ghost use Rattle.film_streams.specs.SettingRanges.{AreFilms};
 
 use crate::films::film_of;
-use crate::session_scripts::{SETTINGS, WORDS};
-use admission::Book;
-use conn::serve_connection;
+use crate::link_scripts::{Failing, Visit, station_of};
+use crate::script_text::expect;
+use crate::session_scripts::SETTINGS;
 use film_frames::Stored;
-use rtsp_client::{WatchEnd, Wish, watch};
-use slot_calendar::Profile;
-use station::Station;
+use rtsp_client::{WatchEnd, Watched, Wish, watch};
 use std::alloc::Global;
 use std::process::Abort;
 use std::sync::Wait;
@@ -28,46 +26,60 @@ const PLAY: &str =
 const TEARDOWN: &str = "TEARDOWN rtsp://127.0.0.1:8554/film.mpg RTSP/1.0\r\nCSeq: 3\r\n\
     Session: 0123456789abcdef\r\n\r\n";
 
-/// What a connection with these events sends.
+/// What the server sends after these requests, with so many slots.
 fn sent_after<R: Wait + Abort>(
     rt: &R,
     alloc: Global,
     films: &[Stored],
-    events: Vec<Event>,
+    requests: &[&str],
+    slots: u64,
 ) -> Result<Vec<u8>, NoMemory>
     requires { AreFilms films.now }
 {
-    let (station, mut seat) = Station::new(alloc, Profile::flat(alloc, 1 << 20)?, 16)?;
-    let mut link = MemoryLink::new(alloc, events, 1 << 20, Vec::new(alloc), Vec::new(alloc))?;
-    let _report = serve_connection(
-        rt, alloc, &station, &mut seat, films, &SETTINGS, WORDS, 0, &mut link,
-    );
-    let _book: Book = station.close(seat);
-    Ok(Vec::from_slice(alloc, link.sent())?)
+    let (station, mut seat) = station_of(rt, alloc, 1 << 20, 16)?;
+    let mut visit = Visit::new(alloc);
+    push_server_events(alloc, &mut visit.events, requests, slots)?;
+    let none = Failing {
+        sends: &[],
+        nexts: &[],
+    };
+    visit.serve(rt, alloc, &station, &mut seat, films, none)?;
+    // Taken apart here, so that no book is dropped.
+    let _entries = station.close(seat).into_entries();
+    let Visit { sent, .. } = visit;
+    Ok(sent)
 }
 
-/// What the server receives: requests, slots from 1 on between the second and the third.
-fn server_events(alloc: Global, requests: &[&str], slots: u64) -> Result<Vec<Event>, NoMemory> {
-    let mut events = Vec::new(alloc);
+/// Adds what the server receives: requests, and slots from 1 on after the second.
+fn push_server_events(
+    alloc: Global,
+    events: &mut Vec<Event>,
+    requests: &[&str],
+    slots: u64,
+) -> Result<(), NoMemory> {
     for (number, request) in requests.iter().enumerate() {
-        if number == 2 {
+        events.push(Event::Bytes(Vec::from_slice(alloc, request.as_bytes())?))?;
+        if number == 1 {
             for slot in 1..=slots {
                 events.push(Event::Slot(slot))?;
             }
         }
-        events.push(Event::Bytes(Vec::from_slice(alloc, request.as_bytes())?))?;
     }
-    if requests.len() == 2 {
-        for slot in 1..=slots {
-            events.push(Event::Slot(slot))?;
-        }
-    }
-    Ok(events)
+    Ok(())
 }
 
-/// The bytes after a prefix.
-fn after<'a>(bytes: &'a [u8], front: usize) -> &'a [u8] {
-    bytes.get(front..).unwrap_or(&[])
+/// Adds the bytes after a prefix as an event, if there are any.
+fn push_after(
+    alloc: Global,
+    events: &mut Vec<Event>,
+    sent: &[u8],
+    front: usize,
+) -> Result<(), NoMemory> {
+    let after = sent.get(front..).unwrap_or(&[]);
+    if !after.is_empty() {
+        events.push(Event::Bytes(Vec::from_slice(alloc, after)?))?;
+    }
+    Ok(())
 }
 
 /// What the client receives: the server's replies to the first two requests; in each of so many
@@ -86,22 +98,15 @@ fn client_events<R: Wait + Abort>(
     let mut came = 0;
     events.push(Event::Slot(BEFORE))?;
     for slot in 0..=slots {
-        let sent = sent_after(
-            rt,
-            alloc,
-            films,
-            server_events(alloc, &requests[..2], slot)?,
-        )?;
-        if sent.len() > came {
-            events.push(Event::Bytes(Vec::from_slice(alloc, after(&sent, came))?))?;
-        }
+        let sent = sent_after(rt, alloc, films, &requests[..2], slot)?;
+        push_after(alloc, &mut events, &sent, came)?;
         came = sent.len();
         if 0 < slot {
             events.push(Event::Slot(BEFORE + slot))?;
         }
     }
-    let sent = sent_after(rt, alloc, films, server_events(alloc, &requests, slots)?)?;
-    events.push(Event::Bytes(Vec::from_slice(alloc, after(&sent, came))?))?;
+    let sent = sent_after(rt, alloc, films, &requests, slots)?;
+    push_after(alloc, &mut events, &sent, came)?;
     Ok(events)
 }
 
@@ -126,21 +131,51 @@ fn wish_for(alloc: Global, buffer: u64, delay: u64) -> Result<Wish, NoMemory> {
     })
 }
 
-/// Watches a film over a link that carries these events: what was asked, what was handed on, and
-/// how it ended.
+/// A film that was watched: the link that it came over, what was handed on, and what the meter of
+/// the buffer read.
+#[derive(Drop)]
+struct Watching {
+    link: MemoryLink,
+    out: MemorySink,
+    watched: Watched,
+}
+
+/// Watches the film over a link that carries these events.
 fn watch_over<R: Abort>(
     rt: &R,
     alloc: Global,
     wish: &Wish,
     events: Vec<Event>,
-) -> Result<(MemoryLink, MemorySink, WatchEnd), NoMemory> {
+) -> Result<Watching, NoMemory> {
     assert!(rt; good_name(wish.name.as_bytes()) && 1 <= wish.port);
     assert!(rt; 1 <= wish.buffer && wish.buffer <= 1 << 42 && wish.startup <= 10_000);
     assert!(rt; 360 <= wish.slot_units && wish.slot_units <= 360_000);
     let mut link = MemoryLink::new(alloc, events, 1 << 16, Vec::new(alloc), Vec::new(alloc))?;
     let mut out = MemorySink::new(alloc, 1 << 20, Vec::new(alloc))?;
-    let end = watch(alloc, wish, &mut link, &mut out);
-    Ok((link, out, end))
+    match watch(alloc, wish, &mut link, &mut out) {
+        WatchEnd::Done(watched) => Ok(Watching { link, out, watched }),
+        _ => Err(NoMemory),
+    }
+}
+
+/// Whether bytes are these requests, one after another.
+fn are_requests(sent: &[u8], requests: [&str; 3]) -> bool {
+    let mut rest = sent;
+    for request in requests {
+        match rest.strip_prefix(request.as_bytes()) {
+            Some(after) => rest = after,
+            None => return false,
+        }
+    }
+    rest.is_empty()
+}
+
+/// Whether the meter of a buffer read a film of so many pictures.
+fn has_read(watched: Watched, pictures: u32, buffer: u64) -> bool {
+    watched.over == 0
+        && watched.under == 0
+        && watched.units == u64::from(pictures)
+        && watched.most <= buffer
 }
 
 /// Watches the film of so many pictures over the link that carries it.
@@ -158,39 +193,41 @@ fn watch_film<R: Wait + Abort>(
     let slots = u64::from(pictures) + delay + 1;
     let events = client_events(rt, alloc, &films, requests, slots)?;
     let wish = wish_for(alloc, buffer, delay)?;
-    let (link, out, end) = watch_over(rt, alloc, &wish, events)?;
-    let WatchEnd::Done(watched) = end else {
-        return Err(NoMemory);
-    };
-    let mut asked = Vec::new(alloc);
-    for request in requests {
-        asked.extend_from_slice(request.as_bytes())?;
-    }
-    assert!(rt; link.sent() == asked.as_slice(), "other requests");
-    assert!(rt; films.len() == 1);
-    assert!(rt;
-        out.bytes() == films[0].film.bytes.as_slice(),
-        "another film"
+    let watching = watch_over(rt, alloc, &wish, events)?;
+    expect(
+        rt,
+        are_requests(watching.link.sent(), requests),
+        "other requests",
     );
-    assert_eq!(rt; (watched.over, watched.under), (0, 0), "{buffer} {delay}");
-    assert!(rt;
-        watched.units == u64::from(pictures) && watched.most <= buffer,
-        "{} {buffer}",
-        watched.most
+    expect(
+        rt,
+        has_read(watching.watched, pictures, buffer),
+        "the meter read something else",
+    );
+    assert!(rt; films.len() == 1);
+    expect(
+        rt,
+        watching.out.bytes() == films[0].film.bytes.as_slice(),
+        "another film",
     );
     Ok(())
 }
 
-#[test]
-fn watches_a_film(rt: HostRuntime) -> Result<(), Fail> {
-    let alloc = rt.alloc();
+/// Watches films, each of so many pictures over a buffer and with a start delay.
+fn watch_films<R: Wait + Abort>(rt: &R, alloc: Global) -> Result<(), NoMemory> {
     for (pictures, buffer, delay) in [
         (1, 16_384, 0),
         (10, 16_384, 0),
         (10, 9000, 4),
         (15, 65_536, 2),
     ] {
-        watch_film(&rt, alloc, pictures, buffer, delay)?;
+        watch_film(rt, alloc, pictures, buffer, delay)?;
     }
+    Ok(())
+}
+
+#[test]
+fn watches_a_film(rt: HostRuntime) -> Result<(), Fail> {
+    watch_films(&rt, rt.alloc())?;
     Ok(())
 }
