@@ -25,7 +25,8 @@ use Rattle.conn.specs.declared.reports.PartReport.{PartReport}
 use Rattle.conn.proofs.Journals.{terms_same}
 use Rattle.conn.proofs.Visits.{agrees_longer, one_agrees}
 use Rattle.cli_args.specs.Invocations.{ServeArgs}
-use Rattle.vodserve.specs.Laws.{IsReceiptIn, IsReportIn, IsServedPart, EveryConnectionIsCorrect, ReportsMatchJournal}
+use Rattle.vodserve.specs.Laws.{IsConnectionCorrect, IsReceiptIn, IsReportIn, IsServedPart}
+use Rattle.vodserve.specs.Laws.{EveryConnectionIsCorrect, ReportsMatchJournal}
 use Rattle.vodserve.specs.Run.{HasServed as HasServedFilms}
 use Rattle.vodserve.specs.IoStates.{World}
 use Rattle.vodserve.specs.declared.run_results.Ended.{Ended}
@@ -231,6 +232,30 @@ one_agrees_in {films} {settings} {returned} {report} {left} {journal} one terms_
     (subst (λ t. Agrees served t one.new.seen) (one.terms ∙ terms_is) (one_agrees served one.served told tells found))
     (prefix_trans one.new.seen left.seen journal one.on.seen seen) legal
 
+-- each connection that came back from a worker's part is correct, as the report at its place says
+connection_correct : {work : ServerRun} {gate gate' : WorkerGate} {worker : ℕ} {report : PartReport}
+    {back : List ReturnedConn} → IsLegal work.serving.capacity work.journal →
+    (worked : IsWorkerResult work gate gate' worker report) →
+    AreServed work.films (settings_of work.serving) worked.seat back report.reports.items worked.left →
+    length back ≡ length report.reports.items → (k : ℕ) (here : InsideBack back k) →
+    IsConnectionCorrect work worker k (slice_index_or back k here.none)
+    (slice_index_or report.reports.items k here.no_report)
+connection_correct {work} {report} {back} legal worked served long k here =
+    let reports = report.reports.items in
+    let one : IsOne work.films (settings_of work.serving) (slice_index_or back k here.none)
+    (slice_index_or reports k here.no_report) worked.seat worked.left = one_at back reports served k here in
+    record {
+      worker_is = worked.served.reports.worker_is k here.no_report (omega (arith, here.inside, long));
+      words_are = worked.served.reports.words_are k here.no_report (omega (arith, here.inside, long));
+      old = one.old;
+      new = one.new;
+      served = one.served;
+      terms = one.terms ∙ worked.terms;
+      entries = subst (λ (m : List PlacedEntry). IsPrefix one.new.mine m) worked.made one.on.mine;
+      seen = prefix_trans one.new.seen worked.left.seen work.journal one.on.seen worked.seen;
+      agrees = one_agrees_in one worked.terms worked.seen legal;
+    }
+
 part_served : {work : ServerRun} {gate gate' : WorkerGate} {content : Content} {worker : ℕ} {report : PartReport} →
     IsLegal work.serving.capacity work.journal → IsWorkerResult work gate gate' worker report → gate'.told ≡ Some
     content →
@@ -252,21 +277,8 @@ part_served {work} {content} {worker} {report} legal worked told =
         record {
           count = sym long;
           each = λ k none no_report inside.
-              let one : IsOne work.films settings (slice_index_or back.0.own.back k none)
-              (slice_index_or reports k no_report) worked.seat worked.left =
-              one_at back.0.own.back reports served k
-              (record { none = none; no_report = no_report; inside = inside }) in
-              record {
-                worker_is = worked.served.reports.worker_is k no_report (omega (arith, inside, long));
-                words_are = worked.served.reports.words_are k no_report (omega (arith, inside, long));
-                old = one.old;
-                new = one.new;
-                served = one.served;
-                terms = one.terms ∙ worked.terms;
-                entries = subst (λ (m : List PlacedEntry). IsPrefix one.new.mine m) worked.made one.on.mine;
-                seen = prefix_trans one.new.seen worked.left.seen work.journal one.on.seen worked.seen;
-                agrees = one_agrees_in one worked.terms worked.seen legal;
-              };
+              connection_correct {back = back.0.own.back} legal worked served long k
+              (record { none = none; no_report = no_report; inside = inside });
           entries = worked.served.entries.receipts_are ∙ ap (map receipt_for) (made_all worked);
           halts = ap (open_play_from Closed) (sym (made_all worked)) ∙ worked.served.entries.open_is;
         },

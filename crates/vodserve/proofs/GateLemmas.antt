@@ -8,10 +8,11 @@ use Rattle.vod_base.specs.IoState.{HasRisen}
 use Rattle.vod_base.specs.Gates.{Content, Failed, Part, IsOpen, new_part, after_empty_take}
 use Rattle.vod_base.specs.Gates.{after_open, after_rejoin, split_off, told_rejoined}
 use Rattle.vod_base.specs.declared.gates.Opening.{Opening}
-use Rattle.station.specs.Seats.{StationState, SeatState}
+use Rattle.station.specs.Seats.{StationState, SeatState, new_seat}
 use Rattle.conn.specs.Parts.{IsServed, IsUntouched}
+use Rattle.conn.specs.declared.reports.PartEnd.TheVariants.{AllTaken}
 use Rattle.vodserve.specs.WorkerResults.{HasParts, HasTooFewParts, IsIdle, IsOpenAs, IsOpenedOnce}
-use Rattle.vodserve.specs.Workers.{ArePartsBack, AreJoined, ArePartsOut, IsFresh, IsNotOpened}
+use Rattle.vodserve.specs.Workers.{ArePartsBack, AreJoined, ArePartsOut, IsFresh, IsNotOpened, IsWorker, split_seat}
 use Rattle.vodserve.specs.declared.workers.Worker.{Worker}
 use Rattle.vodserve.proofs.WorkerLemmas.{out_more}
 
@@ -56,17 +57,49 @@ pub back_still_open : (opening : Opening) (part gate gate' : Option Content) →
 back_still_open opening part gate gate' is rejoins =
     subst (IsOpenAs opening) (sym rejoins) (open_back opening part gate is)
 
-pub new_number : (count : ℕ) (gate part : Option Content) → IfSome gate (ArePartsOut 0 count)
+new_number : (count : ℕ) (gate part : Option Content) → IfSome gate (ArePartsOut 0 count)
     → part ≡ option_map new_part gate → IfSome part (λ content. content.own.number ≡ count)
 new_number count None part are is =
     subst (λ (c : Option Content). IfSome c (λ content. content.own.number ≡ count)) (sym is) tt
 new_number count (Some c) part are is =
     subst (λ (c' : Option Content). IfSome c' (λ content. content.own.number ≡ count)) (sym is) are.counted
 
-pub new_untouched : (gate part : Option Content) → part ≡ option_map new_part gate → IfSome part IsUntouched
+new_untouched : (gate part : Option Content) → part ≡ option_map new_part gate → IfSome part IsUntouched
 new_untouched None part is = subst (λ (c : Option Content). IfSome c IsUntouched) (sym is) tt
 new_untouched (Some c) part is =
     subst (λ (c' : Option Content). IfSome c' IsUntouched) (sym is) (record { given = refl; back = refl })
+
+-- a worker that was just made: its seat was split from the first seat and its part from the gate,
+-- each as the one of the worker's number
+pub record IsNew {G : Type 0} (told : G → Option Content) (faults : G → ℕ) (hall : StationState)
+    (gate : Option Content) (worker : Worker G) : Type 0 where
+  pub seat : worker.seat ≡ new_seat (split_seat hall worker.number)
+  pub out : IfSome gate (ArePartsOut 0 worker.number)
+  pub part : told worker.part ≡ option_map new_part gate
+  pub count : faults worker.part ≡ 0
+  pub end : worker.report.end ≡ AllTaken
+
+-- it has the seat after its number and the part of its number
+pub new_is_worker : {G : Type 0} {told : G → Option Content} {faults : G → ℕ} {hall : StationState}
+    {gate : Option Content} (worker : Worker G) → IsNew told faults hall gate worker → IsWorker told faults hall worker
+new_is_worker {told} {gate} worker new = record {
+  id = ap (λ (s : SeatState). s.id) new.seat;
+  steps = ap (λ (s : SeatState). s.steps) new.seat;
+  limit = ap (λ (s : SeatState). s.limit) new.seat;
+  seat = ap (λ (s : SeatState). s.number) new.seat;
+  joined = ap (λ (s : SeatState). s.joined) new.seat;
+  part = new_number worker.number gate (told worker.part) new.out new.part;
+  fault = λ fault. let taken : worker.report.end ≡ AllTaken = new.end in cc;
+}
+
+-- and it did nothing yet
+pub new_is_fresh : {G : Type 0} {told : G → Option Content} {faults : G → ℕ} {hall : StationState}
+    {gate : Option Content} (worker : Worker G) → IsNew told faults hall gate worker → IsFresh told faults worker
+new_is_fresh {told} {gate} worker new = record {
+  mine = ap (λ (s : SeatState). s.mine) new.seat;
+  part = new_untouched gate (told worker.part) new.part;
+  count = new.count;
+}
 
 -- a part that was served keeps its number
 pub served_number : (old new : Option Content) (count number : ℕ) → IsServed old new count →

@@ -1,15 +1,21 @@
-use Rattle.std.proofs.Common.{◌≡◌, ◌∙◌, ℕ, true, List, Vec, Global, inl, inr, refl, sym, ap, subst, length, arith}
+use Rattle.std.proofs.Common.{◌≡◌, ◌≤◌, ◌∙◌, ℕ, true, List, Vec, Global, inl, inr, refl, sym, ap, subst, length, arith}
 use Rattle.day_run.specs.Days.{IsDay, link_of}
 use Rattle.day_script.specs.Scripts.{AreLines}
+use Rattle.day_script.specs.declared.scripts.Script.{Script}
 use Rattle.admission.specs.Histories.{IsLegal}
 use Rattle.admission.specs.declared.entries.Entry.{Entry}
 use Rattle.std.specs.List.{Contains}
+use Rattle.vod_base.specs.IoState.{File}
 use Rattle.vod_base.specs.Names.{good_name}
+use Rattle.cli_errors.specs.ReadErrors.{IsReadError}
+use Rattle.cli_errors.specs.declared.errors.CliError.{CliError}
 use Rattle.cli_errors.proofs.ReadErrorLemmas.{good_input, trouble_map}
 use Rattle.inputs.specs.FileReads.{IsThatName}
 use Rattle.inputs.proofs.ScanLemmas.{read_trouble_map}
-use Rattle.offline_commands.specs.Days.{IsDayInput, IsDayRefused, IsFirstNamedRefused, IsScriptRefused, names_in}
+use Rattle.offline_commands.specs.Days.{IsDayInput, IsDayRefused, IsFirstNamedRefused, IsScriptOf, IsScriptRefused}
+use Rattle.offline_commands.specs.Days.{names_in}
 use Rattle.offline_commands.proofs.DayLemmas.{named_good, script_held}
+use Rattle.vodserve.specs.IoStates.{IoState, io_state_of}
 use Rattle.vodserve.proofs.days.day.Goals as goal
 
 pub end_with-requires : goal.end_with-requires
@@ -51,45 +57,56 @@ returns-in-Err-clause-runs g c =
       ),
     )
 
+-- a script that was read from a library
+record HasReadScript (store store' : IoState (List File)) (name : List ℕ) (script : Script) : Type 0 where
+  is : IsScriptOf store.told name script
+  kept : store'.told ≡ store.told
+  count : store.faults ≤ store'.faults
+
+-- what prevents the films and traces from being loaded that a script names, prevents its day
+day_error : {store store' : IoState (List File)} {name : List ℕ} {script : Script} (after : ℕ) (error : CliError) →
+    HasReadScript store store' name script →
+    IsReadError (Contains (names_in script.named.items)) (IsFirstNamedRefused script.named.items) store'.told
+    store'.faults after error →
+    IsReadError (IsDayInput store.told name) (IsDayRefused name) store.told store.faults after error
+day_error {store} {store'} {name} {script} after error read =
+    trouble_map (record {
+      Reads = Contains (names_in script.named.items);
+      Refuses = IsFirstNamedRefused script.named.items;
+      told = store'.told;
+      before = store'.faults;
+      after = after;
+    })
+    (record {
+      Reads = IsDayInput store.told name;
+      Refuses = IsDayRefused name;
+      told = store.told;
+      before = store.faults;
+      after = after;
+    })
+    error
+    (record {
+      reads = λ name inside. inr (record { read = script; is = read.is; names = inside });
+      refuses = λ held name fault told is refused. inr (script, (script_held held read.is told, refused));
+      keeps = λ held told. read.kept ∙ told;
+      low = read.count;
+      high = omega arith;
+    })
+
 pub returns-in-Err-load_sources-clause-runs : goal.returns-in-Err-load_sources-clause-runs
 returns-in-Err-load_sources-clause-runs g c =
+    let read : HasReadScript (io_state_of g.L.Library.faults g.L.Library.files c.args.library.now)
+    (io_state_of g.L.Library.faults g.L.Library.files c.load_script.new.library) c.args.run.now.script.now
+    c.in-Ok.script = record {
+      is = (c.in-Ok.ensures {u = tt}).read;
+      kept = c.load_script.ensures.library.kept;
+      count = c.load_script.ensures.library.count;
+    } in
     inl (
       c.in-Err-load_sources.error,
       (
-        trouble_map (record {
-          Reads = Contains (names_in c.deref.result.now);
-          Refuses = IsFirstNamedRefused c.deref.result.now;
-          told = g.L.Library.files c.load_script.new.library;
-          before = g.L.Library.faults c.load_script.new.library;
-          after = g.L.Library.faults c.load_sources.new.library;
-        })
-            (record {
-              Reads = IsDayInput (g.L.Library.files c.args.library.now) c.args.run.now.script.now;
-              Refuses = IsDayRefused c.args.run.now.script.now;
-              told = g.L.Library.files c.args.library.now;
-              before = g.L.Library.faults c.args.library.now;
-              after = g.L.Library.faults c.load_sources.new.library;
-            })
-            c.in-Err-load_sources.error
-            (record {
-              reads = λ name inside. inr (record {
-                read = c.in-Ok.script;
-                is = (c.in-Ok.ensures {u = tt}).read;
-                names = rw c.deref.ensures.value at inside;
-              });
-              refuses = λ held name fault told is refused. inr (
-                c.in-Ok.script,
-                (
-                  script_held held
-                      ((c.in-Ok.ensures {u = tt}).read) told,
-                  rw c.deref.ensures.value at refused,
-                ),
-              );
-              keeps = λ held told. c.load_script.ensures.library.kept ∙ told;
-              low = omega (arith, c.load_script.ensures.library.count);
-              high = omega arith;
-            })
-            ((c.in-Err-load_sources.ensures {u = tt}).error),
+        day_error _ c.in-Err-load_sources.error read
+            (rw c.deref.ensures.value at (c.in-Err-load_sources.ensures {u = tt}).error),
         refl,
         c.end_with-in-Err-load_sources.ensures.nothing,
         c.end_with-in-Err-load_sources.ensures.fails,
