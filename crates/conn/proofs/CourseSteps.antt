@@ -17,8 +17,7 @@ use Rattle.vod_base.specs.declared.links.Heard.TheVariants.{Bytes, Slot, End}
 use Rattle.station.specs.Seats.{SeatState}
 use Rattle.station.proofs.SameSeats.{seat_none, seat_on}
 use Rattle.conn.specs.declared.reports.ConnEnd.{ConnEnd}
-use Rattle.conn.specs.declared.reports.ConnEnd.TheVariants.{Ended, TornDown, LinkFault, TooMuchInput, HeadTooLong}
-use Rattle.conn.specs.declared.reports.ConnEnd.TheVariants.{BodyTooLong, TurnsSpent, NoMemory}
+use Rattle.conn.specs.declared.reports.ConnEnd.TheVariants.{LinkFault, TooMuchInput, TurnsSpent}
 use Rattle.session.specs.SlotSteps.{IsTold, can_reply, due_bytes, is_between, is_sending, is_taken, step_bytes}
 use Rattle.session.specs.SlotSteps.{stepped_in}
 use Rattle.session.specs.SessionStates.{SessionState}
@@ -39,6 +38,7 @@ use Rattle.conn.specs.Observations.{AreNoted, HasAsked, HasFailedSend, HasHandle
 use Rattle.conn.specs.Observations.{HasLostReply, HasTakenSlot}
 use Rattle.conn.specs.Observations.{HasRound, HasRun, HasTaken, HasProcessedInput, IsSent, Observed}
 use Rattle.conn.proofs.EventPremises.{RequestInFront}
+use Rattle.conn.proofs.JoinedLists.{joined-append}
 
 -- what the link exposes
 pub sent_none : (told : Option (List IoEvent)) → IsSent told [] told
@@ -52,10 +52,7 @@ sent_on {c} a xs ys first second =
 
 -- what the seat made
 pub entries_in-append : (xs ys : List Outcome) → entries_in (xs ++ ys) ≡ entries_in xs ++ entries_in ys
-entries_in-append [] ys = refl
-entries_in-append (x ∷ xs) ys =
-    ap (λ es. entry_in x ++ es) (entries_in-append xs ys)
-    ∙ sym (append_assoc (entry_in x) (entries_in xs) (entries_in ys))
+entries_in-append = joined-append entry_in entries_in refl (λ x xs. refl)
 
 pub noted_none : (seat : SeatState) → AreNoted seat seat []
 noted_none seat = record { mine = sym (append-nil seat.mine); seat = seat_none seat; agree = omega arith }
@@ -88,17 +85,11 @@ takes_on a later [] first = subst (λ s. TakesAll s later.takings later.new) fir
 takes_on a later (x ∷ xs) first = (first.0, (first.1.0, takes_on first.0 later xs first.1.1))
 
 pub takings_bytes-append : (xs ys : List ElementStep) → takings_bytes (xs ++ ys) ≡ takings_bytes xs ++ takings_bytes ys
-takings_bytes-append [] ys = refl
-takings_bytes-append (x ∷ xs) ys =
-    ap (λ bs. taking_bytes x ++ bs) (takings_bytes-append xs ys)
-    ∙ sym (append_assoc (taking_bytes x) (takings_bytes xs) (takings_bytes ys))
+takings_bytes-append = joined-append taking_bytes takings_bytes refl (λ x xs. refl)
 
 takings_outcomes-append : (xs ys : List ElementStep)
     → takings_outcomes (xs ++ ys) ≡ takings_outcomes xs ++ takings_outcomes ys
-takings_outcomes-append [] ys = refl
-takings_outcomes-append (x ∷ xs) ys =
-    ap (λ os. taking_outcomes x ++ os) (takings_outcomes-append xs ys)
-    ∙ sym (append_assoc (taking_outcomes x) (takings_outcomes xs) (takings_outcomes ys))
+takings_outcomes-append = joined-append taking_outcomes takings_outcomes refl (λ x xs. refl)
 
 pub taken_none : (a : Observed) → HasTaken a a
 taken_none a = record { takings = []; takes = refl; sent = sent_none a.told; noted = noted_none a.seat }
@@ -146,53 +137,6 @@ up_on (Some end) a b c first up =
       | inr stopped ↦ inr (taken_on a b c first stopped.0, stopped.1)
     ]
 
--- an event, and what was processed after it
-event_round : {event : IoEvent} {halt : Outcome} {a b c : Observed} (due : List SentPart) →
-    Comes a.stage event due halt b.stage → IsSent a.told (parts_bytes due) b.told →
-    AreNoted a.seat b.seat (halt ∷ []) → HasTaken b c → IsIdle c.stage → HasRound event a c
-event_round {event} {halt} {a} {b} {c} due comes sent noted taken idle = record {
-  round = record { event = event; due = due; halt = halt; takings = taken.takings };
-  event_is = refl;
-  runs = record { opened = b.stage; comes = comes; takes = taken.takes };
-  idle = idle;
-  sent = sent_on a.told (parts_bytes due) (takings_bytes taken.takings) sent taken.sent;
-  noted = noted_on noted taken.noted;
-}
-
-event_stop : {event : IoEvent} {halt : Outcome} {end : ConnEnd} {count : ℕ} {a b c : Observed} (due : List SentPart) →
-    Comes a.stage event due halt b.stage →
-    IsSent a.told (parts_bytes due) b.told → AreNoted a.seat b.seat (halt ∷ []) → HasTaken b c
-    → IsStopped end c.stage → HasEnded (event ∷ []) end count a c
-event_stop {event} {halt} {end} {a} {b} {c} due comes sent noted taken stopped = record {
-  ending = AtElement (record { event = event; due = due; halt = halt; takings = taken.takings });
-  event_is = refl;
-  ends = (record { opened = b.stage; comes = comes; takes = taken.takes }, stopped);
-  sent = sent_on a.told (parts_bytes due) (takings_bytes taken.takings) sent taken.sent;
-  noted = noted_on noted taken.noted;
-}
-
-event_lost : {event : IoEvent} {halt : Outcome} {end : ConnEnd} {count : ℕ} {a b c : Observed} (due : List SentPart) →
-    Comes a.stage event due halt b.stage →
-    IsSent a.told (parts_bytes due) b.told → AreNoted a.seat b.seat (halt ∷ []) → end ≡ LinkFault → HasLostReply b c
-    → HasEnded (event ∷ []) end count a c
-event_lost {event} {halt} {end} {a} {b} {c} due comes sent noted is lost =
-    let mid = lost.mid in
-    let round : Round = record { event = event; due = due; halt = halt; takings = lost.taken.takings } in record {
-      ending = InReply round lost.message lost.outcome lost.front;
-      event_is = refl;
-      ends = (
-        is,
-        record {
-          mid = mid.stage;
-          runs = record { opened = b.stage; comes = comes; takes = lost.taken.takes };
-          fails = lost.fails;
-        },
-      );
-      sent = sent_on a.told (round_bytes round) lost.front
-          (sent_on a.told (parts_bytes due) (takings_bytes lost.taken.takings) sent lost.taken.sent) lost.sent;
-      noted = noted_on (noted_on noted lost.taken.noted) lost.noted;
-    }
-
 -- an event came: what was sent in its slot, and what was then answered is noted
 pub record EventSeen (event : IoEvent) (a b : Observed) : Type 0 where
   pub due : List SentPart
@@ -201,17 +145,58 @@ pub record EventSeen (event : IoEvent) (a b : Observed) : Type 0 where
   pub sent : IsSent a.told (parts_bytes due) b.told
   pub noted : AreNoted a.seat b.seat (halt ∷ [])
 
+-- with what was processed after it
+record RoundSeen (event : IoEvent) (a c : Observed) : Type 0 where
+  round : Round
+  event_is : round.event ≡ event
+  runs : Runs a.stage round c.stage
+  sent : IsSent a.told (round_bytes round) c.told
+  noted : AreNoted a.seat c.seat (round_outcomes round)
+
+round_seen : {event : IoEvent} {a b c : Observed} → EventSeen event a b → HasTaken b c → RoundSeen event a c
+round_seen {event} {a} {b} seen taken = record {
+  round = record { event = event; due = seen.due; halt = seen.halt; takings = taken.takings };
+  event_is = refl;
+  runs = record { opened = b.stage; comes = seen.comes; takes = taken.takes };
+  sent = sent_on a.told (parts_bytes seen.due) (takings_bytes taken.takings) seen.sent taken.sent;
+  noted = noted_on seen.noted taken.noted;
+}
+
 event_up : {event : IoEvent} {a b : Observed} → EventSeen event a b → (result : Option ConnEnd) (c : Observed) →
     HasProcessedInput result b c → HasHandledEvent result event a c
-event_up seen None c up = event_round seen.due seen.comes seen.sent seen.noted up.0 up.1
-event_up seen (Some end) c up =
+event_up seen None c up =
+    let its = round_seen seen up.0 in
+    record {
+      round = its.round;
+      event_is = its.event_is;
+      runs = its.runs;
+      idle = up.1;
+      sent = its.sent;
+      noted = its.noted;
+    }
+event_up {a = a} seen (Some end) c up =
     λ count.
     elim up [
-      | inl lost ↦ event_lost due comes sent noted lost.0 lost.1
-      | inr stopped ↦ event_stop due comes sent noted stopped.0 stopped.1
+      | inl lost ↦
+          let fails = lost.1 in
+          let its = round_seen seen fails.taken in
+          record {
+            ending = InReply its.round fails.message fails.outcome fails.front;
+            event_is = ap (λ e. e ∷ []) its.event_is;
+            ends = (lost.0, record { mid = fails.mid.stage; runs = its.runs; fails = fails.fails });
+            sent = sent_on a.told (round_bytes its.round) fails.front its.sent fails.sent;
+            noted = noted_on its.noted fails.noted;
+          }
+      | inr stopped ↦
+          let its = round_seen seen stopped.0 in
+          record {
+            ending = AtElement its.round;
+            event_is = ap (λ e. e ∷ []) its.event_is;
+            ends = (its.runs, stopped.1);
+            sent = its.sent;
+            noted = its.noted;
+          }
     ]
-  where
-    open seen use {due, comes, sent, noted}
 
 -- bytes came and wait, and nothing else was done
 pub record BytesSeen (bytes : List ℕ) (a b : Observed) : Type 0 where
@@ -292,16 +277,10 @@ runs_on {b} {c} {round} a (first ∷ rounds) runs next idle =
     (runs.0, (runs.1.0, runs.1.1, runs_on {b = b} {c = c} {round = round} runs.0 rounds runs.1.2 next idle))
 
 rounds_doings-append : (xs ys : List Round) → rounds_doings (xs ++ ys) ≡ rounds_doings xs ++ rounds_doings ys
-rounds_doings-append [] ys = refl
-rounds_doings-append (x ∷ xs) ys =
-    let first : List IoEvent = x.event ∷ sends (round_bytes x) in
-    ap (λ ds. first ++ ds) (rounds_doings-append xs ys) ∙ sym (append_assoc first (rounds_doings xs) (rounds_doings ys))
+rounds_doings-append = joined-append (λ x. x.event ∷ sends (round_bytes x)) rounds_doings refl (λ x xs. refl)
 
 rounds_outcomes-append : (xs ys : List Round) → rounds_outcomes (xs ++ ys) ≡ rounds_outcomes xs ++ rounds_outcomes ys
-rounds_outcomes-append [] ys = refl
-rounds_outcomes-append (x ∷ xs) ys =
-    ap (λ os. round_outcomes x ++ os) (rounds_outcomes-append xs ys)
-    ∙ sym (append_assoc (round_outcomes x) (rounds_outcomes xs) (rounds_outcomes ys))
+rounds_outcomes-append = joined-append round_outcomes rounds_outcomes refl (λ x xs. refl)
 
 pub run_none : (a : Observed) → HasRun 0 a a
 run_none a = record {
@@ -312,41 +291,46 @@ run_none a = record {
   noted = noted_none a.seat;
 }
 
--- an event was received
+-- an event was received: the link exposes it, and nothing else was done
+pub record EventReceived (event : IoEvent) (before : Observed) : Type 0 where
+  pub heard : Observed
+  pub stage_is : heard.stage ≡ before.stage
+  pub seat_is : heard.seat ≡ before.seat
+  pub told_is : heard.told ≡ told_more before.told (event ∷ [])
+
 heard_sent : {b c : Option (List IoEvent)} (a : Option (List IoEvent)) (event : IoEvent) (bytes : List ℕ) →
     b ≡ told_more a (event ∷ []) → IsSent b bytes c →
     c ≡ told_more a (event ∷ sends bytes)
 heard_sent {c} a event bytes heard sent =
     sent ∙ ap (λ t. told_more t (sends bytes)) heard ∙ told_more-append a (event ∷ []) (sends bytes)
 
-pub run_on : {count : ℕ} {event : IoEvent} {a b heard c : Observed} → HasRun count a b → heard.stage ≡ b.stage →
-    heard.seat ≡ b.seat →
-    heard.told ≡ told_more b.told (event ∷ []) → HasRound event heard c → HasRun (count + 1) a c
-run_on {a} {b} {heard} {c} run stage_is seat_is told_is next =
+pub run_on : {count : ℕ} {event : IoEvent} {a b c : Observed} → HasRun count a b
+    → (received : EventReceived event b) → HasRound event received.heard c → HasRun (count + 1) a c
+run_on {a} {b} {c} run received next =
     let round = next.round in
     let doings : List IoEvent = round.event ∷ sends (round_bytes round) in
     let last : rounds_doings (round ∷ []) ≡ doings = append-nil doings in
-    let told : heard.told ≡ told_more b.told (round.event ∷ []) =
-    told_is ∙ ap (λ e. told_more b.told (e ∷ [])) (sym next.event_is) in
+    let told : received.heard.told ≡ told_more b.told (round.event ∷ []) =
+    received.told_is ∙ ap (λ e. told_more b.told (e ∷ [])) (sym next.event_is) in
     let outcomes : rounds_outcomes (round ∷ []) ≡ round_outcomes round = append-nil (round_outcomes round) in record {
       rounds = run.rounds ++ round ∷ [];
       count_is = length-append run.rounds (round ∷ []) ∙ ap (λ n. n + 1) run.count_is;
-      runs = runs_on a.stage run.rounds run.runs (subst (λ s. Runs s round c.stage) stage_is next.runs) next.idle;
+      runs = runs_on a.stage run.rounds run.runs (subst (λ s. Runs s round c.stage) received.stage_is next.runs)
+          next.idle;
       told = heard_sent b.told round.event (round_bytes round) told next.sent
           ∙ ap (λ t. told_more t doings) run.told ∙ told_more-append a.told (rounds_doings run.rounds) doings
           ∙ ap (λ ds. told_more a.told (rounds_doings run.rounds ++ ds)) (sym last)
           ∙ ap (told_more a.told) (sym (rounds_doings-append run.rounds (round ∷ [])));
       noted = subst (λ os. AreNoted a.seat c.seat os)
           (sym (rounds_outcomes-append run.rounds (round ∷ []) ∙ ap (λ os. rounds_outcomes run.rounds ++ os) outcomes))
-          (noted_on run.noted (subst (λ s. AreNoted s c.seat (round_outcomes round)) seat_is next.noted));
+          (noted_on run.noted (subst (λ s. AreNoted s c.seat (round_outcomes round)) received.seat_is next.noted));
     }
 
 -- and it was the last
-pub run_end : {count : ℕ} {event : IoEvent} {end : ConnEnd} {a b heard c : Observed} → HasRun count a b →
-    heard.stage ≡ b.stage → heard.seat ≡ b.seat →
-    heard.told ≡ told_more b.told (event ∷ []) → count < 2 ^ 40 → HasEnded (event ∷ []) end count heard c →
-    HasCourse end a c
-run_end {count} {event} {end} {a} {b} {c} run stage_is seat_is told_is more last =
+pub run_end : {count : ℕ} {event : IoEvent} {end : ConnEnd} {a b c : Observed} → HasRun count a b
+    → (received : EventReceived event b) → count < 2 ^ 40 → HasEnded (event ∷ []) end count received.heard c
+    → HasCourse end a c
+run_end {count} {event} {end} {a} {b} {c} run received more last =
     let ending = last.ending in
     let one : length (ending_events ending) ≡ 1 = ap (λ (es : List IoEvent). length es) last.event_is in record {
       rounds = run.rounds;
@@ -355,12 +339,13 @@ run_end {count} {event} {end} {a} {b} {c} run stage_is seat_is told_is more last
       ending = ending;
       few = omega (arith, run.count_is, one, more);
       ends = subst (λ n. Ends b.stage n ending end c.stage) (sym run.count_is)
-          (subst (λ s. Ends s count ending end c.stage) stage_is last.ends);
-      told = heard_sent b.told event (ending_bytes ending) told_is last.sent
+          (subst (λ s. Ends s count ending end c.stage) received.stage_is last.ends);
+      told = heard_sent b.told event (ending_bytes ending) received.told_is last.sent
           ∙ ap (λ es. told_more b.told (es ++ sends (ending_bytes ending))) (sym last.event_is)
           ∙ ap (λ t. told_more t (ending_doings ending)) run.told
           ∙ told_more-append a.told (rounds_doings run.rounds) (ending_doings ending);
-      noted = noted_on run.noted (subst (λ s. AreNoted s c.seat (ending_outcomes ending)) seat_is last.noted);
+      noted = noted_on run.noted
+          (subst (λ s. AreNoted s c.seat (ending_outcomes ending)) received.seat_is last.noted);
     }
 
 -- or no event was received any more
@@ -368,12 +353,7 @@ run_end {count} {event} {end} {a} {b} {c} run stage_is seat_is told_is more last
 few_heard : (end : ConnEnd) (count : ℕ) → IsUnheard end count → count ≤ 2 ^ 40
 few_heard LinkFault count is = omega (arith, is)
 few_heard TurnsSpent count is = omega (arith, is)
-few_heard Ended count is = absurd is
-few_heard TornDown count is = absurd is
-few_heard TooMuchInput count is = absurd is
-few_heard HeadTooLong count is = absurd is
-few_heard BodyTooLong count is = absurd is
-few_heard NoMemory count is = absurd is
+few_heard _ count is = absurd is
 
 pub run_over : {count : ℕ} {end : ConnEnd} {a b c : Observed} → HasRun count a b → IsUnheard end count → c ≡ b
     → HasCourse end a c
@@ -438,26 +418,24 @@ taken_passed a b n passed torn is = subst (HasTaken a) (sym is)
     (passed, torn, refl) (sent_none a.told) (noted_none a.seat))
 
 -- the first request, of so many bytes
-next_is : (a : Stage) (n : ℕ) → IsFirst a.input (Ok (Request n)) → a.session.waits ≡ false
-    → a.session.torn ≡ false → IsNext a (take n a.input)
-next_is a n first replied torn =
-    let is : length (take n a.input) ≡ n = length-take-le n a.input first.2 in record {
-      first = subst (λ k. IsFirst a.input (Ok (Request k))) (sym is) first;
+next_is : (a : Stage) (n : ℕ) → RequestInFront a n → IsNext a (take n a.input)
+next_is a n in_front =
+    let is : length (take n a.input) ≡ n = length-take-le n a.input in_front.first.2 in record {
+      first = subst (λ k. IsFirst a.input (Ok (Request k))) (sym is) in_front.first;
       message_is = ap (λ k. take k a.input) (sym is);
-      replied = replied;
-      torn = torn;
+      replied = in_front.replied;
+      torn = in_front.torn;
     }
 
-pub taken_reply : {a b : Observed} {asked : SessionState} {n : ℕ} → IsFirst a.stage.input (Ok (Request n)) →
-    a.stage.session.waits ≡ false → a.stage.session.torn ≡ false →
+pub taken_reply : {a b : Observed} {asked : SessionState} {n : ℕ} → RequestInFront a.stage n →
     HasAsked a.stage.session (take n a.stage.input) asked a.seat b.seat →
     b.stage ≡ stage (after_reply asked) (drop n a.stage.input) →
     IsTold (can_reply asked) a.told asked.text b.told → HasTaken a b
-taken_reply {a} {b} {asked} {n} first replied torn heard is told =
+taken_reply {a} {b} {asked} {n} in_front heard is told =
     let message : List ℕ = take n a.stage.input in
-    let long : length message ≡ n = length-take-le n a.stage.input first.2 in
+    let long : length message ≡ n = length-take-le n a.stage.input in_front.first.2 in
     taken_one a b (Answered message heard.outcome (reply_parts asked)) (record {
-      next = next_is a.stage n first replied torn;
+      next = next_is a.stage n in_front;
       answered = asked;
       heard = heard.heard;
       parts_are = refl;
@@ -477,7 +455,7 @@ lost_reply {a} {asked} {n} in_front heard can is told =
       outcome = heard.outcome;
       front = take told.0 asked.text;
       fails = record {
-        next = next_is a.stage n in_front.first in_front.replied in_front.torn;
+        next = next_is a.stage n in_front;
         answered = asked;
         heard = heard.heard;
         can = can;

@@ -1,9 +1,7 @@
 -- When the turns of a connection are spent.
 use Rattle.std.proofs.Common.{◌≡◌, ℕ, ◌+◌, ◌^◌, ◌≤◌, length, refl, arith}
 use Rattle.conn.specs.declared.reports.ConnEnd.{ConnEnd}
-use Rattle.conn.specs.declared.reports.ConnEnd.TheVariants.{Ended, TornDown, LinkFault}
-use Rattle.conn.specs.declared.reports.ConnEnd.TheVariants.{TooMuchInput, HeadTooLong, BodyTooLong}
-use Rattle.conn.specs.declared.reports.ConnEnd.TheVariants.{TurnsSpent, NoMemory}
+use Rattle.conn.specs.declared.reports.ConnEnd.TheVariants.{LinkFault, TurnsSpent}
 use Rattle.conn.specs.EventCounts.{events_heard}
 use Rattle.conn.specs.EventSteps.{AtElement, Ending, Ends, InReply, InSlot, IsUnheard, Overfull}
 use Rattle.conn.specs.EventSteps.{PeerEnded, Unheard, ending_events}
@@ -25,23 +23,14 @@ events_spent old new course = spent_at course.mid new.stage (length course.round
 
 -- no event ends a connection after the last
 unheard_end : (end : ConnEnd) (count : ℕ) → IsUnheard end count → count ≡ 2 ^ 40 → end ≡ TurnsSpent
-unheard_end Ended count is all = absurd is
-unheard_end TornDown count is all = absurd is
 unheard_end LinkFault count is all = absurd (omega (arith, is, all))
-unheard_end TooMuchInput count is all = absurd is
-unheard_end HeadTooLong count is all = absurd is
-unheard_end BodyTooLong count is all = absurd is
 unheard_end TurnsSpent count is all = refl
-unheard_end NoMemory count is all = absurd is
+unheard_end _ count is all = absurd is
 
 all_at : {count : ℕ} {end : ConnEnd} (old new : Stage) (ending : Ending) → Ends old count ending end new
     → count + length (ending_events ending) ≤ 2 ^ 40 → count ≡ 2 ^ 40 → end ≡ TurnsSpent
 all_at {count} {end} old new Unheard ends few all = unheard_end end count ends.0 all
-all_at {end} old new PeerEnded ends few all = absurd (omega (arith, few, all))
-all_at {end} old new (Overfull bytes) ends few all = absurd (omega (arith, few, all))
-all_at {end} old new (AtElement round) ends few all = absurd (omega (arith, few, all))
-all_at {end} old new (InSlot slot front) ends few all = absurd (omega (arith, few, all))
-all_at {end} old new (InReply round message outcome front) ends few all = absurd (omega (arith, few, all))
+all_at old new _ ends few all = absurd (omega (arith, few, all))
 
 pub all_heard : (end : ConnEnd) (old new : Observed) (course : HasCourse end old new)
     → length course.rounds ≡ 2 ^ 40 → end ≡ TurnsSpent

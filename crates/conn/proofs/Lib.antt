@@ -1,11 +1,9 @@
 mod AdmittedPlays
-mod PartReports
 mod RequestAnswers
 mod PlayReplies
 mod PlayStart
 pub mod CurveBounds
 mod FailedSends
-mod PlayOutcomes
 mod FaultCounts
 mod ElementPrefixes
 pub mod FilmBytes
@@ -15,6 +13,7 @@ pub mod HaltAnswers
 mod HaltedPlays
 mod RequestInvariants
 mod SlotResults
+pub mod StationAnswers
 pub mod PlayProgress
 mod PlayGuarantees
 mod RefusedPlays
@@ -23,6 +22,7 @@ mod WorkerProgress
 mod SharedLemmas
 mod InputLimit
 mod FilmTraces
+mod JoinedLists
 mod SeatReplies
 pub mod CourseSteps
 mod Outcomes
@@ -30,7 +30,6 @@ mod SessionInvariant
 mod StoppedPlays
 pub mod ReplyContents
 pub mod Visits
-mod Workers
 pub mod Journals
 mod SeatInvariants
 pub mod EventPremises

@@ -9,14 +9,13 @@ use Rattle.film_run.proofs.PlanLemmas.{sending-best}
 use Rattle.film_run.specs.declared.runs.Run.{Run}
 use Rattle.film_run.specs.Units.{stored_sizes}
 use Rattle.plan_cert.specs.Plan.{IsPlan}
-use Rattle.vod_base.specs.Links.{IoEvent, HeardBytes, HeardEnd, HeardSlot, Sent}
+use Rattle.vod_base.specs.Links.{IoEvent}
 use Rattle.pacer.specs.PacerStates.{first_slots}
 use Rattle.film_streams.specs.declared.settings.Settings.{Settings}
 use Rattle.session.specs.declared.states.Play.{Play as Played}
 use Rattle.film_streams.specs.declared.setups.Setup.{Setup}
 use Rattle.session.specs.declared.states.State.{State}
 use Rattle.session.specs.declared.states.State.TheVariants.{Init, Playing, Ready, Stopping}
-use Rattle.session.specs.declared.states.Stop.{Stop}
 use Rattle.session.specs.RequestSteps.{new_session_state}
 use Rattle.film_streams.specs.SettingRanges.{AreSettings}
 use Rattle.session.specs.SlotSteps.{after_play, is_between, is_sending, is_taken, sent_due}
@@ -24,12 +23,12 @@ use Rattle.session.specs.SlotSteps.{sent_slot, after_slot, stepped_in}
 use Rattle.session.specs.SessionStates.{SessionState, last_heard_slot}
 use Rattle.conn.specs.InputSteps.{Outcome, SentPart, Stage, due_parts, film_bytes, slot_parts, stage}
 use Rattle.conn.specs.EventSteps.{Round}
-use Rattle.conn.specs.Films.{HasSent, HasSentOn}
-use Rattle.conn.specs.Plays.{ArePlaysKept, IsCutBy, IsKeptIn, IsSentBy, client_of, heard_by}
+use Rattle.conn.specs.Films.{HasSentOn}
+use Rattle.conn.specs.Plays.{ArePlaysKept, IsKeptIn, IsSentBy, client_of, heard_by}
 use Rattle.conn.specs.Plays.{play_pieces}
 use Rattle.conn.proofs.CurveBounds.{planned_between}
-use Rattle.conn.proofs.RequestInvariants.{AreShown, HasPlay, HasStopped, IsStateOf, IsWell, ground_of}
-use Rattle.conn.proofs.PlayProgress.{as_it_was, reply_heard}
+use Rattle.conn.proofs.RequestInvariants.{AreShown, HasPlay, IsStateOf, IsWell, ground_of}
+use Rattle.conn.proofs.PlayProgress.{as_it_was, reply_heard, slot_play}
 use Rattle.conn.proofs.ReplyPlacement.{film_count}
 use Rattle.conn.proofs.SeatReplies.{refusals_told}
 use Rattle.conn.proofs.StoppedPlays.{stop_cut, stop_slot, stop_still}
@@ -45,8 +44,9 @@ use Rattle.admission.proofs.HistoryPrefixes.{legal-take}
 use Rattle.admission.proofs.CapacityBounds.{sound-after}
 use Rattle.slot_calendar.specs.Profiles.{capacity_at}
 use Rattle.station.specs.Seats.{IsSeat, SeatState}
-use Rattle.conn.proofs.SessionInvariant.{rounds_well, slot_play}
-use Rattle.conn.proofs.EventPremises.{SlotStandings, EventCome}
+use Rattle.conn.proofs.SessionInvariant.{rounds_well}
+use Rattle.conn.proofs.EventPremises.{SlotStandings}
+use Rattle.conn.proofs.StationAnswers.{ComesAs, comes_as, BytesCame, SlotCame}
 
 -- a session that received nothing yet
 pub new_well : (films : List Stored) (settings : Settings) (words : List ℕ) → AreShown films → AreSettings settings →
@@ -73,17 +73,14 @@ slot_heard old slot =
     (sent_due old slot)) refl
 
 -- what was sent of a play, by the play as it was and as it is now
-sent_by : {old : SessionState} {setup : Setup} {play : Played} {film : List ℕ} {new : SessionState} {heard : ℕ}
-    {more : List ℕ} →
-    HasPlay (ground_of old film) setup play →
-    HasSentOn setup play new more → new.heard ≡ heard →
-    (stored : Stored) × IsSentBy old stored setup play heard more
-sent_by {old} {setup} {play} {new} {heard} {more} its on same =
+sent_by : {old new : SessionState} {setup : Setup} {play : Played} {film more : List ℕ}
+    → HasPlay (ground_of old film) setup play → HasSentOn setup play new more
+    → (stored : Stored) × IsSentBy old stored setup play new.heard more
+sent_by {old} {new} {setup} {play} {more = more} its on =
     let stored = its.stored in
     let now = on.now in
-    let sizes = stored_sizes stored in
-    let client = client_of old stored setup in
-    let sent : HasSent now heard more = subst (λ h. HasSent now h more) same on.sent in
+    let heard : ℕ = new.heard in
+    let sent = on.sent in
     let plan : now.pacer.plan ≡ play.plan = sent.plan ∙ on.plan in
     let is_plan : IsPlan play.plan = subst IsPlan plan sent.pacing.plan in
     let count : length more ≡ first_slots play.plan (heard + 1 - play.start) =
@@ -97,7 +94,7 @@ sent_by {old} {setup} {play} {new} {heard} {more} its on same =
       record {
         at = its.at;
         sending = its.sending;
-        best = sending-best sizes client play.run play.plan its.sending;
+        best = sending-best (stored_sizes stored) (client_of old stored setup) play.run play.plan its.sending;
         count = count;
         front = sent.film_is ∙ ap (λ n. take n (drop now.pacer.before (framed_bytes now.pacer.pieces))) slots
             ∙ ap (λ n. take (length more) (drop n (framed_bytes now.pacer.pieces))) before
@@ -108,80 +105,54 @@ sent_by {old} {setup} {play} {new} {heard} {more} its on same =
       },
     )
 
--- the film bytes that are sent by an event: more of them where it began a slot
-event_film : {film : List ℕ} {old new : Stage} {event : IoEvent} (AreSent : ℕ → List ℕ → Type 0)
-    (come : EventCome old event new) → AreSent old.session.heard film
-    → ((slot : ℕ) → AreSent (last_heard_slot old.session.heard slot) (film ++ film_bytes (slot_parts old.session slot)))
-    → AreSent (heard_by old.session.heard event) (film ++ film_bytes come.due)
-event_film {film} {old} {event = HeardBytes bytes} AreSent come still by =
-    subst (λ ps. AreSent old.session.heard (film ++ film_bytes ps)) (sym come.comes.0)
-    (subst (AreSent old.session.heard) (sym (append-nil film)) still)
-event_film {film} {old} {event = HeardSlot slot} AreSent come still by =
-    subst (λ ps. AreSent (last_heard_slot old.session.heard slot) (film ++ film_bytes ps))
-    (sym come.comes.1.parts_are) (by slot)
-event_film {event = HeardEnd} AreSent come still by = absurd come.comes
-event_film {event = Sent byte} AreSent come still by = absurd come.comes
+-- what is kept of a play, or of the rest of one: where nothing is sent, after a slot, and after an event
+kept_still : (state : State) (s : SessionState) (film : List ℕ) → s.state ≡ state → IsStateOf (ground_of s film) state
+    → IsKeptIn state s s.heard film
+kept_still Init s film is was = tt
+kept_still (Ready setup paused) s film is was = tt
+kept_still (Playing setup play) s film is was =
+    sent_by was.1
+    (as_it_was {session = s} (record { setup = setup; play = play; film = film; state = is; sent = was.1.sent }))
+kept_still (Stopping setup stop) s film is was = stop_cut (stop_still s is was.1)
 
-kept_event : {setup : Setup} {play : Played} {film : List ℕ} {old new : Stage} {event : IoEvent}
-    (come : EventCome old event new) →
-    HasPlay (ground_of old.session film) setup play →
-    old.session.state ≡ Playing setup play →
-    (stored : Stored) × IsSentBy old.session stored setup play (heard_by old.session.heard event)
-    (film ++ film_bytes come.due)
-kept_event {setup} {play} {film} {old} come its is =
-    event_film (λ heard bytes. (stored : Stored) × IsSentBy old.session stored setup play heard bytes) come
-    (sent_by its (as_it_was old.session setup play film is its.sent) refl)
-    (λ slot. sent_by its (slot_play old.session slot is its.sent) (slot_heard old.session slot))
+kept_slot : (state : State) (s : SessionState) (slot : ℕ) (film : List ℕ) → s.state ≡ state
+    → IsStateOf (ground_of s film) state
+    → IsKeptIn state s (after_slot s slot).heard (film ++ film_bytes (slot_parts s slot))
+kept_slot Init s slot film is was = tt
+kept_slot (Ready setup paused) s slot film is was = tt
+kept_slot (Playing setup play) s slot film is was =
+    sent_by was.1
+    (slot_play s slot (record { setup = setup; play = play; film = film; state = is; sent = was.1.sent }))
+kept_slot (Stopping setup stop) s slot film is was = stop_cut (stop_slot s slot is was.1)
 
--- and of the rest of a play that was halted
-cut_event : {setup : Setup} {stop : Stop} {film : List ℕ} {old new : Stage} {event : IoEvent}
-    (come : EventCome old event new) →
-    HasStopped (ground_of old.session film) setup stop →
-    old.session.state ≡ Stopping setup stop →
-    (stored : Stored) × IsCutBy old.session stored setup stop (heard_by old.session.heard event)
-    (film ++ film_bytes come.due)
-cut_event {setup} {stop} {film} {old} come has is =
-    event_film (λ heard bytes. (stored : Stored) × IsCutBy old.session stored setup stop heard bytes) come
-    (stop_cut (stop_still old.session is has))
-    (λ slot. subst (λ n. (stored : Stored)
-    × IsCutBy old.session stored setup stop n (film ++ film_bytes (slot_parts old.session slot)))
-    (slot_heard old.session slot) (stop_cut (stop_slot old.session slot is has)))
-
-kept_in : {state : State} {film : List ℕ} {old new : Stage} {event : IoEvent} (come : EventCome old event new) →
-    IsWell old.session film → old.session.state ≡ state →
-    IsKeptIn state old.session (heard_by old.session.heard event) (film ++ film_bytes come.due)
-kept_in {state = Init} come well is = tt
-kept_in {state = Ready setup paused} come well is = tt
-kept_in {state = Playing setup play} {film} {old} come well is =
+kept_event : {film : List ℕ} {old new : Stage} {round : Round} → ComesAs old round new → IsWell old.session film
+    → IsKeptIn old.session.state old.session (heard_by old.session.heard round.event) (film ++ film_bytes round.due)
+kept_event {film} {old} BytesCame well =
     let s = old.session in
-    let was = subst (IsStateOf (ground_of s film)) is well.state in
-    kept_event come was.1 is
-kept_in {state = Stopping setup stop} {film} {old} come well is =
+    subst (IsKeptIn s.state s s.heard) (sym (append-nil film)) (kept_still s.state s film refl well.state)
+kept_event {film} {old} (SlotCame {slot = slot} finishes) well =
     let s = old.session in
-    let was = subst (IsStateOf (ground_of s film)) is well.state in
-    cut_event come was.1 is
+    subst (λ n. IsKeptIn s.state s n (film ++ film_bytes (slot_parts s slot))) (slot_heard s slot)
+    (kept_slot s.state s slot film refl well.state)
 
 -- else nothing of a film is sent
 no_parts : (taken : Bool) (parts : List SentPart) → film_bytes (if taken && false then parts else []) ≡ []
 no_parts true parts = refl
 no_parts false parts = refl
 
-no_film_event : {old new : Stage} {event : IoEvent} (come : EventCome old event new) →
-    is_sending old.session.state ≡ false → film_bytes come.due ≡ []
-no_film_event {event = HeardBytes bytes} come none = ap film_bytes come.comes.0
-no_film_event {old} {event = HeardSlot slot} come none =
+no_film_event : {old new : Stage} {round : Round} → ComesAs old round new → is_sending old.session.state ≡ false
+    → film_bytes round.due ≡ []
+no_film_event BytesCame none = refl
+no_film_event {old} (SlotCame {slot = slot} finishes) none =
     let s = old.session in
-    ap film_bytes come.comes.1.parts_are
-    ∙ ap (λ sends. film_bytes (if is_taken s slot && sends then due_parts s slot else [])) none
+    ap (λ sends. film_bytes (if is_taken s slot && sends then due_parts s slot else [])) none
     ∙ no_parts (is_taken s slot) (due_parts s slot)
-no_film_event {event = HeardEnd} come none = absurd come.comes
-no_film_event {event = Sent byte} come none = absurd come.comes
 
 -- in each course from such a session on
 pub plays_kept : (first : SessionState) (rounds : List Round) → IsWell first [] → ArePlaysKept first rounds
 plays_kept first rounds well = λ before round old at.
-    let come : EventCome old round.event at.opened = record { due = round.due; halt = round.halt; comes = at.comes } in
-    (kept_in come (rounds_well (stage first []) old before [] well at.runs) refl, no_film_event come)
+    let comes = comes_as round at.comes in
+    (kept_event comes (rounds_well (stage first []) old before [] well at.runs), no_film_event comes)
 
 -- no slot is booked above its capacity
 never_overbooked : (seat : SeatState) → IsSeat seat → (n slot : ℕ)

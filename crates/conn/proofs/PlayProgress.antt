@@ -3,14 +3,8 @@ use Rattle.std.proofs.Common.{◌≡◌, ℕ, ◌^◌, ◌<◌, ◌++◌, ◌&&�
 use Rattle.std.proofs.Common.{nat_lt, nat_le, List, [], ◌∷◌, refl, ap, sym, ◌∙◌, subst}
 use Rattle.std.proofs.lemmas.Bool.{and_parts, ltb-true, true≢false}
 use Rattle.std.proofs.lemmas.List.{append-nil, append_assoc}
-use Rattle.admission.specs.declared.entries.Answer.{Answer}
-use Rattle.admission.specs.declared.entries.Answer.TheVariants.{Admitted, Halted, Looked, Overflow}
 use Rattle.admission.specs.Makers.{PlacedEntry}
 use Rattle.session.specs.declared.commands.Ask.{Ask}
-use Rattle.session.specs.declared.commands.Ask.TheVariants.{Reply as AskReply, Play as AskPlay}
-use Rattle.session.specs.declared.commands.Ask.TheVariants.{Halt as AskHalt, Look as AskLook}
-use Rattle.session.specs.declared.commands.Ask.TheVariants.{Offer as AskOffer}
-use Rattle.session.specs.declared.states.Awaited.{Awaited}
 use Rattle.pacer.specs.PacerStates.{PacerState, plan_bytes, at_slot, stands_at_boundary, step_end, after_step}
 use Rattle.session.specs.declared.states.Play.{Play as Played}
 use Rattle.film_streams.specs.declared.setups.Setup.{Setup}
@@ -19,42 +13,29 @@ use Rattle.session.specs.declared.states.State.TheVariants.{Playing}
 use Rattle.session.specs.SlotSteps.{admitted_in, can_reply, due_state, after_play, is_between}
 use Rattle.session.specs.SlotSteps.{is_sending, is_taken, sent_due, sent_reply, sent_slot, after_slot}
 use Rattle.session.specs.SlotSteps.{step_bytes, stepped_in}
-use Rattle.session.specs.SessionStates.{AwaitedAnswer, NoAnswer, PlayAnswer, HaltAnswer, LookAnswer}
-use Rattle.session.specs.SessionStates.{OfferAnswer, SessionState, awaited_answer}
+use Rattle.session.specs.SessionStates.{AwaitedAnswer, SessionState}
 use Rattle.session.specs.SlotTransitions.{after_stop}
-use Rattle.conn.specs.InputSteps.{Outcome, Unasked, Entered, WasFull, Offered, SentPart, Film, Text, Stage}
-use Rattle.conn.specs.InputSteps.{ElementStep, Passed, Answered, HasHeard, IsAskAnswered, IsFinished, IsHalted}
-use Rattle.conn.specs.InputSteps.{IsLookAnswered, IsPlayAnswered, Takes, TakesAll, after_reply}
-use Rattle.conn.specs.InputSteps.{due_parts, film_bytes, slot_parts}
-use Rattle.vod_base.specs.Links.{IoEvent, HeardBytes, HeardEnd, HeardSlot, Sent}
+use Rattle.conn.specs.InputSteps.{Outcome, Entered, SentPart, Film, Text, Stage, ElementStep, Passed, Answered, HasHeard}
+use Rattle.conn.specs.InputSteps.{Takes, TakesAll, after_reply, due_parts, film_bytes, slot_parts}
 use Rattle.conn.specs.EventSteps.{Round, Runs, RunsAll, round_outcomes, rounds_outcomes}
 use Rattle.conn.specs.EventSteps.{taking_outcomes, takings_outcomes}
 use Rattle.conn.specs.Films.{HaveNoHalt, GoesOn, HasSent, HasSentOn, IsNoHalt}
 use Rattle.conn.specs.Films.{HasNoHalt, PlaySpan, rounds_film}
 use Rattle.session.specs.Laws.{AsksNoHalt}
-use Rattle.session.proofs.InitialStateLemmas.{HeardMessage}
 use Rattle.session.proofs.RefusalEffectLemmas.{hears_plays}
 use Rattle.conn.proofs.FilmBytes.{sent_slot as sent_by, sent_through, slot_film, slot_is, slot_pacing}
-use Rattle.conn.proofs.EventPremises.{SlotPacings, PlayGoing, EventCome}
+use Rattle.conn.proofs.EventPremises.{SlotPacings, PlayGoing}
+use Rattle.conn.proofs.StationAnswers.{AnswersAs, ComesAs, FinishesAs, IsHaltEntry, answers_as, comes_as, BytesCame}
+use Rattle.conn.proofs.StationAnswers.{SlotCame, DoneHalted, NothingLeft, PlayAdmitted, PlayHalted}
 
 -- a halt is an entry that halts
-no_halt : (old : SessionState) (keep : ℕ) (outcome : Outcome) (new : SessionState) → IsHalted old keep outcome new
-    → HasNoHalt outcome → ⊥
-no_halt old keep Unasked new halted free = halted
-no_halt old keep (Entered placed) new halted free = subst IsNoHalt halted.command free
-no_halt old keep (WasFull more entries live) new halted free = halted
-no_halt old keep (Offered at_slot note) new halted free = halted
+no_halt : {keep : ℕ} {placed : PlacedEntry} → IsHaltEntry keep placed → HasNoHalt (Entered placed) → ⊥
+no_halt entry free = subst IsNoHalt entry.command free
 
-finished_same : (asks : AwaitedAnswer) (old : SessionState) (halt : Outcome) (new : SessionState)
-    → IsFinished asks old halt new → HasNoHalt halt → new ≡ old
-finished_same NoAnswer old Unasked new is free = is
-finished_same NoAnswer old (Entered placed) new is free = absurd is
-finished_same NoAnswer old (WasFull more entries live) new is free = absurd is
-finished_same NoAnswer old (Offered at_slot note) new is free = absurd is
-finished_same (PlayAnswer plan) old halt new is free = absurd is
-finished_same (HaltAnswer keep) old halt new is free = absurd (no_halt old keep halt new is free)
-finished_same LookAnswer old halt new is free = absurd is
-finished_same OfferAnswer old halt new is free = absurd is
+finished_same : {asks : AwaitedAnswer} {old new : SessionState} {halt : Outcome} → FinishesAs old asks halt new
+    → HasNoHalt halt → new ≡ old
+finished_same NothingLeft free = refl
+finished_same (DoneHalted entry) free = absurd (no_halt entry free)
 
 -- the state and the latest slot, after a slot that is processed
 pub reply_state : (goes : Bool) (s : SessionState)
@@ -65,12 +46,6 @@ reply_state false s = refl
 pub reply_heard : (goes : Bool) (s : SessionState) → (if goes then sent_reply s else s).heard ≡ s.heard
 reply_heard true s = refl
 reply_heard false s = refl
-
-finished_state : (s : SessionState) → (after_play s).state ≡ s.state
-finished_state s = refl
-
-finished_heard : (s : SessionState) → (after_play s).heard ≡ s.heard
-finished_heard s = refl
 
 abbrev pub with_pacer : Setup → Played → PacerState → State
 with_pacer setup play p = Playing setup (record play { pacer = p })
@@ -140,29 +115,21 @@ play_state waits setup play slot =
       plain = after_step false slot p;
     })
 
-play_film : (waits : Bool) (setup : Setup) (play : Played) (text : List ℕ) (slot : ℕ) →
-    film_bytes (parts_of waits (Playing setup play) text slot) ≡ slot_film waits slot play.pacer
-play_film waits setup play text slot = pacer_film waits play.pacer text slot
-
 -- a play goes on by a slot that is processed
-pub taken_slot : {setup : Setup} {play : Played} {film : List ℕ} (old : SessionState) (slot : ℕ) →
-    old.state ≡ Playing setup play → HasSent play old.heard film →
-    old.heard < slot → HasSentOn setup play (after_play (sent_slot old slot)) (film ++ film_bytes (due_parts old slot))
-taken_slot {setup} {play} {film} old slot is has later =
+pub taken_slot : (old : SessionState) (slot : ℕ) (going : PlayGoing old) → old.heard < slot →
+    HasSentOn going.setup going.play (after_play (sent_slot old slot)) (going.film ++ film_bytes (due_parts old slot))
+taken_slot old slot going later =
     let goes : Bool = old.waits && is_between (stepped_in true slot old.state) in
-    let s : SessionState = sent_slot old slot in
     let now : Played = record play { pacer = slot_pacing old.waits slot play.pacer } in
-    let state : (after_play s).state ≡ Playing setup now =
-    finished_state s ∙ reply_state goes (sent_due old slot) ∙ ap (λ st. state_after_slot old.waits st slot) is
-    ∙ play_state old.waits setup play slot in
-    let heard : (after_play s).heard ≡ slot = finished_heard s ∙ reply_heard goes (sent_due old slot) in
+    let heard : (sent_slot old slot).heard ≡ slot = reply_heard goes (sent_due old slot) in
     let bytes : film_bytes (due_parts old slot) ≡ slot_film old.waits slot play.pacer =
-    ap (λ st. film_bytes (parts_of old.waits st old.text slot)) is ∙ play_film old.waits setup play old.text slot in
+    ap (λ st. film_bytes (parts_of old.waits st old.text slot)) state ∙ pacer_film old.waits play.pacer old.text slot in
     let through : slot_pacing old.waits slot play.pacer ≡ sent_through slot play.pacer =
-    slot_is old.waits (stands_at_boundary (after_step true slot play.pacer)) slot play.pacer has.pacing refl in
-    let sent : HasSent now slot (film ++ slot_film old.waits slot play.pacer) = sent_by old.waits has later in record {
+    slot_is old.waits (stands_at_boundary (after_step true slot play.pacer)) slot play.pacer sent.pacing refl in
+    record {
       now = now;
-      state = state;
+      state = reply_state goes (sent_due old slot) ∙ ap (λ st. state_after_slot old.waits st slot) state
+          ∙ play_state old.waits setup play slot;
       run = refl;
       place = refl;
       start = refl;
@@ -171,16 +138,17 @@ taken_slot {setup} {play} {film} old slot is has later =
       pieces = ap (λ (q : PacerState). q.pieces) through;
       paced = ap (λ (q : PacerState). q.plan) through;
       sent = subst (λ n. HasSent now n (film ++ film_bytes (due_parts old slot))) (sym heard)
-          (subst (λ bs. HasSent now slot (film ++ bs)) (sym bytes) sent);
+          (subst (λ bs. HasSent now slot (film ++ bs)) (sym bytes) (sent_by old.waits sent later));
     }
+  where
+    open going use {setup, play, film, state, sent}
 
 -- nothing is sent: the play goes on as it was
-pub as_it_was : (session : SessionState) (setup : Setup) (play : Played) (film : List ℕ) →
-    session.state ≡ Playing setup play → HasSent play session.heard film →
-    HasSentOn setup play session film
-as_it_was session setup play film is has = record {
-  now = play;
-  state = is;
+pub as_it_was : {session : SessionState} (going : PlayGoing session)
+    → HasSentOn going.setup going.play session going.film
+as_it_was going = record {
+  now = going.play;
+  state = going.state;
   run = refl;
   place = refl;
   start = refl;
@@ -188,7 +156,7 @@ as_it_was session setup play film is has = record {
   before = refl;
   pieces = refl;
   paced = refl;
-  sent = has;
+  sent = going.sent;
 }
 
 -- what holds before a slot, in a session that sends, and once what is due was sent in it, holds
@@ -202,28 +170,38 @@ slot_cases {taken = false} {old} {film} P still parts sends was goes = subst (P 
 slot_cases {taken = true} {sending = true} P still parts sends was goes = goes refl
 slot_cases {taken = true} {sending = false} P still parts sends was goes = absurd (true≢false (sym sends))
 
+slot_branches : {next still old : SessionState} (P : SessionState → Type 0) (taken sending : Bool)
+    → (sending ≡ true → P next) → P still → P old
+    → P (if taken then (if sending then next else still) else old)
+slot_branches P false sending goes stays same = same
+slot_branches P true false goes stays same = stays
+slot_branches P true true goes stays same = goes refl
+
+-- what holds of a session that isn't sending too
+pub slot_any : (P : SessionState → Type 0) (old : SessionState) (slot : ℕ)
+    → (is_sending old.state ≡ true → P (after_play (sent_slot old slot))) → P (record old { heard = slot }) → P old
+    → P (after_slot old slot)
+slot_any P old slot goes stays same = slot_branches P (is_taken old slot) (is_sending old.state) goes stays same
+
 pub later_slot : (old : SessionState) (slot : ℕ) → is_taken old slot ≡ true → old.heard < slot
 later_slot old slot taken = ltb-true old.heard slot (and_parts (nat_lt old.heard slot) (nat_le slot (2 ^ 62)) taken).0
 
 -- a play goes on by a slot
-pub play_slot : {new : SessionState} {setup : Setup} {play : Played} {film : List ℕ} {old : SessionState} (slot : ℕ)
-    (halt : Outcome) → PlayGoing setup play film old →
-    IsFinished (awaited_answer (after_slot old slot)) (after_slot old slot) halt new → HasNoHalt halt →
-    HasSentOn setup play new (film ++ film_bytes (slot_parts old slot))
-play_slot {new} {setup} {play} {film} {old} slot halt going finishes free =
-    subst (λ s. HasSentOn setup play s (film ++ film_bytes (slot_parts old slot)))
-    (sym (finished_same (awaited_answer (after_slot old slot)) (after_slot old slot) halt new finishes free))
-    (slot_cases (HasSentOn setup play) (record old { heard = slot }) (due_parts old slot)
-    (ap is_sending is) (as_it_was old setup play film is has)
-    (λ taken. taken_slot old slot is has (later_slot old slot taken)))
-  where
-    open going use {state as is, sent as has}
+pub slot_play : (old : SessionState) (slot : ℕ) (going : PlayGoing old) →
+    HasSentOn going.setup going.play (after_slot old slot) (going.film ++ film_bytes (slot_parts old slot))
+slot_play old slot going =
+    slot_cases (HasSentOn going.setup going.play) (record old { heard = slot }) (due_parts old slot)
+    (ap is_sending going.state) (as_it_was going) (λ taken. taken_slot old slot going (later_slot old slot taken))
 
--- a play that goes on, and then goes on
-pub goes_on : {setup : Setup} {play : Played} {mid new : SessionState} {film more : List ℕ}
-    (on : HasSentOn setup play mid film) →
-    HasSentOn setup on.now new more → HasSentOn setup play new more
-goes_on {new} {more} on next = record {
+-- a play that goes on, and what is sent of it from then on
+abbrev pub going_on : {setup : Setup} {play : Played} {session : SessionState} {film : List ℕ}
+    → HasSentOn setup play session film → PlayGoing session
+going_on {setup} {film = film} on =
+    record { setup = setup; play = on.now; film = film; state = on.state; sent = on.sent }
+
+goes_on : {setup : Setup} {play : Played} {mid new : SessionState} {film more : List ℕ}
+    (on : HasSentOn setup play mid film) → HasSentOn setup on.now new more → HasSentOn setup play new more
+goes_on on next = record {
   now = next.now;
   state = next.state;
   run = next.run ∙ on.run;
@@ -240,104 +218,53 @@ goes_on {new} {more} on next = record {
 abbrev pub IsLeft : SessionState → SessionState → Type 0
 IsLeft old new = (new.state ≡ old.state) × (new.heard ≡ old.heard)
 
-play_admitted : {state : State} {setup : Setup} {play : Played} (awaited : Awaited) (place start : ℕ) →
-    state ≡ Playing setup play →
-    admitted_in state awaited place start ≡ state
-play_admitted awaited place start is =
-    subst (λ st. admitted_in st awaited place start ≡ st) (sym is) refl
-
-play_left : {setup : Setup} {play : Played} (old : SessionState) (placed : PlacedEntry) (answer : Answer)
-    (new : SessionState) → old.state ≡ Playing setup play →
-    IsPlayAnswered old placed answer new → IsLeft old new
-play_left old placed (Admitted start) new is answered =
-    subst (IsLeft old) (sym answered.1) (play_admitted old.awaited placed.place start is, refl)
-play_left old placed (Overflow slot booked asked) new is answered = subst (IsLeft old) (sym answered) (refl, refl)
-play_left old placed Halted new is answered = absurd answered
-play_left old placed (Looked now at booked) new is answered = absurd answered
-
-look_left : (old : SessionState) (placed : PlacedEntry) (answer : Answer) (new : SessionState)
-    → IsLookAnswered old placed answer new → IsLeft old new
-look_left old placed (Admitted start) new answered = absurd answered
-look_left old placed (Overflow slot booked asked) new answered = absurd answered
-look_left old placed Halted new answered = absurd answered
-look_left old placed (Looked now at booked) new answered = subst (IsLeft old) (sym answered) (refl, refl)
-
--- the station's answer to what a session asks, which halts no booking
-pub record UnhaltedAnswer (old : SessionState) (ask : Ask) (outcome : Outcome) (new : SessionState) : Type 0 where
-  pub answered : IsAskAnswered old ask outcome new
-  pub free : HasNoHalt outcome
-
-answer_left : {setup : Setup} {play : Played} {old new : SessionState} (ask : Ask) (outcome : Outcome) →
-    old.state ≡ Playing setup play → UnhaltedAnswer old ask outcome new → IsLeft old new
-answer_left {old} AskReply Unasked is given = subst (IsLeft old) (sym given.answered) (refl, refl)
-answer_left AskReply (Entered placed) is given = absurd given.answered
-answer_left AskReply (WasFull more entries live) is given = absurd given.answered
-answer_left AskReply (Offered at_slot note) is given = absurd given.answered
-answer_left (AskPlay plan) Unasked is given = absurd given.answered
-answer_left {old} {new} (AskPlay plan) (Entered placed) is given =
-    play_left old placed placed.entry.answer new is given.answered.1
-answer_left {old} (AskPlay plan) (WasFull more entries live) is given =
-    subst (IsLeft old) (sym given.answered.0) (refl, refl)
-answer_left (AskPlay plan) (Offered at_slot note) is given = absurd given.answered
-answer_left {old} {new} (AskHalt keep) outcome is given =
-    absurd (no_halt old keep outcome new given.answered given.free)
-answer_left (AskLook slot) Unasked is given = absurd given.answered
-answer_left {old} {new} (AskLook slot) (Entered placed) is given =
-    look_left old placed placed.entry.answer new given.answered.1
-answer_left {old} (AskLook slot) (WasFull more entries live) is given =
-    subst (IsLeft old) (sym given.answered.0) (refl, refl)
-answer_left (AskLook slot) (Offered at_slot note) is given = absurd given.answered
-answer_left (AskOffer plan offers) Unasked is given = absurd given.answered
-answer_left (AskOffer plan offers) (Entered placed) is given = absurd given.answered
-answer_left (AskOffer plan offers) (WasFull more entries live) is given = absurd given.answered
-answer_left {old} (AskOffer plan offers) (Offered at_slot note) is given =
-    subst (IsLeft old) (sym given.answered.2) (refl, refl)
-
 left_on : (a b c : SessionState) → IsLeft a b → IsLeft b c → IsLeft a c
 left_on a b c first second = (second.0 ∙ first.0, second.1 ∙ first.1)
 
-hears_left : {setup : Setup} {play : Played} (heard : HeardMessage) → heard.old.state ≡ Playing setup play →
-    AsksNoHalt heard.ask →
-    IsLeft heard.old heard.new
-hears_left {setup} {play} heard is free =
-    let plays = hears_plays heard setup play is free in (plays.state, plays.heard)
+abbrev pub going_left : {old new : SessionState} → PlayGoing old → IsLeft old new → PlayGoing new
+going_left going left = record {
+  setup = going.setup;
+  play = going.play;
+  film = going.film;
+  state = left.0 ∙ going.state;
+  sent = subst (λ h. HasSent going.play h going.film) (sym left.1) going.sent;
+}
 
-ask_free : (old : SessionState) (ask : Ask) (outcome : Outcome) (new : SessionState) → IsAskAnswered old ask outcome new
-    → HasNoHalt outcome → AsksNoHalt ask
-ask_free old AskReply outcome new answered free = tt
-ask_free old (AskPlay plan) outcome new answered free = tt
-ask_free old (AskHalt keep) outcome new answered free = no_halt old keep outcome new answered free
-ask_free old (AskLook slot) outcome new answered free = tt
-ask_free old (AskOffer plan offers) outcome new answered free = tt
+answer_left : {old new : SessionState} {ask : Ask} {outcome : Outcome} → PlayGoing old → HasNoHalt outcome
+    → AnswersAs old ask outcome new → IsLeft old new
+answer_left {old} going free (PlayAdmitted {placed = placed} {start = start} entry answered) =
+    (subst (λ st. admitted_in st old.awaited placed.place start ≡ st) (sym going.state) refl, refl)
+answer_left going free (PlayHalted entry) = absurd (no_halt entry free)
+answer_left going free _ = (refl, refl)
 
-pub heard_left : {old : SessionState} {message : List ℕ} {outcome : Outcome} {new : SessionState} {setup : Setup}
-    {play : Played} → HasHeard old message outcome new →
-    HasNoHalt outcome → old.state ≡ Playing setup play → IsLeft old new
-heard_left {old} {message} {outcome} {new} heard free is =
-    let asking : IsLeft old heard.asking =
-    hears_left (record { old = old; new = heard.asking; message = message; ask = heard.ask; hears = heard.hears }) is
-    (ask_free heard.asking heard.ask outcome new heard.answered free) in
-    left_on old heard.asking new asking
-    (answer_left heard.ask outcome (asking.0 ∙ is) (record { answered = heard.answered; free = free }))
+asks_no_halt : {old new : SessionState} {ask : Ask} {outcome : Outcome} → HasNoHalt outcome
+    → AnswersAs old ask outcome new → AsksNoHalt ask
+asks_no_halt free (PlayHalted entry) = no_halt entry free
+asks_no_halt free _ = tt
 
-settled_play : (state : State) (setup : Setup) (play : Played) → state ≡ Playing setup play → after_stop state ≡ state
-settled_play state setup play is = subst (λ st. after_stop st ≡ st) (sym is) refl
+pub heard_left : {old new : SessionState} {message : List ℕ} {outcome : Outcome} → HasHeard old message outcome new
+    → HasNoHalt outcome → PlayGoing old → IsLeft old new
+heard_left {old} {new} {message} {outcome} heard free going =
+    let answers : AnswersAs heard.asking heard.ask outcome new = answers_as heard.ask outcome heard.answered in
+    let plays = hears_plays
+    (record { old = old; new = heard.asking; message = message; ask = heard.ask; hears = heard.hears }) going.setup
+    going.play going.state (asks_no_halt free answers) in
+    let asking : IsLeft old heard.asking = (plays.state, plays.heard) in
+    left_on old heard.asking new asking (answer_left (going_left going asking) free answers)
 
-reply_left : (goes : Bool) (s : SessionState) (setup : Setup) (play : Played) → s.state ≡ Playing setup play
-    → IsLeft s (if goes then sent_reply s else s)
-reply_left true s setup play is = (settled_play s.state setup play is, refl)
-reply_left false s setup play is = (refl, refl)
+reply_left : {s : SessionState} (goes : Bool) → PlayGoing s → IsLeft s (if goes then sent_reply s else s)
+reply_left true going = (subst (λ st. after_stop st ≡ st) (sym going.state) refl, refl)
+reply_left false going = (refl, refl)
 
-pub taking_left : {setup : Setup} {play : Played} (old new : Stage) (taking : ElementStep) → Takes old taking new →
-    HaveNoHalt (taking_outcomes taking) →
-    old.session.state ≡ Playing setup play → IsLeft old.session new.session
-taking_left old new (Passed n) takes free is =
+pub taking_left : (old new : Stage) (taking : ElementStep) → Takes old taking new
+    → HaveNoHalt (taking_outcomes taking) → PlayGoing old.session → IsLeft old.session new.session
+taking_left old new (Passed n) takes free going =
     subst (λ (s : Stage). IsLeft old.session s.session) (sym takes.2) (refl, refl)
-taking_left {setup} {play} old new (Answered message outcome parts) takes free is =
-    let heard : IsLeft old.session takes.answered = heard_left takes.heard free.0 is in
+taking_left old new (Answered message outcome parts) takes free going =
+    let heard : IsLeft old.session takes.answered = heard_left takes.heard free.0 going in
     subst (λ (s : Stage). IsLeft old.session s.session) (sym takes.new_is)
     (left_on old.session takes.answered (after_reply takes.answered) heard
-    (reply_left (can_reply takes.answered) takes.answered setup play (heard.0 ∙ is)))
+    (reply_left (can_reply takes.answered) (going_left going heard)))
 
 pub unhalted_front : (xs ys : List Outcome) → HaveNoHalt (xs ++ ys) → HaveNoHalt xs
 unhalted_front [] ys free = tt
@@ -347,83 +274,60 @@ pub unhalted_rest : (xs ys : List Outcome) → HaveNoHalt (xs ++ ys) → HaveNoH
 unhalted_rest [] ys free = free
 unhalted_rest (x ∷ xs) ys free = unhalted_rest xs ys free.1
 
-pub takes_left : {setup : Setup} {play : Played} (old new : Stage) (takings : List ElementStep) → TakesAll old takings
-    new →
-    HaveNoHalt (takings_outcomes takings) → old.session.state ≡ Playing setup play → IsLeft old.session new.session
-takes_left old new [] takes free is = subst (λ (s : Stage). IsLeft old.session s.session) (sym takes) (refl, refl)
-takes_left old new (taking ∷ takings) takes free is =
+pub takes_left : (old new : Stage) (takings : List ElementStep) → TakesAll old takings new
+    → HaveNoHalt (takings_outcomes takings) → PlayGoing old.session → IsLeft old.session new.session
+takes_left old new [] takes free going = subst (λ (s : Stage). IsLeft old.session s.session) (sym takes) (refl, refl)
+takes_left old new (taking ∷ takings) takes free going =
     let first : IsLeft old.session takes.0.session = taking_left old takes.0 taking takes.1.0
-    (unhalted_front (taking_outcomes taking) (takings_outcomes takings) free) is in
+    (unhalted_front (taking_outcomes taking) (takings_outcomes takings) free) going in
     left_on old.session takes.0.session new.session first
     (takes_left takes.0 new takings takes.1.1
-    (unhalted_rest (taking_outcomes taking) (takings_outcomes takings) free) (first.0 ∙ is))
+    (unhalted_rest (taking_outcomes taking) (takings_outcomes takings) free) (going_left going first))
 
 -- what was sent of a play stays
 on_left : {setup : Setup} {play : Played} {old new : SessionState} {film : List ℕ} → HasSentOn setup play old film
     → IsLeft old new → HasSentOn setup play new film
-on_left {new} {film} on left = record {
-  now = on.now;
-  state = left.0 ∙ on.state;
-  run = on.run;
-  place = on.place;
-  start = on.start;
-  plan = on.plan;
-  before = on.before;
-  pieces = on.pieces;
-  paced = on.paced;
-  sent = subst (λ n. HasSent on.now n film) (sym left.1) on.sent;
-}
+on_left on left = goes_on on (as_it_was (going_left (going_on on) left))
 
-pub comes_on : {setup : Setup} {play : Played} {film : List ℕ} {old new : Stage} {event : IoEvent}
-    (come : EventCome old event new) → HasNoHalt come.halt → PlayGoing setup play film old.session →
-    HasSentOn setup play new.session (film ++ film_bytes come.due)
-comes_on {setup} {play} {film} {old} {new} {event = HeardBytes bytes} come free going =
-    subst (λ ps. HasSentOn setup play new.session (film ++ film_bytes ps)) (sym come.comes.0)
-    (subst (λ (s : Stage). HasSentOn setup play s.session (film ++ [])) (sym come.comes.3)
-    (subst (HasSentOn setup play old.session) (sym (append-nil film))
-    (as_it_was old.session setup play film going.state going.sent)))
-comes_on {setup} {play} {film} {new} {event = HeardSlot slot} come free going =
-    subst (λ ps. HasSentOn setup play new.session (film ++ film_bytes ps)) (sym come.comes.1.parts_are)
-    (play_slot slot come.halt going come.comes.1.finished free)
-comes_on {event = HeardEnd} come free going = absurd come.comes
-comes_on {event = Sent byte} come free going = absurd come.comes
+pub comes_on : {old new : Stage} {round : Round} → ComesAs old round new → HasNoHalt round.halt
+    → (going : PlayGoing old.session)
+    → HasSentOn going.setup going.play new.session (going.film ++ film_bytes round.due)
+comes_on {old} BytesCame free going =
+    subst (HasSentOn going.setup going.play old.session) (sym (append-nil going.film)) (as_it_was going)
+comes_on {old} (SlotCame {slot = slot} finishes) free going =
+    subst (λ s. HasSentOn going.setup going.play s (going.film ++ film_bytes (slot_parts old.session slot)))
+    (sym (finished_same finishes free)) (slot_play old.session slot going)
 
-pub round_on : {old new : Stage} {round : Round} {setup : Setup} {play : Played} {film : List ℕ} →
-    Runs old round new → HaveNoHalt (round_outcomes round) →
-    old.session.state ≡ Playing setup play → HasSent play old.session.heard film
-    → HasSentOn setup play new.session (film ++ film_bytes round.due)
-round_on {old} {new} {round} {setup} {play} {film} runs free is has =
-    let opened = runs.opened in
-    let on : HasSentOn setup play opened.session (film ++ film_bytes round.due) =
-    comes_on (record { due = round.due; halt = round.halt; comes = runs.comes }) free.0
-    (record { state = is; sent = has }) in
-    on_left on (takes_left opened new round.takings runs.takes free.1 on.state)
+pub round_on : {old new : Stage} {round : Round} → Runs old round new → HaveNoHalt (round_outcomes round)
+    → (going : PlayGoing old.session)
+    → HasSentOn going.setup going.play new.session (going.film ++ film_bytes round.due)
+round_on {new = new} {round} runs free going =
+    let on = comes_on (comes_as round runs.comes) free.0 going in
+    on_left on (takes_left runs.opened new round.takings runs.takes free.1 (going_on on))
 
 -- a play goes on by events, as long as it isn't halted
-pub rounds_on : {setup : Setup} {play : Played} {film : List ℕ} (old new : Stage) (rounds : List Round) →
-    RunsAll old rounds new → HaveNoHalt (rounds_outcomes rounds) → PlayGoing setup play film old.session →
-    HasSentOn setup play new.session (film ++ rounds_film rounds)
-rounds_on {setup} {play} {film} old new [] runs free going =
-    subst (λ (s : Stage). HasSentOn setup play s.session (film ++ [])) (sym runs)
-    (subst (HasSentOn setup play old.session) (sym (append-nil film))
-    (as_it_was old.session setup play film going.state going.sent))
-rounds_on {setup} {play} {film} old new (round ∷ rounds) runs free going =
-    let first = round_on runs.1.0 (unhalted_front (round_outcomes round)
-    (rounds_outcomes rounds) free) going.state going.sent in
-    let rest = rounds_on {setup = setup} {play = first.now} {film = film
-    ++ film_bytes round.due} runs.0 new rounds runs.1.2
-    (unhalted_rest (round_outcomes round) (rounds_outcomes rounds) free)
-    (record { state = first.state; sent = first.sent }) in
-    subst (HasSentOn setup play new.session) (append_assoc film (film_bytes round.due) (rounds_film rounds))
-    (goes_on first rest)
+pub rounds_on : (old new : Stage) (rounds : List Round) → RunsAll old rounds new → HaveNoHalt (rounds_outcomes rounds)
+    → (going : PlayGoing old.session)
+    → HasSentOn going.setup going.play new.session (going.film ++ rounds_film rounds)
+rounds_on old new [] runs free going =
+    subst (λ (s : Stage). HasSentOn going.setup going.play s.session (going.film ++ [])) (sym runs)
+    (subst (HasSentOn going.setup going.play old.session) (sym (append-nil going.film)) (as_it_was going))
+rounds_on old new (round ∷ rounds) runs free going =
+    let first = round_on runs.1.0 (unhalted_front (round_outcomes round) (rounds_outcomes rounds) free) going in
+    let rest = rounds_on runs.0 new rounds runs.1.2
+    (unhalted_rest (round_outcomes round) (rounds_outcomes rounds) free) (going_on first) in
+    subst (HasSentOn going.setup going.play new.session)
+    (append_assoc going.film (film_bytes round.due) (rounds_film rounds)) (goes_on first rest)
+
+-- the play of a span as it begins
+abbrev pub span_going : (s : PlaySpan) → GoesOn s → PlayGoing s.old.session
+span_going s on = record { setup = on.setup; play = s.play; film = s.film; state = on.state; sent = on.sent }
 
 -- and by what is processed before the next event
 pub film_on : (s : PlaySpan) (on : GoesOn s) → HasSentOn on.setup s.play s.new.session (s.film ++ rounds_film s.rounds)
 film_on s on =
     let front = unhalted_front (takings_outcomes s.takings) (rounds_outcomes s.rounds) on.unhalted in
     let rest = unhalted_rest (takings_outcomes s.takings) (rounds_outcomes s.rounds) on.unhalted in
-    let left = takes_left s.old on.mid s.takings on.takes front on.state in
-    rounds_on on.mid s.new s.rounds on.runs rest (record {
-      state = left.0 ∙ on.state;
-      sent = subst (λ h. HasSent s.play h s.film) (sym left.1) on.sent;
-    })
+    let going : PlayGoing s.old.session = span_going s on in
+    rounds_on on.mid s.new s.rounds on.runs rest
+    (going_left going (takes_left s.old on.mid s.takings on.takes front going))

@@ -1,24 +1,35 @@
--- A PLAY to which no refusal applies is answered by what the station made of it.
-use Rattle.std.proofs.Common.{◌≡◌, ℕ, ◌-◌, List, refl, sym, ap, subst, ◌∙◌, inl, inr}
+-- A PLAY to which no refusal applies is answered by what the station made of it, as its turn at the
+-- station says.
+use Rattle.std.proofs.Common.{◌≡◌, ℕ, ◌+◌, ◌-◌, ◌<◌, List, take, refl, sym, ap, subst, ◌∙◌, inl, inr, arith}
 use Rattle.std.specs.Fmt.{digits}
 use Rattle.rtsp_text.specs.Replies.{reply_front, reply_text, status_line}
+use Rattle.plan_cert.specs.declared.Segment.{Segment}
+use Rattle.slot_calendar.specs.Calendars.{HasRoom}
+use Rattle.slot_calendar.specs.Profiles.{capacity_at}
+use Rattle.slot_calendar.specs.declared.calendar.Overflow.{Overflow as Over}
+use Rattle.slot_calendar.proofs.FirstOverflow.{no-room, overflow-once}
 use Rattle.admission.specs.declared.entries.Answer.{Answer}
 use Rattle.admission.specs.declared.entries.Answer.TheVariants.{Admitted, Halted, Looked, Overflow}
+use Rattle.admission.specs.declared.entries.Command.{Command}
+use Rattle.admission.specs.declared.entries.Entry.{Entry}
+use Rattle.admission.specs.Histories.{IsLegal, booked_after, open_count, state_after}
+use Rattle.admission.specs.Machine.{IsAnswer}
 use Rattle.admission.specs.Makers.{PlacedEntry}
 use Rattle.station.specs.Ledgers.{play_of}
 use Rattle.session.specs.declared.commands.Ask.{Ask}
 use Rattle.session.specs.declared.commands.Ask.TheVariants.{Reply as AskReply, Play as AskPlay}
-use Rattle.session.specs.RequestEffects.{AsksOrLacks, CanBePlayed, ChangesState, HasCode, IsPlayAsked}
-use Rattle.session.specs.RequestEffects.{LacksMemory}
-use Rattle.rtsp_replies.specs.Replies.{started_text}
-use Rattle.session.specs.Methods.{play_front, prepared_of}
+use Rattle.session.specs.RequestEffects.{AsksOrLacks, CanBePlayed, ChangesState, HasCode, IsPlayAsked, LacksMemory}
+use Rattle.rtsp_replies.specs.Replies.{full_text, overflow_text, started_text}
+use Rattle.session.specs.Methods.{play_front}
 use Rattle.session.specs.SessionStates.{SessionState, sequence_of}
 use Rattle.session.proofs.RequestEffectLemmas.{hears_good, hears_ground, hears_state}
-use Rattle.conn.specs.InputSteps.{Outcome, Unasked, Entered, WasFull, Offered, HasHeard, IsAskAnswered}
-use Rattle.conn.specs.InputSteps.{IsPlayAnswered}
+use Rattle.conn.specs.InputSteps.{Outcome, Entered, HasHeard}
 use Rattle.conn.specs.Films.{IsReady}
-use Rattle.conn.specs.Admissions.{IsEntryReplied, IsPlayReplied}
+use Rattle.conn.specs.Admissions.{HasBegunPlay, HasTurn, IsDecided, IsEntryReplied, IsPlayCompleted, IsPlayReplied}
+use Rattle.conn.specs.Admissions.{start_at}
+use Rattle.conn.specs.Journals.{HasRoomAt, IsFullIn, StandsIn, Terms, entries_needed}
 use Rattle.conn.proofs.PlayStart.{play_begins}
+use Rattle.conn.proofs.StationAnswers.{AnswersAs, answers_as, NoneAsked, PlayAdmitted, PlayOverflowed, PlayFull}
 
 -- the reply to a play begins with 200, and the reply to one that runs out of memory has 500
 front_ok : (old asking : SessionState) (is : IsPlayAsked old asking) (slots : ℕ) →
@@ -31,24 +42,34 @@ memory_code : (old : SessionState) (ask : Ask) (asking : SessionState) → Lacks
 unfolding reply_text reply_front status_line digits
 memory_code old ask asking lacks = subst (HasCode 500) (sym (ap (λ (s : SessionState). s.text) lacks.refused.1)) refl
 
--- a PLAY to which no refusal applies was asked for, and its play was entered
-pub record PlayEntered (old asking : SessionState) (placed : PlacedEntry) : Type 0 where
+-- a session asked the station for a play, and is else as it was
+pub record AsksPlay (old asking : SessionState) : Type 0 where
   pub asked : IsPlayAsked old asking
   pub same : asking.state ≡ old.state
-  pub command : placed.entry.command ≡ play_of old.heard asked.planned.plan
+  pub heard : asking.heard ≡ old.heard
 
-entry_replied : {old asking : SessionState} {placed : PlacedEntry} → PlayEntered old asking placed → (answer : Answer)
-    (new : SessionState) → IsPlayAnswered asking placed answer new → IsEntryReplied old placed answer new
-entry_replied {old} {asking} {placed} entered (Admitted start) new answered =
-    let prepared = prepared_of old is.stored is.setup is.planned is.sequence in
-    let ready : IsReady is.setup asking.state = subst (IsReady is.setup) (sym (same ∙ is.ready)) refl in
+-- its plan
+abbrev plan_of : {old asking : SessionState} → AsksPlay old asking → List Segment
+plan_of play = play.asked.planned.plan
+
+-- its command
+command_is : {old asking : SessionState} (play : AsksPlay old asking) (placed : PlacedEntry)
+    → placed.entry.command ≡ play_of asking.heard (plan_of play)
+    → placed.entry.command ≡ play_of old.heard (plan_of play)
+command_is play placed is = is ∙ ap (λ h. play_of h (plan_of play)) play.heard
+
+asked_replied : {old asking new : SessionState} {outcome : Outcome} (play : AsksPlay old asking)
+    → AnswersAs asking (AskPlay (plan_of play)) outcome new → IsPlayReplied old outcome new
+asked_replied {old} {asking} {new} play (PlayAdmitted {placed = placed} {start = start} entry answered) =
+    let is = play.asked in
+    let ready : IsReady is.setup asking.state = subst (IsReady is.setup) (sym (play.same ∙ is.ready)) refl in
     let begun = play_begins asking placed answered ready is.awaited in
-    let text = ap (λ (s : SessionState). s.text) answered.1
-    ∙ ap (λ (t : List ℕ). started_text t (start - asking.heard)) is.text in record {
+    let text = ap (λ (t : List ℕ). started_text t (start - asking.heard)) is.text in
+    subst (λ a. IsEntryReplied old placed a new) (sym entry.answer_is) (record {
       ok = subst (HasCode 200) (sym text) (front_ok old asking is (start - asking.heard));
       asking = asking;
       asked = is;
-      command = command;
+      command = command_is play placed entry.command;
       play = begun.play;
       state = begun.state;
       run = begun.run;
@@ -56,49 +77,124 @@ entry_replied {old} {asking} {placed} entered (Admitted start) new answered =
       place_is = begun.place_is;
       start_is = begun.start_is;
       sent = begun.sent;
+    })
+asked_replied {old} {asking} {new} play (PlayOverflowed {placed = placed} entry) =
+    subst (λ a. IsEntryReplied old placed a new) (sym entry.answer_is) (sequence_of asking.awaited, refl)
+asked_replied {asking = asking} play (PlayFull two) = (sequence_of asking.awaited, refl)
+
+lacks_replied : {old asking new : SessionState} {ask : Ask} {outcome : Outcome} → LacksMemory old ask asking
+    → AnswersAs asking AskReply outcome new → IsPlayReplied old outcome new
+lacks_replied {old} {asking} {ask = ask} lacks NoneAsked = memory_code old ask asking lacks
+
+-- an entry was made: by the machine's answer in the state after the entries before it
+entry_decided : {terms : Terms} {journal : List Entry} {old : SessionState} {plan : List Segment} {new : SessionState}
+    (placed : PlacedEntry) (answer : Answer) →
+    HasRoomAt terms journal placed.place 2 →
+    IsAnswer terms.steps (state_after (take placed.place journal)) (play_of old.heard plan) answer →
+    IsEntryReplied old placed answer new → IsDecided terms journal old plan placed.place new
+entry_decided {terms} {journal} {old} {plan} {new} placed (Admitted start) room is replied =
+    let from : ℕ = start_at journal placed.place old.heard in
+    let booked : ℕ → ℕ = booked_after (take placed.place journal) in
+    let fits : HasRoom 0 booked (capacity_at terms.steps) from plan =
+    subst (λ s. HasRoom 0 booked (capacity_at terms.steps) s plan) is.0 is.1 in record {
+      full = λ no. absurd (omega (arith, no, room));
+      over = λ has over first. absurd (no-room first fits);
+      admitted = λ has all. (placed, subst (λ s. HasBegunPlay old placed s new) is.0 replied);
     }
-  where
-    open entered use {asked as is, same, command}
-entry_replied {asking} entered (Overflow slot booked asked) new answered =
-    (sequence_of asking.awaited, ap (λ (s : SessionState). s.text) answered)
-entry_replied entered Halted new answered = absurd answered
-entry_replied entered (Looked now at booked) new answered = absurd answered
+entry_decided {new} placed (Overflow slot bytes asked) room is replied =
+    let found : Over = record { slot = slot; booked = bytes; asked = asked } in record {
+      full = λ no. absurd (omega (arith, no, room));
+      over = λ has over first.
+          let same : found ≡ over = overflow-once is first in
+          (replied.0, subst (λ (o : Over). new.text ≡ overflow_text replied.0 o.slot o.booked o.asked) same replied.1);
+      admitted = λ has all. absurd (no-room is all);
+    }
+entry_decided placed Halted room is replied = absurd is
+entry_decided placed (Looked now at booked) room is replied = absurd is
 
-asked_replied : {old asking : SessionState} (is : IsPlayAsked old asking) (outcome : Outcome) (new : SessionState) →
-    asking.state ≡ old.state → asking.heard ≡ old.heard →
-    IsAskAnswered asking (AskPlay is.planned.plan) outcome new → IsPlayReplied old outcome new
-asked_replied is Unasked new same heard answered = absurd answered
-asked_replied is (Entered placed) new same heard answered =
-    entry_replied (record { asked = is; same = same; command = answered.0 ∙ ap (λ h. play_of h is.planned.plan) heard })
-    placed.entry.answer new answered.1
-asked_replied {asking} is (WasFull more entries live) new same heard answered =
-    (sequence_of asking.awaited, ap (λ (s : SessionState). s.text) answered.0)
-asked_replied is (Offered at_slot note) new same heard answered = absurd answered
+-- the turn of a play that was entered, and of one for which the journal was full
+module _ {terms : Terms} {journal : List Entry} {from : ℕ} {old asking new : SessionState}
+    (play : AsksPlay old asking) where
+  entry_turn : {placed : PlacedEntry} → IsLegal terms.steps journal → StandsIn terms journal from placed
+      → placed.entry.command ≡ play_of old.heard (plan_of play) → IsPlayReplied old (Entered placed) new
+      → HasTurn terms journal from old new
+  entry_turn {placed} legal stands command replied =
+      let state = state_after (take placed.place journal) in
+      let needed : entries_needed placed.entry.command ≡ 2 = ap entries_needed command in
+      let room : HasRoomAt terms journal placed.place 2 = omega (arith, stands.room, needed) in
+      let answer : IsAnswer terms.steps state placed.entry.command placed.entry.answer =
+      subst (λ (e : Entry). IsAnswer terms.steps state e.command e.answer) (stands.entry placed.entry)
+      (legal.each placed.place placed.entry stands.within) in
+      record {
+        asking = asking;
+        asked = play.asked;
+        turn = placed.place;
+        after = stands.after;
+        within = omega (arith, stands.within);
+        decided = entry_decided placed placed.entry.answer room
+            (subst (λ (c : Command). IsAnswer terms.steps state c placed.entry.answer) command answer) replied;
+      }
 
-lacks_replied : {old : SessionState} {ask : Ask} {asking : SessionState} (outcome : Outcome) (new : SessionState) →
-    LacksMemory old ask asking →
-    IsAskAnswered asking AskReply outcome new → IsPlayReplied old outcome new
-lacks_replied {old} {ask} {asking} Unasked new lacks answered =
-    subst (HasCode 500) (sym (ap (λ (s : SessionState). s.text) answered)) (memory_code old ask asking lacks)
-lacks_replied {ask} (Entered placed) new lacks answered = absurd answered
-lacks_replied {ask} (WasFull more entries live) new lacks answered = absurd answered
-lacks_replied {ask} (Offered at_slot note) new lacks answered = absurd answered
+  full_turn : {more entries live : ℕ} → IsFullIn terms.limit journal from more entries live → more ≡ 2
+      → ((sequence : ℕ) × (new.text ≡ full_text sequence entries live)) → HasTurn terms journal from old new
+  full_turn {more} {entries} full two replied =
+      let over : terms.limit < entries + open_count (take entries journal) + 2 =
+      omega (arith, full.full, full.open_is, two) in
+      record {
+        asking = asking;
+        asked = play.asked;
+        turn = entries;
+        after = full.after;
+        within = full.within;
+        decided = record {
+          full = λ no. (replied.0, subst (λ n. new.text ≡ full_text replied.0 entries n) full.open_is replied.1);
+          over = λ has other first. absurd (omega (arith, has, over));
+          admitted = λ has all. absurd (omega (arith, has, over));
+        };
+      }
 
-either_replied : {old : SessionState} {ask : Ask} {asking : SessionState} (outcome : Outcome) (new : SessionState) →
-    AsksOrLacks old ask asking →
-    ChangesState ask old asking → asking.heard ≡ old.heard → IsAskAnswered asking ask outcome new →
-    IsPlayReplied old outcome new
-either_replied {old} {ask} {asking} outcome new (inl asks) changes heard answered =
-    let state = subst (λ a. ChangesState a old asking) asks.command changes in
-    asked_replied asks.play outcome new state.0 heard
-    (subst (λ a. IsAskAnswered asking a outcome new) asks.command answered)
-either_replied {ask} {asking} outcome new (inr lacks) changes heard answered =
-    lacks_replied outcome new lacks (subst (λ a. IsAskAnswered asking a outcome new) lacks.refused.0 answered)
+asked_completed : {old asking new : SessionState} {outcome : Outcome} (play : AsksPlay old asking)
+    → AnswersAs asking (AskPlay (plan_of play)) outcome new → IsPlayReplied old outcome new
+    → IsPlayCompleted old outcome new
+asked_completed play (PlayAdmitted {placed = placed} entry answered) replied = λ terms journal from legal agree.
+    inl (entry_turn play legal agree.0 (command_is play placed entry.command) replied)
+asked_completed play (PlayOverflowed {placed = placed} entry) replied = λ terms journal from legal agree.
+    inl (entry_turn play legal agree.0 (command_is play placed entry.command) replied)
+asked_completed play (PlayFull two) replied = λ terms journal from legal agree.
+    inl (full_turn play agree.0 two replied)
+
+-- where memory was wanting the station isn't asked
+lacks_completed : {old asking new : SessionState} {outcome : Outcome} → AnswersAs asking AskReply outcome new
+    → IsPlayReplied old outcome new → IsPlayCompleted old outcome new
+lacks_completed NoneAsked replied = λ terms journal from legal agree. inr (refl, replied)
+
+-- a PLAY to which no refusal applies asks for a play, or finds no memory
+by_request : {old new : SessionState} {message : List ℕ} {outcome : Outcome} (P : Type 0)
+    (heard : HasHeard old message outcome new) → CanBePlayed old message
+    → ((play : AsksPlay old heard.asking) → AnswersAs heard.asking (AskPlay (plan_of play)) outcome new → P)
+    → (LacksMemory old heard.ask heard.asking → AnswersAs heard.asking AskReply outcome new → P) → P
+by_request {old} {new} {message} {outcome} P heard can asked lacked =
+    let asking = heard.asking in
+    let changes = hears_state old asking message heard.ask heard.hears in
+    let answers : AnswersAs asking heard.ask outcome new = answers_as heard.ask outcome heard.answered in
+    elim (hears_good old asking message heard.ask heard.hears can) [
+      | inl asks ↦ asked (record {
+        asked = asks.play;
+        same = (subst (λ a. ChangesState a old asking) asks.command changes).0;
+        heard = (hears_ground old asking message heard.ask heard.hears).heard;
+      }) (subst (λ a. AnswersAs asking a outcome new) asks.command answers)
+      | inr lacks ↦ lacked lacks (subst (λ a. AnswersAs asking a outcome new) lacks.refused.0 answers)
+    ]
 
 pub play_answered : (old new : SessionState) (message : List ℕ) (outcome : Outcome) → CanBePlayed old message →
-    HasHeard old message outcome new →
-    IsPlayReplied old outcome new
+    HasHeard old message outcome new → IsPlayReplied old outcome new
 play_answered old new message outcome can heard =
-    either_replied outcome new (hears_good old heard.asking message heard.ask heard.hears can)
-    (hears_state old heard.asking message heard.ask heard.hears)
-    (hears_ground old heard.asking message heard.ask heard.hears).heard heard.answered
+    by_request (IsPlayReplied old outcome new) heard can (λ play answers. asked_replied play answers)
+    (λ lacks answers. lacks_replied lacks answers)
+
+pub play_completed : (old new : SessionState) (message : List ℕ) (outcome : Outcome) → CanBePlayed old message →
+    HasHeard old message outcome new → IsPlayCompleted old outcome new
+play_completed old new message outcome can heard =
+    let replied = play_answered old new message outcome can heard in
+    by_request (IsPlayCompleted old outcome new) heard can (λ play answers. asked_completed play answers replied)
+    (λ lacks answers. lacks_completed answers replied)

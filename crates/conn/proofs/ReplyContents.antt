@@ -5,29 +5,20 @@ use Rattle.std.proofs.Common.{ap, subst, ◌∙◌, arith}
 use Rattle.std.proofs.lemmas.List.{append-nil, append_assoc}
 use Rattle.std.proofs.lemmas.List.Elements.{Contains-append_left}
 use Rattle.std.proofs.lemmas.List.Elements.{Contains-push}
-use Rattle.vod_base.specs.Links.{IoEvent, HeardBytes, HeardEnd, HeardSlot, Sent}
 use Rattle.std.specs.Fmt.{digits}
 use Rattle.rtsp_text.specs.Replies.{field_line, reply_front, reply_text, status_line}
-use Rattle.admission.specs.declared.entries.Answer.{Answer}
-use Rattle.admission.specs.declared.entries.Answer.TheVariants.{Admitted, Halted, Looked, Overflow}
+use Rattle.admission.specs.declared.entries.Answer.TheVariants.{Overflow}
 use Rattle.admission.specs.Makers.{PlacedEntry}
 use Rattle.session.specs.declared.commands.Ask.{Ask}
-use Rattle.session.specs.declared.commands.Ask.TheVariants.{Reply as AskReply, Play as AskPlay}
-use Rattle.session.specs.declared.commands.Ask.TheVariants.{Halt as AskHalt, Look as AskLook}
-use Rattle.session.specs.declared.commands.Ask.TheVariants.{Offer as AskOffer}
 use Rattle.session.specs.RequestEffects.{HasCode, IsNoRefusal, RefusesNone}
-use Rattle.session.specs.RequestSteps.{after_full}
 use Rattle.rtsp_replies.specs.Replies.{started_text}
 use Rattle.rtsp_replies.specs.Replies.{field, full_text, overflow_text}
-use Rattle.session.specs.SlotSteps.{can_reply, after_play, is_between, is_sending, is_taken, sent_due}
-use Rattle.session.specs.SlotSteps.{sent_reply, sent_slot, after_slot, stepped_in}
-use Rattle.session.specs.SessionStates.{AwaitedAnswer}
-use Rattle.session.specs.SessionStates.{SessionState, awaited_answer}
-use Rattle.conn.specs.InputSteps.{Outcome, Unasked, Entered, WasFull, Offered, SentPart, Film, Text, Stage}
-use Rattle.conn.specs.InputSteps.{ElementStep, Passed, Answered, HasHeard, IsAskAnswered, IsFinished, IsHalted}
-use Rattle.conn.specs.InputSteps.{IsLookAnswered, IsPlayAnswered, Takes as TakesElement, TakesAll}
-use Rattle.conn.specs.InputSteps.{slot_parts}
-use Rattle.conn.specs.EventSteps.{Comes, Ending, Ends, Unheard, PeerEnded, Overfull, AtElement, InSlot}
+use Rattle.session.specs.SlotSteps.{can_reply, is_between, is_sending, is_taken, sent_due, sent_reply, after_slot}
+use Rattle.session.specs.SlotSteps.{stepped_in}
+use Rattle.session.specs.SessionStates.{AwaitedAnswer, SessionState}
+use Rattle.conn.specs.InputSteps.{Outcome, Entered, WasFull, SentPart, Film, Text, Stage, ElementStep, Passed, Answered}
+use Rattle.conn.specs.InputSteps.{HasHeard, Takes as TakesElement, TakesAll, slot_parts}
+use Rattle.conn.specs.EventSteps.{Ending, Ends, Unheard, PeerEnded, Overfull, AtElement, InSlot}
 use Rattle.conn.specs.EventSteps.{InReply, Round, Runs, RunsAll, ending_outcomes}
 use Rattle.conn.specs.EventSteps.{round_outcomes, rounds_outcomes, takings_outcomes}
 use Rattle.conn.specs.Films.{round_parts, rounds_parts, takings_parts}
@@ -35,8 +26,11 @@ use Rattle.conn.specs.Plays.{ending_rounds}
 use Rattle.conn.specs.declared.reports.ConnEnd.{ConnEnd}
 use Rattle.session.proofs.ReplyCodeLemmas.{hears_text, ok_plain}
 use Rattle.conn.specs.Guarantees.{ReportsFullOf}
-use Rattle.conn.proofs.EventPremises.{SlotStandings, SlotBytes}
-use Rattle.conn.proofs.HaltAnswers.{finished_as_before, halted_same}
+use Rattle.conn.proofs.EventPremises.{SlotBytes}
+use Rattle.conn.proofs.PlayProgress.{slot_any}
+use Rattle.conn.proofs.StationAnswers.{AnswersAs, ComesAs, FinishesAs, answers_as, comes_as, NoneAsked, PlayAdmitted}
+use Rattle.conn.proofs.StationAnswers.{PlayOverflowed, PlayFull, PlayHalted, LookMade, LookFull, OfferMade, NothingLeft}
+use Rattle.conn.proofs.StationAnswers.{DoneHalted, BytesCame, SlotCame}
 
 -- three digits differ where the first does
 other : {a b c x y z : ℕ} → (a ≡ x → ⊥) → (a ∷ b ∷ c ∷ []) ≡ (x ∷ y ∷ z ∷ []) → ⊥
@@ -149,89 +143,27 @@ told_full made more entries live sequence = record {
   };
 }
 
--- the station's answer to a play is the one that the entry has
-pub record EntryAnswer (old : SessionState) (placed : PlacedEntry) (answer : Answer) (new : SessionState) : Type 0 where
-  pub answer_is : placed.entry.answer ≡ answer
-  pub answered : IsPlayAnswered old placed answer new
+-- what the station answers to a session whose own text states no refusal
+answered_told : {old new : SessionState} {ask : Ask} {outcome : Outcome} (made : List Outcome) → RefusesNone ask old
+    → AnswersAs old ask outcome new → IsTold (made ++ outcome ∷ []) new.text
+answered_told {old} {outcome = outcome} made plain (PlayAdmitted {start = start} entry answered) =
+    let rest : List ℕ = field_line (field (codes "x-Start") (decimal (start - old.heard))) in
+    told_plain (made ++ outcome ∷ []) (started_text old.text (start - old.heard))
+    (subst IsNoRefusal (sym (append_assoc old.text rest (codes "\r\n"))) (plain (rest ++ codes "\r\n")))
+answered_told made plain (PlayOverflowed {placed = placed} entry) = told_overflow made placed _ entry.answer_is
+answered_told made plain (PlayFull {more = more} {entries} {live} two) = told_full made more entries live _
+answered_told made plain (LookFull {more = more} {entries} {live}) = told_full made more entries live _
+answered_told {outcome = outcome} made plain (LookMade is) = told_plain (made ++ outcome ∷ []) _ (ok_plain _ _ _)
+answered_told {outcome = outcome} made plain OfferMade = told_plain (made ++ outcome ∷ []) _ (ok_plain _ _ _)
+answered_told {old} {outcome = outcome} made plain NoneAsked = told_plain (made ++ outcome ∷ []) old.text plain
+answered_told {old} {outcome = outcome} made plain (PlayHalted entry) =
+    told_plain (made ++ outcome ∷ []) old.text plain
 
-play_told : {answer : Answer} {old : SessionState} {placed : PlacedEntry} {new : SessionState} (made : List Outcome) →
-    ((rest : List ℕ) → IsNoRefusal (old.text ++ rest)) → EntryAnswer old placed answer new →
-    IsTold (made ++ Entered placed ∷ []) new.text
-play_told {answer = Admitted start} {old} {placed} made plain given =
-    subst (IsTold (made ++ Entered placed ∷ [])) (sym (ap (λ (s : SessionState). s.text) given.answered.1))
-    (told_plain (made ++ Entered placed ∷ []) (started_text old.text (start - old.heard))
-    (subst IsNoRefusal
-    (sym (append_assoc old.text (field_line (field (codes "x-Start") (decimal (start - old.heard)))) (codes "\r\n")))
-    (plain (field_line (field (codes "x-Start") (decimal (start - old.heard))) ++ codes "\r\n"))))
-play_told {answer = Overflow slot booked asked} {placed} made plain given =
-    subst (IsTold (made ++ Entered placed ∷ [])) (sym (ap (λ (s : SessionState). s.text) given.answered))
-    (told_overflow made placed _ given.answer_is)
-play_told {answer = Halted} made plain given = absurd given.answered
-play_told {answer = Looked now at booked} made plain given = absurd given.answered
-
-look_told : (made : List Outcome) (old : SessionState) (placed : PlacedEntry) (answer : Answer) (new : SessionState) →
-    IsLookAnswered old placed answer new →
-    IsTold (made ++ Entered placed ∷ []) new.text
-look_told made old placed (Admitted start) new answered = absurd answered
-look_told made old placed (Overflow slot booked asked) new answered = absurd answered
-look_told made old placed Halted new answered = absurd answered
-look_told made old placed (Looked now at booked) new answered =
-    subst (IsTold (made ++ Entered placed ∷ [])) (sym (ap (λ (s : SessionState). s.text) answered))
-    (told_plain (made ++ Entered placed ∷ []) _ (ok_plain _ _ _))
-
-full_told : {new : SessionState} (made : List Outcome) (old : SessionState) (more entries live : ℕ) →
-    new ≡ after_full old entries live →
-    IsTold (made ++ WasFull more entries live ∷ []) new.text
-full_told {new} made old more entries live is =
-    subst (IsTold (made ++ WasFull more entries live ∷ [])) (sym (ap (λ (s : SessionState). s.text) is))
-    (told_full made more entries live _)
-
--- a halt leaves the reply
-pub halted_text : (old : SessionState) (keep : ℕ) (outcome : Outcome) (new : SessionState)
-    → IsHalted old keep outcome new → new.text ≡ old.text
-halted_text = halted_same (λ (s : SessionState). s.text) (λ s place. refl)
-
--- the station's answer to a session whose text states no refusal
-pub record PlainAnswer (old : SessionState) (ask : Ask) (outcome : Outcome) (new : SessionState) : Type 0 where
-  pub plain : RefusesNone ask old
-  pub answered : IsAskAnswered old ask outcome new
-
-answered_told : {old new : SessionState} (made : List Outcome) (ask : Ask) (outcome : Outcome) →
-    PlainAnswer old ask outcome new → IsTold (made ++ outcome ∷ []) new.text
-answered_told {old} made AskReply Unasked given =
-    subst (IsTold (made ++ Unasked ∷ [])) (sym (ap (λ (s : SessionState). s.text) given.answered))
-    (told_plain (made ++ Unasked ∷ []) old.text given.plain)
-answered_told made AskReply (Entered placed) given = absurd given.answered
-answered_told made AskReply (WasFull more entries live) given = absurd given.answered
-answered_told made AskReply (Offered at_slot note) given = absurd given.answered
-answered_told made (AskPlay plan) Unasked given = absurd given.answered
-answered_told {old} made (AskPlay plan) (Entered placed) given =
-    play_told {old = old} made given.plain (record { answer_is = refl; answered = given.answered.1 })
-answered_told {old} made (AskPlay plan) (WasFull more entries live) given =
-    full_told made old more entries live given.answered.0
-answered_told made (AskPlay plan) (Offered at_slot note) given = absurd given.answered
-answered_told {old} {new} made (AskHalt keep) outcome given =
-    subst (IsTold (made ++ outcome ∷ [])) (sym (halted_text old keep outcome new given.answered))
-    (told_plain (made ++ outcome ∷ []) old.text given.plain)
-answered_told made (AskLook slot) Unasked given = absurd given.answered
-answered_told {old} {new} made (AskLook slot) (Entered placed) given =
-    look_told made old placed placed.entry.answer new given.answered.1
-answered_told {old} made (AskLook slot) (WasFull more entries live) given =
-    full_told made old more entries live given.answered.0
-answered_told made (AskLook slot) (Offered at_slot note) given = absurd given.answered
-answered_told made (AskOffer plan offers) Unasked given = absurd given.answered
-answered_told made (AskOffer plan offers) (Entered placed) given = absurd given.answered
-answered_told made (AskOffer plan offers) (WasFull more entries live) given = absurd given.answered
-answered_told made (AskOffer plan offers) (Offered at_slot note) given =
-    subst (IsTold (made ++ Offered at_slot note ∷ [])) (sym (ap (λ (s : SessionState). s.text) given.answered.2))
-    (told_plain (made ++ Offered at_slot note ∷ []) _ (ok_plain _ _ _))
-
-heard_told : (made : List Outcome) (old : SessionState) (message : List ℕ) (outcome : Outcome) (new : SessionState) →
-    HasHeard old message outcome new →
-    IsTold (made ++ outcome ∷ []) new.text
-heard_told made old message outcome new heard =
-    answered_told made heard.ask outcome
-    (record { plain = hears_text old heard.asking message heard.ask heard.hears; answered = heard.answered })
+heard_told : {old new : SessionState} {message : List ℕ} {outcome : Outcome} (made : List Outcome)
+    → HasHeard old message outcome new → IsTold (made ++ outcome ∷ []) new.text
+heard_told {old} {message = message} {outcome} made heard =
+    answered_told made (hears_text old heard.asking message heard.ask heard.hears)
+    (answers_as heard.ask outcome heard.answered)
 
 -- a reply that goes out
 reply_told : (made : List Outcome) (goes : Bool) (text : List ℕ) → IsTold made text
@@ -253,7 +185,7 @@ taking_tells : {old new : Stage} {message : List ℕ} {outcome : Outcome} {parts
 taking_tells {old} {new} {message} {outcome} made takes =
     let goes : Bool = can_reply takes.answered in
     let told : IsTold (made ++ outcome ∷ []) takes.answered.text =
-    heard_told made old.session message outcome takes.answered takes.heard in
+    heard_told made takes.heard in
     let text : new.session.text ≡ takes.answered.text =
     ap (λ (s : Stage). s.session.text) takes.new_is ∙ reply_text_is goes takes.answered in
     record {
@@ -289,19 +221,10 @@ takings_tell made old new (Answered message outcome parts ∷ takings) told take
     })
 
 -- a slot leaves the reply, and sends it or not
-slot_text_cases : (taken sending : Bool) (standings : SlotStandings) →
-    standings.sending.text ≡ standings.before.text → standings.still.text ≡ standings.before.text →
-    (if taken then (if sending then standings.sending else standings.still) else standings.before).text
-    ≡ standings.before.text
-slot_text_cases false sending standings one other = refl
-slot_text_cases true false standings one other = other
-slot_text_cases true true standings one other = one
-
 slot_text : (old : SessionState) (slot : ℕ) → (after_slot old slot).text ≡ old.text
 slot_text old slot =
-    slot_text_cases (is_taken old slot) (is_sending old.state)
-    (record { sending = after_play (sent_slot old slot); still = record old { heard = slot }; before = old })
-    (reply_text_is (old.waits && is_between (stepped_in true slot old.state)) (sent_due old slot)) refl
+    slot_any (λ s. s.text ≡ old.text) old slot
+    (λ sends. reply_text_is (old.waits && is_between (stepped_in true slot old.state)) (sent_due old slot)) refl refl
 
 due_told : {made : List Outcome} {text : List ℕ} (sends waits between : Bool) (bytes : SlotBytes) → IsTold made text →
     AreReported made (if sends then (if waits then Film bytes.before ∷
@@ -318,34 +241,25 @@ slot_tells made old slot told =
     due_told (is_taken old slot && is_sending old.state) old.waits (is_between (stepped_in true slot old.state))
     (record { before = _; rest = _; plain = _ }) told
 
-finished_text : (asks : AwaitedAnswer) (old : SessionState) (halt : Outcome) (new : SessionState)
-    → IsFinished asks old halt new → new.text ≡ old.text
-finished_text = finished_as_before (λ (s : SessionState). s.text) (λ s place. refl)
+finished_text : {asks : AwaitedAnswer} {old new : SessionState} {halt : Outcome} → FinishesAs old asks halt new
+    → new.text ≡ old.text
+finished_text NothingLeft = refl
+finished_text (DoneHalted entry) = refl
 
-comes_tells : {made : List Outcome} {due : List SentPart} (old new : Stage) (event : IoEvent) (halt : Outcome) →
-    IsTold made old.session.text →
-    Comes old event due halt new → Tells made new.session due
-comes_tells {made} old new (HeardBytes bytes) halt told comes = record {
-  waiting = subst (λ (s : Stage). IsTold made s.session.text) (sym comes.3) told;
-  sent = subst (AreReported made) (sym comes.0) tt;
+comes_tells : {made : List Outcome} {old new : Stage} {round : Round} → IsTold made old.session.text
+    → ComesAs old round new → Tells made new.session round.due
+comes_tells told BytesCame = record { waiting = told; sent = tt }
+comes_tells {made} {old} told (SlotCame {slot = slot} finishes) = record {
+  waiting = subst (IsTold made) (sym (finished_text finishes ∙ slot_text old.session slot)) told;
+  sent = slot_tells made old.session slot told;
 }
-comes_tells {made} old new (HeardSlot slot) halt told comes =
-    let s = after_slot old.session slot in
-    let text : new.session.text ≡ old.session.text =
-    finished_text (awaited_answer s) s halt new.session comes.1.finished ∙ slot_text old.session slot in
-    record {
-      waiting = subst (IsTold made) (sym text) told;
-      sent = subst (AreReported made) (sym comes.1.parts_are) (slot_tells made old.session slot told);
-    }
-comes_tells {made} old new HeardEnd halt told comes = absurd comes
-comes_tells {made} old new (Sent byte) halt told comes = absurd comes
 
 -- a round, and rounds
 round_tells : (made : List Outcome) (old new : Stage) (round : Round) → IsTold made old.session.text →
     Runs old round new →
     Tells (made ++ round_outcomes round) new.session (round_parts round)
 round_tells made old new round told runs =
-    let first = comes_tells old runs.opened round.event round.halt told runs.comes in
+    let first = comes_tells told (comes_as round runs.comes) in
     let opened : IsTold (made ++ round.halt ∷ []) runs.opened.session.text =
     told_with_more made (round.halt ∷ []) runs.opened.session.text first.waiting in
     let rest = takings_tell (made ++ round.halt ∷ []) runs.opened new round.takings opened runs.takes in

@@ -8,7 +8,6 @@ use Rattle.pacer.specs.PacerStates.{IsPacerState, PacerState, first_slots, next_
 use Rattle.pacer.specs.PacerStates.{stands_at_boundary, step_end, after_step}
 use Rattle.pacer.proofs.PacerStateLemmas.{boundary-from}
 use Rattle.pacer.proofs.SendLemmas.{between-length}
-use Rattle.vod_base.specs.Links.{IoEvent, HeardBytes, HeardEnd, HeardSlot, Sent}
 use Rattle.session.specs.declared.states.Play.{Play as Played}
 use Rattle.film_streams.specs.declared.setups.Setup.{Setup}
 use Rattle.session.specs.declared.states.State.{State}
@@ -20,13 +19,14 @@ use Rattle.conn.specs.InputSteps.{SentPart, Film, Text, Stage, ElementStep, Pass
 use Rattle.conn.specs.InputSteps.{due_parts, film_bytes, reply_parts}
 use Rattle.conn.specs.EventSteps.{Round, Runs, RunsAll, round_outcomes, rounds_outcomes}
 use Rattle.conn.specs.EventSteps.{takings_outcomes}
-use Rattle.conn.specs.Films.{HaveNoHalt, GoesOn, HasSent, StandBetween, PlaySpan, round_parts}
+use Rattle.conn.specs.Films.{HaveNoHalt, GoesOn, HasSent, HasSentOn, StandBetween, PlaySpan, round_parts}
 use Rattle.conn.specs.Films.{rounds_parts, takings_parts}
 use Rattle.pacer.proofs.SlotStepLemmas.{most-slots}
 use Rattle.conn.proofs.FilmBytes.{stopped_is}
-use Rattle.conn.proofs.PlayProgress.{comes_on, heard_left, round_on, taking_left, takes_left}
-use Rattle.conn.proofs.PlayProgress.{unhalted_front, unhalted_rest}
-use Rattle.conn.proofs.EventPremises.{SlotBytes, EventCome, PlayGoing}
+use Rattle.conn.proofs.PlayProgress.{comes_on, going_left, going_on, heard_left, round_on, span_going, taking_left}
+use Rattle.conn.proofs.PlayProgress.{takes_left, unhalted_front, unhalted_rest}
+use Rattle.conn.proofs.EventPremises.{SlotBytes, PlayGoing}
+use Rattle.conn.proofs.StationAnswers.{ComesAs, comes_as, BytesCame, SlotCame}
 
 -- as many bytes were sent as the plan has up to the latest slot
 pub film_count : (play : Played) (heard : ℕ) (film : List ℕ) → HasSent play heard film
@@ -88,29 +88,30 @@ slot_stands : {between : Bool} {pieces : List (List ℕ)} (waits : Bool) (place 
     StandBetween pieces place
     (if waits then Film bytes.before ∷ (if between then Text text ∷ Film bytes.rest ∷ [] else []) else Film
     bytes.plain ∷ [])
-slot_stands {between} false place bytes text stands = tt
+slot_stands false place bytes text stands = tt
 slot_stands {between = false} true place bytes text stands = tt
 slot_stands {between = true} true place bytes text stands = (stands refl, tt)
 
-due_stand : {setup : Setup} {play : Played} {film : List ℕ} (session : SessionState) (slot : ℕ) →
-    session.state ≡ Playing setup play →
-    HasSent play session.heard film → StandBetween play.pacer.pieces (play.pacer.before + length film)
-    (due_parts session slot)
-due_stand {setup} {play} {film} session slot is has =
-    let p = play.pacer in
+-- these parts stand between the frames and reports of a play that goes on
+abbrev StandIn : {session : SessionState} → PlayGoing session → List SentPart → Type 0
+StandIn going parts = StandBetween going.play.pacer.pieces (going.play.pacer.before + length going.film) parts
+
+due_stand : (session : SessionState) (slot : ℕ) (going : PlayGoing session) → StandIn going (due_parts session slot)
+due_stand session slot going =
+    let p = going.play.pacer in
+    let place : ℕ = p.before + length going.film in
     let State' : State → Type 0 =
-    λ st. (is_between (stepped_in true slot st) ≡ true
-    → IsBoundary p.pieces ((p.before + length film) + length (step_bytes true slot st))) in
-    let stands : State' (Playing setup play) =
+    λ st. (is_between (stepped_in true slot st) ≡ true → IsBoundary p.pieces (place + length (step_bytes true slot st)))
+    in
+    let stands : State' (Playing going.setup going.play) =
     λ between. subst (IsBoundary p.pieces)
-    (omega (arith, sent_place play session.heard film has, stopped_place slot p has.pacing))
-    (boundary_here (after_step true slot p) (stopped_is slot p has.pacing) between) in
-    slot_stands session.waits (p.before + length film) (record {
+    (omega (arith, sent_place going.play session.heard going.film going.sent, stopped_place slot p going.sent.pacing))
+    (boundary_here (after_step true slot p) (stopped_is slot p going.sent.pacing) between) in
+    slot_stands session.waits place (record {
       before = step_bytes true slot session.state;
       rest = step_bytes false slot (stepped_in true slot session.state);
       plain = step_bytes false slot session.state;
-    }) session.text
-    (subst State' (sym is) stands)
+    }) session.text (subst State' (sym going.state) stands)
 
 none_stand : (goes : Bool) (pieces : List (List ℕ)) (place : ℕ) (parts : List SentPart) →
     (goes ≡ true → StandBetween pieces place parts) →
@@ -118,30 +119,24 @@ none_stand : (goes : Bool) (pieces : List (List ℕ)) (place : ℕ) (parts : Lis
 none_stand true pieces place parts stands = stands refl
 none_stand false pieces place parts stands = tt
 
-comes_stand : {setup : Setup} {play : Played} {film : List ℕ} {old new : Stage} {event : IoEvent}
-    (come : EventCome old event new) → PlayGoing setup play film old.session →
-    StandBetween play.pacer.pieces (play.pacer.before + length film) come.due
-comes_stand {play} {film} {event = HeardBytes bytes} come going =
-    subst (StandBetween play.pacer.pieces (play.pacer.before + length film)) (sym come.comes.0) tt
-comes_stand {play} {film} {old} {event = HeardSlot slot} come going =
-    subst (StandBetween play.pacer.pieces (play.pacer.before + length film)) (sym come.comes.1.parts_are)
-    (none_stand (is_taken old.session slot && is_sending old.session.state) play.pacer.pieces
-    (play.pacer.before + length film) (due_parts old.session slot)
-    (λ goes. due_stand old.session slot going.state going.sent))
-comes_stand {event = HeardEnd} come going = absurd come.comes
-comes_stand {event = Sent byte} come going = absurd come.comes
+comes_stand : {old new : Stage} {round : Round} → ComesAs old round new → (going : PlayGoing old.session)
+    → StandIn going round.due
+comes_stand BytesCame going = tt
+comes_stand {old} (SlotCame {slot = slot} finishes) going =
+    none_stand (is_taken old.session slot && is_sending old.session.state) going.play.pacer.pieces
+    (going.play.pacer.before + length going.film) (due_parts old.session slot)
+    (λ goes. due_stand old.session slot going)
 
 -- a reply's part
-reply_stands : (session : SessionState) (setup : Setup) (play : Played) (film : List ℕ) →
-    session.state ≡ Playing setup play →
-    HasSent play session.heard film → StandBetween play.pacer.pieces (play.pacer.before + length film)
-    (reply_parts session)
-reply_stands session setup play film is has =
-    none_stand (can_reply session) play.pacer.pieces (play.pacer.before + length film) (Text session.text ∷ [])
+reply_stands : (session : SessionState) (going : PlayGoing session) → StandIn going (reply_parts session)
+reply_stands session going =
+    let p = going.play.pacer in
+    none_stand (can_reply session) p.pieces (p.before + length going.film) (Text session.text ∷ [])
     (λ can. (
-      subst (IsBoundary play.pacer.pieces) (sym (sent_place play session.heard film has))
-          (boundary_here play.pacer has.pacing
-          (subst (λ st. is_between st ≡ true) is (and_parts session.waits (is_between session.state) can).1)),
+      subst (IsBoundary p.pieces) (sym (sent_place going.play session.heard going.film going.sent))
+          (boundary_here p going.sent.pacing
+          (subst (λ st. is_between st ≡ true) going.state
+          (and_parts session.waits (is_between session.state) can).1)),
       tt,
     ))
 
@@ -165,79 +160,65 @@ takings_film old new (Answered message outcome parts ∷ takings) takes =
     (ap film_bytes takes.1.0.parts_are ∙ no_film (can_reply takes.1.0.answered) takes.1.0.answered.text)
     ∙ takings_film takes.0 new takings takes.1.1
 
-takes_stand : {setup : Setup} {play : Played} {film : List ℕ} (old new : Stage) (takings : List ElementStep) →
-    TakesAll old takings new → HaveNoHalt (takings_outcomes takings) → PlayGoing setup play film old.session →
-    StandBetween play.pacer.pieces (play.pacer.before + length film) (takings_parts takings)
+takes_stand : (old new : Stage) (takings : List ElementStep) → TakesAll old takings new
+    → HaveNoHalt (takings_outcomes takings) → (going : PlayGoing old.session) → StandIn going (takings_parts takings)
 takes_stand old new [] takes free going = tt
-takes_stand {play} {film} old new (Passed n ∷ takings) takes free going =
-    let left = taking_left old takes.0 (Passed n) takes.1.0 tt going.state in
-    takes_stand takes.0 new takings takes.1.1 free (record {
-      state = left.0 ∙ going.state;
-      sent = subst (λ h. HasSent play h film) (sym left.1) going.sent;
-    })
-takes_stand {setup} {play} {film} old new (Answered message outcome parts ∷ takings) takes free going =
-    let first : HaveNoHalt (outcome ∷ []) = (free.0, tt) in
-    let left = taking_left old takes.0 (Answered message outcome parts) takes.1.0 first is in
-    let heard = heard_left takes.1.0.heard free.0 is in
-    let place : ℕ = play.pacer.before + length film in
+takes_stand old new (Passed n ∷ takings) takes free going =
+    takes_stand takes.0 new takings takes.1.1 free (going_left going (taking_left old takes.0 (Passed n) takes.1.0 tt going))
+takes_stand old new (Answered message outcome parts ∷ takings) takes free going =
+    let taken = takes.1.0 in
+    let p = going.play.pacer in
+    let place : ℕ = p.before + length going.film in
+    let left = taking_left old takes.0 (Answered message outcome parts) taken (free.0, tt) going in
     let none : film_bytes parts ≡ [] =
-    ap film_bytes takes.1.0.parts_are ∙ no_film (can_reply takes.1.0.answered) takes.1.0.answered.text in
-    let reply : StandBetween play.pacer.pieces place parts =
-    subst (StandBetween play.pacer.pieces place) (sym takes.1.0.parts_are)
-    (reply_stands takes.1.0.answered setup play film (heard.0 ∙ is)
-    (subst (λ h. HasSent play h film) (sym heard.1) has)) in
-    let rest : StandBetween play.pacer.pieces place (takings_parts takings) =
-    takes_stand takes.0 new takings takes.1.1 free.1
-    (record { state = left.0 ∙ is; sent = subst (λ h. HasSent play h film) (sym left.1) has }) in
-    stand-append play.pacer.pieces place parts (takings_parts takings) reply
-    (subst (λ n. StandBetween play.pacer.pieces n (takings_parts takings)) (omega (arith, ap length none)) rest)
-  where
-    open going use {state as is, sent as has}
+    ap film_bytes taken.parts_are ∙ no_film (can_reply taken.answered) taken.answered.text in
+    let reply : StandBetween p.pieces place parts =
+    subst (StandBetween p.pieces place) (sym taken.parts_are)
+    (reply_stands taken.answered (going_left going (heard_left taken.heard free.0 going))) in
+    let rest : StandBetween p.pieces place (takings_parts takings) =
+    takes_stand takes.0 new takings takes.1.1 free.1 (going_left going left) in
+    stand-append p.pieces place parts (takings_parts takings) reply
+    (subst (λ n. StandBetween p.pieces n (takings_parts takings)) (omega (arith, ap length none)) rest)
 
-round_stands : {old new : Stage} {round : Round} {setup : Setup} {play : Played} {film : List ℕ} →
-    Runs old round new → HaveNoHalt (round_outcomes round) →
-    old.session.state ≡ Playing setup play → HasSent play old.session.heard film →
-    StandBetween play.pacer.pieces (play.pacer.before + length film) (round_parts round)
-round_stands {old} {new} {round} {play} {film} runs free is has =
-    let opened = runs.opened in
-    let on = comes_on (record { due = round.due; halt = round.halt; comes = runs.comes }) free.0
-    (record { state = is; sent = has }) in
-    let rest : StandBetween on.now.pacer.pieces (on.now.pacer.before + length (film ++ film_bytes round.due))
-    (takings_parts round.takings) =
-    takes_stand opened new round.takings runs.takes free.1 (record { state = on.state; sent = on.sent }) in
-    let same : StandBetween play.pacer.pieces (on.now.pacer.before + length (film ++ film_bytes round.due))
-    (takings_parts round.takings) =
-    subst (λ ps. StandBetween ps (on.now.pacer.before + length (film ++ film_bytes round.due))
-    (takings_parts round.takings)) on.pieces rest in
-    stand-append play.pacer.pieces (play.pacer.before + length film) round.due (takings_parts round.takings)
-    (comes_stand (record { due = round.due; halt = round.halt; comes = runs.comes })
-    (record { state = is; sent = has }))
-    (subst (λ n. StandBetween play.pacer.pieces n (takings_parts round.takings))
-    (omega (arith, on.before, length-append film (film_bytes round.due))) same)
+-- what stands in a play once more of it was sent stands in it as it was
+stand_on : {setup : Setup} {play : Played} {session : SessionState} (film more : List ℕ) (parts : List SentPart)
+    (on : HasSentOn setup play session (film ++ more)) → StandIn (going_on on) parts
+    → StandBetween play.pacer.pieces (play.pacer.before + length film + length more) parts
+stand_on {play = play} film more parts on stands =
+    let place : on.now.pacer.before + length (film ++ more) ≡ play.pacer.before + length film + length more =
+    omega (arith, on.before, length-append film more) in
+    subst (λ n. StandBetween play.pacer.pieces n parts) place
+    (subst (λ ps. StandBetween ps (on.now.pacer.before + length (film ++ more)) parts) on.pieces stands)
+
+round_stands : {old new : Stage} {round : Round} → Runs old round new → HaveNoHalt (round_outcomes round)
+    → (going : PlayGoing old.session) → StandIn going (round_parts round)
+round_stands {new = new} {round} runs free going =
+    let comes = comes_as round runs.comes in
+    let on = comes_on comes free.0 going in
+    stand-append going.play.pacer.pieces (going.play.pacer.before + length going.film) round.due
+    (takings_parts round.takings) (comes_stand comes going)
+    (stand_on going.film (film_bytes round.due) (takings_parts round.takings) on
+    (takes_stand runs.opened new round.takings runs.takes free.1 (going_on on)))
 
 -- while a play goes on, each reply stands between frames and reports
-pub rounds_stand : {setup : Setup} {play : Played} {film : List ℕ} (old new : Stage) (rounds : List Round) →
-    RunsAll old rounds new → HaveNoHalt (rounds_outcomes rounds) → PlayGoing setup play film old.session →
-    StandBetween play.pacer.pieces (play.pacer.before + length film) (rounds_parts rounds)
+pub rounds_stand : (old new : Stage) (rounds : List Round) → RunsAll old rounds new
+    → HaveNoHalt (rounds_outcomes rounds) → (going : PlayGoing old.session) → StandIn going (rounds_parts rounds)
 rounds_stand old new [] runs free going = tt
-rounds_stand {setup} {play} {film} old new (round ∷ rounds) runs free going =
-    let first_free = unhalted_front (round_outcomes round) (rounds_outcomes rounds) free in
-    let on = round_on runs.1.0 first_free going.state going.sent in
-    let more : List ℕ = film ++ film_bytes round.due in
-    let rest : StandBetween on.now.pacer.pieces (on.now.pacer.before + length more) (rounds_parts rounds) =
-    rounds_stand {setup = setup} {play = on.now} {film = more} runs.0 new rounds runs.1.2
-    (unhalted_rest (round_outcomes round) (rounds_outcomes rounds) free)
-    (record { state = on.state; sent = on.sent }) in
-    let same : StandBetween play.pacer.pieces (on.now.pacer.before + length more) (rounds_parts rounds) =
-    subst (λ ps. StandBetween ps (on.now.pacer.before + length more) (rounds_parts rounds)) on.pieces rest in
+rounds_stand old new (round ∷ rounds) runs free going =
+    let first = unhalted_front (round_outcomes round) (rounds_outcomes rounds) free in
+    let on = round_on runs.1.0 first going in
+    let pieces = going.play.pacer.pieces in
+    let place : ℕ = going.play.pacer.before + length going.film in
     let film_is : length (film_bytes (round_parts round)) ≡ length (film_bytes round.due) =
     ap length (film_bytes-append round.due (takings_parts round.takings)
     ∙ ap (λ bs. film_bytes round.due ++ bs) (takings_film runs.1.0.opened runs.0 round.takings runs.1.0.takes)
     ∙ append-nil (film_bytes round.due)) in
-    stand-append play.pacer.pieces (play.pacer.before + length film) (round_parts round) (rounds_parts rounds)
-    (round_stands runs.1.0 first_free going.state going.sent)
-    (subst (λ n. StandBetween play.pacer.pieces n (rounds_parts rounds))
-    (omega (arith, on.before, film_is, length-append film (film_bytes round.due))) same)
+    let rest : StandBetween pieces (place + length (film_bytes round.due)) (rounds_parts rounds) =
+    stand_on going.film (film_bytes round.due) (rounds_parts rounds) on
+    (rounds_stand runs.0 new rounds runs.1.2 (unhalted_rest (round_outcomes round) (rounds_outcomes rounds) free)
+    (going_on on)) in
+    stand-append pieces place (round_parts round) (rounds_parts rounds) (round_stands runs.1.0 first going)
+    (subst (λ n. StandBetween pieces n (rounds_parts rounds)) (omega (arith, film_is)) rest)
 
 -- from a play's beginning on
 pub replies_stand : (s : PlaySpan) → GoesOn s →
@@ -246,15 +227,13 @@ pub replies_stand : (s : PlaySpan) → GoesOn s →
 replies_stand s on =
     let first = unhalted_front (takings_outcomes s.takings) (rounds_outcomes s.rounds) on.unhalted in
     let after = unhalted_rest (takings_outcomes s.takings) (rounds_outcomes s.rounds) on.unhalted in
-    let left = takes_left s.old on.mid s.takings on.takes first on.state in
+    let going : PlayGoing s.old.session = span_going s on in
     let pieces = s.play.pacer.pieces in
     let place : ℕ = s.play.pacer.before + length s.film in
     let rest : StandBetween pieces place (rounds_parts s.rounds) =
-    rounds_stand on.mid s.new s.rounds on.runs after (record {
-      state = left.0 ∙ on.state;
-      sent = subst (λ h. HasSent s.play h s.film) (sym left.1) on.sent;
-    }) in
+    rounds_stand on.mid s.new s.rounds on.runs after
+    (going_left going (takes_left s.old on.mid s.takings on.takes first going)) in
     stand-append pieces place (takings_parts s.takings) (rounds_parts s.rounds)
-    (takes_stand s.old on.mid s.takings on.takes first (record { state = on.state; sent = on.sent }))
+    (takes_stand s.old on.mid s.takings on.takes first going)
     (subst (λ n. StandBetween pieces n (rounds_parts s.rounds))
     (omega (arith, ap length (takings_film s.old on.mid s.takings on.takes))) rest)

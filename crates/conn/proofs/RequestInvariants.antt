@@ -67,6 +67,10 @@ ground_of s film = record {
   film = film;
 }
 
+-- the ground once these bytes were sent by a slot
+abbrev pub ground_by : Ground → ℕ → List ℕ → Ground
+ground_by ground heard film = record ground { heard = heard; film = film }
+
 -- a play of a film's run, of which these bytes were sent
 pub record HasPlay (ground : Ground) (setup : Setup) (play : Played) : Type 0 where
   pub stored : Stored

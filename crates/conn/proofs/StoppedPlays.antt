@@ -19,16 +19,12 @@ use Rattle.conn.specs.Plays.{IsCutBy, client_of, play_pieces}
 use Rattle.conn.specs.InputSteps.{due_parts, film_bytes, slot_parts}
 use Rattle.conn.proofs.FilmBytes.{sent_through, slot_film, slot_is, slot_pacing}
 use Rattle.conn.proofs.HaltedPlays.{halted_count, halted_on}
-use Rattle.conn.proofs.RequestInvariants.{Ground, HasStopped, IsStateOf, ground_of}
+use Rattle.conn.proofs.RequestInvariants.{Ground, HasStopped, IsStateOf, ground_by, ground_of}
 use Rattle.conn.proofs.PlayProgress.{later_slot, pacer_film, parts_of, reply_heard, reply_state, slot_cases}
 use Rattle.conn.proofs.PlayProgress.{state_after_slot}
 
 abbrev pub with_rest : Stop → PacerState → Stop
 with_rest stop pacer = record stop { pacer = pacer }
-
--- the ground once these bytes were sent by a slot
-abbrev pub ground_by : Ground → ℕ → List ℕ → Ground
-ground_by ground heard film = record ground { heard = heard; film = film }
 
 -- the rest is still sent, or all of it was, with its reply
 abbrev pub IsStopping : Setup → Stop → PacerState → State → Type 0
@@ -60,10 +56,6 @@ stop_state stop waits setup slot =
     stop_states stop waits (stands_at_boundary (after_step true slot p))
     (after_step false slot (after_step true slot p))
     (after_step true slot p) (after_step false slot p)
-
-stop_film : (stop : Stop) (waits : Bool) (setup : Setup) (text : List ℕ) (slot : ℕ) →
-    film_bytes (parts_of waits (Stopping setup stop) text slot) ≡ slot_film waits slot stop.pacer
-stop_film stop waits setup text slot = pacer_film waits stop.pacer text slot
 
 -- by a slot that is processed
 stop_through : {ground : Ground} {setup : Setup} {stop : Stop} {slot : ℕ} (waits : Bool) →
@@ -105,7 +97,7 @@ stop_taken {setup} {stop} {film} old slot is has later =
     let state : s.state ≡ state_after_slot old.waits (Stopping setup stop) slot =
     reply_state goes (sent_due old slot) ∙ ap (λ st. state_after_slot old.waits st slot) is in
     let bytes : film_bytes (due_parts old slot) ≡ slot_film old.waits slot p =
-    ap (λ st. film_bytes (parts_of old.waits st old.text slot)) is ∙ stop_film stop old.waits setup old.text slot in
+    ap (λ st. film_bytes (parts_of old.waits st old.text slot)) is ∙ pacer_film old.waits p old.text slot in
     let ground : Ground = ground_of old film in
     record {
       now = now;

@@ -1,4 +1,4 @@
-use Rattle.conn.proofs.PlayOutcomes.{play_completed}
+use Rattle.conn.proofs.PlayReplies.{play_completed}
 use Rattle.conn.proofs.laws.law_play_reply_matches_journal.Goals as goal
 
 pub returns : goal.returns

@@ -1,7 +1,7 @@
-use Rattle.std.proofs.Common.{◌≡◌, ◌∷◌, [], List, length, Option, rules, refl, ap, arith, Some}
-use Rattle.vod_base.specs.Links.{IoEvent, io_event_of, told_more}
+use Rattle.std.proofs.Common.{◌≡◌, List, length, Option, rules, refl, ap, arith, Some}
+use Rattle.vod_base.specs.Links.{IoEvent}
 use Rattle.conn.specs.declared.reports.ConnEnd.TheVariants.{LinkFault, TurnsSpent}
-use Rattle.conn.specs.Observations.{Observed, observed}
+use Rattle.conn.specs.Observations.{observed}
 use Rattle.conn.specs.InputSteps.{stage}
 use Rattle.conn.proofs.FaultCounts.{counted_fault, counted_on, counted_same}
 use Rattle.conn.proofs.SeatInvariants.{kept_none, kept_on}
@@ -10,28 +10,21 @@ use Rattle.conn.proofs.service.hear_all.Goals as goal
 
 pub returns-in_default-clause-course : goal.returns-in_default-clause-course
 returns-in_default-clause-course g c =
-    let first : Observed = observed c.args.connection.now (g.K.Link.told c.args.link.now) c.args.seat.now in
-    let before : Observed = observed c.events.connection (g.K.Link.told c.events.link) c.events.seat in
-    let after : Observed = observed c.events.connection (g.K.Link.told c.next.new.self) c.events.seat in
-    let told : g.K.Link.told c.next.new.self ≡ g.K.Link.told c.events.link = c.in_default.ensures.lost in
     run_over c.events.invariant.3 c.events-test.true
     (ap (λ (t : Option (List IoEvent)). record {
       stage = stage c.events.connection.session c.events.connection.input;
       told = t;
       seat = c.events.seat;
-    }) told)
+    }) c.in_default.ensures.lost)
 
 pub returns-in-Some-clause-course : goal.returns-in-Some-clause-course
 returns-in-Some-clause-course g c =
-    let first : Observed = observed c.args.connection.now (g.K.Link.told c.args.link.now) c.args.seat.now in
-    let before : Observed = observed c.events.connection (g.K.Link.told c.events.link) c.events.seat in
-    let heard : Observed = observed c.events.connection (g.K.Link.told c.next.new.self) c.events.seat in
-    let after : Observed = observed c.hear.new.self (g.K.Link.told c.hear.new.link) c.hear.new.seat in
-    let told : g.K.Link.told c.next.new.self
-    ≡ told_more (g.K.Link.told c.events.link) (io_event_of c.in-Ok.heard c.next.new.into ∷ []) = c.in-Ok.ensures.heard
-    in
-    run_end c.events.invariant.3 refl refl told
-    (omega (arith, c.events-test.true)) (c.in-Some.ensures.comes c.events._event)
+    run_end c.events.invariant.3 (record {
+      heard = observed c.events.connection (g.K.Link.told c.next.new.self) c.events.seat;
+      stage_is = refl;
+      seat_is = refl;
+      told_is = c.in-Ok.ensures.heard;
+    }) (omega (arith, c.events-test.true)) (c.in-Some.ensures.comes c.events._event)
 
 pub events-init : goal.events-init
 events-init g c = (
@@ -46,27 +39,23 @@ events-init g c = (
 pub events-preserved : goal.events-preserved
 events-preserved g c =
     let inv = c.events.invariant in
-    let first : Observed = observed c.args.connection.now (g.K.Link.told c.args.link.now) c.args.seat.now in
-    let before : Observed = observed c.events.connection (g.K.Link.told c.events.link) c.events.seat in
-    let heard : Observed = observed c.events.connection (g.K.Link.told c.next.new.self) c.events.seat in
-    let after : Observed = observed c.hear.new.self (g.K.Link.told c.hear.new.link) c.hear.new.seat in
-    let told : g.K.Link.told c.next.new.self
-    ≡ told_more (g.K.Link.told c.events.link) (io_event_of c.in-Ok.heard c.next.new.into ∷ []) = c.in-Ok.ensures.heard
-    in
     let on =
     goes_on c.in-Ok.heard (length c.events.connection.input) c.hear.new.self c.in_default-hear.ensures.taken in (
       kept_on inv.0 c.hear.ensures.kept,
       on.0,
       on.1,
-      run_on inv.3 refl refl told c.in_default-hear.ensures.comes,
+      run_on inv.3 (record {
+        heard = observed c.events.connection (g.K.Link.told c.next.new.self) c.events.seat;
+        stage_is = refl;
+        seat_is = refl;
+        told_is = c.in-Ok.ensures.heard;
+      }) c.in_default-hear.ensures.comes,
       omega (arith, inv.4, c.next.ensures.count, c.hear.ensures.counted.count),
       on.2,
     )
 
 pub returns-clause-course : goal.returns-clause-course
 returns-clause-course g c =
-    let first : Observed = observed c.args.connection.now (g.K.Link.told c.args.link.now) c.args.seat.now in
-    let before : Observed = observed c.events.connection (g.K.Link.told c.events.link) c.events.seat in
     let spent : c.events._event ≡ 1099511627776 = search rules in
     run_over c.events.invariant.3 spent refl
 

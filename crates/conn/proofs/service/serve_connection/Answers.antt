@@ -4,7 +4,7 @@ use Rattle.station.proofs.SameSeats.{seat_none, seat_on}
 use Rattle.conn.specs.ReservationInvariant.{reservation_state}
 use Rattle.conn.proofs.ReservationSteps.{gone_on}
 use Rattle.conn.proofs.PlayGuarantees.{keeps_promise, new_well}
-use Rattle.conn.proofs.Workers.{gone_whole}
+use Rattle.conn.proofs.WorkerProgress.{gone_whole}
 use Rattle.conn.proofs.service.serve_connection.Goals as goal
 
 pub returns-clause-entries : goal.returns-clause-entries

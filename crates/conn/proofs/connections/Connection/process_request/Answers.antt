@@ -38,7 +38,7 @@ returns-in-Ok-clause-takes g c =
     {b = observed (record c.answer_request.new.self { session = c.reply.new.self })
     (g.K.Link.told c.reply.new.link) c.answer_request.new.seat}
     {asked = c.answer_request.new.self.session} {n = c.args.length}
-    c.requires.first (search rules) c.requires.torn c.answer_request.ensures.heard
+    (record { first = c.requires.first; replied = search rules; torn = c.requires.torn }) c.answer_request.ensures.heard
     (stage_is c.in-Ok.ensures.exact c.answer_request.ensures.input) c.in-Ok.ensures.told
 
 pub returns-in-Err-clause-takes : goal.returns-in-Err-clause-takes

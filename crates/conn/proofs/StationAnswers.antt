@@ -1,0 +1,153 @@
+-- What the station can answer to a session, and what an event can bring, case by case.
+use Rattle.std.proofs.Common.{◌≡◌, ℕ, ◌++◌, List, [], refl, sym, subst}
+use Rattle.vod_base.specs.Links.{IoEvent, HeardBytes, HeardEnd, HeardSlot, Sent}
+use Rattle.admission.specs.declared.entries.Answer.{Answer}
+use Rattle.admission.specs.declared.entries.Answer.TheVariants.{Admitted, Halted, Looked, Overflow}
+use Rattle.admission.specs.declared.entries.Command.TheVariants.{Halt as HaltCommand}
+use Rattle.admission.specs.Makers.{PlacedEntry}
+use Rattle.early_start.specs.StartSearch.{Offers}
+use Rattle.plan_cert.specs.declared.Segment.{Segment}
+use Rattle.station.specs.Ledgers.{play_of}
+use Rattle.session.specs.declared.commands.Ask.{Ask}
+use Rattle.session.specs.declared.commands.Ask.TheVariants.{Reply as AskReply, Play as AskPlay, Halt as AskHalt}
+use Rattle.session.specs.declared.commands.Ask.TheVariants.{Look as AskLook, Offer as AskOffer}
+use Rattle.session.specs.RequestSteps.{after_admission, after_full, after_halt, after_look, after_offer, after_overflow}
+use Rattle.session.specs.SlotSteps.{after_slot}
+use Rattle.session.specs.SessionStates.{AwaitedAnswer, NoAnswer, PlayAnswer, HaltAnswer, LookAnswer, OfferAnswer}
+use Rattle.session.specs.SessionStates.{SessionState, awaited_answer}
+use Rattle.session_records.specs.declared.notes.OfferNote.{OfferNote}
+use Rattle.conn.specs.EventSteps.{Comes, Round}
+use Rattle.conn.specs.InputSteps.{IsAskAnswered, IsFinished, IsHalted, IsLookAnswered, IsPlayAnswered, Outcome, Unasked}
+use Rattle.conn.specs.InputSteps.{ElementStep, Entered, WasFull, Offered, SentPart, Stage, slot_parts, stage}
+
+-- an entry is that of a play, and it has this answer
+pub record IsPlayEntry (old : SessionState) (plan : List Segment) (placed : PlacedEntry) (answer : Answer) : Type 0 where
+  pub command : placed.entry.command ≡ play_of old.heard plan
+  pub answer_is : placed.entry.answer ≡ answer
+
+-- an entry halts a booking, and keeps so many of its bytes
+pub record IsHaltEntry (keep : ℕ) (placed : PlacedEntry) : Type 0 where
+  pub number : ℕ
+  pub command : placed.entry.command ≡ HaltCommand number keep
+  pub answer_is : placed.entry.answer ≡ Halted
+
+-- the station's answer to what was asked, and the session after it
+pub data AnswersAs (old : SessionState) : Ask → Outcome → SessionState → Type 0 where
+  NoneAsked : AnswersAs old AskReply Unasked old
+  PlayAdmitted : {plan : List Segment} {placed : PlacedEntry} {start : ℕ} → IsPlayEntry old plan placed (Admitted start)
+      → IsPlayAnswered old placed (Admitted start) (after_admission old placed.place start)
+      → AnswersAs old (AskPlay plan) (Entered placed) (after_admission old placed.place start)
+  PlayOverflowed : {plan : List Segment} {placed : PlacedEntry} {slot booked asked : ℕ}
+      → IsPlayEntry old plan placed (Overflow slot booked asked)
+      → AnswersAs old (AskPlay plan) (Entered placed) (after_overflow old placed.place slot booked asked)
+  PlayFull : {plan : List Segment} {more entries live : ℕ} → more ≡ 2
+      → AnswersAs old (AskPlay plan) (WasFull more entries live) (after_full old entries live)
+  PlayHalted : {keep : ℕ} {placed : PlacedEntry} → IsHaltEntry keep placed
+      → AnswersAs old (AskHalt keep) (Entered placed) (after_halt old placed.place)
+  LookMade : {slot now at booked : ℕ} {placed : PlacedEntry} → placed.entry.answer ≡ Looked now at booked
+      → AnswersAs old (AskLook slot) (Entered placed) (after_look old placed.place now at booked)
+  LookFull : {slot more entries live : ℕ} → AnswersAs old (AskLook slot) (WasFull more entries live)
+      (after_full old entries live)
+  OfferMade : {plan : List Segment} {offers : Offers} {at_slot : ℕ} {note : OfferNote}
+      → AnswersAs old (AskOffer plan offers) (Offered at_slot note) (after_offer old note)
+
+-- a slot leaves nothing to ask, or a play that is done is halted
+pub data FinishesAs (old : SessionState) : AwaitedAnswer → Outcome → SessionState → Type 0 where
+  NothingLeft : FinishesAs old NoAnswer Unasked old
+  DoneHalted : {keep : ℕ} {placed : PlacedEntry} → IsHaltEntry keep placed
+      → FinishesAs old (HaltAnswer keep) (Entered placed) (after_halt old placed.place)
+
+-- an event came: bytes that wait from now on, or a slot
+pub data ComesAs (old : Stage) : Round → Stage → Type 0 where
+  BytesCame : {bytes : List ℕ} {takings : List ElementStep}
+      → ComesAs old (record { event = HeardBytes bytes; due = []; halt = Unasked; takings = takings })
+      (stage old.session (old.input ++ bytes))
+  SlotCame : {slot : ℕ} {halt : Outcome} {takings : List ElementStep} {new : SessionState}
+      → FinishesAs (after_slot old.session slot) (awaited_answer (after_slot old.session slot)) halt new
+      → ComesAs old (record {
+        event = HeardSlot slot;
+        due = slot_parts old.session slot;
+        halt = halt;
+        takings = takings;
+      }) (stage new old.input)
+
+halt_as : {old new : SessionState} {keep : ℕ} {outcome : Outcome} → FinishesAs old (HaltAnswer keep) outcome new
+    → AnswersAs old (AskHalt keep) outcome new
+halt_as (DoneHalted entry) = PlayHalted entry
+
+module _ {old new : SessionState} where
+  play_as : {plan : List Segment} {placed : PlacedEntry} (answer : Answer) → IsPlayEntry old plan placed answer
+      → IsPlayAnswered old placed answer new → AnswersAs old (AskPlay plan) (Entered placed) new
+  play_as {plan} {placed} (Admitted start) entry answered =
+      subst (AnswersAs old (AskPlay plan) (Entered placed)) (sym answered.1)
+      (PlayAdmitted entry (subst (IsPlayAnswered old placed (Admitted start)) answered.1 answered))
+  play_as {plan} {placed} (Overflow slot booked asked) entry answered =
+      subst (AnswersAs old (AskPlay plan) (Entered placed)) (sym answered) (PlayOverflowed entry)
+  play_as Halted entry answered = absurd answered
+  play_as (Looked now at booked) entry answered = absurd answered
+
+  look_as : {slot : ℕ} {placed : PlacedEntry} (answer : Answer) → placed.entry.answer ≡ answer
+      → IsLookAnswered old placed answer new → AnswersAs old (AskLook slot) (Entered placed) new
+  look_as {slot} {placed} (Looked now at booked) is answered =
+      subst (AnswersAs old (AskLook slot) (Entered placed)) (sym answered) (LookMade is)
+  look_as (Admitted start) is answered = absurd answered
+  look_as (Overflow slot booked asked) is answered = absurd answered
+  look_as Halted is answered = absurd answered
+
+  done_as : {keep : ℕ} (outcome : Outcome) → IsHalted old keep outcome new
+      → FinishesAs old (HaltAnswer keep) outcome new
+  done_as {keep} (Entered placed) halted =
+      subst (FinishesAs old (HaltAnswer keep) (Entered placed)) (sym halted.halts)
+      (DoneHalted (record { number = halted.number; command = halted.command; answer_is = halted.answer }))
+  done_as Unasked halted = absurd halted
+  done_as (WasFull more entries live) halted = absurd halted
+  done_as (Offered at_slot note) halted = absurd halted
+
+  pub answers_as : (ask : Ask) (outcome : Outcome) → IsAskAnswered old ask outcome new → AnswersAs old ask outcome new
+  answers_as AskReply Unasked answered = subst (AnswersAs old AskReply Unasked) (sym answered) NoneAsked
+  answers_as (AskPlay plan) (Entered placed) answered =
+      play_as placed.entry.answer (record { command = answered.0; answer_is = refl }) answered.1
+  answers_as (AskPlay plan) (WasFull more entries live) answered =
+      subst (AnswersAs old (AskPlay plan) (WasFull more entries live)) (sym answered.0) (PlayFull answered.1)
+  answers_as (AskHalt keep) outcome answered = halt_as (done_as outcome answered)
+  answers_as (AskLook slot) (Entered placed) answered = look_as placed.entry.answer refl answered.1
+  answers_as (AskLook slot) (WasFull more entries live) answered =
+      subst (AnswersAs old (AskLook slot) (WasFull more entries live)) (sym answered.0) LookFull
+  answers_as (AskOffer plan offers) (Offered at_slot note) answered =
+      subst (AnswersAs old (AskOffer plan offers) (Offered at_slot note)) (sym answered.2) OfferMade
+  answers_as AskReply _ answered = absurd answered
+  answers_as (AskPlay plan) _ answered = absurd answered
+  answers_as (AskLook slot) _ answered = absurd answered
+  answers_as (AskOffer plan offers) _ answered = absurd answered
+
+  pub finishes_as : (asks : AwaitedAnswer) (outcome : Outcome) → IsFinished asks old outcome new
+      → FinishesAs old asks outcome new
+  finishes_as NoAnswer Unasked is = subst (FinishesAs old NoAnswer Unasked) (sym is) NothingLeft
+  finishes_as (HaltAnswer keep) outcome is = done_as outcome is
+  finishes_as NoAnswer _ is = absurd is
+  finishes_as (PlayAnswer plan) outcome is = absurd is
+  finishes_as LookAnswer outcome is = absurd is
+  finishes_as OfferAnswer outcome is = absurd is
+
+abbrev round_of : IoEvent → List SentPart → Outcome → List ElementStep → Round
+round_of event due halt takings = record { event = event; due = due; halt = halt; takings = takings }
+
+event_as : {old new : Stage} (event : IoEvent) (due : List SentPart) (halt : Outcome) (takings : List ElementStep)
+    → Comes old event due halt new → ComesAs old (round_of event due halt takings) new
+event_as {old} (HeardBytes bytes) due halt takings comes =
+    subst (ComesAs old (round_of (HeardBytes bytes) due halt takings)) (sym comes.3)
+    (subst (λ ps. ComesAs old (round_of (HeardBytes bytes) ps halt takings) (stage old.session (old.input ++ bytes)))
+    (sym comes.0)
+    (subst (λ h. ComesAs old (round_of (HeardBytes bytes) [] h takings) (stage old.session (old.input ++ bytes)))
+    (sym comes.1) BytesCame))
+event_as {old} {new} (HeardSlot slot) due halt takings comes =
+    subst (λ i. ComesAs old (round_of (HeardSlot slot) due halt takings) (stage new.session i)) (sym comes.0)
+    (subst (λ ps. ComesAs old (round_of (HeardSlot slot) ps halt takings) (stage new.session old.input))
+    (sym comes.1.parts_are)
+    (SlotCame (finishes_as (awaited_answer (after_slot old.session slot)) halt comes.1.finished)))
+event_as HeardEnd due halt takings comes = absurd comes
+event_as (Sent byte) due halt takings comes = absurd comes
+
+pub comes_as : {old new : Stage} (round : Round) → Comes old round.event round.due round.halt new
+    → ComesAs old round new
+comes_as round comes = event_as round.event round.due round.halt round.takings comes
