@@ -25,18 +25,16 @@ use Rattle.conn.specs.declared.connections.Connection.{Connection}
 use Rattle.conn.specs.Events.{HasTakenEvent, IsEndOf, IsProcessed, IsWaiting}
 use Rattle.conn.specs.Journals.{AgreeWith, terms_of}
 use Rattle.conn.proofs.Journals.{agree_then, terms_same}
-use Rattle.conn.specs.InputSteps.{Outcome, Unasked, SentPart, Film, Text, Stage, ElementStep, Passed, Answered, IsNext}
-use Rattle.conn.specs.InputSteps.{IsPassed}
-use Rattle.conn.specs.InputSteps.{Takes, TakesAll, after_reply, due_parts, entry_in, parts_bytes, reply_parts}
-use Rattle.conn.specs.InputSteps.{slot_parts}
-use Rattle.conn.specs.InputSteps.{stage}
+use Rattle.conn.specs.InputSteps.{Outcome, Unasked, SentPart, Film, Text, Stage, ElementStep, Passed, Answered}
+use Rattle.conn.specs.InputSteps.{IsNext, IsPassed, Takes, TakesAll, after_reply, due_parts, entry_in, parts_bytes}
+use Rattle.conn.specs.InputSteps.{reply_parts, slot_parts, stage}
 use Rattle.conn.specs.EventSteps.{Comes, Ends, Unheard, Overfull, AtElement, InSlot, InReply, IsIdle, IsStopped}
 use Rattle.conn.specs.EventSteps.{IsUnheard, Round, Runs, RunsAll, ending_bytes, ending_doings, ending_events}
 use Rattle.conn.specs.EventSteps.{ending_outcomes, entries_in, round_bytes, round_outcomes, rounds_doings}
 use Rattle.conn.specs.EventSteps.{rounds_outcomes, taking_bytes, taking_outcomes, takings_bytes, takings_outcomes}
 use Rattle.conn.specs.Observations.{AreNoted, HasAsked, HasFailedSend, HasHandledEvent, HasCourse, HasEnded}
-use Rattle.conn.specs.Observations.{HasLostReply, HasTakenSlot}
-use Rattle.conn.specs.Observations.{HasRound, HasRun, HasTaken, HasProcessedInput, IsSent, Observed}
+use Rattle.conn.specs.Observations.{HasLostReply, HasTakenSlot, HasRound, HasRun, HasTaken, HasProcessedInput, IsSent}
+use Rattle.conn.specs.Observations.{Observed, observed}
 use Rattle.conn.proofs.EventPremises.{RequestInFront}
 use Rattle.conn.proofs.JoinedLists.{joined-append}
 
@@ -66,8 +64,15 @@ noted_on {a} {b} {c} {xs} {ys} first second = record {
       ∙ ap (λ es. a.mine ++ es) (sym (entries_in-append xs ys));
   seat = seat_on a b c first.seat second.seat;
   agree = agree_then
-      (record { terms = terms_of a; journal = b.seen; longer = c.seen; prefix = second.seat.longer })
-      (length a.seen) xs ys
+      (record {
+        terms = terms_of a;
+        journal = b.seen;
+        longer = c.seen;
+        prefix = second.seat.longer;
+        low = length a.seen;
+        from = length a.seen;
+        below = omega arith;
+      }) xs ys
       first.agree (subst (λ terms. AgreeWith terms c.seen (length b.seen) ys) (terms_same a b first.seat) second.agree);
 }
 
@@ -104,8 +109,8 @@ taken_one a b taking takes sent noted = record {
   noted = subst (λ os. AreNoted a.seat b.seat os) (sym (append-nil (taking_outcomes taking))) noted;
 }
 
-pub taken_on : (a b c : Observed) → HasTaken a b → HasTaken b c → HasTaken a c
-taken_on a b c first second = record {
+pub taken_on : {a b c : Observed} → HasTaken a b → HasTaken b c → HasTaken a c
+taken_on {a} {b} {c} first second = record {
   takings = first.takings ++ second.takings;
   takes = takes_on a.stage
       (record { old = b.stage; new = c.stage; takings = second.takings; takes = second.takes }) first.takings
@@ -119,7 +124,7 @@ taken_on a b c first second = record {
 lost_on : (a b c : Observed) → HasTaken a b → HasLostReply b c → HasLostReply a c
 lost_on a b c first lost = record {
   mid = lost.mid;
-  taken = taken_on a b lost.mid first lost.taken;
+  taken = taken_on first lost.taken;
   message = lost.message;
   outcome = lost.outcome;
   front = lost.front;
@@ -130,11 +135,11 @@ lost_on a b c first lost = record {
 
 pub up_on : (result : Option ConnEnd) (a b c : Observed) → HasTaken a b → HasProcessedInput result b c →
     HasProcessedInput result a c
-up_on None a b c first up = (taken_on a b c first up.0, up.1)
+up_on None a b c first up = (taken_on first up.0, up.1)
 up_on (Some end) a b c first up =
     elim up [
       | inl lost ↦ inl (lost.0, lost_on a b c first lost.1)
-      | inr stopped ↦ inr (taken_on a b c first stopped.0, stopped.1)
+      | inr stopped ↦ inr (taken_on first stopped.0, stopped.1)
     ]
 
 -- an event came: what was sent in its slot, and what was then answered is noted
@@ -410,10 +415,15 @@ pub reply_sent : (session : SessionState) (old new : Option (List IoEvent)) →
 reply_sent session old new told = told_if (can_reply session) (Text session.text ∷ []) old
     (append-nil session.text) told
 
+-- a connection's input alone changes
+pub input_is : {old new : List ℕ} (connection : Connection) (told : Option (List IoEvent)) (seat : SeatState) → old ≡ new
+    → observed (record connection { input = old }) told seat ≡ observed (record connection { input = new }) told seat
+input_is connection told seat same = ap (λ (i : List ℕ). observed (record connection { input = i }) told seat) same
+
 -- the first element was passed over
-pub taken_passed : (a b : Observed) (n : ℕ) → IsPassed a.stage.input n → a.stage.session.torn ≡ false →
+pub taken_passed : {a b : Observed} (n : ℕ) → IsPassed a.stage.input n → a.stage.session.torn ≡ false →
     b ≡ record a { stage = stage a.stage.session (drop n a.stage.input) } → HasTaken a b
-taken_passed a b n passed torn is = subst (HasTaken a) (sym is)
+taken_passed {a} n passed torn is = subst (HasTaken a) (sym is)
     (taken_one a (record a { stage = stage a.stage.session (drop n a.stage.input) }) (Passed n)
     (passed, torn, refl) (sent_none a.told) (noted_none a.seat))
 

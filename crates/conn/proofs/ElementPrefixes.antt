@@ -9,8 +9,8 @@ use Rattle.conn.specs.Events.{CutsOn}
 pub cuts_none : (input : List ℕ) → CutsOn input input
 cuts_none input = record { each = λ bytes elements cut. (elements, cut) }
 
-pub cuts_on : (a b c : List ℕ) → CutsOn a b → CutsOn b c → CutsOn a c
-cuts_on a b c first second =
+pub cuts_on : {a b c : List ℕ} → CutsOn a b → CutsOn b c → CutsOn a c
+cuts_on first second =
     record { each = λ bytes elements cut. let next = first.each bytes elements cut in second.each bytes next.0 next.1 }
 
 -- the first element is dropped

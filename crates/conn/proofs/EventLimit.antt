@@ -1,12 +1,18 @@
--- When the turns of a connection are spent.
-use Rattle.std.proofs.Common.{◌≡◌, ℕ, ◌+◌, ◌^◌, ◌≤◌, length, refl, arith}
+-- When the events of a connection are spent, and where one finds no room for its bytes.
+use Rattle.std.proofs.Common.{◌≡◌, ℕ, ◌+◌, ◌^◌, ◌≤◌, length, refl, arith, ◌<◌, true, Ok, inl, inr}
 use Rattle.conn.specs.declared.reports.ConnEnd.{ConnEnd}
 use Rattle.conn.specs.declared.reports.ConnEnd.TheVariants.{LinkFault, TurnsSpent}
 use Rattle.conn.specs.EventCounts.{events_heard}
-use Rattle.conn.specs.EventSteps.{AtElement, Ending, Ends, InReply, InSlot, IsUnheard, Overfull}
-use Rattle.conn.specs.EventSteps.{PeerEnded, Unheard, ending_events}
+use Rattle.conn.specs.EventSteps.{AtElement, Ending, Ends, InReply, InSlot, IsUnheard, Overfull, PeerEnded, Unheard}
+use Rattle.conn.specs.EventSteps.{ending_events}
 use Rattle.conn.specs.Observations.{HasCourse, Observed}
 use Rattle.conn.specs.InputSteps.{Stage}
+use Rattle.interleave.specs.declared.demux.TheConstants.{MAX_WAITING_BYTES}
+use Rattle.vod_base.specs.declared.links.TheConstants.{MAX_READ_BYTES}
+use Rattle.interleave.specs.Elements.{IsFirst}
+use Rattle.interleave.specs.declared.elements.Step.TheVariants.{More}
+use Rattle.conn.specs.declared.connections.Connection.{Connection}
+use Rattle.conn.specs.Events.{IsWaiting}
 
 spent_at : (old new : Stage) (count : ℕ) (ending : Ending) → Ends old count ending TurnsSpent new
     → count + length (ending_events ending) ≡ 2 ^ 40
@@ -40,3 +46,14 @@ all_heard end old new course all =
 pub few_heard : (end : ConnEnd) (old new : Observed) (course : HasCourse end old new)
     → events_heard end old new course ≤ 2 ^ 40
 few_heard end old new course = course.few
+
+-- where no complete element waits, few bytes do, so an event's bytes find no room only while a
+-- reply waits
+pub waits_for_room : (c : Connection) (n : ℕ) → (IsFirst c.input (Ok More) → length c.input < 81920) →
+    n ≤ MAX_READ_BYTES → MAX_WAITING_BYTES < length c.input + n → IsWaiting c →
+    c.session.waits ≡ true
+waits_for_room c n few short many waiting =
+    elim waiting [
+      | inl more ↦ absurd (omega (arith, few more, short, many))
+      | inr reply ↦ reply.1.1
+    ]

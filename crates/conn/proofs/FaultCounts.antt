@@ -23,8 +23,8 @@ counted_end LongBody end old new is count = counted_same (Some end) old new coun
 pub counted_fault : (old new : ℕ) → old ≤ new → HasRisen old new → HasCounted (Some LinkFault) old new
 counted_fault old new count risen = record { count = count; fault = λ is. risen }
 
-pub counted_on : (end : Option ConnEnd) (a b c : ℕ) → a ≤ b → HasCounted end b c → HasCounted end a c
-counted_on end a b c first next =
+pub counted_on : {end : Option ConnEnd} {a b c : ℕ} → a ≤ b → HasCounted end b c → HasCounted end a c
+counted_on {end} {a} {b} {c} first next =
     record { count = omega (arith, first, next.count); fault = λ is. risen_on a b c first (next.fault is) }
 
 pub counted_none : (count : ℕ) → HasCounted None count count

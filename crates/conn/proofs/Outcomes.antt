@@ -1,76 +1,194 @@
--- What the station's answers make of a connection.
-use Rattle.std.proofs.Common.{◌≡◌, ℕ, List}
-use Rattle.std.proofs.Common.{refl}
-use Rattle.std.proofs.Common.{sym, ◌∙◌}
+-- What the station's answers leave of the connection that asked for them.
+use Rattle.std.proofs.Common.{◌≡◌, ℕ, List, refl, sym, ◌∙◌, subst, ◌^◌, ◌<◌, ◌≤◌, Option, Some, None, ap}
 use Rattle.std.proofs.lemmas.List.{append-nil}
-use Rattle.station.specs.Answers.{IsFull, HasMadeEntry}
-use Rattle.station.specs.Ledgers.{IsOffered}
-use Rattle.station.specs.declared.answers.Offered.{Offered as Told}
-use Rattle.station.specs.Seats.{IsSameSeat, IsSeat, SeatState}
-use Rattle.early_start.specs.StartSearch.{Offers}
-use Rattle.plan_cert.specs.declared.Segment.{Segment}
-use Rattle.admission.specs.declared.entries.Answer.{Answer}
-use Rattle.admission.specs.declared.entries.Answer.TheVariants.{Halted}
-use Rattle.admission.specs.declared.entries.Command.{Command}
-use Rattle.admission.specs.declared.entries.Command.TheVariants.{Halt}
-use Rattle.session.specs.RequestSteps.{Halts}
+use Rattle.station.specs.Seats.{SeatState, IsSameSeat, IsSeat}
+use Rattle.admission.specs.Makers.{PlacedEntry, IsOpenAmong}
+use Rattle.session.specs.RequestSteps.{Hears, after_admission}
 use Rattle.session.specs.declared.commands.Ask.{Ask}
-use Rattle.session.specs.declared.commands.Ask.TheVariants.{Halt as AskHalt}
-use Rattle.session.specs.SessionStates.{SessionState}
-use Rattle.conn.specs.Journals.{entries_needed}
-use Rattle.conn.proofs.Journals.{entry_agrees, full_agrees, offer_agrees}
-use Rattle.conn.specs.InputSteps.{Entered, WasFull, Offered}
-use Rattle.conn.specs.InputSteps.{IsAskAnswered}
-use Rattle.conn.specs.Observations.{HasAnswered}
+use Rattle.session.specs.declared.commands.Ask.TheVariants.{Reply as AskReply, Play as AskPlay}
+use Rattle.session.specs.SessionStates.{SessionState, IsAnswerRecorded, OpenBooking, PlayAnswer, awaited_answer}
+use Rattle.session.specs.SessionStates.{booking_of, open_of}
+use Rattle.session.proofs.InitialStateLemmas.{HeardMessage}
+use Rattle.conn.specs.InputSteps.{Unasked, Entered, WasFull, Offered, IsAskAnswered}
+use Rattle.conn.specs.Observations.{HasAnswered, HasAsked}
+use Rattle.conn.proofs.CourseSteps.{noted_unasked}
+use Rattle.conn.proofs.Journals.{FoundFull, MadeOffer, OwnEntry, entry_agrees, full_agrees, note_of_offer}
+use Rattle.conn.proofs.Journals.{offer_agrees, own_last}
+use Rattle.admission.specs.declared.entries.Answer.TheVariants.{Admitted}
+use Rattle.plan_cert.specs.declared.Segment.{Segment}
+use Rattle.plan_cert.specs.PlanSlots.{total_bytes}
+use Rattle.session_records.specs.declared.notes.Receipt.TheVariants.{Entry as EntryReceipt}
+use Rattle.session.specs.SlotTransitions.{IsPlayIn}
+use Rattle.station.specs.Answers.{IsSeatRefused, HasMadeEntry}
+use Rattle.station.specs.Ledgers.{play_of}
+use Rattle.station.specs.Bookings.{Booking}
+use Rattle.station.specs.declared.answers.PlayRefused.{PlayRefused}
+use Rattle.station.specs.declared.answers.PlayRefused.TheVariants.{JournalFull, Overflow}
+use Rattle.conn.specs.declared.connections.Connection.{Connection}
+use Rattle.conn.specs.ReservationInvariant.{HasAdvanced, IsHeld, KeepsReservations, open_play_of, reservation_state}
+use Rattle.conn.specs.Refusals.{after_refusal, refusal_receipt}
+use Rattle.conn.proofs.ReservationSteps.{gone_entry, gone_full, held_none}
 
 -- the station's answers
-pub answered_entry : {old : SessionState} {ask : Ask} {new : SessionState} {seat next : SeatState} {more : ℕ}
-    {command : Command} {place : ℕ} {answer : Answer}
-    → IsSeat seat → IsSeat next → IsSameSeat seat next → HasMadeEntry seat next more command place answer
-    → more ≡ entries_needed command
-    → IsAskAnswered old ask
-    (Entered (record { place = place; entry = record { maker = seat.number; command = command; answer = answer } })) new
-    → HasAnswered old ask new seat next
-answered_entry {ask} {new} {seat} {next} {more} {command} {place} {answer} kept also same made needed answered =
+module _ {old new : SessionState} {ask : Ask} {seat next : SeatState} where
+  pub answered_entry : {placed : PlacedEntry} → OwnEntry seat next placed → IsAskAnswered old ask (Entered placed) new
+      → HasAnswered old ask new seat next
+  answered_entry {placed} own answered = record {
+    outcome = Entered placed;
+    answered = answered;
+    noted = record { mine = own_last own; seat = own.same; agree = entry_agrees own };
+  }
+
+  pub answered_full : (found : FoundFull seat next)
+      → IsAskAnswered old ask (WasFull found.more found.entries found.live) new → HasAnswered old ask new seat next
+  answered_full found answered = record {
+    outcome = WasFull found.more found.entries found.live;
+    answered = answered;
+    noted = record {
+      mine = found.full.mine ∙ sym (append-nil seat.mine);
+      seat = found.same;
+      agree = full_agrees found;
+    };
+  }
+
+  pub answered_offer : (offer : MadeOffer seat next)
+      → IsAskAnswered old ask (Offered offer.heard (note_of_offer offer)) new → HasAnswered old ask new seat next
+  answered_offer offer answered = record {
+    outcome = Offered offer.heard (note_of_offer offer);
+    answered = answered;
+    noted = record {
+      mine = offer.mine ∙ sym (append-nil seat.mine);
+      seat = offer.same;
+      agree = offer_agrees offer;
+    };
+  }
+
+-- the station wasn't asked
+pub answered_none : (session : SessionState) (seat : SeatState) → HasAnswered session AskReply session seat seat
+answered_none session seat = record { outcome = Unasked; answered = refl; noted = noted_unasked seat }
+
+-- a request was received, and answered as far as the station goes
+pub asked_on : {arm : Ask} {bytes : List ℕ} {new : SessionState} {seat next : SeatState} (heard : HeardMessage)
+    → heard.message ≡ bytes → heard.ask ≡ arm → HasAnswered heard.new arm new seat next
+    → HasAsked heard.old bytes new seat next
+asked_on {arm} {bytes} heard same is answered = record {
+  outcome = answered.outcome;
+  heard = record {
+    ask = arm;
+    asking = heard.new;
+    hears = subst (λ (a : Ask). Hears heard.old bytes a heard.new) is
+        (subst (λ (m : List ℕ). Hears heard.old m heard.ask heard.new) same heard.hears);
+    answered = answered.answered;
+  };
+  noted = answered.noted;
+}
+
+-- none is held, and none is open
+held_closed : {booking : Option Booking} {play : Option OpenBooking} (mine : List PlacedEntry) → booking ≡ None → play ≡
+    None →
+    IsHeld mine booking play
+held_closed {booking} {play} mine none closed =
+    subst (λ b. IsHeld mine b play) (sym none) (subst (IsHeld mine None) (sym closed) tt)
+
+-- what is known as the station answers to a play
+pub record IsAsking (seat next : SeatState) (before : Connection) : Type 0 where
+  pub kept : IsSeat seat
+  pub also : IsSeat next
+  pub same : IsSameSeat seat next
+  pub held : IsHeld seat.mine before.booking (open_of before.session)
+  pub closed : open_of before.session ≡ None
+
+-- no booking is held as it answers
+none_held : {seat next : SeatState} {before : Connection} → IsAsking seat next before → before.booking ≡ None
+none_held {seat} {before = before} asking =
+    held_none seat.mine before.booking (open_of before.session) asking.closed asking.held
+
+-- a refusal was reported
+pub record HasToldRefusal (refused : PlayRefused) (before after : Connection) : Type 0 where
+  pub exact : after.session ≡ after_refusal before.session refused
+  pub handed : IsAnswerRecorded before.session (refusal_receipt refused) after.session
+  pub closed : open_of after.session ≡ None
+  pub booking : after.booking ≡ before.booking
+
+-- a play of a plan was refused, at a slot that was received
+pub record HasRefused (refused : PlayRefused) (seat next : SeatState) : Type 0 where
+  pub heard : ℕ
+  pub plan : List Segment
+  pub is : IsSeatRefused seat next heard plan refused
+
+gone_refused : {seat next : SeatState} {before after : Connection} (refused : PlayRefused) →
+    HasRefused refused seat next → before.booking ≡ None → HasToldRefusal refused before after →
+    HasAdvanced (reservation_state seat.mine before) (reservation_state next.mine after)
+gone_refused (JournalFull asked entries live) play none told =
+    gone_full entries live play.is.1.mine told.booking told.handed.receipts
+gone_refused (Overflow place slot booked bytes) play none told =
+    gone_entry none (record { mine = play.is.mine; receipts = told.handed.receipts })
+    (ap open_play_of (sym (told.booking ∙ none)))
+
+pub kept_refused : {seat next : SeatState} {before after : Connection} {refused : PlayRefused}
+    → IsAsking seat next before → HasRefused refused seat next → HasToldRefusal refused before after
+    → KeepsReservations seat next before after
+kept_refused {next = next} {refused = refused} asking play told = record {
+  seat = asking.same;
+  quiet = record {
+    rest = told.handed.at_rest;
+    held = held_closed next.mine (told.booking ∙ none_held asking) told.closed;
+  };
+  gone = gone_refused refused play (none_held asking) told;
+}
+
+pub answered_refused : {plan : List Segment} {seat next : SeatState} {after : SessionState} (before : Connection)
+    (refused : PlayRefused) →
+    IsAsking seat next before → IsSeatRefused seat next before.session.heard plan refused →
+    after ≡ after_refusal before.session refused →
+    HasAnswered before.session (AskPlay plan) after seat next
+answered_refused before (JournalFull asked entries live) asking is told =
+    answered_full (record { more = 2; entries = entries; live = live; same = asking.same; full = is.1 }) (told, refl)
+answered_refused before (Overflow place slot booked bytes) asking is told =
+    answered_entry (record { kept = asking.kept; also = asking.also; same = asking.same; maker = refl; made = is })
+    (refl, told)
+
+-- a play of a plan was booked
+pub record HasBooked (plan : List Segment) (booking : Booking) (seat next : SeatState) : Type 0 where
+  pub heard : ℕ
+  pub made : HasMadeEntry seat next 2 (play_of heard plan) booking.number (Admitted booking.start)
+  pub keeps : (keep : ℕ) → keep ≤ total_bytes plan → IsOpenAmong next.mine booking.number keep
+
+-- a play was admitted: its booking is held
+pub record HasAdmitted (plan : List Segment) (booking : Booking) (before after : Connection) : Type 0 where
+  pub handed : IsAnswerRecorded before.session (EntryReceipt booking.number (Admitted booking.start)) after.session
+  pub asked : awaited_answer before.session ≡ PlayAnswer plan
+  pub opens : open_of after.session ≡ booking_of (awaited_answer before.session) booking.start
+  pub booking_is : after.booking ≡ Some booking
+
+pub kept_admitted : {plan : List Segment} {seat next : SeatState} {before after : Connection} {booking : Booking}
+    → IsAsking seat next before → HasBooked plan booking seat next → HasAdmitted plan booking before after
+    → KeepsReservations seat next before after
+kept_admitted {plan} {next = next} {after = after} {booking} asking booked admitted =
+    let opened : open_of after.session ≡ Some (record { plan = plan; start = booking.start; due = 0 }) =
+    admitted.opens ∙ ap (λ awaits. booking_of awaits booking.start) admitted.asked in
     record {
-      outcome = Entered (record {
-        place = place;
-        entry = record { maker = seat.number; command = command; answer = answer };
-      });
-      answered = answered;
-      noted = record { mine = made.mine; seat = same; agree = entry_agrees kept also same made needed };
+      seat = asking.same;
+      quiet = record {
+        rest = admitted.handed.at_rest;
+        held = subst (λ b. IsHeld next.mine b (open_of after.session)) (sym admitted.booking_is)
+            (subst (IsHeld next.mine (Some booking)) (sym opened) booked.keeps);
+      };
+      gone = gone_entry (none_held asking) (record { mine = booked.made.mine; receipts = admitted.handed.receipts })
+          (ap open_play_of (sym admitted.booking_is));
     }
 
-pub answered_full : {old : SessionState} {ask : Ask} {new : SessionState} {seat next : SeatState} {more entries live :
-    ℕ}
-    → IsSameSeat seat next
-    → IsFull seat next more entries live → IsAskAnswered old ask (WasFull more entries live) new
-    → HasAnswered old ask new seat next
-answered_full {ask} {new} {seat} {next} {more} {entries} {live} same full answered = record {
-  outcome = WasFull more entries live;
-  answered = answered;
-  noted = record { mine = full.mine ∙ sym (append-nil seat.mine); seat = same; agree = full_agrees same full };
-}
+-- its answer
+pub record HasHeardAdmission (before : SessionState) (booking : Booking) (after : SessionState) : Type 0 where
+  pub later : before.heard < booking.start
+  pub exact : after ≡ after_admission before booking.number booking.start
+  pub play : IsPlayIn after.state
+  pub small : booking.start < 2 ^ 64
 
-pub answered_offer : {old : SessionState} {ask : Ask} {new : SessionState} {seat next : SeatState} {heard : ℕ}
-    {plan : List Segment} {told : Told} {found : Offers}
-    → IsSameSeat seat next → next.mine ≡ seat.mine → IsOffered next.steps next.seen heard plan told found
-    → IsAskAnswered old ask (Offered heard
-    (record { seen = told.seen; first = told.first; plan = plan; offers = found })) new
-    → HasAnswered old ask new seat next
-answered_offer {ask} {new} {seat} {next} {heard} {plan} {told} {found} same mine offered answered = record {
-  outcome = Offered heard (record { seen = told.seen; first = told.first; plan = plan; offers = found });
-  answered = answered;
-  noted = record { mine = mine ∙ sym (append-nil seat.mine); seat = same; agree = offer_agrees same offered };
-}
-
-pub halted_entry : {old : SessionState} {keep : ℕ} {new : SessionState} {seat next : SeatState} {number place : ℕ}
-    → IsSeat seat → IsSeat next → IsSameSeat seat next
-    → HasMadeEntry seat next 0 (Halt number keep) place Halted → Halts old place new
-    → HasAnswered old (AskHalt keep) new seat next
-halted_entry {keep} {new} {seat} {next} {number} {place} kept also same made halts = record {
-  outcome = Entered
-      (record { place = place; entry = record { maker = seat.number; command = Halt number keep; answer = Halted } });
-  answered = record { number = number; command = refl; answer = refl; halts = halts };
-  noted = record { mine = made.mine; seat = same; agree = entry_agrees kept also same made refl };
-}
+pub answered_admitted : {plan : List Segment} {seat next : SeatState} {before : Connection} {after : SessionState}
+    {booking : Booking} → IsAsking seat next before →
+    HasMadeEntry seat next 2 (play_of before.session.heard plan) booking.number (Admitted booking.start) →
+    HasHeardAdmission before.session booking after → HasAnswered before.session (AskPlay plan) after seat next
+answered_admitted asking made heard =
+    answered_entry (record { kept = asking.kept; also = asking.also; same = asking.same; maker = refl; made = made })
+    (refl, (heard.later, heard.exact, heard.play, heard.small))

@@ -1,7 +1,6 @@
 -- What a connection keeps to while a play goes on, by the course.
-use Rattle.std.proofs.Common.{◌≡◌, ℕ, ◌+◌, ◌-◌, ◌≤◌, ◌&&◌, ◌++◌, Bool, true, false, if◌then◌else◌}
-use Rattle.std.proofs.Common.{List, [], ◌∷◌, length, take, drop, refl, sym, ap, subst, ◌∙◌, arith}
-use Rattle.std.proofs.Common.{inl, Option}
+use Rattle.std.proofs.Common.{◌≡◌, ℕ, ◌+◌, ◌-◌, ◌≤◌, ◌&&◌, ◌++◌, Bool, true, false, if◌then◌else◌, List, [], ◌∷◌}
+use Rattle.std.proofs.Common.{length, take, drop, refl, sym, ap, subst, ◌∙◌, arith, inl, Option}
 use Rattle.std.proofs.lemmas.List.{append-nil}
 use Rattle.film_frames.specs.declared.stored_films.Stored.{Stored}
 use Rattle.film_frames.specs.Tracks.{framed_bytes}
@@ -18,24 +17,19 @@ use Rattle.session.specs.declared.states.State.{State}
 use Rattle.session.specs.declared.states.State.TheVariants.{Init, Playing, Ready, Stopping}
 use Rattle.session.specs.RequestSteps.{new_session_state}
 use Rattle.film_streams.specs.SettingRanges.{AreSettings}
-use Rattle.session.specs.SlotSteps.{after_play, is_between, is_sending, is_taken, sent_due}
-use Rattle.session.specs.SlotSteps.{sent_slot, after_slot, stepped_in}
+use Rattle.session.specs.SlotSteps.{is_between, is_sending, is_taken, sent_due, after_slot, stepped_in}
 use Rattle.session.specs.SessionStates.{SessionState, last_heard_slot}
 use Rattle.conn.specs.InputSteps.{Outcome, SentPart, Stage, due_parts, film_bytes, slot_parts, stage}
-use Rattle.conn.specs.EventSteps.{Round}
-use Rattle.conn.specs.Films.{HasSentOn}
-use Rattle.conn.specs.Plays.{ArePlaysKept, IsKeptIn, IsSentBy, client_of, heard_by}
-use Rattle.conn.specs.Plays.{play_pieces}
+use Rattle.conn.specs.EventSteps.{Round, ending_outcomes, entries_in, rounds_outcomes}
+use Rattle.conn.specs.Films.{HasSentOn, rounds_parts}
+use Rattle.conn.specs.Plays.{ArePlaysKept, IsKeptIn, IsSentBy, client_of, heard_by, play_pieces, ending_rounds}
 use Rattle.conn.proofs.CurveBounds.{planned_between}
 use Rattle.conn.proofs.RequestInvariants.{AreShown, HasPlay, IsStateOf, IsWell, ground_of}
-use Rattle.conn.proofs.PlayProgress.{as_it_was, reply_heard, slot_play}
+use Rattle.conn.proofs.PlayProgress.{as_it_was, reply_heard, slot_play, standings}
 use Rattle.conn.proofs.ReplyPlacement.{film_count}
 use Rattle.conn.proofs.SeatReplies.{refusals_told}
 use Rattle.conn.proofs.StoppedPlays.{stop_cut, stop_slot, stop_still}
 use Rattle.conn.proofs.ReplyContents.{course_tells}
-use Rattle.conn.specs.Films.{rounds_parts}
-use Rattle.conn.specs.EventSteps.{ending_outcomes, entries_in, rounds_outcomes}
-use Rattle.conn.specs.Plays.{ending_rounds}
 use Rattle.conn.specs.Guarantees.{MeetsGuarantee}
 use Rattle.conn.specs.ConnectionService.{HasServedFrom}
 use Rattle.conn.specs.declared.reports.ConnReport.{ConnReport}
@@ -65,11 +59,7 @@ heard_cases {slot} true true standings one other = one
 
 slot_heard : (old : SessionState) (slot : ℕ) → (after_slot old slot).heard ≡ last_heard_slot old.heard slot
 slot_heard old slot =
-    heard_cases (is_taken old slot) (is_sending old.state) (record {
-      sending = after_play (sent_slot old slot);
-      still = record old { heard = slot };
-      before = old;
-    }) (reply_heard (old.waits && is_between (stepped_in true slot old.state))
+    heard_cases (is_taken old slot) (is_sending old.state) (standings old slot) (reply_heard (old.waits && is_between (stepped_in true slot old.state))
     (sent_due old slot)) refl
 
 -- what was sent of a play, by the play as it was and as it is now

@@ -1,6 +1,6 @@
 -- Lemmas on a play that goes on, one event after another.
-use Rattle.std.proofs.Common.{◌≡◌, ℕ, ◌^◌, ◌<◌, ◌++◌, ◌&&◌, Bool, true, false, if◌then◌else◌}
-use Rattle.std.proofs.Common.{nat_lt, nat_le, List, [], ◌∷◌, refl, ap, sym, ◌∙◌, subst}
+use Rattle.std.proofs.Common.{◌≡◌, ℕ, ◌^◌, ◌<◌, ◌++◌, ◌&&◌, Bool, true, false, if◌then◌else◌, nat_lt, nat_le, List}
+use Rattle.std.proofs.Common.{[], ◌∷◌, refl, ap, sym, ◌∙◌, subst}
 use Rattle.std.proofs.lemmas.Bool.{and_parts, ltb-true, true≢false}
 use Rattle.std.proofs.lemmas.List.{append-nil, append_assoc}
 use Rattle.admission.specs.Makers.{PlacedEntry}
@@ -10,21 +10,19 @@ use Rattle.session.specs.declared.states.Play.{Play as Played}
 use Rattle.film_streams.specs.declared.setups.Setup.{Setup}
 use Rattle.session.specs.declared.states.State.{State}
 use Rattle.session.specs.declared.states.State.TheVariants.{Playing}
-use Rattle.session.specs.SlotSteps.{admitted_in, can_reply, due_state, after_play, is_between}
-use Rattle.session.specs.SlotSteps.{is_sending, is_taken, sent_due, sent_reply, sent_slot, after_slot}
-use Rattle.session.specs.SlotSteps.{step_bytes, stepped_in}
+use Rattle.session.specs.SlotSteps.{admitted_in, can_reply, due_state, after_play, is_between, is_sending, is_taken}
+use Rattle.session.specs.SlotSteps.{sent_due, sent_reply, sent_slot, after_slot, step_bytes, stepped_in}
 use Rattle.session.specs.SessionStates.{AwaitedAnswer, SessionState}
 use Rattle.session.specs.SlotTransitions.{after_stop}
-use Rattle.conn.specs.InputSteps.{Outcome, Entered, SentPart, Film, Text, Stage, ElementStep, Passed, Answered, HasHeard}
-use Rattle.conn.specs.InputSteps.{Takes, TakesAll, after_reply, due_parts, film_bytes, slot_parts}
-use Rattle.conn.specs.EventSteps.{Round, Runs, RunsAll, round_outcomes, rounds_outcomes}
-use Rattle.conn.specs.EventSteps.{taking_outcomes, takings_outcomes}
-use Rattle.conn.specs.Films.{HaveNoHalt, GoesOn, HasSent, HasSentOn, IsNoHalt}
-use Rattle.conn.specs.Films.{HasNoHalt, PlaySpan, rounds_film}
+use Rattle.conn.specs.InputSteps.{Outcome, Entered, SentPart, Film, Text, Stage, ElementStep, Passed, Answered}
+use Rattle.conn.specs.InputSteps.{HasHeard, Takes, TakesAll, after_reply, due_parts, film_bytes, slot_parts}
+use Rattle.conn.specs.EventSteps.{Round, Runs, RunsAll, round_outcomes, rounds_outcomes, taking_outcomes}
+use Rattle.conn.specs.EventSteps.{takings_outcomes}
+use Rattle.conn.specs.Films.{HaveNoHalt, GoesOn, HasSent, HasSentOn, IsNoHalt, HasNoHalt, PlaySpan, rounds_film}
 use Rattle.session.specs.Laws.{AsksNoHalt}
 use Rattle.session.proofs.RefusalEffectLemmas.{hears_plays}
 use Rattle.conn.proofs.FilmBytes.{sent_slot as sent_by, sent_through, slot_film, slot_is, slot_pacing}
-use Rattle.conn.proofs.EventPremises.{SlotPacings, PlayGoing}
+use Rattle.conn.proofs.EventPremises.{SlotPacings, SlotStandings, PlayGoing}
 use Rattle.conn.proofs.StationAnswers.{AnswersAs, ComesAs, FinishesAs, IsHaltEntry, answers_as, comes_as, BytesCame}
 use Rattle.conn.proofs.StationAnswers.{SlotCame, DoneHalted, NothingLeft, PlayAdmitted, PlayHalted}
 
@@ -161,27 +159,32 @@ as_it_was going = record {
 
 -- what holds before a slot, in a session that sends, and once what is due was sent in it, holds
 -- after the slot
-pub slot_cases : {taken sending : Bool} {old next : SessionState} {film : List ℕ} (P : SessionState → List ℕ → Type 0)
-    (still : SessionState) (parts : List SentPart) → sending ≡ true →
-    P old film → (taken ≡ true → P next (film ++ film_bytes parts)) →
-    P (if taken then (if sending then next else still) else old)
+pub slot_cases : {taken sending : Bool} {film : List ℕ} (s : SlotStandings) (P : SessionState → List ℕ → Type 0)
+    (parts : List SentPart) → sending ≡ true → P s.before film → (taken ≡ true → P s.sending (film ++ film_bytes parts))
+    → P (if taken then (if sending then s.sending else s.still) else s.before)
     (film ++ film_bytes (if taken && sending then parts else []))
-slot_cases {taken = false} {old} {film} P still parts sends was goes = subst (P old) (sym (append-nil film)) was
-slot_cases {taken = true} {sending = true} P still parts sends was goes = goes refl
-slot_cases {taken = true} {sending = false} P still parts sends was goes = absurd (true≢false (sym sends))
+slot_cases {taken = false} {film = film} s P parts sends was goes = subst (P s.before) (sym (append-nil film)) was
+slot_cases {taken = true} {sending = true} s P parts sends was goes = goes refl
+slot_cases {taken = true} {sending = false} s P parts sends was goes = absurd (true≢false (sym sends))
 
-slot_branches : {next still old : SessionState} (P : SessionState → Type 0) (taken sending : Bool)
-    → (sending ≡ true → P next) → P still → P old
-    → P (if taken then (if sending then next else still) else old)
-slot_branches P false sending goes stays same = same
-slot_branches P true false goes stays same = stays
-slot_branches P true true goes stays same = goes refl
+-- a session around a slot
+abbrev pub standings : SessionState → ℕ → SlotStandings
+standings old slot =
+    record { sending = after_play (sent_slot old slot); still = record old { heard = slot }; before = old }
+
+slot_branches : (s : SlotStandings) (P : SessionState → Type 0) (taken sending : Bool)
+    → (sending ≡ true → P s.sending) → (P s.still × P s.before)
+    → P (if taken then (if sending then s.sending else s.still) else s.before)
+slot_branches s P false sending goes stays = stays.1
+slot_branches s P true false goes stays = stays.0
+slot_branches s P true true goes stays = goes refl
 
 -- what holds of a session that isn't sending too
 pub slot_any : (P : SessionState → Type 0) (old : SessionState) (slot : ℕ)
     → (is_sending old.state ≡ true → P (after_play (sent_slot old slot))) → P (record old { heard = slot }) → P old
     → P (after_slot old slot)
-slot_any P old slot goes stays same = slot_branches P (is_taken old slot) (is_sending old.state) goes stays same
+slot_any P old slot goes stays same =
+    slot_branches (standings old slot) P (is_taken old slot) (is_sending old.state) goes (stays, same)
 
 pub later_slot : (old : SessionState) (slot : ℕ) → is_taken old slot ≡ true → old.heard < slot
 later_slot old slot taken = ltb-true old.heard slot (and_parts (nat_lt old.heard slot) (nat_le slot (2 ^ 62)) taken).0
@@ -190,7 +193,7 @@ later_slot old slot taken = ltb-true old.heard slot (and_parts (nat_lt old.heard
 pub slot_play : (old : SessionState) (slot : ℕ) (going : PlayGoing old) →
     HasSentOn going.setup going.play (after_slot old slot) (going.film ++ film_bytes (slot_parts old slot))
 slot_play old slot going =
-    slot_cases (HasSentOn going.setup going.play) (record old { heard = slot }) (due_parts old slot)
+    slot_cases (standings old slot) (HasSentOn going.setup going.play) (due_parts old slot)
     (ap is_sending going.state) (as_it_was going) (λ taken. taken_slot old slot going (later_slot old slot taken))
 
 -- a play that goes on, and what is sent of it from then on
@@ -284,11 +287,6 @@ takes_left old new (taking ∷ takings) takes free going =
     (takes_left takes.0 new takings takes.1.1
     (unhalted_rest (taking_outcomes taking) (takings_outcomes takings) free) (going_left going first))
 
--- what was sent of a play stays
-on_left : {setup : Setup} {play : Played} {old new : SessionState} {film : List ℕ} → HasSentOn setup play old film
-    → IsLeft old new → HasSentOn setup play new film
-on_left on left = goes_on on (as_it_was (going_left (going_on on) left))
-
 pub comes_on : {old new : Stage} {round : Round} → ComesAs old round new → HasNoHalt round.halt
     → (going : PlayGoing old.session)
     → HasSentOn going.setup going.play new.session (going.film ++ film_bytes round.due)
@@ -303,7 +301,8 @@ pub round_on : {old new : Stage} {round : Round} → Runs old round new → Have
     → HasSentOn going.setup going.play new.session (going.film ++ film_bytes round.due)
 round_on {new = new} {round} runs free going =
     let on = comes_on (comes_as round runs.comes) free.0 going in
-    on_left on (takes_left runs.opened new round.takings runs.takes free.1 (going_on on))
+    goes_on on (as_it_was (going_left (going_on on)
+    (takes_left runs.opened new round.takings runs.takes free.1 (going_on on))))
 
 -- a play goes on by events, as long as it isn't halted
 pub rounds_on : (old new : Stage) (rounds : List Round) → RunsAll old rounds new → HaveNoHalt (rounds_outcomes rounds)

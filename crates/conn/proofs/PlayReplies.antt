@@ -18,13 +18,13 @@ use Rattle.admission.specs.Makers.{PlacedEntry}
 use Rattle.station.specs.Ledgers.{play_of}
 use Rattle.session.specs.declared.commands.Ask.{Ask}
 use Rattle.session.specs.declared.commands.Ask.TheVariants.{Reply as AskReply, Play as AskPlay}
-use Rattle.session.specs.RequestEffects.{AsksOrLacks, CanBePlayed, ChangesState, HasCode, IsPlayAsked, LacksMemory}
+use Rattle.session.specs.RequestEffects.{CanBePlayed, ChangesState, HasCode, IsPlayAsked, LacksMemory}
 use Rattle.rtsp_replies.specs.Replies.{full_text, overflow_text, started_text}
 use Rattle.session.specs.Methods.{play_front}
 use Rattle.session.specs.SessionStates.{SessionState, sequence_of}
 use Rattle.session.proofs.RequestEffectLemmas.{hears_good, hears_ground, hears_state}
-use Rattle.conn.specs.InputSteps.{Outcome, Entered, HasHeard}
-use Rattle.conn.specs.Films.{IsReady}
+use Rattle.conn.specs.InputSteps.{Outcome, Entered, HasHeard, IsAskAnswered, IsPlayAnswered}
+use Rattle.conn.specs.Films.{IsReady, ReportsOverflow}
 use Rattle.conn.specs.Admissions.{HasBegunPlay, HasTurn, IsDecided, IsEntryReplied, IsPlayCompleted, IsPlayReplied}
 use Rattle.conn.specs.Admissions.{start_at}
 use Rattle.conn.specs.Journals.{HasRoomAt, IsFullIn, StandsIn, Terms, entries_needed}
@@ -52,12 +52,6 @@ pub record AsksPlay (old asking : SessionState) : Type 0 where
 abbrev plan_of : {old asking : SessionState} → AsksPlay old asking → List Segment
 plan_of play = play.asked.planned.plan
 
--- its command
-command_is : {old asking : SessionState} (play : AsksPlay old asking) (placed : PlacedEntry)
-    → placed.entry.command ≡ play_of asking.heard (plan_of play)
-    → placed.entry.command ≡ play_of old.heard (plan_of play)
-command_is play placed is = is ∙ ap (λ h. play_of h (plan_of play)) play.heard
-
 asked_replied : {old asking new : SessionState} {outcome : Outcome} (play : AsksPlay old asking)
     → AnswersAs asking (AskPlay (plan_of play)) outcome new → IsPlayReplied old outcome new
 asked_replied {old} {asking} {new} play (PlayAdmitted {placed = placed} {start = start} entry answered) =
@@ -69,7 +63,7 @@ asked_replied {old} {asking} {new} play (PlayAdmitted {placed = placed} {start =
       ok = subst (HasCode 200) (sym text) (front_ok old asking is (start - asking.heard));
       asking = asking;
       asked = is;
-      command = command_is play placed entry.command;
+      command = entry.command ∙ ap (λ h. play_of h (plan_of play)) play.heard;
       play = begun.play;
       state = begun.state;
       run = begun.run;
@@ -112,56 +106,71 @@ entry_decided {new} placed (Overflow slot bytes asked) room is replied =
 entry_decided placed Halted room is replied = absurd is
 entry_decided placed (Looked now at booked) room is replied = absurd is
 
--- the turn of a play that was entered, and of one for which the journal was full
-module _ {terms : Terms} {journal : List Entry} {from : ℕ} {old asking new : SessionState}
-    (play : AsksPlay old asking) where
-  entry_turn : {placed : PlacedEntry} → IsLegal terms.steps journal → StandsIn terms journal from placed
-      → placed.entry.command ≡ play_of old.heard (plan_of play) → IsPlayReplied old (Entered placed) new
-      → HasTurn terms journal from old new
-  entry_turn {placed} legal stands command replied =
-      let state = state_after (take placed.place journal) in
-      let needed : entries_needed placed.entry.command ≡ 2 = ap entries_needed command in
-      let room : HasRoomAt terms journal placed.place 2 = omega (arith, stands.room, needed) in
-      let answer : IsAnswer terms.steps state placed.entry.command placed.entry.answer =
-      subst (λ (e : Entry). IsAnswer terms.steps state e.command e.answer) (stands.entry placed.entry)
-      (legal.each placed.place placed.entry stands.within) in
-      record {
-        asking = asking;
-        asked = play.asked;
-        turn = placed.place;
-        after = stands.after;
-        within = omega (arith, stands.within);
-        decided = entry_decided placed placed.entry.answer room
-            (subst (λ (c : Command). IsAnswer terms.steps state c placed.entry.answer) command answer) replied;
-      }
+-- a legal journal, from a place on
+record LegalJournal : Type 0 where
+  terms : Terms
+  journal : List Entry
+  from : ℕ
+  legal : IsLegal terms.steps journal
 
-  full_turn : {more entries live : ℕ} → IsFullIn terms.limit journal from more entries live → more ≡ 2
-      → ((sequence : ℕ) × (new.text ≡ full_text sequence entries live)) → HasTurn terms journal from old new
-  full_turn {more} {entries} full two replied =
-      let over : terms.limit < entries + open_count (take entries journal) + 2 =
-      omega (arith, full.full, full.open_is, two) in
-      record {
-        asking = asking;
-        asked = play.asked;
-        turn = entries;
-        after = full.after;
-        within = full.within;
-        decided = record {
-          full = λ no. (replied.0, subst (λ n. new.text ≡ full_text replied.0 entries n) full.open_is replied.1);
-          over = λ has other first. absurd (omega (arith, has, over));
-          admitted = λ has all. absurd (omega (arith, has, over));
-        };
-      }
+-- the turn of a play that was entered
+entry_turn : {old asking new : SessionState} (j : LegalJournal) (play : AsksPlay old asking) (placed : PlacedEntry)
+    → StandsIn j.terms j.journal j.from placed → placed.entry.command ≡ play_of asking.heard (plan_of play)
+    → IsPlayReplied old (Entered placed) new → HasTurn j.terms j.journal j.from old new
+entry_turn {asking = asking} j play placed stands asked replied =
+    let command = asked ∙ ap (λ h. play_of h (plan_of play)) play.heard in
+    let state = state_after (take placed.place journal) in
+    let needed : entries_needed placed.entry.command ≡ 2 = ap entries_needed command in
+    let room : HasRoomAt terms journal placed.place 2 = omega (arith, stands.room, needed) in
+    let answer : IsAnswer terms.steps state placed.entry.command placed.entry.answer =
+    subst (λ (e : Entry). IsAnswer terms.steps state e.command e.answer) (stands.entry placed.entry)
+    (legal.each placed.place placed.entry stands.within) in
+    record {
+      asking = asking;
+      asked = play.asked;
+      turn = placed.place;
+      after = stands.after;
+      within = omega (arith, stands.within);
+      decided = entry_decided placed placed.entry.answer room
+          (subst (λ (c : Command). IsAnswer terms.steps state c placed.entry.answer) command answer) replied;
+    }
+  where
+    open j use {terms, journal, legal}
+
+-- and of one for which the journal was full
+full_turn : {old asking new : SessionState} {entries live : ℕ} (j : LegalJournal) (play : AsksPlay old asking)
+    → IsFullIn j.terms.limit j.journal j.from 2 entries live
+    → ((sequence : ℕ) × (new.text ≡ full_text sequence entries live)) → HasTurn j.terms j.journal j.from old new
+full_turn {asking = asking} {new} {entries} j play full replied =
+    let over : terms.limit < entries + open_count (take entries journal) + 2 =
+    omega (arith, full.full, full.open_is) in
+    record {
+      asking = asking;
+      asked = play.asked;
+      turn = entries;
+      after = full.after;
+      within = full.within;
+      decided = record {
+        full = λ no. (replied.0, subst (λ n. new.text ≡ full_text replied.0 entries n) full.open_is replied.1);
+        over = λ has other first. absurd (omega (arith, has, over));
+        admitted = λ has all. absurd (omega (arith, has, over));
+      };
+    }
+  where
+    open j use {terms, journal}
 
 asked_completed : {old asking new : SessionState} {outcome : Outcome} (play : AsksPlay old asking)
     → AnswersAs asking (AskPlay (plan_of play)) outcome new → IsPlayReplied old outcome new
     → IsPlayCompleted old outcome new
 asked_completed play (PlayAdmitted {placed = placed} entry answered) replied = λ terms journal from legal agree.
-    inl (entry_turn play legal agree.0 (command_is play placed entry.command) replied)
+    inl (entry_turn (record { terms = terms; journal = journal; from = from; legal = legal }) play placed agree.0
+    entry.command replied)
 asked_completed play (PlayOverflowed {placed = placed} entry) replied = λ terms journal from legal agree.
-    inl (entry_turn play legal agree.0 (command_is play placed entry.command) replied)
-asked_completed play (PlayFull two) replied = λ terms journal from legal agree.
-    inl (full_turn play agree.0 two replied)
+    inl (entry_turn (record { terms = terms; journal = journal; from = from; legal = legal }) play placed agree.0
+    entry.command replied)
+asked_completed play (PlayFull {entries = entries} {live} two) replied = λ terms journal from legal agree.
+    inl (full_turn (record { terms = terms; journal = journal; from = from; legal = legal }) play
+    (subst (λ more. IsFullIn terms.limit journal from more entries live) two agree.0) replied)
 
 -- where memory was wanting the station isn't asked
 lacks_completed : {old asking new : SessionState} {outcome : Outcome} → AnswersAs asking AskReply outcome new
@@ -198,3 +207,10 @@ play_completed old new message outcome can heard =
     let replied = play_answered old new message outcome can heard in
     by_request (IsPlayCompleted old outcome new) heard can (λ play answers. asked_completed play answers replied)
     (λ lacks answers. lacks_completed answers replied)
+
+pub overflow_told : {old new : SessionState} {plan : List Segment} {placed : PlacedEntry} {over : Over} →
+    IsAskAnswered old (AskPlay plan) (Entered placed) new →
+    placed.entry.answer ≡ Overflow over.slot over.booked over.asked → ReportsOverflow old plan placed over new
+overflow_told {old} {new} {placed} {over} answered is =
+    let after = subst (λ (a : Answer). IsPlayAnswered old placed a new) is answered.1 in
+    record { command = answered.0; text_is = ap (λ (s : SessionState). s.text) after }

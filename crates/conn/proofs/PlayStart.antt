@@ -1,6 +1,5 @@
 -- Lemmas on a play that begins.
-use Rattle.std.proofs.Common.{◌≡◌, ℕ, ◌+◌, ◌-◌, ◌<◌, [], take, drop, refl, ap, sym, ◌∙◌, subst}
-use Rattle.std.proofs.Common.{arith}
+use Rattle.std.proofs.Common.{◌≡◌, ℕ, ◌+◌, ◌-◌, ◌<◌, [], take, drop, refl, ap, sym, ◌∙◌, subst, arith}
 use Rattle.film_frames.specs.FramedRuns.{run_pieces}
 use Rattle.film_frames.specs.Tracks.{framed_bytes}
 use Rattle.pacer.specs.PacerStates.{first_slots, new_pacer_state}

@@ -1,26 +1,23 @@
 -- What the replies of a connection say about the station's answers.
-use Rattle.std.proofs.Common.{◌≡◌, ℕ, ◌-◌, ◌++◌, ◌&&◌, Bool, true, false, if◌then◌else◌, Contains}
-use Rattle.std.proofs.Common.{List, [], ◌∷◌, codes, decimal, get_or, refl, sym}
-use Rattle.std.proofs.Common.{ap, subst, ◌∙◌, arith}
+use Rattle.std.proofs.Common.{◌≡◌, ℕ, ◌-◌, ◌++◌, ◌&&◌, Bool, true, false, if◌then◌else◌, Contains, List, [], ◌∷◌}
+use Rattle.std.proofs.Common.{codes, decimal, get_or, refl, sym, ap, subst, ◌∙◌, arith}
 use Rattle.std.proofs.lemmas.List.{append-nil, append_assoc}
-use Rattle.std.proofs.lemmas.List.Elements.{Contains-append_left}
-use Rattle.std.proofs.lemmas.List.Elements.{Contains-push}
+use Rattle.std.proofs.lemmas.List.Elements.{Contains-append_left, Contains-push}
 use Rattle.std.specs.Fmt.{digits}
 use Rattle.rtsp_text.specs.Replies.{field_line, reply_front, reply_text, status_line}
 use Rattle.admission.specs.declared.entries.Answer.TheVariants.{Overflow}
 use Rattle.admission.specs.Makers.{PlacedEntry}
+use Rattle.slot_calendar.specs.declared.calendar.Overflow.{Overflow as Over}
 use Rattle.session.specs.declared.commands.Ask.{Ask}
 use Rattle.session.specs.RequestEffects.{HasCode, IsNoRefusal, RefusesNone}
-use Rattle.rtsp_replies.specs.Replies.{started_text}
-use Rattle.rtsp_replies.specs.Replies.{field, full_text, overflow_text}
+use Rattle.rtsp_replies.specs.Replies.{started_text, field, full_text, overflow_text}
 use Rattle.session.specs.SlotSteps.{can_reply, is_between, is_sending, is_taken, sent_due, sent_reply, after_slot}
 use Rattle.session.specs.SlotSteps.{stepped_in}
 use Rattle.session.specs.SessionStates.{AwaitedAnswer, SessionState}
-use Rattle.conn.specs.InputSteps.{Outcome, Entered, WasFull, SentPart, Film, Text, Stage, ElementStep, Passed, Answered}
-use Rattle.conn.specs.InputSteps.{HasHeard, Takes as TakesElement, TakesAll, slot_parts}
-use Rattle.conn.specs.EventSteps.{Ending, Ends, Unheard, PeerEnded, Overfull, AtElement, InSlot}
-use Rattle.conn.specs.EventSteps.{InReply, Round, Runs, RunsAll, ending_outcomes}
-use Rattle.conn.specs.EventSteps.{round_outcomes, rounds_outcomes, takings_outcomes}
+use Rattle.conn.specs.InputSteps.{Outcome, Entered, WasFull, SentPart, Film, Text, Stage, ElementStep, Passed}
+use Rattle.conn.specs.InputSteps.{Answered, HasHeard, Takes as TakesElement, TakesAll, slot_parts}
+use Rattle.conn.specs.EventSteps.{Ending, Ends, Unheard, PeerEnded, Overfull, AtElement, InSlot, InReply, Round, Runs}
+use Rattle.conn.specs.EventSteps.{RunsAll, ending_outcomes, round_outcomes, rounds_outcomes, takings_outcomes}
 use Rattle.conn.specs.Films.{round_parts, rounds_parts, takings_parts}
 use Rattle.conn.specs.Plays.{ending_rounds}
 use Rattle.conn.specs.declared.reports.ConnEnd.{ConnEnd}
@@ -29,12 +26,12 @@ use Rattle.conn.specs.Guarantees.{ReportsFullOf}
 use Rattle.conn.proofs.EventPremises.{SlotBytes}
 use Rattle.conn.proofs.PlayProgress.{slot_any}
 use Rattle.conn.proofs.StationAnswers.{AnswersAs, ComesAs, FinishesAs, answers_as, comes_as, NoneAsked, PlayAdmitted}
-use Rattle.conn.proofs.StationAnswers.{PlayOverflowed, PlayFull, PlayHalted, LookMade, LookFull, OfferMade, NothingLeft}
-use Rattle.conn.proofs.StationAnswers.{DoneHalted, BytesCame, SlotCame}
+use Rattle.conn.proofs.StationAnswers.{PlayOverflowed, PlayFull, PlayHalted, LookMade, LookFull, OfferMade}
+use Rattle.conn.proofs.StationAnswers.{NothingLeft, DoneHalted, BytesCame, SlotCame}
 
 -- three digits differ where the first does
-other : {a b c x y z : ℕ} → (a ≡ x → ⊥) → (a ∷ b ∷ c ∷ []) ≡ (x ∷ y ∷ z ∷ []) → ⊥
-other {a} {c} differ same = differ (ap (λ l. get_or l 0 0) same)
+other : {a x : ℕ} {more rest : List ℕ} → (a ≡ x → ⊥) → (a ∷ more) ≡ (x ∷ rest) → ⊥
+other differ same = differ (ap (λ l. get_or l 0 0) same)
 
 -- a text of 453 is none of 503, nor the other way round
 overflow_not_full : (sequence slot booked asked : ℕ) → HasCode 503 (overflow_text sequence slot booked asked) → ⊥
@@ -49,12 +46,10 @@ full_not_overflow sequence entries live is = other (λ p. absurd (omega (arith, 
 pub record TellsOver (made : List Outcome) (text : List ℕ) : Type 0 where
   pub placed : PlacedEntry
   pub among : Contains made (Entered placed)
-  pub slot : ℕ
-  pub booked : ℕ
-  pub asked : ℕ
-  pub answer : placed.entry.answer ≡ Overflow slot booked asked
+  pub over : Over
+  pub answer : placed.entry.answer ≡ Overflow over.slot over.booked over.asked
   pub sequence : ℕ
-  pub text_is : text ≡ overflow_text sequence slot booked asked
+  pub text_is : text ≡ overflow_text sequence over.slot over.booked over.asked
 
 -- by what the station has answered up to now
 pub record IsTold (made : List Outcome) (text : List ℕ) : Type 0 where
@@ -80,9 +75,7 @@ told_with_more made more text told = record {
       record {
         placed = its.placed;
         among = Contains-append_left made more (Entered its.placed) its.among;
-        slot = its.slot;
-        booked = its.booked;
-        asked = its.asked;
+        over = its.over;
         answer = its.answer;
         sequence = its.sequence;
         text_is = its.text_is;
@@ -112,21 +105,19 @@ are_both made (Film bytes ∷ xs) ys first second = are_both made xs ys first se
 are_both made (Text text ∷ xs) ys first second = (first.0, are_both made xs ys first.1 second)
 
 -- what the station answers is reported
-told_overflow : {slot booked asked : ℕ} (made : List Outcome) (placed : PlacedEntry) (sequence : ℕ) →
-    placed.entry.answer ≡ Overflow slot booked asked →
-    IsTold (made ++ Entered placed ∷ []) (overflow_text sequence slot booked asked)
-told_overflow {slot} {booked} {asked} made placed sequence answer = record {
+told_overflow : (made : List Outcome) (placed : PlacedEntry) (over : Over) (sequence : ℕ) →
+    placed.entry.answer ≡ Overflow over.slot over.booked over.asked →
+    IsTold (made ++ Entered placed ∷ []) (overflow_text sequence over.slot over.booked over.asked)
+told_overflow made placed over sequence answer = record {
   overflow = λ is. record {
     placed = placed;
     among = Contains-push made (Entered placed);
-    slot = slot;
-    booked = booked;
-    asked = asked;
+    over = over;
     answer = answer;
     sequence = sequence;
     text_is = refl;
   };
-  full = λ is. absurd (overflow_not_full sequence slot booked asked is);
+  full = λ is. absurd (overflow_not_full sequence over.slot over.booked over.asked is);
 }
 
 told_full : (made : List Outcome) (more entries live sequence : ℕ)
@@ -150,7 +141,8 @@ answered_told {old} {outcome = outcome} made plain (PlayAdmitted {start = start}
     let rest : List ℕ = field_line (field (codes "x-Start") (decimal (start - old.heard))) in
     told_plain (made ++ outcome ∷ []) (started_text old.text (start - old.heard))
     (subst IsNoRefusal (sym (append_assoc old.text rest (codes "\r\n"))) (plain (rest ++ codes "\r\n")))
-answered_told made plain (PlayOverflowed {placed = placed} entry) = told_overflow made placed _ entry.answer_is
+answered_told made plain (PlayOverflowed {placed = placed} {slot} {booked} {asked} entry) =
+    told_overflow made placed (record { slot = slot; booked = booked; asked = asked }) _ entry.answer_is
 answered_told made plain (PlayFull {more = more} {entries} {live} two) = told_full made more entries live _
 answered_told made plain (LookFull {more = more} {entries} {live}) = told_full made more entries live _
 answered_told {outcome = outcome} made plain (LookMade is) = told_plain (made ++ outcome ∷ []) _ (ok_plain _ _ _)

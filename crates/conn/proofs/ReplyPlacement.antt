@@ -1,6 +1,6 @@
 -- Lemmas on where replies stand among a film's frames and reports.
-use Rattle.std.proofs.Common.{◌≡◌, ℕ, ◌+◌, ◌-◌, ◌≤◌, ◌++◌, ◌&&◌, Bool, true, false, if◌then◌else◌}
-use Rattle.std.proofs.Common.{List, [], ◌∷◌, length, take, drop, refl, ap, sym, ◌∙◌, subst, arith}
+use Rattle.std.proofs.Common.{◌≡◌, ℕ, ◌+◌, ◌-◌, ◌≤◌, ◌++◌, ◌&&◌, Bool, true, false, if◌then◌else◌, List, [], ◌∷◌}
+use Rattle.std.proofs.Common.{length, take, drop, refl, ap, sym, ◌∙◌, subst, arith}
 use Rattle.std.proofs.lemmas.Bool.{and_parts, eqb-true}
 use Rattle.std.proofs.lemmas.List.{append-nil, append_assoc, length-append}
 use Rattle.film_frames.specs.Tracks.{IsBoundary, framed_bytes}
@@ -12,13 +12,11 @@ use Rattle.session.specs.declared.states.Play.{Play as Played}
 use Rattle.film_streams.specs.declared.setups.Setup.{Setup}
 use Rattle.session.specs.declared.states.State.{State}
 use Rattle.session.specs.declared.states.State.TheVariants.{Playing}
-use Rattle.session.specs.SlotSteps.{can_reply, is_between, is_sending, is_taken, step_bytes}
-use Rattle.session.specs.SlotSteps.{stepped_in}
+use Rattle.session.specs.SlotSteps.{can_reply, is_between, is_sending, is_taken, step_bytes, stepped_in}
 use Rattle.session.specs.SessionStates.{SessionState}
-use Rattle.conn.specs.InputSteps.{SentPart, Film, Text, Stage, ElementStep, Passed, Answered, TakesAll}
-use Rattle.conn.specs.InputSteps.{due_parts, film_bytes, reply_parts}
-use Rattle.conn.specs.EventSteps.{Round, Runs, RunsAll, round_outcomes, rounds_outcomes}
-use Rattle.conn.specs.EventSteps.{takings_outcomes}
+use Rattle.conn.specs.InputSteps.{SentPart, Film, Text, Stage, ElementStep, Passed, Answered, TakesAll, due_parts}
+use Rattle.conn.specs.InputSteps.{film_bytes, reply_parts}
+use Rattle.conn.specs.EventSteps.{Round, Runs, RunsAll, round_outcomes, rounds_outcomes, takings_outcomes}
 use Rattle.conn.specs.Films.{HaveNoHalt, GoesOn, HasSent, HasSentOn, StandBetween, PlaySpan, round_parts}
 use Rattle.conn.specs.Films.{rounds_parts, takings_parts}
 use Rattle.pacer.proofs.SlotStepLemmas.{most-slots}

@@ -1,16 +1,16 @@
 -- Through each request a session keeps its films, its settings and what SETUP settled, and a play
 -- that it asks for is a sending.
-use Rattle.std.proofs.Common.{◌≡◌, ℕ, ◌++◌, ◌∷◌, List, [], length, Option, refl, sym, ap, subst, ◌∙◌, inl, inr}
+use Rattle.std.proofs.Common.{◌≡◌, ℕ, ◌++◌, ◌∷◌, List, [], length, Option, refl, sym, ap, subst, ◌∙◌, inl, inr, arith}
 use Rattle.film_frames.specs.declared.stored_films.Stored.{Stored}
 use Rattle.film_frames.specs.FramedRuns.{run_pieces}
 use Rattle.film_run.specs.declared.runs.Run.{Run}
 use Rattle.film_run.specs.Laws.{IsSending}
+use Rattle.film_run.specs.Plans.{IsPlayback}
 use Rattle.film_run.specs.Units.{stored_sizes}
 use Rattle.pacer.specs.PacerStates.{PacerState}
 use Rattle.session.specs.declared.commands.Ask.{Ask}
-use Rattle.session.specs.declared.commands.Ask.TheVariants.{Reply as AskReply, Play as AskPlay}
-use Rattle.session.specs.declared.commands.Ask.TheVariants.{Halt as AskHalt, Look as AskLook}
-use Rattle.session.specs.declared.commands.Ask.TheVariants.{Offer as AskOffer}
+use Rattle.session.specs.declared.commands.Ask.TheVariants.{Reply as AskReply, Play as AskPlay, Halt as AskHalt}
+use Rattle.session.specs.declared.commands.Ask.TheVariants.{Look as AskLook, Offer as AskOffer}
 use Rattle.session_records.specs.declared.notes.PlayNote.{PlayNote}
 use Rattle.film_streams.specs.declared.settings.Settings.{Settings}
 use Rattle.session.specs.declared.states.Awaited.{Awaited}
@@ -26,21 +26,18 @@ use Rattle.session.specs.declared.states.State.{State}
 use Rattle.session.specs.declared.states.State.TheVariants.{Init, Ready, Playing, Stopping}
 use Rattle.session.specs.declared.states.Stop.{Stop}
 use Rattle.session.specs.RequestEffects.{AwaitsNoStop, ChangesState, IsHaltAsked, IsPlayAsked, IsSameContext}
-use Rattle.session.specs.RequestEffects.{IsSetUpBy}
-use Rattle.session.specs.RunRequests.{sending_of}
+use Rattle.session.specs.RunRequests.{sending_of, playback_of}
 use Rattle.film_streams.specs.Films.{IsFilmAt, OfFilm}
 use Rattle.session.specs.RequestSteps.{Hears}
 use Rattle.session.specs.Laws.{AsksNoHalt}
 use Rattle.session.specs.Methods.{prepared_of}
-use Rattle.session.specs.RunRequests.{playback_of}
 use Rattle.film_streams.specs.SettingRanges.{AreSettings, IsSetup}
 use Rattle.session.specs.SlotSteps.{kept_of, next_of, note_of}
 use Rattle.session.specs.SessionStates.{SessionState}
 use Rattle.session.proofs.RequestEffectLemmas.{hears_ground, hears_state, hears_unstopped}
 use Rattle.conn.specs.Films.{HasSent}
 use Rattle.conn.specs.Plays.{IsShown}
-use Rattle.conn.proofs.RunPlans.{sending_of_run}
-use Rattle.conn.proofs.HaltedPlays.{IsHaltedPacing, halted_here}
+use Rattle.conn.proofs.FilmBytes.{IsHaltedPacing, halted_here}
 
 abbrev pub AreShown : List Stored → Type 0
 AreShown films = (number : ℕ) → OfFilm films number IsShown
@@ -173,26 +170,37 @@ ground_same old new film same =
     ∙ ap (λ (p : List PlayNote). record (ground_of new film) { plays = p; heard = old.heard }) (sym same.plays)
     ∙ ap (λ (h : ℕ). record (ground_of new film) { heard = h }) (sym same.heard)
 
--- the same state, in a session with the same films and settings
-carried : {old new : SessionState} {film : List ℕ} → IsWell old film → IsSameContext old new → AwaitsNoStop new →
-    new.state ≡ old.state → IsWell new film
-carried {old} {new} {film} well same unstopped state = record {
-  films = subst AreShown (sym same.films) well.films;
-  settings = subst AreSettings (sym same.settings) well.settings;
-  unstopped = unstopped;
-  state = subst (λ g. IsStateOf g new.state) (ground_same old new film same)
-      (subst (IsStateOf (ground_of old film)) (sym state) well.state);
+-- a request keeps what SETUP settled, and no halt is awaited after it
+record IsKept (old new : SessionState) : Type 0 where
+  same : IsSameContext old new
+  unstopped : AwaitsNoStop new
+
+kept_well : {old new : SessionState} {film : List ℕ} → IsWell old film → IsKept old new
+    → IsStateOf (ground_of old film) new.state → IsWell new film
+kept_well {old} {new} {film} well kept state = record {
+  films = subst AreShown (sym kept.same.films) well.films;
+  settings = subst AreSettings (sym kept.same.settings) well.settings;
+  unstopped = kept.unstopped;
+  state = subst (λ g. IsStateOf g new.state) (ground_same old new film kept.same) state;
 }
 
--- a SETUP
-set_up_well : {old new : SessionState} {film : List ℕ} → IsWell old film → IsSameContext old new → AwaitsNoStop new →
-    IsSetUpBy old new → IsWell new film
-set_up_well {new} {film} well same unstopped is = record {
-  films = subst AreShown (sym same.films) well.films;
-  settings = subst AreSettings (sym same.settings) well.settings;
-  unstopped = unstopped;
-  state = subst (IsStateOf (ground_of new film)) (sym is.state)
-      (subst (λ (f : List Stored). IsSetup (length f) is.setup) (sym same.films) (is.ranges well.settings));
+-- the same state
+carried : {old new : SessionState} {film : List ℕ} → IsWell old film → IsKept old new → new.state ≡ old.state
+    → IsWell new film
+carried {old} {film = film} well kept state =
+    kept_well well kept (subst (IsStateOf (ground_of old film)) (sym state) well.state)
+
+-- a film is played back within the ranges of its settings and of what SETUP settled
+playback_fits : {stored : Stored} {settings : Settings} {setup : Setup} {films : ℕ} → IsShown stored →
+    AreSettings settings → IsSetup films setup → IsPlayback (playback_of stored.film settings setup)
+playback_fits shown good values = record {
+  some_picture_units = shown.some_time;
+  picture_units_fit = shown.time_fits;
+  some_slot_units = omega (arith, good.long_slots);
+  slot_units_fit = good.short_slots;
+  some_buffer = values.some_buffer;
+  buffer_fits = values.most_buffer;
+  delay_fits = values.most_delay;
 }
 
 -- a PLAY in Ready
@@ -203,6 +211,7 @@ prepared_well {old} {new} {film} well same state is =
     let values : IsSetup (length old.films) is.setup =
     subst (IsStateOf (ground_of old film)) is.ready well.state in
     let planned = is.planned_is in
+    let shown = well.films is.setup.film is.stored planned.at in
     let made : HasPrepared old.films old.source old.settings new.state new.awaited = record {
       setup = is.setup;
       paused = is.paused;
@@ -212,8 +221,15 @@ prepared_well {old} {new} {film} well same state is =
       awaited_is = is.awaited;
       values = values;
       at = planned.at;
-      sending = sending_of_run
-          (well.films is.setup.film is.stored planned.at) well.settings values planned.goes_on planned.plan_is;
+      sending = record {
+        can_play = record {
+          sizes_are = shown.sizes;
+          playback_is = playback_fits shown well.settings values;
+          run_is = planned.goes_on.run_is;
+          fits = planned.goes_on.fits;
+        };
+        plan_is = planned.plan_is;
+      };
       frames = refl;
     } in
     subst (λ g. HasPrepared new.films new.source g new.state new.awaited) (sym same.settings)
@@ -252,26 +268,25 @@ halting_well {old} {new} {film} well same is =
           (was.0, halted_to (next_of new.awaited) halt));
     }
 
--- what a request leaves of a session, and what it then awaits
-record IsKeptOn (old : SessionState) (ask : Ask) (new : SessionState) : Type 0 where
-  same : IsSameContext old new
-  unstopped : AsksNoHalt ask → AwaitsNoStop new
-
-asked_well : {old new : SessionState} {film : List ℕ} (ask : Ask) → IsWell old film → IsKeptOn old ask new
-    → ChangesState ask old new → IsAskedWell ask new film
-asked_well AskReply well on (inl state) = carried well on.same (on.unstopped tt) state
-asked_well AskReply well on (inr setup) = set_up_well well on.same (on.unstopped tt) setup
-asked_well (AskPlay plan) well on changes =
-    (carried well on.same (on.unstopped tt) changes.0, prepared_well well on.same changes.0 changes.1.play)
-asked_well (AskHalt keep) well on changes = halting_well well on.same changes
-asked_well (AskLook slot) well on changes = carried well on.same (on.unstopped tt) changes
-asked_well (AskOffer plan offers) well on changes = carried well on.same (on.unstopped tt) changes
+asked_well : {old new : SessionState} {film : List ℕ} (ask : Ask) → IsWell old film
+    → IsSameContext old new × (AsksNoHalt ask → AwaitsNoStop new) → ChangesState ask old new → IsAskedWell ask new film
+asked_well AskReply well on (inl state) = carried well (record { same = on.0; unstopped = on.1 tt }) state
+asked_well {old} {film = film} AskReply well on (inr setup) =
+    kept_well well (record { same = on.0; unstopped = on.1 tt })
+    (subst (IsStateOf (ground_of old film)) (sym setup.state) (setup.ranges well.settings))
+asked_well (AskPlay plan) well on changes = (
+  carried well (record { same = on.0; unstopped = on.1 tt }) changes.0,
+  prepared_well well on.0 changes.0 changes.1.play,
+)
+asked_well (AskHalt keep) well on changes = halting_well well on.0 changes
+asked_well (AskLook slot) well on changes = carried well (record { same = on.0; unstopped = on.1 tt }) changes
+asked_well (AskOffer plan offers) well on changes = carried well (record { same = on.0; unstopped = on.1 tt }) changes
 
 pub hears_well : {old : SessionState} {film : List ℕ} (new : SessionState) (message : List ℕ) (ask : Ask) →
     IsWell old film → Hears old message ask new →
     IsAskedWell ask new film
 hears_well {old} new message ask well hears =
-    asked_well ask well (record {
-      same = hears_ground old new message ask hears;
-      unstopped = λ free. hears_unstopped old new message ask hears free well.unstopped;
-    }) (hears_state old new message ask hears)
+    asked_well ask well (
+      hears_ground old new message ask hears,
+      λ free. hears_unstopped old new message ask hears free well.unstopped,
+    ) (hears_state old new message ask hears)

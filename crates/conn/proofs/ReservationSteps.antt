@@ -1,24 +1,26 @@
--- Lemmas on what a connection makes of the journal, one call after another.
-use Rattle.std.proofs.Common.{◌≡◌, ℕ, ◌≤◌, List, [], ◌∷◌, ◌++◌, map, Option, Some, None, ◌==◌, true}
-use Rattle.std.proofs.Common.{if◌then◌else◌, refl, ap, sym, ◌∙◌, subst, arith}
-use Rattle.std.proofs.lemmas.List.{append-nil, append_assoc, map-append, length-append}
-use Rattle.std.proofs.lemmas.List.{get_or_append_left}
+-- Lemmas on what a connection makes of the journal and leaves of its seat, one call after another.
+use Rattle.std.proofs.Common.{◌≡◌, ℕ, ◌≤◌, List, [], ◌∷◌, ◌++◌, map, Option, Some, None, ◌==◌, true, if◌then◌else◌}
+use Rattle.std.proofs.Common.{refl, ap, sym, ◌∙◌, subst, arith}
+use Rattle.std.proofs.lemmas.List.{append-nil, append_assoc, map-append, length-append, get_or_append_left}
 use Rattle.std.proofs.lemmas.List.Sums.{fold-append}
 use Rattle.std.proofs.lemmas.List.Elements.{All-append, All-cons, All-nil}
 use Rattle.admission.specs.declared.entries.Command.{Command}
-use Rattle.admission.specs.declared.entries.Command.TheVariants.{Play, Halt, Look}
-use Rattle.admission.specs.declared.entries.Answer.TheVariants.{Admitted, Overflow, Halted, Looked}
+use Rattle.admission.specs.declared.entries.Command.TheVariants.{Look}
+use Rattle.admission.specs.declared.entries.Answer.TheVariants.{Looked}
 use Rattle.admission.specs.Histories.{Halts}
 use Rattle.admission.specs.Makers.{PlacedEntry, Admits, IsOpenAmong}
 use Rattle.session_records.specs.declared.notes.Receipt.{Receipt}
-use Rattle.session_records.specs.declared.notes.Receipt.TheVariants.{Entry as EntryReceipt}
-use Rattle.session_records.specs.declared.notes.Receipt.TheVariants.{Full as FullReceipt}
+use Rattle.session_records.specs.declared.notes.Receipt.TheVariants.{Entry as EntryReceipt, Full as FullReceipt}
 use Rattle.plan_cert.specs.declared.Segment.{Segment}
 use Rattle.plan_cert.specs.PlanSlots.{total_bytes}
-use Rattle.session.specs.SessionStates.{OpenBooking, IsSameBooking}
+use Rattle.session.specs.SessionStates.{OpenBooking, IsSameBooking, AwaitsNoAnswer, open_of}
 use Rattle.station.specs.Bookings.{Booking}
-use Rattle.conn.specs.ReservationInvariant.{ReservationState, HasAdvanced, IsHeld, entry_receipts, receipt_for, Closed}
-use Rattle.conn.specs.ReservationInvariant.{Broken, open_play_with, open_play_from, open_play_of}
+use Rattle.conn.specs.ReservationInvariant.{ReservationState, HasAdvanced, IsHeld, entry_receipts, receipt_for}
+use Rattle.conn.specs.ReservationInvariant.{Closed, Broken, open_play_with, open_play_from, open_play_of, IsQuiet}
+use Rattle.conn.specs.ReservationInvariant.{KeepsReservations, reservation_state}
+use Rattle.station.specs.Seats.{SeatState}
+use Rattle.station.proofs.SameSeats.{seat_none, seat_on}
+use Rattle.conn.specs.declared.connections.Connection.{Connection}
 
 entry_receipts-append : (xs ys : List Receipt) → entry_receipts (xs ++ ys) ≡ entry_receipts xs ++ entry_receipts ys
 entry_receipts-append [] ys = refl
@@ -43,17 +45,6 @@ gone_none {old} {new} full mine booking receipts none = record {
 pub gone_still : (old new : ReservationState) → new.mine ≡ old.mine → new.booking ≡ old.booking
     → new.receipts ≡ old.receipts → HasAdvanced old new
 gone_still old new mine booking receipts = gone_none [] mine booking (receipts ∙ sym (append-nil old.receipts)) refl
-
--- one entry was made
-pub gone_one : (old new : ReservationState) (placed : PlacedEntry) → new.mine ≡ old.mine ++ placed ∷ [] →
-    new.receipts ≡ old.receipts ++ receipt_for placed ∷ [] →
-    open_play_with (open_play_of old.booking) placed ≡ open_play_of new.booking → HasAdvanced old new
-gone_one old new placed mine receipts opened = record {
-  made = placed ∷ [];
-  mine_is = mine;
-  receipts_are = ap entry_receipts receipts ∙ entry_receipts-append old.receipts (receipt_for placed ∷ []);
-  open_is = opened;
-}
 
 -- one after the other
 pub gone_on : (a b c : ReservationState) → HasAdvanced a b → HasAdvanced b c → HasAdvanced a c
@@ -110,86 +101,105 @@ pub record HasEntered (old new : ReservationState) (placed : PlacedEntry) : Type
   pub mine : new.mine ≡ old.mine ++ placed ∷ []
   pub receipts : new.receipts ≡ old.receipts ++ receipt_for placed ∷ []
 
+-- with an entry the booking becomes what the entry makes of it
+pub gone_entry : {old new : ReservationState} {placed : PlacedEntry} {booking : Option Booking}
+    → old.booking ≡ booking → HasEntered old new placed
+    → open_play_with (open_play_of booking) placed ≡ open_play_of new.booking → HasAdvanced old new
+gone_entry {old} {placed = placed} was entered opened = record {
+  made = placed ∷ [];
+  mine_is = entered.mine;
+  receipts_are = ap entry_receipts entered.receipts ∙ entry_receipts-append old.receipts (receipt_for placed ∷ []);
+  open_is = ap (λ b. open_play_with (open_play_of b) placed) was ∙ opened;
+}
+
 -- the calls at the station, each with what it leaves
 pub gone_full : {old new : ReservationState} (entries live : ℕ) → new.mine ≡ old.mine → new.booking ≡ old.booking →
     new.receipts ≡ old.receipts ++ FullReceipt entries live ∷ [] → HasAdvanced old new
 gone_full {new} entries live mine booking receipts =
     gone_none (FullReceipt entries live ∷ []) mine booking receipts refl
 
--- the values of a look's entry in the journal
-pub record LookEntry : Type 0 where
-  pub maker : ℕ
-  pub place : ℕ
-  pub slot : ℕ
-  pub now : ℕ
-  pub at : ℕ
-  pub booked : ℕ
+-- a look leaves the booking, and a halt none
+pub at_look : (booking : Option Booking) (place maker slot now at booked : ℕ) → open_play_with (open_play_of booking)
+    (record { place = place; entry = record { maker = maker; command = Look slot; answer = Looked now at booked } })
+    ≡ open_play_of booking
+at_look None place maker slot now at booked = refl
+at_look (Some booking) place maker slot now at booked = refl
 
-at_look : (booking : Option Booking) (look : LookEntry) →
-    open_play_with (open_play_of booking) (record {
-      place = look.place;
-      entry = record { maker = look.maker; command = Look look.slot; answer = Looked look.now look.at look.booked };
-    }) ≡ open_play_of booking
-at_look None look = refl
-at_look (Some booking) look = refl
-
-pub gone_look : {old new : ReservationState} {maker place slot now at booked : ℕ} → new.booking ≡ old.booking →
-    HasEntered old new
-    (record { place = place; entry = record { maker = maker; command = Look slot; answer = Looked now at booked } }) →
-    HasAdvanced old new
-gone_look {old} {new} {maker} {place} {slot} {now} {at} {booked} same entered =
-    gone_one old new _ entered.mine entered.receipts (at_look old.booking
-    (record { maker = maker; place = place; slot = slot; now = now; at = at; booked = booked })
-    ∙ ap open_play_of (sym same))
-
-pub gone_overflow : {old new : ReservationState} {maker place slot : ℕ} {plan : List Segment} {over booked asked : ℕ} →
-    old.booking ≡ None → new.booking ≡ old.booking →
-    HasEntered old new
-    (record {
-      place = place;
-      entry = record { maker = maker; command = Play slot plan; answer = Overflow over booked asked };
-    }) →
-    HasAdvanced old new
-gone_overflow {old} {new} {maker} {place} {slot} {plan} {over} {booked} {asked} none same entered =
-    gone_one old new _ entered.mine entered.receipts (ap (λ b. open_play_with (open_play_of b)
-    (record {
-      place = place;
-      entry = record { maker = maker; command = Play slot plan; answer = Overflow over booked asked };
-    })) none
-    ∙ ap open_play_of (sym (same ∙ none)))
-
-pub gone_play : {old new : ReservationState} {made : Booking} {maker slot : ℕ} {plan : List Segment} → old.booking ≡
-    None →
-    new.booking ≡ Some made →
-    HasEntered old new
-    (record {
-      place = made.number;
-      entry = record { maker = maker; command = Play slot plan; answer = Admitted made.start };
-    }) →
-    HasAdvanced old new
-gone_play {old} {new} {made} {maker} {slot} {plan} none some entered =
-    gone_one old new _ entered.mine entered.receipts (ap (λ b. open_play_with (open_play_of b)
-    (record {
-      place = made.number;
-      entry = record { maker = maker; command = Play slot plan; answer = Admitted made.start };
-    })) none
-    ∙ ap open_play_of (sym some))
-
-at_halt : (number : ℕ) → (if number == number then Closed else Broken) ≡ Closed
+pub at_halt : (number : ℕ) → (if number == number then Closed else Broken) ≡ Closed
 at_halt number = let same : (number == number) ≡ true = grind arith in ap (λ b. if b then Closed else Broken) same
-
-pub gone_halt : {old new : ReservationState} {made : Booking} {maker place keep : ℕ} → old.booking ≡ Some made →
-    new.booking ≡ None →
-    HasEntered old new
-    (record { place = place; entry = record { maker = maker; command = Halt made.number keep; answer = Halted } }) →
-    HasAdvanced old new
-gone_halt {old} {new} {made} {maker} {place} {keep} some none entered =
-    gone_one old new _ entered.mine entered.receipts (ap (λ b. open_play_with (open_play_of b)
-    (record { place = place; entry = record { maker = maker; command = Halt made.number keep; answer = Halted } })) some
-    ∙ at_halt made.number ∙ ap open_play_of (sym none))
 
 -- no booking is held where the session has none open
 pub held_none : (mine : List PlacedEntry) (booking : Option Booking) (play : Option OpenBooking) → play ≡ None
     → IsHeld mine booking play → booking ≡ None
 held_none mine None play none held = refl
 held_none mine (Some booking) play none held = absurd (subst (IsHeld mine (Some booking)) none held)
+
+-- before any call
+pub kept_none : (seat : SeatState) (connection : Connection) → IsQuiet seat.mine connection
+    → KeepsReservations seat seat connection connection
+kept_none seat connection quiet = record {
+  seat = seat_none seat;
+  quiet = quiet;
+  gone = gone_still (reservation_state seat.mine connection) (reservation_state seat.mine connection) refl refl refl;
+}
+
+-- one call after another
+pub kept_on : {a b c : SeatState} {old mid new : Connection} → KeepsReservations a b old mid → KeepsReservations b c mid
+    new →
+    KeepsReservations a c old new
+kept_on {a} {b} {c} {old} {mid} {new} first second = record {
+  seat = seat_on a b c first.seat second.seat;
+  quiet = second.quiet;
+  gone = gone_on (reservation_state a.mine old) (reservation_state b.mine mid) (reservation_state c.mine new) first.gone
+      second.gone;
+}
+
+-- the bytes that wait are no part of it
+pub kept_moved : (seat : SeatState) (connection : Connection) (input : List ℕ) → IsQuiet seat.mine connection →
+    KeepsReservations seat seat connection (record connection { input = input })
+kept_moved seat connection input quiet = record {
+  seat = seat_none seat;
+  quiet = record { rest = quiet.rest; held = quiet.held };
+  gone = gone_still (reservation_state seat.mine connection) (reservation_state seat.mine connection) refl refl refl;
+}
+
+-- more of a play became due
+pub kept_due : {a b : Connection} (seat : SeatState) → IsQuiet seat.mine a → AwaitsNoAnswer b.session →
+    b.booking ≡ a.booking →
+    IsSameBooking (open_of a.session) (open_of b.session) → b.session.receipts ≡ a.session.receipts →
+    KeepsReservations seat seat a b
+kept_due {a} {b} seat quiet rest booking opens receipts = record {
+  seat = seat_none seat;
+  quiet = record {
+    rest = rest;
+    held = subst (λ k. IsHeld seat.mine k (open_of b.session)) (sym booking)
+        (held_same seat.mine a.booking (open_of a.session) (open_of b.session) opens quiet.held);
+  };
+  gone = gone_still (reservation_state seat.mine a) (reservation_state seat.mine b) refl booking receipts;
+}
+
+-- what a call leaves, after another one that made no entry, or before it
+pub kept_after : {old next : SeatState} {a mid b : Connection} → mid.booking ≡ a.booking →
+    mid.session.receipts ≡ a.session.receipts →
+    KeepsReservations old next mid b → KeepsReservations old next a b
+kept_after {old} {next} {a} {mid} {b} booking receipts kept = record {
+  seat = kept.seat;
+  quiet = kept.quiet;
+  gone = gone_on (reservation_state old.mine a) (reservation_state old.mine mid) (reservation_state next.mine b)
+      (gone_still (reservation_state old.mine a) (reservation_state old.mine mid) refl booking receipts) kept.gone;
+}
+
+pub kept_then : {old next : SeatState} {a mid b : Connection} → KeepsReservations old next a mid →
+    AwaitsNoAnswer b.session → b.booking ≡ mid.booking →
+    open_of b.session ≡ open_of mid.session → b.session.receipts ≡ mid.session.receipts → KeepsReservations old next a b
+kept_then {old} {next} {a} {mid} {b} kept rest booking opens receipts = record {
+  seat = kept.seat;
+  quiet = record {
+    rest = rest;
+    held = subst (λ k. IsHeld next.mine k (open_of b.session)) (sym booking)
+        (subst (IsHeld next.mine mid.booking) (sym opens) kept.quiet.held);
+  };
+  gone = gone_on (reservation_state old.mine a) (reservation_state next.mine mid) (reservation_state next.mine b)
+      kept.gone
+      (gone_still (reservation_state next.mine mid) (reservation_state next.mine b) refl booking receipts);
+}

@@ -1,10 +1,8 @@
 -- What the replies of a connection state, by what its seat has seen of the journal.
-use Rattle.std.proofs.Common.{◌≡◌, ℕ, ◌<◌, ◌++◌, All, Contains}
-use Rattle.std.proofs.Common.{List, [], ◌∷◌, Some, get_or, length, take, refl, sym}
+use Rattle.std.proofs.Common.{◌≡◌, ℕ, ◌<◌, ◌++◌, All, Contains, List, [], ◌∷◌, Some, get_or, length, take, refl, sym}
 use Rattle.std.proofs.Common.{ap, arith, subst, ◌∙◌}
-use Rattle.std.proofs.lemmas.List.Elements.{All-cons, All-contains, All-nil, All-weaker}
-use Rattle.std.proofs.lemmas.List.Elements.{Contains-append_left, Contains-append_right}
-use Rattle.std.proofs.lemmas.List.Elements.{Contains-push}
+use Rattle.std.proofs.lemmas.List.Elements.{All-cons, All-contains, All-nil, All-weaker, Contains-append_left}
+use Rattle.std.proofs.lemmas.List.Elements.{Contains-append_right, Contains-push}
 use Rattle.admission.specs.declared.entries.Answer.TheVariants.{Overflow}
 use Rattle.admission.specs.Histories.{state_after}
 use Rattle.admission.specs.Machine.{IsAnswer, State as Journal, booked_in, start_after}
@@ -15,12 +13,12 @@ use Rattle.admission.specs.declared.entries.Entry.{Entry}
 use Rattle.plan_cert.specs.declared.Segment.{Segment}
 use Rattle.slot_calendar.specs.Calendars.{IsFirstOverflow}
 use Rattle.slot_calendar.specs.Profiles.{capacity_at}
+use Rattle.slot_calendar.specs.declared.calendar.Overflow.{Overflow as Over}
 use Rattle.slot_calendar.specs.declared.profiles.CapStep.{CapStep}
 use Rattle.station.specs.Seats.{IsSeat, SeatState}
 use Rattle.station.proofs.Makers.{IsAt, all_at}
 use Rattle.std.proofs.lemmas.Option.{slice_get-get_or}
-use Rattle.conn.specs.InputSteps.{Outcome, Unasked, Entered, WasFull, Offered, SentPart, Film, Text}
-use Rattle.conn.specs.InputSteps.{entry_in}
+use Rattle.conn.specs.InputSteps.{Outcome, Unasked, Entered, WasFull, Offered, SentPart, Film, Text, entry_in}
 use Rattle.conn.specs.EventSteps.{entries_in}
 use Rattle.conn.specs.Journals.{terms_of}
 use Rattle.conn.specs.Guarantees.{AreRefusalsJustified, ReportsOverflowOf}
@@ -73,16 +71,13 @@ entered_own {seat} {made} placed own among =
     (Contains-append_right own.before mine placed entered))
 
 -- an entry of a seat's stands in what it has seen, and was answered in the state before it
-overflow_stands : {command : Command} {slot booked asked : ℕ} (steps : List CapStep) (before : Journal) →
-    IsAnswer steps before command (Overflow slot booked asked) →
-    (heard : ℕ) ×
-    ((plan : List Segment)
-    × ((command ≡ Play heard plan) × IsFirstOverflow 0 (booked_in before) (capacity_at steps)
-    (start_after before heard) plan
-    (record { slot = slot; booked = booked; asked = asked })))
-overflow_stands {command = Play heard plan} {slot} steps before is = (heard, (plan, (refl, is)))
-overflow_stands {command = Halt number keep} {slot} steps before is = absurd is
-overflow_stands {command = Look at} {slot} steps before is = absurd is
+overflow_stands : {command : Command} (over : Over) (steps : List CapStep) (before : Journal) →
+    IsAnswer steps before command (Overflow over.slot over.booked over.asked) →
+    (heard : ℕ) × ((plan : List Segment) × ((command ≡ Play heard plan)
+    × IsFirstOverflow 0 (booked_in before) (capacity_at steps) (start_after before heard) plan over))
+overflow_stands {command = Play heard plan} over steps before is = (heard, (plan, (refl, is)))
+overflow_stands {command = Halt number keep} over steps before is = absurd is
+overflow_stands {command = Look at} over steps before is = absurd is
 
 overflow_seen : {seat : SeatState} {made : List Outcome} (text : List ℕ) → SeatEntries seat made → TellsOver made text →
     ReportsOverflowOf (terms_of seat) seat.seen made text
@@ -102,11 +97,11 @@ overflow_seen {seat} text own told =
     let answered : IsAnswer seat.steps (state_after before) entry.command entry.answer =
     subst (λ (e : Entry). IsAnswer seat.steps (state_after before) e.command e.answer)
     (sym entry_is) (is.legal.each place entry inside) in
-    let over = overflow_stands seat.steps (state_after before)
+    let over = overflow_stands told.over seat.steps (state_after before)
     (subst (IsAnswer seat.steps (state_after before) entry.command) told.answer answered) in record {
-      slot = told.slot;
-      booked = told.booked;
-      asked = told.asked;
+      slot = told.over.slot;
+      booked = told.over.booked;
+      asked = told.over.asked;
       overflow = record {
         placed = placed;
         among = told.among;

@@ -1,9 +1,8 @@
 -- Through a course a session stays as `IsWell` has it.
-use Rattle.std.proofs.Common.{◌≡◌, ℕ, ◌++◌, ◌&&◌, Bool, true, false, if◌then◌else◌, List, [], ◌∷◌}
-use Rattle.std.proofs.Common.{length, slice_get, Option, Some, None, refl, sym, ap, subst, ◌∙◌}
+use Rattle.std.proofs.Common.{◌≡◌, ℕ, ◌++◌, ◌&&◌, Bool, true, false, if◌then◌else◌, List, [], ◌∷◌, length, slice_get}
+use Rattle.std.proofs.Common.{Option, Some, None, refl, sym, ap, subst, ◌∙◌}
 use Rattle.std.proofs.lemmas.Bool.{true≢false}
 use Rattle.std.proofs.lemmas.List.{append-nil}
-use Rattle.film_frames.specs.declared.stored_films.Stored.{Stored}
 use Rattle.film_frames.specs.FramedRuns.{run_pieces}
 use Rattle.film_run.specs.declared.runs.Run.{Run}
 use Rattle.film_run.specs.Laws.{IsSending}
@@ -24,17 +23,14 @@ use Rattle.session.specs.declared.states.Play.{Play as Played}
 use Rattle.film_streams.specs.declared.setups.Setup.{Setup}
 use Rattle.session.specs.declared.states.State.{State}
 use Rattle.session.specs.declared.states.State.TheVariants.{Init, Playing, Ready, Stopping}
-use Rattle.session.specs.declared.states.Stop.{Stop}
 use Rattle.session.specs.RequestEffects.{AwaitsNoStop, IsSameContext}
-use Rattle.session.specs.RunRequests.{sending_of}
+use Rattle.session.specs.RunRequests.{sending_of, playback_of}
 use Rattle.session.specs.RequestSteps.{after_admission, after_halt, counts_done, counts_next, counts_of}
 use Rattle.session.specs.RequestSteps.{halted_counts}
-use Rattle.session.specs.RunRequests.{playback_of}
 use Rattle.film_streams.specs.SettingRanges.{AreSettings, IsSetup}
-use Rattle.session.specs.SlotSteps.{after_play, after_slot, can_reply, halted_in, halted_notes}
-use Rattle.session.specs.SlotSteps.{is_between, is_done_in, is_sending, is_taken, kept_of, next_of}
-use Rattle.session.specs.SlotSteps.{note_of, sent_due, sent_in, sent_reply, sent_slot}
-use Rattle.session.specs.SlotSteps.{state_once_halted, stepped_in}
+use Rattle.session.specs.SlotSteps.{after_play, after_slot, can_reply, halted_in, halted_notes, is_between}
+use Rattle.session.specs.SlotSteps.{is_done_in, is_sending, kept_of, next_of, note_of, sent_due, sent_in, sent_reply}
+use Rattle.session.specs.SlotSteps.{sent_slot, state_once_halted, stepped_in}
 use Rattle.session.specs.SessionStates.{AwaitedAnswer, SessionState}
 use Rattle.session.specs.SlotTransitions.{IsPlayIn, after_stop}
 use Rattle.conn.specs.InputSteps.{Outcome, Entered, Stage, ElementStep, Passed, Answered, HasHeard, IsPlayAnswered}
@@ -44,14 +40,14 @@ use Rattle.conn.specs.Films.{HasSentOn, IsReady}
 use Rattle.conn.specs.Plays.{film_in, film_since, film_taken}
 use Rattle.conn.proofs.PlayStart.{play_begins}
 use Rattle.conn.proofs.RequestInvariants.{AreShown, Ground, HasPlay, HasStopped, IsAskedWell, IsHaltAwaited}
-use Rattle.conn.proofs.RequestInvariants.{IsHaltedTo, IsHalting, IsHaltingIn, IsStateOf, IsWell, ground_of}
-use Rattle.conn.proofs.RequestInvariants.{ground_by, ground_same, hears_well}
+use Rattle.conn.proofs.RequestInvariants.{IsHaltedTo, IsHalting, IsHaltingIn, IsStateOf, IsWell, ground_of, ground_by}
+use Rattle.conn.proofs.RequestInvariants.{ground_same, hears_well}
 use Rattle.conn.proofs.PlayProgress.{slot_any, slot_play}
 use Rattle.conn.proofs.ReplyPlacement.{no_film}
 use Rattle.conn.proofs.StoppedPlays.{stop_left, stop_slot}
 use Rattle.conn.proofs.StationAnswers.{AnswersAs, ComesAs, FinishesAs, answers_as, comes_as, NoneAsked, PlayAdmitted}
-use Rattle.conn.proofs.StationAnswers.{PlayOverflowed, PlayFull, PlayHalted, LookMade, NothingLeft, DoneHalted, BytesCame}
-use Rattle.conn.proofs.StationAnswers.{SlotCame}
+use Rattle.conn.proofs.StationAnswers.{PlayOverflowed, PlayFull, PlayHalted, LookMade, NothingLeft, DoneHalted}
+use Rattle.conn.proofs.StationAnswers.{BytesCame, SlotCame}
 
 -- an admitted play is a sending of which nothing was sent
 admitted_well : {old : SessionState} {start : ℕ} {new : SessionState} {film : List ℕ} (placed : PlacedEntry)

@@ -1,8 +1,7 @@
 -- Lemmas that the proofs of several functions name together.
 use Rattle.station.proofs.SameSeats.{seat_none}
 use Rattle.conn.proofs.FaultCounts.{counted_end, counted_fault, counted_on, counted_same}
-use Rattle.conn.proofs.ReservationSteps.{gone_on, gone_still, held_none, held_same}
-use Rattle.conn.proofs.SeatInvariants.{kept_none, kept_on}
+use Rattle.conn.proofs.ReservationSteps.{gone_on, gone_still, held_none, held_same, kept_none, kept_on}
 
 -- on what is kept, and on the link's count of faults, where a call of it may have failed
 pub ruleset count_steps = (kept_none, kept_on, counted_same, counted_end, counted_fault, counted_on)

@@ -11,14 +11,15 @@ use Rattle.station.specs.Ledgers.{play_of}
 use Rattle.session.specs.declared.commands.Ask.{Ask}
 use Rattle.session.specs.declared.commands.Ask.TheVariants.{Reply as AskReply, Play as AskPlay, Halt as AskHalt}
 use Rattle.session.specs.declared.commands.Ask.TheVariants.{Look as AskLook, Offer as AskOffer}
-use Rattle.session.specs.RequestSteps.{after_admission, after_full, after_halt, after_look, after_offer, after_overflow}
+use Rattle.session.specs.RequestSteps.{after_admission, after_full, after_halt, after_look, after_offer}
+use Rattle.session.specs.RequestSteps.{after_overflow}
 use Rattle.session.specs.SlotSteps.{after_slot}
 use Rattle.session.specs.SessionStates.{AwaitedAnswer, NoAnswer, PlayAnswer, HaltAnswer, LookAnswer, OfferAnswer}
 use Rattle.session.specs.SessionStates.{SessionState, awaited_answer}
 use Rattle.session_records.specs.declared.notes.OfferNote.{OfferNote}
 use Rattle.conn.specs.EventSteps.{Comes, Round}
-use Rattle.conn.specs.InputSteps.{IsAskAnswered, IsFinished, IsHalted, IsLookAnswered, IsPlayAnswered, Outcome, Unasked}
-use Rattle.conn.specs.InputSteps.{ElementStep, Entered, WasFull, Offered, SentPart, Stage, slot_parts, stage}
+use Rattle.conn.specs.InputSteps.{IsAskAnswered, IsFinished, IsHalted, IsLookAnswered, IsPlayAnswered, Outcome}
+use Rattle.conn.specs.InputSteps.{Unasked, ElementStep, Entered, WasFull, Offered, SentPart, Stage, slot_parts, stage}
 
 -- an entry is that of a play, and it has this answer
 pub record IsPlayEntry (old : SessionState) (plan : List Segment) (placed : PlacedEntry) (answer : Answer) : Type 0 where

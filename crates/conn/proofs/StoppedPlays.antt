@@ -1,6 +1,6 @@
 -- The rest of a play that was halted, from slot to slot.
-use Rattle.std.proofs.Common.{◌≡◌, ◌⊎◌, ℕ, ◌+◌, ◌-◌, ◌<◌, ◌++◌, ◌&&◌, Bool, true, false, if◌then◌else◌}
-use Rattle.std.proofs.Common.{List, [], ◌∷◌, length, take, drop, refl, ap, sym, ◌∙◌, subst, inl, inr, arith}
+use Rattle.std.proofs.Common.{◌≡◌, ◌⊎◌, ℕ, ◌+◌, ◌-◌, ◌<◌, ◌++◌, ◌&&◌, Bool, true, false, if◌then◌else◌, List, [], ◌∷◌}
+use Rattle.std.proofs.Common.{length, take, drop, refl, ap, sym, ◌∙◌, subst, inl, inr, arith}
 use Rattle.film_frames.specs.declared.stored_films.Stored.{Stored}
 use Rattle.film_frames.specs.Tracks.{IsBoundaryAfter, framed_bytes}
 use Rattle.film_run.proofs.PlanLemmas.{sending-best}
@@ -17,11 +17,10 @@ use Rattle.session.specs.SessionStates.{SessionState}
 use Rattle.session.specs.SlotTransitions.{after_stop}
 use Rattle.conn.specs.Plays.{IsCutBy, client_of, play_pieces}
 use Rattle.conn.specs.InputSteps.{due_parts, film_bytes, slot_parts}
-use Rattle.conn.proofs.FilmBytes.{sent_through, slot_film, slot_is, slot_pacing}
-use Rattle.conn.proofs.HaltedPlays.{halted_count, halted_on}
+use Rattle.conn.proofs.FilmBytes.{sent_through, slot_film, slot_is, slot_pacing, halted_count, halted_on}
 use Rattle.conn.proofs.RequestInvariants.{Ground, HasStopped, IsStateOf, ground_by, ground_of}
 use Rattle.conn.proofs.PlayProgress.{later_slot, pacer_film, parts_of, reply_heard, reply_state, slot_cases}
-use Rattle.conn.proofs.PlayProgress.{state_after_slot}
+use Rattle.conn.proofs.PlayProgress.{standings, state_after_slot}
 
 abbrev pub with_rest : Stop → PacerState → Stop
 with_rest stop pacer = record stop { pacer = pacer }
@@ -119,7 +118,7 @@ pub stop_slot : {setup : Setup} {stop : Stop} {film : List ℕ} (old : SessionSt
     old.state ≡ Stopping setup stop → HasStopped (ground_of old film) setup stop →
     StopsOn (ground_of old film) setup stop (after_slot old slot) (film ++ film_bytes (slot_parts old slot))
 stop_slot {setup} {stop} {film} old slot is has =
-    slot_cases (StopsOn (ground_of old film) setup stop) (record old { heard = slot }) (due_parts old slot)
+    slot_cases (standings old slot) (StopsOn (ground_of old film) setup stop) (due_parts old slot)
     (ap is_sending is) (stop_still old is has)
     (λ taken. stop_taken old slot is has (later_slot old slot taken))
 

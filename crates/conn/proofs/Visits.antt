@@ -1,5 +1,6 @@
 -- What a connection did agrees with its journal, and with each longer one.
-use Rattle.std.proofs.Common.{◌≡◌, ◌<◌, ℕ, ◌++◌, List, [], ◌∷◌, Some, length, take, ap, sym, ◌∙◌, subst, arith, inl, inr, suc, zero}
+use Rattle.std.proofs.Common.{◌≡◌, ◌<◌, ℕ, ◌++◌, List, [], ◌∷◌, Some, length, take, ap, sym, ◌∙◌, subst, arith, inl}
+use Rattle.std.proofs.Common.{inr, suc, zero}
 use Rattle.std.specs.Prelude.{slice_get, slice_index_or}
 use Rattle.std.proofs.lemmas.List.{append_cancel_left, length-append}
 use Rattle.std.proofs.lemmas.Option.{slice_get-get_or, slice_get_within}
@@ -31,7 +32,7 @@ use Rattle.conn.specs.ReservationInvariant.{Closed, HasAdvanced, at_rest, open_p
 use Rattle.conn.specs.Observations.{AreNoted}
 use Rattle.conn.specs.declared.reports.ConnEnd.TheVariants.{LinkFault}
 use Rattle.conn.specs.declared.reports.ConnReport.{ConnReport}
-use Rattle.conn.proofs.Journals.{agree_longer, agree_lower, terms_same}
+use Rattle.conn.proofs.Journals.{agree_longer, same_journal, terms_same}
 use Rattle.conn.proofs.CourseSteps.{noted_on}
 
 -- what is noted of a connection agrees with its seat's journal from the beginning
@@ -39,13 +40,7 @@ seen_agrees : (old new : SeatState) (outcomes : List Outcome) → AreNoted old n
     → AgreeWith (terms_of new) new.seen 0 outcomes
 seen_agrees old new outcomes noted =
     subst (λ terms. AgreeWith terms new.seen 0 outcomes) (sym (terms_same old new noted.seat))
-    (agree_lower (record {
-      terms = terms_of old;
-      journal = new.seen;
-      low = 0;
-      from = length old.seen;
-      below = omega arith;
-    }) outcomes noted.agree)
+    (agree_longer (same_journal (terms_of old) new.seen 0 (length old.seen) (omega arith)) outcomes noted.agree)
 
 course_agrees : {told : List IoEvent} {old new : SeatState} (visit : Visit) →
     CourseMeetsGuarantee (new_session_state visit.films visit.settings visit.report.words) (Some []) (Some told) old new
@@ -155,8 +150,15 @@ agrees_longer {terms} {journal} {longer} agrees prefix legal = record {
   doings = agrees.doings;
   told_is = agrees.told_is;
   done = agrees.done;
-  agree = agree_longer (record { terms = terms; journal = journal; longer = longer; prefix = prefix }) 0
-      (doings_outcomes agrees.doings) agrees.agree;
+  agree = agree_longer (record {
+    terms = terms;
+    journal = journal;
+    longer = longer;
+    prefix = prefix;
+    low = 0;
+    from = 0;
+    below = omega arith;
+  }) (doings_outcomes agrees.doings) agrees.agree;
   plays = agrees.plays;
   refusals = refusals_longer terms journal longer
       (rounds_outcomes agrees.doings.rounds ++ ending_outcomes agrees.doings.ending)
@@ -175,9 +177,9 @@ record GoesOn (old new : SeatState) : Type 0 where
 same_on : (old new : SeatState) → new ≡ old → GoesOn old new
 same_on old new same = subst (GoesOn old) (sym same) (record { seat = seat_none old; legal = λ legal. legal })
 
-one_on : {films : List Stored} {settings : Settings} {returned : ReturnedConn} {report : ConnReport}
-    {old new : SeatState} → HasServedOne films settings returned report old new → GoesOn old new
-one_on {old} {new} one = elim one.keeps [
+one_on : {old new : SeatState} (visit : Visit)
+    → HasServedOne visit.films visit.settings visit.returned visit.report old new → GoesOn old new
+one_on {old} {new} visit one = elim one.keeps [
   | inl keeps ↦ record {
     seat = (noted_on keeps.served.course.noted keeps.served.closes.noted).seat;
     legal = λ legal. keeps.booked.legal;
@@ -200,7 +202,7 @@ all_on {old} {new} films settings [] [] served = same_on old new served
 all_on films settings [] (report ∷ reports) served = absurd served
 all_on films settings (returned ∷ back) [] served = absurd served
 all_on {old} {new} films settings (returned ∷ back) (report ∷ reports) served =
-    let one = one_on served.1.0 in
+    let one = one_on (visit films settings returned report) served.1.0 in
     let rest = all_on films settings back reports served.1.1 in
     record {
       seat = seat_on old served.0 new one.seat rest.seat;

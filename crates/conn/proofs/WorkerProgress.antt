@@ -27,8 +27,8 @@ use Rattle.conn.specs.declared.reports.PartEnd.TheVariants.{AllTaken, GateFault,
 use Rattle.conn.specs.EventSteps.{ending_doings, rounds_doings}
 use Rattle.conn.specs.Guarantees.{MeetsGuarantee}
 use Rattle.conn.specs.ConnectionService.{ConnectionSpec}
-use Rattle.conn.specs.ReservationInvariant.{HasAdvanced, Closed, at_rest, open_play_from, open_play_of, open_play_with}
-use Rattle.conn.specs.ReservationInvariant.{entry_receipts, receipt_for}
+use Rattle.conn.specs.ReservationInvariant.{HasAdvanced, Closed, at_rest, open_play_from, open_play_of}
+use Rattle.conn.specs.ReservationInvariant.{open_play_with, entry_receipts, receipt_for}
 use Rattle.conn.specs.Parts.{AreOf, AreReported, AreServed, HasServed, HasServedOne, IsServed, IsUntouched}
 use Rattle.conn.specs.Parts.{WorkerGate, WorkerInput, WorkerSpec, entries_reported, fresh_history}
 use Rattle.conn.specs.Words.{words_of}

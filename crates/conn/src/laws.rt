@@ -85,7 +85,7 @@ pub fn law_replies_never_split_packets()
 
 /// A play that the link has no room for is answered 453 with the slot that its entry in the journal
 /// names.
-#[tactic(auto, using(crate::proofs::RefusedPlays::overflow_told))]
+#[tactic(auto, using(crate::proofs::PlayReplies::overflow_told))]
 pub fn law_overflow_reply_names_slot()
     ensures { (old new : SessionState) (plan : List Segment) (placed : PlacedEntry) (over :
         Overflow)

@@ -115,7 +115,7 @@ const RECEIPTS: [Receipt; 4] = [
 const PLAYS: [(u64, u64, u64, u64); 2] = [(0, 1, 0, 52), (2, 4, 52, 89)];
 
 /// A server's film of two pictures, `b.mpg`.
-#[tactic(auto, using(crate::proofs::TestFilms::one_film))]
+#[tactic(auto, using(session::proofs::TestFilms::one_film))]
 fn films_of(rt: &impl Abort, alloc: Global) -> Result<[Stored; 1], Fail>
     ensures { IfOk result (λ films. AreFilms films) }
 {

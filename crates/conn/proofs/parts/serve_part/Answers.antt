@@ -1,9 +1,7 @@
-use Rattle.std.proofs.Common.{◌≡◌, ◌++◌, ◌∷◌, ◌∙◌, [], ap, length, refl, rules, subst, sym, arith}
-use Rattle.vod_base.specs.IoState.{HasRisen}
+use Rattle.std.proofs.Common.{◌≡◌, ◌++◌, ◌∷◌, ◌∙◌, [], ap, length, refl, rules, subst, arith}
 use Rattle.conn.specs.Parts.{worker_input}
-use Rattle.conn.specs.Words.{words_of}
-use Rattle.conn.proofs.WorkerProgress.{HasServedSoFar, WorkerState, ends_early, ends_failed, ends_taken, none_served}
-use Rattle.conn.proofs.WorkerProgress.{one_served, served_fresh, served_out, worker_state}
+use Rattle.conn.proofs.WorkerProgress.{HasServedSoFar, ends_early, ends_failed, ends_taken, none_served, one_served}
+use Rattle.conn.proofs.WorkerProgress.{served_fresh, served_out, worker_state}
 use Rattle.conn.proofs.parts.serve_part.Goals as goal
 
 pub connections-init : goal.connections-init

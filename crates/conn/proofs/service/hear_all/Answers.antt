@@ -1,10 +1,10 @@
 use Rattle.std.proofs.Common.{◌≡◌, List, length, Option, rules, refl, ap, arith, Some}
 use Rattle.vod_base.specs.Links.{IoEvent}
-use Rattle.conn.specs.declared.reports.ConnEnd.TheVariants.{LinkFault, TurnsSpent}
+use Rattle.conn.specs.declared.reports.ConnEnd.TheVariants.{TurnsSpent}
 use Rattle.conn.specs.Observations.{observed}
 use Rattle.conn.specs.InputSteps.{stage}
 use Rattle.conn.proofs.FaultCounts.{counted_fault, counted_on, counted_same}
-use Rattle.conn.proofs.SeatInvariants.{kept_none, kept_on}
+use Rattle.conn.proofs.ReservationSteps.{kept_none, kept_on}
 use Rattle.conn.proofs.CourseSteps.{goes_on, run_end, run_none, run_on, run_over}
 use Rattle.conn.proofs.service.hear_all.Goals as goal
 
@@ -61,17 +61,13 @@ returns-clause-course g c =
 
 pub returns-in_default-clause-counted : goal.returns-in_default-clause-counted
 returns-in_default-clause-counted g c =
-    counted_on (Some LinkFault) (g.K.Link.faults c.args.link.now) (g.K.Link.faults c.events.link)
-    (g.K.Link.faults c.next.new.self)
-    c.events.invariant.4
+    counted_on c.events.invariant.4
     (counted_fault (g.K.Link.faults c.events.link) (g.K.Link.faults c.next.new.self) c.next.ensures.count
     c.in_default.ensures.fault)
 
 pub returns-in-Some-clause-counted : goal.returns-in-Some-clause-counted
 returns-in-Some-clause-counted g c =
-    counted_on (Some c.in-Some.end) (g.K.Link.faults c.args.link.now) (g.K.Link.faults c.next.new.self)
-    (g.K.Link.faults c.hear.new.link)
-    (omega (arith, c.events.invariant.4, c.next.ensures.count)) c.in-Some.ensures.counted
+    counted_on (omega (arith, c.events.invariant.4, c.next.ensures.count)) c.in-Some.ensures.counted
 
 pub returns-clause-counted : goal.returns-clause-counted
 returns-clause-counted g c =

@@ -7,8 +7,8 @@ use Rattle.station.specs.Seats.{SeatState}
 use Rattle.conn.specs.Observations.{HasAnswered, HasAsked}
 use Rattle.conn.specs.ReservationInvariant.{IsHeld, KeepsReservations}
 use Rattle.conn.specs.declared.connections.Connection.{Connection}
-use Rattle.conn.proofs.RequestAnswers.{answered_none, asked_on}
-use Rattle.conn.proofs.SeatInvariants.{kept_after, kept_none, kept_then}
+use Rattle.conn.proofs.Outcomes.{answered_none, asked_on}
+use Rattle.conn.proofs.ReservationSteps.{kept_after, kept_none, kept_then}
 use Rattle.conn.proofs.connections.Connection.answer_request.Goals as goal
 use Rattle.conn.proofs.connections.Connection.answer_request.Goals.{After-drop_front}
 
@@ -33,7 +33,13 @@ kept g c =
 heard : (g : _) (c : After-drop_front g) {arm : Ask} {next : SeatState} {new : SessionState}
     → c.hear-ask.result ≡ arm → HasAnswered c.hear-ask.new.self arm new c.args.seat.now next
     → HasAsked c.args.self.now.session (take c.args.length c.args.self.now.input) new c.args.seat.now next
-heard g c = asked_on c.hear-ask.ensures.hears (ap (take c.args.length) c.waiting.ensures)
+heard g c = asked_on (record {
+  old = c.args.self.now.session;
+  new = c.hear-ask.new.self;
+  message = _;
+  ask = c.hear-ask.result;
+  hears = c.hear-ask.ensures.hears;
+}) (ap (take c.args.length) c.waiting.ensures)
 
 pub hear-ask-requires-clause-whole : goal.hear-ask-requires-clause-whole
 hear-ask-requires-clause-whole g c =

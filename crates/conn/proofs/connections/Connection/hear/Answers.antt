@@ -1,5 +1,5 @@
-use Rattle.std.proofs.Common.{◌≡◌, ◌<◌, ◌≤◌, ◌+◌, ◌++◌, ℕ, List, length, take, rules, refl, ap}
-use Rattle.std.proofs.Common.{subst, sym, Some, arith}
+use Rattle.std.proofs.Common.{◌≡◌, ◌<◌, ◌≤◌, ◌+◌, ◌++◌, ℕ, List, length, take, rules, refl, ap, subst, sym, Some}
+use Rattle.std.proofs.Common.{arith}
 use Rattle.vod_base.specs.Links.{io_event_of}
 use Rattle.vod_base.specs.declared.links.Heard.{Heard}
 use Rattle.conn.specs.declared.reports.ConnEnd.TheVariants.{LinkFault, TooMuchInput}
@@ -8,11 +8,10 @@ use Rattle.conn.specs.InputSteps.{stage}
 use Rattle.std.proofs.lemmas.List.{length-take-le}
 use Rattle.interleave.specs.declared.demux.TheConstants.{MAX_WAITING_BYTES}
 use Rattle.vod_base.specs.declared.links.TheConstants.{MAX_READ_BYTES}
-use Rattle.conn.specs.Events.{CutsOn, HasTakenEvent, with_heard}
 use Rattle.conn.proofs.FaultCounts.{counted_on}
 use Rattle.conn.proofs.ElementPrefixes.{cuts_same}
-use Rattle.conn.proofs.SeatInvariants.{kept_after, kept_moved, kept_none, kept_on}
-use Rattle.conn.proofs.InputLimit.{waits_for_room}
+use Rattle.conn.proofs.ReservationSteps.{kept_after, kept_moved, kept_none, kept_on}
+use Rattle.conn.proofs.EventLimit.{waits_for_room}
 use Rattle.conn.proofs.CourseSteps.{bytes_up, overfull, slot_broken, slot_up}
 use Rattle.conn.proofs.connections.Connection.hear.Goals as goal
 
@@ -99,33 +98,23 @@ returns-else-is_err-2-clause-kept g c = kept_on c.step.ensures.kept c.process_in
 
 pub returns-then-is_err-2-clause-cut : goal.returns-then-is_err-2-clause-cut
 returns-then-is_err-2-clause-cut g c =
-    subst (λ (h : Heard). CutsOn (with_heard c.args.self.now.input h c.args.bytes.now) c.step.new.self.input)
-    (sym c.in-Slot.is)
-    (cuts_same c.args.self.now.input c.step.new.self.input c.step.ensures.input)
+    rw c.in-Slot.is (cuts_same c.args.self.now.input c.step.new.self.input c.step.ensures.input)
 
 pub returns-else-is_err-2-clause-cut : goal.returns-else-is_err-2-clause-cut
 returns-else-is_err-2-clause-cut g c =
-    subst (λ (h : Heard). CutsOn (with_heard c.args.self.now.input h c.args.bytes.now)
-    c.process_input-in-Slot.new.self.input) (sym c.in-Slot.is)
-    (subst (λ (i : List ℕ). CutsOn i c.process_input-in-Slot.new.self.input)
-    c.step.ensures.input c.process_input-in-Slot.ensures.cut)
+    rw (c.in-Slot.is, ← c.step.ensures.input) c.process_input-in-Slot.ensures.cut
 
 pub returns-then-is_err-2-clause-taken : goal.returns-then-is_err-2-clause-taken
 returns-then-is_err-2-clause-taken g c =
-    subst (λ (h : Heard). HasTakenEvent h (length c.args.self.now.input) (Some LinkFault) c.step.new.self)
-    (sym c.in-Slot.is) tt
+    rw c.in-Slot.is tt
 
 pub returns-else-is_err-2-clause-taken : goal.returns-else-is_err-2-clause-taken
 returns-else-is_err-2-clause-taken g c =
-    subst (λ (h : Heard). HasTakenEvent h (length c.args.self.now.input) c.process_input-in-Slot.result
-    c.process_input-in-Slot.new.self) (sym c.in-Slot.is)
-    c.process_input-in-Slot.ensures.taken
+    rw c.in-Slot.is c.process_input-in-Slot.ensures.taken
 
 pub returns-else-is_err-clause-counted : goal.returns-else-is_err-clause-counted
 returns-else-is_err-clause-counted g c = c.process_input.ensures.counted
 
 pub returns-else-is_err-2-clause-counted : goal.returns-else-is_err-2-clause-counted
 returns-else-is_err-2-clause-counted g c =
-    counted_on c.process_input-in-Slot.result (g.K.Link.faults c.args.link.now) (g.K.Link.faults c.step.new.link)
-    (g.K.Link.faults c.process_input-in-Slot.new.link)
-    c.step.ensures.count c.process_input-in-Slot.ensures.counted
+    counted_on c.step.ensures.count c.process_input-in-Slot.ensures.counted

@@ -1,6 +1,6 @@
 use Rattle.std.proofs.Common.{refl, rules}
 use Rattle.conn.proofs.Outcomes.{answered_entry, answered_full}
-use Rattle.conn.proofs.ReservationSteps.{gone_look, gone_full, held_at_look}
+use Rattle.conn.proofs.ReservationSteps.{at_look, gone_entry, gone_full, held_at_look}
 use Rattle.conn.proofs.connections.Connection.look.Goals as goal
 
 pub returns-in-Ok-clause-kept : goal.returns-in-Ok-clause-kept
@@ -8,7 +8,8 @@ returns-in-Ok-clause-kept g c = record {
   seat = search rules;
   quiet = search (rules, held_at_look);
   gone =
-      gone_look refl (record { mine = c.in-Ok.ensures.made.mine; receipts = c.looked.ensures.handed.receipts });
+      gone_entry refl (record { mine = c.in-Ok.ensures.made.mine; receipts = c.looked.ensures.handed.receipts })
+      (at_look c.args.self.now.booking _ c.args.seat.now.number _ _ _ _);
 }
 
 pub returns-in-Err-clause-kept : goal.returns-in-Err-clause-kept
@@ -23,11 +24,20 @@ returns-in-Err-clause-kept g c = record {
 
 pub returns-in-Ok-clause-answered : goal.returns-in-Ok-clause-answered
 returns-in-Ok-clause-answered g c =
-    answered_entry
-    c.holds.ensures.kept c.look.ensures.kept c.look.ensures.same c.in-Ok.ensures.made refl
-    (refl, c.looked.ensures.exact)
+    answered_entry (record {
+      kept = c.holds.ensures.kept;
+      also = c.look.ensures.kept;
+      same = c.look.ensures.same;
+      maker = refl;
+      made = c.in-Ok.ensures.made;
+    }) (refl, c.looked.ensures.exact)
 
 pub returns-in-Err-clause-answered : goal.returns-in-Err-clause-answered
 returns-in-Err-clause-answered g c =
-    answered_full
-    c.look.ensures.same c.in-Err.ensures.full (c.full.ensures.exact, refl)
+    answered_full (record {
+      more = 1;
+      entries = c.in-Err.full.entries;
+      live = c.in-Err.full.live;
+      same = c.look.ensures.same;
+      full = c.in-Err.ensures.full;
+    }) (c.full.ensures.exact, refl)

@@ -5,18 +5,18 @@ use Rattle.station.specs.Ledgers.{play_of}
 use Rattle.session_records.specs.declared.notes.Receipt.TheVariants.{Entry}
 use Rattle.session.specs.RequestSteps.{after_admission}
 use Rattle.session.specs.SessionStates.{IsAnswerRecorded, awaited_answer, booking_of}
-use Rattle.conn.proofs.AdmittedPlays.{answered_admitted, answered_refused, kept_admitted, kept_refused}
+use Rattle.conn.proofs.Outcomes.{answered_admitted, answered_refused, kept_admitted, kept_refused}
 use Rattle.conn.proofs.connections.Connection.play.Goals as goal
 
 pub returns-in-Ok-clause-kept : goal.returns-in-Ok-clause-kept
 returns-in-Ok-clause-kept g c =
-    kept_admitted c.heard_slot.result (record {
+    kept_admitted (record {
       kept = c.holds.ensures.kept;
       also = c.play.ensures.kept;
       same = c.play.ensures.same;
       held = c.requires.held;
       closed = c.requires.closed;
-    }) c.in-Ok.ensures.made c.in-Ok.ensures.open (record {
+    }) (record { heard = c.heard_slot.result; made = c.in-Ok.ensures.made; keeps = c.in-Ok.ensures.open }) (record {
       handed = subst (λ start. IsAnswerRecorded c.args.self.now.session
           (Entry c.in-Ok.booking.number (Admitted start)) c.admitted.new.self) c.start.ensures
           (subst (λ number. IsAnswerRecorded c.args.self.now.session (Entry number (Admitted c.start.result))
@@ -29,13 +29,13 @@ returns-in-Ok-clause-kept g c =
 
 pub returns-in-Err-clause-kept : goal.returns-in-Err-clause-kept
 returns-in-Err-clause-kept g c =
-    kept_refused c.heard_slot.result c.args.plan (record {
+    kept_refused (record {
       kept = c.holds.ensures.kept;
       also = c.play.ensures.kept;
       same = c.play.ensures.same;
       held = c.requires.held;
       closed = c.requires.closed;
-    }) c.in-Err.ensures.refused (record {
+    }) (record { heard = c.heard_slot.result; plan = c.args.plan; is = c.in-Err.ensures.refused }) (record {
       exact = c.hear_refusal.ensures.exact;
       handed = c.hear_refusal.ensures.handed;
       closed = c.hear_refusal.ensures.open;

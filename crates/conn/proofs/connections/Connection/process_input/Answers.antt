@@ -1,8 +1,8 @@
-use Rattle.std.proofs.Common.{rules, subst, sym, arith, None, Some}
+use Rattle.std.proofs.Common.{rules, subst, sym, arith, Some}
 use Rattle.conn.specs.Observations.{HasTaken, observed}
 use Rattle.conn.proofs.FaultCounts.{counted_on}
 use Rattle.conn.proofs.ElementPrefixes.{cuts_on}
-use Rattle.conn.proofs.SeatInvariants.{kept_on}
+use Rattle.conn.proofs.ReservationSteps.{kept_on}
 use Rattle.conn.proofs.CourseSteps.{taken_on, up_on}
 use Rattle.conn.proofs.connections.Connection.process_input.Goals as goal
 
@@ -11,12 +11,8 @@ elements-preserved g c =
     let inv = c.elements.invariant in (
       kept_on inv.0 c.process_next.ensures.kept,
       search rules,
-      cuts_on c.args.self.now.input c.elements.self.input c.process_next.new.self.input inv.2
-          c.process_next.ensures.cut,
-      taken_on (observed c.args.self.now (g.K.Link.told c.args.link.now) c.args.seat.now)
-          (observed c.elements.self (g.K.Link.told c.elements.link) c.elements.seat)
-          (observed c.process_next.new.self
-          (g.K.Link.told c.process_next.new.link) c.process_next.new.seat) inv.3 c.in-Gone.ensures.takes,
+      cuts_on inv.2 c.process_next.ensures.cut,
+      taken_on inv.3 c.in-Gone.ensures.takes,
       omega (arith, inv.4, c.process_next.ensures.counted.count),
     )
 
@@ -44,22 +40,16 @@ returns-in-End-clause-up g c =
 
 pub returns-in-Waits-clause-counted : goal.returns-in-Waits-clause-counted
 returns-in-Waits-clause-counted g c =
-    counted_on None (g.K.Link.faults c.args.link.now) (g.K.Link.faults c.elements.link)
-    (g.K.Link.faults c.process_next.new.link) c.elements.invariant.4
-    c.in-Waits.ensures.counted
+    counted_on c.elements.invariant.4 c.in-Waits.ensures.counted
 
 pub returns-in-End-clause-counted : goal.returns-in-End-clause-counted
 returns-in-End-clause-counted g c =
-    counted_on (Some c.in-End.end) (g.K.Link.faults c.args.link.now) (g.K.Link.faults c.elements.link)
-    (g.K.Link.faults c.process_next.new.link)
-    c.elements.invariant.4 c.in-End.ensures.counted
+    counted_on c.elements.invariant.4 c.in-End.ensures.counted
 
 pub returns-in-End-clause-cut : goal.returns-in-End-clause-cut
 returns-in-End-clause-cut g c =
-    cuts_on c.args.self.now.input c.elements.self.input c.process_next.new.self.input c.elements.invariant.2
-    c.process_next.ensures.cut
+    cuts_on c.elements.invariant.2 c.process_next.ensures.cut
 
 pub returns-in-Waits-clause-cut : goal.returns-in-Waits-clause-cut
 returns-in-Waits-clause-cut g c =
-    cuts_on c.args.self.now.input c.elements.self.input c.process_next.new.self.input c.elements.invariant.2
-    c.process_next.ensures.cut
+    cuts_on c.elements.invariant.2 c.process_next.ensures.cut

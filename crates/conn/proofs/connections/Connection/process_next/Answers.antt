@@ -1,15 +1,13 @@
-use Rattle.std.proofs.Common.{◌<◌, List, arith, Ok, ap, inl, inr, length, refl, rules, subst, sym, ℕ, Err}
+use Rattle.std.proofs.Common.{◌<◌, List, arith, Ok, ap, inl, inr, refl, rules, subst, sym, ℕ, Err}
 use Rattle.interleave.specs.Streams.{returned_length}
 use Rattle.conn.proofs.FaultCounts.{counted_none}
 use Rattle.rtsp_text.proofs.WholeRequests.{fewer, first_is}
 use Rattle.conn.proofs.ElementPrefixes.{cuts_drop, cuts_none, cuts_same, drop_is}
-use Rattle.conn.proofs.SeatInvariants.{kept_moved, kept_none}
+use Rattle.conn.proofs.ReservationSteps.{kept_moved, kept_none}
 use Rattle.interleave.specs.Elements.{IsFirst}
 use Rattle.interleave.specs.declared.elements.Step.TheVariants.{Block, Skip}
-use Rattle.conn.specs.Events.{CutsOn, IsTaken}
 use Rattle.conn.specs.Observations.{TakesNext, observed}
-use Rattle.conn.specs.InputSteps.{stage}
-use Rattle.conn.proofs.CourseSteps.{fault_ends, taken_fault, taken_passed}
+use Rattle.conn.proofs.CourseSteps.{fault_ends, input_is, taken_fault, taken_passed}
 use Rattle.conn.proofs.connections.Connection.process_next.Goals as goal
 
 pub returns-in-Ok-Skip-clause-cut : goal.returns-in-Ok-Skip-clause-cut
@@ -25,8 +23,7 @@ returns-in-Ok-Block-clause-cut g c =
 
 pub returns-in-Ok-Request-clause-cut : goal.returns-in-Ok-Request-clause-cut
 returns-in-Ok-Request-clause-cut g c =
-    subst (λ (i : List ℕ). CutsOn i c.process_request.new.self.input) c.look.ensures.waiting
-    c.process_request.ensures.cut
+    rw c.look.ensures.waiting at c.process_request.ensures.cut
 
 pub returns-in-Ok-More-clause-taken : goal.returns-in-Ok-More-clause-taken
 returns-in-Ok-More-clause-taken g c = (
@@ -37,17 +34,11 @@ returns-in-Ok-More-clause-taken g c = (
 
 pub returns-in-Ok-Request-clause-taken : goal.returns-in-Ok-Request-clause-taken
 returns-in-Ok-Request-clause-taken g c =
-    subst (λ (i : List ℕ). IsTaken c.process_request.result (length i) c.process_request.new.self)
-    c.look.ensures.waiting
-    c.process_request.ensures.taken
+    rw c.look.ensures.waiting at c.process_request.ensures.taken
 
 pub returns-in-Ok-More-clause-takes : goal.returns-in-Ok-More-clause-takes
 returns-in-Ok-More-clause-takes g c = (
-  ap (λ (i : List ℕ). record {
-    stage = stage c.args.self.now.session i;
-    told = g.K.Link.told c.args.link.now;
-    seat = c.args.seat.now;
-  }) c.look.ensures.waiting,
+  input_is c.args.self.now (g.K.Link.told c.args.link.now) c.args.seat.now c.look.ensures.waiting,
   record {
     torn = search rules;
     waits = inl (first_is c.in-Ok-More.ensures.first c.look.ensures.waiting c.in-Ok-More.field-0-is);
@@ -56,27 +47,15 @@ returns-in-Ok-More-clause-takes g c = (
 
 pub returns-in-Ok-Skip-clause-takes : goal.returns-in-Ok-Skip-clause-takes
 returns-in-Ok-Skip-clause-takes g c =
-    taken_passed (observed c.args.self.now (g.K.Link.told c.args.link.now) c.args.seat.now)
-    (observed (record c.args.self.now { input = c.drop_front.new.self })
-    (g.K.Link.told c.args.link.now) c.args.seat.now) c.in-Ok-Skip.count
+    taken_passed c.in-Ok-Skip.count
     (inl (first_is c.in-Ok-Skip.ensures.first refl c.in-Ok-Skip.field-0-is)) (search rules)
-    (ap (λ (i : List ℕ). record {
-      stage = stage c.args.self.now.session i;
-      told = g.K.Link.told c.args.link.now;
-      seat = c.args.seat.now;
-    }) (drop_is c.in-Ok-Skip.count c.drop_front.ensures c.look.ensures.waiting))
+    (input_is c.args.self.now (g.K.Link.told c.args.link.now) c.args.seat.now (drop_is c.in-Ok-Skip.count c.drop_front.ensures c.look.ensures.waiting))
 
 pub returns-in-Ok-Block-clause-takes : goal.returns-in-Ok-Block-clause-takes
 returns-in-Ok-Block-clause-takes g c =
-    taken_passed (observed c.args.self.now (g.K.Link.told c.args.link.now) c.args.seat.now)
-    (observed (record c.args.self.now { input = c.drop_front-in-Ok-Block.new.self })
-    (g.K.Link.told c.args.link.now) c.args.seat.now) c.in-Ok-Block.count
+    taken_passed c.in-Ok-Block.count
     (inr (c.in-Ok-Block.field-0-0, first_is c.in-Ok-Block.ensures.first refl c.in-Ok-Block.field-0-is)) (search rules)
-    (ap (λ (i : List ℕ). record {
-      stage = stage c.args.self.now.session i;
-      told = g.K.Link.told c.args.link.now;
-      seat = c.args.seat.now;
-    }) (drop_is c.in-Ok-Block.count c.drop_front-in-Ok-Block.ensures c.look.ensures.waiting))
+    (input_is c.args.self.now (g.K.Link.told c.args.link.now) c.args.seat.now (drop_is c.in-Ok-Block.count c.drop_front-in-Ok-Block.ensures c.look.ensures.waiting))
 
 pub returns-in-Ok-Request-clause-takes : goal.returns-in-Ok-Request-clause-takes
 returns-in-Ok-Request-clause-takes g c =
@@ -101,11 +80,7 @@ pub returns-in-Err-clause-takes : goal.returns-in-Err-clause-takes
 returns-in-Err-clause-takes g c =
     inr (taken_fault
     c.in-Err.fault c.end_of.result
-    (ap (λ (i : List ℕ). record {
-      stage = stage c.args.self.now.session i;
-      told = g.K.Link.told c.args.link.now;
-      seat = c.args.seat.now;
-    }) c.look.ensures.waiting) (search rules) c.in-Err.ensures.first c.end_of.ensures)
+    (input_is c.args.self.now (g.K.Link.told c.args.link.now) c.args.seat.now c.look.ensures.waiting) (search rules) c.in-Err.ensures.first c.end_of.ensures)
 
 pub returns-then-torn-clause-kept : goal.returns-then-torn-clause-kept
 returns-then-torn-clause-kept g c = kept_none c.args.seat.now c.args.self.now c.requires.quiet
@@ -136,8 +111,7 @@ pub returns-in-Err-clause-taken : goal.returns-in-Err-clause-taken
 returns-in-Err-clause-taken g c =
     fault_ends c.in-Err.fault c.end_of.result
     (record c.args.self.now { input = c.look.new.self })
-    c.end_of.ensures (subst (λ (i : List ℕ). IsFirst i (Err c.in-Err.fault))
-    (sym c.look.ensures.waiting) c.in-Err.ensures.first)
+    c.end_of.ensures (subst (λ (i : List ℕ). IsFirst i (Err c.in-Err.fault)) (sym c.look.ensures.waiting) c.in-Err.ensures.first)
 
 pub returns-in-Ok-Skip-clause-taken : goal.returns-in-Ok-Skip-clause-taken
 returns-in-Ok-Skip-clause-taken g c =

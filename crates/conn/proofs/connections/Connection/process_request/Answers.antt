@@ -4,7 +4,7 @@ use Rattle.conn.specs.Observations.{observed}
 use Rattle.conn.proofs.FaultCounts.{counted_fault, counted_none}
 use Rattle.rtsp_text.proofs.WholeRequests.{fewer, some_request}
 use Rattle.conn.proofs.ElementPrefixes.{cuts_drop, cuts_none}
-use Rattle.conn.proofs.SeatInvariants.{kept_none, kept_then}
+use Rattle.conn.proofs.ReservationSteps.{kept_none, kept_then}
 use Rattle.conn.proofs.CourseSteps.{lost_reply, stage_is, taken_reply}
 use Rattle.conn.proofs.connections.Connection.process_request.Goals as goal
 

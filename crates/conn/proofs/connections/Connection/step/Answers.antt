@@ -1,10 +1,8 @@
 use Rattle.std.proofs.Common.{refl, subst}
 use Rattle.session.specs.SessionStates.{Brings, open_of}
 use Rattle.session.proofs.FailedSlotLemmas.{on_err}
-use Rattle.conn.proofs.FailedSends.{broken_slot}
-use Rattle.conn.proofs.ReservationSteps.{held_same}
-use Rattle.conn.proofs.SeatInvariants.{kept_after, kept_due}
-use Rattle.conn.proofs.SlotResults.{passed_going, passed_halted}
+use Rattle.conn.proofs.SlotResults.{broken_slot, passed_going, passed_halted}
+use Rattle.conn.proofs.ReservationSteps.{held_same, kept_after, kept_due}
 use Rattle.conn.specs.Observations.{observed}
 use Rattle.conn.proofs.connections.Connection.step.Goals as goal
 
