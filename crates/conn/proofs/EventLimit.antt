@@ -7,6 +7,7 @@ use Rattle.conn.specs.EventSteps.{AtElement, Ending, Ends, InReply, InSlot, IsUn
 use Rattle.conn.specs.EventSteps.{ending_events}
 use Rattle.conn.specs.Observations.{HasCourse, Observed}
 use Rattle.conn.specs.InputSteps.{Stage}
+use Rattle.conn.proofs.ReplyContents.{CourseEnd}
 use Rattle.interleave.specs.declared.demux.TheConstants.{MAX_WAITING_BYTES}
 use Rattle.vod_base.specs.declared.links.TheConstants.{MAX_READ_BYTES}
 use Rattle.interleave.specs.Elements.{IsFirst}
@@ -33,15 +34,16 @@ unheard_end LinkFault count is all = absurd (omega (arith, is, all))
 unheard_end TurnsSpent count is all = refl
 unheard_end _ count is all = absurd is
 
-all_at : {count : ℕ} {end : ConnEnd} (old new : Stage) (ending : Ending) → Ends old count ending end new
-    → count + length (ending_events ending) ≤ 2 ^ 40 → count ≡ 2 ^ 40 → end ≡ TurnsSpent
-all_at {count} {end} old new Unheard ends few all = unheard_end end count ends.0 all
-all_at old new _ ends few all = absurd (omega (arith, few, all))
+all_at : {old : Stage} (ending : Ending) (last : CourseEnd old ending)
+    → last.count + length (ending_events ending) ≤ 2 ^ 40 → last.count ≡ 2 ^ 40 → last.end ≡ TurnsSpent
+all_at Unheard last few all = unheard_end last.end last.count last.ends.0 all
+all_at _ last few all = absurd (omega (arith, few, all))
 
 pub all_heard : (end : ConnEnd) (old new : Observed) (course : HasCourse end old new)
     → length course.rounds ≡ 2 ^ 40 → end ≡ TurnsSpent
 all_heard end old new course all =
-    all_at course.mid new.stage course.ending course.ends course.few all
+    all_at course.ending
+    (record { count = length course.rounds; end = end; new = new.stage; ends = course.ends }) course.few all
 
 pub few_heard : (end : ConnEnd) (old new : Observed) (course : HasCourse end old new)
     → events_heard end old new course ≤ 2 ^ 40

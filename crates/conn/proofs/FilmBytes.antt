@@ -36,10 +36,7 @@ slot_film waits slot p =
 
 pacing_same : {passed due sent passed' due' sent' : ℕ} (p : PacerState) → passed ≡ passed' → due ≡ due' → sent ≡ sent' →
     record p { passed = passed; due = due; sent = sent } ≡ record p { passed = passed'; due = due'; sent = sent' }
-pacing_same {passed} {due} {sent} {passed'} {due'} p one two three =
-    ap (λ n. record p { passed = n; due = due; sent = sent }) one
-    ∙ ap (λ n. record p { passed = passed'; due = n; sent = sent }) two
-    ∙ ap (λ n. record p { passed = passed'; due = due'; sent = n }) three
+pacing_same p one two three = cc
 
 -- a step with a stop, and then one without
 both_steps : (slot : ℕ) (p : PacerState) → after_step false slot (after_step true slot p) ≡ sent_through slot p

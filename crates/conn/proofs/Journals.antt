@@ -134,13 +134,11 @@ agree_then grown (Offered slot note ∷ first) more agree later =
 
 -- ---- a seat
 
-abbrev terms_with : List CapStep → ℕ → ℕ → Terms
-terms_with steps limit maker = record { steps = steps; limit = limit; maker = maker }
-
 pub terms_same : (a b : SeatState) → IsSameSeat a b → terms_of b ≡ terms_of a
 terms_same a b same =
-    ap (λ s. terms_with s b.limit b.number) same.steps ∙ ap (λ l. terms_with a.steps l b.number) same.limit
-    ∙ ap (λ n. terms_with a.steps a.limit n) same.number
+    let steps = same.steps in
+    let limit = same.limit in
+    let number = same.number in cc
 
 take_whole : (entries : List Entry) (n : ℕ) → n ≡ length entries → take n entries ≡ entries
 take_whole entries n is = take_all n entries (omega (arith, is))

@@ -90,7 +90,7 @@ held_closed : {booking : Option Booking} {play : Option OpenBooking} (mine : Lis
 held_closed {booking} {play} mine none closed =
     subst (λ b. IsHeld mine b play) (sym none) (subst (IsHeld mine None) (sym closed) tt)
 
--- what is known as the station answers to a play
+-- the station answers to a play that a connection asks for
 pub record IsAsking (seat next : SeatState) (before : Connection) : Type 0 where
   pub kept : IsSeat seat
   pub also : IsSeat next
@@ -103,38 +103,39 @@ none_held : {seat next : SeatState} {before : Connection} → IsAsking seat next
 none_held {seat} {before = before} asking =
     held_none seat.mine before.booking (open_of before.session) asking.closed asking.held
 
--- a refusal was reported
-pub record HasToldRefusal (refused : PlayRefused) (before after : Connection) : Type 0 where
-  pub exact : after.session ≡ after_refusal before.session refused
-  pub handed : IsAnswerRecorded before.session (refusal_receipt refused) after.session
-  pub closed : open_of after.session ≡ None
-  pub booking : after.booking ≡ before.booking
+-- a call at the station: the seat and the connection before it and after it
+pub record StationCall : Type 0 where
+  pub seat : SeatState
+  pub next : SeatState
+  pub before : Connection
+  pub after : Connection
 
--- a play of a plan was refused, at a slot that was received
-pub record HasRefused (refused : PlayRefused) (seat next : SeatState) : Type 0 where
+-- a play of a plan was refused, at a slot that was received, and the refusal was reported
+pub record HasRefused (refused : PlayRefused) (call : StationCall) : Type 0 where
   pub heard : ℕ
   pub plan : List Segment
-  pub is : IsSeatRefused seat next heard plan refused
+  pub is : IsSeatRefused call.seat call.next heard plan refused
+  pub handed : IsAnswerRecorded call.before.session (refusal_receipt refused) call.after.session
+  pub closed : open_of call.after.session ≡ None
+  pub booking : call.after.booking ≡ call.before.booking
 
-gone_refused : {seat next : SeatState} {before after : Connection} (refused : PlayRefused) →
-    HasRefused refused seat next → before.booking ≡ None → HasToldRefusal refused before after →
-    HasAdvanced (reservation_state seat.mine before) (reservation_state next.mine after)
-gone_refused (JournalFull asked entries live) play none told =
-    gone_full entries live play.is.1.mine told.booking told.handed.receipts
-gone_refused (Overflow place slot booked bytes) play none told =
-    gone_entry none (record { mine = play.is.mine; receipts = told.handed.receipts })
-    (ap open_play_of (sym (told.booking ∙ none)))
+gone_refused : {call : StationCall} (refused : PlayRefused) → HasRefused refused call → call.before.booking ≡ None
+    → HasAdvanced (reservation_state call.seat.mine call.before) (reservation_state call.next.mine call.after)
+gone_refused (JournalFull asked entries live) play none =
+    gone_full entries live play.is.1.mine play.booking play.handed.receipts
+gone_refused (Overflow place slot booked bytes) play none =
+    gone_entry none (record { mine = play.is.mine; receipts = play.handed.receipts })
+    (ap open_play_of (sym (play.booking ∙ none)))
 
-pub kept_refused : {seat next : SeatState} {before after : Connection} {refused : PlayRefused}
-    → IsAsking seat next before → HasRefused refused seat next → HasToldRefusal refused before after
-    → KeepsReservations seat next before after
-kept_refused {next = next} {refused = refused} asking play told = record {
+pub kept_refused : {refused : PlayRefused} (call : StationCall) → IsAsking call.seat call.next call.before
+    → HasRefused refused call → KeepsReservations call.seat call.next call.before call.after
+kept_refused {refused} call asking play = record {
   seat = asking.same;
   quiet = record {
-    rest = told.handed.at_rest;
-    held = held_closed next.mine (told.booking ∙ none_held asking) told.closed;
+    rest = play.handed.at_rest;
+    held = held_closed call.next.mine (play.booking ∙ none_held asking) play.closed;
   };
-  gone = gone_refused refused play (none_held asking) told;
+  gone = gone_refused {call = call} refused play (none_held asking);
 }
 
 pub answered_refused : {plan : List Segment} {seat next : SeatState} {after : SessionState} (before : Connection)
@@ -148,33 +149,32 @@ answered_refused before (Overflow place slot booked bytes) asking is told =
     answered_entry (record { kept = asking.kept; also = asking.also; same = asking.same; maker = refl; made = is })
     (refl, told)
 
--- a play of a plan was booked
-pub record HasBooked (plan : List Segment) (booking : Booking) (seat next : SeatState) : Type 0 where
+-- a play of a plan was admitted: its booking is held
+pub record HasAdmitted (plan : List Segment) (booking : Booking) (call : StationCall) : Type 0 where
   pub heard : ℕ
-  pub made : HasMadeEntry seat next 2 (play_of heard plan) booking.number (Admitted booking.start)
-  pub keeps : (keep : ℕ) → keep ≤ total_bytes plan → IsOpenAmong next.mine booking.number keep
+  pub made : HasMadeEntry call.seat call.next 2 (play_of heard plan) booking.number (Admitted booking.start)
+  pub keeps : (keep : ℕ) → keep ≤ total_bytes plan → IsOpenAmong call.next.mine booking.number keep
+  pub handed : IsAnswerRecorded call.before.session (EntryReceipt booking.number (Admitted booking.start))
+      call.after.session
+  pub asked : awaited_answer call.before.session ≡ PlayAnswer plan
+  pub opens : open_of call.after.session ≡ booking_of (awaited_answer call.before.session) booking.start
+  pub booking_is : call.after.booking ≡ Some booking
 
--- a play was admitted: its booking is held
-pub record HasAdmitted (plan : List Segment) (booking : Booking) (before after : Connection) : Type 0 where
-  pub handed : IsAnswerRecorded before.session (EntryReceipt booking.number (Admitted booking.start)) after.session
-  pub asked : awaited_answer before.session ≡ PlayAnswer plan
-  pub opens : open_of after.session ≡ booking_of (awaited_answer before.session) booking.start
-  pub booking_is : after.booking ≡ Some booking
-
-pub kept_admitted : {plan : List Segment} {seat next : SeatState} {before after : Connection} {booking : Booking}
-    → IsAsking seat next before → HasBooked plan booking seat next → HasAdmitted plan booking before after
-    → KeepsReservations seat next before after
-kept_admitted {plan} {next = next} {after = after} {booking} asking booked admitted =
-    let opened : open_of after.session ≡ Some (record { plan = plan; start = booking.start; due = 0 }) =
+pub kept_admitted : {plan : List Segment} {booking : Booking} (call : StationCall)
+    → IsAsking call.seat call.next call.before → HasAdmitted plan booking call
+    → KeepsReservations call.seat call.next call.before call.after
+kept_admitted {plan} {booking} call asking admitted =
+    let opened : open_of call.after.session ≡ Some (record { plan = plan; start = booking.start; due = 0 }) =
     admitted.opens ∙ ap (λ awaits. booking_of awaits booking.start) admitted.asked in
     record {
       seat = asking.same;
       quiet = record {
         rest = admitted.handed.at_rest;
-        held = subst (λ b. IsHeld next.mine b (open_of after.session)) (sym admitted.booking_is)
-            (subst (IsHeld next.mine (Some booking)) (sym opened) booked.keeps);
+        held = subst (λ b. IsHeld call.next.mine b (open_of call.after.session)) (sym admitted.booking_is)
+            (subst (IsHeld call.next.mine (Some booking)) (sym opened) admitted.keeps);
       };
-      gone = gone_entry (none_held asking) (record { mine = booked.made.mine; receipts = admitted.handed.receipts })
+      gone = gone_entry (none_held asking)
+          (record { mine = admitted.made.mine; receipts = admitted.handed.receipts })
           (ap open_play_of (sym admitted.booking_is));
     }
 

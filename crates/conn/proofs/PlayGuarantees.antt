@@ -103,7 +103,8 @@ kept_still (Ready setup paused) s film is was = tt
 kept_still (Playing setup play) s film is was =
     sent_by was.1
     (as_it_was {session = s} (record { setup = setup; play = play; film = film; state = is; sent = was.1.sent }))
-kept_still (Stopping setup stop) s film is was = stop_cut (stop_still s is was.1)
+kept_still (Stopping setup stop) s film is was = stop_cut
+    (stop_still {session = s} (record { setup = setup; stop = stop; film = film; state = is; stopped = was.1 }))
 
 kept_slot : (state : State) (s : SessionState) (slot : ℕ) (film : List ℕ) → s.state ≡ state
     → IsStateOf (ground_of s film) state
@@ -113,7 +114,8 @@ kept_slot (Ready setup paused) s slot film is was = tt
 kept_slot (Playing setup play) s slot film is was =
     sent_by was.1
     (slot_play s slot (record { setup = setup; play = play; film = film; state = is; sent = was.1.sent }))
-kept_slot (Stopping setup stop) s slot film is was = stop_cut (stop_slot s slot is was.1)
+kept_slot (Stopping setup stop) s slot film is was = stop_cut
+    (stop_slot s slot (record { setup = setup; stop = stop; film = film; state = is; stopped = was.1 }))
 
 kept_event : {film : List ℕ} {old new : Stage} {round : Round} → ComesAs old round new → IsWell old.session film
     → IsKeptIn old.session.state old.session (heard_by old.session.heard round.event) (film ++ film_bytes round.due)

@@ -24,6 +24,7 @@ use Rattle.conn.specs.declared.reports.ConnEnd.{ConnEnd}
 use Rattle.session.proofs.ReplyCodeLemmas.{hears_text, ok_plain}
 use Rattle.conn.specs.Guarantees.{ReportsFullOf}
 use Rattle.conn.proofs.EventPremises.{SlotBytes}
+use Rattle.conn.proofs.JoinedLists.{joined-append}
 use Rattle.conn.proofs.PlayProgress.{slot_any}
 use Rattle.conn.proofs.StationAnswers.{AnswersAs, ComesAs, FinishesAs, answers_as, comes_as, NoneAsked, PlayAdmitted}
 use Rattle.conn.proofs.StationAnswers.{PlayOverflowed, PlayFull, PlayHalted, LookMade, LookFull, OfferMade}
@@ -186,15 +187,11 @@ taking_tells {old} {new} {message} {outcome} made takes =
           (reply_told (made ++ outcome ∷ []) goes takes.answered.text told);
     }
 
-tells_same : (made made' : List Outcome) (s : SessionState) (parts : List SentPart) → made ≡ made' → Tells made s parts
-    → Tells made' s parts
-tells_same made made' s parts same tells = subst (λ m. Tells m s parts) same tells
-
 takings_tell : (made : List Outcome) (old new : Stage) (takings : List ElementStep) → IsTold made old.session.text →
     TakesAll old takings new →
     Tells (made ++ takings_outcomes takings) new.session (takings_parts takings)
 takings_tell made old new [] told takes =
-    tells_same made (made ++ []) new.session [] (sym (append-nil made))
+    subst (λ m. Tells m new.session []) (sym (append-nil made))
     (record { waiting = subst (λ (s : Stage). IsTold made s.session.text) (sym takes) told; sent = tt })
 takings_tell made old new (Passed n ∷ takings) told takes =
     takings_tell made takes.0 new takings
@@ -204,8 +201,7 @@ takings_tell made old new (Answered message outcome parts ∷ takings) told take
     let rest = takings_tell (made ++ outcome ∷ []) takes.0 new takings first.waiting takes.1.1 in
     let all : (made ++ outcome ∷ []) ++ takings_outcomes takings ≡ made ++ outcome ∷ takings_outcomes takings =
     append_assoc made (outcome ∷ []) (takings_outcomes takings) in
-    tells_same ((made ++ outcome ∷ []) ++ takings_outcomes takings) (made ++ outcome ∷ takings_outcomes takings)
-    new.session (parts ++ takings_parts takings) all
+    subst (λ m. Tells m new.session (parts ++ takings_parts takings)) all
     (record {
       waiting = rest.waiting;
       sent = are_both ((made ++ outcome ∷ []) ++ takings_outcomes takings) parts (takings_parts takings)
@@ -268,7 +264,7 @@ rounds_tell : (made : List Outcome) (old new : Stage) (rounds : List Round) → 
     RunsAll old rounds new →
     Tells (made ++ rounds_outcomes rounds) new.session (rounds_parts rounds)
 rounds_tell made old new [] told runs =
-    tells_same made (made ++ []) new.session [] (sym (append-nil made))
+    subst (λ m. Tells m new.session []) (sym (append-nil made))
     (record { waiting = subst (λ (s : Stage). IsTold made s.session.text) (sym runs) told; sent = tt })
 rounds_tell made old new (round ∷ rounds) told runs =
     let first = round_tells made old runs.0 round told runs.1.0 in
@@ -276,9 +272,7 @@ rounds_tell made old new (round ∷ rounds) told runs =
     let all : (made ++ round_outcomes round) ++ rounds_outcomes rounds
     ≡ made ++ (round_outcomes round ++ rounds_outcomes rounds) =
     append_assoc made (round_outcomes round) (rounds_outcomes rounds) in
-    tells_same ((made ++ round_outcomes round) ++ rounds_outcomes rounds)
-    (made ++ (round_outcomes round ++ rounds_outcomes rounds)) new.session
-    (round_parts round ++ rounds_parts rounds) all
+    subst (λ m. Tells m new.session (round_parts round ++ rounds_parts rounds)) all
     (record {
       waiting = rest.waiting;
       sent = are_both ((made ++ round_outcomes round) ++ rounds_outcomes rounds) (round_parts round)
@@ -312,10 +306,7 @@ ending_tells {made} {old} (InReply round message outcome front) told ended =
     (are_both (made ++ round_outcomes round) (round_parts round) [] first.sent tt))
 
 pub parts-more : (rounds more : List Round) → rounds_parts (rounds ++ more) ≡ rounds_parts rounds ++ rounds_parts more
-parts-more [] more = refl
-parts-more (round ∷ rounds) more =
-    ap (λ ps. round_parts round ++ ps) (parts-more rounds more)
-    ∙ sym (append_assoc (round_parts round) (rounds_parts rounds) (rounds_parts more))
+parts-more = joined-append round_parts rounds_parts refl (λ x xs. refl)
 
 no_digits : (a b c : ℕ) → [] ≡ a ∷ b ∷ c ∷ [] → ⊥
 no_digits a b c same = cc

@@ -28,7 +28,7 @@ use Rattle.session.specs.declared.states.Stop.{Stop}
 use Rattle.session.specs.RequestEffects.{AwaitsNoStop, ChangesState, IsHaltAsked, IsPlayAsked, IsSameContext}
 use Rattle.session.specs.RunRequests.{sending_of, playback_of}
 use Rattle.film_streams.specs.Films.{IsFilmAt, OfFilm}
-use Rattle.session.specs.RequestSteps.{Hears}
+use Rattle.session.proofs.InitialStateLemmas.{HeardMessage}
 use Rattle.session.specs.Laws.{AsksNoHalt}
 use Rattle.session.specs.Methods.{prepared_of}
 use Rattle.film_streams.specs.SettingRanges.{AreSettings, IsSetup}
@@ -157,18 +157,12 @@ IsAskedWell (AskOffer plan offers) s film = IsWell s film
 pub ground_same : (old new : SessionState) (film : List ℕ) → IsSameContext old new → ground_of old film ≡ ground_of new
     film
 ground_same old new film same =
-    ap (λ (f : List Stored). record (ground_of old film) { films = f }) (sym same.films)
-    ∙ ap (λ (o : StreamSource). record (ground_of old film) { films = new.films; source = o }) (sym same.source)
-    ∙ ap (λ (g : Settings). record (ground_of new film) {
-      settings = g;
-      counts = old.counts;
-      plays = old.plays;
-      heard = old.heard;
-    }) (sym same.settings)
-    ∙ ap (λ (c : Counts). record (ground_of new film) { counts = c; plays = old.plays; heard = old.heard })
-    (sym same.counts)
-    ∙ ap (λ (p : List PlayNote). record (ground_of new film) { plays = p; heard = old.heard }) (sym same.plays)
-    ∙ ap (λ (h : ℕ). record (ground_of new film) { heard = h }) (sym same.heard)
+    let films = same.films in
+    let source = same.source in
+    let settings = same.settings in
+    let counts = same.counts in
+    let plays = same.plays in
+    let heard = same.heard in cc
 
 -- a request keeps what SETUP settled, and no halt is awaited after it
 record IsKept (old new : SessionState) : Type 0 where
@@ -282,11 +276,11 @@ asked_well (AskHalt keep) well on changes = halting_well well on.0 changes
 asked_well (AskLook slot) well on changes = carried well (record { same = on.0; unstopped = on.1 tt }) changes
 asked_well (AskOffer plan offers) well on changes = carried well (record { same = on.0; unstopped = on.1 tt }) changes
 
-pub hears_well : {old : SessionState} {film : List ℕ} (new : SessionState) (message : List ℕ) (ask : Ask) →
-    IsWell old film → Hears old message ask new →
-    IsAskedWell ask new film
-hears_well {old} new message ask well hears =
+pub hears_well : {film : List ℕ} (heard : HeardMessage) → IsWell heard.old film → IsAskedWell heard.ask heard.new film
+hears_well heard well =
     asked_well ask well (
       hears_ground old new message ask hears,
       λ free. hears_unstopped old new message ask hears free well.unstopped,
     ) (hears_state old new message ask hears)
+  where
+    open heard use {old, new, message, ask, hears}

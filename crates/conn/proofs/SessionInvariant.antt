@@ -185,8 +185,10 @@ answered_well film well _ = record { films = well.films; settings = well.setting
 
 pub heard_well : {old new : SessionState} {message : List ℕ} {outcome : Outcome} {film : List ℕ} → IsWell old film →
     HasHeard old message outcome new → IsWell new (film_since film outcome)
-heard_well {message = message} {outcome} {film} well heard =
-    answered_well film (hears_well heard.asking message heard.ask well heard.hears)
+heard_well {old} {message = message} {outcome} {film} well heard =
+    answered_well film
+    (hears_well
+    (record { old = old; new = heard.asking; message = message; ask = heard.ask; hears = heard.hears }) well)
     (answers_as heard.ask outcome heard.answered)
 
 -- a reply that was sent
@@ -242,53 +244,45 @@ record IsSameSession (old new : SessionState) : Type 0 where
   plays : new.plays ≡ old.plays
   unstopped : AwaitsNoStop old → AwaitsNoStop new
 
-sent_ground : (goes : Bool) (old s : SessionState) → IsSameSession old s
-    → IsSameSession old (if goes then sent_reply s else s)
-sent_ground false old s is = is
-sent_ground true old s is = record {
-  films = is.films;
-  source = is.source;
-  settings = is.settings;
-  counts = is.counts;
-  plays = is.plays;
-  unstopped = is.unstopped;
-}
-
 -- a play that is done is halted, and leaves nothing
 done_next : (done : Bool) (keep : ℕ) (awaited : Awaited) → next_of awaited ≡ Done →
     next_of (if done then Halt keep Done else awaited) ≡ Done
 done_next true keep awaited none = refl
 done_next false keep awaited none = none
 
-finished_ground : (old s : SessionState) → IsSameSession old s → IsSameSession old (after_play s)
-finished_ground old s is = record {
-  films = is.films;
-  source = is.source;
-  settings = is.settings;
-  counts = is.counts;
-  plays = is.plays;
-  unstopped = λ none. done_next (is_done_in s.state) (sent_in s.state) s.awaited (is.unstopped none);
-}
-
 -- what is due leaves it, and so does a slot in which nothing is
-still_ground : (old new : SessionState) → new ≡ record old { heard = new.heard; late = new.late; state = new.state } →
-    IsSameSession old new
-still_ground old new is = record {
-  films = ap (λ (s : SessionState). s.films) is;
-  source = ap (λ (s : SessionState). s.source) is;
-  settings = ap (λ (s : SessionState). s.settings) is;
-  counts = ap (λ (s : SessionState). s.counts) is;
-  plays = ap (λ (s : SessionState). s.plays) is;
-  unstopped = λ none. ap (λ (s : SessionState). next_of s.awaited) is ∙ none;
-}
+sent_ground : (goes : Bool) (old : SessionState) (slot : ℕ)
+    → IsSameSession old (after_play (if goes then sent_reply (sent_due old slot) else sent_due old slot))
+sent_ground true old slot =
+    let s : SessionState = sent_reply (sent_due old slot) in
+    record {
+      films = refl;
+      source = refl;
+      settings = refl;
+      counts = refl;
+      plays = refl;
+      unstopped = λ none. done_next (is_done_in s.state) (sent_in s.state) old.awaited none;
+    }
+sent_ground false old slot =
+    let s : SessionState = sent_due old slot in
+    record {
+      films = refl;
+      source = refl;
+      settings = refl;
+      counts = refl;
+      plays = refl;
+      unstopped = λ none. done_next (is_done_in s.state) (sent_in s.state) old.awaited none;
+    }
+
+still_ground : (old : SessionState) (heard : ℕ) → IsSameSession old (record old { heard = heard })
+still_ground old heard =
+    record { films = refl; source = refl; settings = refl; counts = refl; plays = refl; unstopped = λ none. none }
 
 slot_ground : (old : SessionState) (slot : ℕ) → IsSameSession old (after_slot old slot)
 slot_ground old slot =
     slot_any (IsSameSession old) old slot
-    (λ sends. finished_ground old (sent_slot old slot)
-    (sent_ground (old.waits && is_between (stepped_in true slot old.state)) old (sent_due old slot)
-    (still_ground old (sent_due old slot) refl)))
-    (still_ground old (record old { heard = slot }) refl) (still_ground old old refl)
+    (λ sends. sent_ground (old.waits && is_between (stepped_in true slot old.state)) old slot)
+    (still_ground old slot) (still_ground old old.heard)
 
 -- no play goes on
 abbrev IsOff : ℕ → State → Type 0
@@ -370,7 +364,8 @@ slot_state (Playing setup play) old slot film is well =
     (was.0, play_on was.1 on))
 slot_state (Stopping setup stop) old slot film is well =
     let was = subst (IsStateOf (ground_of old film)) is well.state in
-    let on = stop_slot old slot is was.1 in
+    let on = stop_slot old slot
+    (record { setup = setup; stop = stop; film = film; state = is; stopped = was.1 }) in
     slot_well old slot well (stop_left stop was.0 on.stopped on.state)
 
 -- a play that is done is halted

@@ -83,20 +83,27 @@ stop_through {ground} {setup} {stop} {slot} waits has later =
       };
     })
 
-stop_taken : {setup : Setup} {stop : Stop} {film : List ℕ} (old : SessionState) (slot : ℕ) →
-    old.state ≡ Stopping setup stop → HasStopped (ground_of old film) setup stop → old.heard < slot →
-    StopsOn (ground_of old film) setup stop (after_play (sent_slot old slot)) (film ++ film_bytes (due_parts old slot))
-stop_taken {setup} {stop} {film} old slot is has later =
+-- a session sends the rest of a halted play, of which these bytes were sent
+pub record StopGoing (session : SessionState) : Type 0 where
+  pub setup : Setup
+  pub stop : Stop
+  pub film : List ℕ
+  pub state : session.state ≡ Stopping setup stop
+  pub stopped : HasStopped (ground_of session film) setup stop
+
+stop_taken : (old : SessionState) (slot : ℕ) (going : StopGoing old) → old.heard < slot →
+    StopsOn (ground_of old going.film) going.setup going.stop (after_play (sent_slot old slot))
+    (going.film ++ film_bytes (due_parts old slot))
+stop_taken old slot going later =
     let goes : Bool = old.waits && is_between (stepped_in true slot old.state) in
-    let s : SessionState = sent_slot old slot in
     let p = stop.pacer in
     let now : PacerState = slot_pacing old.waits slot p in
     let through : now ≡ sent_through slot p =
-    slot_is old.waits (stands_at_boundary (after_step true slot p)) slot p has.rest.halted.pacing refl in
-    let state : s.state ≡ state_after_slot old.waits (Stopping setup stop) slot =
-    reply_state goes (sent_due old slot) ∙ ap (λ st. state_after_slot old.waits st slot) is in
+    slot_is old.waits (stands_at_boundary (after_step true slot p)) slot p stopped.rest.halted.pacing refl in
+    let after : (sent_slot old slot).state ≡ state_after_slot old.waits (Stopping setup stop) slot =
+    reply_state goes (sent_due old slot) ∙ ap (λ st. state_after_slot old.waits st slot) state in
     let bytes : film_bytes (due_parts old slot) ≡ slot_film old.waits slot p =
-    ap (λ st. film_bytes (parts_of old.waits st old.text slot)) is ∙ pacer_film old.waits p old.text slot in
+    ap (λ st. film_bytes (parts_of old.waits st old.text slot)) state ∙ pacer_film old.waits p old.text slot in
     let ground : Ground = ground_of old film in
     record {
       now = now;
@@ -104,23 +111,25 @@ stop_taken {setup} {stop} {film} old slot is has later =
       stopped = subst (λ n. HasStopped (ground_by ground n (film ++ film_bytes (due_parts old slot))) setup
           (with_rest stop now)) (sym (reply_heard goes (sent_due old slot)))
           (subst (λ bs. HasStopped (ground_by ground slot (film ++ bs)) setup (with_rest stop now)) (sym bytes)
-          (stop_through old.waits has later));
-      state = subst (IsStopping setup stop now) (sym state) (stop_state stop old.waits setup slot);
+          (stop_through old.waits stopped later));
+      state = subst (IsStopping setup stop now) (sym after) (stop_state stop old.waits setup slot);
     }
+  where
+    open going use {setup, stop, film, state, stopped}
 
 -- nothing was sent
-pub stop_still : {setup : Setup} {stop : Stop} {film : List ℕ} (old : SessionState) → old.state ≡ Stopping setup stop →
-    HasStopped (ground_of old film) setup stop → StopsOn (ground_of old film) setup stop old film
-stop_still {stop} old is has = record { now = stop.pacer; keep = refl; stopped = has; state = inl is }
+pub stop_still : {session : SessionState} (going : StopGoing session)
+    → StopsOn (ground_of session going.film) going.setup going.stop session going.film
+stop_still going = record { now = going.stop.pacer; keep = refl; stopped = going.stopped; state = inl going.state }
 
 -- by a slot
-pub stop_slot : {setup : Setup} {stop : Stop} {film : List ℕ} (old : SessionState) (slot : ℕ) →
-    old.state ≡ Stopping setup stop → HasStopped (ground_of old film) setup stop →
-    StopsOn (ground_of old film) setup stop (after_slot old slot) (film ++ film_bytes (slot_parts old slot))
-stop_slot {setup} {stop} {film} old slot is has =
-    slot_cases (standings old slot) (StopsOn (ground_of old film) setup stop) (due_parts old slot)
-    (ap is_sending is) (stop_still old is has)
-    (λ taken. stop_taken old slot is has (later_slot old slot taken))
+pub stop_slot : (old : SessionState) (slot : ℕ) (going : StopGoing old) →
+    StopsOn (ground_of old going.film) going.setup going.stop (after_slot old slot)
+    (going.film ++ film_bytes (slot_parts old slot))
+stop_slot old slot going =
+    slot_cases (standings old slot) (StopsOn (ground_of old going.film) going.setup going.stop) (due_parts old slot)
+    (ap is_sending going.state) (stop_still going)
+    (λ taken. stop_taken old slot going (later_slot old slot taken))
 
 -- it is in the state that the slot leaves
 pub stop_left : {ground : Ground} {setup : Setup} {now : PacerState} {state : State} (stop : Stop) →

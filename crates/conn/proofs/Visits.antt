@@ -32,7 +32,7 @@ use Rattle.conn.specs.ReservationInvariant.{Closed, HasAdvanced, at_rest, open_p
 use Rattle.conn.specs.Observations.{AreNoted}
 use Rattle.conn.specs.declared.reports.ConnEnd.TheVariants.{LinkFault}
 use Rattle.conn.specs.declared.reports.ConnReport.{ConnReport}
-use Rattle.conn.proofs.Journals.{agree_longer, same_journal, terms_same}
+use Rattle.conn.proofs.Journals.{LongerJournal, agree_longer, same_journal, terms_same}
 use Rattle.conn.proofs.CourseSteps.{noted_on}
 
 -- what is noted of a connection agrees with its seat's journal from the beginning
@@ -44,10 +44,10 @@ seen_agrees old new outcomes noted =
 
 course_agrees : {told : List IoEvent} {old new : SeatState} (visit : Visit) →
     CourseMeetsGuarantee (new_session_state visit.films visit.settings visit.report.words) (Some []) (Some told) old new
-    visit.report → visit.returned.told ≡ Some told → (visit.report.end ≡ LinkFault → HasRisen 0 visit.returned.faults) →
-    HasAdvanced (at_rest old.mine []) (at_rest new.mine visit.report.receipts.items) →
-    Agrees visit (terms_of new) new.seen
-course_agrees {old} {new} visit keeps tells fault entries =
+    visit.report → visit.returned.told ≡ Some told
+    → HasServedOne visit.films visit.settings visit.returned visit.report old new → Agrees visit (terms_of new) new.seen
+course_agrees {old} {new} visit keeps tells one =
+    let entries = one.entries in
     let served = keeps.served in
     let course = served.course in
     let doings : Activity = record { rounds = course.rounds; ending = course.ending; halt = served.closes.halt } in
@@ -72,7 +72,7 @@ course_agrees {old} {new} visit keeps tells fault entries =
       halts = subst (λ made. open_play_from Closed made ≡ Closed)
           (append_cancel_left old.mine entries.made (entries_in (doings_outcomes doings))
           (sym entries.mine_is ∙ noted.mine)) entries.open_is;
-      fault = fault;
+      fault = one.fault;
     }
 
 -- what was served agrees with the seat's journal
@@ -84,29 +84,30 @@ one_agrees {old} {new} visit one = λ told tells found.
     let keeps : MeetsGuarantee session (Some []) (Some told) old new visit.report =
     subst (λ t. MeetsGuarantee session (fresh_history t) t old new visit.report) tells one.keeps in
     elim keeps [
-      | inl course ↦ course_agrees visit course tells one.fault one.entries
+      | inl course ↦ course_agrees visit course tells one
       | inr nothing ↦ absurd (found nothing.end)
     ]
 
 -- an entry that stands in a journal stands in each longer one
-get_longer : (journal longer : List Entry) → IsPrefix journal longer → (k : ℕ) (entry : Entry)
-    → slice_get journal k ≡ Some entry → slice_get longer k ≡ Some entry
-get_longer journal longer prefix k entry is =
+get_longer : (grown : LongerJournal) (k : ℕ) (entry : Entry) → slice_get grown.journal k ≡ Some entry
+    → slice_get grown.longer k ≡ Some entry
+get_longer grown k entry is =
     let inside : k < length journal = slice_get_within journal k entry is in
     let wide : k < length longer =
     omega (arith, inside, length-append journal prefix.0, ap (λ (xs : List Entry). length xs) prefix.1) in
     slice_get-get_or longer k entry wide
     ∙ ap (λ e. Some e) (prefix_at journal longer prefix k entry inside)
     ∙ sym (slice_get-get_or journal k entry inside) ∙ is
+  where
+    open grown use {journal, longer, prefix}
 
-overflow_longer : {terms : Terms} {journal longer : List Entry} {made : List Outcome} {text : List ℕ}
-    → IsPrefix journal longer → ReportsOverflowOf terms journal made text → ReportsOverflowOf terms longer made text
-overflow_longer {terms} {journal} {longer} prefix reports =
+overflow_longer : {made : List Outcome} {text : List ℕ} (grown : LongerJournal)
+    → ReportsOverflowOf grown.terms grown.journal made text → ReportsOverflowOf grown.terms grown.longer made text
+overflow_longer grown reports =
     let over = reports.overflow in
-    let inside : over.placed.place < length journal =
-    slice_get_within journal over.placed.place over.placed.entry over.seen in
-    let same : take over.placed.place longer ≡ take over.placed.place journal =
-    prefix_take journal longer prefix over.placed.place (omega (arith, inside)) in
+    let place : ℕ = over.placed.place in
+    let inside : place < length journal = slice_get_within journal place over.placed.entry over.seen in
+    let same : take place longer ≡ take place journal = prefix_take journal longer prefix place (omega (arith, inside)) in
     record {
       slot = reports.slot;
       booked = reports.booked;
@@ -114,7 +115,7 @@ overflow_longer {terms} {journal} {longer} prefix reports =
       overflow = record {
         placed = over.placed;
         among = over.among;
-        seen = get_longer journal longer prefix over.placed.place over.placed.entry over.seen;
+        seen = get_longer grown place over.placed.entry over.seen;
         maker = over.maker;
         answer = over.answer;
         heard = over.heard;
@@ -127,45 +128,45 @@ overflow_longer {terms} {journal} {longer} prefix reports =
       sequence = reports.sequence;
       text_is = reports.text_is;
     }
+  where
+    open grown use {terms, journal, longer, prefix}
 
-refusals_longer : (terms : Terms) (journal longer : List Entry) (made : List Outcome) (parts : List SentPart)
-    → IsPrefix journal longer → AreRefusalsJustified terms journal made parts
-    → AreRefusalsJustified terms longer made parts
-refusals_longer terms journal longer made [] prefix justified = tt
-refusals_longer terms journal longer made (Film bytes ∷ parts) prefix justified =
-    refusals_longer terms journal longer made parts prefix justified
-refusals_longer terms journal longer made (Text text ∷ parts) prefix justified = (
-  record {
-    overflow = λ code. overflow_longer prefix (justified.0.overflow code);
-    full = justified.0.full;
-  },
-  refusals_longer terms journal longer made parts prefix justified.1,
+refusals_longer : (grown : LongerJournal) (made : List Outcome) (parts : List SentPart)
+    → AreRefusalsJustified grown.terms grown.journal made parts
+    → AreRefusalsJustified grown.terms grown.longer made parts
+refusals_longer grown made [] justified = tt
+refusals_longer grown made (Film bytes ∷ parts) justified = refusals_longer grown made parts justified
+refusals_longer grown made (Text text ∷ parts) justified = (
+  record { overflow = λ code. overflow_longer grown (justified.0.overflow code); full = justified.0.full },
+  refusals_longer grown made parts justified.1,
 )
 
 -- and with each longer legal journal
 pub agrees_longer : {visit : Visit} {terms : Terms} {journal longer : List Entry} → Agrees visit terms journal →
     IsPrefix journal longer → IsLegal terms.steps longer → Agrees visit terms longer
-agrees_longer {terms} {journal} {longer} agrees prefix legal = record {
-  legal = legal;
-  doings = agrees.doings;
-  told_is = agrees.told_is;
-  done = agrees.done;
-  agree = agree_longer (record {
-    terms = terms;
-    journal = journal;
-    longer = longer;
-    prefix = prefix;
-    low = 0;
-    from = 0;
-    below = omega arith;
-  }) (doings_outcomes agrees.doings) agrees.agree;
-  plays = agrees.plays;
-  refusals = refusals_longer terms journal longer
-      (rounds_outcomes agrees.doings.rounds ++ ending_outcomes agrees.doings.ending)
-      (rounds_parts (agrees.doings.rounds ++ ending_rounds agrees.doings.ending)) prefix agrees.refusals;
-  halts = agrees.halts;
-  fault = agrees.fault;
-}
+agrees_longer {terms = terms} {journal} {longer} agrees prefix legal =
+    let grown : LongerJournal = record {
+      terms = terms;
+      journal = journal;
+      longer = longer;
+      prefix = prefix;
+      low = 0;
+      from = 0;
+      below = omega arith;
+    } in
+    let doings = agrees.doings in
+    record {
+      legal = legal;
+      doings = doings;
+      told_is = agrees.told_is;
+      done = agrees.done;
+      agree = agree_longer grown (doings_outcomes doings) agrees.agree;
+      plays = agrees.plays;
+      refusals = refusals_longer grown (rounds_outcomes doings.rounds ++ ending_outcomes doings.ending)
+          (rounds_parts (doings.rounds ++ ending_rounds doings.ending)) agrees.refusals;
+      halts = agrees.halts;
+      fault = agrees.fault;
+    }
 
 -- ---- one after another
 

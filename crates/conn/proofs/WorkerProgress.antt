@@ -17,7 +17,6 @@ use Rattle.admission.specs.Makers.{PlacedEntry}
 use Rattle.session_records.specs.declared.notes.Receipt.{Receipt}
 use Rattle.session.specs.RequestSteps.{new_session_state}
 use Rattle.session.specs.SessionStates.{SessionState}
-use Rattle.station.specs.Bookings.{Booking}
 use Rattle.station.specs.Seats.{IsSameSeat, SeatState}
 use Rattle.station.proofs.SameSeats.{seat_none, seat_on}
 use Rattle.conn.specs.declared.reports.ConnReport.{ConnReport}
@@ -27,30 +26,28 @@ use Rattle.conn.specs.declared.reports.PartEnd.TheVariants.{AllTaken, GateFault,
 use Rattle.conn.specs.EventSteps.{ending_doings, rounds_doings}
 use Rattle.conn.specs.Guarantees.{MeetsGuarantee}
 use Rattle.conn.specs.ConnectionService.{ConnectionSpec}
-use Rattle.conn.specs.ReservationInvariant.{HasAdvanced, Closed, at_rest, open_play_from, open_play_of}
+use Rattle.conn.specs.ReservationInvariant.{ReservationState, HasAdvanced, Closed, at_rest, open_play_from, open_play_of}
 use Rattle.conn.specs.ReservationInvariant.{open_play_with, entry_receipts, receipt_for}
 use Rattle.conn.specs.Parts.{AreOf, AreReported, AreServed, HasServed, HasServedOne, IsServed, IsUntouched}
 use Rattle.conn.specs.Parts.{WorkerGate, WorkerInput, WorkerSpec, entries_reported, fresh_history}
 use Rattle.conn.specs.Words.{words_of}
 use Rattle.conn.proofs.FaultCounts.{risen_on}
+use Rattle.conn.proofs.JoinedLists.{joined-append}
 
 -- ---- the entries that a seat made, and the reports that list them
 
 -- a connection with no booking open and nothing noted, and what it noted by the time that none is
 -- open again
-pub record RestedBusiness (booking next : Option Booking) (receipts told lists : List Receipt) : Type 0 where
-  pub closed : booking ≡ None
-  pub none : receipts ≡ []
-  pub open_none : next ≡ None
-  pub same : lists ≡ told
+pub record RestedBusiness (old new : ReservationState) (lists : List Receipt) : Type 0 where
+  pub closed : old.booking ≡ None
+  pub none : old.receipts ≡ []
+  pub open_none : new.booking ≡ None
+  pub same : lists ≡ new.receipts
 
 -- a connection from beginning to end: no booking is open before and after
-pub gone_whole : {booking next : Option Booking} {receipts told lists : List Receipt} (mine new : List PlacedEntry) →
-    RestedBusiness booking next receipts told lists →
-    HasAdvanced (record { mine = mine; booking = booking; receipts = receipts })
-    (record { mine = new; booking = next; receipts = told }) →
-    HasAdvanced (at_rest mine []) (at_rest new lists)
-gone_whole mine new rested gone = record {
+pub gone_whole : {old new : ReservationState} {lists : List Receipt} → RestedBusiness old new lists →
+    HasAdvanced old new → HasAdvanced (at_rest old.mine []) (at_rest new.mine lists)
+gone_whole rested gone = record {
   made = gone.made;
   mine_is = gone.mine_is;
   receipts_are =
@@ -60,12 +57,9 @@ gone_whole mine new rested gone = record {
       ∙ ap open_play_of rested.open_none;
 }
 
-entries_reported-append : (xs ys : List ConnReport) → entries_reported (xs ++ ys) ≡ entries_reported xs ++
-    entries_reported ys
-entries_reported-append [] ys = refl
-entries_reported-append (x ∷ xs) ys =
-    ap (λ rs. entry_receipts x.receipts.items ++ rs) (entries_reported-append xs ys)
-    ∙ sym (append_assoc (entry_receipts x.receipts.items) (entries_reported xs) (entries_reported ys))
+entries_reported-append : (xs ys : List ConnReport)
+    → entries_reported (xs ++ ys) ≡ entries_reported xs ++ entries_reported ys
+entries_reported-append = joined-append (λ r. entry_receipts r.receipts.items) entries_reported refl (λ x xs. refl)
 
 has_one : {mine mid new : List PlacedEntry} (reports : List ConnReport) (report : ConnReport)
     → HasServed mine reports mid → HasAdvanced (at_rest mid []) (at_rest new report.receipts.items)

@@ -13,7 +13,7 @@ returns-clause-entries g c =
     (reservation_state c.hear_all-end.new.seat.mine c.hear_all-end.new.connection)
     (reservation_state c.close.new.seat.mine c.close.new.self) c.hear_all-end.ensures.kept.gone
     c.close.ensures.kept.gone in
-    gone_whole c.args.seat.now.mine c.close.new.seat.mine (record {
+    gone_whole (record {
       closed = c.in-Ok.ensures.booking;
       none = c.in-Ok.ensures.receipts;
       open_none = c.close.ensures.booking;

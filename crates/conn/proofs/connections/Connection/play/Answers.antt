@@ -10,13 +10,16 @@ use Rattle.conn.proofs.connections.Connection.play.Goals as goal
 
 pub returns-in-Ok-clause-kept : goal.returns-in-Ok-clause-kept
 returns-in-Ok-clause-kept g c =
-    kept_admitted (record {
+    kept_admitted _ (record {
       kept = c.holds.ensures.kept;
       also = c.play.ensures.kept;
       same = c.play.ensures.same;
       held = c.requires.held;
       closed = c.requires.closed;
-    }) (record { heard = c.heard_slot.result; made = c.in-Ok.ensures.made; keeps = c.in-Ok.ensures.open }) (record {
+    }) (record {
+      heard = c.heard_slot.result;
+      made = c.in-Ok.ensures.made;
+      keeps = c.in-Ok.ensures.open;
       handed = subst (λ start. IsAnswerRecorded c.args.self.now.session
           (Entry c.in-Ok.booking.number (Admitted start)) c.admitted.new.self) c.start.ensures
           (subst (λ number. IsAnswerRecorded c.args.self.now.session (Entry number (Admitted c.start.result))
@@ -29,14 +32,16 @@ returns-in-Ok-clause-kept g c =
 
 pub returns-in-Err-clause-kept : goal.returns-in-Err-clause-kept
 returns-in-Err-clause-kept g c =
-    kept_refused (record {
+    kept_refused _ (record {
       kept = c.holds.ensures.kept;
       also = c.play.ensures.kept;
       same = c.play.ensures.same;
       held = c.requires.held;
       closed = c.requires.closed;
-    }) (record { heard = c.heard_slot.result; plan = c.args.plan; is = c.in-Err.ensures.refused }) (record {
-      exact = c.hear_refusal.ensures.exact;
+    }) (record {
+      heard = c.heard_slot.result;
+      plan = c.args.plan;
+      is = c.in-Err.ensures.refused;
       handed = c.hear_refusal.ensures.handed;
       closed = c.hear_refusal.ensures.open;
       booking = refl;
