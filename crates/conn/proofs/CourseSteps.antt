@@ -99,9 +99,8 @@ takings_outcomes-append = joined-append taking_outcomes takings_outcomes refl (�
 pub taken_none : (a : Observed) → HasTaken a a
 taken_none a = record { takings = []; takes = refl; sent = sent_none a.told; noted = noted_none a.seat }
 
-pub taken_one : (a b : Observed) (taking : ElementStep) → Takes a.stage taking b.stage →
-    IsSent a.told (taking_bytes taking) b.told →
-    AreNoted a.seat b.seat (taking_outcomes taking) → HasTaken a b
+pub taken_one : (a b : Observed) (taking : ElementStep) → Takes a.stage taking b.stage
+    → IsSent a.told (taking_bytes taking) b.told → AreNoted a.seat b.seat (taking_outcomes taking) → HasTaken a b
 taken_one a b taking takes sent noted = record {
   takings = taking ∷ [];
   takes = (b.stage, (takes, refl));
@@ -211,9 +210,8 @@ pub record BytesSeen (bytes : List ℕ) (a b : Observed) : Type 0 where
   pub seat : b.seat ≡ a.seat
 
 -- bytes came
-pub bytes_up : {b : Observed} {bytes : List ℕ} {a : Observed} (result : Option ConnEnd) (c : Observed) → BytesSeen bytes
-    a b →
-    HasProcessedInput result b c → HasHandledEvent result (HeardBytes bytes) a c
+pub bytes_up : {b : Observed} {bytes : List ℕ} {a : Observed} (result : Option ConnEnd) (c : Observed)
+    → BytesSeen bytes a b → HasProcessedInput result b c → HasHandledEvent result (HeardBytes bytes) a c
 bytes_up {b} {a} result c seen up =
     event_up (record {
       due = [];
@@ -246,9 +244,8 @@ slot_broken slot a c broken =
       noted = subst (λ s. AreNoted a.seat s []) (sym broken.noted) (noted_none a.seat);
     }
 
-pub overfull : (bytes : List ℕ) (a c : Observed) → MAX_WAITING_BYTES < length a.stage.input + length bytes →
-    a.stage.session.waits ≡ true → c ≡ a →
-    HasHandledEvent (Some TooMuchInput) (HeardBytes bytes) a c
+pub overfull : (bytes : List ℕ) (a c : Observed) → MAX_WAITING_BYTES < length a.stage.input + length bytes
+    → a.stage.session.waits ≡ true → c ≡ a → HasHandledEvent (Some TooMuchInput) (HeardBytes bytes) a c
 overfull bytes a c many waits is =
     subst (λ s. HasHandledEvent (Some TooMuchInput) (HeardBytes bytes) a s) (sym is)
     (λ count. record {
@@ -303,11 +300,10 @@ pub record EventReceived (event : IoEvent) (before : Observed) : Type 0 where
   pub seat_is : heard.seat ≡ before.seat
   pub told_is : heard.told ≡ told_more before.told (event ∷ [])
 
-heard_sent : {b c : Option (List IoEvent)} (a : Option (List IoEvent)) (event : IoEvent) (bytes : List ℕ) →
-    b ≡ told_more a (event ∷ []) → IsSent b bytes c →
-    c ≡ told_more a (event ∷ sends bytes)
-heard_sent {c} a event bytes heard sent =
-    sent ∙ ap (λ t. told_more t (sends bytes)) heard ∙ told_more-append a (event ∷ []) (sends bytes)
+heard_sent : {event : IoEvent} {b : Observed} {c : Option (List IoEvent)} (received : EventReceived event b)
+    (bytes : List ℕ) → IsSent received.heard.told bytes c → c ≡ told_more b.told (event ∷ sends bytes)
+heard_sent {event} {b} received bytes sent =
+    sent ∙ ap (λ t. told_more t (sends bytes)) received.told_is ∙ told_more-append b.told (event ∷ []) (sends bytes)
 
 pub run_on : {count : ℕ} {event : IoEvent} {a b c : Observed} → HasRun count a b
     → (received : EventReceived event b) → HasRound event received.heard c → HasRun (count + 1) a c
@@ -315,14 +311,13 @@ run_on {a} {b} {c} run received next =
     let round = next.round in
     let doings : List IoEvent = round.event ∷ sends (round_bytes round) in
     let last : rounds_doings (round ∷ []) ≡ doings = append-nil doings in
-    let told : received.heard.told ≡ told_more b.told (round.event ∷ []) =
-    received.told_is ∙ ap (λ e. told_more b.told (e ∷ [])) (sym next.event_is) in
     let outcomes : rounds_outcomes (round ∷ []) ≡ round_outcomes round = append-nil (round_outcomes round) in record {
       rounds = run.rounds ++ round ∷ [];
       count_is = length-append run.rounds (round ∷ []) ∙ ap (λ n. n + 1) run.count_is;
       runs = runs_on a.stage run.rounds run.runs (subst (λ s. Runs s round c.stage) received.stage_is next.runs)
           next.idle;
-      told = heard_sent b.told round.event (round_bytes round) told next.sent
+      told = heard_sent received (round_bytes round) next.sent
+          ∙ ap (λ e. told_more b.told (e ∷ sends (round_bytes round))) (sym next.event_is)
           ∙ ap (λ t. told_more t doings) run.told ∙ told_more-append a.told (rounds_doings run.rounds) doings
           ∙ ap (λ ds. told_more a.told (rounds_doings run.rounds ++ ds)) (sym last)
           ∙ ap (told_more a.told) (sym (rounds_doings-append run.rounds (round ∷ [])));
@@ -345,7 +340,7 @@ run_end {count} {event} {end} {a} {b} {c} run received more last =
       few = omega (arith, run.count_is, one, more);
       ends = subst (λ n. Ends b.stage n ending end c.stage) (sym run.count_is)
           (subst (λ s. Ends s count ending end c.stage) received.stage_is last.ends);
-      told = heard_sent b.told event (ending_bytes ending) received.told_is last.sent
+      told = heard_sent received (ending_bytes ending) last.sent
           ∙ ap (λ es. told_more b.told (es ++ sends (ending_bytes ending))) (sym last.event_is)
           ∙ ap (λ t. told_more t (ending_doings ending)) run.told
           ∙ told_more-append a.told (rounds_doings run.rounds) (ending_doings ending);
@@ -360,30 +355,23 @@ few_heard LinkFault count is = omega (arith, is)
 few_heard TurnsSpent count is = omega (arith, is)
 few_heard _ count is = absurd is
 
-pub run_over : {count : ℕ} {end : ConnEnd} {a b c : Observed} → HasRun count a b → IsUnheard end count → c ≡ b
-    → HasCourse end a c
-run_over {count} {end} {a} {b} {c} run unheard is =
-    subst (λ s. HasCourse end a s) (sym is) (record {
-      rounds = run.rounds;
-      mid = b.stage;
-      runs = run.runs;
-      ending = Unheard;
-      few = omega (arith, run.count_is, few_heard end count unheard);
-      ends = (subst (IsUnheard end) (sym run.count_is) unheard, refl);
-      told = run.told ∙ ap (told_more a.told) (sym (append-nil (rounds_doings run.rounds)));
-      noted = subst (λ os. AreNoted a.seat b.seat os) (sym (append-nil (rounds_outcomes run.rounds))) run.noted;
-    })
+pub run_over : {count : ℕ} {end : ConnEnd} {a b : Observed} → HasRun count a b → IsUnheard end count → HasCourse end a b
+run_over {count} {end} {a} {b} run unheard = record {
+  rounds = run.rounds;
+  mid = b.stage;
+  runs = run.runs;
+  ending = Unheard;
+  few = omega (arith, run.count_is, few_heard end count unheard);
+  ends = (subst (IsUnheard end) (sym run.count_is) unheard, refl);
+  told = run.told ∙ ap (told_more a.told) (sym (append-nil (rounds_doings run.rounds)));
+  noted = subst (λ os. AreNoted a.seat b.seat os) (sym (append-nil (rounds_outcomes run.rounds))) run.noted;
+}
 
 -- a first element that is too long: what was processed before it stands, and the connection ends
-pub taken_fault : {a b : Observed} (fault : DemuxFault) (end : ConnEnd) → b ≡ a → a.stage.session.torn ≡ false
-    → IsFirst a.stage.input (Err fault)
-    → IsEndOf fault end → HasTaken a b × IsStopped end b.stage
-taken_fault {a} LongHead end same torn first is =
-    subst (λ (s : Observed). HasTaken a s × IsStopped end s.stage) (sym same)
-    (taken_none a, subst (λ e. IsStopped e a.stage) (sym is) (torn, first))
-taken_fault {a} LongBody end same torn first is =
-    subst (λ (s : Observed). HasTaken a s × IsStopped end s.stage) (sym same)
-    (taken_none a, subst (λ e. IsStopped e a.stage) (sym is) (torn, first))
+pub taken_fault : {a : Observed} (fault : DemuxFault) (end : ConnEnd) → a.stage.session.torn ≡ false
+    → IsFirst a.stage.input (Err fault) → IsEndOf fault end → HasTaken a a × IsStopped end a.stage
+taken_fault {a} LongHead end torn first is = (taken_none a, subst (λ e. IsStopped e a.stage) (sym is) (torn, first))
+taken_fault {a} LongBody end torn first is = (taken_none a, subst (λ e. IsStopped e a.stage) (sym is) (torn, first))
 
 -- what a slot brings is what is sent in it
 due_is : (waits between : Bool) (one plain after text : List ℕ) →
@@ -393,27 +381,27 @@ due_is false between one plain after text = append-nil plain
 due_is true false one plain after text = refl
 due_is true true one plain after text = ap (λ bs. one ++ (text ++ bs)) (append-nil after)
 
-told_if : {bytes : List ℕ} {new : Option (List IoEvent)} (sends_it : Bool) (parts : List SentPart)
-    (old : Option (List IoEvent)) → parts_bytes parts ≡ bytes → IsTold sends_it old bytes new →
-    IsSent old (parts_bytes (if sends_it then parts else [])) new
-told_if {new} true parts old is told = told ∙ ap (λ bs. told_more old (sends bs)) (sym is)
-told_if {new} false parts old is told = told ∙ sym (told_more-nil old)
+told_if : {new : Option (List IoEvent)} (sends_it : Bool) (parts : List SentPart) (old : Option (List IoEvent))
+    → IsTold sends_it old (parts_bytes parts) new → IsSent old (parts_bytes (if sends_it then parts else [])) new
+told_if true parts old told = told
+told_if false parts old told = told ∙ sym (told_more-nil old)
 
 pub slot_sent : (session : SessionState) (slot : ℕ) (old new : Option (List IoEvent)) →
     IsTold (is_taken session slot && is_sending session.state) old
     (due_bytes session.waits session.state session.text slot) new →
     IsSent old (parts_bytes (slot_parts session slot)) new
 slot_sent session slot old new told =
-    told_if (is_taken session slot && is_sending session.state) (due_parts session slot) old
-    (due_is session.waits (is_between (stepped_in true slot session.state)) (step_bytes true slot session.state)
+    let sends_it : Bool = is_taken session slot && is_sending session.state in
+    told_if sends_it (due_parts session slot) old (subst (λ bs. IsTold sends_it old bs new)
+    (sym (due_is session.waits (is_between (stepped_in true slot session.state)) (step_bytes true slot session.state)
     (step_bytes false slot session.state)
-    (step_bytes false slot (stepped_in true slot session.state)) session.text) told
+    (step_bytes false slot (stepped_in true slot session.state)) session.text)) told)
 
-pub reply_sent : (session : SessionState) (old new : Option (List IoEvent)) →
-    IsTold (can_reply session) old session.text new →
-    IsSent old (parts_bytes (reply_parts session)) new
-reply_sent session old new told = told_if (can_reply session) (Text session.text ∷ []) old
-    (append-nil session.text) told
+pub reply_sent : (session : SessionState) (old new : Option (List IoEvent))
+    → IsTold (can_reply session) old session.text new → IsSent old (parts_bytes (reply_parts session)) new
+reply_sent session old new told =
+    told_if (can_reply session) (Text session.text ∷ []) old
+    (subst (λ bs. IsTold (can_reply session) old bs new) (sym (append-nil session.text)) told)
 
 -- a connection's input alone changes
 pub input_is : {old new : List ℕ} (connection : Connection) (told : Option (List IoEvent)) (seat : SeatState) → old ≡ new

@@ -3,8 +3,7 @@ use Rattle.std.proofs.Common.{◌≡◌, ℕ, ◌+◌, ◌^◌, ◌≤◌, lengt
 use Rattle.conn.specs.declared.reports.ConnEnd.{ConnEnd}
 use Rattle.conn.specs.declared.reports.ConnEnd.TheVariants.{LinkFault, TurnsSpent}
 use Rattle.conn.specs.EventCounts.{events_heard}
-use Rattle.conn.specs.EventSteps.{AtElement, Ending, Ends, InReply, InSlot, IsUnheard, Overfull, PeerEnded, Unheard}
-use Rattle.conn.specs.EventSteps.{ending_events}
+use Rattle.conn.specs.EventSteps.{AtElement, Ending, Ends, IsUnheard, Unheard, ending_events}
 use Rattle.conn.specs.Observations.{HasCourse, Observed}
 use Rattle.conn.specs.InputSteps.{Stage}
 use Rattle.conn.proofs.ReplyContents.{CourseEnd}
@@ -18,11 +17,8 @@ use Rattle.conn.specs.Events.{IsWaiting}
 spent_at : (old new : Stage) (count : ℕ) (ending : Ending) → Ends old count ending TurnsSpent new
     → count + length (ending_events ending) ≡ 2 ^ 40
 spent_at old new count Unheard ends = let all : count ≡ 2 ^ 40 = ends.0 in omega (arith, all)
-spent_at old new count PeerEnded ends = absurd (let no : ⊥ = cc (ends.0) in no)
-spent_at old new count (Overfull bytes) ends = absurd (let no : ⊥ = cc (ends.0) in no)
 spent_at old new count (AtElement round) ends = absurd ends.1
-spent_at old new count (InSlot slot front) ends = absurd (let no : ⊥ = cc (ends.0) in no)
-spent_at old new count (InReply round message outcome front) ends = absurd (let no : ⊥ = cc (ends.0) in no)
+spent_at old new count _ ends = absurd (let no : ⊥ = cc (ends.0) in no)
 
 pub events_spent : (old new : Observed) (course : HasCourse TurnsSpent old new)
     → events_heard TurnsSpent old new course ≡ 2 ^ 40
@@ -51,9 +47,8 @@ few_heard end old new course = course.few
 
 -- where no complete element waits, few bytes do, so an event's bytes find no room only while a
 -- reply waits
-pub waits_for_room : (c : Connection) (n : ℕ) → (IsFirst c.input (Ok More) → length c.input < 81920) →
-    n ≤ MAX_READ_BYTES → MAX_WAITING_BYTES < length c.input + n → IsWaiting c →
-    c.session.waits ≡ true
+pub waits_for_room : (c : Connection) (n : ℕ) → (IsFirst c.input (Ok More) → length c.input < 81920)
+    → n ≤ MAX_READ_BYTES → MAX_WAITING_BYTES < length c.input + n → IsWaiting c → c.session.waits ≡ true
 waits_for_room c n few short many waiting =
     elim waiting [
       | inl more ↦ absurd (omega (arith, few more, short, many))

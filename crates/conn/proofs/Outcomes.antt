@@ -1,5 +1,5 @@
 -- What the station's answers leave of the connection that asked for them.
-use Rattle.std.proofs.Common.{◌≡◌, ℕ, List, refl, sym, ◌∙◌, subst, ◌^◌, ◌<◌, ◌≤◌, Option, Some, None, ap}
+use Rattle.std.proofs.Common.{[], ◌∷◌, ◌≡◌, ℕ, List, refl, sym, ◌∙◌, subst, ◌^◌, ◌<◌, ◌≤◌, Option, Some, None, ap}
 use Rattle.std.proofs.lemmas.List.{append-nil}
 use Rattle.station.specs.Seats.{SeatState, IsSameSeat, IsSeat}
 use Rattle.admission.specs.Makers.{PlacedEntry, IsOpenAmong}
@@ -17,7 +17,7 @@ use Rattle.conn.proofs.Journals.{offer_agrees, own_last}
 use Rattle.admission.specs.declared.entries.Answer.TheVariants.{Admitted}
 use Rattle.plan_cert.specs.declared.Segment.{Segment}
 use Rattle.plan_cert.specs.PlanSlots.{total_bytes}
-use Rattle.session_records.specs.declared.notes.Receipt.TheVariants.{Entry as EntryReceipt}
+use Rattle.session_records.specs.declared.notes.Receipt.TheVariants.{Full as FullReceipt, Entry as EntryReceipt}
 use Rattle.session.specs.SlotTransitions.{IsPlayIn}
 use Rattle.station.specs.Answers.{IsSeatRefused, HasMadeEntry}
 use Rattle.station.specs.Ledgers.{play_of}
@@ -27,7 +27,7 @@ use Rattle.station.specs.declared.answers.PlayRefused.TheVariants.{JournalFull, 
 use Rattle.conn.specs.declared.connections.Connection.{Connection}
 use Rattle.conn.specs.ReservationInvariant.{HasAdvanced, IsHeld, KeepsReservations, open_play_of, reservation_state}
 use Rattle.conn.specs.Refusals.{after_refusal, refusal_receipt}
-use Rattle.conn.proofs.ReservationSteps.{gone_entry, gone_full, held_none}
+use Rattle.conn.proofs.ReservationSteps.{gone_entry, gone_none, held_none}
 
 -- the station's answers
 module _ {old new : SessionState} {ask : Ask} {seat next : SeatState} where
@@ -84,9 +84,8 @@ asked_on {arm} {bytes} heard same is answered = record {
 }
 
 -- none is held, and none is open
-held_closed : {booking : Option Booking} {play : Option OpenBooking} (mine : List PlacedEntry) → booking ≡ None → play ≡
-    None →
-    IsHeld mine booking play
+held_closed : {booking : Option Booking} {play : Option OpenBooking} (mine : List PlacedEntry) → booking ≡ None
+    → play ≡ None → IsHeld mine booking play
 held_closed {booking} {play} mine none closed =
     subst (λ b. IsHeld mine b play) (sym none) (subst (IsHeld mine None) (sym closed) tt)
 
@@ -122,7 +121,7 @@ pub record HasRefused (refused : PlayRefused) (call : StationCall) : Type 0 wher
 gone_refused : {call : StationCall} (refused : PlayRefused) → HasRefused refused call → call.before.booking ≡ None
     → HasAdvanced (reservation_state call.seat.mine call.before) (reservation_state call.next.mine call.after)
 gone_refused (JournalFull asked entries live) play none =
-    gone_full entries live play.is.1.mine play.booking play.handed.receipts
+    gone_none (FullReceipt entries live ∷ []) play.is.1.mine play.booking play.handed.receipts refl
 gone_refused (Overflow place slot booked bytes) play none =
     gone_entry none (record { mine = play.is.mine; receipts = play.handed.receipts })
     (ap open_play_of (sym (play.booking ∙ none)))
@@ -139,10 +138,8 @@ kept_refused {refused} call asking play = record {
 }
 
 pub answered_refused : {plan : List Segment} {seat next : SeatState} {after : SessionState} (before : Connection)
-    (refused : PlayRefused) →
-    IsAsking seat next before → IsSeatRefused seat next before.session.heard plan refused →
-    after ≡ after_refusal before.session refused →
-    HasAnswered before.session (AskPlay plan) after seat next
+    (refused : PlayRefused) → IsAsking seat next before → IsSeatRefused seat next before.session.heard plan refused
+    → after ≡ after_refusal before.session refused → HasAnswered before.session (AskPlay plan) after seat next
 answered_refused before (JournalFull asked entries live) asking is told =
     answered_full (record { more = 2; entries = entries; live = live; same = asking.same; full = is.1 }) (told, refl)
 answered_refused before (Overflow place slot booked bytes) asking is told =

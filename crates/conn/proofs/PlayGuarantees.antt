@@ -14,7 +14,7 @@ use Rattle.film_streams.specs.declared.settings.Settings.{Settings}
 use Rattle.session.specs.declared.states.Play.{Play as Played}
 use Rattle.film_streams.specs.declared.setups.Setup.{Setup}
 use Rattle.session.specs.declared.states.State.{State}
-use Rattle.session.specs.declared.states.State.TheVariants.{Init, Playing, Ready, Stopping}
+use Rattle.session.specs.declared.states.State.TheVariants.{Playing, Stopping}
 use Rattle.session.specs.RequestSteps.{new_session_state}
 use Rattle.film_streams.specs.SettingRanges.{AreSettings}
 use Rattle.session.specs.SlotSteps.{is_between, is_sending, is_taken, sent_due, after_slot, stepped_in}
@@ -98,24 +98,22 @@ sent_by {old} {new} {setup} {play} {more = more} its on =
 -- what is kept of a play, or of the rest of one: where nothing is sent, after a slot, and after an event
 kept_still : (state : State) (s : SessionState) (film : List ℕ) → s.state ≡ state → IsStateOf (ground_of s film) state
     → IsKeptIn state s s.heard film
-kept_still Init s film is was = tt
-kept_still (Ready setup paused) s film is was = tt
 kept_still (Playing setup play) s film is was =
     sent_by was.1
     (as_it_was {session = s} (record { setup = setup; play = play; film = film; state = is; sent = was.1.sent }))
 kept_still (Stopping setup stop) s film is was = stop_cut
     (stop_still {session = s} (record { setup = setup; stop = stop; film = film; state = is; stopped = was.1 }))
+kept_still _ s film is was = tt
 
 kept_slot : (state : State) (s : SessionState) (slot : ℕ) (film : List ℕ) → s.state ≡ state
     → IsStateOf (ground_of s film) state
     → IsKeptIn state s (after_slot s slot).heard (film ++ film_bytes (slot_parts s slot))
-kept_slot Init s slot film is was = tt
-kept_slot (Ready setup paused) s slot film is was = tt
 kept_slot (Playing setup play) s slot film is was =
     sent_by was.1
     (slot_play s slot (record { setup = setup; play = play; film = film; state = is; sent = was.1.sent }))
 kept_slot (Stopping setup stop) s slot film is was = stop_cut
     (stop_slot s slot (record { setup = setup; stop = stop; film = film; state = is; stopped = was.1 }))
+kept_slot _ s slot film is was = tt
 
 kept_event : {film : List ℕ} {old new : Stage} {round : Round} → ComesAs old round new → IsWell old.session film
     → IsKeptIn old.session.state old.session (heard_by old.session.heard round.event) (film ++ film_bytes round.due)

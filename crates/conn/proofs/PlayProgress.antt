@@ -172,9 +172,8 @@ abbrev pub standings : SessionState → ℕ → SlotStandings
 standings old slot =
     record { sending = after_play (sent_slot old slot); still = record old { heard = slot }; before = old }
 
-slot_branches : (s : SlotStandings) (P : SessionState → Type 0) (taken sending : Bool)
-    → (sending ≡ true → P s.sending) → (P s.still × P s.before)
-    → P (if taken then (if sending then s.sending else s.still) else s.before)
+slot_branches : (s : SlotStandings) (P : SessionState → Type 0) (taken sending : Bool) → (sending ≡ true → P s.sending)
+    → (P s.still × P s.before) → P (if taken then (if sending then s.sending else s.still) else s.before)
 slot_branches s P false sending goes stays = stays.1
 slot_branches s P true false goes stays = stays.0
 slot_branches s P true true goes stays = goes refl
@@ -306,8 +305,7 @@ round_on {new = new} {round} runs free going =
 
 -- a play goes on by events, as long as it isn't halted
 pub rounds_on : (old new : Stage) (rounds : List Round) → RunsAll old rounds new → HaveNoHalt (rounds_outcomes rounds)
-    → (going : PlayGoing old.session)
-    → HasSentOn going.setup going.play new.session (going.film ++ rounds_film rounds)
+    → (going : PlayGoing old.session) → HasSentOn going.setup going.play new.session (going.film ++ rounds_film rounds)
 rounds_on old new [] runs free going =
     subst (λ (s : Stage). HasSentOn going.setup going.play s.session (going.film ++ [])) (sym runs)
     (subst (HasSentOn going.setup going.play old.session) (sym (append-nil going.film)) (as_it_was going))

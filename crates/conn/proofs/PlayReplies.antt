@@ -9,7 +9,7 @@ use Rattle.slot_calendar.specs.Profiles.{capacity_at}
 use Rattle.slot_calendar.specs.declared.calendar.Overflow.{Overflow as Over}
 use Rattle.slot_calendar.proofs.FirstOverflow.{no-room, overflow-once}
 use Rattle.admission.specs.declared.entries.Answer.{Answer}
-use Rattle.admission.specs.declared.entries.Answer.TheVariants.{Admitted, Halted, Looked, Overflow}
+use Rattle.admission.specs.declared.entries.Answer.TheVariants.{Admitted, Overflow}
 use Rattle.admission.specs.declared.entries.Command.{Command}
 use Rattle.admission.specs.declared.entries.Entry.{Entry}
 use Rattle.admission.specs.Histories.{IsLegal, booked_after, open_count, state_after}
@@ -82,10 +82,9 @@ lacks_replied {old} {asking} {ask = ask} lacks NoneAsked = memory_code old ask a
 
 -- an entry was made: by the machine's answer in the state after the entries before it
 entry_decided : {terms : Terms} {journal : List Entry} {old : SessionState} {plan : List Segment} {new : SessionState}
-    (placed : PlacedEntry) (answer : Answer) →
-    HasRoomAt terms journal placed.place 2 →
-    IsAnswer terms.steps (state_after (take placed.place journal)) (play_of old.heard plan) answer →
-    IsEntryReplied old placed answer new → IsDecided terms journal old plan placed.place new
+    (placed : PlacedEntry) (answer : Answer) → HasRoomAt terms journal placed.place 2
+    → IsAnswer terms.steps (state_after (take placed.place journal)) (play_of old.heard plan) answer
+    → IsEntryReplied old placed answer new → IsDecided terms journal old plan placed.place new
 entry_decided {terms} {journal} {old} {plan} {new} placed (Admitted start) room is replied =
     let from : ℕ = start_at journal placed.place old.heard in
     let booked : ℕ → ℕ = booked_after (take placed.place journal) in
@@ -103,8 +102,7 @@ entry_decided {new} placed (Overflow slot bytes asked) room is replied =
           (replied.0, subst (λ (o : Over). new.text ≡ overflow_text replied.0 o.slot o.booked o.asked) same replied.1);
       admitted = λ has all. absurd (no-room is all);
     }
-entry_decided placed Halted room is replied = absurd is
-entry_decided placed (Looked now at booked) room is replied = absurd is
+entry_decided placed _ room is replied = absurd is
 
 -- a legal journal, from a place on
 record LegalJournal : Type 0 where

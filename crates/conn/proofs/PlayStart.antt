@@ -10,7 +10,7 @@ use Rattle.session.specs.declared.states.Play.{Play as Played}
 use Rattle.session.specs.declared.states.Prepared.{Prepared}
 use Rattle.film_streams.specs.declared.setups.Setup.{Setup}
 use Rattle.session.specs.declared.states.State.{State}
-use Rattle.session.specs.declared.states.State.TheVariants.{Init, Playing, Ready, Stopping}
+use Rattle.session.specs.declared.states.State.TheVariants.{Playing, Ready}
 use Rattle.session.specs.ResumedPlays.{IsPacedPlay}
 use Rattle.session.specs.SlotTransitions.{IsPlayIn}
 use Rattle.session.specs.SlotSteps.{admitted_in}
@@ -46,16 +46,13 @@ nothing_sent prepared place start heard later is =
 
 admitted_is : (state : State) (setup : Setup) (prepared : Prepared) (place start : ℕ) → IsReady setup state →
     admitted_in state (Play prepared) place start ≡ Playing setup (new_play prepared place start)
-admitted_is Init setup prepared place start ready = absurd ready
 admitted_is (Ready own paused) setup prepared place start ready =
     ap (λ s. Playing s (new_play prepared place start)) ready
-admitted_is (Playing own play) setup prepared place start ready = absurd ready
-admitted_is (Stopping own stop) setup prepared place start ready = absurd ready
+admitted_is _ setup prepared place start ready = absurd ready
 
 pub play_begins : {new : SessionState} {start : ℕ} {setup : Setup} {prepared : Prepared} (old : SessionState)
-    (placed : PlacedEntry) →
-    IsPlayAnswered old placed (Admitted start) new → IsReady setup old.state → old.awaited ≡ Play prepared →
-    HasBegun setup prepared placed.place start new
+    (placed : PlacedEntry) → IsPlayAnswered old placed (Admitted start) new → IsReady setup old.state
+    → old.awaited ≡ Play prepared → HasBegun setup prepared placed.place start new
 play_begins {new} {start} {setup} {prepared} old placed answered ready awaits =
     let play : Played = new_play prepared placed.place start in
     let state : new.state ≡ Playing setup play =

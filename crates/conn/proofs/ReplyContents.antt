@@ -16,8 +16,8 @@ use Rattle.session.specs.SlotSteps.{stepped_in}
 use Rattle.session.specs.SessionStates.{AwaitedAnswer, SessionState}
 use Rattle.conn.specs.InputSteps.{Outcome, Entered, WasFull, SentPart, Film, Text, Stage, ElementStep, Passed}
 use Rattle.conn.specs.InputSteps.{Answered, HasHeard, Takes as TakesElement, TakesAll, slot_parts}
-use Rattle.conn.specs.EventSteps.{Ending, Ends, Unheard, PeerEnded, Overfull, AtElement, InSlot, InReply, Round, Runs}
-use Rattle.conn.specs.EventSteps.{RunsAll, ending_outcomes, round_outcomes, rounds_outcomes, takings_outcomes}
+use Rattle.conn.specs.EventSteps.{Ending, Ends, AtElement, InReply, Round, Runs, RunsAll, ending_outcomes}
+use Rattle.conn.specs.EventSteps.{round_outcomes, rounds_outcomes, takings_outcomes}
 use Rattle.conn.specs.Films.{round_parts, rounds_parts, takings_parts}
 use Rattle.conn.specs.Plays.{ending_rounds}
 use Rattle.conn.specs.declared.reports.ConnEnd.{ConnEnd}
@@ -187,9 +187,8 @@ taking_tells {old} {new} {message} {outcome} made takes =
           (reply_told (made ++ outcome ∷ []) goes takes.answered.text told);
     }
 
-takings_tell : (made : List Outcome) (old new : Stage) (takings : List ElementStep) → IsTold made old.session.text →
-    TakesAll old takings new →
-    Tells (made ++ takings_outcomes takings) new.session (takings_parts takings)
+takings_tell : (made : List Outcome) (old new : Stage) (takings : List ElementStep) → IsTold made old.session.text
+    → TakesAll old takings new → Tells (made ++ takings_outcomes takings) new.session (takings_parts takings)
 takings_tell made old new [] told takes =
     subst (λ m. Tells m new.session []) (sym (append-nil made))
     (record { waiting = subst (λ (s : Stage). IsTold made s.session.text) (sym takes) told; sent = tt })
@@ -218,10 +217,8 @@ due_told : {made : List Outcome} {text : List ℕ} (sends waits between : Bool) 
     AreReported made (if sends then (if waits then Film bytes.before ∷
     (if between then Text text ∷ Film bytes.rest ∷ [] else []) else
     Film bytes.plain ∷ []) else [])
-due_told {made} {text} false waits between bytes told = tt
-due_told {made} {text} true false between bytes told = tt
-due_told {made} {text} true true false bytes told = tt
-due_told {made} {text} true true true bytes told = (told, tt)
+due_told true true true bytes told = (told, tt)
+due_told _ _ _ bytes told = tt
 
 slot_tells : (made : List Outcome) (old : SessionState) (slot : ℕ) → IsTold made old.text
     → AreReported made (slot_parts old slot)
@@ -243,9 +240,8 @@ comes_tells {made} {old} told (SlotCame {slot = slot} finishes) = record {
 }
 
 -- a round, and rounds
-round_tells : (made : List Outcome) (old new : Stage) (round : Round) → IsTold made old.session.text →
-    Runs old round new →
-    Tells (made ++ round_outcomes round) new.session (round_parts round)
+round_tells : (made : List Outcome) (old new : Stage) (round : Round) → IsTold made old.session.text
+    → Runs old round new → Tells (made ++ round_outcomes round) new.session (round_parts round)
 round_tells made old new round told runs =
     let first = comes_tells told (comes_as round runs.comes) in
     let opened : IsTold (made ++ round.halt ∷ []) runs.opened.session.text =
@@ -260,9 +256,8 @@ round_tells made old new round told runs =
           (subst (λ m. AreReported m (takings_parts round.takings)) all rest.sent);
     }
 
-rounds_tell : (made : List Outcome) (old new : Stage) (rounds : List Round) → IsTold made old.session.text →
-    RunsAll old rounds new →
-    Tells (made ++ rounds_outcomes rounds) new.session (rounds_parts rounds)
+rounds_tell : (made : List Outcome) (old new : Stage) (rounds : List Round) → IsTold made old.session.text
+    → RunsAll old rounds new → Tells (made ++ rounds_outcomes rounds) new.session (rounds_parts rounds)
 rounds_tell made old new [] told runs =
     subst (λ m. Tells m new.session []) (sym (append-nil made))
     (record { waiting = subst (λ (s : Stage). IsTold made s.session.text) (sym runs) told; sent = tt })
@@ -290,13 +285,9 @@ pub record CourseEnd (old : Stage) (ending : Ending) : Type 0 where
 -- the last round
 ending_tells : {made : List Outcome} {old : Stage} (ending : Ending) → IsTold made old.session.text →
     CourseEnd old ending → AreReported (made ++ ending_outcomes ending) (rounds_parts (ending_rounds ending))
-ending_tells {made} Unheard told ended = tt
-ending_tells {made} PeerEnded told ended = tt
-ending_tells {made} (Overfull bytes) told ended = tt
 ending_tells {made} {old} (AtElement round) told ended =
     are_both (made ++ round_outcomes round) (round_parts round) []
     (round_tells made old ended.new round told ended.ends.0).sent tt
-ending_tells {made} (InSlot slot front) told ended = tt
 ending_tells {made} {old} (InReply round message outcome front) told ended =
     let first = round_tells made old ended.ends.1.mid round told ended.ends.1.runs in
     let all : (made ++ round_outcomes round) ++ outcome ∷ [] ≡ made ++ (round_outcomes round ++ outcome ∷ []) =
@@ -304,6 +295,7 @@ ending_tells {made} {old} (InReply round message outcome front) told ended =
     subst (λ m. AreReported m (rounds_parts (round ∷ []))) all
     (are_more (made ++ round_outcomes round) (outcome ∷ []) (round_parts round ++ [])
     (are_both (made ++ round_outcomes round) (round_parts round) [] first.sent tt))
+ending_tells _ told ended = tt
 
 pub parts-more : (rounds more : List Round) → rounds_parts (rounds ++ more) ≡ rounds_parts rounds ++ rounds_parts more
 parts-more = joined-append round_parts rounds_parts refl (λ x xs. refl)
@@ -316,9 +308,8 @@ unfolding digits
 nothing_told = record { overflow = λ is. absurd (no_digits 52 53 51 is); full = λ is. absurd (no_digits 53 48 51 is) }
 
 -- over an entire course
-pub course_tells : {ending : Ending} (old mid : Stage) (rounds : List Round) → old.session.text ≡ [] →
-    RunsAll old rounds mid →
-    CourseEnd mid ending
+pub course_tells : {ending : Ending} (old mid : Stage) (rounds : List Round) → old.session.text ≡ []
+    → RunsAll old rounds mid → CourseEnd mid ending
     → AreReported (rounds_outcomes rounds ++ ending_outcomes ending) (rounds_parts (rounds ++ ending_rounds ending))
 course_tells {ending} old mid rounds none runs ended =
     let made : List Outcome = rounds_outcomes rounds ++ ending_outcomes ending in

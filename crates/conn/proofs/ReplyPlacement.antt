@@ -111,9 +111,8 @@ due_stand session slot going =
       plain = step_bytes false slot session.state;
     }) session.text (subst State' (sym going.state) stands)
 
-none_stand : (goes : Bool) (pieces : List (List ℕ)) (place : ℕ) (parts : List SentPart) →
-    (goes ≡ true → StandBetween pieces place parts) →
-    StandBetween pieces place (if goes then parts else [])
+none_stand : (goes : Bool) (pieces : List (List ℕ)) (place : ℕ) (parts : List SentPart)
+    → (goes ≡ true → StandBetween pieces place parts) → StandBetween pieces place (if goes then parts else [])
 none_stand true pieces place parts stands = stands refl
 none_stand false pieces place parts stands = tt
 

@@ -5,7 +5,6 @@ use Rattle.film_frames.specs.declared.stored_films.Stored.{Stored}
 use Rattle.film_frames.specs.FramedRuns.{run_pieces}
 use Rattle.film_run.specs.declared.runs.Run.{Run}
 use Rattle.film_run.specs.Laws.{IsSending}
-use Rattle.film_run.specs.Plans.{IsPlayback}
 use Rattle.film_run.specs.Units.{stored_sizes}
 use Rattle.pacer.specs.PacerStates.{PacerState}
 use Rattle.session.specs.declared.commands.Ask.{Ask}
@@ -184,23 +183,9 @@ carried : {old new : SessionState} {film : List ℕ} → IsWell old film → IsK
 carried {old} {film = film} well kept state =
     kept_well well kept (subst (IsStateOf (ground_of old film)) (sym state) well.state)
 
--- a film is played back within the ranges of its settings and of what SETUP settled
-playback_fits : {stored : Stored} {settings : Settings} {setup : Setup} {films : ℕ} → IsShown stored →
-    AreSettings settings → IsSetup films setup → IsPlayback (playback_of stored.film settings setup)
-playback_fits shown good values = record {
-  some_picture_units = shown.some_time;
-  picture_units_fit = shown.time_fits;
-  some_slot_units = omega (arith, good.long_slots);
-  slot_units_fit = good.short_slots;
-  some_buffer = values.some_buffer;
-  buffer_fits = values.most_buffer;
-  delay_fits = values.most_delay;
-}
-
 -- a PLAY in Ready
-prepared_well : {old new : SessionState} {film : List ℕ} → IsWell old film → IsSameContext old new →
-    new.state ≡ old.state → IsPlayAsked old new →
-    HasPrepared new.films new.source new.settings new.state new.awaited
+prepared_well : {old new : SessionState} {film : List ℕ} → IsWell old film → IsSameContext old new
+    → new.state ≡ old.state → IsPlayAsked old new → HasPrepared new.films new.source new.settings new.state new.awaited
 prepared_well {old} {new} {film} well same state is =
     let values : IsSetup (length old.films) is.setup =
     subst (IsStateOf (ground_of old film)) is.ready well.state in
@@ -218,7 +203,15 @@ prepared_well {old} {new} {film} well same state is =
       sending = record {
         can_play = record {
           sizes_are = shown.sizes;
-          playback_is = playback_fits shown well.settings values;
+          playback_is = record {
+            some_picture_units = shown.some_time;
+            picture_units_fit = shown.time_fits;
+            some_slot_units = omega (arith, well.settings.long_slots);
+            slot_units_fit = well.settings.short_slots;
+            some_buffer = values.some_buffer;
+            buffer_fits = values.most_buffer;
+            delay_fits = values.most_delay;
+          };
           run_is = planned.goes_on.run_is;
           fits = planned.goes_on.fits;
         };
@@ -233,8 +226,7 @@ prepared_well {old} {new} {film} well same state is =
 -- a PAUSE or a TEARDOWN in Playing
 halted_to : {halted : Type 0} (next : AfterHalt) → halted → IsHaltedTo next halted
 halted_to Done is = tt
-halted_to (Paused run) is = is
-halted_to Torn is = is
+halted_to _ is = is
 
 halting_well : {old new : SessionState} {film : List ℕ} → IsWell old film → IsSameContext old new → IsHaltAsked old new
     → IsHalting new film

@@ -29,9 +29,8 @@ entry_receipts-append (EntryReceipt place answer ∷ xs) ys =
 entry_receipts-append (FullReceipt entries live ∷ xs) ys = entry_receipts-append xs ys
 
 -- no entry was made, and the receipts list none
-pub gone_none : {old new : ReservationState} (full : List Receipt) → new.mine ≡ old.mine → new.booking ≡ old.booking →
-    new.receipts ≡ old.receipts ++ full → entry_receipts full ≡ [] →
-    HasAdvanced old new
+pub gone_none : {old new : ReservationState} (full : List Receipt) → new.mine ≡ old.mine → new.booking ≡ old.booking
+    → new.receipts ≡ old.receipts ++ full → entry_receipts full ≡ [] → HasAdvanced old new
 gone_none {old} {new} full mine booking receipts none = record {
   made = [];
   mine_is = mine ∙ sym (append-nil old.mine);
@@ -79,17 +78,14 @@ open_among_more mine placed number keep other among = record {
 pub held_at_look : {slot : ℕ} (mine : List PlacedEntry) (placed : PlacedEntry) (booking : Option Booking)
     (play : Option OpenBooking) → placed.entry.command ≡ Look slot →
     IsHeld mine booking play → IsHeld (mine ++ placed ∷ []) booking play
-held_at_look {slot} mine placed None None is held = held
-held_at_look {slot} mine placed None (Some play) is held = held
-held_at_look {slot} mine placed (Some booking) None is held = held
 held_at_look {slot} mine placed (Some booking) (Some play) is held =
     λ keep small. open_among_more mine placed booking.number keep
     (subst (λ (c : Command). ¬ Halts booking.number c) (sym is) (λ h. h)) (held keep small)
+held_at_look mine placed _ _ is held = held
 
 -- a booking is held as more of its plan becomes due
-pub held_same : (mine : List PlacedEntry) (booking : Option Booking) (old new : Option OpenBooking) → IsSameBooking old
-    new
-    → IsHeld mine booking old → IsHeld mine booking new
+pub held_same : (mine : List PlacedEntry) (booking : Option Booking) (old new : Option OpenBooking)
+    → IsSameBooking old new → IsHeld mine booking old → IsHeld mine booking new
 held_same mine booking None new same held = subst (IsHeld mine booking) (sym same) held
 held_same mine booking (Some old) None same held = absurd same
 held_same mine None (Some old) (Some new) same held = held
@@ -111,12 +107,6 @@ gone_entry {old} {placed = placed} was entered opened = record {
   receipts_are = ap entry_receipts entered.receipts ∙ entry_receipts-append old.receipts (receipt_for placed ∷ []);
   open_is = ap (λ b. open_play_with (open_play_of b) placed) was ∙ opened;
 }
-
--- the calls at the station, each with what it leaves
-pub gone_full : {old new : ReservationState} (entries live : ℕ) → new.mine ≡ old.mine → new.booking ≡ old.booking →
-    new.receipts ≡ old.receipts ++ FullReceipt entries live ∷ [] → HasAdvanced old new
-gone_full {new} entries live mine booking receipts =
-    gone_none (FullReceipt entries live ∷ []) mine booking receipts refl
 
 -- a look leaves the booking, and a halt none
 pub at_look : (booking : Option Booking) (place maker slot now at booked : ℕ) → open_play_with (open_play_of booking)
@@ -144,9 +134,8 @@ kept_none seat connection quiet = record {
 }
 
 -- one call after another
-pub kept_on : {a b c : SeatState} {old mid new : Connection} → KeepsReservations a b old mid → KeepsReservations b c mid
-    new →
-    KeepsReservations a c old new
+pub kept_on : {a b c : SeatState} {old mid new : Connection} → KeepsReservations a b old mid
+    → KeepsReservations b c mid new → KeepsReservations a c old new
 kept_on {a} {b} {c} {old} {mid} {new} first second = record {
   seat = seat_on a b c first.seat second.seat;
   quiet = second.quiet;
@@ -164,10 +153,9 @@ kept_moved seat connection input quiet = record {
 }
 
 -- more of a play became due
-pub kept_due : {a b : Connection} (seat : SeatState) → IsQuiet seat.mine a → AwaitsNoAnswer b.session →
-    b.booking ≡ a.booking →
-    IsSameBooking (open_of a.session) (open_of b.session) → b.session.receipts ≡ a.session.receipts →
-    KeepsReservations seat seat a b
+pub kept_due : {a b : Connection} (seat : SeatState) → IsQuiet seat.mine a → AwaitsNoAnswer b.session
+    → b.booking ≡ a.booking → IsSameBooking (open_of a.session) (open_of b.session)
+    → b.session.receipts ≡ a.session.receipts → KeepsReservations seat seat a b
 kept_due {a} {b} seat quiet rest booking opens receipts = record {
   seat = seat_none seat;
   quiet = record {
@@ -179,9 +167,8 @@ kept_due {a} {b} seat quiet rest booking opens receipts = record {
 }
 
 -- what a call leaves, after another one that made no entry, or before it
-pub kept_after : {old next : SeatState} {a mid b : Connection} → mid.booking ≡ a.booking →
-    mid.session.receipts ≡ a.session.receipts →
-    KeepsReservations old next mid b → KeepsReservations old next a b
+pub kept_after : {old next : SeatState} {a mid b : Connection} → mid.booking ≡ a.booking
+    → mid.session.receipts ≡ a.session.receipts → KeepsReservations old next mid b → KeepsReservations old next a b
 kept_after {old} {next} {a} {mid} {b} booking receipts kept = record {
   seat = kept.seat;
   quiet = kept.quiet;

@@ -8,7 +8,7 @@ use Rattle.admission.specs.Histories.{state_after}
 use Rattle.admission.specs.Machine.{IsAnswer, State as Journal, booked_in, start_after}
 use Rattle.admission.specs.Makers.{PlacedEntry, entries_by}
 use Rattle.admission.specs.declared.entries.Command.{Command}
-use Rattle.admission.specs.declared.entries.Command.TheVariants.{Play, Halt, Look}
+use Rattle.admission.specs.declared.entries.Command.TheVariants.{Play}
 use Rattle.admission.specs.declared.entries.Entry.{Entry}
 use Rattle.plan_cert.specs.declared.Segment.{Segment}
 use Rattle.slot_calendar.specs.Calendars.{IsFirstOverflow}
@@ -32,17 +32,13 @@ IsEntryAmong mine (WasFull more entries live) = Unit {0}
 IsEntryAmong mine (Offered at_slot note) = Unit {0}
 
 among_own : (outcome : Outcome) (rest : List PlacedEntry) → IsEntryAmong (entry_in outcome ++ rest) outcome
-among_own Unasked rest = tt
 among_own (Entered placed) rest = Contains-append_left (placed ∷ []) rest placed (Contains-push [] placed)
-among_own (WasFull more entries live) rest = tt
-among_own (Offered at_slot note) rest = tt
+among_own _ rest = tt
 
 among_more : (before mine : List PlacedEntry) (outcome : Outcome) → IsEntryAmong mine outcome
     → IsEntryAmong (before ++ mine) outcome
-among_more before mine Unasked among = tt
 among_more before mine (Entered placed) among = Contains-append_right before mine placed among
-among_more before mine (WasFull more entries live) among = tt
-among_more before mine (Offered at_slot note) among = tt
+among_more before mine _ among = tt
 
 all_among : (made : List Outcome) → All (IsEntryAmong (entries_in made)) made
 all_among [] = All-nil (IsEntryAmong [])
@@ -76,8 +72,7 @@ overflow_stands : {command : Command} (over : Over) (steps : List CapStep) (befo
     (heard : ℕ) × ((plan : List Segment) × ((command ≡ Play heard plan)
     × IsFirstOverflow 0 (booked_in before) (capacity_at steps) (start_after before heard) plan over))
 overflow_stands {command = Play heard plan} over steps before is = (heard, (plan, (refl, is)))
-overflow_stands {command = Halt number keep} over steps before is = absurd is
-overflow_stands {command = Look at} over steps before is = absurd is
+overflow_stands {command = _} over steps before is = absurd is
 
 overflow_seen : {seat : SeatState} {made : List Outcome} (text : List ℕ) → SeatEntries seat made → TellsOver made text →
     ReportsOverflowOf (terms_of seat) seat.seen made text

@@ -30,7 +30,7 @@ use Rattle.session.specs.RequestSteps.{halted_counts}
 use Rattle.film_streams.specs.SettingRanges.{AreSettings, IsSetup}
 use Rattle.session.specs.SlotSteps.{after_play, after_slot, can_reply, halted_in, halted_notes, is_between}
 use Rattle.session.specs.SlotSteps.{is_done_in, is_sending, kept_of, next_of, note_of, sent_due, sent_in, sent_reply}
-use Rattle.session.specs.SlotSteps.{sent_slot, state_once_halted, stepped_in}
+use Rattle.session.specs.SlotSteps.{state_once_halted, stepped_in}
 use Rattle.session.specs.SessionStates.{AwaitedAnswer, SessionState}
 use Rattle.session.specs.SlotTransitions.{IsPlayIn, after_stop}
 use Rattle.conn.specs.InputSteps.{Outcome, Entered, Stage, ElementStep, Passed, Answered, HasHeard, IsPlayAnswered}
@@ -148,11 +148,9 @@ halted_well {old} {film} placed well = record {
 -- where no PAUSE and no TEARDOWN waits for it, a halt leaves no play
 halting_in : (ground : Ground) (awaited : Awaited) (state : State) → next_of awaited ≡ Done →
     IsStateOf ground state → IsHaltingIn ground awaited state
-halting_in ground awaited Init none is = tt
-halting_in ground awaited (Ready setup paused) none is = is
 halting_in ground awaited (Playing setup play) none is =
     (is.0, subst (λ n. IsHaltedTo n (IsHaltAwaited ground awaited setup play)) (sym none) tt)
-halting_in ground awaited (Stopping setup stop) none is = is
+halting_in ground awaited _ none is = is
 
 halting_of : (s : SessionState) (film : List ℕ) → IsWell s film → IsHalting s film
 halting_of s film well = record {
@@ -192,13 +190,9 @@ heard_well {old} {message = message} {outcome} {film} well heard =
     (answers_as heard.ask outcome heard.answered)
 
 -- a reply that was sent
-settled_well : (ground : Ground) (state : State) →
-    IsStateOf ground state →
-    IsStateOf ground (after_stop state)
-settled_well ground Init is = is
-settled_well ground (Ready setup paused) is = is
-settled_well ground (Playing setup play) is = is
+settled_well : (ground : Ground) (state : State) → IsStateOf ground state → IsStateOf ground (after_stop state)
 settled_well ground (Stopping setup stop) is = is.0
+settled_well ground _ is = is
 
 reply_well : (goes : Bool) (s : SessionState) (film : List ℕ) → IsWell s film
     → IsWell (if goes then sent_reply s else s) film
@@ -211,9 +205,8 @@ reply_well true s film well = record {
 }
 
 -- one element, and elements
-pub taking_well : (old new : Stage) (taking : ElementStep) (film : List ℕ) → Takes old taking new → IsWell old.session
-    film →
-    IsWell new.session (film_taken film (taking ∷ []))
+pub taking_well : (old new : Stage) (taking : ElementStep) (film : List ℕ) → Takes old taking new
+    → IsWell old.session film → IsWell new.session (film_taken film (taking ∷ []))
 taking_well old new (Passed n) film takes well = subst (λ (s : Stage). IsWell s.session film) (sym takes.2) well
 taking_well old new (Answered message outcome parts) film takes well =
     let since : List ℕ = film_since film outcome in
@@ -225,9 +218,8 @@ taking_well old new (Answered message outcome parts) film takes well =
     let same : since ≡ since ++ film_bytes parts = sym (append-nil since) ∙ ap (λ bs. since ++ bs) (sym none) in
     subst (IsWell new.session) same (subst (λ (s : Stage). IsWell s.session since) (sym takes.new_is) after)
 
-pub takes_well : (old new : Stage) (takings : List ElementStep) (film : List ℕ) → TakesAll old takings new →
-    IsWell old.session film →
-    IsWell new.session (film_taken film takings)
+pub takes_well : (old new : Stage) (takings : List ElementStep) (film : List ℕ) → TakesAll old takings new
+    → IsWell old.session film → IsWell new.session (film_taken film takings)
 takes_well old new [] film takes well = subst (λ (s : Stage). IsWell s.session film) (sym takes) well
 takes_well old new (Passed n ∷ takings) film takes well =
     takes_well takes.0 new takings film takes.1.1 (taking_well old takes.0 (Passed n) film takes.1.0 well)
@@ -291,12 +283,10 @@ IsOff films (Ready setup paused) = IsSetup films setup
 IsOff films (Playing setup play) = ⊥
 IsOff films (Stopping setup stop) = ⊥
 
-off_state : (ground : Ground) (state : State) → IsOff (length ground.films) state →
-    IsStateOf ground state
+off_state : (ground : Ground) (state : State) → IsOff (length ground.films) state → IsStateOf ground state
 off_state ground Init off = tt
 off_state ground (Ready setup paused) off = off
-off_state ground (Playing setup play) off = absurd off
-off_state ground (Stopping setup stop) off = absurd off
+off_state ground _ off = absurd off
 
 -- a slot leaves a session well where it leaves the state so
 slot_well : {film more : List ℕ} (old : SessionState) (slot : ℕ) → IsWell old film
@@ -389,9 +379,8 @@ round_well old new round film well runs =
     takes_well runs.opened new round.takings (film ++ film_bytes round.due) runs.takes
     (comes_well (comes_as round runs.comes) well)
 
-pub rounds_well : (old new : Stage) (rounds : List Round) (film : List ℕ) → IsWell old.session film →
-    RunsAll old rounds new →
-    IsWell new.session (film_in film rounds)
+pub rounds_well : (old new : Stage) (rounds : List Round) (film : List ℕ) → IsWell old.session film
+    → RunsAll old rounds new → IsWell new.session (film_in film rounds)
 rounds_well old new [] film well runs = subst (λ (s : Stage). IsWell s.session film) (sym runs) well
 rounds_well old new (round ∷ rounds) film well runs =
     rounds_well runs.0 new rounds (film_taken (film ++ film_bytes round.due) round.takings)

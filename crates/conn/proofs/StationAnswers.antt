@@ -1,6 +1,6 @@
 -- What the station can answer to a session, and what an event can bring, case by case.
 use Rattle.std.proofs.Common.{◌≡◌, ℕ, ◌++◌, List, [], refl, sym, subst}
-use Rattle.vod_base.specs.Links.{IoEvent, HeardBytes, HeardEnd, HeardSlot, Sent}
+use Rattle.vod_base.specs.Links.{IoEvent, HeardBytes, HeardSlot}
 use Rattle.admission.specs.declared.entries.Answer.{Answer}
 use Rattle.admission.specs.declared.entries.Answer.TheVariants.{Admitted, Halted, Looked, Overflow}
 use Rattle.admission.specs.declared.entries.Command.TheVariants.{Halt as HaltCommand}
@@ -14,8 +14,7 @@ use Rattle.session.specs.declared.commands.Ask.TheVariants.{Look as AskLook, Off
 use Rattle.session.specs.RequestSteps.{after_admission, after_full, after_halt, after_look, after_offer}
 use Rattle.session.specs.RequestSteps.{after_overflow}
 use Rattle.session.specs.SlotSteps.{after_slot}
-use Rattle.session.specs.SessionStates.{AwaitedAnswer, NoAnswer, PlayAnswer, HaltAnswer, LookAnswer, OfferAnswer}
-use Rattle.session.specs.SessionStates.{SessionState, awaited_answer}
+use Rattle.session.specs.SessionStates.{AwaitedAnswer, NoAnswer, HaltAnswer, SessionState, awaited_answer}
 use Rattle.session_records.specs.declared.notes.OfferNote.{OfferNote}
 use Rattle.conn.specs.EventSteps.{Comes, Round}
 use Rattle.conn.specs.InputSteps.{IsAskAnswered, IsFinished, IsHalted, IsLookAnswered, IsPlayAnswered, Outcome}
@@ -84,25 +83,20 @@ module _ {old new : SessionState} where
       (PlayAdmitted entry (subst (IsPlayAnswered old placed (Admitted start)) answered.1 answered))
   play_as {plan} {placed} (Overflow slot booked asked) entry answered =
       subst (AnswersAs old (AskPlay plan) (Entered placed)) (sym answered) (PlayOverflowed entry)
-  play_as Halted entry answered = absurd answered
-  play_as (Looked now at booked) entry answered = absurd answered
+  play_as _ entry answered = absurd answered
 
   look_as : {slot : ℕ} {placed : PlacedEntry} (answer : Answer) → placed.entry.answer ≡ answer
       → IsLookAnswered old placed answer new → AnswersAs old (AskLook slot) (Entered placed) new
   look_as {slot} {placed} (Looked now at booked) is answered =
       subst (AnswersAs old (AskLook slot) (Entered placed)) (sym answered) (LookMade is)
-  look_as (Admitted start) is answered = absurd answered
-  look_as (Overflow slot booked asked) is answered = absurd answered
-  look_as Halted is answered = absurd answered
+  look_as _ is answered = absurd answered
 
   done_as : {keep : ℕ} (outcome : Outcome) → IsHalted old keep outcome new
       → FinishesAs old (HaltAnswer keep) outcome new
   done_as {keep} (Entered placed) halted =
       subst (FinishesAs old (HaltAnswer keep) (Entered placed)) (sym halted.halts)
       (DoneHalted (record { number = halted.number; command = halted.command; answer_is = halted.answer }))
-  done_as Unasked halted = absurd halted
-  done_as (WasFull more entries live) halted = absurd halted
-  done_as (Offered at_slot note) halted = absurd halted
+  done_as _ halted = absurd halted
 
   pub answers_as : (ask : Ask) (outcome : Outcome) → IsAskAnswered old ask outcome new → AnswersAs old ask outcome new
   answers_as AskReply Unasked answered = subst (AnswersAs old AskReply Unasked) (sym answered) NoneAsked
@@ -116,19 +110,13 @@ module _ {old new : SessionState} where
       subst (AnswersAs old (AskLook slot) (WasFull more entries live)) (sym answered.0) LookFull
   answers_as (AskOffer plan offers) (Offered at_slot note) answered =
       subst (AnswersAs old (AskOffer plan offers) (Offered at_slot note)) (sym answered.2) OfferMade
-  answers_as AskReply _ answered = absurd answered
-  answers_as (AskPlay plan) _ answered = absurd answered
-  answers_as (AskLook slot) _ answered = absurd answered
-  answers_as (AskOffer plan offers) _ answered = absurd answered
+  answers_as _ _ answered = absurd answered
 
   pub finishes_as : (asks : AwaitedAnswer) (outcome : Outcome) → IsFinished asks old outcome new
       → FinishesAs old asks outcome new
   finishes_as NoAnswer Unasked is = subst (FinishesAs old NoAnswer Unasked) (sym is) NothingLeft
   finishes_as (HaltAnswer keep) outcome is = done_as outcome is
-  finishes_as NoAnswer _ is = absurd is
-  finishes_as (PlayAnswer plan) outcome is = absurd is
-  finishes_as LookAnswer outcome is = absurd is
-  finishes_as OfferAnswer outcome is = absurd is
+  finishes_as _ _ is = absurd is
 
 abbrev round_of : IoEvent → List SentPart → Outcome → List ElementStep → Round
 round_of event due halt takings = record { event = event; due = due; halt = halt; takings = takings }
@@ -146,8 +134,7 @@ event_as {old} {new} (HeardSlot slot) due halt takings comes =
     (subst (λ ps. ComesAs old (round_of (HeardSlot slot) ps halt takings) (stage new.session old.input))
     (sym comes.1.parts_are)
     (SlotCame (finishes_as (awaited_answer (after_slot old.session slot)) halt comes.1.finished)))
-event_as HeardEnd due halt takings comes = absurd comes
-event_as (Sent byte) due halt takings comes = absurd comes
+event_as _ due halt takings comes = absurd comes
 
 pub comes_as : {old new : Stage} (round : Round) → Comes old round.event round.due round.halt new
     → ComesAs old round new

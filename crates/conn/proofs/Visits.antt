@@ -7,7 +7,6 @@ use Rattle.std.proofs.lemmas.Option.{slice_get-get_or, slice_get_within}
 use mathlib.Core.List.{IsPrefix}
 use Rattle.vod_base.specs.Gates.{ReturnedConn}
 use Rattle.vod_base.specs.Links.{IoEvent}
-use Rattle.vod_base.specs.IoState.{HasRisen}
 use Rattle.film_frames.specs.declared.stored_films.Stored.{Stored}
 use Rattle.admission.specs.declared.entries.Entry.{Entry}
 use Rattle.admission.specs.Histories.{IsLegal, booked_after, state_after}
@@ -28,9 +27,8 @@ use Rattle.conn.specs.InputSteps.{Outcome, SentPart, Film, Text}
 use Rattle.conn.specs.EventSteps.{ending_outcomes, entries_in, rounds_outcomes}
 use Rattle.conn.specs.Films.{rounds_parts}
 use Rattle.conn.specs.Plays.{ending_rounds}
-use Rattle.conn.specs.ReservationInvariant.{Closed, HasAdvanced, at_rest, open_play_from}
+use Rattle.conn.specs.ReservationInvariant.{Closed, open_play_from}
 use Rattle.conn.specs.Observations.{AreNoted}
-use Rattle.conn.specs.declared.reports.ConnEnd.TheVariants.{LinkFault}
 use Rattle.conn.specs.declared.reports.ConnReport.{ConnReport}
 use Rattle.conn.proofs.Journals.{LongerJournal, agree_longer, same_journal, terms_same}
 use Rattle.conn.proofs.CourseSteps.{noted_on}

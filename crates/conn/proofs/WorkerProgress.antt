@@ -26,8 +26,8 @@ use Rattle.conn.specs.declared.reports.PartEnd.TheVariants.{AllTaken, GateFault,
 use Rattle.conn.specs.EventSteps.{ending_doings, rounds_doings}
 use Rattle.conn.specs.Guarantees.{MeetsGuarantee}
 use Rattle.conn.specs.ConnectionService.{ConnectionSpec}
-use Rattle.conn.specs.ReservationInvariant.{ReservationState, HasAdvanced, Closed, at_rest, open_play_from, open_play_of}
-use Rattle.conn.specs.ReservationInvariant.{open_play_with, entry_receipts, receipt_for}
+use Rattle.conn.specs.ReservationInvariant.{ReservationState, HasAdvanced, Closed, at_rest, open_play_from}
+use Rattle.conn.specs.ReservationInvariant.{open_play_of, open_play_with, entry_receipts, receipt_for}
 use Rattle.conn.specs.Parts.{AreOf, AreReported, AreServed, HasServed, HasServedOne, IsServed, IsUntouched}
 use Rattle.conn.specs.Parts.{WorkerGate, WorkerInput, WorkerSpec, entries_reported, fresh_history}
 use Rattle.conn.specs.Words.{words_of}
@@ -107,20 +107,18 @@ served_out (Some old) None new count served is = absurd served
 served_out (Some old) (Some mid) new count served is =
     subst (λ c. IfSome c HasConnOut) (sym is) (omega (arith, served.given, served.back))
 
-served_one : {new : Option Content} {conn : ReturnedConn} (old mid : Option Content) (count : ℕ) →
-    IsServed old mid count → TakenBack mid new conn → IsServed old new (count + 1)
-served_one {conn = conn} None mid count served back =
-    back_is back ∙ ap (λ c. option_map (after_return conn) (option_map after_take c)) served
-served_one (Some old) None count served back = absurd served
-served_one {conn = conn} (Some old) (Some mid) count served back =
-    subst (λ c. IsServed (Some old) c (count + 1)) (sym (back_is back)) (record {
-      openings = served.openings;
-      opening = served.opening;
-      parts = served.parts;
-      number = served.number;
-      given = ap (λ n. n + 1) served.given;
-      back = length-append mid.own.back (conn ∷ []) ∙ ap (λ n. n + 1) served.back;
-    })
+served_one : (conn : ReturnedConn) (old mid : Option Content) (count : ℕ) → IsServed old mid count
+    → IsServed old (option_map (after_return conn) (option_map after_take mid)) (count + 1)
+served_one conn None mid count served = ap (λ c. option_map (after_return conn) (option_map after_take c)) served
+served_one conn (Some old) None count served = absurd served
+served_one conn (Some old) (Some mid) count served = record {
+  openings = served.openings;
+  opening = served.opening;
+  parts = served.parts;
+  number = served.number;
+  given = ap (λ n. n + 1) served.given;
+  back = length-append mid.own.back (conn ∷ []) ∙ ap (λ n. n + 1) served.back;
+}
 
 served_last : (old mid : Option Content) (count : ℕ) (last : LastTake) → IsServed old mid count
     → IsServed old (option_map (after_empty_take last) mid) count
@@ -153,9 +151,8 @@ record ReportsHold (P : ConnReport → ℕ → Type 0) (reports : List ConnRepor
   each : ((k : ℕ) (none : ConnReport) → k < length reports → P (get_or reports k none) k)
   last : P report (length reports)
 
-at_end : {report : ConnReport} (P : ConnReport → ℕ → Type 0) (reports : List ConnReport) →
-    ReportsHold P reports report → (k : ℕ) (none : ConnReport) → k < length (reports ++ report ∷ []) →
-    P (get_or (reports ++ report ∷ []) k none) k
+at_end : {report : ConnReport} (P : ConnReport → ℕ → Type 0) (reports : List ConnReport) → ReportsHold P reports report
+    → (k : ℕ) (none : ConnReport) → k < length (reports ++ report ∷ []) → P (get_or (reports ++ report ∷ []) k none) k
 at_end {report} P reports hold k none within =
     elim (cases_lt k (length reports)) [
       | inl before ↦ subst (λ r. P r k) (sym (get_or_append_left reports (report ∷ []) none k before))
@@ -204,13 +201,12 @@ fresh_is : (old new : Option (List IoEvent)) (doings : List IoEvent) → IfSome 
 fresh_is None new doings fresh is = sym (ap fresh_history is)
 fresh_is (Some told) new doings fresh is = ap Some fresh ∙ sym (ap fresh_history is)
 
-pub served_fresh : (s : Service) → (s.given.faults ≡ 0) × IfSome s.given.told (λ told. told ≡ []) →
-    s.report.words ≡ s.words →
-    ConnectionSpec (session_of s) s.given.told s.returned.told s.seat s.next s.report →
-    MeetsGuarantee (session_of s) s.given.told s.returned.told s.seat s.next s.report →
-    HasAdvanced (at_rest s.seat.mine []) (at_rest s.next.mine s.report.receipts.items) →
-    (s.report.end ≡ LinkFault → HasRisen s.given.faults s.returned.faults) →
-    HasServedOne s.films s.settings s.returned s.report s.seat s.next
+pub served_fresh : (s : Service) → (s.given.faults ≡ 0) × IfSome s.given.told (λ told. told ≡ [])
+    → s.report.words ≡ s.words → ConnectionSpec (session_of s) s.given.told s.returned.told s.seat s.next s.report
+    → MeetsGuarantee (session_of s) s.given.told s.returned.told s.seat s.next s.report
+    → HasAdvanced (at_rest s.seat.mine []) (at_rest s.next.mine s.report.receipts.items)
+    → (s.report.end ≡ LinkFault → HasRisen s.given.faults s.returned.faults)
+    → HasServedOne s.films s.settings s.returned s.report s.seat s.next
 served_fresh s fresh words served keeps entries fault =
     let told = s.returned.told in
     let more = told_after s served in
@@ -305,8 +301,9 @@ one_served {input} {old} {mid} {new} front more =
       seat = seat_on old.seat mid.seat new.seat front.seat more.seat;
       entries = has_one mid.reports report front.entries more.entries;
       each = are_more mid.reports report front.each more.worker more.words;
-      served = subst (IsServed old.gate.told new.gate.told) (sym (length-append mid.reports (report ∷ [])))
-          (served_one old.gate.told mid.gate.told (length mid.reports) front.served more.back);
+      served = subst (λ t. IsServed old.gate.told t (length reports)) (sym (back_is more.back))
+          (subst (IsServed old.gate.told _) (sym (length-append mid.reports (report ∷ [])))
+          (served_one more.returned old.gate.told mid.gate.told (length mid.reports) front.served));
       connections = subst (λ t. AreReported input.films input.settings t reports old.seat new.seat)
           (sym (back_is more.back)) (told_one input more.one old.seat mid.reports mid.gate.told front.connections);
       count = omega (arith, front.count, more.count);

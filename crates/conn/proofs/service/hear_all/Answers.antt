@@ -1,8 +1,7 @@
-use Rattle.std.proofs.Common.{◌≡◌, List, length, Option, rules, refl, ap, arith, Some}
+use Rattle.std.proofs.Common.{◌≡◌, List, length, Option, rules, refl, subst, sym, arith, Some}
 use Rattle.vod_base.specs.Links.{IoEvent}
-use Rattle.conn.specs.declared.reports.ConnEnd.TheVariants.{TurnsSpent}
-use Rattle.conn.specs.Observations.{observed}
-use Rattle.conn.specs.InputSteps.{stage}
+use Rattle.conn.specs.declared.reports.ConnEnd.TheVariants.{LinkFault, TurnsSpent}
+use Rattle.conn.specs.Observations.{HasCourse, observed}
 use Rattle.conn.proofs.FaultCounts.{counted_fault, counted_on, counted_same}
 use Rattle.conn.proofs.ReservationSteps.{kept_none, kept_on}
 use Rattle.conn.proofs.CourseSteps.{goes_on, run_end, run_none, run_on, run_over}
@@ -10,12 +9,10 @@ use Rattle.conn.proofs.service.hear_all.Goals as goal
 
 pub returns-in_default-clause-course : goal.returns-in_default-clause-course
 returns-in_default-clause-course g c =
-    run_over c.events.invariant.3 c.events-test.true
-    (ap (λ (t : Option (List IoEvent)). record {
-      stage = stage c.events.connection.session c.events.connection.input;
-      told = t;
-      seat = c.events.seat;
-    }) c.in_default.ensures.lost)
+    subst (λ (t : Option (List IoEvent)). HasCourse LinkFault
+    (observed c.args.connection.now (g.K.Link.told c.args.link.now) c.args.seat.now)
+    (observed c.events.connection t c.events.seat)) (sym c.in_default.ensures.lost)
+    (run_over c.events.invariant.3 c.events-test.true)
 
 pub returns-in-Some-clause-course : goal.returns-in-Some-clause-course
 returns-in-Some-clause-course g c =
@@ -57,7 +54,7 @@ events-preserved g c =
 pub returns-clause-course : goal.returns-clause-course
 returns-clause-course g c =
     let spent : c.events._event ≡ 1099511627776 = search rules in
-    run_over c.events.invariant.3 spent refl
+    run_over c.events.invariant.3 spent
 
 pub returns-in_default-clause-counted : goal.returns-in_default-clause-counted
 returns-in_default-clause-counted g c =

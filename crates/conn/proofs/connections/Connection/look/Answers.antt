@@ -1,6 +1,7 @@
-use Rattle.std.proofs.Common.{refl, rules}
+use Rattle.std.proofs.Common.{[], ◌∷◌, refl, rules}
+use Rattle.session_records.specs.declared.notes.Receipt.TheVariants.{Full as FullReceipt}
 use Rattle.conn.proofs.Outcomes.{answered_entry, answered_full}
-use Rattle.conn.proofs.ReservationSteps.{at_look, gone_entry, gone_full, held_at_look}
+use Rattle.conn.proofs.ReservationSteps.{at_look, gone_entry, gone_none, held_at_look}
 use Rattle.conn.proofs.connections.Connection.look.Goals as goal
 
 pub returns-in-Ok-clause-kept : goal.returns-in-Ok-clause-kept
@@ -17,9 +18,8 @@ returns-in-Err-clause-kept g c = record {
   seat = search rules;
   quiet = search rules;
   gone =
-      gone_full
-      c.in-Err.full.entries c.in-Err.full.live c.in-Err.ensures.full.mine refl
-      c.full.ensures.handed.receipts;
+      gone_none (FullReceipt c.in-Err.full.entries c.in-Err.full.live ∷ []) c.in-Err.ensures.full.mine refl
+      c.full.ensures.handed.receipts refl;
 }
 
 pub returns-in-Ok-clause-answered : goal.returns-in-Ok-clause-answered

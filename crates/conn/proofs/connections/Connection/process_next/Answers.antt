@@ -6,7 +6,8 @@ use Rattle.conn.proofs.ElementPrefixes.{cuts_drop, cuts_none, cuts_same, drop_is
 use Rattle.conn.proofs.ReservationSteps.{kept_moved, kept_none}
 use Rattle.interleave.specs.Elements.{IsFirst}
 use Rattle.interleave.specs.declared.elements.Step.TheVariants.{Block, Skip}
-use Rattle.conn.specs.Observations.{TakesNext, observed}
+use Rattle.conn.specs.EventSteps.{IsStopped}
+use Rattle.conn.specs.Observations.{HasTaken, Observed, TakesNext, observed}
 use Rattle.conn.proofs.CourseSteps.{fault_ends, input_is, taken_fault, taken_passed}
 use Rattle.conn.proofs.connections.Connection.process_next.Goals as goal
 
@@ -78,9 +79,10 @@ process_request-requires-clause-first g c =
 
 pub returns-in-Err-clause-takes : goal.returns-in-Err-clause-takes
 returns-in-Err-clause-takes g c =
-    inr (taken_fault
-    c.in-Err.fault c.end_of.result
-    (input_is c.args.self.now (g.K.Link.told c.args.link.now) c.args.seat.now c.look.ensures.waiting) (search rules) c.in-Err.ensures.first c.end_of.ensures)
+    inr (subst (λ (s : Observed). HasTaken
+    (observed c.args.self.now (g.K.Link.told c.args.link.now) c.args.seat.now) s × IsStopped c.end_of.result s.stage)
+    (sym (input_is c.args.self.now (g.K.Link.told c.args.link.now) c.args.seat.now c.look.ensures.waiting))
+    (taken_fault c.in-Err.fault c.end_of.result (search rules) c.in-Err.ensures.first c.end_of.ensures))
 
 pub returns-then-torn-clause-kept : goal.returns-then-torn-clause-kept
 returns-then-torn-clause-kept g c = kept_none c.args.seat.now c.args.self.now c.requires.quiet
