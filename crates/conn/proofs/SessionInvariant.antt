@@ -245,26 +245,22 @@ done_next false keep awaited none = none
 -- what is due leaves it, and so does a slot in which nothing is
 sent_ground : (goes : Bool) (old : SessionState) (slot : ℕ)
     → IsSameSession old (after_play (if goes then sent_reply (sent_due old slot) else sent_due old slot))
-sent_ground true old slot =
-    let s : SessionState = sent_reply (sent_due old slot) in
-    record {
-      films = refl;
-      source = refl;
-      settings = refl;
-      counts = refl;
-      plays = refl;
-      unstopped = λ none. done_next (is_done_in s.state) (sent_in s.state) old.awaited none;
-    }
-sent_ground false old slot =
-    let s : SessionState = sent_due old slot in
-    record {
-      films = refl;
-      source = refl;
-      settings = refl;
-      counts = refl;
-      plays = refl;
-      unstopped = λ none. done_next (is_done_in s.state) (sent_in s.state) old.awaited none;
-    }
+sent_ground true old slot = record {
+  films = refl;
+  source = refl;
+  settings = refl;
+  counts = refl;
+  plays = refl;
+  unstopped = λ none. done_next _ _ old.awaited none;
+}
+sent_ground false old slot = record {
+  films = refl;
+  source = refl;
+  settings = refl;
+  counts = refl;
+  plays = refl;
+  unstopped = λ none. done_next _ _ old.awaited none;
+}
 
 still_ground : (old : SessionState) (heard : ℕ) → IsSameSession old (record old { heard = heard })
 still_ground old heard =

@@ -5,18 +5,23 @@ use Rattle.station.specs.Ledgers.{play_of}
 use Rattle.session_records.specs.declared.notes.Receipt.TheVariants.{Entry}
 use Rattle.session.specs.RequestSteps.{after_admission}
 use Rattle.session.specs.SessionStates.{IsAnswerRecorded, awaited_answer, booking_of}
-use Rattle.conn.proofs.Outcomes.{answered_admitted, answered_refused, kept_admitted, kept_refused}
+use Rattle.conn.proofs.Outcomes.{IsAsking, answered_admitted, answered_refused, kept_admitted, kept_refused}
 use Rattle.conn.proofs.connections.Connection.play.Goals as goal
+use Rattle.conn.proofs.connections.Connection.play.Goals.{After-play}
+
+-- what is known once the station answered
+asking : (g : _) (c : After-play g) → IsAsking c.args.seat.now c.play.new.seat c.args.self.now
+asking g c = record {
+  kept = c.holds.ensures.kept;
+  also = c.play.ensures.kept;
+  same = c.play.ensures.same;
+  held = c.requires.held;
+  closed = c.requires.closed;
+}
 
 pub returns-in-Ok-clause-kept : goal.returns-in-Ok-clause-kept
 returns-in-Ok-clause-kept g c =
-    kept_admitted _ (record {
-      kept = c.holds.ensures.kept;
-      also = c.play.ensures.kept;
-      same = c.play.ensures.same;
-      held = c.requires.held;
-      closed = c.requires.closed;
-    }) (record {
+    kept_admitted _ (asking g (goal.at.returns-in-Ok-clause-kept g c).After-play) (record {
       heard = c.heard_slot.result;
       made = c.in-Ok.ensures.made;
       keeps = c.in-Ok.ensures.open;
@@ -32,13 +37,7 @@ returns-in-Ok-clause-kept g c =
 
 pub returns-in-Err-clause-kept : goal.returns-in-Err-clause-kept
 returns-in-Err-clause-kept g c =
-    kept_refused _ (record {
-      kept = c.holds.ensures.kept;
-      also = c.play.ensures.kept;
-      same = c.play.ensures.same;
-      held = c.requires.held;
-      closed = c.requires.closed;
-    }) (record {
+    kept_refused _ (asking g (goal.at.returns-in-Err-clause-kept g c).After-play) (record {
       heard = c.heard_slot.result;
       plan = c.args.plan;
       is = c.in-Err.ensures.refused;
@@ -49,13 +48,7 @@ returns-in-Err-clause-kept g c =
 
 pub returns-in-Ok-clause-answered : goal.returns-in-Ok-clause-answered
 returns-in-Ok-clause-answered g c =
-    answered_admitted {before = c.args.self.now} (record {
-      kept = c.holds.ensures.kept;
-      also = c.play.ensures.kept;
-      same = c.play.ensures.same;
-      held = c.requires.held;
-      closed = c.requires.closed;
-    }) (subst (λ heard. HasMadeEntry c.args.seat.now c.play.new.seat 2 (play_of heard c.args.plan)
+    answered_admitted {before = c.args.self.now} (asking g (goal.at.returns-in-Ok-clause-answered g c).After-play) (subst (λ heard. HasMadeEntry c.args.seat.now c.play.new.seat 2 (play_of heard c.args.plan)
     c.in-Ok.booking.number (Admitted c.in-Ok.booking.start))
     c.heard_slot.ensures.slot c.in-Ok.ensures.made) (record {
       later = search rules;
@@ -68,11 +61,5 @@ returns-in-Ok-clause-answered g c =
 
 pub returns-in-Err-clause-answered : goal.returns-in-Err-clause-answered
 returns-in-Err-clause-answered g c =
-    answered_refused c.args.self.now c.in-Err.refused (record {
-      kept = c.holds.ensures.kept;
-      also = c.play.ensures.kept;
-      same = c.play.ensures.same;
-      held = c.requires.held;
-      closed = c.requires.closed;
-    }) (subst (λ heard. IsSeatRefused c.args.seat.now c.play.new.seat heard c.args.plan c.in-Err.refused)
+    answered_refused c.args.self.now c.in-Err.refused (asking g (goal.at.returns-in-Err-clause-answered g c).After-play) (subst (λ heard. IsSeatRefused c.args.seat.now c.play.new.seat heard c.args.plan c.in-Err.refused)
     c.heard_slot.ensures.slot c.in-Err.ensures.refused) c.hear_refusal.ensures.exact
