@@ -14,15 +14,14 @@ cuts_on first second =
     record { each = λ bytes elements cut. let next = first.each bytes elements cut in second.each bytes next.0 next.1 }
 
 -- the first element is dropped
-pub cuts_drop : {input rest : List ℕ} {n : ℕ} (step : Step) → IsFirst input (Ok step)
-    → returned_length (Ok step) ≡ n → rest ≡ drop n input → CutsOn input rest
-cuts_drop {input} {rest} step first length_is dropped = record {
-  each = λ bytes elements cut.
-      let is : drop (returned_length (Ok step)) input ≡ rest = ap (λ k. drop k input) length_is ∙ sym dropped in (
-        elements ++ returned_elements input (Ok step),
-        subst (λ x. AreInputElements bytes (elements ++ returned_elements input (Ok step)) x) is
-            (next_elements input (Ok step) first bytes elements cut),
-      );
+pub cuts_drop : {input rest : List ℕ} (step : Step) → IsFirst input (Ok step)
+    → rest ≡ drop (returned_length (Ok step)) input → CutsOn input rest
+cuts_drop {input} step first dropped = record {
+  each = λ bytes elements cut. (
+    elements ++ returned_elements input (Ok step),
+    subst (λ x. AreInputElements bytes (elements ++ returned_elements input (Ok step)) x) (sym dropped)
+        (next_elements input (Ok step) first bytes elements cut),
+  );
 }
 
 -- bytes came after those that wait

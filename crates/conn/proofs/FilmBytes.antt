@@ -34,18 +34,14 @@ slot_film waits slot p =
     (step_end false (at_slot slot (after_step true slot p))) else [])
     else plan_bytes p p.sent (step_end false (at_slot slot p))
 
-pacing_same : {passed due sent passed' due' sent' : ℕ} (p : PacerState) → passed ≡ passed' → due ≡ due' → sent ≡ sent' →
-    record p { passed = passed; due = due; sent = sent } ≡ record p { passed = passed'; due = due'; sent = sent' }
-pacing_same p one two three = cc
-
 -- a step with a stop, and then one without
 both_steps : (slot : ℕ) (p : PacerState) → after_step false slot (after_step true slot p) ≡ sent_through slot p
 both_steps slot p =
     let due : ℕ = due_by p slot in
     let part : ℕ = min (first_slots p.plan (slots_by p slot)) p.keep in
-    let again : max due part ≡ due = omega arith in
-    pacing_same p
-    (omega arith) again again
+    let passed : max (max p.passed (slots_by p slot)) (slots_by p slot) ≡ max p.passed (slots_by p slot) =
+    omega arith in
+    let again : max due part ≡ due = omega arith in cc
 
 -- a step with a stop that ends within a frame has sent all that is due
 stop_inside : (slot : ℕ) (p : PacerState) → IsPacerState p → stands_at_boundary (after_step true slot p) ≡ false
@@ -67,10 +63,7 @@ pub slot_is : (waits between : Bool) (slot : ℕ) (p : PacerState) → IsPacerSt
     else after_step false slot p) ≡ sent_through slot p
 slot_is false between slot p is between_is = refl
 slot_is true true slot p is between_is = both_steps slot p
-slot_is true false slot p is between_is =
-    let due : ℕ = due_by p slot in
-    pacing_same p refl refl
-    (stop_inside slot p is between_is)
+slot_is true false slot p is between_is = let all = stop_inside slot p is between_is in cc
 
 -- and these are its bytes
 pub slot_bytes : (waits between : Bool) (slot : ℕ) (p : PacerState) → IsPacerState p →

@@ -76,9 +76,9 @@ asked_replied {old} {asking} {new} play (PlayOverflowed {placed = placed} entry)
     subst (λ a. IsEntryReplied old placed a new) (sym entry.answer_is) (sequence_of asking.awaited, refl)
 asked_replied {asking = asking} play (PlayFull two) = (sequence_of asking.awaited, refl)
 
-lacks_replied : {old asking new : SessionState} {ask : Ask} {outcome : Outcome} → LacksMemory old ask asking
+lacks_replied : {asking new : SessionState} {outcome : Outcome} (old : SessionState) → HasCode 500 asking.text
     → AnswersAs asking AskReply outcome new → IsPlayReplied old outcome new
-lacks_replied {old} {asking} {ask = ask} lacks NoneAsked = memory_code old ask asking lacks
+lacks_replied old code NoneAsked = code
 
 -- an entry was made: by the machine's answer in the state after the entries before it
 entry_decided : {terms : Terms} {journal : List Entry} {old : SessionState} {plan : List Segment} {new : SessionState}
@@ -197,7 +197,7 @@ pub play_answered : (old new : SessionState) (message : List ℕ) (outcome : Out
     HasHeard old message outcome new → IsPlayReplied old outcome new
 play_answered old new message outcome can heard =
     by_request (IsPlayReplied old outcome new) heard can (λ play answers. asked_replied play answers)
-    (λ lacks answers. lacks_replied lacks answers)
+    (λ lacks answers. lacks_replied old (memory_code old heard.ask heard.asking lacks) answers)
 
 pub play_completed : (old new : SessionState) (message : List ℕ) (outcome : Outcome) → CanBePlayed old message →
     HasHeard old message outcome new → IsPlayCompleted old outcome new

@@ -29,8 +29,8 @@ use Rattle.session.specs.RequestSteps.{after_admission, after_halt, counts_done,
 use Rattle.session.specs.RequestSteps.{halted_counts}
 use Rattle.film_streams.specs.SettingRanges.{AreSettings, IsSetup}
 use Rattle.session.specs.SlotSteps.{after_play, after_slot, can_reply, halted_in, halted_notes, is_between}
-use Rattle.session.specs.SlotSteps.{is_done_in, is_sending, kept_of, next_of, note_of, sent_due, sent_in, sent_reply}
-use Rattle.session.specs.SlotSteps.{state_once_halted, stepped_in}
+use Rattle.session.specs.SlotSteps.{is_sending, kept_of, next_of, note_of, sent_due, sent_reply, state_once_halted}
+use Rattle.session.specs.SlotSteps.{stepped_in}
 use Rattle.session.specs.SessionStates.{AwaitedAnswer, SessionState}
 use Rattle.session.specs.SlotTransitions.{IsPlayIn, after_stop}
 use Rattle.conn.specs.InputSteps.{Outcome, Entered, Stage, ElementStep, Passed, Answered, HasHeard, IsPlayAnswered}

@@ -1,5 +1,4 @@
-use Rattle.std.proofs.Common.{◌<◌, List, arith, Ok, ap, inl, inr, refl, rules, subst, sym, ℕ, Err}
-use Rattle.interleave.specs.Streams.{returned_length}
+use Rattle.std.proofs.Common.{◌<◌, List, arith, Ok, inl, inr, refl, rules, subst, sym, ℕ, Err}
 use Rattle.conn.proofs.FaultCounts.{counted_none}
 use Rattle.rtsp_text.proofs.WholeRequests.{fewer, first_is}
 use Rattle.conn.proofs.ElementPrefixes.{cuts_drop, cuts_none, cuts_same, drop_is}
@@ -13,13 +12,13 @@ use Rattle.conn.proofs.connections.Connection.process_next.Goals as goal
 
 pub returns-in-Ok-Skip-clause-cut : goal.returns-in-Ok-Skip-clause-cut
 returns-in-Ok-Skip-clause-cut g c =
-    cuts_drop c.in-Ok-Skip.field-0 c.in-Ok-Skip.ensures.first (ap (λ s. returned_length (Ok s)) c.in-Ok-Skip.field-0-is)
+    cuts_drop (Skip c.in-Ok-Skip.count) (first_is c.in-Ok-Skip.ensures.first refl c.in-Ok-Skip.field-0-is)
     (drop_is c.in-Ok-Skip.count c.drop_front.ensures c.look.ensures.waiting)
 
 pub returns-in-Ok-Block-clause-cut : goal.returns-in-Ok-Block-clause-cut
 returns-in-Ok-Block-clause-cut g c =
-    cuts_drop c.in-Ok-Block.field-0 c.in-Ok-Block.ensures.first (ap (λ s. returned_length (Ok s))
-    c.in-Ok-Block.field-0-is)
+    cuts_drop (Block c.in-Ok-Block.field-0-0 c.in-Ok-Block.count)
+    (first_is c.in-Ok-Block.ensures.first refl c.in-Ok-Block.field-0-is)
     (drop_is c.in-Ok-Block.count c.drop_front-in-Ok-Block.ensures c.look.ensures.waiting)
 
 pub returns-in-Ok-Request-clause-cut : goal.returns-in-Ok-Request-clause-cut

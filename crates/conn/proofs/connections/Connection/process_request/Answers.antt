@@ -10,11 +10,11 @@ use Rattle.conn.proofs.connections.Connection.process_request.Goals as goal
 
 pub returns-in-Ok-clause-cut : goal.returns-in-Ok-clause-cut
 returns-in-Ok-clause-cut g c =
-    cuts_drop (Request c.args.length) c.requires.first refl c.answer_request.ensures.input
+    cuts_drop (Request c.args.length) c.requires.first c.answer_request.ensures.input
 
 pub returns-in-Err-clause-cut : goal.returns-in-Err-clause-cut
 returns-in-Err-clause-cut g c =
-    cuts_drop (Request c.args.length) c.requires.first refl c.answer_request.ensures.input
+    cuts_drop (Request c.args.length) c.requires.first c.answer_request.ensures.input
 
 pub returns-then-waits-clause-taken : goal.returns-then-waits-clause-taken
 returns-then-waits-clause-taken g c =
