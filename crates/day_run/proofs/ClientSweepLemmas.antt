@@ -1,22 +1,19 @@
 -- Clients that are passed over one after the other.
-use Rattle.std.proofs.Common.{◌≡◌, ◌<◌, ◌≤◌, ◌+◌, ℕ, List, [], ◌∷◌, ◌++◌, length, map, take, drop}
-use Rattle.std.proofs.Common.{set, get_or, Option, Some, None, arith, refl, sym, ap, subst}
-use Rattle.std.proofs.Common.{◌∙◌, inl, inr}
-use Rattle.std.specs.Prelude.{sum_by}
+use Rattle.std.proofs.Common.{◌≡◌, ◌<◌, ◌≤◌, ◌+◌, ℕ, List, [], ◌∷◌, ◌++◌, length, map, take, drop, set, get_or}
+use Rattle.std.proofs.Common.{Option, Some, None, arith, refl, sym, ap, subst, ◌∙◌, inl, inr}
+use Rattle.std.specs.Prelude.{sum_by, OnSome, IfNone}
 use Rattle.std.proofs.lemmas.Bool.{cases_eq}
-use Rattle.std.proofs.lemmas.List.{append_assoc, append-nil, ext_get_or, get_or-map}
-use Rattle.std.proofs.lemmas.List.{get_or-set_other, get_or-set_same, length-map, length-set}
-use Rattle.std.proofs.lemmas.List.{length-take}
-use Rattle.std.proofs.lemmas.List.{map-set, set-get_or, take_all, take_at, take_more}
+use Rattle.std.proofs.lemmas.List.{append_assoc, append-nil, ext_get_or, get_or-map, get_or-set_other}
+use Rattle.std.proofs.lemmas.List.{get_or-set_same, length-map, length-set, length-take, map-set, set-get_or}
+use Rattle.std.proofs.lemmas.List.{take_all, take_at, take_more}
 use Rattle.std.proofs.lemmas.List.Sums.{sum_by_push}
 use Rattle.admission.specs.declared.entries.Entry.{Entry}
 use Rattle.day_run.proofs.ListUpdates.{set-at}
 use Rattle.day_run.specs.declared.clients.Client.{Client}
 use Rattle.day_run.specs.declared.clients.Client.TheVariants as clients
 use Rattle.day_run.specs.declared.clients.Halt.{Halt}
-use Rattle.std.specs.Prelude.{OnSome, IfNone}
-use Rattle.day_run.specs.Clients.{AreSteps, AreTimed, AreUndone, IsStep, IsTimed, IsUndone}
-use Rattle.day_run.specs.Clients.{halts_of, state_after_halt, state_of}
+use Rattle.day_run.specs.Clients.{AreSteps, AreTimed, AreUndone, IsStep, IsTimed, IsUndone, halts_of}
+use Rattle.day_run.specs.Clients.{state_after_halt, state_of}
 use Rattle.day_run.specs.Days.{DayState, at_slot, done_halt, halt_entries}
 use Rattle.day_run.specs.ClientStates.{ClientState, Idle, after_play, after_sending, sent_between}
 
@@ -156,8 +153,7 @@ timed-next {i} {slot} {heard} {cs} client inside own to = record {
       });
   later = λ c none from within.
       let other : c ≡ i → ⊥ = λ same. absurd (omega (arith, same, from)) in
-      let C : Client → Type 0 = λ x. IsTimed heard x in
-      subst C (sym (get_or-set_other cs i c client none other))
+      subst (IsTimed heard) (sym (get_or-set_other cs i c client none other))
       (to.later c none (omega (arith, from)) (omega (arith, within, length-set cs i client)));
 }
 
@@ -239,8 +235,7 @@ ended-next {f} {g} {slot} {i} {begun} {ys} {old} {cs} none None inside halts end
     let timed : IsTimed slot (get_or cs i none) = to.timed.each i none inside in
     let at : get_or (map state_of old) i Idle ≡ state_of (get_or cs i none) = swept-at old cs none inside to.swept in
     let within : i < length (map state_of old) = swept-inside g i old cs inside to.swept in
-    let D : List Client → Type 0 = λ l. AreEndedTo f g slot (i + 1) begun ys old l in
-    subst D (sym ended.left) (record {
+    subst (λ (l : List Client). AreEndedTo f g slot (i + 1) begun ys old l) (sym ended.left) (record {
       timed = to.timed;
       entries_are = entries-more f (map state_of old) begun within (record {
         before_is = to.entries_are;
@@ -253,9 +248,8 @@ ended-next {f} {g} {slot} {i} {begun} {ys} {old} {cs} none (Some halt) inside ha
     let timed : IsTimed slot (get_or cs i none) = to.timed.each i none inside in
     let at : get_or (map state_of old) i Idle ≡ state_of (get_or cs i none) = swept-at old cs none inside to.swept in
     let within : i < length (map state_of old) = swept-inside g i old cs inside to.swept in
-    let D : List Client → Type 0 = λ l. AreEndedTo f g slot (i + 1) begun ys old l in
     let S : List ClientState → Type 0 = λ l. IsSwept g (i + 1) (map state_of old) l in
-    subst D (sym ended.some) (record {
+    subst (λ (l : List Client). AreEndedTo f g slot (i + 1) begun ys old l) (sym ended.some) (record {
       timed = timed-set slot cs i clients.Idle tt to.timed;
       entries_are = entries-more f (map state_of old) begun within (record {
         before_is = to.entries_are;
@@ -293,8 +287,7 @@ undone-next {i} {cs} none None inside own ended undone =
     let D : List Client → Type 0 = λ l. AreUndone (i + 1) l in
     subst D (sym (ended.left ∙ sym (set-get_or cs i none))) (undone-with (get_or cs i none) inside own undone)
 undone-next {i} {cs} none (Some halt) inside own ended undone =
-    let D : List Client → Type 0 = λ l. AreUndone (i + 1) l in
-    subst D (sym ended.some) (undone-with clients.Idle inside tt undone)
+    subst (λ (l : List Client). AreUndone (i + 1) l) (sym ended.some) (undone-with clients.Idle inside tt undone)
 
 -- a list as long as another one is written in its place
 written : {X : Type 0} → (n : ℕ) (es xs : List X) → length es ≡ n → take n (es ++ drop (length es) xs) ≡ es
@@ -343,14 +336,12 @@ pub slot-moment : {n : ℕ} {ys : List Entry} {old xs ds zs : List Client} {hear
     }
     ≡ at_slot (record { entries = entries; states = map state_of old; heard = heard }) slot
 slot-moment {n} {ys} {old} {ds} {zs} {heard} {slot} entries es swept =
-    let T : List Client → Type 0 = λ l. AreTimed heard l in
-    let U : List Client → Type 0 = λ l. AreTimed slot l in
-    let steps = stepped heard le (subst T (sym x) timed) in
+    let steps = stepped heard le (subst (AreTimed heard) (sym x) timed) in
     let d-states : map state_of ds ≡ map (after_sending slot) (map state_of old) =
     steps.states_are ∙ ap (λ l. map (after_sending slot) (map state_of l)) x in
     let d-len : length ds ≡ n = as-many (after_sending slot) old ds d-states ∙ sym len in
     let z-is : zs ≡ ds = z ∙ written n ds old d-len in
-    let now : AreTimed slot zs = subst U (sym z-is) steps.timed in
+    let now : AreTimed slot zs = subst (AreTimed slot) (sym z-is) steps.timed in
     let states : map state_of zs ≡ map (after_sending slot) (map state_of old) = ap (map state_of) z-is ∙ d-states in
     let y : ys ≡ entries ++ halt_entries (done_halt slot) 0 (map state_of old) =
     ended slot now ∙ ap (λ l. entries ++ halt_entries (done_halt slot) 0 l) states ∙ ap (λ l. entries ++ l) quiet in

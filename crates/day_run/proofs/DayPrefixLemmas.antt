@@ -1,6 +1,6 @@
 -- The moments of a day, after each of its lines.
-use Rattle.std.proofs.Common.{◌≤◌, ◌+◌, ◌-◌, ℕ, zero, suc, List, [], ◌∷◌, ◌++◌, length, take}
-use Rattle.std.proofs.Common.{get_or, refl, sym, subst, arith}
+use Rattle.std.proofs.Common.{◌≤◌, ◌+◌, ◌-◌, ℕ, zero, suc, List, [], ◌∷◌, ◌++◌, length, take, get_or, refl, sym}
+use Rattle.std.proofs.Common.{subst, arith}
 use Rattle.std.specs.Prelude.{sum_by}
 use Rattle.std.specs.List.{range_with_len}
 use Rattle.std.proofs.lemmas.List.{get_or-take, length-take, take-take, take_at}
@@ -14,25 +14,21 @@ use Rattle.admission.proofs.HistoryPrefixes.{legal-take}
 use Rattle.admission.proofs.CapacityBounds.{sound-after}
 use Rattle.day_script.specs.declared.scripts.Line.{Line}
 use Rattle.day_run.specs.DayLaws.{SentIsBookedAfter}
-use Rattle.day_script.specs.Scripts.{AreClients, IsClient}
-use Rattle.day_run.specs.Days.{AreLineSteps, IsDay}
-use Rattle.day_run.specs.Days.{SharedLink, DayState}
-use Rattle.day_run.specs.Days.{last_halts, sent_up_to}
-use Rattle.day_script.specs.Scripts.{AreLines, StandsAfter, latest_slot}
+use Rattle.day_script.specs.Scripts.{AreClients, IsClient, AreLines, StandsAfter, latest_slot}
+use Rattle.day_run.specs.Days.{AreLineSteps, IsDay, SharedLink, DayState, last_halts, sent_up_to}
 use Rattle.day_run.proofs.LineBalance.{day-sent}
 use Rattle.day_run.proofs.LineOutcomes.{HasGrown, grown-on, kept-grown, line-outcome, outcome-grown, outcome-heard}
+use Rattle.day_run.proofs.LineOutcomes.{run-keeps}
 use Rattle.day_run.proofs.ScriptLineFacts.{LineStep, LinesTaken, StandingLines, first-standing, rest-standing}
 
 run-grown : {n : ℕ} (link : SharedLink) (ls : List Line) (ts : List (List ℕ)) (old new : DayState)
     → StandingLines old.heard n ls → AreLineSteps link ls ts old new → HasGrown old.entries new.entries
-run-grown link [] [] old new standing run = kept-grown old new run
-run-grown link [] (t ∷ ts) old new standing run = absurd run
-run-grown link (l ∷ ls) [] old new standing run = absurd run
-run-grown link (l ∷ ls) (t ∷ ts) old new standing run =
-    let step : LineStep = record { link = link; old = old; new = run.0; text = t } in
-    let outcome = line-outcome step l (first-standing standing) run.1.0 in
-    grown-on old.entries step.new.entries new.entries (outcome-grown step outcome)
-    (run-grown link ls ts run.0 new (rest-standing standing (outcome-heard step outcome)) run.1.1)
+run-grown link ls ts old new standing run =
+    run-keeps {link = link} {old = old} {new = new} (λ (m : DayState). HasGrown old.entries m.entries)
+    (λ line mid next text may is grown.
+    let step : LineStep = record { link = link; old = mid; new = next; text = text } in
+    grown-on old.entries mid.entries next.entries grown (outcome-grown step (line-outcome step line may is)))
+    ls ts standing run (kept-grown old old refl)
 
 -- the moment after so many lines of a run
 record FrontOf (link : SharedLink) (ls : List Line) (count : ℕ) (old new : DayState) : Type 0 where
@@ -47,13 +43,12 @@ run-front link ls ts zero {old} {new} standing run =
     record { texts = []; moment = old; front = refl; grown = run-grown link ls ts old new standing run }
 run-front link [] [] (suc count) {old} {new} standing run =
     record { texts = []; moment = old; front = refl; grown = kept-grown old new run }
-run-front link [] (t ∷ ts) (suc count) standing run = absurd run
-run-front link (l ∷ ls) [] (suc count) standing run = absurd run
 run-front link (l ∷ ls) (t ∷ ts) (suc count) {old} {new} standing run =
     let step : LineStep = record { link = link; old = old; new = run.0; text = t } in
     let next = rest-standing standing (outcome-heard step (line-outcome step l (first-standing standing) run.1.0)) in
     let rest = run-front link ls ts count {old = run.0} {new = new} next run.1.1 in
     record { texts = t ∷ rest.texts; moment = rest.moment; front = (run.0, (run.1.0, rest.front)); grown = rest.grown }
+run-front link _ _ (suc count) standing run = absurd run
 
 clients-take : {ls : List Line} (count : ℕ) → AreClients ls → AreClients (take count ls)
 clients-take {ls} count are = record {
@@ -77,8 +72,7 @@ lines-take {n} {ls} count are = record {
 -- what a legal history begins with is legal
 front-legal : {steps : List CapStep} (xs ys : List Entry) → IsLegal steps (xs ++ ys) → IsLegal steps xs
 front-legal {steps} xs ys legal =
-    let L : List Entry → Type 0 = λ l. IsLegal steps l in
-    subst L (take_at xs ys (length xs) refl) (legal-take steps (xs ++ ys) (length xs) legal)
+    subst (IsLegal steps) (take_at xs ys (length xs) refl) (legal-take steps (xs ++ ys) (length xs) legal)
 
 -- what is sent is within the capacity
 pub day-within : {link : SharedLink} {n : ℕ} (taken : LinesTaken link n) (slot : ℕ)
@@ -87,9 +81,8 @@ pub day-within : {link : SharedLink} {n : ℕ} (taken : LinesTaken link n) (slot
     ≤ sum_by (capacity_at link.steps) (range_with_len (taken.moment.heard + 1) (slot - taken.moment.heard))
 day-within {link} taken slot legal later =
     let slots = range_with_len (taken.moment.heard + 1) (slot - taken.moment.heard) in
-    let S : ℕ → Type 0 = λ sent. sent ≤ sum_by (capacity_at link.steps) slots in
     let within = (sound-after link.steps taken.moment.entries legal).within in
-    subst S (sym (day-sent taken slot later))
+    subst (λ (sent : ℕ). sent ≤ sum_by (capacity_at link.steps) slots) (sym (day-sent taken slot later))
     (sum_by-le-sum_by (booked_in (state_after taken.moment.entries)) (capacity_at link.steps) slots
     (λ t. within.each t))
 

@@ -1,6 +1,6 @@
 -- A script has one day.
-use Rattle.std.proofs.Common.{◌≡◌, ◌<◌, ◌+◌, ℕ, max, List, [], ◌∷◌, ◌++◌, length, set, arith, refl}
-use Rattle.std.proofs.Common.{sym, ap, subst, ◌∙◌, inl, inr}
+use Rattle.std.proofs.Common.{◌≡◌, ◌<◌, ◌+◌, ℕ, max, List, [], ◌∷◌, ◌++◌, length, set, arith, refl, sym, ap, subst}
+use Rattle.std.proofs.Common.{◌∙◌, inl, inr}
 use Rattle.wire_curve.proofs.FaultExclusion.{HasCurveFault-unique}
 use Rattle.std.specs.Prelude.{flat_map, ◌⊎◌}
 use Rattle.plan_cert.specs.declared.Segment.{Segment}
@@ -25,17 +25,14 @@ use Rattle.admission.proofs.UniqueHistory.{answer-once}
 use Rattle.day_script.specs.declared.scripts.Line.{Line}
 use Rattle.day_script.specs.declared.scripts.Line.TheVariants as lines
 use Rattle.day_run.specs.DayLaws.{IsLink, IsSoundRest, IsSoundClient}
-use Rattle.day_script.specs.Scripts.{AreClients}
-use Rattle.day_run.specs.Days.{AreLineSteps, AskedPlay, IsAnsweredPlay, IsAsked, IsDay, IsFaulty, IsFull}
-use Rattle.day_run.specs.Days.{rest_at}
-use Rattle.day_run.specs.Days.{IsHaltedPlay, IsLine, IsLookLine, IsNoted, IsOfferLine, IsPauseLine}
-use Rattle.day_run.specs.Days.{IsResumeLine, IsTold, SharedLink, DayState, entry_by}
-use Rattle.day_run.specs.Days.{last_journal, last_lines, state_at, with_play}
+use Rattle.day_script.specs.Scripts.{AreClients, AreLines}
+use Rattle.day_run.specs.Days.{AreLineSteps, AskedPlay, IsAnsweredPlay, IsAsked, IsDay, IsFaulty, IsFull, rest_at}
+use Rattle.day_run.specs.Days.{IsHaltedPlay, IsLine, IsLookLine, IsNoted, IsOfferLine, IsPauseLine, IsResumeLine}
+use Rattle.day_run.specs.Days.{IsTold, SharedLink, DayState, entry_by, last_journal, last_lines, state_at, with_play}
 use Rattle.day_script.specs.LineTexts.{fault_text, offer_text, state_text}
 use Rattle.report.specs.EntryLines.{entry_line}
-use Rattle.day_script.specs.Scripts.{AreLines}
-use Rattle.day_run.specs.ClientStates.{Idle, IfBusy, Playing, Pausing, Paused, ClientPlay, Rest, ClientState}
-use Rattle.day_run.specs.ClientStates.{pausing_state, slot_sent}
+use Rattle.day_run.specs.ClientStates.{IfBusy, Playing, Pausing, Paused, ClientPlay, Rest, ClientState, pausing_state}
+use Rattle.day_run.specs.ClientStates.{slot_sent}
 use Rattle.day_run.proofs.LineBalance.{morning-ready}
 use Rattle.day_run.proofs.LineOutcomes.{line-outcome, outcome-heard}
 use Rattle.day_run.proofs.SoundClients.{IsSound, idle-sound, line-sound, whole-sound}
@@ -154,17 +151,14 @@ one-asked {c} {rest} pair own (inr a) (inr b) =
 one-play : (pair : OutcomePair) (c : ℕ) (rest : Rest) (state : ClientState) → IsSoundIfAny rest
     → AreBoth pair (λ old new text. IfBusy state (IsTold state_text old new text)
     (IsAsked pair.link c rest old new text)) → IsOne pair
-one-play pair c rest Idle own both = one-asked pair own both.a both.b
 one-play pair c rest (Playing play) own both = one-told pair both.a both.b
 one-play pair c rest (Pausing stop left) own both = one-told pair both.a both.b
-one-play pair c rest (Paused left) own both = one-asked pair own both.a both.b
+one-play pair c rest _ own both = one-asked pair own both.a both.b
 
 one-resume : (pair : OutcomePair) (c : ℕ) (state : ClientState) → IsSoundClient pair.old.heard state
     → AreBoth pair (IsResumeLine pair.link c state) → IsOne pair
-one-resume pair c Idle own both = one-told pair both.a both.b
-one-resume pair c (Playing play) own both = one-told pair both.a both.b
-one-resume pair c (Pausing stop rest) own both = one-told pair both.a both.b
 one-resume pair c (Paused rest) own both = one-asked pair (λ some. own) both.a both.b
+one-resume pair c _ own both = one-told pair both.a both.b
 
 one-halted : {c : ℕ} {play : ClientPlay} (pair : OutcomePair)
     → IsHaltedPlay pair.link c play pair.old pair.one.new pair.one.text
@@ -193,10 +187,8 @@ one-halted {c} {play} pair a b =
 
 one-pause : (pair : OutcomePair) (c : ℕ) (state : ClientState) → AreBoth pair (IsPauseLine pair.link c state)
     → IsOne pair
-one-pause pair c Idle both = one-told pair both.a both.b
 one-pause pair c (Playing play) both = one-halted pair both.a both.b
-one-pause pair c (Pausing stop rest) both = one-told pair both.a both.b
-one-pause pair c (Paused rest) both = one-told pair both.a both.b
+one-pause pair c _ both = one-told pair both.a both.b
 
 one-look : {slot : ℕ} (pair : OutcomePair) → IsLookLine pair.link slot pair.old pair.one.new pair.one.text
     → IsLookLine pair.link slot pair.old pair.other.new pair.other.text → IsOne pair
@@ -236,8 +228,7 @@ one-offer {rest} pair own (inr a) (inr b) =
     let found : a.found ≡ b.found =
     one-found a.found b.found waits (same_start waits mine b.found_is)
     (same_tried waits mine b.found_is) in
-    let T : Offers → Type 0 = λ f. IsTold (offer_text f) old pair.one.new pair.one.text in
-    one-told pair (subst T found a.told) b.told
+    one-told pair (subst (λ (f : Offers). IsTold (offer_text f) old pair.one.new pair.one.text) found a.told) b.told
 
 pub one-line : (pair : OutcomePair) (line : Line) → IsLink pair.link
     → StandingLine pair.old.heard (length pair.link.media) line → IsSound pair.old
@@ -282,9 +273,8 @@ one-run {link} {texts = t ∷ ts} {texts' = t' ∷ ts'} {old} {new} {new'} (l �
     let one = one-line pair l link-is first sound a.1.0 b.1.0 in
     let next = line-sound step l link-is first sound a.1.0 in
     let after = rest-standing standing (outcome-heard step (line-outcome step l first a.1.0)) in
-    let R : DayState → Type 0 = λ m. AreLineSteps link ls ts' m new' in
     let rest = one-run {link = link} {texts = ts} {texts' = ts'} {old = a.0} {new = new} {new' = new'} ls
-    link-is after next a.1.1 (subst R (sym one.new_is) b.1.1) in
+    link-is after next a.1.1 (subst (λ (m : DayState). AreLineSteps link ls ts' m new') (sym one.new_is) b.1.1) in
     record { new_is = rest.new_is; texts_are = ap (λ x. x ∷ ts) one.text_is ∙ ap (λ xs. t' ∷ xs) rest.texts_are }
 
 pub one-day : {link : SharedLink} {ls : List Line} {text text' : List ℕ} {journal journal' : List Entry} → IsLink link

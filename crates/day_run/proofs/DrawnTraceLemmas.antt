@@ -1,6 +1,6 @@
 -- Drawn traces.
-use Rattle.std.proofs.Common.{◌≡◌, ◌≤◌, ◌+◌, ◌-◌, ◌*◌, ℕ, List, [], ◌∷◌, ◌++◌, length, map, sum}
-use Rattle.std.proofs.Common.{get_or, arith, sym, ap, subst, ◌∙◌, inl, inr}
+use Rattle.std.proofs.Common.{◌≡◌, ◌≤◌, ◌+◌, ◌-◌, ◌*◌, ℕ, List, [], ◌∷◌, ◌++◌, length, map, sum, get_or, arith, sym}
+use Rattle.std.proofs.Common.{ap, subst, ◌∙◌, inl, inr}
 use Rattle.std.specs.Global.{Vec}
 use Rattle.std.specs.List.{range_with_len}
 use Rattle.std.proofs.lemmas.Bool.{cases_lt}
@@ -31,9 +31,8 @@ traces-none = record { each = λ i none inside. absurd (omega (arith, inside)) }
 pub traces-push : (traces after : List (Vec ℕ)) (trace : Vec ℕ) → after ≡ traces ++ trace ∷ []
     → AreUnitSizes trace.items → AreTraces traces → AreTraces after
 traces-push traces after trace e own are =
-    let A : List (Vec ℕ) → Type 0 = λ l. AreTraces l in
     let T : Vec ℕ → Type 0 = λ v. AreUnitSizes v.items in
-    subst A (sym e) (record {
+    subst AreTraces (sym e) (record {
       each = λ i none inside. elim (cases_lt i (length traces)) [
         | inl before ↦ subst T (sym (get_or_append_left traces (trace ∷ []) none i before)) (are.each i none before)
         | inr past ↦

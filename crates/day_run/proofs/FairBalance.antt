@@ -1,7 +1,6 @@
 -- Turns of a large day, one after the other.
-use Rattle.std.proofs.Common.{◌≡◌, ◌<◌, ◌+◌, ◌-◌, ◌^◌, ◌%◌, ℕ, max, Bool, cond, List, [], ◌∷◌, ◌++◌}
-use Rattle.std.proofs.Common.{length, map, get_or, arith, Result, Ok, Err, IfOk, refl}
-use Rattle.std.proofs.Common.{sym, ap, subst, ◌∙◌}
+use Rattle.std.proofs.Common.{◌≡◌, ◌<◌, ◌+◌, ◌-◌, ◌^◌, ◌%◌, ℕ, max, Bool, cond, List, [], ◌∷◌, ◌++◌, length, map}
+use Rattle.std.proofs.Common.{get_or, arith, Result, Ok, Err, IfOk, refl, sym, ap, subst, ◌∙◌}
 use Rattle.std.specs.Prelude.{OnOk, sum_by}
 use Rattle.std.specs.List.{fold, range_with_len}
 use Rattle.std.proofs.lemmas.List.{length-append, map-append}
@@ -18,9 +17,9 @@ use Rattle.day_run.specs.declared.clients.Client.{Client}
 use Rattle.day_run.specs.Clients.{state_of}
 use Rattle.day_run.specs.BookingBalance.{IsReady}
 use Rattle.day_run.specs.Days.{SharedLink, DayState, last_journal, IsPlayLine, first_moment, rest_at, state_at}
-use Rattle.day_run.specs.FairDays.{AreTurns, IsDone, IsTurn, FairTurn, after_traces, after_turn}
-use Rattle.day_run.specs.FairDays.{at_later, counts_of, fair_link, IsFair, is_full_line, is_refused}
-use Rattle.day_run.specs.FairDays.{line_drawn, line_in, entry_counts_of, turn_booked, turn_peak, turn_sent, words_for}
+use Rattle.day_run.specs.FairDays.{AreTurns, IsDone, IsTurn, FairTurn, after_traces, after_turn, at_later, counts_of}
+use Rattle.day_run.specs.FairDays.{fair_link, IsFair, is_full_line, is_refused, line_drawn, line_in, entry_counts_of}
+use Rattle.day_run.specs.FairDays.{turn_booked, turn_peak, turn_sent, words_for}
 use Rattle.day_run.specs.FairProgress.{AreTurnResults, IsTurnResult, after_turns, drawn_to, with_slot, with_turn}
 use Rattle.day_script.specs.LineTexts.{fair_text}
 use Rattle.day_run.specs.declared.machine.LineAnswer.{LineAnswer}
@@ -32,7 +31,7 @@ use Rattle.day_run.proofs.LineBalance.{morning-ready, outcome-ready, ready-kept}
 use Rattle.day_run.proofs.LineOutcomes.{done-outcome}
 use Rattle.day_run.proofs.ClientSweepLemmas.{state-at}
 use Rattle.day_run.proofs.ScriptLineFacts.{ClientAsks, ClientOf, LineStep}
-use Rattle.day_run.proofs.PeakLemmas.{peak-push}
+use Rattle.day_run.proofs.SlotTotals.{peak-push}
 
 -- ---- what a client does keeps the balance
 pub done-ready : {c : ℕ} {state : ClientState} (step : LineStep) (words : ℕ → ℕ) → ClientOf step.old c state
@@ -210,13 +209,12 @@ pub fair-of : {here : SharedLink} {steps : List CapStep} {number plays : ℕ} {w
     → journal ≡ last_journal evening → entries ≡ entry_counts_of journal → text ≡ fair_text counts entries
     → IsFair steps number plays text journal
 fair-of {here} {steps} {number} {words} {left} {entries} {evening} {text} same w come j m t =
-    let L : SharedLink → Type 0 = λ x. AreTurns x words come.turns first_moment evening in
     let W : (ℕ → ℕ) → Type 0 = λ x. AreTurns (fair_link steps (words_of number)) x come.turns first_moment evening in
     record {
       turns = come.turns;
       evening = evening;
       count = come.count;
-      run = subst W w (subst L same come.run);
+      run = subst W w (subst (λ (x : SharedLink). AreTurns x words come.turns first_moment evening) same come.run);
       journal_is = j;
       text_is = t ∙ ap (λ c. fair_text c entries) come.counts_are ∙ ap (fair_text (counts_of come.turns evening)) m;
     }
@@ -251,11 +249,9 @@ pub play-drawn : {s b d source buffer delay : ℕ} (r : Result LineAnswer NoMemo
     → IfOk r (λ told. IsPlayLine asks.link asks.client (rest_at asks.link source buffer delay) asks.old
     asks.new (reply_text asks.entries told))
 play-drawn {s} {b} {d} {source} {buffer} {delay} r asks draws is =
-    let P : Rest → Type 0 =
-    λ rest. IfOk r (λ told. IsPlayLine link client rest old new (reply_text entries told)) in
     let e : rest_at link s b d ≡ rest_at link source buffer delay =
     ap (λ k. rest_at link k b d) es ∙ ap (λ k. rest_at link source k d) eb ∙ ap (rest_at link source buffer) ed in
-    subst P e is
+    subst (λ (rest : Rest). IfOk r (λ told. IsPlayLine link client rest old new (reply_text entries told))) e is
   where
     open draws use {sources_are as es, buffers_are as eb, delays_are as ed}
     open asks use {link, client, old, new, entries}

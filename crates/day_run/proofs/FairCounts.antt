@@ -20,8 +20,8 @@ use Rattle.admission.proofs.PlayCounts.{tally}
 use Rattle.day_run.specs.BookingBalance.{IsReady}
 use Rattle.day_run.specs.DayLaws.{AreEntryCounts, is_play}
 use Rattle.day_run.specs.Days.{SharedLink, DayState}
-use Rattle.day_run.specs.FairDays.{AreTurns, FairTurn, after_turn, client_of, entry_counts_of, is_halted}
-use Rattle.day_run.specs.FairDays.{is_overflow, is_refused}
+use Rattle.day_run.specs.FairDays.{AreTurns, FairTurn, after_turn, client_of, entry_counts_of, is_halted, is_overflow}
+use Rattle.day_run.specs.FairDays.{is_refused}
 use Rattle.day_run.proofs.FairLaws.{turn-ready}
 use Rattle.day_run.proofs.FullLineTexts.{done-other}
 use Rattle.day_run.proofs.JournalRoom.{turn-places}
@@ -41,16 +41,9 @@ counted-once : (steps : List CapStep) (state : State) (maker : ℕ) (command : C
 counted-once steps state maker (Play slot segments) (Admitted start) is = record { play = refl; halt = refl }
 counted-once steps state maker (Play slot segments) (Overflow over booked asked) is =
     record { play = refl; halt = refl }
-counted-once steps state maker (Play slot segments) Halted is = absurd is
-counted-once steps state maker (Play slot segments) (Looked now at booked) is = absurd is
 counted-once steps state maker (Halt number keep) Halted is = record { play = refl; halt = refl }
-counted-once steps state maker (Halt number keep) (Admitted start) is = absurd is
-counted-once steps state maker (Halt number keep) (Overflow over booked asked) is = absurd is
-counted-once steps state maker (Halt number keep) (Looked now at booked) is = absurd is
 counted-once steps state maker (Look slot) (Looked now at booked) is = record { play = refl; halt = refl }
-counted-once steps state maker (Look slot) (Admitted start) is = absurd is
-counted-once steps state maker (Look slot) (Overflow over booked asked) is = absurd is
-counted-once steps state maker (Look slot) Halted is = absurd is
+counted-once steps state maker _ _ is = absurd is
 
 record AreCounted (entries : List Entry) : Type 0 where
   plays : count_by (λ (e : Entry). is_admission e.answer) entries + count_by (λ (e : Entry). is_overflow e.answer) entries
@@ -105,9 +98,8 @@ pub never-full : {old : DayState} (link : SharedLink) (words : ℕ → ℕ) (tur
     → count_by is_refused turns ≡ 0
 never-full link words [] new run ready room small = refl
 never-full {old} link words (turn ∷ turns) new run ready room small =
-    let R : DayState → Type 0 = λ m. IsReady m in
     let is = run.1.0 in
-    let begun : IsReady turn.old = subst R (sym run.0) ready in
+    let begun : IsReady turn.old = subst IsReady (sym run.0) ready in
     let at : places_taken turn.old.entries ≡ places_taken old.entries =
     ap (λ (m : DayState). places_taken m.entries) run.0 in
     let places = turn-places turn is begun in
@@ -115,7 +107,7 @@ never-full {old} link words (turn ∷ turns) new run ready room small =
     done-other (client_of words) (record { link = link; old = turn.mid; new = turn.new; text = turn.text })
     (words_after 2 words) _ (omega (arith, at, places.mid, room)) small is.done in
     let later : count_by is_refused turns ≡ 0 =
-    never-full {old = turn.new} link (after_turn words turn) turns new run.1.1 (turn-ready link words turn is begun)
+    never-full {old = turn.new} link (after_turn words turn) turns new run.1.1 (turn-ready is begun)
     (omega (arith, at, places.mid, places.done.few, room)) small in
     let whole : count_by is_refused (turn ∷ turns) ≡ one (is_refused turn) + count_by is_refused turns =
     sum_by-cons (λ t. one (is_refused t)) turn turns in

@@ -1,7 +1,6 @@
 -- What is true of every large day.
-use Rattle.std.proofs.Common.{◌≡◌, ◌≤◌, ◌+◌, ◌-◌, ◌*◌, ◌%◌, ◌==◌, ℕ, max, Bool, true, false, cond}
-use Rattle.std.proofs.Common.{List, [], ◌∷◌, length, map, take, arith, refl, sym, ap}
-use Rattle.std.proofs.Common.{subst, ◌∙◌}
+use Rattle.std.proofs.Common.{◌≡◌, ◌≤◌, ◌+◌, ◌-◌, ◌*◌, ◌%◌, ◌==◌, ℕ, max, Bool, true, false, cond, List, [], ◌∷◌}
+use Rattle.std.proofs.Common.{length, map, take, arith, refl, sym, ap, subst, ◌∙◌}
 use Rattle.std.specs.Prelude.{sum_by}
 use Rattle.std.specs.List.{fold, range_with_len}
 use Rattle.std.proofs.lemmas.List.{take_at}
@@ -14,71 +13,58 @@ use Rattle.admission.specs.Machine.{booked_in}
 use Rattle.admission.proofs.HistoryPrefixes.{legal-take}
 use Rattle.admission.proofs.CapacityBounds.{sound-after}
 use Rattle.day_run.specs.BookingBalance.{IsReady}
-use Rattle.day_run.specs.Days.{SharedLink, DayState}
-use Rattle.day_run.specs.Days.{at_slot, halts_at, last_halts, last_journal}
-use Rattle.day_run.specs.FairDays.{AreTurns, IsTurn, FairTurn, after_turn, at_later}
-use Rattle.day_run.specs.FairDays.{most_up_to, turn_booked, turn_peak, turn_sent}
+use Rattle.day_run.specs.Days.{SharedLink, DayState, at_slot, halts_at, last_halts, last_journal}
+use Rattle.day_run.specs.FairDays.{AreTurns, IsTurn, FairTurn, after_turn, most_up_to, turn_booked, turn_peak}
+use Rattle.day_run.specs.FairDays.{turn_sent}
 use Rattle.day_run.proofs.LineBalance.{outcome-ready, ready-sent, slot-ready}
 use Rattle.day_run.proofs.LineOutcomes.{HasGrown, grown-on, kept-grown, outcome-grown, outcome-heard, turn-outcome}
 use Rattle.day_run.proofs.LineOutcomes.{turn_step}
 
 -- ---- what is sent is what is booked
-pub later-ready : (old : DayState) (later : ℕ) → IsReady old → IsReady (at_later old later)
-later-ready old later ready = ready-if (later == 0)
+-- the moment after a turn's slot: a slot comes, or none
+pub turn-mid : {link : SharedLink} {words : ℕ → ℕ} {turn : FairTurn} (P : DayState → Type 0) → IsTurn link words turn
+    → P turn.old → P (at_slot turn.old (turn.old.heard + words 0 % 4)) → P turn.mid
+turn-mid {words} {turn} P is none some = subst P (sym is.slot) (by-test (words 0 % 4 == 0))
   where
-    ready-if : (b : Bool) → IsReady (cond b old (at_slot old (old.heard + later)))
-    ready-if true = ready
-    ready-if false = slot-ready old (at_slot old (old.heard + later)) (old.heard + later) (omega arith) refl ready
+    by-test : (b : Bool) → P (cond b turn.old (at_slot turn.old (turn.old.heard + words 0 % 4)))
+    by-test true = none
+    by-test false = some
 
-pub later-heard : (old : DayState) (later : ℕ) → old.heard ≤ (at_later old later).heard
-later-heard old later = heard-if (later == 0)
-  where
-    heard-if : (b : Bool) → old.heard ≤ (cond b old (at_slot old (old.heard + later))).heard
-    heard-if true = omega arith
-    heard-if false = omega arith
+pub mid-ready : {link : SharedLink} {words : ℕ → ℕ} {turn : FairTurn} → IsTurn link words turn → IsReady turn.old
+    → IsReady turn.mid
+mid-ready {words} {turn} is ready =
+    let slot = turn.old.heard + words 0 % 4 in
+    turn-mid IsReady is ready (slot-ready turn.old (at_slot turn.old slot) slot (omega arith) refl ready)
 
-pub turn-ready : (link : SharedLink) (words : ℕ → ℕ) (turn : FairTurn) → IsTurn link words turn → IsReady turn.old
+pub mid-heard : {link : SharedLink} {words : ℕ → ℕ} {turn : FairTurn} → IsTurn link words turn
+    → turn.old.heard ≤ turn.mid.heard
+mid-heard {turn} is = turn-mid (λ (m : DayState). turn.old.heard ≤ m.heard) is (omega arith) (omega arith)
+
+pub turn-ready : {link : SharedLink} {words : ℕ → ℕ} {turn : FairTurn} → IsTurn link words turn → IsReady turn.old
     → IsReady turn.new
-turn-ready link words turn is ready =
-    let R : DayState → Type 0 = λ m. IsReady m in
-    let mid : IsReady turn.mid = subst R (sym is.slot) (later-ready turn.old (words 0 % 4) ready) in
-    outcome-ready (turn_step link turn) (turn-outcome turn is) mid
-
-turn-balanced : (link : SharedLink) (words : ℕ → ℕ) (turn : FairTurn) → IsTurn link words turn → IsReady turn.old
-    → turn_sent turn ≡ turn_booked turn
-turn-balanced link words turn is ready =
-    let M : DayState → Type 0 = λ m. turn.old.heard ≤ m.heard in
-    ready-sent turn.old turn.mid.heard (subst M (sym is.slot) (later-heard turn.old (words 0 % 4))) ready
+turn-ready {link} {turn} is ready = outcome-ready (turn_step link turn) (turn-outcome turn is) (mid-ready is ready)
 
 pub turns-balanced : {old : DayState} (link : SharedLink) (words : ℕ → ℕ) (turns : List FairTurn) (new : DayState)
     → AreTurns link words turns old new → IsReady old
     → sum_by turn_sent turns ≡ sum_by turn_booked turns
 turns-balanced link words [] new run ready = refl
 turns-balanced link words (turn ∷ turns) new run ready =
-    let R : DayState → Type 0 = λ m. IsReady m in
-    let begun : IsReady turn.old = subst R (sym run.0) ready in
+    let begun : IsReady turn.old = subst IsReady (sym run.0) ready in
     omega (
       arith,
-      turn-balanced link words turn run.1.0 begun,
-      turns-balanced link (after_turn words turn) turns new run.1.1 (turn-ready link words turn run.1.0 begun),
+      ready-sent turn.old turn.mid.heard (mid-heard run.1.0) begun,
+      turns-balanced link (after_turn words turn) turns new run.1.1 (turn-ready run.1.0 begun),
       sum_by-cons turn_sent turn turns,
       sum_by-cons turn_booked turn turns,
     )
 
 -- ---- a journal only grows
-later-grown : (old : DayState) (later : ℕ) → HasGrown old.entries (at_later old later).entries
-later-grown old later = grown-if (later == 0)
-  where
-    grown-if : (b : Bool) → HasGrown old.entries (cond b old (at_slot old (old.heard + later))).entries
-    grown-if true = kept-grown old old refl
-    grown-if false = record { made = halts_at old (old.heard + later); new_is = refl }
-
-turn-grown : (link : SharedLink) (words : ℕ → ℕ) (turn : FairTurn) → IsTurn link words turn
+turn-grown : {link : SharedLink} {words : ℕ → ℕ} (turn : FairTurn) → IsTurn link words turn
     → HasGrown turn.old.entries turn.new.entries
-turn-grown link words turn is =
-    let G : DayState → Type 0 = λ m. HasGrown turn.old.entries m.entries in
+turn-grown {link} turn is =
     grown-on turn.old.entries turn.mid.entries turn.new.entries
-    (subst G (sym is.slot) (later-grown turn.old (words 0 % 4)))
+    (turn-mid (λ (m : DayState). HasGrown turn.old.entries m.entries) is (kept-grown turn.old turn.old refl)
+    (record { made = halts_at turn.old _; new_is = refl }))
     (outcome-grown (turn_step link turn) (turn-outcome turn is))
 
 turns-grown : (link : SharedLink) (words : ℕ → ℕ) (turns : List FairTurn) (old new : DayState)
@@ -86,7 +72,7 @@ turns-grown : (link : SharedLink) (words : ℕ → ℕ) (turns : List FairTurn) 
 turns-grown link words [] old new run = kept-grown old new run
 turns-grown link words (turn ∷ turns) old new run =
     let G : DayState → Type 0 = λ m. HasGrown m.entries new.entries in
-    subst G run.0 (grown-on turn.old.entries turn.new.entries new.entries (turn-grown link words turn run.1.0)
+    subst G run.0 (grown-on turn.old.entries turn.new.entries new.entries (turn-grown turn run.1.0)
     (turns-grown link (after_turn words turn) turns turn.new new run.1.1))
 
 -- ---- no slot has more than the capacity
@@ -109,10 +95,9 @@ moment-within {steps} {journal} {m} {most} slot given =
     (λ t.
     let front : take (length m.entries) journal ≡ m.entries =
     ap (take (length m.entries)) grown.new_is ∙ take_at m.entries grown.made (length m.entries) refl in
-    let E : List Entry → Type 0 = λ es. booked_after es t ≤ capacity_at steps t in
     omega (
       arith,
-      subst E front
+      subst (λ (es : List Entry). booked_after es t ≤ capacity_at steps t) front
           ((sound-after steps (take (length m.entries) journal)
           (legal-take steps journal (length m.entries) legal)).within.each t),
       capacity t,
@@ -138,7 +123,7 @@ turns-within {journal} {most} (turn ∷ turns) come top given small =
     record { link = link; words = after_turn words turn; old = turn.new; new = new; run = run.1.1 } in
     let rest = turns-grown link (after_turn words turn) turns turn.new new run.1.1 in
     let from-old =
-    grown-on turn.old.entries turn.new.entries journal (turn-grown link words turn is)
+    grown-on turn.old.entries turn.new.entries journal (turn-grown turn is)
     (grown-on turn.new.entries new.entries journal rest given.grown) in
     let here : turn_peak turn ≤ most =
     moment-within {m = turn.old} turn.mid.heard
@@ -152,23 +137,15 @@ pub evening-grown : (evening : DayState) (journal : List Entry) → journal ≡ 
 evening-grown evening journal is = record { made = last_halts evening; new_is = is }
 
 -- ---- a turn brings at most three slots
-later-most : (old : DayState) (later : ℕ) → (at_later old later).heard ≤ old.heard + later
-later-most old later = most-if (later == 0)
-  where
-    most-if : (b : Bool) → (cond b old (at_slot old (old.heard + later))).heard ≤ old.heard + later
-    most-if true = omega arith
-    most-if false = omega arith
-
 pub turns-heard : (link : SharedLink) (words : ℕ → ℕ) (turns : List FairTurn) (old new : DayState)
     → AreTurns link words turns old new → new.heard ≤ old.heard + 3 * length turns
 turns-heard link words [] old new run = omega (arith, ap (λ (m : DayState). m.heard) run)
 turns-heard link words (turn ∷ turns) old new run =
     let is = run.1.0 in
-    let M : DayState → Type 0 = λ m. m.heard ≤ turn.old.heard + words 0 % 4 in
     omega (
       arith,
       ap (λ (m : DayState). m.heard) run.0,
-      subst M (sym is.slot) (later-most turn.old (words 0 % 4)),
+      turn-mid (λ (m : DayState). m.heard ≤ turn.old.heard + words 0 % 4) is (omega arith) (omega arith),
       outcome-heard (turn_step link turn) (turn-outcome turn is),
       turns-heard link (after_turn words turn) turns turn.new new run.1.1,
     )
@@ -176,9 +153,7 @@ turns-heard link words (turn ∷ turns) old new run =
 pub turns-ready : {old new : DayState} (link : SharedLink) (words : ℕ → ℕ) (turns : List FairTurn)
     → AreTurns link words turns old new → IsReady old → IsReady new
 turns-ready {new} link words [] run ready =
-    let R : DayState → Type 0 = λ m. IsReady m in
-    subst R (sym run) ready
+    subst IsReady (sym run) ready
 turns-ready {new} link words (turn ∷ turns) run ready =
-    let R : DayState → Type 0 = λ m. IsReady m in
     turns-ready link (after_turn words turn) turns run.1.1
-    (turn-ready link words turn run.1.0 (subst R (sym run.0) ready))
+    (turn-ready run.1.0 (subst IsReady (sym run.0) ready))

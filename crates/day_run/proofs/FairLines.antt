@@ -18,7 +18,7 @@ use Rattle.day_run.proofs.LineBalance.{morning-ready}
 use Rattle.day_run.proofs.FairLaws.{TurnRun, evening-grown, turns-balanced, turns-heard, turns-ready, turns-within}
 use Rattle.day_run.proofs.PastSlots.{IsTurnBooked, fair-past}
 use Rattle.day_run.proofs.SlotBalance.{last-open}
-use Rattle.day_run.proofs.SlotSums.{sum-slots}
+use Rattle.day_run.proofs.SlotTotals.{sum-slots}
 
 pub fair-line : {number : ℕ} (steps : List CapStep) (plays : ℕ) (text : List ℕ) (journal : List Entry)
     → IsFair steps number plays text journal → IsLegal steps journal → IsFairLine steps plays text journal
@@ -63,9 +63,8 @@ turn-within {steps} {journal} turn legal is = record {
   sent = is.sent;
   within = λ slot after before.
       let slots = range_with_len (turn.old.heard + 1) (slot - turn.old.heard) in
-      let S : ℕ → Type 0 = λ sent. sent ≤ sum_by (capacity_at steps) slots in
       let most = (sound-after steps journal legal).within in
-      subst S (sym (is.sent slot after before))
+      subst (λ (sent : ℕ). sent ≤ sum_by (capacity_at steps) slots) (sym (is.sent slot after before))
       (sum_by-le-sum_by (booked_after journal) (capacity_at steps) slots (λ t. most.each t));
   each_slot = λ slot after before.
       let booked = booked_after journal in

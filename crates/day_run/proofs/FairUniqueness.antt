@@ -1,6 +1,6 @@
 -- A number has one large day.
-use Rattle.std.proofs.Common.{◌≡◌, ◌<◌, ◌+◌, ◌%◌, ◌==◌, ℕ, Bool, true, false, cond, List, [], ◌∷◌}
-use Rattle.std.proofs.Common.{length, map, get_or, Option, Some, None, IfSome, arith, refl, sym, ap, subst, ◌∙◌}
+use Rattle.std.proofs.Common.{◌≡◌, ◌<◌, ◌+◌, ◌%◌, ℕ, List, [], ◌∷◌, length, map, get_or, Option, Some, None, IfSome}
+use Rattle.std.proofs.Common.{arith, refl, sym, ap, subst, ◌∙◌}
 use Rattle.std.specs.List.{range_with_len}
 use Rattle.std.proofs.lemmas.List.{get_or-map, length-map}
 use Rattle.std.proofs.lemmas.List.FromFn.{length-map-range_with_len, length-range_with_len}
@@ -11,16 +11,16 @@ use Rattle.slot_calendar.specs.declared.profiles.CapStep.{CapStep}
 use Rattle.admission.specs.declared.entries.Entry.{Entry}
 use Rattle.day_script.specs.declared.scripts.Line.{Line}
 use Rattle.day_run.specs.declared.fairs.TheConstants.{BUFFER_SIZES, SLOT_UNITS}
-use Rattle.day_run.specs.ClientStates.{ClientState, Idle, Playing, Pausing, Paused, MediaContent, trace_content}
+use Rattle.day_run.specs.ClientStates.{ClientState, Idle, Pausing, MediaContent, trace_content}
 use Rattle.day_run.specs.DayLaws.{IsLink, IsSoundMedia}
-use Rattle.day_run.specs.Days.{SharedLink, DayState, at_slot, first_moment, last_journal, state_at}
+use Rattle.day_run.specs.Days.{SharedLink, DayState, first_moment, last_journal, state_at}
 use Rattle.day_run.specs.FairDays.{AreTurns, IsDone, IsFair, IsTurn, FairTurn, after_traces, after_turn, at_later}
-use Rattle.day_run.specs.FairDays.{client_of, counts_of, entry_counts_of, fair_link, line_drawn, line_in}
-use Rattle.day_run.specs.FairDays.{state_in, trace_drawn, traces_drawn}
+use Rattle.day_run.specs.FairDays.{client_of, counts_of, entry_counts_of, fair_link, line_drawn, line_in, state_in}
+use Rattle.day_run.specs.FairDays.{trace_drawn, traces_drawn}
 use Rattle.day_script.specs.LineTexts.{fair_text}
 use Rattle.day_run.proofs.LineBalance.{morning-ready}
 use Rattle.day_run.proofs.DrawnTraceLemmas.{drawn-trace}
-use Rattle.day_run.proofs.FairLaws.{TurnRun}
+use Rattle.day_run.proofs.FairLaws.{TurnRun, turn-mid}
 use Rattle.day_run.proofs.DayUniqueness.{IsOne, OutcomePair, one-line, one-told}
 use Rattle.day_run.proofs.SoundClients.{IsSound, idle-sound, line-sound, slot-sound}
 use Rattle.day_run.proofs.ScriptLineFacts.{LineStep, StandingLine}
@@ -90,9 +90,8 @@ drawn-stands old words Idle fair small =
         delay_fits = omega (arith, delay);
       };
     }
-drawn-stands old words (Playing play) fair small = record { client = small; stands = tt }
 drawn-stands old words (Pausing stop rest) fair small = tt
-drawn-stands old words (Paused rest) fair small = record { client = small; stands = tt }
+drawn-stands old words _ fair small = record { client = small; stands = tt }
 
 line-stands : {link : SharedLink} (words : ℕ → ℕ) (turn : FairTurn) → IsFairLink link
     → MayStand link turn.mid (line_in words turn)
@@ -109,22 +108,15 @@ done-sound : (step : LineStep) (line : Option Line) → IsBegun step.link step.o
     → IsDone step.link line step.old step.new step.text → IsSound step.new
 done-sound step (Some line) begun stands is = line-sound step line begun.fair.link_is stands begun.sound is
 done-sound step None begun stands is =
-    let S : DayState → Type 0 = λ m. IsSound m in
-    subst S (sym is.kept) begun.sound
+    subst IsSound (sym is.kept) begun.sound
 
 -- ---- a turn has one outcome
-later-sound : (old : DayState) (later : ℕ) → IsSound old → IsSound (at_later old later)
-later-sound old later sound = sound-if (later == 0)
-  where
-    sound-if : (b : Bool) → IsSound (cond b old (at_slot old (old.heard + later)))
-    sound-if true = sound
-    sound-if false = slot-sound old (old.heard + later) (omega arith) sound
-
 mid-begun : {link : SharedLink} {words : ℕ → ℕ} (turn : FairTurn) → IsBegun link turn.old → IsTurn link words turn
     → IsBegun link turn.mid
-mid-begun {words} turn begun is =
-    let S : DayState → Type 0 = λ m. IsSound m in
-    record { fair = begun.fair; sound = subst S (sym is.slot) (later-sound turn.old (words 0 % 4) begun.sound) }
+mid-begun turn begun is = record {
+  fair = begun.fair;
+  sound = turn-mid IsSound is begun.sound (slot-sound turn.old _ (omega arith) begun.sound);
+}
 
 next-begun : {link : SharedLink} {words : ℕ → ℕ} (turn : FairTurn) → IsBegun link turn.old → IsTurn link words turn
     → IsBegun link turn.new
@@ -142,7 +134,6 @@ one-turn {link} {words} turn other begun old a b =
     a.slot ∙ ap (λ (m : DayState). at_later m (words 0 % 4)) old ∙ sym b.slot in
     let line : DayState → Option Line =
     λ m. line_drawn (words_after 2 words) (client_of words) (state_at m (client_of words)) in
-    let D : DayState → Type 0 = λ m. IsDone link (line m) m other.new other.text in
     let one =
     one-done (record {
       link = link;
@@ -150,7 +141,7 @@ one-turn {link} {words} turn other begun old a b =
       one = record { new = turn.new; text = turn.text };
       other = record { new = other.new; text = other.text };
     }) (line_in words turn) (mid-begun turn begun a) (line-stands words turn begun.fair) a.done
-    (subst D (sym mid) b.done) in
+    (subst (λ (m : DayState). IsDone link (line m) m other.new other.text) (sym mid) b.done) in
     ap (λ m. record { old = m; mid = turn.mid; new = turn.new; text = turn.text }) old
     ∙ ap (λ m. record { old = other.old; mid = m; new = turn.new; text = turn.text }) mid
     ∙ ap (λ m. record { old = other.old; mid = other.mid; new = m; text = turn.text }) one.new_is
@@ -165,21 +156,18 @@ one-turns : {new' : DayState} (turns others : List FairTurn) (come : TurnRun tur
     → length turns ≡ length others → AreTurns come.link come.words others come.old new'
     → AreOne turns others come.new new'
 one-turns [] [] come begun count b = record { turns_are = refl; new_is = come.run ∙ sym b }
-one-turns [] (other ∷ others) come begun count b = absurd (omega (arith, count))
-one-turns (turn ∷ turns) [] come begun count b = absurd (omega (arith, count))
 one-turns {new'} (turn ∷ turns) (other ∷ others) come begun count b =
-    let B : DayState → Type 0 = λ m. IsBegun link m in
-    let here : IsBegun link turn.old = subst B (sym run.0) begun in
+    let here : IsBegun link turn.old = subst (IsBegun link) (sym run.0) begun in
     let one : turn ≡ other = one-turn turn other here (run.0 ∙ sym b.0) run.1.0 b.1.0 in
-    let R : FairTurn → Type 0 = λ t. AreTurns link (after_turn words t) others t.new new' in
     let later : TurnRun turns =
     record { link = link; words = after_turn words turn; old = turn.new; new = new; run = run.1.1 } in
     let rest =
     one-turns {new' = new'} turns others later (next-begun turn here run.1.0) (omega (arith, count))
-    (subst R (sym one) b.1.1) in
+    (subst (λ (t : FairTurn). AreTurns link (after_turn words t) others t.new new') (sym one) b.1.1) in
     record { turns_are = ap (λ t. t ∷ turns) one ∙ ap (λ ts. other ∷ ts) rest.turns_are; new_is = rest.new_is }
   where
     open come use {link, words, new, run}
+one-turns _ _ come begun count b = absurd (omega (arith, count))
 
 pub one-fair : {steps : List CapStep} {number plays : ℕ} {text text' : List ℕ} {journal journal' : List Entry}
     → IsFair steps number plays text journal → IsFair steps number plays text' journal'

@@ -1,12 +1,12 @@
 -- Which lines of a day say that the journal is full, and what they then say.
-use Rattle.std.proofs.Common.{◌≡◌, ◌<◌, ◌≤◌, ◌+◌, ◌^◌, ◌%◌, ℕ, true, false, true≢false, List, [], ◌∷◌, ◌++◌, length, take}
-use Rattle.std.proofs.Common.{Option, Some, None, arith, refl, sym, ap, ◌∙◌, inl, inr}
+use Rattle.std.proofs.Common.{◌≡◌, ◌<◌, ◌≤◌, ◌+◌, ◌^◌, ◌%◌, ℕ, true, false, true≢false, List, [], ◌++◌, length, take}
+use Rattle.std.proofs.Common.{Option, None, arith, refl, sym, ap, ◌∙◌, inl, inr}
 use Rattle.std.specs.Prelude.{◌⊎◌, codes, decimal}
 use Rattle.std.specs.Str.{bytes_eq}
 use Rattle.std.proofs.lemmas.List.{append-nil, append_assoc}
 use Rattle.early_start.specs.declared.Tried.{Tried}
 use Rattle.wire_curve.specs.declared.film.CurveFault.{CurveFault}
-use Rattle.wire_curve.specs.declared.film.CurveFault.TheVariants.{BufferTooSmall, NoPictures, TooManySlots}
+use Rattle.wire_curve.specs.declared.film.CurveFault.TheVariants.{NoPictures}
 use Rattle.admission.specs.declared.entries.Entry.{Entry}
 use Rattle.admission.specs.Books.{places_taken}
 use Rattle.admission.specs.Histories.{open_count}
@@ -40,8 +40,7 @@ noted-other {entry} {old} small is =
 
 fault-other : (fault : CurveFault) → is_full_line (fault_text fault) ≡ false
 fault-other NoPictures = refl
-fault-other (TooManySlots slots) = refl
-fault-other (BufferTooSmall slot used least) = refl
+fault-other _ = refl
 
 asked-text : {c : ℕ} {rest : Rest} (step : LineStep) → length step.old.entries < 2 ^ 64
     → IsAsked step.link c rest step.old step.new step.text → OtherOrFull step 2
@@ -53,24 +52,19 @@ asked-text step small (inr planned) = elim planned.done [
 
 play-text : (step : LineStep) (c : ℕ) (rest : Rest) (state : ClientState) → length step.old.entries < 2 ^ 64
     → IsPlayTaken step c rest state → OtherOrFull step 2
-play-text step c rest Idle small is = asked-text step small is
 play-text step c rest (Playing play) small is = inl (told-other is refl)
 play-text step c rest (Pausing stop left) small is = inl (told-other is refl)
-play-text step c rest (Paused left) small is = asked-text step small is
+play-text step c rest _ small is = asked-text step small is
 
 resume-text : (step : LineStep) (c : ℕ) (state : ClientState) → length step.old.entries < 2 ^ 64
     → IsResumeLine step.link c state step.old step.new step.text → OtherOrFull step 2
-resume-text step c Idle small is = inl (told-other is refl)
-resume-text step c (Playing play) small is = inl (told-other is refl)
-resume-text step c (Pausing stop rest) small is = inl (told-other is refl)
 resume-text step c (Paused rest) small is = asked-text step small is
+resume-text step c _ small is = inl (told-other is refl)
 
 pause-text : (step : LineStep) (c : ℕ) (state : ClientState) → length step.old.entries < 2 ^ 64
     → IsPauseLine step.link c state step.old step.new step.text → is_full_line step.text ≡ false
-pause-text step c Idle small is = told-other is refl
 pause-text step c (Playing play) small is = noted-other small is.noted
-pause-text step c (Pausing stop rest) small is = told-other is refl
-pause-text step c (Paused rest) small is = told-other is refl
+pause-text step c _ small is = told-other is refl
 
 look-text : {slot : ℕ} (step : LineStep) → length step.old.entries < 2 ^ 64
     → IsLookLine step.link slot step.old step.new step.text → OtherOrFull step 1
@@ -83,8 +77,7 @@ slot-other old slot = refl
 offer-other : (tried : List Tried) (start : Option ℕ) (wait : ℕ)
     → is_full_line (offer_text (record { wait = wait; start = start; tried = tried })) ≡ false
 offer-other [] None wait = refl
-offer-other [] (Some start) wait = refl
-offer-other (t ∷ tried) start wait = refl
+offer-other _ _ wait = refl
 
 offer-line-text : {rest : Rest} {wait : ℕ} (step : LineStep)
     → IsOfferLine step.link rest wait step.old step.new step.text → is_full_line step.text ≡ false

@@ -46,16 +46,14 @@ passed-sound : {i : ℕ} {xs ys : List Entry} {cs ds : List Client} (client : Cl
     → i < length cs → IfSome halt (IsHaltOf (get_or cs i client)) → ys ≡ xs ++ halts_of i halt
     → HaltOutcome i cs ds halt → AreOnBook xs cs → AreOnBook ys ds
 passed-sound {xs} {ys} {cs} client None inside its is outcome sound =
-    let X : List Entry → Type 0 = λ l. AreOnBook l cs in
     let C : List Client → Type 0 = λ l. AreOnBook ys l in
-    subst C (sym outcome.left) (subst X (sym (is ∙ append-nil xs)) sound)
+    subst C (sym outcome.left) (subst (λ (l : List Entry). AreOnBook l cs) (sym (is ∙ append-nil xs)) sound)
 passed-sound {i} {xs} {ys} {cs} client (Some halt) inside its is outcome sound =
     let e = entry_by i (commands.Halt halt.number halt.keep) Halted in
-    let C : List Client → Type 0 = λ l. AreOnBook ys l in
     let Y : List Entry → Type 0 = λ l. AreBooked l (set cs i clients.Idle) in
     let own = open-halt (get_or cs i client) (sound.going.each i client inside) (sound.booked.each i client inside) its
     in
-    subst C (sym outcome.some) (record {
+    subst (AreOnBook ys) (sym outcome.some) (record {
       going = going-set cs i clients.Idle tt sound.going;
       booked = subst Y (sym is) (booked-halt clients.Idle e refl own tt sound.booked);
     })

@@ -7,13 +7,13 @@ use Rattle.plan_cert.specs.declared.Segment.{Segment}
 use Rattle.plan_cert.specs.PlanSlots.{total_bytes}
 use Rattle.slot_calendar.specs.declared.profiles.CapStep.{CapStep}
 use Rattle.admission.specs.declared.entries.Command.{Command}
-use Rattle.admission.specs.declared.entries.Command.TheVariants.{Halt, Look, Play}
+use Rattle.admission.specs.declared.entries.Command.TheVariants.{Halt}
 use Rattle.admission.specs.declared.entries.Entry.{Entry}
 use Rattle.admission.specs.Histories.{Halts, IsAdmission, IsHalt, IsLegal, IsUnhalted, open_count}
 use Rattle.admission.specs.Machine.{AdmittedPlay}
 use Rattle.admission.proofs.OneHalt.{closed-halted, halts-once}
 use Rattle.day_run.specs.BookingBalance.{AreHeldOf, AreOwnHalts, IsHeld, IsReady}
-use Rattle.day_run.specs.ClientStates.{ClientState, Playing, ClientPlay}
+use Rattle.day_run.specs.ClientStates.{Playing, ClientPlay}
 use Rattle.day_run.specs.Days.{DayState, state_at}
 use Rattle.day_run.specs.JournalLaws.{IsHaltedOnce, IsOpenPlayOf}
 
@@ -28,12 +28,11 @@ record HaltsWith (number : ℕ) (command : Command) : Type 0 where
   is : command ≡ Halt number keep
 
 halts-or : (number : ℕ) (command : Command) → HaltsWith number command ⊎ (Halts number command → ⊥)
-halts-or number (Play slot segments) = inr (λ halts. halts)
-halts-or number (Look slot) = inr (λ halts. halts)
 halts-or number (Halt that keep) = elim (cases_eq that number) [
   | inl same ↦ inl (record { keep = keep; is = ap (λ n. Halt n keep) same })
   | inr other ↦ inr other
 ]
+halts-or number _ = inr (λ halts. halts)
 
 find-halt : (number : ℕ) (entries : List Entry) → FoundHalt entries number ⊎ IsUnhalted entries number
 find-halt number [] = inr (record { each = λ i none inside. absurd (omega (arith, inside)) })
@@ -81,9 +80,8 @@ halted-once {steps} {entries} {start} {segments} number legal closed halts admis
 pub open-own : {m : DayState} {client : ℕ} {play : ClientPlay} → IsReady m → client < 256
     → state_at m client ≡ Playing play → IsOpenPlayOf m.entries client play
 open-own {m} {client} {play} ready inside at =
-    let H : ClientState → Type 0 = λ s. AreHeldOf m.entries client s in
     let its : IsHeld m.entries client play =
-    subst H at (ready.balanced.held client (omega (arith, inside, ready.count))) in
+    subst (AreHeldOf m.entries client) at (ready.balanced.held client (omega (arith, inside, ready.count))) in
     record {
       maker = its.maker;
       open_is = λ keep small.

@@ -1,6 +1,6 @@
 -- Whose the entries are that a line makes.
-use Rattle.std.proofs.Common.{◌≡◌, ℕ, Bool, true, false, cond, List, [], ◌∷◌, All, arith, refl, sym}
-use Rattle.std.proofs.Common.{ap, ◌∙◌, ◌+◌, inl, inr}
+use Rattle.std.proofs.Common.{◌≡◌, ℕ, Bool, true, false, cond, List, [], ◌∷◌, All, arith, refl, sym, ap, ◌∙◌, ◌+◌}
+use Rattle.std.proofs.Common.{inl, inr}
 use Rattle.std.proofs.lemmas.List.{append-nil}
 use Rattle.std.proofs.lemmas.List.Elements.{All-append, All-cons, All-nil}
 use Rattle.admission.specs.declared.entries.Entry.{Entry}
@@ -8,8 +8,8 @@ use Rattle.admission.specs.Histories.{is_halt}
 use Rattle.day_script.specs.declared.scripts.Line.{Line}
 use Rattle.day_script.specs.declared.scripts.Line.TheVariants as lines
 use Rattle.day_run.specs.ClientStates.{ClientState, Idle, Playing, Pausing, Paused, Rest, is_done}
-use Rattle.day_run.specs.Days.{IsAsked, IsLine, IsLookLine, IsNoted, IsPauseLine, IsResumeLine, SharedLink}
-use Rattle.day_run.specs.Days.{DayState, done_halt, halt_by, halt_entries, halts_at, open_halt, rest_at, state_at}
+use Rattle.day_run.specs.Days.{IsAsked, IsLine, IsLookLine, IsNoted, IsPauseLine, IsResumeLine, SharedLink, DayState}
+use Rattle.day_run.specs.Days.{done_halt, halt_by, halt_entries, halts_at, open_halt, rest_at, state_at}
 use Rattle.day_run.specs.JournalLaws.{HasItsMaker, IsMadeBy}
 use Rattle.day_run.proofs.LineOutcomes.{offer-kept}
 use Rattle.day_run.proofs.ScriptLineFacts.{IsPlayTaken, LineStep}
@@ -42,24 +42,19 @@ asked-made (inr planned) = elim planned.done [
 
 play-made : (step : LineStep) (c : ℕ) (rest : Rest) (state : ClientState) → IsPlayTaken step c rest state
     → IsMadeBy c step.old step.new
-play-made step c rest Idle is = asked-made is
 play-made step c rest (Playing play) is = none-made is.kept
 play-made step c rest (Pausing stop left) is = none-made is.kept
-play-made step c rest (Paused left) is = asked-made is
+play-made step c rest _ is = asked-made is
 
 resume-made : (step : LineStep) (c : ℕ) (state : ClientState)
     → IsResumeLine step.link c state step.old step.new step.text → IsMadeBy c step.old step.new
-resume-made step c Idle is = none-made is.kept
-resume-made step c (Playing play) is = none-made is.kept
-resume-made step c (Pausing stop rest) is = none-made is.kept
 resume-made step c (Paused rest) is = asked-made is
+resume-made step c _ is = none-made is.kept
 
 pause-made : (step : LineStep) (c : ℕ) (state : ClientState)
     → IsPauseLine step.link c state step.old step.new step.text → IsMadeBy c step.old step.new
-pause-made step c Idle is = none-made is.kept
 pause-made step c (Playing play) is = one-made is.noted
-pause-made step c (Pausing stop rest) is = none-made is.kept
-pause-made step c (Paused rest) is = none-made is.kept
+pause-made step c _ is = none-made is.kept
 
 look-made : {link : SharedLink} {slot : ℕ} {old new : DayState} {text : List ℕ} → IsLookLine link slot old new text
     → IsMadeBy 0 old new
@@ -78,10 +73,8 @@ halt-if true c number keep = one-halt c number keep
 halt-if false c number keep = All-nil IsHaltEntry
 
 done-halts : (slot c : ℕ) (state : ClientState) → All IsHaltEntry (done_halt slot c state)
-done-halts slot c Idle = All-nil IsHaltEntry
 done-halts slot c (Playing play) = halt-if (is_done slot play) c play.number _
-done-halts slot c (Pausing stop rest) = All-nil IsHaltEntry
-done-halts slot c (Paused rest) = All-nil IsHaltEntry
+done-halts slot c _ = All-nil IsHaltEntry
 
 open-halts : (heard c : ℕ) (state : ClientState) → All IsHaltEntry (open_halt heard c state)
 open-halts heard c Idle = All-nil IsHaltEntry
@@ -98,9 +91,6 @@ all-halts halt each c (state ∷ states) =
 
 pub slot-halts : (m : DayState) (slot : ℕ) → All IsHaltEntry (halts_at m slot)
 slot-halts m slot = all-halts (done_halt slot) (done-halts slot) 0 m.states
-
-pub last-halts-made : (m : DayState) → All IsHaltEntry (halt_entries (open_halt m.heard) 0 m.states)
-last-halts-made m = all-halts (open_halt m.heard) (open-halts m.heard) 0 m.states
 
 pub line-made : (link : SharedLink) (line : Line) (old new : DayState) (text : List ℕ) → IsLine link line old new text
     → HasItsMaker line old new

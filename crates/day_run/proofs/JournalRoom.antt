@@ -1,31 +1,25 @@
 -- A day's journal keeps places for the halts of its open plays, and no line takes one of them.
-use Rattle.std.proofs.Common.{◌≡◌, ◌<◌, ◌≤◌, ◌+◌, ◌%◌, ◌==◌, ℕ, Bool, true, false, cond, List, [], ◌∷◌, ◌++◌}
-use Rattle.std.proofs.Common.{length, get_or, arith, refl, sym, ap, subst, ◌∙◌}
+use Rattle.std.proofs.Common.{◌≡◌, ◌<◌, ◌≤◌, ◌+◌, ℕ, List, [], ◌∷◌, ◌++◌, length, get_or, arith, refl, ap, ◌∙◌}
 use Rattle.std.proofs.lemmas.List.{length-append}
 use Rattle.std.proofs.lemmas.List.Sums.{sum_by_push}
 use Rattle.plan_cert.specs.declared.Segment.{Segment}
 use Rattle.admission.specs.declared.entries.Answer.{Answer}
-use Rattle.admission.specs.declared.entries.Answer.TheVariants.{Admitted, Overflow, Halted, Looked}
+use Rattle.admission.specs.declared.entries.Answer.TheVariants.{Admitted}
 use Rattle.admission.specs.declared.entries.Command.TheVariants as commands
 use Rattle.admission.specs.declared.entries.Entry.{Entry}
 use Rattle.admission.specs.Books.{places_taken}
 use Rattle.admission.specs.Histories.{open_count, state_after}
 use Rattle.admission.specs.Machine.{State, admitted_play, live, next_state}
 use Rattle.admission.proofs.HistoryPrefixes.{state-push}
-use Rattle.day_script.specs.declared.scripts.Line.{Line}
 use Rattle.day_run.specs.BookingBalance.{IsReady}
 use Rattle.day_run.specs.ClientStates.{Idle, Playing, ClientPlay}
-use Rattle.day_script.specs.Scripts.{AreClients}
-use Rattle.day_script.specs.Scripts.{AreLines}
-use Rattle.day_run.specs.Days.{AreLineSteps, IsDay, IsHaltedPlay}
-use Rattle.day_run.specs.Days.{SharedLink, DayState, at_slot, entry_by, last_journal}
-use Rattle.day_run.specs.FairDays.{IsTurn, FairTurn, at_later}
-use Rattle.day_run.proofs.FairLaws.{later-ready}
-use Rattle.day_run.proofs.LineBalance.{morning-ready, outcome-ready, taken-ready}
-use Rattle.day_run.proofs.LineOutcomes.{LineOutcome, Kept, Asked, Stopped, Looks, Reached, line-outcome}
-use Rattle.day_run.proofs.LineOutcomes.{outcome-heard, turn-outcome, turn_step}
-use Rattle.day_run.proofs.ScriptLineFacts.{LineStep, LinesTaken, StandingLines}
-use Rattle.day_run.proofs.ScriptLineFacts.{first-standing, rest-standing, standing-of}
+use Rattle.day_run.specs.Days.{IsHaltedPlay, SharedLink, DayState, entry_by, last_journal}
+use Rattle.day_run.specs.FairDays.{IsTurn, FairTurn}
+use Rattle.day_run.proofs.FairLaws.{mid-ready, turn-mid}
+use Rattle.day_run.proofs.LineBalance.{morning-ready, outcome-ready}
+use Rattle.day_run.proofs.LineOutcomes.{LineOutcome, Kept, Asked, Stopped, Looks, Reached, line-outcome, taken-keeps}
+use Rattle.day_run.proofs.LineOutcomes.{turn-outcome, turn_step}
+use Rattle.day_run.proofs.ScriptLineFacts.{LineStep, LinesTaken}
 use Rattle.day_run.proofs.SentBookedLemmas.{open_one}
 use Rattle.day_run.proofs.SlotBalance.{held-play, its-held, last-halted, places-halt, slot-halted}
 
@@ -57,9 +51,7 @@ next-open state place slot segments (Admitted start) =
     let more : live (next_state state place (commands.Play slot segments) (Admitted start)) ≡ live state + 1 =
     sum_by_push open_one state.held (admitted_play place start segments) in
     omega (arith, more)
-next-open state place slot segments (Overflow over booked asked) = omega arith
-next-open state place slot segments Halted = omega arith
-next-open state place slot segments (Looked now at booked) = omega arith
+next-open state place slot segments _ = omega arith
 
 played-places : (xs : List Entry) (c slot : ℕ) (segments : List Segment) (answer : Answer)
     → places_taken (xs ++ entry_by c (commands.Play slot segments) answer ∷ []) ≤ places_taken xs + 2
@@ -106,56 +98,20 @@ outcome-places {slot} step (Reached own) ready =
     ∙ (slot-halted step.old slot own.later ready.balanced).places)
 
 -- ---- the lines of a script
-run-places : {old : DayState} {n : ℕ} (link : SharedLink) (ls : List Line) (ts : List (List ℕ)) (new : DayState)
-    → StandingLines old.heard n ls → AreLineSteps link ls ts old new → IsReady old
-    → places_taken old.entries ≤ link.limit → places_taken new.entries ≤ link.limit
-run-places link [] [] new standing run ready fits =
-    omega (arith, ap (λ (m : DayState). places_taken m.entries) run, fits)
-run-places link [] (t ∷ ts) new standing run ready fits = absurd run
-run-places link (l ∷ ls) [] new standing run ready fits = absurd run
-run-places {old} link (l ∷ ls) (t ∷ ts) new standing run ready fits =
-    let step : LineStep = record { link = link; old = old; new = run.0; text = t } in
-    let outcome = line-outcome step l (first-standing standing) run.1.0 in
-    run-places {old = run.0} link ls ts new (rest-standing standing (outcome-heard step outcome)) run.1.1
-    (outcome-ready step outcome ready) ((outcome-places step outcome ready).within fits)
-
 pub taken-places : {link : SharedLink} {n : ℕ} (taken : LinesTaken link n)
     → places_taken taken.moment.entries ≤ link.limit
-taken-places {link} taken =
-    run-places link taken.lines taken.texts taken.moment (standing-of taken) taken.run morning-ready (omega arith)
+taken-places {link} {n} taken =
+    (taken-keeps taken (λ (m : DayState). IsReady m × (places_taken m.entries ≤ link.limit))
+    (λ line old new text standing is ready.
+    let step : LineStep = record { link = link; old = old; new = new; text = text } in
+    let outcome = line-outcome step line standing is in
+    (outcome-ready step outcome ready.0, (outcome-places step outcome ready.0).within ready.1))
+    (morning-ready, omega arith)).1
 
 pub last-places : (m : DayState) → IsReady m → places_taken (last_journal m) ≡ places_taken m.entries
 last-places m ready = (last-halted m ready.balanced).places
 
--- the journal of a script's day stays within its limit
-pub day-room : {link : SharedLink} {n : ℕ} {lines : List Line} {text : List ℕ} {journal : List Entry} → AreClients lines
-    → AreLines n lines → IsDay link lines text journal → places_taken journal ≤ link.limit
-day-room {link} {n} {lines} clients are day =
-    let taken : LinesTaken link n = record {
-      lines = lines;
-      texts = day.texts;
-      moment = day.evening;
-      clients = clients;
-      are = are;
-      run = day.run;
-    } in
-    omega (
-      arith,
-      ap (λ (xs : List Entry). places_taken xs) day.journal_is,
-      last-places day.evening (taken-ready taken),
-      taken-places taken,
-    )
-
 -- ---- the turns of a large day
-pub later-places : (old : DayState) (later : ℕ) → IsReady old
-    → places_taken (at_later old later).entries ≡ places_taken old.entries
-later-places old later ready = places-if (later == 0)
-  where
-    places-if : (b : Bool)
-        → places_taken (cond b old (at_slot old (old.heard + later))).entries ≡ places_taken old.entries
-    places-if true = refl
-    places-if false = (slot-halted old (old.heard + later) (omega arith) ready.balanced).places
-
 -- a turn, with the places that are taken before what its client does
 pub record TurnPlaces (limit : ℕ) (turn : FairTurn) : Type 0 where
   pub mid : places_taken turn.mid.entries ≡ places_taken turn.old.entries
@@ -163,11 +119,8 @@ pub record TurnPlaces (limit : ℕ) (turn : FairTurn) : Type 0 where
 
 pub turn-places : {link : SharedLink} {words : ℕ → ℕ} (turn : FairTurn) → IsTurn link words turn → IsReady turn.old
     → TurnPlaces link.limit turn
-turn-places {link} {words} turn is ready =
-    let R : DayState → Type 0 = λ m. IsReady m in
-    let P : DayState → Type 0 = λ m. places_taken m.entries ≡ places_taken turn.old.entries in
-    let mid : IsReady turn.mid = subst R (sym is.slot) (later-ready turn.old (words 0 % 4) ready) in
-    record {
-      mid = subst P (sym is.slot) (later-places turn.old (words 0 % 4) ready);
-      done = outcome-places (turn_step link turn) (turn-outcome turn is) mid;
-    }
+turn-places {link} turn is ready = record {
+  mid = turn-mid (λ (m : DayState). places_taken m.entries ≡ places_taken turn.old.entries) is refl
+      (slot-halted turn.old _ (omega arith) ready.balanced).places;
+  done = outcome-places (turn_step link turn) (turn-outcome turn is) (mid-ready is ready);
+}

@@ -1,11 +1,11 @@
 -- A day after one more entry of its journal.
-use Rattle.std.proofs.Common.{◌≡◌, ◌<◌, ◌≤◌, ℕ, max, List, [], ◌∷◌, ◌++◌, length, get_or, set, ◌-◌}
-use Rattle.std.proofs.Common.{true, Option, IsSomeAnd, arith, refl, sym, ap, subst, ◌∙◌}
+use Rattle.std.proofs.Common.{◌≡◌, ◌<◌, ◌≤◌, ℕ, max, List, [], ◌∷◌, ◌++◌, length, get_or, set, ◌-◌, true, Option}
+use Rattle.std.proofs.Common.{IsSomeAnd, arith, refl, sym, ap, subst, ◌∙◌}
 use Rattle.std.proofs.lemmas.List.{length-set, length-append, get_or-append_right}
 use Rattle.plan_cert.specs.declared.Segment.{Segment}
 use Rattle.plan_cert.specs.PlanSlots.{total_bytes}
 use Rattle.admission.specs.declared.entries.Answer.{Answer}
-use Rattle.admission.specs.declared.entries.Answer.TheVariants.{Admitted, Overflow, Halted, Looked}
+use Rattle.admission.specs.declared.entries.Answer.TheVariants.{Admitted}
 use Rattle.admission.specs.declared.entries.Command.{Command}
 use Rattle.admission.specs.declared.entries.Command.TheVariants.{Play, Halt, Look}
 use Rattle.admission.specs.declared.entries.Entry.{Entry}
@@ -17,8 +17,8 @@ use Rattle.day_run.specs.declared.clients.Client.{Client}
 use Rattle.day_run.specs.declared.clients.Client.TheVariants as clients
 use Rattle.day_run.specs.declared.clients.Halt.{Halt as ClientHalt}
 use Rattle.day_run.specs.declared.clients.ClientPlay.{ClientPlay}
-use Rattle.day_run.specs.Clients.{AreUndone, IsBooked, IsGoing, IsHaltOf, IsOpenOf, IsPlaying}
-use Rattle.day_run.specs.Clients.{IsQuiet, IsTimed, IsUndone}
+use Rattle.day_run.specs.Clients.{AreUndone, IsBooked, IsGoing, IsHaltOf, IsOpenOf, IsPlaying, IsQuiet, IsTimed}
+use Rattle.day_run.specs.Clients.{IsUndone}
 use Rattle.day_run.specs.MachineState.{IsSoundDay}
 use Rattle.day_run.proofs.ClientSweepLemmas.{timed-set}
 use Rattle.day_run.proofs.OpenBookingLemmas.{booked-halt, booked-more, booked-set, going-set, undone-set}
@@ -26,16 +26,12 @@ use Rattle.day_run.proofs.OpenBookingLemmas.{booked-halt, booked-more, booked-se
 now-halt : (state : State) (place number keep : ℕ) (answer : Answer)
     → (next_state state place (Halt number keep) answer).now ≡ state.now
 now-halt state place number keep (Admitted start) = refl
-now-halt state place number keep (Overflow over booked asked) = refl
-now-halt state place number keep Halted = refl
-now-halt state place number keep (Looked now at booked) = refl
+now-halt state place number keep _ = refl
 
 now-play : (state : State) (place slot : ℕ) (segments : List Segment) (answer : Answer)
     → (next_state state place (Play slot segments) answer).now ≤ max state.now slot
 now-play state place slot segments (Admitted start) = omega arith
-now-play state place slot segments (Overflow over booked asked) = omega arith
-now-play state place slot segments Halted = omega arith
-now-play state place slot segments (Looked now at booked) = omega arith
+now-play state place slot segments _ = omega arith
 
 -- the machine's now after an entry of a halt
 pub halted-now : (xs : List Entry) (e : Entry) (number keep : ℕ) → e.command ≡ Halt number keep
@@ -80,8 +76,7 @@ pub open-halt : {xs : List Entry} {c : ℕ} {halt : ClientHalt} (client : Client
     → IsOpenOf xs c halt.number halt.keep
 open-halt {c} {halt} clients.Idle going booked is = absurd is
 open-halt {xs} {c} {halt} (clients.Playing play) going booked is =
-    let O : ℕ → Type 0 = λ n. IsOpenOf xs c n halt.keep in
-    subst O (sym is.0) (fewer (omega (arith, is.1, going.whole)) booked)
+    subst (λ (n : ℕ). IsOpenOf xs c n halt.keep) (sym is.0) (fewer (omega (arith, is.1, going.whole)) booked)
 open-halt {c} {halt} (clients.Pausing stop) going booked is = absurd is
 open-halt {c} {halt} (clients.Paused rest) going booked is = absurd is
 
@@ -105,10 +100,9 @@ pub day-halted : {slot_units heard : ℕ} {xs ys : List Entry} {cs ds : List Cli
     → IsOpenOf xs c number bytes
     → c < length cs → HaltedClient heard client → IsSoundDay slot_units heard ys ds
 day-halted {slot_units} {heard} {xs} {ys} {cs} {c} {number} {keep} {e} client day entered its inside next =
-    let D : List Client → Type 0 = λ l. IsSoundDay slot_units heard ys l in
     let Y : List Entry → Type 0 = λ l. IsSoundDay slot_units heard l (set cs c client) in
     let U : ℕ → Type 0 = λ n. AreUndone n (set cs c client) in
-    subst D (sym entered.clients_are) (subst Y (sym entered.entries_are) (record {
+    subst (IsSoundDay slot_units heard ys) (sym entered.clients_are) (subst Y (sym entered.entries_are) (record {
       count = length-set cs c client ∙ day.count;
       some_slot_units = day.some_slot_units;
       slot_units_fit = day.slot_units_fit;
@@ -128,8 +122,7 @@ pub day-noted : {slot_units heard : ℕ} {xs ys : List Entry} {cs : List Client}
     → ((number : ℕ) → Halts number e.command → ⊥) → (state_after (xs ++ e ∷ [])).now ≤ heard
     → IsSoundDay slot_units heard ys cs
 day-noted {slot_units} {heard} {xs} {cs} e day y none now =
-    let Y : List Entry → Type 0 = λ l. IsSoundDay slot_units heard l cs in
-    subst Y (sym y) (record {
+    subst (λ (l : List Entry). IsSoundDay slot_units heard l cs) (sym y) (record {
       count = day.count;
       some_slot_units = day.some_slot_units;
       slot_units_fit = day.slot_units_fit;
@@ -165,7 +158,6 @@ pub day-played : {slot_units heard : ℕ} {xs ys : List Entry} {cs ds : List Cli
     → PlayEntered heard xs ys cs ds c slot segments play e → c < length cs
     → BegunClient heard play → IsSoundDay slot_units heard ys ds
 day-played {slot_units} {heard} {xs} {ys} {cs} {c} {slot} {segments} {play} e day entered inside next =
-    let D : List Client → Type 0 = λ l. IsSoundDay slot_units heard ys l in
     let Y : List Entry → Type 0 = λ l. IsSoundDay slot_units heard l (set cs c (clients.Playing play)) in
     let U : ℕ → Type 0 = λ n. AreUndone n (set cs c (clients.Playing play)) in
     let none : (n : ℕ) → Halts n e.command → ⊥ = λ n halts.
@@ -178,7 +170,7 @@ day-played {slot_units} {heard} {xs} {ys} {cs} {c} {slot} {segments} {play} e da
       maker = λ none. ap (λ (x : Entry). x.maker) (at none) ∙ maker;
       can = can;
     } in
-    subst D (sym d) (subst Y (sym y) (record {
+    subst (IsSoundDay slot_units heard ys) (sym d) (subst Y (sym y) (record {
       count = length-set cs c (clients.Playing play) ∙ day.count;
       some_slot_units = day.some_slot_units;
       slot_units_fit = day.slot_units_fit;

@@ -9,7 +9,7 @@ mod ClientSweepLemmas
 mod PacerTimingLemmas
 mod LineStepLemmas
 mod LineSequenceLemmas
-mod PeakLemmas
+mod SlotTotals
 mod FullJournalLines
 mod FairDraws
 mod FairBalance
@@ -32,7 +32,6 @@ pub mod DayPrefixLemmas
 mod SourceMedia
 mod PlayableMedia
 mod TraceMediaLemmas
-mod SlotSums
 mod DrawnTraceLemmas
 mod OfferLaws
 mod FairTurnLemmas

@@ -1,46 +1,39 @@
 -- What the lines of a script leave of the balance between what is sent and what is booked.
-use Rattle.std.proofs.Common.{◌≡◌, ◌<◌, ◌≤◌, ℕ, zero, suc, true, false, Bool, cond, ◌==◌, List, []}
-use Rattle.std.proofs.Common.{◌∷◌, ◌++◌, length, map, get_or, replicate, arith, refl, sym}
-use Rattle.std.proofs.Common.{ap, subst, ◌∙◌}
+use Rattle.std.proofs.Common.{◌≡◌, ◌<◌, ◌≤◌, ℕ, zero, suc, List, [], ◌∷◌, ◌++◌, length, map, get_or, replicate, arith}
+use Rattle.std.proofs.Common.{refl, sym, ap, subst, ◌∙◌}
 use Rattle.std.specs.Prelude.{sum_by}
 use Rattle.std.proofs.lemmas.List.{get_or-replicate, length-map, length-set, length-replicate}
 use Rattle.std.proofs.lemmas.List.Elements.{All-nil}
 use Rattle.std.proofs.lemmas.List.Sums.{sum_by-cons}
-use Rattle.slot_calendar.specs.Plays.{Play as Booked, truncated_play}
+use Rattle.slot_calendar.specs.Plays.{truncated_play}
 use Rattle.admission.specs.declared.entries.Answer.{Answer}
-use Rattle.admission.specs.declared.entries.Answer.TheVariants.{Admitted, Overflow, Halted, Looked}
+use Rattle.admission.specs.declared.entries.Answer.TheVariants.{Admitted, Halted}
 use Rattle.admission.specs.declared.entries.Command.TheVariants as commands
 use Rattle.admission.specs.declared.entries.Entry.{Entry}
 use Rattle.admission.specs.Machine.{AdmittedPlay, State}
 use Rattle.admission.proofs.HistoryPrefixes.{state-push}
-use Rattle.day_script.specs.declared.scripts.Line.{Line}
-use Rattle.day_run.specs.Days.{AskedPlay}
-use Rattle.day_run.specs.Days.{AreLineSteps, IsHaltedPlay}
-use Rattle.day_run.specs.Days.{SharedLink, DayState, at_slot}
-use Rattle.day_run.specs.Days.{booked_up_to, entry_by, first_moment, sent_up_to, with_play}
-use Rattle.day_run.specs.ClientStates.{Idle, Playing, Pausing, Paused, ClientPlay, Rest, ClientState}
-use Rattle.day_run.specs.ClientStates.{after_play, after_sending, sent_by}
+use Rattle.day_run.specs.Days.{AskedPlay, IsHaltedPlay, SharedLink, DayState, at_slot, booked_up_to, entry_by}
+use Rattle.day_run.specs.Days.{first_moment, sent_up_to, with_play}
+use Rattle.day_run.specs.ClientStates.{Idle, Playing, ClientPlay, ClientState, after_play, after_sending}
 use Rattle.day_run.specs.BookingBalance.{AreHeldOf, IsBalanced, IsReady, share_of}
 use Rattle.day_run.proofs.OwnHalts.{none-halted}
-use Rattle.day_run.proofs.SentBookedLemmas.{IsFree, IsShut, balanced-halt, balanced-play, balanced-same, balanced-sent}
-use Rattle.day_run.proofs.SentBookedLemmas.{playing_one}
+use Rattle.day_run.proofs.SentBookedLemmas.{IsFree, IsShut, balanced-halt, balanced-play, balanced-same}
+use Rattle.day_run.proofs.SentBookedLemmas.{balanced-sent, playing_one}
 use Rattle.day_run.proofs.SlotBalance.{pausing-share, slot-halted}
+use Rattle.day_run.proofs.PacerTimingLemmas.{pausing-cases}
 use Rattle.day_run.proofs.LineOutcomes.{LineOutcome, Kept, Asked, Stopped, Looks, Reached, line-outcome}
-use Rattle.day_run.proofs.LineOutcomes.{outcome-heard}
+use Rattle.day_run.proofs.LineOutcomes.{IsKeptByLines, taken-keeps}
 use Rattle.day_run.proofs.ScriptLineFacts.{LineStep, LinesTaken}
-use Rattle.day_run.proofs.ScriptLineFacts.{StandingLines, first-standing, rest-standing, standing-of}
 
 pub ready-kept : (old new : DayState) → new ≡ old → IsReady old → IsReady new
 ready-kept old new kept ready =
-    let R : DayState → Type 0 = λ m. IsReady m in
-    subst R (sym kept) ready
+    subst IsReady (sym kept) ready
 
 ready-made : {new : DayState} {states : List ClientState} (old : DayState) (e : Entry)
     → new ≡ record { entries = old.entries ++ e ∷ []; states = states; heard = old.heard }
     → length states ≡ 256 → IsBalanced (old.entries ++ e ∷ []) states old.heard → IsReady new
 ready-made {new} old e is count balanced =
-    let R : DayState → Type 0 = λ m. IsReady m in
-    subst R (sym is) (record { count = count; balanced = balanced })
+    subst IsReady (sym is) (record { count = count; balanced = balanced })
 
 answered : {old new : DayState} (answer : Answer) (ask : AskedPlay) → ask.client < 256
     → IsFree (get_or old.states ask.client Idle)
@@ -62,25 +55,11 @@ answered {old} {new} (Admitted start) ask client free is ready =
       no_halt = refl;
       is = ap (λ (s : State). s.held) (state-push old.entries e);
     }) (omega (arith, client, ready.count)) free ready.balanced)
-answered {old} {new} (Overflow over booked asked) ask client free is ready =
-    let e = entry_by ask.client (commands.Play old.heard ask.plan) (Overflow over booked asked) in
+answered {old} {new} answer ask client free is ready =
+    let e = entry_by ask.client (commands.Play old.heard ask.plan) answer in
     ready-made old e is ready.count
     (balanced-same old.entries old.states old.heard e
     (ap (λ (s : State). s.held) (state-push old.entries e)) refl ready.balanced)
-answered {old} {new} Halted ask client free is ready =
-    let e = entry_by ask.client (commands.Play old.heard ask.plan) Halted in
-    ready-made old e is ready.count
-    (balanced-same old.entries old.states old.heard e
-    (ap (λ (s : State). s.held) (state-push old.entries e)) refl ready.balanced)
-answered {old} {new} (Looked now at booked) ask client free is ready =
-    let e = entry_by ask.client (commands.Play old.heard ask.plan) (Looked now at booked) in
-    ready-made old e is ready.count
-    (balanced-same old.entries old.states old.heard e
-    (ap (λ (s : State). s.held) (state-push old.entries e)) refl ready.balanced)
-
-shut-pause : (b : Bool) (stop : Booked) (rest : Rest) → IsShut (cond b (Paused rest) (Pausing stop rest))
-shut-pause true stop rest = tt
-shut-pause false stop rest = tt
 
 paused : {link : SharedLink} {c : ℕ} {play : ClientPlay} {old new : DayState} {text : List ℕ} → c < 256
     → get_or old.states c Idle ≡ Playing play
@@ -89,9 +68,8 @@ paused {c} {play} {old} {new} {text} client at is ready =
     let e = entry_by c (commands.Halt play.number is.keep) Halted in
     let stop = truncated_play play.start play.plan is.keep in
     let rest = record play.rest { run = is.pause.left } in
-    let S : ClientState → Type 0 = λ s. IsShut s in
     let shut : IsShut is.state =
-    subst S (sym is.pause.state_is) (shut-pause (sent_by stop old.heard == stop.keep) stop rest) in
+    subst IsShut (sym is.pause.state_is) (pausing-cases IsShut old.heard stop rest tt tt) in
     ready-made old e is.noted.new_is (length-set old.states c is.state ∙ ready.count)
     (balanced-halt c is.keep is.state
     (record { inside = omega (arith, client, ready.count); at = at; balanced = ready.balanced }) shut
@@ -111,8 +89,7 @@ looked answer slot old new is ready =
 
 pub slot-ready : (old new : DayState) (slot : ℕ) → old.heard ≤ slot → new ≡ at_slot old slot → IsReady old → IsReady new
 slot-ready old new slot le is ready =
-    let R : DayState → Type 0 = λ m. IsReady m in
-    subst R (sym is) (record {
+    subst IsReady (sym is) (record {
       count = length-map (map (after_sending slot) old.states) (after_play slot)
           ∙ length-map old.states (after_sending slot) ∙ ready.count;
       balanced = (slot-halted old slot le ready.balanced).balanced;
@@ -138,8 +115,7 @@ idle-plays (suc n) = omega (arith, idle-plays n, sum_by-cons playing_one Idle (r
 
 idle-held : (c : ℕ) → c < 256 → AreHeldOf [] c (get_or (replicate 256 Idle) c Idle)
 idle-held c inside =
-    let A : ClientState → Type 0 = λ s. AreHeldOf [] c s in
-    subst A (sym (get_or-replicate 256 c Idle Idle inside)) tt
+    subst (AreHeldOf [] c) (sym (get_or-replicate 256 c Idle Idle inside)) tt
 
 pub morning-ready : IsReady first_moment
 morning-ready = record {
@@ -156,21 +132,14 @@ morning-ready = record {
 pub ready-sent : (m : DayState) (slot : ℕ) → m.heard ≤ slot → IsReady m → sent_up_to m slot ≡ booked_up_to m slot
 ready-sent m slot le ready = balanced-sent m.entries m.states m.heard slot le ready.balanced
 
-pub run-ready : {old new : DayState} {n : ℕ} (link : SharedLink) (lines : List Line) (texts : List (List ℕ))
-    → StandingLines old.heard n lines
-    → AreLineSteps link lines texts old new → IsReady old → IsReady new
-run-ready {old} {new} link [] [] standing run ready = ready-kept old new run ready
-run-ready {new} link [] (t ∷ texts) standing run ready = absurd run
-run-ready {new} link (l ∷ ls) [] standing run ready = absurd run
-run-ready {old} {new} link (l ∷ ls) (t ∷ texts) standing run ready =
-    let step : LineStep = record { link = link; old = old; new = run.0; text = t } in
-    let outcome = line-outcome step l (first-standing standing) run.1.0 in
-    run-ready {old = run.0} {new = new} link ls texts (rest-standing standing (outcome-heard step outcome)) run.1.1
-    (outcome-ready step outcome ready)
-
 -- the lines of a script leave a day ready
+pub ready-by-lines : (link : SharedLink) (n : ℕ) → IsKeptByLines link n IsReady
+ready-by-lines link n line old new text standing is ready =
+    let step : LineStep = record { link = link; old = old; new = new; text = text } in
+    outcome-ready step (line-outcome step line standing is) ready
+
 pub taken-ready : {link : SharedLink} {n : ℕ} (taken : LinesTaken link n) → IsReady taken.moment
-taken-ready {link} taken = run-ready link taken.lines taken.texts (standing-of taken) taken.run morning-ready
+taken-ready {link} {n} taken = taken-keeps taken IsReady (ready-by-lines link n) morning-ready
 
 -- after the lines of a script, what is sent up to a slot is what is booked up to there
 pub day-sent : {link : SharedLink} {n : ℕ} (taken : LinesTaken link n) (slot : ℕ) → taken.moment.heard ≤ slot

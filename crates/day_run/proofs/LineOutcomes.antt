@@ -1,5 +1,6 @@
 -- What a line of a script, or a turn's client, does to a day, in five cases.
-use Rattle.std.proofs.Common.{◌≡◌, ◌<◌, ◌≤◌, ◌%◌, ◌+◌, ◌++◌, ℕ, List, [], get_or, refl, sym, ap, ◌∙◌, inl, inr, arith}
+use Rattle.std.proofs.Common.{◌≡◌, ◌<◌, ◌≤◌, ◌%◌, ◌+◌, ◌++◌, ℕ, List, [], ◌∷◌, get_or, subst, refl, sym, ap, ◌∙◌, inl}
+use Rattle.std.proofs.Common.{inr, arith}
 use Rattle.std.proofs.lemmas.List.{append-nil, append_assoc}
 use Rattle.admission.specs.declared.entries.Entry.{Entry}
 use Rattle.plan_cert.specs.declared.Segment.{Segment}
@@ -9,11 +10,12 @@ use Rattle.day_script.specs.declared.scripts.Line.TheVariants as lines
 use Rattle.day_script.specs.Scripts.{slot_after}
 use Rattle.day_run.specs.declared.fairs.TheConstants.{BUFFER_SIZES, LEAST_BUFFER}
 use Rattle.day_run.specs.ClientStates.{ClientPlay, ClientState, Idle, Playing, Pausing, Paused, Rest}
-use Rattle.day_run.specs.Days.{DayState, IsAnsweredLook, IsAnsweredPlay, IsAsked, IsHaltedPlay, IsLine}
-use Rattle.day_run.specs.Days.{IsLookLine, IsOfferLine, IsPauseLine, IsResumeLine, SharedLink, at_slot, halts_at}
-use Rattle.day_run.specs.Days.{rest_at}
+use Rattle.day_run.specs.Days.{AreLineSteps, first_moment, DayState, IsAnsweredLook, IsAnsweredPlay, IsAsked}
+use Rattle.day_run.specs.Days.{IsHaltedPlay, IsLine, IsLookLine, IsOfferLine, IsPauseLine, IsResumeLine, SharedLink}
+use Rattle.day_run.specs.Days.{at_slot, halts_at, rest_at}
 use Rattle.day_run.specs.FairDays.{FairTurn, IsDone, IsTurn, line_drawn}
-use Rattle.day_run.proofs.ScriptLineFacts.{ClientOf, IsPlayTaken, LineStep, StandingLine}
+use Rattle.day_run.proofs.ScriptLineFacts.{ClientOf, IsPlayTaken, LineStep, LinesTaken, StandingLine, StandingLines}
+use Rattle.day_run.proofs.ScriptLineFacts.{first-standing, rest-standing, standing-of}
 use Rattle.day_run.proofs.SentBookedLemmas.{IsFree, idle-free, paused-free}
 
 -- a client that played nothing was answered a play
@@ -142,6 +144,27 @@ line-outcome step (lines.Look slot) standing is = look-outcome step is
 line-outcome step (lines.Slot slot) standing is =
     Reached (record { later = omega (arith, standing.stands.0); is = is.0 })
 line-outcome step (lines.Offer c source buffer delay wait) standing is = Kept (offer-kept is) refl
+
+-- ---- what each line that may stand keeps, the lines of a script keep
+abbrev pub IsKeptByLines : SharedLink → ℕ → (DayState → Type 0) → Type 0
+IsKeptByLines link n P = (line : Line) (old new : DayState) (text : List ℕ) → StandingLine old.heard n line
+    → IsLine link line old new text → P old → P new
+
+pub run-keeps : {link : SharedLink} {n : ℕ} {old new : DayState} (P : DayState → Type 0) → IsKeptByLines link n P
+    → (lines : List Line) (texts : List (List ℕ)) → StandingLines old.heard n lines
+    → AreLineSteps link lines texts old new → P old → P new
+run-keeps P kept [] [] standing run is = subst P (sym run) is
+run-keeps {link} {n} {old} {new} P kept (l ∷ ls) (t ∷ ts) standing run is =
+    let step : LineStep = record { link = link; old = old; new = run.0; text = t } in
+    let first = first-standing standing in
+    run-keeps {link = link} {n = n} {old = run.0} {new = new} P kept ls ts
+    (rest-standing standing (outcome-heard step (line-outcome step l first run.1.0))) run.1.1
+    (kept l old run.0 t first run.1.0 is)
+run-keeps P kept _ _ standing run is = absurd run
+
+pub taken-keeps : {link : SharedLink} {n : ℕ} (taken : LinesTaken link n) (P : DayState → Type 0)
+    → IsKeptByLines link n P → P first_moment → P taken.moment
+taken-keeps taken P kept is = run-keeps P kept taken.lines taken.texts (standing-of taken) taken.run is
 
 -- ---- the turns of a large day
 pub done-outcome : {c : ℕ} {state : ClientState} (step : LineStep) (words : ℕ → ℕ) → ClientOf step.old c state

@@ -23,12 +23,10 @@ pub run-more : (last : LastLine) (lines : List Line) (texts : List (List ℕ)) (
     → AreLineSteps last.link lines texts old last.old
     → AreLineSteps last.link (lines ++ last.line ∷ []) (texts ++ last.text ∷ []) old last.new
 run-more last [] [] old run =
-    let P : DayState → Type 0 = λ m. IsLine last.link last.line m last.new last.text in
-    (last.new, (subst P run last.is, refl))
-run-more last [] (t ∷ texts) old run = absurd run
-run-more last (l ∷ lines) [] old run = absurd run
+    (last.new, (subst (λ (m : DayState). IsLine last.link last.line m last.new last.text) run last.is, refl))
 run-more last (l ∷ lines) (t ∷ texts) old run =
     (run.0, (run.1.0, run-more last lines texts run.0 run.1.1))
+run-more last _ _ old run = absurd run
 
 flat-push : (texts : List (List ℕ)) (text : List ℕ)
     → flat_map (λ (t : List ℕ). t) (texts ++ text ∷ []) ≡ flat_map (λ (t : List ℕ). t) texts ++ text
@@ -63,11 +61,10 @@ pub day-of : {link here : SharedLink} {lines : List Line} {text whole : List ℕ
     → here ≡ link → HasRun here lines text m
     → whole ≡ text ++ last_lines m → journal ≡ last_journal m → IsDay link lines whole journal
 day-of {here} {lines} {text} {whole} {m} same run w j =
-    let A : SharedLink → Type 0 = λ l. AreLineSteps l lines run.texts first_moment m in
     record {
       evening = m;
       texts = run.texts;
-      run = subst A same run.run;
+      run = subst (λ (l : SharedLink). AreLineSteps l lines run.texts first_moment m) same run.run;
       text_is = w ∙ ap (λ l. l ++ last_lines m) run.text_is;
       journal_is = j;
     }
@@ -76,6 +73,5 @@ day-of {here} {lines} {text} {whole} {m} same run w j =
 pub day-lines : (link : SharedLink) (lines : List Line) (texts : List (List ℕ)) (old new : DayState)
     → AreLineSteps link lines texts old new → length texts ≡ length lines
 day-lines link [] [] old new run = refl
-day-lines link [] (t ∷ texts) old new run = absurd run
-day-lines link (l ∷ ls) [] old new run = absurd run
 day-lines link (l ∷ ls) (t ∷ texts) old new run = ap suc (day-lines link ls texts run.0 new run.1.1)
+day-lines link _ _ old new run = absurd run

@@ -1,11 +1,10 @@
 -- What the lines of a script make of a day.
-use Rattle.std.proofs.Common.{◌≡◌, ◌<◌, ◌+◌, ℕ, false, List, [], ◌∷◌, ◌++◌, length, map, drop, set}
-use Rattle.std.proofs.Common.{replicate, Result, Ok, Err, IfOk, arith, refl, sym, ap}
-use Rattle.std.proofs.Common.{subst, ◌∙◌}
+use Rattle.std.proofs.Common.{◌≡◌, ◌<◌, ◌+◌, ℕ, false, List, [], ◌∷◌, ◌++◌, length, map, drop, set, replicate, Result}
+use Rattle.std.proofs.Common.{Ok, Err, IfOk, arith, refl, sym, ap, subst, ◌∙◌}
 use Rattle.std.proofs.lemmas.List.{append-nil, drop_at, ext_get_or, get_or-replicate, length-map}
 use Rattle.plan_cert.specs.declared.Segment.{Segment}
 use Rattle.admission.specs.declared.entries.Answer.{Answer}
-use Rattle.admission.specs.declared.entries.Answer.TheVariants.{Admitted, Overflow, Halted, Looked}
+use Rattle.admission.specs.declared.entries.Answer.TheVariants.{Admitted, Halted}
 use Rattle.admission.specs.declared.entries.Command.TheVariants as commands
 use Rattle.admission.specs.declared.entries.Entry.{Entry}
 use Rattle.admission.specs.declared.entries.Full.{Full}
@@ -24,12 +23,11 @@ use Rattle.day_run.specs.declared.machine.LineAnswer.TheVariants as tolds
 use Rattle.vod_base.specs.declared.errors.NoMemory.{NoMemory}
 use Rattle.day_run.specs.Clients.{AreIdle, IsPauseOf, IsQuiet, IsTimed, play_of, rest_of, state_of}
 use Rattle.report.specs.JournalTexts.{journal_text}
-use Rattle.day_run.specs.Days.{IsAsked, IsFull, IsNoted, IsPauseLine, IsPlayLine, IsTold, SharedLink}
-use Rattle.day_run.specs.Days.{DayState, done_halt, entry_by, halt_entries, state_at, with_play}
+use Rattle.day_run.specs.Days.{IsAsked, IsFull, IsNoted, IsPauseLine, IsPlayLine, IsTold, SharedLink, DayState}
+use Rattle.day_run.specs.Days.{done_halt, entry_by, halt_entries, state_at, with_play}
 use Rattle.day_script.specs.LineTexts.{full_text, state_text}
 use Rattle.day_run.specs.MachineState.{reply_text}
-use Rattle.day_run.specs.ClientStates.{Idle, Playing, Pausing, Paused, Rest, ClientState, IfBusy, after_sending}
-use Rattle.day_run.specs.ClientStates.{is_busy}
+use Rattle.day_run.specs.ClientStates.{Idle, Playing, Pausing, Rest, ClientState, IfBusy, after_sending, is_busy}
 use Rattle.day_run.proofs.ClientSweepLemmas.{state-at, states-set}
 use Rattle.day_run.proofs.ScriptLineFacts.{ClientAsks}
 use Rattle.day_run.proofs.PacerTimingLemmas.{done-sent}
@@ -153,9 +151,7 @@ pub states-same : {states : List ClientState} (c : ℕ) (rest : Rest) (plan : Li
     (answer : Answer) → is_admission answer ≡ false
     → states ≡ with_play c rest plan number answer states
 states-same c rest plan number (Admitted start) not = cc not
-states-same c rest plan number (Overflow over booked asked) not = refl
-states-same c rest plan number Halted not = refl
-states-same c rest plan number (Looked now at booked) not = refl
+states-same c rest plan number _ not = refl
 
 -- a play was admitted after the slot that was received last
 pub record PlayAdmitted (slot start heard : ℕ) (answer : Answer) (steps : List CapStep) (state : State)
@@ -171,8 +167,7 @@ pub begun-timed : {slot start heard : ℕ} {answer : Answer} {steps : List CapSt
     → play.pacer.start ≡ start → play.pacer.passed ≡ 0
     → IsTimed heard (clients.Playing play)
 begun-timed {slot} {start} {steps} {state} {plan} play admitted at begun =
-    let A : Answer → Type 0 = λ a. IsAnswer steps state (commands.Play slot plan) a in
-    let its = subst A admitted.is admitted.answered in
+    let its = subst (IsAnswer steps state (commands.Play slot plan)) admitted.is admitted.answered in
     omega (arith, its.0, admitted.late, at, begun)
 
 -- a client pauses
@@ -181,29 +176,24 @@ pub pause-line : {link : SharedLink} {c : ℕ} {halt : Halt} {old new : DayState
     → IsNoted link (entry_by c (commands.Halt halt.number halt.keep) Halted)
     (set old.states c (state_of next)) old new text
     → IsPauseLine link c (state_of client) old new text
-pause-line {c} {halt} {new} {text} clients.Idle next is n = absurd is
 pause-line {link} {c} {halt} {old} {new} {text} (clients.Playing play) next is n =
     let N : ℕ → Type 0 =
     λ k. IsNoted link (entry_by c (commands.Halt k halt.keep) Halted) (set old.states c (state_of next)) old new text in
     record { keep = halt.keep; state = state_of next; pause = is.1; noted = subst N is.0 n }
-pause-line {c} {halt} {new} {text} (clients.Pausing stop) next is n = absurd is
-pause-line {c} {halt} {new} {text} (clients.Paused rest) next is n = absurd is
+pause-line {c} {halt} {new} {text} _ next is n = absurd is
 
 pub no-pause : {old new : DayState} {text : List ℕ} (link : SharedLink) (c : ℕ) (client : Client) → IsQuiet client
     → IsTold state_text old new text
     → IsPauseLine link c (state_of client) old new text
-no-pause {new} {text} link c clients.Idle quiet told = told
 no-pause {new} {text} link c (clients.Playing play) quiet told = absurd quiet
-no-pause {new} {text} link c (clients.Pausing stop) quiet told = told
-no-pause {new} {text} link c (clients.Paused rest) quiet told = told
+no-pause {new} {text} link c _ quiet told = told
 
 -- a client asks for a play, or can't
 if-free : {Free : Type 0} (Busy : Type 0) (state : ClientState) → is_busy state ≡ false → Free
     → IfBusy state Busy Free
-if-free Busy Idle free asked = asked
 if-free Busy (Playing play) free asked = cc free
 if-free Busy (Pausing stop left) free asked = cc free
-if-free Busy (Paused left) free asked = asked
+if-free Busy _ free asked = asked
 
 play-asked : {link : SharedLink} {c : ℕ} {one rest : Rest} {own : ClientState} {old new : DayState} {text : List ℕ}
     → one ≡ rest → own ≡ state_at old c → is_busy own ≡ false

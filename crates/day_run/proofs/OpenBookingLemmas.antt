@@ -1,9 +1,8 @@
 -- The plays that a book has open for the clients of a day, after one more entry.
-use Rattle.std.proofs.Common.{◌≡◌, ◌<◌, ◌≤◌, ℕ, true, List, [], ◌∷◌, ◌++◌, length, get_or, set}
-use Rattle.std.proofs.Common.{Option, Some, IsSomeAnd, arith, sym, ap, subst, ◌∙◌}
+use Rattle.std.proofs.Common.{◌≡◌, ◌<◌, ◌≤◌, ℕ, true, List, [], ◌∷◌, ◌++◌, length, get_or, set, Option, Some}
+use Rattle.std.proofs.Common.{IsSomeAnd, arith, sym, ap, subst, ◌∙◌}
 use Rattle.std.proofs.lemmas.List.{length-append, get_or_append_left, length-set}
 use Rattle.plan_cert.specs.PlanSlots.{total_bytes}
-use Rattle.admission.specs.declared.entries.Command.{Command}
 use Rattle.admission.specs.declared.entries.Command.TheVariants.{Halt}
 use Rattle.admission.specs.declared.entries.Entry.{Entry}
 use Rattle.admission.specs.Histories.{Halts, state_after}
@@ -13,7 +12,7 @@ use Rattle.admission.proofs.Halts.{halting}
 use Rattle.admission.proofs.HistoryPrefixes.{next_of, state-push}
 use Rattle.day_run.proofs.ListUpdates.{set-at}
 use Rattle.day_run.specs.declared.clients.Client.{Client}
-use Rattle.day_run.specs.declared.clients.Client.TheVariants.{Idle, Playing, Pausing, Paused}
+use Rattle.day_run.specs.declared.clients.Client.TheVariants.{Playing}
 use Rattle.day_run.specs.Clients.{AreBooked, AreGoing, AreUndone, IsBooked, IsGoing, IsOpenOf, IsQuiet, IsUndone}
 
 -- an entry that doesn't halt a play leaves it open
@@ -26,14 +25,13 @@ open-push {xs} {c} {number} {bytes} e its apart =
     found-next (length xs) e.command e.answer (record { is = h.is; unhalted = apart }) in
     let P : Option AdmittedPlay → Type 0 =
     λ o. IsSomeAnd o (λ (h : AdmittedPlay). (h.is_open ≡ true) × (bytes ≤ total_bytes h.play.segments)) in
-    let C : State → Type 0 = λ s. CanHalt s number bytes in
     let can : CanHalt (next_of (state_after xs) (length xs) e) number bytes =
     subst P (sym still) (h.is_open, h.small) in
     record {
       inside = omega (arith, length-append xs (e ∷ []), its.inside);
       maker = λ none. ap (λ (x : Entry). x.maker) (get_or_append_left xs (e ∷ []) none number its.inside)
           ∙ its.maker none;
-      can = subst C (sym (state-push xs e)) can;
+      can = subst (λ (s : State). CanHalt s number bytes) (sym (state-push xs e)) can;
     }
 
 -- an entry halts none but a client's plays
@@ -42,11 +40,9 @@ pub record HaltsNone (xs : List Entry) (client : ℕ) (e : Entry) : Type 0 where
 
 booked-push : (xs : List Entry) (c : ℕ) (client : Client) (e : Entry) → HaltsNone xs c e → IsBooked xs c client
     → IsBooked (xs ++ e ∷ []) c client
-booked-push xs c Idle e none booked = tt
 booked-push xs c (Playing play) e none booked =
     open-push e booked (λ halts. none.apart play.number halts booked.maker)
-booked-push xs c (Pausing stop) e none booked = tt
-booked-push xs c (Paused rest) e none booked = tt
+booked-push xs c _ e none booked = tt
 
 -- an entry that halts nothing
 pub booked-more : (xs : List Entry) (clients : List Client) (e : Entry)
@@ -76,10 +72,8 @@ booked-set {xs} {clients} {c} {e} client others own booked =
     }
 
 quiet-booked : (xs : List Entry) (c : ℕ) (client : Client) → IsQuiet client → IsBooked xs c client
-quiet-booked xs c Idle quiet = tt
 quiet-booked xs c (Playing play) quiet = absurd quiet
-quiet-booked xs c (Pausing stop) quiet = tt
-quiet-booked xs c (Paused rest) quiet = tt
+quiet-booked xs c _ quiet = tt
 
 -- a client whose play is halted is quiet from then on
 pub booked-halt : {xs : List Entry} {clients : List Client} {c number bytes keep : ℕ} (client : Client) (e : Entry)
@@ -89,8 +83,7 @@ booked-halt {xs} {c} {number} client e is its quiet booked =
     booked-set client
     (λ d other. record {
       apart = λ n halts maker.
-          let H : Command → Type 0 = λ x. Halts n x in
-          let same : number ≡ n = subst H is halts in
+          let same : number ≡ n = subst (Halts n) is halts in
           other (sym (maker e) ∙ ap (λ k. (get_or xs k e).maker) (sym same) ∙ its.maker e);
     })
     (quiet-booked (xs ++ e ∷ []) c client quiet) booked

@@ -1,11 +1,11 @@
 -- Each halt of a day's journal is of an earlier play of its maker's, also after one more entry.
-use Rattle.std.proofs.Common.{◌≡◌, ◌<◌, ℕ, false, true≢false, List, [], ◌∷◌, ◌++◌, length, get_or, arith, sym}
-use Rattle.std.proofs.Common.{ap, subst, ◌∙◌, ◌+◌, inl, inr}
+use Rattle.std.proofs.Common.{◌≡◌, ◌<◌, ℕ, false, true≢false, List, [], ◌∷◌, ◌++◌, length, get_or, arith, sym, ap}
+use Rattle.std.proofs.Common.{subst, ◌∙◌, ◌+◌, inl, inr}
 use Rattle.std.proofs.lemmas.Bool.{cases_lt}
 use Rattle.std.proofs.lemmas.List.{get_or_append_left, get_or_default, get_or_push, length-append}
 use Rattle.admission.specs.declared.entries.Answer.TheVariants.{Halted}
 use Rattle.admission.specs.declared.entries.Command.{Command}
-use Rattle.admission.specs.declared.entries.Command.TheVariants.{Halt, Look, Play}
+use Rattle.admission.specs.declared.entries.Command.TheVariants.{Halt}
 use Rattle.admission.specs.declared.entries.Entry.{Entry}
 use Rattle.admission.specs.Histories.{IsHalt, is_halt}
 use Rattle.day_run.specs.BookingBalance.{AreOwnHalts}
@@ -89,8 +89,7 @@ halts-none entries e no_halt halts =
 
 abbrev number_or : ℕ → Command → ℕ
 number_or d (Halt number keep) = number
-number_or d (Look slot) = d
-number_or d (Play slot segments) = d
+number_or d _ = d
 
 pub halts-push : (entries : List Entry) (c number keep : ℕ) → IsOwnPlay entries number c → AreOwnHalts entries
     → AreOwnHalts (entries ++ halt_by c number keep)
@@ -98,6 +97,5 @@ halts-push entries c number keep play halts =
     push entries (entry_by c (Halt number keep) Halted)
     (record {
       is = λ n k is.
-          let P : ℕ → Type 0 = λ m. IsOwnPlay entries m c in
-          subst P (ap (number_or 0) is) play;
+          subst (λ (m : ℕ). IsOwnPlay entries m c) (ap (number_or 0) is) play;
     }) halts

@@ -1,7 +1,6 @@
 -- What a client's pacer has sent, in the words of a day.
-use Rattle.std.proofs.Common.{◌≡◌, ◌<◌, ◌≤◌, ◌+◌, ◌-◌, ◌==◌, ℕ, min, nat_lt, nat_le, true, false}
-use Rattle.std.proofs.Common.{Bool, cond, List, [], Option, Some, None, arith, refl, sym}
-use Rattle.std.proofs.Common.{ap, subst, ◌∙◌, inl, inr}
+use Rattle.std.proofs.Common.{◌≡◌, ◌<◌, ◌≤◌, ◌+◌, ◌-◌, ◌==◌, ℕ, min, nat_lt, nat_le, true, false, Bool, cond, List}
+use Rattle.std.proofs.Common.{[], Option, Some, None, arith, refl, sym, ap, subst, ◌∙◌, inl, inr}
 use Rattle.std.proofs.lemmas.Bool.{cases_lt, cond-true, cond-false, lt-ltb}
 use Rattle.pacer.specs.PacerStates.{IsPacerState, PacerState, first_slots, slots_through}
 use Rattle.film_frames.specs.Tracks.{IsBoundaryAfter}
@@ -12,8 +11,8 @@ use Rattle.day_run.specs.declared.clients.ClientPlay.{ClientPlay}
 use Rattle.day_run.specs.Clients.{IsPlaying, play_of, rest_of}
 use Rattle.day_run.specs.Days.{done_halt}
 use Rattle.day_run.specs.MediaPieces.{media_pieces, media_sizes}
-use Rattle.day_run.specs.ClientStates.{Idle, Playing, Pausing, Paused, IsPause, Rest, ClientState}
-use Rattle.day_run.specs.ClientStates.{after_sending, booking_of, pausing_state, sent_by, slot_sent}
+use Rattle.day_run.specs.ClientStates.{Pausing, Paused, IsPause, Rest, ClientState, after_sending, booking_of}
+use Rattle.day_run.specs.ClientStates.{pausing_state, sent_by, slot_sent}
 
 -- what a pacer sends, as a booking
 abbrev pub paced : PacerState → Booked
@@ -48,18 +47,21 @@ pub record TimedPlay (play : ClientPlay) (slot : ℕ) : Type 0 where
   pub playing : IsPlaying play
   pub timed : play.pacer.passed ≡ slot + 1 - play.pacer.start
 
--- a sweep's halts don't see what a slot makes of pauses
-quiet-pause : (b : Bool) (slot client : ℕ) (stop : Booked) (rest : Rest)
-    → done_halt slot client (cond b (Paused rest) (Pausing stop rest)) ≡ []
-quiet-pause true slot client stop rest = refl
-quiet-pause false slot client stop rest = refl
+-- a client that pauses is paused, or not yet
+pub pausing-cases : (P : ClientState → Type 0) (slot : ℕ) (stop : Booked) (rest : Rest) → P (Paused rest)
+    → P (Pausing stop rest) → P (pausing_state slot stop rest)
+pausing-cases P slot stop rest done still = by-test (sent_by stop slot == stop.keep)
+  where
+    by-test : (b : Bool) → P (cond b (Paused rest) (Pausing stop rest))
+    by-test true = done
+    by-test false = still
 
+-- a sweep's halts don't see what a slot makes of pauses
 pub done-sent : (slot client : ℕ) (state : ClientState)
     → done_halt slot client (after_sending slot state) ≡ done_halt slot client state
-done-sent slot client Idle = refl
-done-sent slot client (Playing play) = refl
-done-sent slot client (Pausing stop rest) = quiet-pause (sent_by stop slot == stop.keep) slot client stop rest
-done-sent slot client (Paused rest) = refl
+done-sent slot client (Pausing stop rest) =
+    pausing-cases (λ s. done_halt slot client s ≡ []) slot stop rest refl refl
+done-sent slot client _ = refl
 
 -- the slot of a plan that was sent last
 pub last-slot : (last : Option ℕ) (start heard passed : ℕ) → slots_through last ≡ passed

@@ -1,6 +1,5 @@
 -- What is booked in the slots that were received stays.
-use Rattle.std.proofs.Common.{◌≡◌, ◌<◌, ◌≤◌, ◌+◌, ◌-◌, ◌%◌, ◌==◌, ℕ, zero, suc, max, true, false}
-use Rattle.std.proofs.Common.{All, Bool, cond, List, [], ◌∷◌, ◌++◌, length, map, get_or, arith}
+use Rattle.std.proofs.Common.{◌≡◌, ◌<◌, ◌≤◌, ◌+◌, ◌-◌, ℕ, max, All, List, [], ◌∷◌, ◌++◌, length, map, get_or, arith}
 use Rattle.std.proofs.Common.{refl, sym, ap, subst, ◌∙◌, inl, inr}
 use Rattle.std.specs.Prelude.{sum_by}
 use Rattle.std.specs.List.{fold, range_with_len}
@@ -8,7 +7,7 @@ use Rattle.std.proofs.lemmas.List.Elements.{All-cons, All-nil}
 use Rattle.std.proofs.lemmas.List.Sums.{sum_by-cons}
 use Rattle.slot_calendar.specs.Plays.{booked_by}
 use Rattle.admission.specs.declared.entries.Answer.{Answer}
-use Rattle.admission.specs.declared.entries.Answer.TheVariants.{Admitted, Overflow, Halted, Looked}
+use Rattle.admission.specs.declared.entries.Answer.TheVariants.{Admitted}
 use Rattle.admission.specs.declared.entries.Command.TheVariants as commands
 use Rattle.admission.specs.declared.entries.Entry.{Entry}
 use Rattle.admission.specs.Histories.{IsAnswered, booked_after, state_after}
@@ -17,24 +16,19 @@ use Rattle.admission.proofs.HistoryPrefixes.{state-push}
 use Rattle.day_script.specs.declared.scripts.Line.TheVariants as lines
 use Rattle.day_run.specs.BookingBalance.{IsReady, share_of}
 use Rattle.day_run.specs.Clients.{after_open}
-use Rattle.day_run.specs.Days.{AskedPlay}
-use Rattle.day_run.specs.Days.{IsHaltedPlay, IsLine}
-use Rattle.day_run.specs.Days.{SharedLink, DayState, at_slot, entry_by}
-use Rattle.day_run.specs.Days.{last_journal, first_moment, sent_up_to, with_play}
-use Rattle.day_run.specs.FairDays.{AreTurns, IsTurn, FairTurn, after_turn, at_later}
-use Rattle.day_run.specs.FairDays.{turn_booked, turn_peak}
-use Rattle.day_run.specs.ClientStates.{Idle, Playing, ClientPlay, ClientState, booking_of}
-use Rattle.day_run.specs.ClientStates.{sent_by}
+use Rattle.day_run.specs.Days.{AskedPlay, IsHaltedPlay, IsLine, SharedLink, DayState, entry_by, last_journal}
+use Rattle.day_run.specs.Days.{first_moment, sent_up_to, with_play}
+use Rattle.day_run.specs.FairDays.{AreTurns, IsTurn, FairTurn, after_turn, turn_booked, turn_peak}
+use Rattle.day_run.specs.ClientStates.{Idle, Playing, ClientPlay, ClientState, booking_of, sent_by}
 use Rattle.day_run.proofs.SentBookedLemmas.{BegunPlay}
 use Rattle.day_run.proofs.SlotBalance.{its-held, last-halted, play-stays, slot-halted, stays-halt}
 use Rattle.day_run.proofs.LineBalance.{morning-ready, ready-sent, taken-ready}
 use Rattle.day_run.proofs.ScriptLineFacts.{LineStep, LinesTaken, NextTaken}
-use Rattle.day_run.proofs.FairLaws.{later-heard, turn-ready, later-ready}
+use Rattle.day_run.proofs.FairLaws.{mid-heard, mid-ready, turn-mid, turn-ready}
 use Rattle.day_run.proofs.LineOutcomes.{LineOutcome, Kept, Asked, Stopped, Looks, Reached, line-outcome}
 use Rattle.day_run.proofs.LineOutcomes.{outcome-heard, turn-outcome, turn_step}
 use Rattle.day_run.proofs.SoundClients.{kept-most}
-use Rattle.day_run.proofs.PeakLemmas.{peak-slots}
-use Rattle.day_run.proofs.SlotSums.{sum-slots}
+use Rattle.day_run.proofs.SlotTotals.{SlotSpan, greatest, summed, total-joined, total-same}
 
 abbrev pub Past : DayState → DayState → Type 0
 Past old new = (t : ℕ) → t ≤ old.heard → booked_after new.entries t ≡ booked_after old.entries t
@@ -68,14 +62,8 @@ answered-past {new} (Admitted start) link ask old answered is = λ t past.
     } in
     ap (λ (m : DayState). booked_after m.entries t) is
     ∙ play-stays old.entries old.heard t begun early past
-answered-past {new} (Overflow over booked asked) link ask old answered is =
-    let e = entry_by ask.client (commands.Play old.heard ask.plan) (Overflow over booked asked) in
-    same-past old new e old.states is (ap (λ (s : State). s.held) (state-push old.entries e))
-answered-past {new} Halted link ask old answered is =
-    let e = entry_by ask.client (commands.Play old.heard ask.plan) Halted in
-    same-past old new e old.states is (ap (λ (s : State). s.held) (state-push old.entries e))
-answered-past {new} (Looked now at booked) link ask old answered is =
-    let e = entry_by ask.client (commands.Play old.heard ask.plan) (Looked now at booked) in
+answered-past {new} answer link ask old answered is =
+    let e = entry_by ask.client (commands.Play old.heard ask.plan) answer in
     same-past old new e old.states is (ap (λ (s : State). s.held) (state-push old.entries e))
 
 halted-past : {link : SharedLink} {c : ℕ} {play : ClientPlay} {old new : DayState} {text : List ℕ} → c < 256
@@ -114,88 +102,12 @@ pub end-past : {link : SharedLink} {n : ℕ} (taken : LinesTaken link n) (t : �
 end-past taken t past = (last-halted taken.moment (taken-ready taken).balanced).stays t past
 
 -- ---- the same of turns
--- a slot or none leaves what is booked up to it
-later-past : (old : DayState) (later t : ℕ) → IsReady old → t ≤ (at_later old later).heard
-    → booked_after (at_later old later).entries t ≡ booked_after old.entries t
-later-past old later t ready = past-if (later == 0)
-  where
-    past-if : (b : Bool) → t ≤ (cond b old (at_slot old (old.heard + later))).heard
-        → booked_after (cond b old (at_slot old (old.heard + later))).entries t ≡ booked_after old.entries t
-    past-if true past = refl
-    past-if false past = (slot-halted old (old.heard + later) (omega arith) ready.balanced).stays t past
-
 turn-past : {link : SharedLink} {words : ℕ → ℕ} {turn : FairTurn} (t : ℕ) → IsTurn link words turn → IsReady turn.old
-    → t ≤ turn.mid.heard
-    → booked_after turn.new.entries t ≡ booked_after turn.old.entries t
-turn-past {link} {words} {turn} t is ready past =
-    let R : DayState → Type 0 = λ m. IsReady m in
-    let mid : IsReady turn.mid = subst R (sym is.slot) (later-ready turn.old (words 0 % 4) ready) in
-    let P : DayState → Type 0 = λ m. t ≤ m.heard → booked_after m.entries t ≡ booked_after turn.old.entries t in
-    let to-mid : P turn.mid = subst P (sym is.slot) (later-past turn.old (words 0 % 4) t ready) in
-    outcome-past (turn_step link turn) (turn-outcome turn is) mid t past ∙ to-mid past
-
--- ---- sums and peaks over slots that join
-sum-same : (f g : ℕ → ℕ) (a n : ℕ) → ((t : ℕ) → t < a + n → f t ≡ g t)
-    → sum_by f (range_with_len a n) ≡ sum_by g (range_with_len a n)
-sum-same f g a zero same = refl
-sum-same f g a (suc n) same =
-    let e : suc n ≡ n + 1 = omega arith in
-    let here : f (a + n) ≡ g (a + n) = same (a + n) (omega arith) in
-    let more = sum-same f g a n (λ t before. same t (omega (arith, before))) in
-    let both : sum_by f (range_with_len a (n + 1)) ≡ sum_by g (range_with_len a (n + 1)) =
-    omega (arith, sum-slots f a n, sum-slots g a n, here, more) in
-    ap (λ k. sum_by f (range_with_len a k)) e ∙ both ∙ sym (ap (λ k. sum_by g (range_with_len a k)) e)
-
-peak-same : (f g : ℕ → ℕ) (a n : ℕ) → ((t : ℕ) → t < a + n → f t ≡ g t)
-    → fold max 0 (map f (range_with_len a n)) ≡ fold max 0 (map g (range_with_len a n))
-peak-same f g a zero same = refl
-peak-same f g a (suc n) same =
-    let e : suc n ≡ n + 1 = omega arith in
-    let here : f (a + n) ≡ g (a + n) = same (a + n) (omega arith) in
-    let more = peak-same f g a n (λ t before. same t (omega (arith, before))) in
-    let both : fold max 0 (map f (range_with_len a (n + 1))) ≡ fold max 0 (map g (range_with_len a (n + 1))) =
-    omega (arith, peak-slots f a n (a + n) refl, peak-slots g a n (a + n) refl, here, more) in
-    ap (λ k. fold max 0 (map f (range_with_len a k))) e ∙ both
-    ∙ sym (ap (λ k. fold max 0 (map g (range_with_len a k))) e)
-
-sum-join : (f : ℕ → ℕ) (a m n : ℕ)
-    → sum_by f (range_with_len a (m + n)) ≡ sum_by f (range_with_len a m) + sum_by f (range_with_len (a + m) n)
-sum-join f a m zero =
-    let e : m + 0 ≡ m = omega arith in
-    omega (arith, ap (λ k. sum_by f (range_with_len a k)) e)
-sum-join f a m (suc n) =
-    let e : m + suc n ≡ m + n + 1 = omega arith in
-    let d : suc n ≡ n + 1 = omega arith in
-    let at : a + (m + n) ≡ a + m + n = omega arith in
-    omega (
-      arith,
-      ap (λ k. sum_by f (range_with_len a k)) e,
-      ap (λ k. sum_by f (range_with_len (a + m) k)) d,
-      sum-slots f a (m + n),
-      sum-slots f (a + m) n,
-      ap f at,
-      sum-join f a m n,
-    )
-
-peak-join : (f : ℕ → ℕ) (a m n : ℕ)
-    → fold max 0 (map f (range_with_len a (m + n)))
-    ≡ max (fold max 0 (map f (range_with_len a m))) (fold max 0 (map f (range_with_len (a + m) n)))
-peak-join f a m zero =
-    let e : m + 0 ≡ m = omega arith in
-    omega (arith, ap (λ k. fold max 0 (map f (range_with_len a k))) e)
-peak-join f a m (suc n) =
-    let e : m + suc n ≡ m + n + 1 = omega arith in
-    let d : suc n ≡ n + 1 = omega arith in
-    let at : a + (m + n) ≡ a + m + n = omega arith in
-    omega (
-      arith,
-      ap (λ k. fold max 0 (map f (range_with_len a k))) e,
-      ap (λ k. fold max 0 (map f (range_with_len (a + m) k))) d,
-      peak-slots f a (m + n) (a + (m + n)) refl,
-      peak-slots f (a + m) n (a + m + n) refl,
-      ap f at,
-      peak-join f a m n,
-    )
+    → t ≤ turn.mid.heard → booked_after turn.new.entries t ≡ booked_after turn.old.entries t
+turn-past {link} {turn} t is ready past =
+    outcome-past (turn_step link turn) (turn-outcome turn is) (mid-ready is ready) t past
+    ∙ turn-mid (λ (m : DayState). t ≤ m.heard → booked_after m.entries t ≡ booked_after turn.old.entries t) is
+    (λ _. refl) ((slot-halted turn.old _ (omega arith) ready.balanced).stays t) past
 
 fold-top : (top : ℕ) (xs : List ℕ) → fold max top xs ≡ max top (fold max 0 xs)
 fold-top top [] = omega arith
@@ -216,57 +128,38 @@ pub record AreBooked (booked : ℕ → ℕ) (turns : List FairTurn) (from to : �
 record FirstTurn (booked : ℕ → ℕ) (turn : FairTurn) (turns : List FairTurn) (last : ℕ) : Type 0 where
   begun : IsReady turn.old
   later : turn.old.heard ≤ turn.mid.heard
-  mid : turn.new.heard ≡ turn.mid.heard
   here : (t : ℕ) → t ≤ turn.mid.heard → booked t ≡ booked_after turn.old.entries t
-  rest : AreBooked booked turns turn.new.heard last
+  rest : AreBooked booked turns turn.mid.heard last
 
 turn-sent : {turn : FairTurn} {turns : List FairTurn} {last : ℕ} (booked : ℕ → ℕ) → FirstTurn booked turn turns last
     → IsTurnBooked booked turn
 turn-sent {turn} booked first = record {
   sent = λ slot after before.
       ready-sent turn.old slot after first.begun
-      ∙ sym (sum-same booked (booked_in (state_after turn.old.entries)) (turn.old.heard + 1) (slot - turn.old.heard)
-      (λ t less. first.here t (omega (arith, less, after, before))));
+      ∙ sym (total-same summed booked (booked_in (state_after turn.old.entries)) (turn.old.heard + 1)
+      (slot - turn.old.heard) (λ t less. first.here t (omega (arith, less, after, before))));
 }
 
 turns-cons : {turn : FairTurn} {turns : List FairTurn} {last : ℕ} (booked : ℕ → ℕ) → FirstTurn booked turn turns last
     → AreBooked booked (turn ∷ turns) turn.old.heard last
 turns-cons {turn} {turns} {last} booked first =
-    let m = turn.mid.heard - turn.old.heard in
-    let n = last - turn.new.heard in
-    let from = turn.old.heard + 1 in
-    let order = rest.order in
-    let at : from + m ≡ turn.new.heard + 1 = omega (arith, later, mid) in
-    let whole : last - turn.old.heard ≡ m + n = omega (arith, later, mid, order) in
+    let span : SlotSpan =
+    record { from = turn.old.heard; mid = turn.mid.heard; last = last; early = later; late = rest.order } in
     let f = booked_in (state_after turn.old.entries) in
-    let sums = sum-same booked f from m (λ t before. here t (omega (arith, before, later))) in
-    let peaks = peak-same booked f from m (λ t before. here t (omega (arith, before, later))) in
     record {
-      order = omega (arith, later, mid, order);
-      sum_is =
-          omega (
-            arith,
-            sum_by-cons turn_booked turn turns,
-            sums,
-            rest.sum_is,
-            sum-join booked from m n,
-            ap (λ k. sum_by booked (range_with_len k n)) at,
-            ap (λ k. sum_by booked (range_with_len from k)) whole,
-          );
-      peak_is =
-          omega (
-            arith,
-            fold-top (max 0 (turn_peak turn)) (map turn_peak turns),
-            peaks,
-            rest.peak_is,
-            peak-join booked from m n,
-            ap (λ k. fold max 0 (map booked (range_with_len k n))) at,
-            ap (λ k. fold max 0 (map booked (range_with_len from k))) whole,
-          );
+      order = omega (arith, later, rest.order);
+      sum_is = sum_by-cons turn_booked turn turns ∙ ap (λ k. turn_booked turn + k) rest.sum_is
+          ∙ total-joined summed booked f span here;
+      peak_is = omega (
+        arith,
+        fold-top (max 0 (turn_peak turn)) (map turn_peak turns),
+        rest.peak_is,
+        total-joined greatest booked f span here,
+      );
       each = All-cons (IsTurnBooked booked) turn turns (turn-sent booked first) rest.each;
     }
   where
-    open first use {later, mid, here, rest}
+    open first use {later, here, rest}
 
 pub turns-past : {turns : List FairTurn} {old : DayState} {booked : ℕ → ℕ} (link : SharedLink) (words : ℕ → ℕ)
     (new : DayState) → AreTurns link words turns old new → IsReady old
@@ -284,21 +177,24 @@ turns-past {turns = []} {old} {booked} link words new run ready same =
       λ t past. same t (omega (arith, past, heard)) ∙ ap (λ (m : DayState). booked_after m.entries t) run,
     )
 turns-past {turns = turn ∷ turns} {old} {booked} link words new run ready same =
-    let R : DayState → Type 0 = λ m. IsReady m in
-    let begun : IsReady turn.old = subst R (sym run.0) ready in
+    let begun : IsReady turn.old = subst IsReady (sym run.0) ready in
     let is = run.1.0 in
     let rest = turns-past {turns = turns} {old = turn.new} {booked = booked} link (after_turn words turn) new
-    run.1.1 (turn-ready link words turn is begun) same in
+    run.1.1 (turn-ready is begun) same in
     let from : turn.old.heard ≡ old.heard = ap (λ (m : DayState). m.heard) run.0 in
     let mid : turn.new.heard ≡ turn.mid.heard = outcome-heard (turn_step link turn) (turn-outcome turn is) in
-    let M : DayState → Type 0 = λ m. turn.old.heard ≤ m.heard in
-    let later : turn.old.heard ≤ turn.mid.heard = subst M (sym is.slot) (later-heard turn.old (words 0 % 4)) in
+    let later : turn.old.heard ≤ turn.mid.heard = mid-heard is in
     let here : (t : ℕ) → t ≤ turn.mid.heard → booked t ≡ booked_after turn.old.entries t =
     λ t past. rest.1 t (omega (arith, past, mid))
     ∙ turn-past {link = link} {words = words} {turn = turn} t is begun past in
     let B : ℕ → Type 0 = λ h. AreBooked booked (turn ∷ turns) h new.heard in (
       subst B from (turns-cons {turn = turn} {turns = turns} {last = new.heard} booked
-          (record { begun = begun; later = later; mid = mid; here = here; rest = rest.0 })),
+          (record {
+            begun = begun;
+            later = later;
+            here = here;
+            rest = subst (λ (h : ℕ). AreBooked booked turns h new.heard) mid rest.0;
+          })),
       λ t past. here t (omega (arith, past, from, later)) ∙ ap (λ (x : DayState). booked_after x.entries t) run.0,
     )
 

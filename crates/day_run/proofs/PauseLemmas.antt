@@ -1,6 +1,6 @@
 -- What a pause keeps of a play.
-use Rattle.std.proofs.Common.{◌≡◌, ◌<◌, ◌≤◌, ◌+◌, ◌-◌, ◌&&◌, ◌==◌, ℕ, min, false, T, List, Option}
-use Rattle.std.proofs.Common.{None, Some, arith, sym, ap, subst, ◌∙◌, inl, inr}
+use Rattle.std.proofs.Common.{◌≡◌, ◌<◌, ◌≤◌, ◌+◌, ◌-◌, ◌&&◌, ◌==◌, ℕ, min, false, T, List, Option, None, Some, arith}
+use Rattle.std.proofs.Common.{sym, ap, subst, ◌∙◌, inl, inr}
 use Rattle.std.proofs.lemmas.Bool.{cases_lt, lt-ltb}
 use Rattle.std.proofs.Math.Dec.{eqb_refl}
 use Rattle.plan_cert.specs.declared.Segment.{Segment}

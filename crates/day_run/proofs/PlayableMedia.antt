@@ -1,6 +1,6 @@
 -- Films and traces that can be played.
-use Rattle.std.proofs.Common.{◌≡◌, ◌≤◌, ◌+◌, ◌∷◌, [], ℕ, List, length, sum, take}
-use Rattle.std.proofs.Common.{get_or, Result, Ok, Err, arith, sym, subst}
+use Rattle.std.proofs.Common.{◌≡◌, ◌≤◌, ◌+◌, ◌∷◌, [], ℕ, List, length, sum, take, get_or, Result, Ok, Err, arith, sym}
+use Rattle.std.proofs.Common.{subst}
 use Rattle.std.specs.Prelude.{All, OnOk}
 use Rattle.std.specs.Global.{Vec}
 use Rattle.std.proofs.lemmas.List.{length-map, take_more}

@@ -3,10 +3,9 @@ use Rattle.std.proofs.Common.{◌≡◌, ℕ, zero, suc, ◌<◌, List, ◌∷�
 use Rattle.std.specs.List.{fold}
 use Rattle.admission.specs.declared.entries.Entry.{Entry}
 use Rattle.day_run.specs.ClientStates.{ClientState, Idle, IfBusy, Rest}
-use Rattle.day_script.specs.Scripts.{AreClients, IsClient}
+use Rattle.day_script.specs.Scripts.{AreClients, IsClient, AreLines, StandsAfter, slot_after}
 use Rattle.day_run.specs.Days.{AreLineSteps, IsAsked, IsLine, IsTold, SharedLink, DayState, first_moment}
 use Rattle.day_script.specs.LineTexts.{state_text}
-use Rattle.day_script.specs.Scripts.{AreLines, StandsAfter, slot_after}
 use Rattle.day_script.specs.declared.scripts.Line.{Line}
 
 -- a line that is taken on a link: the day before and after it, and what is printed
@@ -72,8 +71,7 @@ pub rest-standing : {heard next n : ℕ} {line : Line} {lines : List Line} → S
     → next ≡ slot_after heard line
     → StandingLines next n lines
 rest-standing {n} {lines} standing is =
-    let S : ℕ → Type 0 = λ h. StandingLines h n lines in
-    subst S (sym is) (record {
+    subst (λ (h : ℕ). StandingLines h n lines) (sym is) (record {
       clients = λ i none inside. standing.clients (suc i) none (omega (arith, inside));
       stands = λ i none inside. standing.stands (suc i) none (omega (arith, inside));
     })

@@ -1,13 +1,11 @@
 -- What is sent in a day's slots is what is booked there.
-use Rattle.std.proofs.Common.{◌≡◌, ◌<◌, ◌≤◌, ◌+◌, ◌-◌, ◌==◌, ℕ, zero, suc, List, [], ◌∷◌, ◌++◌, All}
-use Rattle.std.proofs.Common.{false, cond, length, map, set, get_or, Some, arith, refl, sym, ap}
-use Rattle.std.proofs.Common.{subst, ◌∙◌, inl, inr}
+use Rattle.std.proofs.Common.{◌≡◌, ◌<◌, ◌≤◌, ◌+◌, ◌-◌, ◌==◌, ℕ, zero, suc, List, [], ◌∷◌, ◌++◌, All, false, cond}
+use Rattle.std.proofs.Common.{length, map, set, get_or, Some, arith, refl, sym, ap, subst, ◌∙◌, inl, inr}
 use Rattle.slot_calendar.proofs.PlanSlots.{sent-rises}
 use Rattle.std.specs.Prelude.{count_by, sum_by}
 use Rattle.std.specs.List.{range_with_len}
 use Rattle.std.proofs.lemmas.Bool.{cases_Bool, cond-true, cond-false}
-use Rattle.std.proofs.lemmas.List.{get_or_append_left}
-use Rattle.std.proofs.lemmas.List.{get_or-append_right, length-append, length-set, map-append}
+use Rattle.std.proofs.lemmas.List.{get_or_append_left, get_or-append_right, length-append, length-set, map-append}
 use Rattle.std.proofs.lemmas.List.Elements.{All-cons, All-head, All-push, All-tail, All-weaker}
 use Rattle.std.proofs.lemmas.List.Sums.{sum_by-append, sum_by-cons, sum_by-set, sum_by_push}
 use Rattle.plan_cert.specs.declared.Segment.{Segment}
@@ -24,10 +22,10 @@ use Rattle.admission.proofs.HistoryPrefixes.{state-push}
 use Rattle.day_run.proofs.ListUpdates.{set-at}
 use Rattle.day_run.specs.BookingBalance.{AreHeldOf, IsBalanced, IsHeld, share_of}
 use Rattle.day_run.specs.Days.{entry_by, halt_by}
-use Rattle.day_run.specs.ClientStates.{Idle, Playing, Pausing, Paused, ClientPlay, ClientState, Rest}
-use Rattle.day_run.specs.ClientStates.{booking_of, growth, is_playing, sent_between, sent_by}
+use Rattle.day_run.specs.ClientStates.{Idle, Playing, Pausing, Paused, ClientPlay, ClientState, Rest, booking_of}
+use Rattle.day_run.specs.ClientStates.{growth, is_playing, sent_between, sent_by}
 use Rattle.day_run.proofs.OwnHalts.{halts-none, halts-push}
-use Rattle.day_run.proofs.SlotSums.{sum-slots}
+use Rattle.day_run.proofs.SlotTotals.{sum-slots}
 
 -- ---- plays slot by slot
 -- one slot more
@@ -52,16 +50,14 @@ share-done t heard play later all =
 
 between-more : (heard slot : ℕ) (state : ClientState) → heard ≤ slot
     → sent_between heard (slot + 1) state ≡ sent_between heard slot state + share_of (slot + 1) state
-between-more heard slot Idle le = omega arith
 between-more heard slot (Playing play) le = growth-more heard slot (booking_of play) le
 between-more heard slot (Pausing stop rest) le = growth-more heard slot stop le
-between-more heard slot (Paused rest) le = omega arith
+between-more heard slot _ le = omega arith
 
 between-none : (heard : ℕ) (state : ClientState) → sent_between heard heard state ≡ 0
-between-none heard Idle = refl
 between-none heard (Playing play) = omega arith
 between-none heard (Pausing stop rest) = omega arith
-between-none heard (Paused rest) = refl
+between-none heard _ = refl
 
 sum-between : (heard slot : ℕ) (states : List ClientState) → heard ≤ slot
     → sum_by (sent_between heard (slot + 1)) states
@@ -118,16 +114,12 @@ balanced-sent entries states heard slot le balanced =
 -- ---- one entry more
 -- a client has no play that is open
 abbrev pub IsShut : ClientState → Type 0
-IsShut Idle = Unit {0}
 IsShut (Playing play) = ⊥
-IsShut (Pausing stop rest) = Unit {0}
-IsShut (Paused rest) = Unit {0}
+IsShut _ = Unit {0}
 
 shut-idle : (state : ClientState) → IsShut state → is_playing state ≡ false
-shut-idle Idle shut = refl
 shut-idle (Playing play) shut = absurd shut
-shut-idle (Pausing stop rest) shut = refl
-shut-idle (Paused rest) shut = refl
+shut-idle _ shut = refl
 
 -- a client books nothing, and plays nothing
 pub record IsFree (state : ClientState) : Type 0 where
@@ -148,10 +140,8 @@ abbrev pub playing_one : ClientState → ℕ
 playing_one state = cond (is_playing state) 1 0
 
 shut-held : (entries : List Entry) (c : ℕ) (state : ClientState) → IsShut state → AreHeldOf entries c state
-shut-held entries c Idle shut = tt
 shut-held entries c (Playing play) shut = absurd shut
-shut-held entries c (Pausing stop rest) shut = tt
-shut-held entries c (Paused rest) shut = tt
+shut-held entries c _ shut = tt
 
 maker-more : (entries : List Entry) (e : Entry) (c : ℕ) (play : ClientPlay) → IsHeld entries c play
     → play_numbered play.number (state_after (entries ++ e ∷ [])).held
@@ -240,10 +230,8 @@ other-halted {entries} {c} {d} {play} number keep halted its =
 others-halted : {c d : ℕ} (entries : List Entry) (number keep : ℕ) (state : ClientState)
     → HaltedApart c d entries number → AreHeldOf entries d state
     → AreHeldOf (entries ++ halt_by c number keep) d state
-others-halted {c} entries number keep Idle apart its = tt
 others-halted {c} entries number keep (Playing play) apart its = other-halted number keep apart its
-others-halted {c} entries number keep (Pausing stop rest) apart its = tt
-others-halted {c} entries number keep (Paused rest) apart its = tt
+others-halted {c} entries number keep _ apart its = tt
 
 fresh-halted : (number keep n : ℕ) (held : List AdmittedPlay) → All (λ (h : AdmittedPlay). h.number < n) held
     → All (λ (h : AdmittedPlay). h.number < n) (with_halted number keep held)
@@ -323,9 +311,8 @@ halted-fresh : (entries : List Entry) (c number keep : ℕ)
     (state_after (entries ++ halt_by c number keep)).held
 halted-fresh entries c number keep fresh =
     let e = entry_by c (commands.Halt number keep) Halted in
-    let A : State → Type 0 =
-    λ s. All (λ (h : AdmittedPlay). h.number < length (entries ++ halt_by c number keep)) s.held in
-    subst A (sym (state-push entries e))
+    subst (λ (s : State). All (λ (h : AdmittedPlay). h.number < length (entries ++ halt_by c number keep)) s.held)
+    (sym (state-push entries e))
     (fresh-more (length entries) (length (entries ++ halt_by c number keep))
     (with_halted number keep (state_after entries).held) (omega (arith, length-append entries (e ∷ [])))
     (fresh-halted number keep (length entries) (state_after entries).held fresh))
@@ -337,8 +324,7 @@ pub balanced-halt : {entries : List Entry} {states : List ClientState} {heard : 
     → ((t : ℕ) → heard < t → share_of t next ≡ share_at t (truncated_play play.start play.plan keep))
     → IsBalanced (entries ++ halt_by c play.number keep) (set states c next) heard
 balanced-halt {entries} {states} {play} c keep next own shut shares =
-    let H : ClientState → Type 0 = λ s. AreHeldOf entries c s in
-    let its : IsHeld entries c play = subst H at (balanced.held c inside) in
+    let its : IsHeld entries c play = subst (AreHeldOf entries c) at (balanced.held c inside) in
     record {
       each = λ t later.
           let b = booked-halted entries c (halted-play its) keep t in
@@ -369,11 +355,9 @@ balanced-halt {entries} {states} {play} c keep next own shut shares =
 same-held : (entries : List Entry) (e : Entry) (c : ℕ) (state : ClientState)
     → (state_after (entries ++ e ∷ [])).held ≡ (state_after entries).held
     → AreHeldOf entries c state → AreHeldOf (entries ++ e ∷ []) c state
-same-held entries e c Idle same its = tt
 same-held entries e c (Playing play) same its =
     maker-more entries e c play its (ap (play_numbered play.number) same ∙ its.held)
-same-held entries e c (Pausing stop rest) same its = tt
-same-held entries e c (Paused rest) same its = tt
+same-held entries e c _ same its = tt
 
 pub balanced-same : (entries : List Entry) (states : List ClientState) (heard : ℕ) (e : Entry)
     → (state_after (entries ++ e ∷ [])).held ≡ (state_after entries).held → is_halt e.command ≡ false
@@ -398,15 +382,13 @@ record NextHeld (entries : List Entry) : Type 0 where
 
 push-held : (entries : List Entry) (next : NextHeld entries) (c : ℕ) (state : ClientState) → AreHeldOf entries c state
     → AreHeldOf (entries ++ next.e ∷ []) c state
-push-held entries next c Idle its = tt
 push-held entries next c (Playing play) its =
     maker-more entries e c play its
     (ap (play_numbered play.number) is
     ∙ found-push play.number (state_after entries).held (admitted_play play.number play.start play.plan) new its.held)
   where
     open next use {e, new, is}
-push-held entries next c (Pausing stop rest) its = tt
-push-held entries next c (Paused rest) its = tt
+push-held entries next c _ its = tt
 
 -- the entry of a play that begins
 pub record BegunPlay (entries : List Entry) : Type 0 where
@@ -480,8 +462,7 @@ balanced-play {entries} {states} {c} played inside free balanced =
           (balanced.held d within));
       fresh =
           let P : AdmittedPlay → Type 0 = λ h. h.number < length (entries ++ e ∷ []) in
-          let A : List AdmittedPlay → Type 0 = λ l. All P l in
-          subst A (sym is)
+          subst (All P) (sym is)
           (All-push P held new
           (fresh-more (length entries) (length (entries ++ e ∷ [])) held (omega (arith, n)) balanced.fresh)
           (omega (arith, number, n)));

@@ -1,8 +1,7 @@
 -- The clients book what the machine has booked once a slot has come, and at the end of a day; and what
 -- is booked in past slots stays.
-use Rattle.std.proofs.Common.{◌≡◌, ◌<◌, ◌≤◌, ◌+◌, ◌-◌, ◌==◌, ℕ, zero, suc, true, false, Bool, cond}
-use Rattle.std.proofs.Common.{nat_le, List, [], ◌∷◌, ◌++◌, length, map, take, set, get_or}
-use Rattle.std.proofs.Common.{sum, Some, arith, refl, sym, ap, subst, ◌∙◌}
+use Rattle.std.proofs.Common.{◌≡◌, ◌<◌, ◌≤◌, ◌+◌, ◌-◌, ◌==◌, ℕ, zero, suc, true, false, Bool, cond, nat_le, List, []}
+use Rattle.std.proofs.Common.{◌∷◌, ◌++◌, length, map, take, set, get_or, sum, Some, arith, refl, sym, ap, subst, ◌∙◌}
 use Rattle.slot_calendar.proofs.PlanSlots.{sent-rises}
 use Rattle.std.specs.Prelude.{sum_by}
 use Rattle.std.proofs.lemmas.Bool.{eqb-true, and_parts}
@@ -18,11 +17,10 @@ use Rattle.admission.specs.Machine.{admitted_play, booked_in, play_numbered}
 use Rattle.day_run.specs.BookingBalance.{AreHeldOf, IsBalanced, IsHeld, share_of}
 use Rattle.day_run.specs.Days.{DayState, at_slot, done_halt, halt_by, halt_entries, last_journal, open_halt}
 use Rattle.day_run.specs.Clients.{after_open}
-use Rattle.day_run.specs.ClientStates.{Idle, Playing, Pausing, Paused, ClientPlay, Rest, ClientState}
-use Rattle.day_run.specs.ClientStates.{after_play, after_sending, booking_of, is_done}
-use Rattle.day_run.specs.ClientStates.{pausing_state}
-use Rattle.day_run.specs.ClientStates.{sent_by}
+use Rattle.day_run.specs.ClientStates.{Idle, Playing, Pausing, Paused, ClientPlay, Rest, ClientState, after_play}
+use Rattle.day_run.specs.ClientStates.{after_sending, booking_of, is_done, pausing_state, sent_by}
 use Rattle.day_run.proofs.LineStepLemmas.{halt_entries-sent}
+use Rattle.day_run.proofs.PacerTimingLemmas.{pausing-cases}
 use Rattle.day_run.proofs.ClientSweepLemmas.{IsSwept, entries-more, swept-all, swept-none, swept-set}
 use Rattle.day_run.proofs.SentBookedLemmas.{BalancedClient, BegunPlay, HeldPlay, balanced-halt, booked-begun}
 use Rattle.day_run.proofs.SentBookedLemmas.{booked-halted, open-less, playing_one, share-done}
@@ -40,10 +38,8 @@ pausing-share t slot stop rest later =
     (λ all. share-done t slot stop later (eqb-true (sent_by stop slot) stop.keep all))
 
 sending-share : (t slot : ℕ) (state : ClientState) → slot < t → share_of t (after_sending slot state) ≡ share_of t state
-sending-share t slot Idle later = refl
-sending-share t slot (Playing play) later = refl
 sending-share t slot (Pausing stop rest) later = pausing-share t slot stop rest later
-sending-share t slot (Paused rest) later = refl
+sending-share t slot _ later = refl
 
 sending-shares : (t slot : ℕ) (states : List ClientState) → slot < t
     → sum_by (share_of t) (map (after_sending slot) states) ≡ sum_by (share_of t) states
@@ -57,15 +53,10 @@ sending-shares t slot (state ∷ states) later =
       sum_by-cons (share_of t) (after_sending slot state) (map (after_sending slot) states),
     )
 
-pause-plays : (b : Bool) (stop : Booked) (rest : Rest) → playing_one (cond b (Paused rest) (Pausing stop rest)) ≡ 0
-pause-plays true stop rest = refl
-pause-plays false stop rest = refl
-
 sending-play : (slot : ℕ) (state : ClientState) → playing_one (after_sending slot state) ≡ playing_one state
-sending-play slot Idle = refl
-sending-play slot (Playing play) = refl
-sending-play slot (Pausing stop rest) = pause-plays (sent_by stop slot == stop.keep) stop rest
-sending-play slot (Paused rest) = refl
+sending-play slot (Pausing stop rest) =
+    pausing-cases (λ s. playing_one s ≡ 0) slot stop rest refl refl
+sending-play slot _ = refl
 
 sending-plays : (slot : ℕ) (states : List ClientState)
     → sum_by playing_one (map (after_sending slot) states) ≡ sum_by playing_one states
@@ -79,17 +70,12 @@ sending-plays slot (state ∷ states) =
       sum_by-cons playing_one (after_sending slot state) (map (after_sending slot) states),
     )
 
-pause-held : (b : Bool) (entries : List Entry) (c : ℕ) (stop : Booked) (rest : Rest)
-    → AreHeldOf entries c (cond b (Paused rest) (Pausing stop rest))
-pause-held true entries c stop rest = tt
-pause-held false entries c stop rest = tt
-
 sending-held : (entries : List Entry) (c slot : ℕ) (state : ClientState) → AreHeldOf entries c state
     → AreHeldOf entries c (after_sending slot state)
-sending-held entries c slot Idle its = tt
 sending-held entries c slot (Playing play) its = its
-sending-held entries c slot (Pausing stop rest) its = pause-held (sent_by stop slot == stop.keep) entries c stop rest
-sending-held entries c slot (Paused rest) its = tt
+sending-held entries c slot (Pausing stop rest) its =
+    pausing-cases (AreHeldOf entries c) slot stop rest tt tt
+sending-held entries c slot _ its = tt
 
 pub balanced-sending : (entries : List Entry) (states : List ClientState) (heard slot : ℕ) → heard ≤ slot
     → IsBalanced entries states heard
@@ -98,8 +84,7 @@ balanced-sending entries states heard slot le balanced = record {
   each = λ t later. balanced.each t (omega (arith, le, later)) ∙ sym (sending-shares t slot states later);
   held = λ c within.
       let inside : c < length states = omega (arith, within, length-map states (after_sending slot)) in
-      let C : ClientState → Type 0 = λ x. AreHeldOf entries c x in
-      subst C (sym (get_or-map (after_sending slot) states c Idle Idle inside))
+      subst (AreHeldOf entries c) (sym (get_or-map (after_sending slot) states c Idle Idle inside))
       (sending-held entries c slot (get_or states c Idle) (balanced.held c inside));
   fresh = balanced.fresh;
   playing = balanced.playing ∙ sym (sending-plays slot states);
@@ -120,9 +105,8 @@ left-alone : {slot : ℕ} {entries : List Entry} {states : List ClientState} {st
     → IsBalanced (entries ++ []) (set states c state) slot
 left-alone {slot} {entries} {states} {state} c at balanced =
     let E : List Entry → Type 0 = λ es. IsBalanced es (set states c state) slot in
-    let S : List ClientState → Type 0 = λ l. IsBalanced entries l slot in
     let same : states ≡ set states c state = sym (ap (set states c) (sym at) ∙ set-get_or states c Idle) in
-    subst E (sym (append-nil entries)) (subst S same balanced)
+    subst E (sym (append-nil entries)) (subst (λ (l : List ClientState). IsBalanced entries l slot) same balanced)
 
 -- ---- what is booked in past slots stays
 abbrev Stays : ℕ → List Entry → List Entry → Type 0
@@ -194,8 +178,7 @@ pub its-held : {entries : List Entry} {states : List ClientState} {heard : ℕ} 
     → c < length states → get_or states c Idle ≡ Playing play → IsBalanced entries states heard
     → play_numbered play.number (state_after entries).held ≡ Some (admitted_play play.number play.start play.plan)
 its-held {entries} {play} c inside at balanced =
-    let H : ClientState → Type 0 = λ s. AreHeldOf entries c s in
-    let its : IsHeld entries c play = subst H at (balanced.held c inside) in
+    let its : IsHeld entries c play = subst (AreHeldOf entries c) at (balanced.held c inside) in
     its.held
 
 step-play : {slot : ℕ} {entries : List Entry} {states : List ClientState} {play : ClientPlay} {done : Bool} (c : ℕ)
@@ -214,10 +197,8 @@ step-play {slot} {done = false} c done own = kept-step c own.at own.balanced
 step-state : {slot : ℕ} (c : ℕ) (entries : List Entry) (states : List ClientState) (state : ClientState)
     → BalancedClient slot c entries states state
     → IsStep slot entries (entries ++ done_halt slot c state) (set states c (after_play slot state))
-step-state {slot} c entries states Idle own = kept-step c own.at own.balanced
 step-state {slot} c entries states (Playing play) own = step-play c refl own
-step-state {slot} c entries states (Pausing stop rest) own = kept-step c own.at own.balanced
-step-state {slot} c entries states (Paused rest) own = kept-step c own.at own.balanced
+step-state {slot} c entries states _ own = kept-step c own.at own.balanced
 
 open-state : {slot : ℕ} (c : ℕ) (entries : List Entry) (states : List ClientState) (state : ClientState)
     → BalancedClient slot c entries states state
@@ -293,8 +274,7 @@ ending {slot} {halt} {after} {begun} {old} {n = suc n} step most balanced =
     let e = ending {slot = slot} {halt = halt} {after = after} {begun = begun} {old = old} {n = n} step
     (omega (arith, most)) balanced in
     let one : n + 1 ≡ suc n = omega arith in
-    let E : ℕ → Type 0 = λ k. Ending slot k halt after begun old in
-    subst E one
+    subst (λ (k : ℕ). Ending slot k halt after begun old) one
     (ending-next {slot = slot} {n = n} {halt = halt} {after = after} {begun = begun} {old = old} step
     (omega (arith, most)) e)
 
@@ -324,9 +304,8 @@ pub slot-halted : (old : DayState) (slot : ℕ) → old.heard ≤ slot → IsBal
     → IsHaltedAt slot old.entries (at_slot old slot).entries (at_slot old slot).states
 slot-halted old slot le balanced =
     let sent = map (after_sending slot) old.states in
-    let E : List Entry → Type 0 = λ halts. IsHaltedAt slot old.entries (old.entries ++ halts) (map (after_play slot)
-    sent) in
-    subst E (halt_entries-sent slot 0 old.states)
+    subst (λ (halts : List Entry). IsHaltedAt slot old.entries (old.entries ++ halts) (map (after_play slot) sent))
+    (halt_entries-sent slot 0 old.states)
     (all-ended {slot = slot} (done_halt slot) (after_play slot) old.entries sent step-state
     (balanced-sending old.entries old.states old.heard slot le balanced))
 

@@ -1,11 +1,10 @@
 -- What is true of the clients after each line.
-use Rattle.std.proofs.Common.{◌≡◌, ◌<◌, ◌≤◌, ◌+◌, ◌-◌, ◌==◌, ◌&&◌, ℕ, true, false, Bool, cond}
-use Rattle.std.proofs.Common.{nat_le, nat_lt, List, [], ◌∷◌, All, length, map, take, drop, set}
-use Rattle.std.proofs.Common.{get_or, sum, replicate, Option, Some, None, arith, refl, sym, ap, subst, ◌∙◌, inl, inr}
+use Rattle.std.proofs.Common.{◌≡◌, ◌<◌, ◌≤◌, ◌+◌, ◌-◌, ◌==◌, ◌&&◌, ℕ, true, false, Bool, cond, nat_le, nat_lt, List}
+use Rattle.std.proofs.Common.{All, length, map, take, drop, set, get_or, sum, replicate, Option, Some, None, arith}
+use Rattle.std.proofs.Common.{refl, sym, ap, subst, ◌∙◌, inl, inr}
 use Rattle.std.specs.Prelude.{IsSomeAnd, IsTrue}
 use Rattle.std.proofs.lemmas.Bool.{cases_lt, eqb-false, le-leb, ltb-false, ltb-true}
-use Rattle.std.proofs.lemmas.List.{get_or-map, get_or-replicate}
-use Rattle.std.proofs.lemmas.List.{length-map, length-take, take_all}
+use Rattle.std.proofs.lemmas.List.{get_or-map, get_or-replicate, length-map, length-take, take_all}
 use Rattle.std.proofs.lemmas.List.Elements.{All-from_get_or}
 use Rattle.plan_cert.specs.declared.Segment.{Segment}
 use Rattle.plan_cert.specs.PlanSlots.{plan_slots, sum_through, total_bytes, total_slots}
@@ -18,9 +17,9 @@ use Rattle.film_run.specs.Plans.{IsPlanOf, IsTautFor, rest_sizes, timing_of}
 use Rattle.film_run.specs.Runs.{bytes_between}
 use Rattle.film_run.proofs.SumLemmas.{bytes-none}
 use Rattle.film_run.proofs.RemainingRunLemmas.{halted-plays}
-use Rattle.slot_calendar.specs.Plays.{Play as Booked, sent_before}
+use Rattle.slot_calendar.specs.Plays.{sent_before, truncated_play}
 use Rattle.admission.specs.declared.entries.Answer.{Answer}
-use Rattle.admission.specs.declared.entries.Answer.TheVariants.{Admitted, Overflow, Halted, Looked}
+use Rattle.admission.specs.declared.entries.Answer.TheVariants.{Admitted}
 use Rattle.admission.specs.declared.entries.Command.TheVariants as commands
 use Rattle.admission.specs.declared.entries.Entry.{Entry}
 use Rattle.admission.specs.Histories.{IsAnswered, state_after}
@@ -29,18 +28,16 @@ use Rattle.day_script.specs.declared.scripts.Line.{Line}
 use Rattle.day_script.specs.declared.scripts.Line.TheVariants as lines
 use Rattle.day_run.specs.BookingBalance.{AreHeldOf, IsHeld, IsReady}
 use Rattle.day_run.specs.DayLaws.{IsLink, IsSoundPlay, IsSoundRest, IsSoundClient}
-use Rattle.day_run.specs.Days.{AreLineSteps, IsAsked, IsHaltedPlay, IsLine, IsLookLine}
-use Rattle.day_run.specs.Days.{IsPauseLine, IsResumeLine, SharedLink, DayState, at_slot}
-use Rattle.day_run.specs.Days.{entry_by, first_moment, rest_at, state_at, with_play}
+use Rattle.day_run.specs.Days.{IsAsked, IsHaltedPlay, IsLine, IsLookLine, IsPauseLine, IsResumeLine, SharedLink}
+use Rattle.day_run.specs.Days.{DayState, at_slot, entry_by, first_moment, rest_at, state_at, with_play}
 use Rattle.day_script.specs.Scripts.{IsWish}
-use Rattle.day_run.specs.ClientStates.{Idle, Playing, Pausing, Paused, IsPause, ClientPlay, Rest}
-use Rattle.day_run.specs.ClientStates.{ClientState, after_play, after_sending, booking_of, is_done}
-use Rattle.day_run.specs.ClientStates.{no_medium, sent_by, slot_sent}
+use Rattle.day_run.specs.ClientStates.{Idle, Playing, Pausing, Paused, IsPause, ClientPlay, Rest, ClientState}
+use Rattle.day_run.specs.ClientStates.{after_play, after_sending, booking_of, is_done, no_medium, sent_by, slot_sent}
 use Rattle.day_run.proofs.LineBalance.{morning-ready, outcome-ready, slot-ready}
-use Rattle.day_run.proofs.LineOutcomes.{line-outcome, offer-kept, outcome-heard}
+use Rattle.day_run.proofs.LineOutcomes.{line-outcome, offer-kept, taken-keeps}
 use Rattle.day_run.proofs.ListUpdates.{set-at}
-use Rattle.day_run.proofs.ScriptLineFacts.{ClientOf, IsPlayTaken, LineStep, LinesTaken, StandingLine, StandingLines}
-use Rattle.day_run.proofs.ScriptLineFacts.{first-standing, rest-standing, standing-of}
+use Rattle.day_run.proofs.PacerTimingLemmas.{pausing-cases}
+use Rattle.day_run.proofs.ScriptLineFacts.{ClientOf, IsPlayTaken, LineStep, LinesTaken, StandingLine}
 
 -- ---- what is true of the clients
 pub record IsSound (m : DayState) : Type 0 where
@@ -69,8 +66,7 @@ set-sound {heard} {c} {state} states count own each d inside =
 
 kept-states : (old new : DayState) → new ≡ old → AreStates old.heard old.states → AreStates new.heard new.states
 kept-states old new kept each =
-    let M : DayState → Type 0 = λ m. AreStates m.heard m.states in
-    subst M (sym kept) each
+    subst (λ (m : DayState). AreStates m.heard m.states) (sym kept) each
 
 -- a client asks for what can be sent, by its plan
 record SoundAsking (rest : Rest) (plan : List Segment) (c : ℕ) : Type 0 where
@@ -89,9 +85,7 @@ answered-states {rest} {plan} {old} {c} (Admitted start) link ask sound answer =
     let own : IsSoundPlay old.heard play =
     record { rest = ask.rest_is; plan = ask.plan_is; left = λ begun. absurd (omega (arith, begun, early)) } in
     set-sound old.states sound.ready.count (record { client = ask.client; sound = own }) sound.each
-answered-states (Overflow over booked asked) link ask sound answer = sound.each
-answered-states Halted link ask sound answer = sound.each
-answered-states (Looked now at booked) link ask sound answer = sound.each
+answered-states _ link ask sound answer = sound.each
 
 asked-states : {link : SharedLink} {c : ℕ} {rest : Rest} {old new : DayState} {text : List ℕ} → c < 256
     → (0 < length (rest_sizes rest.sizes rest.run) → IsSoundRest rest)
@@ -100,8 +94,7 @@ asked-states {c} {old} {new} {text} client own sound (inl faulty) = kept-states 
 asked-states {link} {c} {old} {new} {text} client own sound (inr planned) = elim planned.done [
   | inl full ↦ kept-states old new full.told.kept sound.each
   | inr made ↦
-      let M : DayState → Type 0 = λ m. AreStates m.heard m.states in
-      subst M (sym made.noted.new_is)
+      subst (λ (m : DayState). AreStates m.heard m.states) (sym made.noted.new_is)
       (answered-states {c = c} made.answer link (record {
         client = client;
         rest_is = own planned.plan_is.accepted.some_picture;
@@ -196,19 +189,13 @@ left-sound : {play : ClientPlay} {heard keep : ℕ} {state : ClientState} → Is
 left-sound {play} {heard} {keep} sound pause most =
     let sending : IsSending play.rest.sizes play.rest.playback play.rest.run play.plan =
     record { can_play = sound.rest.can; plan_is = sound.plan } in
-    let B : ℕ → Type 0 = λ n. IsBoundary play.rest.pieces n in
     record {
       can =
           halted-plays play.rest.sizes play.rest.playback play.rest.run play.plan sending
           (slot_sent play.start heard) keep pause.left
           (halt-if refl sound pause most) pause.left_is;
-      boundary = subst B (sym pause.left_is.sent_is) pause.boundary.boundary;
+      boundary = subst (IsBoundary play.rest.pieces) (sym pause.left_is.sent_is) pause.boundary.boundary;
     }
-
-pausing-sound : (heard slot : ℕ) (b : Bool) (stop : Booked) (rest : Rest) → IsSoundRest rest
-    → IsSoundClient heard (cond b (Paused rest) (Pausing stop rest))
-pausing-sound heard slot true stop rest own = own
-pausing-sound heard slot false stop rest own = own
 
 halted-states : {link : SharedLink} {c : ℕ} {play : ClientPlay} {old new : DayState} {text : List ℕ} → c < 256
     → get_or old.states c Idle ≡ Playing play → IsSound old
@@ -216,15 +203,14 @@ halted-states : {link : SharedLink} {c : ℕ} {play : ClientPlay} {old new : Day
 halted-states {c} {play} {old} {new} {text} client at sound is =
     let P : ClientState → Type 0 = λ s. IsSoundClient old.heard s in
     let own : IsSoundPlay old.heard play = subst P at (sound.each c client) in
-    let H : ClientState → Type 0 = λ s. AreHeldOf old.entries c s in
     let its : IsHeld old.entries c play =
-    subst H at (sound.ready.balanced.held c (omega (arith, client, sound.ready.count))) in
+    subst (AreHeldOf old.entries c) at (sound.ready.balanced.held c (omega (arith, client, sound.ready.count))) in
     let most = kept-most old.entries play is.keep its.held is.noted.answered in
     let rest = left-sound own is.pause most in
     let state : IsSoundClient old.heard is.state =
-    subst P (sym is.pause.state_is) (pausing-sound old.heard old.heard _ _ _ rest) in
-    let M : DayState → Type 0 = λ m. AreStates m.heard m.states in
-    subst M (sym is.noted.new_is)
+    subst P (sym is.pause.state_is) (pausing-cases (IsSoundClient old.heard) old.heard
+    (truncated_play play.start play.plan is.keep) (record play.rest { run = is.pause.left }) rest rest) in
+    subst (λ (m : DayState). AreStates m.heard m.states) (sym is.noted.new_is)
     (set-sound old.states sound.ready.count (record { client = client; sound = state }) sound.each)
 
 -- ---- a slot comes
@@ -234,16 +220,12 @@ done-if : (slot : ℕ) (play : ClientPlay) (b : Bool) → is_done slot play ≡ 
 done-if slot play true done rest plan = tt
 done-if slot play false undone rest plan = record { rest = rest; plan = plan; left = some-left play slot undone }
 
-pause-if : (slot : ℕ) (b : Bool) (stop : Booked) (rest : Rest) → IsSoundRest rest
-    → IsSoundClient slot (after_play slot (cond b (Paused rest) (Pausing stop rest)))
-pause-if slot true stop rest own = own
-pause-if slot false stop rest own = own
-
 state-slot : (heard slot : ℕ) (state : ClientState) → IsSoundClient heard state
     → IsSoundClient slot (after_play slot (after_sending slot state))
 state-slot heard slot Idle own = tt
 state-slot heard slot (Playing play) own = done-if slot play (is_done slot play) refl own.rest own.plan
-state-slot heard slot (Pausing stop rest) own = pause-if slot (sent_by stop slot == stop.keep) stop rest own
+state-slot heard slot (Pausing stop rest) own =
+    pausing-cases (λ s. IsSoundClient slot (after_play slot s)) slot stop rest own own
 state-slot heard slot (Paused rest) own = own
 
 slot-states : (old : DayState) (slot : ℕ) → IsSound old → AreStates slot (at_slot old slot).states
@@ -301,10 +283,9 @@ whole-sound {link} {source} {buffer} {delay} link-is wish some =
 play-states : {c : ℕ} {rest : Rest} (step : LineStep) (state : ClientState) → c < 256
     → (0 < length (rest_sizes rest.sizes rest.run) → IsSoundRest rest) → IsSound step.old
     → IsPlayTaken step c rest state → AreStates step.new.heard step.new.states
-play-states {c} step Idle client own sound is = asked-states client own sound is
 play-states {c} step (Playing play) client own sound is = kept-states step.old step.new is.kept sound.each
 play-states {c} step (Pausing stop left) client own sound is = kept-states step.old step.new is.kept sound.each
-play-states {c} step (Paused left) client own sound is = asked-states client own sound is
+play-states {c} step _ client own sound is = asked-states client own sound is
 
 resume-states : {c : ℕ} {state : ClientState} (step : LineStep) → ClientOf step.old c state → IsSound step.old
     → IsResumeLine step.link c state step.old step.new step.text → AreStates step.new.heard step.new.states
@@ -312,8 +293,7 @@ resume-states {c} {state = Idle} step own sound is = kept-states step.old step.n
 resume-states {c} {state = Playing play} step own sound is = kept-states step.old step.new is.kept sound.each
 resume-states {c} {state = Pausing stop rest} step own sound is = kept-states step.old step.new is.kept sound.each
 resume-states {c} {state = Paused rest} step own sound is =
-    let P : ClientState → Type 0 = λ s. IsSoundClient step.old.heard s in
-    let sending : IsSoundRest rest = subst P own.at (sound.each c own.client) in
+    let sending : IsSoundRest rest = subst (IsSoundClient step.old.heard) own.at (sound.each c own.client) in
     asked-states own.client (λ some. sending) sound is
 
 pause-states : {c : ℕ} {state : ClientState} (step : LineStep) → ClientOf step.old c state → IsSound step.old
@@ -327,8 +307,7 @@ look-states : {link : SharedLink} {slot : ℕ} {old new : DayState} {text : List
     → IsLookLine link slot old new text → AreStates new.heard new.states
 look-states {slot} {old} {new} {text} sound (inl full) = kept-states old new full.told.kept sound.each
 look-states {slot} {new} {text} sound (inr made) =
-    let M : DayState → Type 0 = λ m. AreStates m.heard m.states in
-    subst M (sym made.noted.new_is) sound.each
+    subst (λ (m : DayState). AreStates m.heard m.states) (sym made.noted.new_is) sound.each
 
 -- ---- lines leave the clients sound
 line-states : (step : LineStep) (line : Line) → IsLink step.link
@@ -342,8 +321,7 @@ line-states step (lines.Resume c) link-is standing sound is =
     resume-states step (record { client = standing.client; at = refl }) sound is
 line-states step (lines.Look slot) link-is standing sound is = look-states sound is
 line-states step (lines.Slot slot) link-is standing sound is =
-    let M : DayState → Type 0 = λ m. AreStates m.heard m.states in
-    subst M (sym is.0) (slot-states step.old slot sound)
+    subst (λ (m : DayState). AreStates m.heard m.states) (sym is.0) (slot-states step.old slot sound)
 line-states step (lines.Offer c source buffer delay wait) link-is standing sound is =
     kept-states step.old step.new (offer-kept is) sound.each
 
@@ -355,28 +333,14 @@ line-sound step line link-is standing sound is = record {
   each = line-states step line link-is standing sound is;
 }
 
--- after lines, all clients are sound
-run-sound : {link : SharedLink} {old new : DayState} (ls : List Line) (texts : List (List ℕ)) → IsLink link
-    → StandingLines old.heard (length link.media) ls → IsSound old → AreLineSteps link ls texts old new → IsSound new
-run-sound {new} [] [] link-is standing sound run =
-    let S : DayState → Type 0 = λ m. IsSound m in
-    subst S (sym run) sound
-run-sound {new} [] (t ∷ ts) link-is standing sound run = absurd run
-run-sound {new} (l ∷ ls) [] link-is standing sound run = absurd run
-run-sound {link} {old} {new} (l ∷ ls) (t ∷ ts) link-is standing sound run =
-    let step : LineStep = record { link = link; old = old; new = run.0; text = t } in
-    let here = first-standing standing in
-    run-sound {link = link} {old = run.0} {new = new} ls ts link-is
-    (rest-standing standing (outcome-heard step (line-outcome step l here run.1.0)))
-    (line-sound step l link-is here sound run.1.0) run.1.1
-
 pub idle-sound : AreStates 0 (replicate 256 Idle)
 idle-sound c client =
-    let S : ClientState → Type 0 = λ s. IsSoundClient 0 s in
-    subst S (sym (get_or-replicate 256 c Idle Idle client)) tt
+    subst (IsSoundClient 0) (sym (get_or-replicate 256 c Idle Idle client)) tt
 
 pub day-sound : {link : SharedLink} (taken : LinesTaken link (length link.media)) (c : ℕ) → IsLink link → c < 256
     → IsSoundClient taken.moment.heard (state_at taken.moment c)
-day-sound taken c link-is inside =
+day-sound {link} taken c link-is inside =
     let morning : IsSound first_moment = record { ready = morning-ready; each = idle-sound } in
-    (run-sound taken.lines taken.texts link-is (standing-of taken) morning taken.run).each c inside
+    (taken-keeps taken IsSound (λ line old new text standing is sound.
+    line-sound (record { link = link; old = old; new = new; text = text }) line link-is standing sound is)
+    morning).each c inside

@@ -1,6 +1,5 @@
 use Rattle.std.proofs.Common.{◌≤◌, ◌+◌, ◌∷◌, [], List, ℕ, length, ap, sym, subst, ◌∙◌, arith}
 use Rattle.std.proofs.lemmas.List.{length-append}
-use Rattle.std.specs.Global.{Vec}
 use Rattle.day_run.specs.FairProgress.{AreTraces, sizes_in}
 use Rattle.film_run.specs.Units.{AreUnitSizes}
 use Rattle.film_make.specs.Generator.{words_left}
@@ -13,8 +12,7 @@ pub loop-trace-init : goal.loop-trace-init
 loop-trace-init c = record {
   count = omega (arith, ap length c.in_ok-traces.ensures.items);
   traces =
-      let A : List (Vec ℕ) → Type 0 = λ l. AreTraces l in
-      subst A (sym c.in_ok-traces.ensures.items) traces-none;
+      subst AreTraces (sym c.in_ok-traces.ensures.items) traces-none;
   sizes = ap sizes_in c.in_ok-traces.ensures.items;
   left = left-none (words_left c.args.draws.now);
 }

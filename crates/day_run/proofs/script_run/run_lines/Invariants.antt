@@ -1,7 +1,6 @@
 use Rattle.std.proofs.Common.{◌≡◌, take}
 use Rattle.day_run.specs.MachineState.{HasRun, IsKept, IsDayMachine, link_on, day_state_of}
-use Rattle.day_script.specs.Scripts.{AreClients}
-use Rattle.day_script.specs.Scripts.{latest_slot}
+use Rattle.day_script.specs.Scripts.{AreClients, latest_slot}
 use Rattle.day_run.proofs.script_run.run_lines.Given as goal
 
 abbrev pub invariant-loop-line : goal.invariant-loop-line

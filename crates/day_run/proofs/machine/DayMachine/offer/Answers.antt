@@ -1,5 +1,4 @@
-use Rattle.std.proofs.Common.{◌≡◌, ◌<◌, ◌≤◌, ◌+◌, ℕ, max, refl, sym, ap, subst, ◌∙◌, inr, arith}
-use Rattle.std.proofs.Common.{List}
+use Rattle.std.proofs.Common.{◌≡◌, ◌<◌, ◌≤◌, ◌+◌, ℕ, max, refl, sym, ap, subst, ◌∙◌, inr, arith, List}
 use Rattle.slot_calendar.specs.Profiles.{capacity_at}
 use Rattle.admission.specs.Histories.{state_after}
 use Rattle.admission.specs.Machine.{booked_in, plays_of}
@@ -42,9 +41,8 @@ returns c =
     c.in-Some.ensures.whole
     ∙ ap (λ (t : MediaContent). whole_rest r.slot_units t c.args.buffer c.args.delay)
     (sym (c.medium_at.ensures r.slot_units no_medium)) in
-    let R : Rest → Type 0 =
-    λ x. IsOfferLine (link_on r) x c.args.wait (day_state_of r) (day_state_of r) (offer_text found) in
-    subst R at (inr (record {
+    subst (λ (x : Rest). IsOfferLine (link_on r) x c.args.wait (day_state_of r) (day_state_of r) (offer_text found))
+    at (inr (record {
       plan = plan;
       plan_is = c.in_ok-plan.ensures.plan;
       found = found;

@@ -1,0 +1,142 @@
+-- Totals over slots: all that is booked in them, and the most in one of them.
+use Rattle.std.proofs.Common.{◌≡◌, ◌<◌, ◌≤◌, ◌+◌, ◌-◌, ◌*◌, ◌^◌, ℕ, zero, suc, max, List, [], ◌∷◌, ◌++◌, map, sum}
+use Rattle.std.proofs.Common.{add-one, arith, refl, sym, ap, ◌∙◌}
+use Rattle.std.specs.Prelude.{sum_by}
+use Rattle.std.specs.List.{fold, range_with_len}
+use Rattle.std.specs.Ordering.{nat_cmp, ord_max}
+use Rattle.std.proofs.lemmas.List.FromFn.{map-range_with_len_more}
+use Rattle.std.proofs.lemmas.List.Sums.{fold-append, sum-map, sum_by_push}
+use Rattle.vod_base.specs.declared.limits.TheConstants.{MAX_BYTES}
+use Rattle.slot_calendar.specs.declared.ring.TheConstants.{RING_SLOTS}
+
+-- what is booked in one slot more
+pub record NextSlot (booked here slot from : ℕ) : Type 0 where
+  pub begun : from + 1 ≤ slot
+  pub few : booked ≤ (slot - (from + 1)) * MAX_BYTES
+  pub small : here ≤ MAX_BYTES
+
+-- the slots of a ring up to an end
+pub record RingSlots (slot from end now : ℕ) : Type 0 where
+  pub before : slot < end + 1
+  pub ring : end ≤ now + RING_SLOTS
+  pub first : now ≤ from
+
+pub booked-more : (booked here slot from : ℕ) → NextSlot booked here slot from
+    → booked + here ≤ (slot + 1 - (from + 1)) * MAX_BYTES
+booked-more booked here slot from more = omega arith
+
+pub booked-fits : {booked here slot from end now : ℕ} → NextSlot booked here slot from → RingSlots slot from end now
+    → booked + here < 2 ^ 64
+booked-fits more slots = omega arith
+
+-- ---- the sum, and the most
+-- the sum of one slot more
+pub sum-slots : (f : ℕ → ℕ) (a n : ℕ) → sum_by f (range_with_len a (n + 1)) ≡ sum_by f (range_with_len a n) + f (a + n)
+sum-slots f a n =
+    sym (sum-map f (range_with_len a (n + 1))) ∙ ap sum (map-range_with_len_more f a n (a + n) refl)
+    ∙ sum_by_push (λ x. x) (map f (range_with_len a n)) (f (a + n))
+    ∙ ap (λ k. k + f (a + n)) (sum-map f (range_with_len a n))
+
+pub peak-push : (xs : List ℕ) (x : ℕ) → fold max 0 (xs ++ x ∷ []) ≡ max (fold max 0 xs) x
+peak-push xs x = fold-append max 0 xs (x ∷ [])
+
+-- the greater of two numbers, as `max` of the code gives it
+pub max-by-order : (a b : ℕ) → ord_max nat_cmp a b ≡ max a b
+max-by-order a b = grind arith
+
+-- a total of what the slots from one on have, slot by slot
+pub record Total : Type 0 where
+  pub op : ℕ → ℕ → ℕ
+  pub over : (ℕ → ℕ) → ℕ → ℕ → ℕ
+  pub none : (f : ℕ → ℕ) (a : ℕ) → over f a 0 ≡ 0
+  pub more : (f : ℕ → ℕ) (a n : ℕ) → over f a (suc n) ≡ op (over f a n) (f (a + n))
+  pub right : (x : ℕ) → op x 0 ≡ x
+  pub assoc : (x y z : ℕ) → op (op x y) z ≡ op x (op y z)
+
+abbrev pub summed : Total
+summed = record {
+  op = λ x y. x + y;
+  over = λ f a n. sum_by f (range_with_len a n);
+  none = λ f a. refl;
+  more = λ f a n. ap (λ k. sum_by f (range_with_len a k)) (sym (add-one n)) ∙ sum-slots f a n;
+  right = λ x. omega arith;
+  assoc = λ x y z. omega arith;
+}
+
+abbrev pub greatest : Total
+greatest = record {
+  op = max;
+  over = λ f a n. fold max 0 (map f (range_with_len a n));
+  none = λ f a. refl;
+  more = λ f a n.
+      ap (λ k. fold max 0 (map f (range_with_len a k))) (sym (add-one n))
+      ∙ ap (fold max 0) (map-range_with_len_more f a n (a + n) refl)
+      ∙ peak-push (map f (range_with_len a n)) (f (a + n));
+  right = λ x. omega arith;
+  assoc = λ x y z. omega arith;
+}
+
+-- ---- totals of slots that join
+pub total-same : (T : Total) (f g : ℕ → ℕ) (a n : ℕ) → ((t : ℕ) → t < a + n → f t ≡ g t) → T.over f a n ≡ T.over g a n
+total-same T f g a zero same = T.none f a ∙ sym (T.none g a)
+total-same T f g a (suc n) same =
+    T.more f a n ∙ ap (λ k. T.op k (f (a + n))) (total-same T f g a n (λ t before. same t (omega (arith, before))))
+    ∙ ap (T.op (T.over g a n)) (same (a + n) (omega arith)) ∙ sym (T.more g a n)
+
+total-join : (T : Total) (f : ℕ → ℕ) (a m n : ℕ) → T.over f a (m + n) ≡ T.op (T.over f a m) (T.over f (a + m) n)
+total-join T f a m zero =
+    let e : m + 0 ≡ m = omega arith in
+    ap (T.over f a) e ∙ sym (ap (T.op (T.over f a m)) (T.none f (a + m)) ∙ T.right (T.over f a m))
+total-join T f a m (suc n) =
+    let e : m + suc n ≡ suc (m + n) = omega arith in
+    let at : a + (m + n) ≡ a + m + n = omega arith in
+    ap (T.over f a) e ∙ T.more f a (m + n) ∙ ap (λ k. T.op k (f (a + (m + n)))) (total-join T f a m n)
+    ∙ T.assoc (T.over f a m) (T.over f (a + m) n) (f (a + (m + n)))
+    ∙ ap (λ k. T.op (T.over f a m) (T.op (T.over f (a + m) n) (f k))) at
+    ∙ ap (T.op (T.over f a m)) (sym (T.more f (a + m) n))
+
+-- slots in which nothing is booked add nothing
+total-none : (T : Total) (f : ℕ → ℕ) (a n : ℕ) → ((t : ℕ) → a ≤ t → f t ≡ 0) → T.over f a n ≡ 0
+total-none T f a zero none = T.none f a
+total-none T f a (suc n) none =
+    T.more f a n ∙ ap (T.op (T.over f a n)) (none (a + n) (omega arith)) ∙ T.right (T.over f a n)
+    ∙ total-none T f a n none
+
+pub total-past : (T : Total) (f : ℕ → ℕ) (a m n : ℕ) → m ≤ n → ((t : ℕ) → a + m ≤ t → f t ≡ 0)
+    → T.over f a m ≡ T.over f a n
+total-past T f a m n le none =
+    let e : n ≡ m + (n - m) = omega (arith, le) in
+    sym (ap (T.over f a) e ∙ total-join T f a m (n - m)
+    ∙ ap (T.op (T.over f a m)) (total-none T f (a + m) (n - m) none) ∙ T.right (T.over f a m))
+
+-- the total through a slot
+pub total-next : (T : Total) (f : ℕ → ℕ) (from slot : ℕ) → from + 1 ≤ slot
+    → T.op (T.over f (from + 1) (slot - (from + 1))) (f slot) ≡ T.over f (from + 1) (slot + 1 - (from + 1))
+total-next T f from slot begun =
+    let n = slot - (from + 1) in
+    let at : from + 1 + n ≡ slot = omega (arith, begun) in
+    let e : slot + 1 - (from + 1) ≡ suc n = omega (arith, begun) in
+    sym (ap (T.over f (from + 1)) e ∙ T.more f (from + 1) n ∙ ap (λ k. T.op (T.over f (from + 1) n) (f k)) at)
+
+-- slots after one up to another, and one between these
+pub record SlotSpan : Type 0 where
+  pub from : ℕ
+  pub mid : ℕ
+  pub last : ℕ
+  pub early : from ≤ mid
+  pub late : mid ≤ last
+
+pub total-joined : (T : Total) (booked f : ℕ → ℕ) (span : SlotSpan) → ((t : ℕ) → t ≤ span.mid → booked t ≡ f t)
+    → T.op (T.over f (span.from + 1) (span.mid - span.from)) (T.over booked (span.mid + 1) (span.last - span.mid))
+    ≡ T.over booked (span.from + 1) (span.last - span.from)
+total-joined T booked f span same =
+    let m = mid - from in
+    let n = last - mid in
+    let whole : last - from ≡ m + n = omega (arith, early, late) in
+    let at : from + 1 + m ≡ mid + 1 = omega (arith, early) in
+    let here = total-same T booked f (from + 1) m (λ t before. same t (omega (arith, before, early))) in
+    sym (ap (T.over booked (from + 1)) whole ∙ total-join T booked (from + 1) m n
+    ∙ ap (λ k. T.op k (T.over booked (from + 1 + m) n)) here
+    ∙ ap (λ k. T.op (T.over f (from + 1) m) (T.over booked k n)) at)
+  where
+    open span use {from, mid, last, early, late}
