@@ -9,6 +9,7 @@ use Rattle.std.proofs.lemmas.List.{take_all, take_at, take_more}
 use Rattle.std.proofs.lemmas.List.Sums.{sum_by_push}
 use Rattle.admission.specs.declared.entries.Entry.{Entry}
 use Rattle.day_run.proofs.ListUpdates.{set-at}
+use Rattle.day_run.proofs.OpenBookingLemmas.{timed-set}
 use Rattle.day_run.specs.declared.clients.Client.{Client}
 use Rattle.day_run.specs.declared.clients.Client.TheVariants as clients
 use Rattle.day_run.specs.declared.clients.Halt.{Halt}
@@ -116,20 +117,6 @@ entries-more {i} {before} {more} f states begun inside halts =
     ∙ ap (λ es. es ++ f i (get_or states i Idle)) halts.before_is
     ∙ append_assoc begun (halt_entries f 0 (take i states)) (f i (get_or states i Idle))
     ∙ ap (λ es. begun ++ es) (sym (halt_entries-more f states i inside))
-
--- one client is put in the place of another
-pub timed-set : (heard : ℕ) (cs : List Client) (c : ℕ) (client : Client) → IsTimed heard client
-    → AreTimed heard cs → AreTimed heard (set cs c client)
-timed-set heard cs c client own timed =
-    record {
-      each = λ d none inside.
-          let within : d < length cs = omega (arith, inside, length-set cs c client) in
-          set-at (λ (n : ℕ) (x : Client). IsTimed heard x) {xs = cs} {c = c} {d = d} {x = client} {none = none} (record {
-            inside = λ same. omega (arith, same, within);
-            own = own;
-            other = λ other. timed.each d none within;
-          });
-    }
 
 -- the clients before a place have come to a slot, and those from it on not yet
 pub record AreTimedTo (upto slot heard : ℕ) (clients : List Client) : Type 0 where

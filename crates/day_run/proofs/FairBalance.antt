@@ -6,22 +6,17 @@ use Rattle.std.specs.List.{fold, range_with_len}
 use Rattle.std.proofs.lemmas.List.{length-append, map-append}
 use Rattle.std.proofs.lemmas.List.Sums.{sum_by_push}
 use Rattle.film_make.proofs.GeneratorLemmas.{words_after-twice, words_after-at, words_after-zero}
-use Rattle.film_make.specs.Generator.{words_after, words_of}
-use Rattle.slot_calendar.specs.declared.profiles.CapStep.{CapStep}
-use Rattle.admission.specs.declared.entries.Entry.{Entry}
+use Rattle.film_make.specs.Generator.{words_after}
 use Rattle.admission.specs.Histories.{state_after}
 use Rattle.admission.specs.Machine.{booked_in}
 use Rattle.day_script.specs.declared.fair_totals.FairTotals.{FairTotals}
-use Rattle.day_script.specs.declared.fair_totals.EntryCounts.{EntryCounts}
 use Rattle.day_run.specs.declared.clients.Client.{Client}
 use Rattle.day_run.specs.Clients.{state_of}
 use Rattle.day_run.specs.BookingBalance.{IsReady}
-use Rattle.day_run.specs.Days.{SharedLink, DayState, last_journal, IsPlayLine, first_moment, rest_at, state_at}
-use Rattle.day_run.specs.FairDays.{AreTurns, IsDone, IsTurn, FairTurn, after_traces, after_turn, at_later, counts_of}
-use Rattle.day_run.specs.FairDays.{fair_link, IsFair, is_full_line, is_refused, line_drawn, line_in, entry_counts_of}
-use Rattle.day_run.specs.FairDays.{turn_booked, turn_peak, turn_sent, words_for}
-use Rattle.day_run.specs.FairProgress.{AreTurnResults, IsTurnResult, after_turns, drawn_to, with_slot, with_turn}
-use Rattle.day_script.specs.LineTexts.{fair_text}
+use Rattle.day_run.specs.Days.{SharedLink, DayState, IsPlayLine, first_moment, rest_at, state_at}
+use Rattle.day_run.specs.FairDays.{AreTurns, IsDone, IsTurn, FairTurn, after_turn, at_later, counts_of, is_full_line}
+use Rattle.day_run.specs.FairDays.{is_refused, line_drawn, line_in, turn_booked, turn_peak, turn_sent, words_for}
+use Rattle.day_run.specs.FairProgress.{AreTurnResults, Drawn, IsTurnResult, after_turns, with_slot, with_turn}
 use Rattle.day_run.specs.declared.machine.LineAnswer.{LineAnswer}
 use Rattle.day_run.specs.MachineState.{reply_text}
 use Rattle.vod_base.specs.declared.errors.NoMemory.{NoMemory}
@@ -77,68 +72,58 @@ same-counts counts moment last =
       peak = omega (arith, peak);
     })
 
--- the steps of a turn, one after the other
-pub record TurnSteps (link here : SharedLink) (w w1 w2 w3 : ℕ → ℕ) (later client : ℕ) (c c1 c2 : FairTotals)
-    (full : Bool) (turn : FairTurn)
-    : Type 0 where
+-- the steps of a turn, one after the other: the words after each draw, the client and what it does, and the counts
+pub record TurnSteps (link : SharedLink) (old new : Drawn) (turn : FairTurn) : Type 0 where
+  pub here : SharedLink
+  pub one : ℕ → ℕ
+  pub two : ℕ → ℕ
+  pub client : ℕ
+  pub counts : FairTotals
+  pub full : Bool
+  pub old_is : turn.old ≡ old.moment
+  pub new_is : turn.new ≡ new.moment
   pub same : here ≡ link
-  pub one : w1 ≡ words_after 1 w
-  pub two : w2 ≡ words_after 1 w1
-  pub later_is : later ≡ w 0 % 4
-  pub who : client ≡ w1 0 % 256
-  pub slot : turn.mid ≡ at_later turn.old later
-  pub done : IsDone here (line_drawn w2 client (state_at turn.mid client)) turn.mid turn.new turn.text
-  pub left : w3 ≡ words_after (words_for (state_at turn.mid client)) w2
-  pub counted : c1 ≡ with_slot c turn.old turn.mid.heard
+  pub one_is : one ≡ words_after 1 old.words
+  pub two_is : two ≡ words_after 1 one
+  pub client_is : client ≡ one 0 % 256
+  pub slot : turn.mid ≡ at_later turn.old (old.words 0 % 4)
+  pub done : IsDone here (line_drawn two client (state_at turn.mid client)) turn.mid turn.new turn.text
+  pub left : new.words ≡ words_after (words_for (state_at turn.mid client)) two
+  pub counted : counts ≡ with_slot old.counts turn.old turn.mid.heard
   pub told : is_full_line turn.text ≡ full
-  pub counts_are : c2
-      ≡ record {
-        turns = c1.turns + 1;
-        full = c1.full + cond full 1 0;
-        last = c1.last;
-        sent = c1.sent;
-        booked = c1.booked;
-        peak = c1.peak;
-      }
+  pub counts_are : new.counts ≡ record counts { turns = counts.turns + 1; full = counts.full + cond full 1 0 }
 
 -- ---- one turn
-pub turn-of : {link here : SharedLink} {w w1 w2 w3 : ℕ → ℕ} {later client : ℕ} {c c1 c2 : FairTotals} {full : Bool}
-    (turn : FairTurn)
-    → TurnSteps link here w w1 w2 w3 later client c c1 c2 full turn
-    → IsTurnResult link (drawn_to w c turn.old) (drawn_to w3 c2 turn.new)
-turn-of {here} {w} {w2} {later} {client} {c} {full} turn steps =
-    let who-is : client ≡ w 1 % 256 = who ∙ ap (λ (f : ℕ → ℕ). f 0 % 256) one
+pub turn-of : {link : SharedLink} {old new : Drawn} (turn : FairTurn) → TurnSteps link old new turn
+    → IsTurnResult link old new
+turn-of {old} turn steps =
+    let w = old.words in
+    let who-is : client ≡ w 1 % 256 = client_is ∙ ap (λ (f : ℕ → ℕ). f 0 % 256) one_is
     ∙ ap (λ k. k % 256) (words_after-at 1 w 0) in
-    let second : w2 ≡ words_after 2 w = two ∙ ap (words_after 1) one ∙ words_after-twice 1 1 w in
-    let D : ℕ → Type 0 = λ k. IsDone here (line_drawn w2 k (state_at turn.mid k)) turn.mid turn.new turn.text in
-    let W : (ℕ → ℕ) → Type 0 =
-    λ f. IsDone here (line_drawn f (w 1 % 256) (state_at turn.mid (w 1 % 256))) turn.mid turn.new turn.text in
-    let L : SharedLink → Type 0 =
-    λ x. IsDone x (line_in w turn) turn.mid turn.new turn.text in
+    let second : two ≡ words_after 2 w = two_is ∙ ap (words_after 1) one_is ∙ words_after-twice 1 1 w in
+    let line = λ (f : ℕ → ℕ) (k : ℕ). line_drawn f k (state_at turn.mid k) in
+    let drawn = subst (λ (k : ℕ). IsDone here (line two k) turn.mid turn.new turn.text) who-is done in
+    let own = subst (λ (f : ℕ → ℕ). IsDone here (line f (w 1 % 256)) turn.mid turn.new turn.text) second drawn in
     record {
       turn = turn;
-      old_is = refl;
-      new_is = refl;
-      turn_is =
-          record { slot = slot ∙ ap (at_later turn.old) l; done = subst L same (subst W second (subst D who-is done)) };
+      old_is = old_is;
+      new_is = new_is;
+      turn_is = record {
+        slot = slot;
+        done = subst (λ (x : SharedLink). IsDone x (line_in w turn) turn.mid turn.new turn.text) same own;
+      };
       left_is =
-          left ∙ ap (λ k. words_after (words_for (state_at turn.mid k)) w2) who-is
+          left ∙ ap (λ k. words_after (words_for (state_at turn.mid k)) two) who-is
           ∙ ap (words_after (words_for (state_at turn.mid (w 1 % 256)))) second
           ∙ words_after-twice (words_for (state_at turn.mid (w 1 % 256))) 2 w;
       counts_are =
-          m ∙ ap (λ (x : FairTotals).
-          record {
-            turns = x.turns + 1;
-            full = x.full + cond full 1 0;
-            last = x.last;
-            sent = x.sent;
-            booked = x.booked;
-            peak = x.peak;
-          }) n
-          ∙ ap (λ b. record (with_turn c turn) { full = c.full + cond b 1 0 }) (sym told);
+          counts_are
+          ∙ ap (λ (x : FairTotals). record x { turns = x.turns + 1; full = x.full + cond full 1 0 }) counted
+          ∙ ap (λ b. record (with_turn old.counts turn) { full = old.counts.full + cond b 1 0 }) (sym told);
     }
   where
-    open steps use {same, one, two, later_is as l, who, slot, done, left, counted as n, told, counts_are as m}
+    open steps use {here, two, client, counts, full, old_is, new_is, same, one_is, two_is, client_is, slot, done, left}
+    open steps use {counted, told, counts_are}
 
 -- ---- turns
 turns-more : {link : SharedLink} {turn : FairTurn} {mid : DayState} (words : ℕ → ℕ) (turns : List FairTurn)
@@ -178,45 +163,26 @@ pub come-none : (link : SharedLink) (words : ℕ → ℕ) (counts : FairTotals) 
 come-none link words counts moment is c =
     record { turns = []; count = refl; run = is; left_is = refl; counts_are = c ∙ ap (counts_of []) (sym is) }
 
-pub come-next : {link here : SharedLink} {words left next : ℕ → ℕ} {n : ℕ} {counts more : FairTotals}
-    {old new : DayState} → here ≡ link → AreTurnResults link words left n counts old
-    → IsTurnResult here (drawn_to left counts old) (drawn_to next more new) → more.last ≡ new.heard
-    → AreTurnResults link words next (n + 1) more new
-come-next {link} {here} {words} {left} {next} {more} {old} {new} same come turned last =
+pub come-next : {link here : SharedLink} {words : ℕ → ℕ} {n : ℕ} {old new : Drawn} → here ≡ link
+    → AreTurnResults link words old.words n old.counts old.moment → IsTurnResult here old new
+    → new.counts.last ≡ new.moment.heard → AreTurnResults link words new.words (n + 1) new.counts new.moment
+come-next {link} {words} {old} {new} same come turned last =
     let turn = turned.turn in
     let all = come.turns ++ turn ∷ [] in
-    let heard : turn.mid.heard ≡ new.heard = sym (ap (λ (c : FairTotals). c.last) turned.counts_are) ∙ last in
-    let L : SharedLink → Type 0 = λ x. IsTurn x left turn in
-    let W : (ℕ → ℕ) → Type 0 = λ w. IsTurn link w turn in
-    let M : DayState → Type 0 = λ m. AreTurns link words all first_moment m in
-    let is : IsTurn link (after_turns words come.turns) turn = subst W come.left_is (subst L same turned.turn_is) in
+    let heard : turn.mid.heard ≡ new.moment.heard = sym (ap (λ (c : FairTotals). c.last) turned.counts_are) ∙ last in
+    let is : IsTurn link (after_turns words come.turns) turn =
+    subst (λ (w : ℕ → ℕ). IsTurn link w turn) come.left_is
+    (subst (λ (x : SharedLink). IsTurn x old.words turn) same turned.turn_is) in
     record {
       turns = all;
       count = length-append come.turns (turn ∷ []) ∙ ap (λ k. k + 1) come.count;
-      run = subst M turned.new_is (turns-more words come.turns first_moment come.run turned.old_is is);
+      run = subst (AreTurns link words all first_moment) turned.new_is
+          (turns-more words come.turns first_moment come.run turned.old_is is);
       left_is = turned.left_is ∙ ap (λ (w : ℕ → ℕ). after_turn w turn) come.left_is
           ∙ sym (after-more words come.turns turn);
       counts_are =
           turned.counts_are ∙ ap (λ (c : FairTotals). with_turn c turn) come.counts_are
-          ∙ counts-more come.turns turn old new heard;
-    }
-
--- a day of turns
-pub fair-of : {here : SharedLink} {steps : List CapStep} {number plays : ℕ} {words left : ℕ → ℕ} {counts : FairTotals}
-    {entries : EntryCounts} {evening : DayState} {text : List ℕ} {journal : List Entry}
-    → here ≡ fair_link steps (words_of number) → words ≡ after_traces 16 (words_of number)
-    → AreTurnResults here words left plays counts evening
-    → journal ≡ last_journal evening → entries ≡ entry_counts_of journal → text ≡ fair_text counts entries
-    → IsFair steps number plays text journal
-fair-of {here} {steps} {number} {words} {left} {entries} {evening} {text} same w come j m t =
-    let W : (ℕ → ℕ) → Type 0 = λ x. AreTurns (fair_link steps (words_of number)) x come.turns first_moment evening in
-    record {
-      turns = come.turns;
-      evening = evening;
-      count = come.count;
-      run = subst W w (subst (λ (x : SharedLink). AreTurns x words come.turns first_moment evening) same come.run);
-      journal_is = j;
-      text_is = t ∙ ap (λ c. fair_text c entries) come.counts_are ∙ ap (fair_text (counts_of come.turns evening)) m;
+          ∙ counts-more come.turns turn old.moment new.moment heard;
     }
 
 -- ---- words that are drawn one after the other

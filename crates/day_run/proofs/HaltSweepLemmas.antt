@@ -42,20 +42,19 @@ pub record IsPassed (which : HaltedPlays) (i : ℕ) (xs ys : Journal) (cs ds : L
   pub entries : ys.entries ≡ xs.entries ++ halts_of i halt
   pub outcome : HaltOutcome i cs ds halt
 
-passed-sound : {i : ℕ} {xs ys : List Entry} {cs ds : List Client} (client : Client) (halt : Option Halt)
-    → i < length cs → IfSome halt (IsHaltOf (get_or cs i client)) → ys ≡ xs ++ halts_of i halt
-    → HaltOutcome i cs ds halt → AreOnBook xs cs → AreOnBook ys ds
-passed-sound {xs} {ys} {cs} client None inside its is outcome sound =
-    let C : List Client → Type 0 = λ l. AreOnBook ys l in
-    subst C (sym outcome.left) (subst (λ (l : List Entry). AreOnBook l cs) (sym (is ∙ append-nil xs)) sound)
-passed-sound {i} {xs} {ys} {cs} client (Some halt) inside its is outcome sound =
-    let e = entry_by i (commands.Halt halt.number halt.keep) Halted in
-    let Y : List Entry → Type 0 = λ l. AreBooked l (set cs i clients.Idle) in
-    let own = open-halt (get_or cs i client) (sound.going.each i client inside) (sound.booked.each i client inside) its
-    in
-    subst (AreOnBook ys) (sym outcome.some) (record {
+passed-sound : {which : HaltedPlays} {i : ℕ} {xs ys : Journal} {cs ds : List Client} {client : Client}
+    (halt : Option Halt) → IsPassed which i xs ys cs ds client halt → AreOnBook xs.entries cs → AreOnBook ys.entries ds
+passed-sound {xs} {ys} {cs} None passed sound =
+    subst (AreOnBook ys.entries) (sym passed.outcome.left)
+    (subst (λ (l : List Entry). AreOnBook l cs) (sym (passed.entries ∙ append-nil xs.entries)) sound)
+passed-sound {i} {xs} {ys} {cs} {client} (Some halt) passed sound =
+    let own = open-halt (get_or cs i client) (sound.going.each i client passed.inside)
+    (sound.booked.each i client passed.inside) passed.its in
+    subst (AreOnBook ys.entries) (sym passed.outcome.some) (record {
       going = going-set cs i clients.Idle tt sound.going;
-      booked = subst Y (sym is) (booked-halt clients.Idle e refl own tt sound.booked);
+      booked = subst (λ (l : List Entry). AreBooked l (set cs i clients.Idle)) (sym passed.entries)
+          (booked-halt {e = entry_by i (commands.Halt halt.number halt.keep) Halted} clients.Idle
+          (record { number = halt.number; keep = halt.keep; command = refl; its = own }) tt sound.booked);
     })
 
 passed-now : (i : ℕ) (xs ys : List Entry) (halt : Option Halt) → ys ≡ xs ++ halts_of i halt
@@ -72,7 +71,7 @@ pub passed-next : {which : HaltedPlays} {i : ℕ} {begun xs ys : Journal} {old c
 passed-next {i} {xs} {ys} {cs} client halt passed to =
     let going : IsGoing (get_or cs i client) = to.sound.going.each i client inside in
     record {
-      sound = passed-sound client halt inside its entries outcome to.sound;
+      sound = passed-sound halt passed to.sound;
       kept = record {
         steps = steps ∙ to.kept.steps;
         limit = limit ∙ to.kept.limit;
@@ -87,4 +86,4 @@ passed-next {i} {xs} {ys} {cs} client halt passed to =
           }) outcome (to.ended slot timed);
     }
   where
-    open passed use {inside, its, undone, has, goes, steps, limit, entries, outcome}
+    open passed use {inside, undone, has, goes, steps, limit, entries, outcome}

@@ -1,5 +1,5 @@
 -- A day's journal keeps places for the halts of its open plays, and no line takes one of them.
-use Rattle.std.proofs.Common.{◌≡◌, ◌<◌, ◌≤◌, ◌+◌, ℕ, List, [], ◌∷◌, ◌++◌, length, get_or, arith, refl, ap, ◌∙◌}
+use Rattle.std.proofs.Common.{◌≡◌, ◌≤◌, ◌+◌, ℕ, List, [], ◌∷◌, ◌++◌, length, arith, refl, ap, ◌∙◌}
 use Rattle.std.proofs.lemmas.List.{length-append}
 use Rattle.std.proofs.lemmas.List.Sums.{sum_by_push}
 use Rattle.plan_cert.specs.declared.Segment.{Segment}
@@ -12,16 +12,15 @@ use Rattle.admission.specs.Histories.{open_count, state_after}
 use Rattle.admission.specs.Machine.{State, admitted_play, live, next_state}
 use Rattle.admission.proofs.HistoryPrefixes.{state-push}
 use Rattle.day_run.specs.BookingBalance.{IsReady}
-use Rattle.day_run.specs.ClientStates.{Idle, Playing, ClientPlay}
-use Rattle.day_run.specs.Days.{IsHaltedPlay, SharedLink, DayState, entry_by, last_journal}
+use Rattle.day_run.specs.Days.{SharedLink, DayState, entry_by, last_journal}
 use Rattle.day_run.specs.FairDays.{IsTurn, FairTurn}
 use Rattle.day_run.proofs.FairLaws.{mid-ready, turn-mid}
-use Rattle.day_run.proofs.LineBalance.{morning-ready, outcome-ready}
+use Rattle.day_run.proofs.LineBalance.{halted-held, morning-ready, outcome-ready}
 use Rattle.day_run.proofs.LineOutcomes.{LineOutcome, Kept, Asked, Stopped, Looks, Reached, line-outcome, taken-keeps}
 use Rattle.day_run.proofs.LineOutcomes.{turn-outcome, turn_step}
 use Rattle.day_run.proofs.ScriptLineFacts.{LineStep, LinesTaken}
 use Rattle.day_run.proofs.SentBookedLemmas.{open_one}
-use Rattle.day_run.proofs.SlotBalance.{held-play, its-held, last-halted, places-halt, slot-halted}
+use Rattle.day_run.proofs.SlotBalance.{held-play, last-halted, places-halt, slot-halted}
 
 -- a step takes at most two places, and none where the limit is reached
 pub record TakesPlaces (limit : ℕ) (old new : List Entry) : Type 0 where
@@ -71,15 +70,6 @@ looked-places xs slot answer =
     let is : open_count (xs ++ e ∷ []) ≡ open_count xs = ap (λ (s : State). live s) (state-push xs e) in
     omega (arith, is, length-append xs (e ∷ []))
 
-halted-places : {link : SharedLink} {c : ℕ} {play : ClientPlay} {text : List ℕ} (old new : DayState) → c < 256
-    → get_or old.states c Idle ≡ Playing play → IsReady old → IsHaltedPlay link c play old new text
-    → TakesPlaces link.limit old.entries new.entries
-halted-places {c} {play} old new client at ready is =
-    let held = its-held c (omega (arith, client, ready.count)) at ready.balanced in
-    same-places old.entries new.entries
-    (ap (λ (m : DayState). places_taken m.entries) is.noted.new_is
-    ∙ places-halt old.entries c (held-play play held) is.keep)
-
 outcome-places : {slot : ℕ} (step : LineStep) → LineOutcome step slot → IsReady step.old
     → TakesPlaces step.link.limit step.old.entries step.new.entries
 outcome-places step (Kept kept at) ready = kept-places step.old step.new kept
@@ -87,7 +77,10 @@ outcome-places step (Asked own at) ready =
     let is = ap (λ (m : DayState). places_taken m.entries) own.made.noted.new_is in
     let most = played-places step.old.entries own.client step.old.heard own.plan own.made.answer in
     room-places 2 step.old.entries step.new.entries (omega arith) own.made.room (omega (arith, is, most))
-outcome-places step (Stopped own at) ready = halted-places step.old step.new own.inside own.at ready own.is
+outcome-places step (Stopped own at) ready =
+    same-places step.old.entries step.new.entries
+    (ap (λ (m : DayState). places_taken m.entries) own.is.noted.new_is
+    ∙ places-halt step.old.entries own.client (held-play own.play (halted-held own ready)) own.is.keep)
 outcome-places step (Looks own at) ready =
     let is = ap (λ (m : DayState). places_taken m.entries) own.made.noted.new_is in
     let most = looked-places step.old.entries own.slot own.made.answer in

@@ -1,7 +1,7 @@
 -- A day after one more entry of its journal.
-use Rattle.std.proofs.Common.{◌≡◌, ◌<◌, ◌≤◌, ℕ, max, List, [], ◌∷◌, ◌++◌, length, get_or, set, ◌-◌, true, Option}
-use Rattle.std.proofs.Common.{IsSomeAnd, arith, refl, sym, ap, subst, ◌∙◌}
-use Rattle.std.proofs.lemmas.List.{length-set, length-append, get_or-append_right}
+use Rattle.std.proofs.Common.{◌≡◌, ◌≤◌, ℕ, max, List, [], ◌∷◌, ◌++◌, length, set, ◌-◌, true, Option, IsSomeAnd, arith}
+use Rattle.std.proofs.Common.{refl, sym, ap, subst, ◌∙◌}
+use Rattle.std.proofs.lemmas.List.{length-set, length-append, get_or_push}
 use Rattle.plan_cert.specs.declared.Segment.{Segment}
 use Rattle.plan_cert.specs.PlanSlots.{total_bytes}
 use Rattle.admission.specs.declared.entries.Answer.{Answer}
@@ -17,11 +17,12 @@ use Rattle.day_run.specs.declared.clients.Client.{Client}
 use Rattle.day_run.specs.declared.clients.Client.TheVariants as clients
 use Rattle.day_run.specs.declared.clients.Halt.{Halt as ClientHalt}
 use Rattle.day_run.specs.declared.clients.ClientPlay.{ClientPlay}
-use Rattle.day_run.specs.Clients.{AreUndone, IsBooked, IsGoing, IsHaltOf, IsOpenOf, IsPlaying, IsQuiet, IsTimed}
+use Rattle.day_run.specs.Clients.{AreBooked, IsBooked, IsGoing, IsHaltOf, IsOpenOf, IsPlaying, IsQuiet, IsTimed}
 use Rattle.day_run.specs.Clients.{IsUndone}
-use Rattle.day_run.specs.MachineState.{IsSoundDay}
-use Rattle.day_run.proofs.ClientSweepLemmas.{timed-set}
-use Rattle.day_run.proofs.OpenBookingLemmas.{booked-halt, booked-more, booked-set, going-set, undone-set}
+use Rattle.day_run.specs.MachineState.{IsDayMachine, IsSoundDay}
+use Rattle.day_run.specs.declared.machine.DayMachine.{DayMachine}
+use Rattle.day_run.proofs.OpenBookingLemmas.{HaltsOpenPlay, booked-halt, booked-more, booked-set, going-set}
+use Rattle.day_run.proofs.OpenBookingLemmas.{timed-set, undone-set}
 
 now-halt : (state : State) (place number keep : ℕ) (answer : Answer)
     → (next_state state place (Halt number keep) answer).now ≡ state.now
@@ -80,108 +81,114 @@ open-halt {xs} {c} {halt} (clients.Playing play) going booked is =
 open-halt {c} {halt} (clients.Pausing stop) going booked is = absurd is
 open-halt {c} {halt} (clients.Paused rest) going booked is = absurd is
 
--- the entry of a client's halt, and the clients after it
-pub record HaltEntered (xs ys : List Entry) (cs ds : List Client) (c number keep : ℕ) (client : Client) (e : Entry)
-    : Type 0 where
-  pub entries_are : ys ≡ xs ++ e ∷ []
-  pub clients_are : ds ≡ set cs c client
-  pub command : e.command ≡ Halt number keep
+-- ---- a day after one more entry
+-- a client is put in the place of one, and the journal goes on
+record ClientSet (day : DayMachine) (ys : List Entry) (c : ℕ) (client : Client) : Type 0 where
+  now : (state_after ys).now ≤ day.heard
+  going : IsGoing client
+  undone : IsUndone client
+  timed : IsTimed day.heard client
+  booked : AreBooked ys (set day.clients.items c client)
 
--- what is sound of a client that was halted
-pub record HaltedClient (heard : ℕ) (client : Client) : Type 0 where
+day-set : {ys : List Entry} {c : ℕ} {client : Client} (day : DayMachine) → IsDayMachine day → ClientSet day ys c client
+    → IsSoundDay day.slot_units day.heard ys (set day.clients.items c client)
+day-set {ys} {c} {client} day sound is =
+    let clients = day.clients.items in
+    record {
+      count = length-set clients c client ∙ sound.count;
+      some_slot_units = sound.some_slot_units;
+      slot_units_fit = sound.slot_units_fit;
+      heard_fits = sound.heard_fits;
+      now_heard = is.now;
+      going = going-set clients c client is.going sound.going;
+      undone = undone-set clients c client is.undone sound.undone;
+      booked = is.booked;
+      timed = timed-set day.heard clients c client is.timed sound.timed;
+    }
+
+-- the entry of a client's halt, and the client after it
+pub record HaltEntered (day : DayMachine) (ys : List Entry) (c : ℕ) (client : Client) : Type 0 where
+  pub e : Entry
+  pub entries_are : ys ≡ day.book.entries ++ e ∷ []
+  pub halt : HaltsOpenPlay day.book.entries c e
   pub going : IsGoing client
   pub undone : IsUndone client
   pub quiet : IsQuiet client
-  pub timed : IsTimed heard client
+  pub timed : IsTimed day.heard client
 
 -- a client's play was halted
-pub day-halted : {slot_units heard : ℕ} {xs ys : List Entry} {cs ds : List Client} {c number bytes keep : ℕ} {e : Entry}
-    (client : Client) → IsSoundDay slot_units heard xs cs → HaltEntered xs ys cs ds c number keep client e
-    → IsOpenOf xs c number bytes
-    → c < length cs → HaltedClient heard client → IsSoundDay slot_units heard ys ds
-day-halted {slot_units} {heard} {xs} {ys} {cs} {c} {number} {keep} {e} client day entered its inside next =
-    let Y : List Entry → Type 0 = λ l. IsSoundDay slot_units heard l (set cs c client) in
-    let U : ℕ → Type 0 = λ n. AreUndone n (set cs c client) in
-    subst (IsSoundDay slot_units heard ys) (sym entered.clients_are) (subst Y (sym entered.entries_are) (record {
-      count = length-set cs c client ∙ day.count;
-      some_slot_units = day.some_slot_units;
-      slot_units_fit = day.slot_units_fit;
-      heard_fits = day.heard_fits;
-      now_heard = omega (arith, halted-now xs e number keep entered.command, day.now_heard);
-      going = going-set cs c client going day.going;
-      undone = subst U (sym (length-set cs c client)) (undone-set c client inside undone day.undone);
-      booked = booked-halt client e entered.command its quiet day.booked;
-      timed = timed-set heard cs c client timed day.timed;
+pub day-halted : {ys : List Entry} {c : ℕ} {client : Client} (day : DayMachine) → IsDayMachine day
+    → HaltEntered day ys c client → IsSoundDay day.slot_units day.heard ys (set day.clients.items c client)
+day-halted {c} {client} day sound entered =
+    subst (λ (l : List Entry). IsSoundDay day.slot_units day.heard l (set day.clients.items c client)) (sym entries_are)
+    (day-set day sound (record {
+      now = omega (arith, halted-now day.book.entries e halt.number halt.keep halt.command, sound.now_heard);
+      going = going;
+      undone = undone;
+      timed = timed;
+      booked = booked-halt client halt quiet sound.booked;
     }))
   where
-    open next use {going, undone, quiet, timed}
+    open entered use {e, entries_are, halt, going, undone, quiet, timed}
 
--- an entry was made that halts no play
-pub day-noted : {slot_units heard : ℕ} {xs ys : List Entry} {cs : List Client} (e : Entry)
-    → IsSoundDay slot_units heard xs cs → ys ≡ xs ++ e ∷ []
-    → ((number : ℕ) → Halts number e.command → ⊥) → (state_after (xs ++ e ∷ [])).now ≤ heard
-    → IsSoundDay slot_units heard ys cs
-day-noted {slot_units} {heard} {xs} {cs} e day y none now =
-    subst (λ (l : List Entry). IsSoundDay slot_units heard l cs) (sym y) (record {
-      count = day.count;
-      some_slot_units = day.some_slot_units;
-      slot_units_fit = day.slot_units_fit;
-      heard_fits = day.heard_fits;
-      now_heard = now;
-      going = day.going;
-      undone = day.undone;
-      booked = booked-more xs cs e none day.booked;
-      timed = day.timed;
+-- an entry that halts no play
+pub record EntryNoted (day : DayMachine) (ys : List Entry) : Type 0 where
+  pub e : Entry
+  pub entries_are : ys ≡ day.book.entries ++ e ∷ []
+  pub none : (number : ℕ) → Halts number e.command → ⊥
+  pub now : (state_after (day.book.entries ++ e ∷ [])).now ≤ day.heard
+
+pub day-noted : {ys : List Entry} (day : DayMachine) → IsDayMachine day → EntryNoted day ys
+    → IsSoundDay day.slot_units day.heard ys day.clients.items
+day-noted day sound noted =
+    subst (λ (l : List Entry). IsSoundDay day.slot_units day.heard l day.clients.items) (sym noted.entries_are)
+    (record {
+      count = sound.count;
+      some_slot_units = sound.some_slot_units;
+      slot_units_fit = sound.slot_units_fit;
+      heard_fits = sound.heard_fits;
+      now_heard = noted.now;
+      going = sound.going;
+      undone = sound.undone;
+      timed = sound.timed;
+      booked = booked-more day.book.entries day.clients.items noted.e noted.none sound.booked;
     })
 
--- the entry of a client's play, and the clients after it
-pub record PlayEntered (heard : ℕ) (xs ys : List Entry) (cs ds : List Client) (c slot : ℕ) (segments : List Segment)
-    (play : ClientPlay) (e : Entry) : Type 0 where
-  pub entries_are : ys ≡ xs ++ e ∷ []
-  pub clients_are : ds ≡ set cs c (clients.Playing play)
+-- the entry of a client's play, and the play
+pub record PlayEntered (day : DayMachine) (ys : List Entry) (c : ℕ) (play : ClientPlay) : Type 0 where
+  pub e : Entry
+  pub slot : ℕ
+  pub segments : List Segment
+  pub entries_are : ys ≡ day.book.entries ++ e ∷ []
   pub command : e.command ≡ Play slot segments
-  pub late : slot ≤ heard
+  pub late : slot ≤ day.heard
   pub maker : e.maker ≡ c
-  pub number : play.number ≡ length xs
-  pub can : CanHalt (state_after (xs ++ e ∷ [])) play.number (total_bytes play.plan)
-
--- what is sound of a client whose play begins
-pub record BegunClient (heard : ℕ) (play : ClientPlay) : Type 0 where
+  pub number : play.number ≡ length day.book.entries
+  pub can : CanHalt (state_after ys) play.number (total_bytes play.plan)
   pub playing : IsPlaying play
   pub undone : IsUndone (clients.Playing play)
-  pub timed : IsTimed heard (clients.Playing play)
+  pub timed : IsTimed day.heard (clients.Playing play)
 
 -- a client's play was admitted
-pub day-played : {slot_units heard : ℕ} {xs ys : List Entry} {cs ds : List Client} {c slot : ℕ}
-    {segments : List Segment}
-    {play : ClientPlay} (e : Entry) → IsSoundDay slot_units heard xs cs
-    → PlayEntered heard xs ys cs ds c slot segments play e → c < length cs
-    → BegunClient heard play → IsSoundDay slot_units heard ys ds
-day-played {slot_units} {heard} {xs} {ys} {cs} {c} {slot} {segments} {play} e day entered inside next =
-    let Y : List Entry → Type 0 = λ l. IsSoundDay slot_units heard l (set cs c (clients.Playing play)) in
-    let U : ℕ → Type 0 = λ n. AreUndone n (set cs c (clients.Playing play)) in
-    let none : (n : ℕ) → Halts n e.command → ⊥ = λ n halts.
-    let H : Command → Type 0 = λ x. Halts n x in subst H is halts in
-    let at : (none : Entry) → get_or (xs ++ e ∷ []) play.number none ≡ e = λ none.
-    get_or-append_right xs (e ∷ []) play.number play.number none (sym number) (omega arith)
-    ∙ ap (λ k. get_or (e ∷ []) k none) (let z : play.number - play.number ≡ 0 = omega arith in z) in
+pub day-played : {ys : List Entry} {c : ℕ} {play : ClientPlay} (day : DayMachine) → IsDayMachine day
+    → PlayEntered day ys c play
+    → IsSoundDay day.slot_units day.heard ys (set day.clients.items c (clients.Playing play))
+day-played {c} {play} day sound entered =
+    let xs = day.book.entries in
+    let none : (n : ℕ) → Halts n e.command → ⊥ = λ n halts. let never : ⊥ = subst (Halts n) command halts in never in
     let its : IsOpenOf (xs ++ e ∷ []) c play.number (total_bytes play.plan) = record {
       inside = omega (arith, number, length-append xs (e ∷ []));
-      maker = λ none. ap (λ (x : Entry). x.maker) (at none) ∙ maker;
-      can = can;
+      maker = λ d. ap (λ (x : Entry). x.maker) (get_or_push xs e d play.number (sym number)) ∙ maker;
+      can = subst (λ (l : List Entry). CanHalt (state_after l) play.number (total_bytes play.plan)) entries_are can;
     } in
-    subst (IsSoundDay slot_units heard ys) (sym d) (subst Y (sym y) (record {
-      count = length-set cs c (clients.Playing play) ∙ day.count;
-      some_slot_units = day.some_slot_units;
-      slot_units_fit = day.slot_units_fit;
-      heard_fits = day.heard_fits;
-      now_heard = omega (arith, played-now xs e slot segments is, day.now_heard, le);
-      going = going-set cs c (clients.Playing play) next.playing day.going;
-      undone = subst U (sym (length-set cs c (clients.Playing play)))
-          (undone-set c (clients.Playing play) inside next.undone day.undone);
-      booked = booked-set (clients.Playing play)
-          (λ d other. record { apart = λ n halts _. none n halts }) its day.booked;
-      timed = timed-set heard cs c (clients.Playing play) next.timed day.timed;
+    subst (λ (l : List Entry). IsSoundDay day.slot_units day.heard l (set day.clients.items c (clients.Playing play)))
+    (sym entries_are) (day-set day sound (record {
+      now = omega (arith, played-now xs e slot segments command, sound.now_heard, late);
+      going = playing;
+      undone = undone;
+      timed = timed;
+      booked = booked-set (clients.Playing play) (λ d other. record { apart = λ n halts _. none n halts }) its
+          sound.booked;
     }))
   where
-    open entered use {entries_are as y, clients_are as d, command as is, late as le, maker, number, can}
+    open entered use {e, slot, segments, entries_are, command, late, maker, number, can, playing, undone, timed}

@@ -1,6 +1,6 @@
 -- What the lines of a script leave of the balance between what is sent and what is booked.
 use Rattle.std.proofs.Common.{◌≡◌, ◌<◌, ◌≤◌, ℕ, zero, suc, List, [], ◌∷◌, ◌++◌, length, map, get_or, replicate, arith}
-use Rattle.std.proofs.Common.{refl, sym, ap, subst, ◌∙◌}
+use Rattle.std.proofs.Common.{Some, refl, sym, ap, subst, ◌∙◌}
 use Rattle.std.specs.Prelude.{sum_by}
 use Rattle.std.proofs.lemmas.List.{get_or-replicate, length-map, length-set, length-replicate}
 use Rattle.std.proofs.lemmas.List.Elements.{All-nil}
@@ -10,20 +10,21 @@ use Rattle.admission.specs.declared.entries.Answer.{Answer}
 use Rattle.admission.specs.declared.entries.Answer.TheVariants.{Admitted, Halted}
 use Rattle.admission.specs.declared.entries.Command.TheVariants as commands
 use Rattle.admission.specs.declared.entries.Entry.{Entry}
-use Rattle.admission.specs.Machine.{AdmittedPlay, State}
+use Rattle.admission.specs.Machine.{AdmittedPlay, State, play_numbered, admitted_play}
 use Rattle.admission.proofs.HistoryPrefixes.{state-push}
-use Rattle.day_run.specs.Days.{AskedPlay, IsHaltedPlay, SharedLink, DayState, at_slot, booked_up_to, entry_by}
-use Rattle.day_run.specs.Days.{first_moment, sent_up_to, with_play}
+use Rattle.day_run.specs.Days.{AskedPlay, SharedLink, DayState, at_slot, booked_up_to, entry_by, first_moment}
+use Rattle.day_run.specs.Days.{sent_up_to, with_play}
 use Rattle.day_run.specs.ClientStates.{Idle, Playing, ClientPlay, ClientState, after_play, after_sending}
 use Rattle.day_run.specs.BookingBalance.{AreHeldOf, IsBalanced, IsReady, share_of}
 use Rattle.day_run.proofs.OwnHalts.{none-halted}
 use Rattle.day_run.proofs.SentBookedLemmas.{IsFree, IsShut, balanced-halt, balanced-play, balanced-same}
 use Rattle.day_run.proofs.SentBookedLemmas.{balanced-sent, playing_one}
-use Rattle.day_run.proofs.SlotBalance.{pausing-share, slot-halted}
+use Rattle.day_run.proofs.SlotBalance.{its-held, pausing-share, slot-halted}
 use Rattle.day_run.proofs.PacerTimingLemmas.{pausing-cases}
-use Rattle.day_run.proofs.LineOutcomes.{LineOutcome, Kept, Asked, Stopped, Looks, Reached, line-outcome}
-use Rattle.day_run.proofs.LineOutcomes.{IsKeptByLines, taken-keeps}
+use Rattle.day_run.proofs.LineOutcomes.{LookAnswered, PlayHalted, LineOutcome, Kept, Asked, Stopped, Looks, Reached}
+use Rattle.day_run.proofs.LineOutcomes.{line-outcome, IsKeptByLines, taken-keeps}
 use Rattle.day_run.proofs.ScriptLineFacts.{LineStep, LinesTaken}
+use Rattle.admission.specs.Histories.{state_after}
 
 pub ready-kept : (old new : DayState) → new ≡ old → IsReady old → IsReady new
 ready-kept old new kept ready =
@@ -35,14 +36,22 @@ ready-made : {new : DayState} {states : List ClientState} (old : DayState) (e : 
 ready-made {new} old e is count balanced =
     subst IsReady (sym is) (record { count = count; balanced = balanced })
 
-answered : {old new : DayState} (answer : Answer) (ask : AskedPlay) → ask.client < 256
-    → IsFree (get_or old.states ask.client Idle)
-    → new ≡ record {
-      entries = old.entries ++ entry_by ask.client (commands.Play old.heard ask.plan) answer ∷ [];
-      states = with_play ask.client ask.rest ask.plan (length old.entries) answer old.states;
-      heard = old.heard;
-    } → IsReady old → IsReady new
-answered {old} {new} (Admitted start) ask client free is ready =
+-- a client of a day that plays nothing
+record IsFreeOf (old : DayState) (client : ℕ) : Type 0 where
+  inside : client < 256
+  free : IsFree (get_or old.states client Idle)
+
+-- the day after the answer of a play
+abbrev pub IsAfterPlay : DayState → AskedPlay → Answer → DayState → Type 0
+IsAfterPlay old ask answer new = new ≡ record {
+  entries = old.entries ++ entry_by ask.client (commands.Play old.heard ask.plan) answer ∷ [];
+  states = with_play ask.client ask.rest ask.plan (length old.entries) answer old.states;
+  heard = old.heard;
+}
+
+answered : {old new : DayState} (answer : Answer) (ask : AskedPlay) → IsFreeOf old ask.client
+    → IsAfterPlay old ask answer new → IsReady old → IsReady new
+answered {old} (Admitted start) ask free is ready =
     let play : ClientPlay = record { number = length old.entries; rest = ask.rest; plan = ask.plan; start = start } in
     let e = entry_by ask.client (commands.Play old.heard ask.plan) (Admitted start) in
     ready-made old e is (length-set old.states ask.client (Playing play) ∙ ready.count)
@@ -54,38 +63,39 @@ answered {old} {new} (Admitted start) ask client free is ready =
       maker = refl;
       no_halt = refl;
       is = ap (λ (s : State). s.held) (state-push old.entries e);
-    }) (omega (arith, client, ready.count)) free ready.balanced)
-answered {old} {new} answer ask client free is ready =
+    }) (omega (arith, free.inside, ready.count)) free.free ready.balanced)
+answered {old} answer ask free is ready =
     let e = entry_by ask.client (commands.Play old.heard ask.plan) answer in
     ready-made old e is ready.count
     (balanced-same old.entries old.states old.heard e
     (ap (λ (s : State). s.held) (state-push old.entries e)) refl ready.balanced)
 
-paused : {link : SharedLink} {c : ℕ} {play : ClientPlay} {old new : DayState} {text : List ℕ} → c < 256
-    → get_or old.states c Idle ≡ Playing play
-    → IsHaltedPlay link c play old new text → IsReady old → IsReady new
-paused {c} {play} {old} {new} {text} client at is ready =
-    let e = entry_by c (commands.Halt play.number is.keep) Halted in
+-- the machine holds a play that is halted
+pub halted-held : {step : LineStep} (own : PlayHalted step) → IsReady step.old
+    → play_numbered own.play.number (state_after step.old.entries).held
+    ≡ Some (admitted_play own.play.number own.play.start own.play.plan)
+halted-held own ready = its-held own.client (omega (arith, own.inside, ready.count)) own.at ready.balanced
+
+paused : (step : LineStep) (own : PlayHalted step) → IsReady step.old → IsReady step.new
+paused step own ready =
+    let old = step.old in
+    let e = entry_by client (commands.Halt play.number is.keep) Halted in
     let stop = truncated_play play.start play.plan is.keep in
     let rest = record play.rest { run = is.pause.left } in
-    let shut : IsShut is.state =
-    subst IsShut (sym is.pause.state_is) (pausing-cases IsShut old.heard stop rest tt tt) in
-    ready-made old e is.noted.new_is (length-set old.states c is.state ∙ ready.count)
-    (balanced-halt c is.keep is.state
-    (record { inside = omega (arith, client, ready.count); at = at; balanced = ready.balanced }) shut
+    let shut = subst IsShut (sym is.pause.state_is) (pausing-cases IsShut old.heard stop rest tt tt) in
+    ready-made old e is.noted.new_is (length-set old.states client is.state ∙ ready.count)
+    (balanced-halt client is.keep is.state
+    (record { inside = omega (arith, inside, ready.count); at = at; balanced = ready.balanced }) shut
     (λ t later. ap (share_of t) is.pause.state_is ∙ pausing-share t old.heard stop rest later))
+  where
+    open own use {client, inside, play, at, is}
 
-looked : (answer : Answer) (slot : ℕ) (old new : DayState)
-    → new ≡ record {
-      entries = old.entries ++ entry_by 0 (commands.Look slot) answer ∷ [];
-      states = old.states;
-      heard = old.heard;
-    } → IsReady old → IsReady new
-looked answer slot old new is ready =
-    let e = entry_by 0 (commands.Look slot) answer in
-    ready-made old e is ready.count
-    (balanced-same old.entries old.states old.heard e
-    (ap (λ (s : State). s.held) (state-push old.entries e)) refl ready.balanced)
+looked : (step : LineStep) → LookAnswered step → IsReady step.old → IsReady step.new
+looked step own ready =
+    let e = entry_by 0 (commands.Look own.slot) own.made.answer in
+    ready-made step.old e own.made.noted.new_is ready.count
+    (balanced-same step.old.entries step.old.states step.old.heard e
+    (ap (λ (s : State). s.held) (state-push step.old.entries e)) refl ready.balanced)
 
 pub slot-ready : (old new : DayState) (slot : ℕ) → old.heard ≤ slot → new ≡ at_slot old slot → IsReady old → IsReady new
 slot-ready old new slot le is ready =
@@ -98,11 +108,10 @@ slot-ready old new slot le is ready =
 pub outcome-ready : {slot : ℕ} (step : LineStep) → LineOutcome step slot → IsReady step.old → IsReady step.new
 outcome-ready step (Kept kept at) ready = ready-kept step.old step.new kept ready
 outcome-ready step (Asked own at) ready =
-    answered own.made.answer (record { client = own.client; rest = own.rest; plan = own.plan }) own.inside own.free
-    own.made.noted.new_is ready
-outcome-ready step (Stopped own at) ready = paused own.inside own.at own.is ready
-outcome-ready step (Looks own at) ready =
-    looked own.made.answer own.slot step.old step.new own.made.noted.new_is ready
+    answered own.made.answer (record { client = own.client; rest = own.rest; plan = own.plan })
+    (record { inside = own.inside; free = own.free }) own.made.noted.new_is ready
+outcome-ready step (Stopped own at) ready = paused step own ready
+outcome-ready step (Looks own at) ready = looked step own ready
 outcome-ready {slot} step (Reached own) ready = slot-ready step.old step.new slot own.later own.is ready
 
 idle-shares : (t n : ℕ) → sum_by (share_of t) (replicate n Idle) ≡ 0

@@ -16,12 +16,10 @@ use Rattle.day_run.specs.declared.clients.Client.TheVariants as clients
 use Rattle.day_run.specs.declared.clients.Halt.{Halt}
 use Rattle.day_run.specs.declared.clients.ClientPlay.{ClientPlay}
 use Rattle.day_run.specs.declared.clients.Rest.{Rest as ClientRest}
-use Rattle.slot_calendar.specs.declared.profiles.CapStep.{CapStep}
-use Rattle.admission.specs.Machine.{IsAnswer, State}
 use Rattle.day_run.specs.declared.machine.LineAnswer.{LineAnswer}
 use Rattle.day_run.specs.declared.machine.LineAnswer.TheVariants as tolds
 use Rattle.vod_base.specs.declared.errors.NoMemory.{NoMemory}
-use Rattle.day_run.specs.Clients.{AreIdle, IsPauseOf, IsQuiet, IsTimed, play_of, rest_of, state_of}
+use Rattle.day_run.specs.Clients.{AreIdle, IsPauseOf, IsQuiet, play_of, rest_of, state_of}
 use Rattle.report.specs.JournalTexts.{journal_text}
 use Rattle.day_run.specs.Days.{IsAsked, IsFull, IsNoted, IsPauseLine, IsPlayLine, IsTold, SharedLink, DayState}
 use Rattle.day_run.specs.Days.{done_halt, entry_by, halt_entries, state_at, with_play}
@@ -57,118 +55,57 @@ told-full {old} {new} full above entries opened kept = record {
 }
 
 -- an entry was made: its place, and the day after it
-pub record EntryMade (old new : DayState) (place : ℕ) (e : Entry) (states : List ClientState) : Type 0 where
+pub record EntryMade (link : SharedLink) (old new : DayState) (entry : Entry) (states : List ClientState) : Type 0 where
+  pub made : Entry
+  pub is : made ≡ entry
+  pub answered : IsAnswered link.steps (state_after old.entries) made
+  pub place : ℕ
   pub place_is : place ≡ length old.entries
-  pub entries_are : new.entries ≡ old.entries ++ e ∷ []
+  pub entries_are : new.entries ≡ old.entries ++ made ∷ []
   pub states_are : new.states ≡ states
   pub heard_is : new.heard ≡ old.heard
 
--- an entry was made
-pub noted : {link : SharedLink} {old new : DayState} {place : ℕ} {e : Entry} {states : List ClientState}
-    → IsAnswered link.steps (state_after old.entries) e
-    → EntryMade old new place e states → IsNoted link e states old new (reply_text new.entries (tolds.Entry place))
-noted {old} {new} {place} {e} {states} answered made = record {
-  answered = answered;
-  new_is =
-      ap (λ es. record { entries = es; states = new.states; heard = new.heard }) y
-      ∙ ap (λ l. record { entries = old.entries ++ e ∷ []; states = l; heard = new.heard }) s
-      ∙ ap (λ n. record { entries = old.entries ++ e ∷ []; states = states; heard = n }) h;
-  text_is = told-entry place old.entries new.entries e at y;
-}
+pub noted : {link : SharedLink} {old new : DayState} {entry : Entry} {states : List ClientState}
+    (made : EntryMade link old new entry states)
+    → IsNoted link entry states old new (reply_text new.entries (tolds.Entry made.place))
+noted {link} {old} {new} {entry} {states} made =
+    let y : new.entries ≡ old.entries ++ entry ∷ [] = entries_are ∙ ap (λ x. old.entries ++ x ∷ []) is in
+    record {
+      answered = subst (IsAnswered link.steps (state_after old.entries)) is answered;
+      new_is =
+          ap (λ es. record { entries = es; states = new.states; heard = new.heard }) y
+          ∙ ap (λ l. record { entries = old.entries ++ entry ∷ []; states = l; heard = new.heard }) states_are
+          ∙ ap (λ n. record { entries = old.entries ++ entry ∷ []; states = states; heard = n }) heard_is;
+      text_is = told-entry place old.entries new.entries entry place_is y;
+    }
   where
-    open made use {place_is as at, entries_are as y, states_are as s, heard_is as h}
+    open made use {is, answered, place, place_is, entries_are, states_are, heard_is}
 
--- the entry of a client's halt
-pub record HaltEntry (c number keep : ℕ) (e : Entry) : Type 0 where
-  pub maker : e.maker ≡ c
-  pub answer : e.answer ≡ Halted
-  pub command : e.command ≡ commands.Halt number keep
-
--- the entry of a halt was made
-pub noted-halt : {link : SharedLink} {old new : DayState} {place c number keep : ℕ} {e : Entry}
-    {states : List ClientState} → IsAnswered link.steps (state_after old.entries) e
-    → EntryMade old new place e states → HaltEntry c number keep e
-    → IsNoted link (entry_by c (commands.Halt number keep) Halted) states old new
-    (reply_text new.entries (tolds.Entry place))
-noted-halt {link} {old} {new} {place} {c} {number} {keep} {e} {states} answered made entry =
-    let same : e ≡ entry_by c (commands.Halt number keep) Halted =
-    ap (λ n. record { maker = n; command = e.command; answer = e.answer }) maker
-    ∙ ap (λ x. record { maker = c; command = x; answer = e.answer }) command
-    ∙ ap (λ a. entry_by c (commands.Halt number keep) a) answer in
-    let N : Entry → Type 0 = λ x. IsNoted link x states old new (reply_text new.entries (tolds.Entry place)) in
-    subst N same (noted answered made)
-  where
-    open entry use {maker, answer, command}
-
--- the entry of a play was made
-pub noted-play : {link : SharedLink} {old new : DayState} {place c slot maker : ℕ} {states : List ClientState}
-    (plan : List Segment)
-    (answer : Answer) → slot ≡ old.heard → maker ≡ c
-    → IsAnswered link.steps (state_after old.entries) (entry_by maker (commands.Play slot plan) answer)
-    → EntryMade old new place (entry_by maker (commands.Play slot plan) answer) states
-    → IsNoted link (entry_by c (commands.Play old.heard plan) answer) states old new
-    (reply_text new.entries (tolds.Entry place))
-noted-play {link} {old} {new} {place} {c} {slot} {maker} {states} plan answer late own answered made =
-    let N : Entry → Type 0 = λ x. IsNoted link x states old new (reply_text new.entries (tolds.Entry place)) in
-    let same : entry_by maker (commands.Play slot plan) answer ≡ entry_by c (commands.Play old.heard plan) answer =
-    ap (λ n. entry_by n (commands.Play slot plan) answer) own
-    ∙ ap (λ n. entry_by c (commands.Play n plan) answer) late in
-    subst N same (noted answered made)
-
--- a play that was begun: its number, what was to be sent, its plan, and its first slot
-pub record PlayBegun (number : ℕ) (rest : ClientRest) (plan : List Segment) (start : ℕ) (play : ClientPlay)
+-- a play that was admitted: its number, what was to be sent, its plan, and its first slot
+pub record PlayBegun (number : ℕ) (rest : ClientRest) (plan : List Segment) (answer : Answer) (play : ClientPlay)
     : Type 0 where
+  pub start : ℕ
+  pub answer_is : answer ≡ Admitted start
   pub number_is : play.number ≡ number
   pub rest_is : play.rest ≡ rest
   pub plan_is : play.plan ≡ plan
   pub start_is : play.pacer.start ≡ start
 
--- a play in the words of a day
-pub play-is : {number : ℕ} {rest : ClientRest} {plan : List Segment} {start : ℕ} (play : ClientPlay)
-    → PlayBegun number rest plan start play
-    → play_of play ≡ record { number = number; rest = rest_of rest; plan = plan; start = start }
-play-is {number} {rest} {plan} {start} play begun =
-    ap (λ x. record {
-      number = x;
-      rest = rest_of play.rest;
-      plan = play.plan;
-      start = play.pacer.start;
-    }) begun.number_is
-    ∙ ap (λ x. record { number = number; rest = rest_of x; plan = play.plan; start = play.pacer.start }) begun.rest_is
-    ∙ ap (λ x. record { number = number; rest = rest_of rest; plan = x; start = play.pacer.start }) begun.plan_is
-    ∙ ap (λ x. record { number = number; rest = rest_of rest; plan = plan; start = x }) begun.start_is
-
 -- the clients after a play's answer
-pub states-played : {number : ℕ} {rest : ClientRest} {plan : List Segment} {start : ℕ} {answer : Answer}
-    (cs : List Client) (c : ℕ)
-    (play : ClientPlay) → answer ≡ Admitted start → PlayBegun number rest plan start play
+pub states-played : {number : ℕ} {rest : ClientRest} {plan : List Segment} {answer : Answer} {play : ClientPlay}
+    (cs : List Client) (c : ℕ) → PlayBegun number rest plan answer play
     → map state_of (set cs c (clients.Playing play)) ≡ with_play c (rest_of rest) plan number answer (map state_of cs)
-states-played {number} {rest} {plan} {start} cs c play is begun =
-    states-set cs c (clients.Playing play) ∙ ap (λ x. set (map state_of cs) c (Playing x)) (play-is play begun)
-    ∙ ap (λ a. with_play c (rest_of rest) plan number a (map state_of cs)) (sym is)
+states-played {number} {rest} {plan} {play} cs c begun =
+    let same : play_of play ≡ record { number = number; rest = rest_of rest; plan = plan; start = begun.start } =
+    cc (begun.number_is, begun.rest_is, begun.plan_is, begun.start_is) in
+    states-set cs c (clients.Playing play) ∙ ap (λ x. set (map state_of cs) c (Playing x)) same
+    ∙ ap (λ a. with_play c (rest_of rest) plan number a (map state_of cs)) (sym begun.answer_is)
 
 pub states-same : {states : List ClientState} (c : ℕ) (rest : Rest) (plan : List Segment) (number : ℕ)
     (answer : Answer) → is_admission answer ≡ false
     → states ≡ with_play c rest plan number answer states
 states-same c rest plan number (Admitted start) not = cc not
 states-same c rest plan number _ not = refl
-
--- a play was admitted after the slot that was received last
-pub record PlayAdmitted (slot start heard : ℕ) (answer : Answer) (steps : List CapStep) (state : State)
-    (plan : List Segment)
-    : Type 0 where
-  pub is : answer ≡ Admitted start
-  pub answered : IsAnswer steps state (commands.Play slot plan) answer
-  pub late : slot ≡ heard
-
--- a play that was admitted hasn't come to its first slot
-pub begun-timed : {slot start heard : ℕ} {answer : Answer} {steps : List CapStep} {state : State}
-    {plan : List Segment} (play : ClientPlay) → PlayAdmitted slot start heard answer steps state plan
-    → play.pacer.start ≡ start → play.pacer.passed ≡ 0
-    → IsTimed heard (clients.Playing play)
-begun-timed {slot} {start} {steps} {state} {plan} play admitted at begun =
-    let its = subst (IsAnswer steps state (commands.Play slot plan)) admitted.is admitted.answered in
-    omega (arith, its.0, admitted.late, at, begun)
 
 -- a client pauses
 pub pause-line : {link : SharedLink} {c : ℕ} {halt : Halt} {old new : DayState} {text : List ℕ} (client next : Client)

@@ -1,7 +1,7 @@
 -- The plays that a book has open for the clients of a day, after one more entry.
-use Rattle.std.proofs.Common.{◌≡◌, ◌<◌, ◌≤◌, ℕ, true, List, [], ◌∷◌, ◌++◌, length, get_or, set, Option, Some}
-use Rattle.std.proofs.Common.{IsSomeAnd, arith, sym, ap, subst, ◌∙◌}
-use Rattle.std.proofs.lemmas.List.{length-append, get_or_append_left, length-set}
+use Rattle.std.proofs.Common.{◌≡◌, ◌≤◌, ℕ, true, List, [], ◌∷◌, ◌++◌, length, get_or, set, Option, Some, IsSomeAnd}
+use Rattle.std.proofs.Common.{arith, sym, ap, subst, ◌∙◌}
+use Rattle.std.proofs.lemmas.List.{length-append, get_or_append_left}
 use Rattle.plan_cert.specs.PlanSlots.{total_bytes}
 use Rattle.admission.specs.declared.entries.Command.TheVariants.{Halt}
 use Rattle.admission.specs.declared.entries.Entry.{Entry}
@@ -10,10 +10,11 @@ use Rattle.admission.specs.Machine.{CanHalt, AdmittedPlay, State, play_numbered}
 use Rattle.admission.proofs.PlayLookup.{found-next}
 use Rattle.admission.proofs.Halts.{halting}
 use Rattle.admission.proofs.HistoryPrefixes.{next_of, state-push}
-use Rattle.day_run.proofs.ListUpdates.{set-at}
+use Rattle.day_run.proofs.ListUpdates.{each-set}
 use Rattle.day_run.specs.declared.clients.Client.{Client}
 use Rattle.day_run.specs.declared.clients.Client.TheVariants.{Playing}
-use Rattle.day_run.specs.Clients.{AreBooked, AreGoing, AreUndone, IsBooked, IsGoing, IsOpenOf, IsQuiet, IsUndone}
+use Rattle.day_run.specs.Clients.{AreBooked, AreGoing, AreTimed, AreUndone, IsBooked, IsGoing, IsOpenOf, IsQuiet}
+use Rattle.day_run.specs.Clients.{IsTimed, IsUndone}
 
 -- an entry that doesn't halt a play leaves it open
 pub open-push : {xs : List Entry} {c number bytes : ℕ} (e : Entry) → IsOpenOf xs c number bytes
@@ -59,71 +60,58 @@ booked-more xs clients e none booked =
 pub booked-set : {xs : List Entry} {clients : List Client} {c : ℕ} {e : Entry} (client : Client)
     → ((d : ℕ) → (d ≡ c → ⊥) → HaltsNone xs d e) → IsBooked (xs ++ e ∷ []) c client → AreBooked xs clients
     → AreBooked (xs ++ e ∷ []) (set clients c client)
-booked-set {xs} {clients} {c} {e} client others own booked =
-    record {
-      each = λ d none inside.
-          let within : d < length clients = omega (arith, inside, length-set clients c client) in
-          set-at (IsBooked (xs ++ e ∷ [])) {xs = clients} {c = c} {d = d} {x = client} {none = none} (record {
-            inside = λ same. omega (arith, same, within);
-            own = own;
-            other = λ other.
-                booked-push xs d (get_or clients d none) e (others d other) (booked.each d none within);
-          });
-    }
+booked-set {xs} {clients} {c} {e} client others own booked = record {
+  each = each-set (IsBooked (xs ++ e ∷ [])) clients c client own
+      (λ d none inside other. booked-push xs d (get_or clients d none) e (others d other) (booked.each d none inside));
+}
 
 quiet-booked : (xs : List Entry) (c : ℕ) (client : Client) → IsQuiet client → IsBooked xs c client
 quiet-booked xs c (Playing play) quiet = absurd quiet
 quiet-booked xs c _ quiet = tt
 
--- a client whose play is halted is quiet from then on
-pub booked-halt : {xs : List Entry} {clients : List Client} {c number bytes keep : ℕ} (client : Client) (e : Entry)
-    → e.command ≡ Halt number keep → IsOpenOf xs c number bytes → IsQuiet client → AreBooked xs clients
-    → AreBooked (xs ++ e ∷ []) (set clients c client)
-booked-halt {xs} {c} {number} client e is its quiet booked =
+-- an entry halts a play of a client that may be halted so
+pub record HaltsOpenPlay (xs : List Entry) (c : ℕ) (e : Entry) : Type 0 where
+  pub number : ℕ
+  pub keep : ℕ
+  pub command : e.command ≡ Halt number keep
+  pub its : IsOpenOf xs c number keep
+
+-- the client is quiet from then on
+pub booked-halt : {xs : List Entry} {clients : List Client} {c : ℕ} {e : Entry} (client : Client)
+    → HaltsOpenPlay xs c e → IsQuiet client → AreBooked xs clients → AreBooked (xs ++ e ∷ []) (set clients c client)
+booked-halt {xs} {c} {e} client halt quiet booked =
     booked-set client
     (λ d other. record {
       apart = λ n halts maker.
-          let same : number ≡ n = subst (Halts n) is halts in
-          other (sym (maker e) ∙ ap (λ k. (get_or xs k e).maker) (sym same) ∙ its.maker e);
+          let same : halt.number ≡ n = subst (Halts n) halt.command halts in
+          other (sym (maker e) ∙ ap (λ k. (get_or xs k e).maker) (sym same) ∙ halt.its.maker e);
     })
     (quiet-booked (xs ++ e ∷ []) c client quiet) booked
 
 -- one client is put in the place of another
 pub going-set : (clients : List Client) (c : ℕ) (client : Client) → IsGoing client → AreGoing clients
     → AreGoing (set clients c client)
-going-set clients c client own going =
-    record {
-      each = λ d none inside.
-          let within : d < length clients = omega (arith, inside, length-set clients c client) in
-          set-at (λ (n : ℕ) (x : Client). IsGoing x) {xs = clients} {c = c} {d = d} {x = client} {none = none} (record {
-            inside = λ same. omega (arith, same, within);
-            own = own;
-            other = λ other. going.each d none within;
-          });
-    }
+going-set clients c client own going = record {
+  each = each-set (λ (n : ℕ) (x : Client). IsGoing x) clients c client own
+      (λ d none inside other. going.each d none inside);
+}
 
-pub undone-set : {upto : ℕ} {clients : List Client} (c : ℕ) (client : Client) → c < length clients
-    → IsUndone client → AreUndone upto clients
-    → AreUndone upto (set clients c client)
-undone-set {clients} c client within own undone =
-    record {
-      each = λ d none inside.
-          set-at (λ (n : ℕ) (x : Client). IsUndone x) {xs = clients} {c = c} {d = d} {x = client} {none = none} (record {
-            inside = λ same. within;
-            own = own;
-            other = λ other. undone.each d none inside;
-          });
-    }
+pub undone-set : (clients : List Client) (c : ℕ) (client : Client) → IsUndone client
+    → AreUndone (length clients) clients → AreUndone (length (set clients c client)) (set clients c client)
+undone-set clients c client own undone = record {
+  each = each-set (λ (n : ℕ) (x : Client). IsUndone x) clients c client own
+      (λ d none inside other. undone.each d none inside);
+}
 
 pub booked-same : (xs : List Entry) (clients : List Client) (c : ℕ) (client : Client) → IsBooked xs c client
     → AreBooked xs clients → AreBooked xs (set clients c client)
-booked-same xs clients c client own booked =
-    record {
-      each = λ d none inside.
-          let within : d < length clients = omega (arith, inside, length-set clients c client) in
-          set-at (IsBooked xs) {xs = clients} {c = c} {d = d} {x = client} {none = none} (record {
-            inside = λ same. omega (arith, same, within);
-            own = own;
-            other = λ other. booked.each d none within;
-          });
-    }
+booked-same xs clients c client own booked = record {
+  each = each-set (IsBooked xs) clients c client own (λ d none inside other. booked.each d none inside);
+}
+
+pub timed-set : (heard : ℕ) (clients : List Client) (c : ℕ) (client : Client) → IsTimed heard client
+    → AreTimed heard clients → AreTimed heard (set clients c client)
+timed-set heard clients c client own timed = record {
+  each = each-set (λ (n : ℕ) (x : Client). IsTimed heard x) clients c client own
+      (λ d none inside other. timed.each d none inside);
+}

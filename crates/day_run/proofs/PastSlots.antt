@@ -1,6 +1,6 @@
 -- What is booked in the slots that were received stays.
-use Rattle.std.proofs.Common.{◌≡◌, ◌<◌, ◌≤◌, ◌+◌, ◌-◌, ℕ, max, All, List, [], ◌∷◌, ◌++◌, length, map, get_or, arith}
-use Rattle.std.proofs.Common.{refl, sym, ap, subst, ◌∙◌, inl, inr}
+use Rattle.std.proofs.Common.{◌≡◌, ◌<◌, ◌≤◌, ◌+◌, ◌-◌, ℕ, max, All, List, [], ◌∷◌, ◌++◌, length, map, arith, refl}
+use Rattle.std.proofs.Common.{sym, ap, subst, ◌∙◌, inl, inr}
 use Rattle.std.specs.Prelude.{sum_by}
 use Rattle.std.specs.List.{fold, range_with_len}
 use Rattle.std.proofs.lemmas.List.Elements.{All-cons, All-nil}
@@ -16,16 +16,16 @@ use Rattle.admission.proofs.HistoryPrefixes.{state-push}
 use Rattle.day_script.specs.declared.scripts.Line.TheVariants as lines
 use Rattle.day_run.specs.BookingBalance.{IsReady, share_of}
 use Rattle.day_run.specs.Clients.{after_open}
-use Rattle.day_run.specs.Days.{AskedPlay, IsHaltedPlay, IsLine, SharedLink, DayState, entry_by, last_journal}
-use Rattle.day_run.specs.Days.{first_moment, sent_up_to, with_play}
+use Rattle.day_run.specs.Days.{AskedPlay, IsLine, SharedLink, DayState, entry_by, last_journal, first_moment}
+use Rattle.day_run.specs.Days.{sent_up_to}
 use Rattle.day_run.specs.FairDays.{AreTurns, IsTurn, FairTurn, after_turn, turn_booked, turn_peak}
-use Rattle.day_run.specs.ClientStates.{Idle, Playing, ClientPlay, ClientState, booking_of, sent_by}
+use Rattle.day_run.specs.ClientStates.{ClientState, booking_of, sent_by}
 use Rattle.day_run.proofs.SentBookedLemmas.{BegunPlay}
-use Rattle.day_run.proofs.SlotBalance.{its-held, last-halted, play-stays, slot-halted, stays-halt}
-use Rattle.day_run.proofs.LineBalance.{morning-ready, ready-sent, taken-ready}
+use Rattle.day_run.proofs.SlotBalance.{last-halted, play-stays, slot-halted, stays-halt}
+use Rattle.day_run.proofs.LineBalance.{IsAfterPlay, halted-held, morning-ready, ready-sent, taken-ready}
 use Rattle.day_run.proofs.ScriptLineFacts.{LineStep, LinesTaken, NextTaken}
 use Rattle.day_run.proofs.FairLaws.{mid-heard, mid-ready, turn-mid, turn-ready}
-use Rattle.day_run.proofs.LineOutcomes.{LineOutcome, Kept, Asked, Stopped, Looks, Reached, line-outcome}
+use Rattle.day_run.proofs.LineOutcomes.{PlayHalted, LineOutcome, Kept, Asked, Stopped, Looks, Reached, line-outcome}
 use Rattle.day_run.proofs.LineOutcomes.{outcome-heard, turn-outcome, turn_step}
 use Rattle.day_run.proofs.SoundClients.{kept-most}
 use Rattle.day_run.proofs.SlotTotals.{SlotSpan, greatest, summed, total-joined, total-same}
@@ -45,11 +45,7 @@ same-past old new e states is same t past =
 
 answered-past : {new : DayState} (answer : Answer) (link : SharedLink) (ask : AskedPlay) (old : DayState)
     → IsAnswered link.steps (state_after old.entries) (entry_by ask.client (commands.Play old.heard ask.plan) answer)
-    → new ≡ record {
-      entries = old.entries ++ entry_by ask.client (commands.Play old.heard ask.plan) answer ∷ [];
-      states = with_play ask.client ask.rest ask.plan (length old.entries) answer old.states;
-      heard = old.heard;
-    } → Past old new
+    → IsAfterPlay old ask answer new → Past old new
 answered-past {new} (Admitted start) link ask old answered is = λ t past.
     let e = entry_by ask.client (commands.Play old.heard ask.plan) (Admitted start) in
     let early : old.heard < start = omega (arith, answered.0) in
@@ -66,22 +62,20 @@ answered-past {new} answer link ask old answered is =
     let e = entry_by ask.client (commands.Play old.heard ask.plan) answer in
     same-past old new e old.states is (ap (λ (s : State). s.held) (state-push old.entries e))
 
-halted-past : {link : SharedLink} {c : ℕ} {play : ClientPlay} {old new : DayState} {text : List ℕ} → c < 256
-    → get_or old.states c Idle ≡ Playing play → IsReady old
-    → IsHaltedPlay link c play old new text → Past old new
-halted-past {c} {play} {old} {new} {text} client at ready is t past =
-    let held = its-held c (omega (arith, client, ready.count)) at ready.balanced in
-    let most = kept-most old.entries play is.keep held is.noted.answered in
-    let sent : sent_by (booking_of play) old.heard ≤ is.keep = omega (arith, is.pause.boundary.after) in
-    ap (λ (m : DayState). booked_after m.entries t) is.noted.new_is
-    ∙ stays-halt old.entries c is.keep play held (record { sent = sent; most = most }) t past
+halted-past : (step : LineStep) (own : PlayHalted step) → IsReady step.old → Past step.old step.new
+halted-past step own ready t past =
+    let held = halted-held own ready in
+    let most = kept-most step.old.entries own.play own.is.keep held own.is.noted.answered in
+    let sent : sent_by (booking_of own.play) step.old.heard ≤ own.is.keep = omega (arith, own.is.pause.boundary.after) in
+    ap (λ (m : DayState). booked_after m.entries t) own.is.noted.new_is
+    ∙ stays-halt step.old.entries own.client own.is.keep own.play held (record { sent = sent; most = most }) t past
 
 outcome-past : {slot : ℕ} (step : LineStep) → LineOutcome step slot → IsReady step.old → Past step.old step.new
 outcome-past step (Kept kept at) ready = kept-past step.old step.new kept
 outcome-past step (Asked own at) ready =
     answered-past own.made.answer step.link (record { client = own.client; rest = own.rest; plan = own.plan }) step.old
     own.made.noted.answered own.made.noted.new_is
-outcome-past step (Stopped own at) ready = halted-past own.inside own.at ready own.is
+outcome-past step (Stopped own at) ready = halted-past step own ready
 outcome-past step (Looks own at) ready =
     let e = entry_by 0 (commands.Look own.slot) own.made.answer in
     same-past step.old step.new e step.old.states own.made.noted.new_is

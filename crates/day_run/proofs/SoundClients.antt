@@ -26,15 +26,15 @@ use Rattle.admission.specs.Histories.{IsAnswered, state_after}
 use Rattle.admission.specs.Machine.{CanHalt, AdmittedPlay, admitted_play, play_numbered}
 use Rattle.day_script.specs.declared.scripts.Line.{Line}
 use Rattle.day_script.specs.declared.scripts.Line.TheVariants as lines
-use Rattle.day_run.specs.BookingBalance.{AreHeldOf, IsHeld, IsReady}
+use Rattle.day_run.specs.BookingBalance.{IsReady}
 use Rattle.day_run.specs.DayLaws.{IsLink, IsSoundPlay, IsSoundRest, IsSoundClient}
-use Rattle.day_run.specs.Days.{IsAsked, IsHaltedPlay, IsLine, IsLookLine, IsPauseLine, IsResumeLine, SharedLink}
-use Rattle.day_run.specs.Days.{DayState, at_slot, entry_by, first_moment, rest_at, state_at, with_play}
+use Rattle.day_run.specs.Days.{IsAsked, IsLine, IsLookLine, IsPauseLine, IsResumeLine, SharedLink, DayState, at_slot}
+use Rattle.day_run.specs.Days.{entry_by, first_moment, rest_at, state_at, with_play}
 use Rattle.day_script.specs.Scripts.{IsWish}
 use Rattle.day_run.specs.ClientStates.{Idle, Playing, Pausing, Paused, IsPause, ClientPlay, Rest, ClientState}
 use Rattle.day_run.specs.ClientStates.{after_play, after_sending, booking_of, is_done, no_medium, sent_by, slot_sent}
-use Rattle.day_run.proofs.LineBalance.{morning-ready, outcome-ready, slot-ready}
-use Rattle.day_run.proofs.LineOutcomes.{line-outcome, offer-kept, taken-keeps}
+use Rattle.day_run.proofs.LineBalance.{halted-held, morning-ready, outcome-ready, slot-ready}
+use Rattle.day_run.proofs.LineOutcomes.{PlayHalted, line-outcome, offer-kept, taken-keeps}
 use Rattle.day_run.proofs.ListUpdates.{set-at}
 use Rattle.day_run.proofs.PacerTimingLemmas.{pausing-cases}
 use Rattle.day_run.proofs.ScriptLineFacts.{ClientOf, IsPlayTaken, LineStep, LinesTaken, StandingLine}
@@ -43,6 +43,9 @@ use Rattle.day_run.proofs.ScriptLineFacts.{ClientOf, IsPlayTaken, LineStep, Line
 pub record IsSound (m : DayState) : Type 0 where
   pub ready : IsReady m
   pub each : (c : ℕ) → c < 256 → IsSoundClient m.heard (get_or m.states c Idle)
+
+abbrev HasSoundClients : DayState → Type 0
+HasSoundClients m = (c : ℕ) → c < 256 → IsSoundClient m.heard (get_or m.states c Idle)
 
 abbrev AreStates : ℕ → List ClientState → Type 0
 AreStates heard states = (c : ℕ) → c < 256 → IsSoundClient heard (get_or states c Idle)
@@ -64,10 +67,6 @@ set-sound {heard} {c} {state} states count own each d inside =
       other = λ other. each d inside;
     })
 
-kept-states : (old new : DayState) → new ≡ old → AreStates old.heard old.states → AreStates new.heard new.states
-kept-states old new kept each =
-    subst (λ (m : DayState). AreStates m.heard m.states) (sym kept) each
-
 -- a client asks for what can be sent, by its plan
 record SoundAsking (rest : Rest) (plan : List Segment) (c : ℕ) : Type 0 where
   client : c < 256
@@ -87,15 +86,15 @@ answered-states {rest} {plan} {old} {c} (Admitted start) link ask sound answer =
     set-sound old.states sound.ready.count (record { client = ask.client; sound = own }) sound.each
 answered-states _ link ask sound answer = sound.each
 
-asked-states : {link : SharedLink} {c : ℕ} {rest : Rest} {old new : DayState} {text : List ℕ} → c < 256
-    → (0 < length (rest_sizes rest.sizes rest.run) → IsSoundRest rest)
-    → IsSound old → IsAsked link c rest old new text → AreStates new.heard new.states
-asked-states {c} {old} {new} {text} client own sound (inl faulty) = kept-states old new faulty.told.kept sound.each
-asked-states {link} {c} {old} {new} {text} client own sound (inr planned) = elim planned.done [
-  | inl full ↦ kept-states old new full.told.kept sound.each
+asked-states : {c : ℕ} {rest : Rest} (step : LineStep) → c < 256
+    → (0 < length (rest_sizes rest.sizes rest.run) → IsSoundRest rest) → IsSound step.old
+    → IsAsked step.link c rest step.old step.new step.text → HasSoundClients step.new
+asked-states step client own sound (inl faulty) = subst HasSoundClients (sym faulty.told.kept) sound.each
+asked-states {c} step client own sound (inr planned) = elim planned.done [
+  | inl full ↦ subst HasSoundClients (sym full.told.kept) sound.each
   | inr made ↦
-      subst (λ (m : DayState). AreStates m.heard m.states) (sym made.noted.new_is)
-      (answered-states {c = c} made.answer link (record {
+      subst HasSoundClients (sym made.noted.new_is)
+      (answered-states {c = c} made.answer step.link (record {
         client = client;
         rest_is = own planned.plan_is.accepted.some_picture;
         plan_is = planned.plan_is;
@@ -197,21 +196,19 @@ left-sound {play} {heard} {keep} sound pause most =
       boundary = subst (IsBoundary play.rest.pieces) (sym pause.left_is.sent_is) pause.boundary.boundary;
     }
 
-halted-states : {link : SharedLink} {c : ℕ} {play : ClientPlay} {old new : DayState} {text : List ℕ} → c < 256
-    → get_or old.states c Idle ≡ Playing play → IsSound old
-    → IsHaltedPlay link c play old new text → AreStates new.heard new.states
-halted-states {c} {play} {old} {new} {text} client at sound is =
-    let P : ClientState → Type 0 = λ s. IsSoundClient old.heard s in
-    let own : IsSoundPlay old.heard play = subst P at (sound.each c client) in
-    let its : IsHeld old.entries c play =
-    subst (AreHeldOf old.entries c) at (sound.ready.balanced.held c (omega (arith, client, sound.ready.count))) in
-    let most = kept-most old.entries play is.keep its.held is.noted.answered in
-    let rest = left-sound own is.pause most in
+halted-states : (step : LineStep) (own : PlayHalted step) → IsSound step.old → HasSoundClients step.new
+halted-states step own sound =
+    let old = step.old in
+    let its : IsSoundPlay old.heard play = subst (IsSoundClient old.heard) at (sound.each client inside) in
+    let rest = left-sound its is.pause
+    (kept-most old.entries play is.keep (halted-held own sound.ready) is.noted.answered) in
     let state : IsSoundClient old.heard is.state =
-    subst P (sym is.pause.state_is) (pausing-cases (IsSoundClient old.heard) old.heard
+    subst (IsSoundClient old.heard) (sym is.pause.state_is) (pausing-cases (IsSoundClient old.heard) old.heard
     (truncated_play play.start play.plan is.keep) (record play.rest { run = is.pause.left }) rest rest) in
-    subst (λ (m : DayState). AreStates m.heard m.states) (sym is.noted.new_is)
-    (set-sound old.states sound.ready.count (record { client = client; sound = state }) sound.each)
+    subst HasSoundClients (sym is.noted.new_is)
+    (set-sound old.states sound.ready.count (record { client = inside; sound = state }) sound.each)
+  where
+    open own use {client, inside, play, at, is}
 
 -- ---- a slot comes
 done-if : (slot : ℕ) (play : ClientPlay) (b : Bool) → is_done slot play ≡ b → IsSoundRest play.rest
@@ -282,48 +279,48 @@ whole-sound {link} {source} {buffer} {delay} link-is wish some =
 -- ---- each kind of line leaves the clients sound
 play-states : {c : ℕ} {rest : Rest} (step : LineStep) (state : ClientState) → c < 256
     → (0 < length (rest_sizes rest.sizes rest.run) → IsSoundRest rest) → IsSound step.old
-    → IsPlayTaken step c rest state → AreStates step.new.heard step.new.states
-play-states {c} step (Playing play) client own sound is = kept-states step.old step.new is.kept sound.each
-play-states {c} step (Pausing stop left) client own sound is = kept-states step.old step.new is.kept sound.each
-play-states {c} step _ client own sound is = asked-states client own sound is
+    → IsPlayTaken step c rest state → HasSoundClients step.new
+play-states {c} step (Playing play) client own sound is = subst HasSoundClients (sym is.kept) sound.each
+play-states {c} step (Pausing stop left) client own sound is = subst HasSoundClients (sym is.kept) sound.each
+play-states {c} step _ client own sound is = asked-states step client own sound is
 
 resume-states : {c : ℕ} {state : ClientState} (step : LineStep) → ClientOf step.old c state → IsSound step.old
-    → IsResumeLine step.link c state step.old step.new step.text → AreStates step.new.heard step.new.states
-resume-states {c} {state = Idle} step own sound is = kept-states step.old step.new is.kept sound.each
-resume-states {c} {state = Playing play} step own sound is = kept-states step.old step.new is.kept sound.each
-resume-states {c} {state = Pausing stop rest} step own sound is = kept-states step.old step.new is.kept sound.each
+    → IsResumeLine step.link c state step.old step.new step.text → HasSoundClients step.new
+resume-states {c} {state = Idle} step own sound is = subst HasSoundClients (sym is.kept) sound.each
+resume-states {c} {state = Playing play} step own sound is = subst HasSoundClients (sym is.kept) sound.each
+resume-states {c} {state = Pausing stop rest} step own sound is = subst HasSoundClients (sym is.kept) sound.each
 resume-states {c} {state = Paused rest} step own sound is =
     let sending : IsSoundRest rest = subst (IsSoundClient step.old.heard) own.at (sound.each c own.client) in
-    asked-states own.client (λ some. sending) sound is
+    asked-states step own.client (λ some. sending) sound is
 
 pause-states : {c : ℕ} {state : ClientState} (step : LineStep) → ClientOf step.old c state → IsSound step.old
-    → IsPauseLine step.link c state step.old step.new step.text → AreStates step.new.heard step.new.states
-pause-states {c} {state = Idle} step own sound is = kept-states step.old step.new is.kept sound.each
-pause-states {c} {state = Playing play} step own sound is = halted-states own.client own.at sound is
-pause-states {c} {state = Pausing stop rest} step own sound is = kept-states step.old step.new is.kept sound.each
-pause-states {c} {state = Paused rest} step own sound is = kept-states step.old step.new is.kept sound.each
+    → IsPauseLine step.link c state step.old step.new step.text → HasSoundClients step.new
+pause-states {c} {state = Idle} step own sound is = subst HasSoundClients (sym is.kept) sound.each
+pause-states {c} {state = Playing play} step own sound is =
+    halted-states step (record { client = c; inside = own.client; play = play; at = own.at; is = is }) sound
+pause-states {c} {state = Pausing stop rest} step own sound is = subst HasSoundClients (sym is.kept) sound.each
+pause-states {c} {state = Paused rest} step own sound is = subst HasSoundClients (sym is.kept) sound.each
 
-look-states : {link : SharedLink} {slot : ℕ} {old new : DayState} {text : List ℕ} → IsSound old
-    → IsLookLine link slot old new text → AreStates new.heard new.states
-look-states {slot} {old} {new} {text} sound (inl full) = kept-states old new full.told.kept sound.each
-look-states {slot} {new} {text} sound (inr made) =
-    subst (λ (m : DayState). AreStates m.heard m.states) (sym made.noted.new_is) sound.each
+look-states : {slot : ℕ} (step : LineStep) → IsSound step.old → IsLookLine step.link slot step.old step.new step.text
+    → HasSoundClients step.new
+look-states step sound (inl full) = subst HasSoundClients (sym full.told.kept) sound.each
+look-states step sound (inr made) = subst HasSoundClients (sym made.noted.new_is) sound.each
 
 -- ---- lines leave the clients sound
 line-states : (step : LineStep) (line : Line) → IsLink step.link
     → StandingLine step.old.heard (length step.link.media) line → IsSound step.old
-    → IsLine step.link line step.old step.new step.text → AreStates step.new.heard step.new.states
+    → IsLine step.link line step.old step.new step.text → HasSoundClients step.new
 line-states step (lines.Play c source buffer delay) link-is standing sound is =
     play-states step (state_at step.old c) standing.client (whole-sound link-is standing.stands) sound is
 line-states step (lines.Pause c) link-is standing sound is =
     pause-states step (record { client = standing.client; at = refl }) sound is
 line-states step (lines.Resume c) link-is standing sound is =
     resume-states step (record { client = standing.client; at = refl }) sound is
-line-states step (lines.Look slot) link-is standing sound is = look-states sound is
+line-states step (lines.Look slot) link-is standing sound is = look-states step sound is
 line-states step (lines.Slot slot) link-is standing sound is =
-    subst (λ (m : DayState). AreStates m.heard m.states) (sym is.0) (slot-states step.old slot sound)
+    subst HasSoundClients (sym is.0) (slot-states step.old slot sound)
 line-states step (lines.Offer c source buffer delay wait) link-is standing sound is =
-    kept-states step.old step.new (offer-kept is) sound.each
+    subst HasSoundClients (sym (offer-kept is)) sound.each
 
 pub line-sound : (step : LineStep) (line : Line) → IsLink step.link
     → StandingLine step.old.heard (length step.link.media) line → IsSound step.old

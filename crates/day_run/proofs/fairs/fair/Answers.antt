@@ -1,14 +1,14 @@
-use Rattle.std.proofs.Common.{◌≡◌, ◌++◌, ℕ, List, map, ap, ◌∙◌}
-use Rattle.film_make.specs.Generator.{words_of}
+use Rattle.std.proofs.Common.{◌≡◌, ◌++◌, ℕ, List, map, ap, subst, ◌∙◌}
+use Rattle.film_make.specs.Generator.{words_left, words_of}
 use Rattle.admission.specs.declared.book.TheConstants.{MAX_ENTRIES}
 use Rattle.day_run.specs.declared.fairs.TheConstants.{SLOT_UNITS}
-use Rattle.day_run.specs.FairDays.{after_traces, entry_counts_of, fair_link, traces_drawn}
+use Rattle.day_run.specs.FairDays.{AreTurns, after_traces, counts_of, entry_counts_of, fair_link, traces_drawn}
+use Rattle.day_run.specs.Days.{SharedLink, first_moment}
 use Rattle.day_run.specs.FairProgress.{sizes_in}
 use Rattle.day_script.specs.LineTexts.{fair_text}
-use Rattle.day_run.specs.MachineState.{link_on}
+use Rattle.day_run.specs.MachineState.{day_state_of, link_on}
 use Rattle.day_run.specs.ClientStates.{MediaContent, trace_content}
 use Rattle.day_run.specs.MediaContents.{media_content}
-use Rattle.day_run.proofs.FairBalance.{fair-of}
 use Rattle.day_run.proofs.fairs.fair.Goals as goal
 
 pub returns-clause-fair : goal.returns-clause-fair
@@ -22,10 +22,21 @@ returns-clause-fair c =
     c.in_ok-machine.ensures.link
     ∙ ap (λ (t : List MediaContent).
     record { steps = c.args.profile; limit = MAX_ENTRIES; slot_units = SLOT_UNITS; media = t }) contents in
-    fair-of
-    link
-    (c.in_ok-traces.ensures.left ∙ ap (after_traces 16) c.new-draws.ensures) c.in_ok-counts.ensures.come
-    (c.into_entries-journal.ensures.value ∙ c.end.ensures.journal)
-    (c.count_entries-entries.ensures ∙ ap entry_counts_of c.deref-3.ensures.value)
-    (c.in_ok-push_fair.ensures
-    ∙ ap (λ (l : List ℕ). l ++ fair_text c.in_ok-counts.counts c.count_entries-entries.result) c.new-text.ensures.items)
+    let run = c.in_ok-counts.ensures.come in
+    let evening = day_state_of c.run_turns.new.machine in
+    let entries = c.count_entries-entries.result in
+    let drawn = subst (λ (w : ℕ → ℕ). AreTurns (fair_link c.args.profile (words_of c.args.seed)) w run.turns
+    first_moment evening) (c.in_ok-traces.ensures.left ∙ ap (after_traces 16) c.new-draws.ensures)
+    (subst (λ (l : SharedLink). AreTurns l (words_left c.draw_traces.new.draws) run.turns first_moment evening) link
+    run.run) in
+    record {
+      turns = run.turns;
+      evening = evening;
+      count = run.count;
+      run = drawn;
+      journal_is = c.into_entries-journal.ensures.value ∙ c.end.ensures.journal;
+      text_is = c.in_ok-push_fair.ensures ∙ ap (λ (l : List ℕ). l ++ fair_text c.in_ok-counts.counts entries)
+          c.new-text.ensures.items ∙ ap (λ x. fair_text x entries) run.counts_are
+          ∙ ap (fair_text (counts_of run.turns evening))
+          (c.count_entries-entries.ensures ∙ ap entry_counts_of c.deref-3.ensures.value);
+    }

@@ -1,6 +1,6 @@
-use Rattle.std.proofs.Common.{◌<◌, refl, ◌∙◌, arith}
+use Rattle.std.proofs.Common.{◌<◌, ap, refl, ◌∙◌, arith}
 use Rattle.film_make.specs.Generator.{words_left}
-use Rattle.day_run.specs.FairDays.{FairTurn}
+use Rattle.day_run.specs.FairDays.{FairTurn, at_later}
 use Rattle.day_run.specs.FairProgress.{said_text}
 use Rattle.day_run.specs.MachineState.{link_on, day_state_of}
 use Rattle.day_run.proofs.FairBalance.{done-ready, turn-of}
@@ -30,12 +30,20 @@ returns-clause-turned c =
       text = said_text new.book.entries c.in_ok-told.told;
     } in
     turn-of turn (record {
+      here = link_on mid;
+      one = words_left c.draw.new.self;
+      two = words_left c.draw-client.new.self;
+      client = c.draw-client.result;
+      counts = c.advance.new.counts;
+      full = c.is_refused.result;
+      old_is = refl;
+      new_is = refl;
       same = c.advance.ensures.kept.link;
-      one = c.draw.ensures.left;
-      two = c.draw-client.ensures.left;
-      later_is = c.from-later.ensures ∙ c.draw.ensures.value;
-      who = c.draw-client.ensures.value;
-      slot = c.advance.ensures.moment;
+      one_is = c.draw.ensures.left;
+      two_is = c.draw-client.ensures.left;
+      client_is = c.draw-client.ensures.value;
+      slot = c.advance.ensures.moment
+          ∙ ap (at_later (day_state_of c.args.machine.now)) (c.from-later.ensures ∙ c.draw.ensures.value);
       done = c.in_ok-told.ensures.done;
       left = c.in_ok-told.ensures.left;
       counted = c.advance.ensures.counts;

@@ -1,18 +1,18 @@
-use Rattle.std.proofs.Common.{◌≡◌, ◌<◌, ◌++◌, ◌∷◌, [], ℕ, List, min, length, map, set, ap, refl, sym, subst, inl, inr}
-use Rattle.std.proofs.Common.{◌∙◌, arith}
+use Rattle.std.proofs.Common.{◌≡◌, ◌++◌, ◌∷◌, [], ℕ, min, length, map, set, ap, refl, sym, subst, inl, inr, ◌∙◌}
+use Rattle.std.proofs.Common.{arith}
 use Rattle.plan_cert.specs.PlanSlots.{total_bytes}
 use Rattle.admission.specs.declared.entries.Command.TheVariants.{Play}
 use Rattle.admission.specs.declared.entries.Entry.{Entry}
 use Rattle.admission.specs.Books.{Journal}
 use Rattle.admission.specs.Histories.{state_after}
-use Rattle.admission.specs.Machine.{CanHalt}
+use Rattle.admission.specs.Machine.{CanHalt, IsAnswer}
 use Rattle.vod_base.specs.declared.links.TheConstants.{LATEST_SLOT}
 use Rattle.day_run.specs.declared.clients.Client.TheVariants.{Playing}
 use Rattle.day_run.specs.Clients.{rest_of, state_of}
-use Rattle.day_run.specs.Days.{DayState}
+use Rattle.day_run.specs.Days.{DayState, entry_by}
 use Rattle.day_run.specs.MachineState.{link_on, day_state_of}
 use Rattle.day_run.proofs.JournalStepLemmas.{day-noted, day-played, played-now}
-use Rattle.day_run.proofs.LineStepLemmas.{begun-timed, noted-play, states-played, states-same, told-full}
+use Rattle.day_run.proofs.LineStepLemmas.{noted, states-played, states-same, told-full}
 use Rattle.day_run.proofs.machine.DayMachine.book_play.Goals as goal
 
 pub returns-in-Some-clause-machine : goal.returns-in-Some-clause-machine
@@ -29,26 +29,23 @@ returns-in-Some-clause-machine c =
     ap total_bytes (c.begin_play-play.ensures.plan ∙ c.requires.kept) in
     let can0 : CanHalt (state_after c.play.new.self.entries) c.in-Ok.noted.place (total_bytes play.plan) =
     c.in-Ok.ensures.open c.in-Some.start (total_bytes play.plan) c.in-Some.ensures.some (omega (arith, whole)) in
-    let N : ℕ → Type 0 = λ n. CanHalt (state_after c.play.new.self.entries) n (total_bytes play.plan) in
-    let Y : List Entry → Type 0 = λ l. CanHalt (state_after l) play.number (total_bytes play.plan) in
-    let can = subst Y y (subst N (sym c.begin_play-play.ensures.number) can0) in
-    let inside : c.args.client < length old.clients.items = omega (arith, day.count, c.ranges.client.fits) in
-    let timed =
-    begun-timed {steps = old.book.steps} {state = state_after old.book.entries} {plan = c.args.plan} play
-    (record { is = c.in-Some.ensures.some; answered = noted.answer_is; late = late })
-    c.begin_play-play.ensures.start c.begin_play-play.ensures.begun in
-    day-played e day (record {
+    let can = subst (λ (n : ℕ). CanHalt (state_after c.play.new.self.entries) n (total_bytes play.plan))
+    (sym c.begin_play-play.ensures.number) can0 in
+    let its = subst (IsAnswer old.book.steps (state_after old.book.entries) (Play slot c.args.plan))
+    c.in-Some.ensures.some noted.answer_is in
+    day-played old day (record {
+      e = e;
+      slot = slot;
+      segments = c.args.plan;
       entries_are = y;
-      clients_are = refl;
       command = refl;
       late = omega arith;
       maker = c.from.ensures;
       number = c.begin_play-play.ensures.number ∙ noted.place_is;
       can = can;
-    }) inside (record {
       playing = c.begin_play-play.ensures.playing;
       undone = c.begin_play-play.ensures.undone;
-      timed = timed;
+      timed = omega (arith, its.0, late, c.begin_play-play.ensures.start, c.begin_play-play.ensures.begun);
     })
 
 pub returns-in-Some-clause-planned : goal.returns-in-Some-clause-planned
@@ -64,26 +61,31 @@ returns-in-Some-clause-planned c =
       states = map state_of (set old.clients.items c.args.client (Playing play));
       heard = old.heard;
     } in
-    let states =
-    states-played old.clients.items c.args.client play c.in-Some.ensures.some (record {
-      number_is = c.begin_play-play.ensures.number ∙ made.place_is;
-      rest_is = c.begin_play-play.ensures.rest_is;
-      plan_is = c.begin_play-play.ensures.plan ∙ c.requires.kept;
-      start_is = c.begin_play-play.ensures.start;
-    }) in
+    let e = entry_by c.from.result (Play slot c.args.plan) c.in-Ok.noted.answer in
     record {
       plan = c.args.plan;
       plan_is = c.requires.plan.plan_is;
       done = inr (record {
         room = c.in-Ok.ensures.room;
         answer = c.in-Ok.noted.answer;
-        noted =
-            noted-play {new = new} c.args.plan c.in-Ok.noted.answer late c.from.ensures made.answer_is (record {
-              place_is = made.place_is;
-              entries_are = ap (λ (j : Journal). j.entries) made.journal_is;
-              states_are = states;
-              heard_is = refl;
-            });
+        noted = noted {new = new} (record {
+          made = e;
+          is = ap (λ n. entry_by n e.command e.answer) c.from.ensures
+              ∙ ap (λ n. entry_by c.args.client (Play n c.args.plan) e.answer) late;
+          answered = made.answer_is;
+          place = c.in-Ok.noted.place;
+          place_is = made.place_is;
+          entries_are = ap (λ (j : Journal). j.entries) made.journal_is;
+          states_are = states-played old.clients.items c.args.client (record {
+            start = c.in-Some.start;
+            answer_is = c.in-Some.ensures.some;
+            number_is = c.begin_play-play.ensures.number ∙ made.place_is;
+            rest_is = c.begin_play-play.ensures.rest_is;
+            plan_is = c.begin_play-play.ensures.plan ∙ c.requires.kept;
+            start_is = c.begin_play-play.ensures.start;
+          });
+          heard_is = refl;
+        });
       });
     }
 
@@ -98,7 +100,12 @@ returns-in_default c =
     let y : c.play.new.self.entries ≡ old.book.entries ++ e ∷ [] = ap (λ (j : Journal). j.entries) made.journal_is in
     let now = played-now old.book.entries e slot c.args.plan refl in
     record {
-      machine = day-noted e day y (λ number halts. halts) (omega (arith, now, day.now_heard));
+      machine = day-noted old day (record {
+        e = e;
+        entries_are = y;
+        none = λ number halts. halts;
+        now = omega (arith, now, day.now_heard);
+      });
       kept = record {
         link = ap (λ (j : Journal). link_on (record old { book = j })) made.journal_is;
         steps = ap (λ (j : Journal). j.steps) made.journal_is;
@@ -111,15 +118,19 @@ returns-in_default c =
         done = inr (record {
           room = c.in-Ok.ensures.room;
           answer = c.in-Ok.noted.answer;
-          noted =
-              noted-play c.args.plan c.in-Ok.noted.answer late c.from.ensures made.answer_is (record {
-                place_is = made.place_is;
-                entries_are = y;
-                states_are =
-                    states-same c.args.client (rest_of c.args.rest) c.args.plan (length old.book.entries)
-                    c.in-Ok.noted.answer c.in_default.ensures.none;
-                heard_is = refl;
-              });
+          noted = noted (record {
+            made = e;
+            is = ap (λ n. entry_by n e.command e.answer) c.from.ensures
+                ∙ ap (λ n. entry_by c.args.client (Play n c.args.plan) e.answer) late;
+            answered = made.answer_is;
+            place = c.in-Ok.noted.place;
+            place_is = made.place_is;
+            entries_are = y;
+            states_are =
+                states-same c.args.client (rest_of c.args.rest) c.args.plan (length old.book.entries)
+                c.in-Ok.noted.answer c.in_default.ensures.none;
+            heard_is = refl;
+          });
         });
       };
     }

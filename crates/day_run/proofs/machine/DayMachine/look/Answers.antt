@@ -14,9 +14,12 @@ returns-in-Ok-clause-machine c =
     let noted = c.in-Ok.ensures.noted in
     let e : Entry = record { maker = 0; command = Look (min c.args.slot LATEST_SLOT); answer = c.in-Ok.noted.answer } in
     let now = looked-now old.book.entries e (min c.args.slot LATEST_SLOT) refl in
-    day-noted e c.requires.machine
-    (ap (λ (j : Journal). j.entries) noted.journal_is) (λ number halts. halts)
-    (omega (arith, now, c.requires.machine.now_heard))
+    day-noted old c.requires.machine (record {
+      e = e;
+      entries_are = ap (λ (j : Journal). j.entries) noted.journal_is;
+      none = λ number halts. halts;
+      now = omega (arith, now, c.requires.machine.now_heard);
+    })
 
 pub returns-in-Ok-clause-line : goal.returns-in-Ok-clause-line
 returns-in-Ok-clause-line c =
@@ -26,13 +29,16 @@ returns-in-Ok-clause-line c =
     inr (record {
       room = c.in-Ok.ensures.room;
       answer = c.in-Ok.noted.answer;
-      noted =
-          noted made.answer_is (record {
-            place_is = made.place_is;
-            entries_are = ap (λ (j : Journal). j.entries) made.journal_is;
-            states_are = refl;
-            heard_is = refl;
-          });
+      noted = noted (record {
+        made = e;
+        is = refl;
+        answered = made.answer_is;
+        place = c.in-Ok.noted.place;
+        place_is = made.place_is;
+        entries_are = ap (λ (j : Journal). j.entries) made.journal_is;
+        states_are = refl;
+        heard_is = refl;
+      });
     })
 
 pub returns-in-Err-clause-line : goal.returns-in-Err-clause-line

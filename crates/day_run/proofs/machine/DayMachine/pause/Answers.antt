@@ -7,11 +7,11 @@ use Rattle.admission.specs.Books.{Journal}
 use Rattle.day_run.specs.declared.clients.Client.{Client}
 use Rattle.day_run.specs.Clients.{IsBooked, IsGoing, IsTimed, state_of}
 use Rattle.day_run.proofs.JournalStepLemmas.{day-halted, open-halt}
-use Rattle.day_run.specs.Days.{IsPauseLine, DayState}
+use Rattle.day_run.specs.Days.{IsPauseLine, DayState, entry_by}
 use Rattle.day_run.specs.MachineState.{link_on, day_state_of, reply_text}
 use Rattle.day_run.specs.ClientStates.{ClientState, Idle}
 use Rattle.day_run.specs.declared.machine.LineAnswer.TheVariants as tolds
-use Rattle.day_run.proofs.LineStepLemmas.{no-pause, noted-halt, pause-line}
+use Rattle.day_run.proofs.LineStepLemmas.{no-pause, noted, pause-line}
 use Rattle.day_run.proofs.ClientSweepLemmas.{state-at, states-set}
 use Rattle.day_run.proofs.machine.DayMachine.pause.Goals as goal
 
@@ -30,11 +30,10 @@ returns-in-Some-clause-machine c =
     let its = open-halt client going booked c.in-Some.ensures.some in
     let e : Entry =
     record { maker = c.from.result; command = Halt halt.number halt.keep; answer = c.halt-noted.result.answer } in
-    day-halted {e = e} c.pause.new.self day (record {
+    day-halted old day (record {
+      e = e;
       entries_are = ap (λ (j : Journal). j.entries) c.halt-noted.ensures.noted.journal_is;
-      clients_are = refl;
-      command = refl;
-    }) its inside (record {
+      halt = record { number = halt.number; keep = halt.keep; command = refl; its = its };
       going = c.pause.ensures.going;
       undone = c.pause.ensures.undone;
       quiet = c.in-Some.ensures.quiet;
@@ -65,15 +64,17 @@ returns-in-Some-clause-line c =
     ap state_of c.index_mut.ensures.value ∙ sym (state-at old.clients.items c.args.client client inside) in
     let P : ClientState → Type 0 = λ s. IsPauseLine (link_on old) c.args.client s (day_state_of old) new text in
     subst P at (pause-line client next (c.in-Some.ensures.pause old.heard timed)
-    (noted-halt {link = link_on old} {old = day_state_of old} {new = new} {place = c.halt-noted.result.place}
-    {number = halt.number} {keep = halt.keep} {e = e}
-    made.answer_is (record {
+    (noted {link = link_on old} {old = day_state_of old} {new = new} (record {
+      made = e;
+      is = ap (λ n. record { maker = n; command = e.command; answer = e.answer }) c.from.ensures
+          ∙ ap (entry_by c.args.client e.command) c.halt-noted.ensures.answer;
+      answered = made.answer_is;
+      place = c.halt-noted.result.place;
       place_is = made.place_is;
       entries_are = ap (λ (j : Journal). j.entries) made.journal_is;
       states_are = states-set old.clients.items c.args.client next;
       heard_is = refl;
-    })
-    (record { maker = c.from.ensures; answer = c.halt-noted.ensures.answer; command = refl })))
+    })))
 
 pub returns-in-None-clause-line : goal.returns-in-None-clause-line
 returns-in-None-clause-line c =
