@@ -1,23 +1,29 @@
 -- Clients that are passed over one after the other.
 use Rattle.std.proofs.Common.{◌≡◌, ◌<◌, ◌≤◌, ◌+◌, ℕ, List, [], ◌∷◌, ◌++◌, length, map, take, drop, set, get_or}
 use Rattle.std.proofs.Common.{Option, Some, None, arith, refl, sym, ap, subst, ◌∙◌, inl, inr}
-use Rattle.std.specs.Prelude.{sum_by, OnSome, IfNone}
+use Rattle.std.specs.Prelude.{sum_by, OnSome, IfNone, IfSome}
 use Rattle.std.proofs.lemmas.Bool.{cases_eq}
 use Rattle.std.proofs.lemmas.List.{append_assoc, append-nil, ext_get_or, get_or-map, get_or-set_other}
-use Rattle.std.proofs.lemmas.List.{get_or-set_same, length-map, length-set, length-take, map-set, set-get_or}
-use Rattle.std.proofs.lemmas.List.{take_all, take_at, take_more}
+use Rattle.std.proofs.lemmas.List.{get_or-set_same, length-map, length-set, length-take, map-set, take_all, take_at}
+use Rattle.std.proofs.lemmas.List.{take_more}
 use Rattle.std.proofs.lemmas.List.Sums.{sum_by_push}
 use Rattle.admission.specs.declared.entries.Entry.{Entry}
 use Rattle.day_run.proofs.ListUpdates.{set-at}
-use Rattle.day_run.proofs.OpenBookingLemmas.{timed-set}
+use Rattle.day_run.proofs.JournalStepLemmas.{timed-set, halted-now, open-halt, booked-halt, booked-same, going-set}
 use Rattle.day_run.specs.declared.clients.Client.{Client}
-use Rattle.day_run.specs.declared.clients.Client.TheVariants as clients
-use Rattle.day_run.specs.declared.clients.Halt.{Halt}
-use Rattle.day_run.specs.Clients.{AreSteps, AreTimed, AreUndone, IsStep, IsTimed, IsUndone, halts_of}
-use Rattle.day_run.specs.Clients.{state_after_halt, state_of}
-use Rattle.day_run.specs.Days.{DayState, at_slot, done_halt, halt_entries}
+use Rattle.day_run.specs.declared.clients.HaltedPlays.{HaltedPlays}
+use Rattle.day_run.specs.Clients.{AreSteps, AreTimed, AreUndone, IsStep, IsTimed, IsUndone, halts_of, state_of}
+use Rattle.day_run.specs.Clients.{AreBooked, AreOnBook, IsBooked, IsGoing, IsHaltOf, IsQuiet, IsSameBook, halt_for}
+use Rattle.day_run.specs.Clients.{state_for}
+use Rattle.day_run.specs.Days.{DayState, at_slot, done_halt, halt_entries, entry_by}
 use Rattle.day_run.specs.ClientStates.{ClientState, Idle, after_play, after_sending, sent_between}
+use Rattle.admission.specs.declared.entries.Answer.TheVariants.{Halted}
+use Rattle.admission.specs.declared.entries.Command.TheVariants as commands
+use Rattle.admission.specs.Books.{Journal}
+use Rattle.admission.specs.Histories.{state_after}
+use Rattle.day_run.specs.declared.clients.Halt.{Halt}
 
+-- ---- clients that are passed over one after the other
 -- the clients before a place were changed so, and those from it on weren't
 pub record IsSwept (f : ClientState → ClientState) (upto : ℕ) (old new : List ClientState) : Type 0 where
   pub count : length new ≡ length old
@@ -43,18 +49,6 @@ swept-set {f} {i} {old} {new} {state} inside is swept = record {
   later = λ c from.
       let other : c ≡ i → ⊥ = λ same. absurd (omega (arith, same, from)) in
       get_or-set_other new i c state Idle other ∙ swept.later c (omega (arith, from));
-}
-
-pub swept-same : (f : ClientState → ClientState) (i : ℕ) (old new : List ClientState)
-    → f (get_or old i Idle) ≡ get_or old i Idle → IsSwept f i old new → IsSwept f (i + 1) old new
-swept-same f i old new same swept = record {
-  count = swept.count;
-  past = λ c before within. elim (cases_eq c i) [
-    | inl here ↦ ap (λ k. get_or new k Idle) here ∙ swept.later i (omega arith) ∙ sym same
-        ∙ ap (λ k. f (get_or old k Idle)) (sym here)
-    | inr other ↦ swept.past c (omega (arith, before, other)) within
-  ];
-  later = λ c from. swept.later c (omega (arith, from));
 }
 
 pub swept-all : (f : ClientState → ClientState) (n : ℕ) (old new : List ClientState) → length old ≤ n
@@ -128,8 +122,7 @@ timed-all n slot heard cs most to =
     record { each = λ c none inside. to.past c none (omega (arith, inside, most)) inside }
 
 pub timed-next : {i slot heard : ℕ} {cs : List Client} (client : Client) → i < length cs → IsTimed slot client
-    → AreTimedTo i slot heard cs
-    → AreTimedTo (i + 1) slot heard (set cs i client)
+    → AreTimedTo i slot heard cs → AreTimedTo (i + 1) slot heard (set cs i client)
 timed-next {i} {slot} {heard} {cs} client inside own to = record {
   past = λ c none before within.
       set-at (λ (n : ℕ) (x : Client). IsTimed slot x) {xs = cs} {c = i} {d = c} {x = client} {none = none} (record {
@@ -157,14 +150,12 @@ pub swept-at : {f : ClientState → ClientState} {i : ℕ} (old cs : List Client
 swept-at {i} old cs none inside swept = sym (swept.later i (omega arith)) ∙ state-at cs i none inside
 
 pub swept-inside : (f : ClientState → ClientState) (i : ℕ) (old cs : List Client) → i < length cs
-    → IsSwept f i (map state_of old) (map state_of cs)
-    → i < length (map state_of old)
+    → IsSwept f i (map state_of old) (map state_of cs) → i < length (map state_of old)
 swept-inside f i old cs inside swept = omega (arith, inside, swept.count, length-map cs state_of)
 
 pub steps-next : {i heard slot : ℕ} {old cs : List Client} {new : Client} {sent n : ℕ} (none : Client) → i < length cs
     → (IsTimed heard (get_or cs i none) → IsStep heard slot (get_or cs i none) new n)
-    → AreStepsTo i heard slot old cs sent
-    → AreStepsTo (i + 1) heard slot old (set cs i new) (sent + n)
+    → AreStepsTo i heard slot old cs sent → AreStepsTo (i + 1) heard slot old (set cs i new) (sent + n)
 steps-next {i} {heard} {slot} {old} {cs} {new} {n} none inside stepped to =
     let step = stepped (to.timed.later i none (omega arith) inside) in
     let at : get_or (map state_of old) i Idle ≡ state_of (get_or cs i none) = swept-at old cs none inside to.swept in
@@ -182,8 +173,7 @@ steps-next {i} {heard} {slot} {old} {cs} {new} {n} none inside stepped to =
     }
 
 pub steps-all : {n heard slot : ℕ} {old new : List Client} {sent : ℕ} → length new ≤ n
-    → AreStepsTo n heard slot old new sent
-    → AreSteps heard slot old new sent
+    → AreStepsTo n heard slot old new sent → AreSteps heard slot old new sent
 steps-all {n} {heard} {slot} {old} {new} most to =
     let few : length (map state_of old) ≤ n = omega (arith, most, to.swept.count, length-map new state_of) in
     record {
@@ -193,88 +183,18 @@ steps-all {n} {heard} {slot} {old} {new} most to =
     }
 
 -- the plays of the clients before a place were halted where this asks for it
-pub record AreEndedTo (f : ℕ → ClientState → List Entry) (g : ClientState → ClientState) (slot upto : ℕ)
-    (begun entries : List Entry) (old new : List Client) : Type 0 where
+pub record AreEndedTo (which : HaltedPlays) (slot upto : ℕ) (begun entries : List Entry) (old new : List Client)
+    : Type 0 where
   pub timed : AreTimed slot new
-  pub entries_are : entries ≡ begun ++ halt_entries f 0 (take upto (map state_of old))
-  pub swept : IsSwept g upto (map state_of old) (map state_of new)
+  pub entries_are : entries ≡ begun ++ halt_entries (halt_for which slot) 0 (take upto (map state_of old))
+  pub swept : IsSwept (state_for which slot) upto (map state_of old) (map state_of new)
 
--- a halt is what a sweep asks for, and it is noted
-pub record SweptHalt (f : ℕ → ClientState → List Entry) (g : ClientState → ClientState) (slot i : ℕ)
-    (xs ys : List Entry)
-    (cs : List Client) (none : Client) (halt : Option Halt) : Type 0 where
-  pub has : IsTimed slot (get_or cs i none) → f i (state_of (get_or cs i none)) ≡ halts_of i halt
-  pub goes : IsTimed slot (get_or cs i none)
-      → g (state_of (get_or cs i none)) ≡ state_after_halt halt (state_of (get_or cs i none))
-  pub entries : ys ≡ xs ++ halts_of i halt
-
--- the clients after a halt, or none
-pub record HaltOutcome (i : ℕ) (cs ds : List Client) (halt : Option Halt) : Type 0 where
-  pub some : OnSome halt (ds ≡ set cs i clients.Idle)
-  pub left : IfNone halt (ds ≡ cs)
-
-pub ended-next : {f : ℕ → ClientState → List Entry} {g : ClientState
-    → ClientState} {slot i : ℕ} {begun xs ys : List Entry}
-    {old cs ds : List Client} (none : Client) (halt : Option Halt) → i < length cs
-    → SweptHalt f g slot i xs ys cs none halt → HaltOutcome i cs ds halt
-    → AreEndedTo f g slot i begun xs old cs → AreEndedTo f g slot (i + 1) begun ys old ds
-ended-next {f} {g} {slot} {i} {begun} {ys} {old} {cs} none None inside halts ended to =
-    let timed : IsTimed slot (get_or cs i none) = to.timed.each i none inside in
-    let at : get_or (map state_of old) i Idle ≡ state_of (get_or cs i none) = swept-at old cs none inside to.swept in
-    let within : i < length (map state_of old) = swept-inside g i old cs inside to.swept in
-    subst (λ (l : List Client). AreEndedTo f g slot (i + 1) begun ys old l) (sym ended.left) (record {
-      timed = to.timed;
-      entries_are = entries-more f (map state_of old) begun within (record {
-        before_is = to.entries_are;
-        after_is = halts.entries;
-        here = ap (f i) at ∙ halts.has timed;
-      });
-      swept = swept-same g i (map state_of old) (map state_of cs) (ap g at ∙ halts.goes timed ∙ sym at) to.swept;
-    })
-ended-next {f} {g} {slot} {i} {begun} {ys} {old} {cs} none (Some halt) inside halts ended to =
-    let timed : IsTimed slot (get_or cs i none) = to.timed.each i none inside in
-    let at : get_or (map state_of old) i Idle ≡ state_of (get_or cs i none) = swept-at old cs none inside to.swept in
-    let within : i < length (map state_of old) = swept-inside g i old cs inside to.swept in
-    let S : List ClientState → Type 0 = λ l. IsSwept g (i + 1) (map state_of old) l in
-    subst (λ (l : List Client). AreEndedTo f g slot (i + 1) begun ys old l) (sym ended.some) (record {
-      timed = timed-set slot cs i clients.Idle tt to.timed;
-      entries_are = entries-more f (map state_of old) begun within (record {
-        before_is = to.entries_are;
-        after_is = halts.entries;
-        here = ap (f i) at ∙ halts.has timed;
-      });
-      swept =
-          subst S (sym (states-set cs i clients.Idle))
-          (swept-set within (sym (ap g at ∙ halts.goes timed)) to.swept);
-    })
-
-pub ended-states : {f : ℕ → ClientState → List Entry} {g : ClientState
-    → ClientState} {slot n : ℕ} {begun entries : List Entry}
-    {old new : List Client} → length new ≤ n
-    → AreEndedTo f g slot n begun entries old new → map state_of new ≡ map g (map state_of old)
-ended-states {g} {slot} {n} {begun} {old} {new} most to =
+pub ended-states : {which : HaltedPlays} {slot n : ℕ} {begun entries : List Entry} {old new : List Client}
+    → length new ≤ n → AreEndedTo which slot n begun entries old new
+    → map state_of new ≡ map (state_for which slot) (map state_of old)
+ended-states {which} {slot} {n} {begun} {old} {new} most to =
     let few : length (map state_of old) ≤ n = omega (arith, most, to.swept.count, length-map new state_of) in
-    swept-all g n (map state_of old) (map state_of new) few to.swept
-
--- a client before a place more has a play that isn't done
-undone-with : {i : ℕ} {cs : List Client} (client : Client) → i < length cs → IsUndone client → AreUndone i cs
-    → AreUndone (i + 1) (set cs i client)
-undone-with {i} {cs} client inside own undone = record {
-  each = λ c any before.
-      set-at (λ (n : ℕ) (x : Client). IsUndone x) {xs = cs} {c = i} {d = c} {x = client} {none = any} (record {
-        inside = λ same. inside;
-        own = own;
-        other = λ other. undone.each c any (omega (arith, before, other));
-      });
-}
-
-pub undone-next : {i : ℕ} {cs ds : List Client} (none : Client) (halt : Option Halt) → i < length cs
-    → IfNone halt (IsUndone (get_or cs i none)) → HaltOutcome i cs ds halt → AreUndone i cs → AreUndone (i + 1) ds
-undone-next {i} {cs} none None inside own ended undone =
-    let D : List Client → Type 0 = λ l. AreUndone (i + 1) l in
-    subst D (sym (ended.left ∙ sym (set-get_or cs i none))) (undone-with (get_or cs i none) inside own undone)
-undone-next {i} {cs} none (Some halt) inside own ended undone =
-    subst (λ (l : List Client). AreUndone (i + 1) l) (sym ended.some) (undone-with clients.Idle inside tt undone)
+    swept-all (state_for which slot) n (map state_of old) (map state_of new) few to.swept
 
 -- a list as long as another one is written in its place
 written : {X : Type 0} → (n : ℕ) (es xs : List X) → length es ≡ n → take n (es ++ drop (length es) xs) ≡ es
@@ -285,7 +205,7 @@ moment-as slot entries states = record { entries = entries; states = states; hea
 
 moment-same : {xs ys : List Entry} {one other : List ClientState} (slot : ℕ) → xs ≡ ys → one ≡ other
     → moment-as slot xs one ≡ moment-as slot ys other
-moment-same {ys} {one} {other} slot e s = ap (λ l. moment-as slot l one) e ∙ ap (moment-as slot ys) s
+moment-same slot e s = cc
 
 -- a slot as it is taken: all clients are stepped, and then the plays that are done are halted
 pub record SlotSwept (n : ℕ) (ys : List Entry) (old xs ds zs : List Client) (heard slot sent : ℕ) (entries : List Entry)
@@ -315,13 +235,11 @@ as-many f old new are =
 
 -- a day at a slot
 pub slot-moment : {n : ℕ} {ys : List Entry} {old xs ds zs : List Client} {heard slot sent : ℕ} (entries : List Entry)
-    (es : List Client) → SlotSwept n ys old xs ds zs heard slot sent entries es
-    → record {
+    (es : List Client) → SlotSwept n ys old xs ds zs heard slot sent entries es → record {
       entries = ys;
       states = map state_of (take n (es ++ drop (length es) (take n (ds ++ drop (length ds) old))));
       heard = slot;
-    }
-    ≡ at_slot (record { entries = entries; states = map state_of old; heard = heard }) slot
+    } ≡ at_slot (record { entries = entries; states = map state_of old; heard = heard }) slot
 slot-moment {n} {ys} {old} {ds} {zs} {heard} {slot} entries es swept =
     let steps = stepped heard le (subst (AreTimed heard) (sym x) timed) in
     let d-states : map state_of ds ≡ map (after_sending slot) (map state_of old) =
@@ -340,3 +258,117 @@ slot-moment {n} {ys} {old} {ds} {zs} {heard} {slot} entries es swept =
     (ap (map state_of) (written n es (take n (ds ++ drop (length ds) old)) e-len) ∙ s)
   where
     open swept use {count as len, same as x, written as z, le, timed, stepped, ended, left, quiet}
+
+-- ---- the plays of clients that are halted one after the other
+-- the plays of the clients before a place were halted where this is asked for, and all is sound
+pub record AreHaltedTo (which : HaltedPlays) (upto : ℕ) (begun book : Journal) (old new : List Client) : Type 0 where
+  pub sound : AreOnBook book.entries new
+  pub kept : IsSameBook begun book
+  pub undone : AreUndone upto new
+  pub ended : (slot : ℕ) → AreTimed slot old
+      → AreEndedTo which slot upto begun.entries book.entries old new
+
+-- a client that is passed: its halt, if it has one, and what it is then
+pub record PassedClient (which : HaltedPlays) : Type 0 where
+  pub place : ℕ
+  pub before : Journal
+  pub after : Journal
+  pub clients : List Client
+  pub none : Client
+  pub halt : Option Halt
+  pub next : Client
+  pub inside : place < length clients
+  pub its : IfSome halt (IsHaltOf (get_or clients place none))
+  pub quiet : OnSome halt (IsQuiet next)
+  pub same : IfNone halt (next ≡ get_or clients place none)
+  pub going : IsGoing (get_or clients place none) → IsGoing next
+  pub undone : IsUndone next
+  pub timed : (slot : ℕ) → IsTimed slot (get_or clients place none) → IsTimed slot next
+  pub has : (slot : ℕ) → IsGoing (get_or clients place none) → IsTimed slot (get_or clients place none)
+      → halt_for which slot place (state_of (get_or clients place none)) ≡ halts_of place halt
+  pub goes : (slot : ℕ) → IsGoing (get_or clients place none) → IsTimed slot (get_or clients place none)
+      → state_for which slot (state_of (get_or clients place none)) ≡ state_of next
+  pub steps : after.steps ≡ before.steps
+  pub limit : after.limit ≡ before.limit
+  pub entries : after.entries ≡ before.entries ++ halts_of place halt
+
+passed-booked : {which : HaltedPlays} (passed : PassedClient which) → AreOnBook passed.before.entries passed.clients
+    → AreBooked passed.after.entries (set passed.clients passed.place passed.next)
+passed-booked passed sound = by-halt halt its entries quiet same
+  where
+    open passed use {place, before, after, clients as cs, none, halt, next, inside, its, quiet, same, entries}
+
+    by-halt : (h : Option Halt) → IfSome h (IsHaltOf (get_or cs place none))
+        → after.entries ≡ before.entries ++ halts_of place h → OnSome h (IsQuiet next)
+        → IfNone h (next ≡ get_or cs place none) → AreBooked after.entries (set cs place next)
+    by-halt None its is quiet same =
+        subst (λ (l : List Entry). AreBooked l (set cs place next)) (sym (is ∙ append-nil before.entries))
+        (booked-same before.entries cs place next
+        (subst (IsBooked before.entries place) (sym same) (sound.booked.each place none inside)) sound.booked)
+    by-halt (Some h) its is quiet same =
+        let own = open-halt (get_or cs place none) (sound.going.each place none inside)
+        (sound.booked.each place none inside) its in
+        subst (λ (l : List Entry). AreBooked l (set cs place next)) (sym is)
+        (booked-halt {e = entry_by place (commands.Halt h.number h.keep) Halted} next
+        (record { number = h.number; keep = h.keep; command = refl; its = own }) quiet sound.booked)
+
+passed-now : (i : ℕ) (xs ys : List Entry) (halt : Option Halt) → ys ≡ xs ++ halts_of i halt
+    → (state_after ys).now ≡ (state_after xs).now
+passed-now i xs ys None is = ap (λ (l : List Entry). (state_after l).now) (is ∙ append-nil xs)
+passed-now i xs ys (Some halt) is =
+    ap (λ (l : List Entry). (state_after l).now) is
+    ∙ halted-now xs (entry_by i (commands.Halt halt.number halt.keep) Halted) halt.number halt.keep refl
+
+-- it has come to a slot as the sweep asks
+passed-ended : {which : HaltedPlays} {old : List Client} (passed : PassedClient which) (begun : Journal) (slot : ℕ)
+    → IsGoing (get_or passed.clients passed.place passed.none)
+    → AreEndedTo which slot passed.place begun.entries passed.before.entries old passed.clients
+    → AreEndedTo which slot (passed.place + 1) begun.entries passed.after.entries old
+    (set passed.clients passed.place passed.next)
+passed-ended {which} {old} passed begun slot own to =
+    let t : IsTimed slot (get_or cs place none) = to.timed.each place none inside in
+    let at : get_or (map state_of old) place Idle ≡ state_of (get_or cs place none) =
+    swept-at old cs none inside to.swept in
+    let within = swept-inside (state_for which slot) place old cs inside to.swept in
+    record {
+      timed = timed-set slot cs place next (timed slot t) to.timed;
+      entries_are = entries-more (halt_for which slot) (map state_of old) begun.entries within (record {
+        before_is = to.entries_are;
+        after_is = entries;
+        here = ap (halt_for which slot place) at ∙ has slot own t;
+      });
+      swept = subst (IsSwept (state_for which slot) (place + 1) (map state_of old)) (sym (states-set cs place next))
+          (swept-set within (sym (ap (state_for which slot) at ∙ goes slot own t)) to.swept);
+    }
+  where
+    open passed use {place, clients as cs, none, next, inside, timed, has, goes, entries}
+
+-- one client more
+pub passed-next : {which : HaltedPlays} {begun : Journal} {old new : List Client} (passed : PassedClient which)
+    → new ≡ set passed.clients passed.place passed.next
+    → AreHaltedTo which passed.place begun passed.before old passed.clients
+    → AreHaltedTo which (passed.place + 1) begun passed.after old new
+passed-next {which} {begun} {old} passed new_is to =
+    let own : IsGoing (get_or cs place none) = to.sound.going.each place none inside in
+    subst (AreHaltedTo which (place + 1) begun after old) (sym new_is) (record {
+      sound = record {
+        going = going-set cs place next (going own) to.sound.going;
+        booked = passed-booked passed to.sound;
+      };
+      kept = record {
+        steps = steps ∙ to.kept.steps;
+        limit = limit ∙ to.kept.limit;
+        now = passed-now place before.entries after.entries halt entries ∙ to.kept.now;
+      };
+      undone = record {
+        each = λ c any below.
+            set-at (λ (n : ℕ) (x : Client). IsUndone x) {xs = cs} {c = place} {d = c} {x = next} {none = any} (record {
+              inside = λ same. inside;
+              own = undone;
+              other = λ other. to.undone.each c any (omega (arith, below, other));
+            });
+      };
+      ended = λ slot ts. passed-ended passed begun slot own (to.ended slot ts);
+    })
+  where
+    open passed use {place, before, after, clients as cs, none, halt, next, inside, going, undone, steps, limit, entries}

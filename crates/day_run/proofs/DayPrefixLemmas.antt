@@ -16,10 +16,9 @@ use Rattle.day_script.specs.declared.scripts.Line.{Line}
 use Rattle.day_run.specs.DayLaws.{SentIsBookedAfter}
 use Rattle.day_script.specs.Scripts.{AreClients, IsClient, AreLines, StandsAfter, latest_slot}
 use Rattle.day_run.specs.Days.{AreLineSteps, IsDay, SharedLink, DayState, last_halts, sent_up_to}
-use Rattle.day_run.proofs.LineBalance.{day-sent}
-use Rattle.day_run.proofs.LineOutcomes.{HasGrown, grown-on, kept-grown, line-outcome, outcome-grown, outcome-heard}
-use Rattle.day_run.proofs.LineOutcomes.{run-keeps}
-use Rattle.day_run.proofs.ScriptLineFacts.{LineStep, LinesTaken, StandingLines, first-standing, rest-standing}
+use Rattle.day_run.proofs.LineOutcomes.{day-sent, HasGrown, grown-on, kept-grown, line-outcome, outcome-grown}
+use Rattle.day_run.proofs.LineOutcomes.{outcome-heard, run-keeps}
+use Rattle.day_run.proofs.ScriptLines.{LineStep, LinesTaken, StandingLines, first-standing, rest-standing}
 
 run-grown : {n : ℕ} (link : SharedLink) (ls : List Line) (ts : List (List ℕ)) (old new : DayState)
     → StandingLines old.heard n ls → AreLineSteps link ls ts old new → HasGrown old.entries new.entries
@@ -76,8 +75,7 @@ front-legal {steps} xs ys legal =
 
 -- what is sent is within the capacity
 pub day-within : {link : SharedLink} {n : ℕ} (taken : LinesTaken link n) (slot : ℕ)
-    → IsLegal link.steps taken.moment.entries → taken.moment.heard ≤ slot
-    → sent_up_to taken.moment slot
+    → IsLegal link.steps taken.moment.entries → taken.moment.heard ≤ slot → sent_up_to taken.moment slot
     ≤ sum_by (capacity_at link.steps) (range_with_len (taken.moment.heard + 1) (slot - taken.moment.heard))
 day-within {link} taken slot legal later =
     let slots = range_with_len (taken.moment.heard + 1) (slot - taken.moment.heard) in

@@ -16,9 +16,8 @@ use Rattle.day_run.specs.BookingBalance.{IsReady}
 use Rattle.day_run.specs.Days.{SharedLink, DayState, at_slot, halts_at, last_halts, last_journal}
 use Rattle.day_run.specs.FairDays.{AreTurns, IsTurn, FairTurn, after_turn, most_up_to, turn_booked, turn_peak}
 use Rattle.day_run.specs.FairDays.{turn_sent}
-use Rattle.day_run.proofs.LineBalance.{outcome-ready, ready-sent, slot-ready}
-use Rattle.day_run.proofs.LineOutcomes.{HasGrown, grown-on, kept-grown, outcome-grown, outcome-heard, turn-outcome}
-use Rattle.day_run.proofs.LineOutcomes.{turn_step}
+use Rattle.day_run.proofs.LineOutcomes.{outcome-ready, ready-sent, slot-ready, HasGrown, grown-on, kept-grown}
+use Rattle.day_run.proofs.LineOutcomes.{outcome-grown, outcome-heard, turn-outcome, turn_step}
 
 -- ---- what is sent is what is booked
 -- the moment after a turn's slot: a slot comes, or none
@@ -45,8 +44,7 @@ pub turn-ready : {link : SharedLink} {words : ℕ → ℕ} {turn : FairTurn} →
 turn-ready {link} {turn} is ready = outcome-ready (turn_step link turn) (turn-outcome turn is) (mid-ready is ready)
 
 pub turns-balanced : {old : DayState} (link : SharedLink) (words : ℕ → ℕ) (turns : List FairTurn) (new : DayState)
-    → AreTurns link words turns old new → IsReady old
-    → sum_by turn_sent turns ≡ sum_by turn_booked turns
+    → AreTurns link words turns old new → IsReady old → sum_by turn_sent turns ≡ sum_by turn_booked turns
 turns-balanced link words [] new run ready = refl
 turns-balanced link words (turn ∷ turns) new run ready =
     let begun : IsReady turn.old = subst IsReady (sym run.0) ready in
@@ -88,8 +86,7 @@ pub record GrownJournal (steps : List CapStep) (journal : List Entry) (moment : 
   pub capacity : (t : ℕ) → capacity_at steps t ≤ most
 
 moment-within : {steps : List CapStep} {journal : List Entry} {m : DayState} {most : ℕ} (slot : ℕ)
-    → GrownJournal steps journal m most
-    → most_up_to m slot ≤ most
+    → GrownJournal steps journal m most → most_up_to m slot ≤ most
 moment-within {steps} {journal} {m} {most} slot given =
     most-of (booked_in (state_after m.entries)) most 0 (range_with_len (m.heard + 1) (slot - m.heard)) (omega arith)
     (λ t.

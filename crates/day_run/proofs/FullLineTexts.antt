@@ -1,16 +1,23 @@
 -- Which lines of a day say that the journal is full, and what they then say.
-use Rattle.std.proofs.Common.{◌≡◌, ◌<◌, ◌≤◌, ◌+◌, ◌^◌, ◌%◌, ℕ, true, false, true≢false, List, [], ◌++◌, length, take}
-use Rattle.std.proofs.Common.{Option, None, arith, refl, sym, ap, ◌∙◌, inl, inr}
-use Rattle.std.specs.Prelude.{◌⊎◌, codes, decimal}
+use Rattle.std.proofs.Common.{◌≡◌, ◌<◌, ◌+◌, ◌^◌, ℕ, false, ◌&&◌, ◌==◌, List, [], ◌∷◌, ◌++◌, take, length, arith}
+use Rattle.std.proofs.Common.{refl, ap, ◌∙◌, inl, inr, append_assoc, ◌≤◌, ◌%◌, true, true≢false, Option, None, sym}
+use Rattle.std.specs.Prelude.{codes, decimal, ◌⊎◌}
 use Rattle.std.specs.Str.{bytes_eq}
-use Rattle.std.proofs.lemmas.List.{append-nil, append_assoc}
+use Rattle.std.proofs.lemmas.Bool.{cases_Bool, eqb-true}
+use Rattle.std.proofs.lemmas.Fmt.{decimal_is_IsNumeral}
+use Rattle.std.proofs.lemmas.Str.Parse.{digit_from_value}
+use Rattle.std.specs.Str.Parse.{AllDigits}
+use Rattle.admission.specs.declared.entries.Entry.{Entry}
+use Rattle.report.specs.EntryLines.{answer_text, command_text, entry_line}
+use Rattle.vod_base.specs.Fields.{field}
+use Rattle.report.specs.JournalTexts.{journal_text}
+use Rattle.day_run.specs.FairDays.{is_full_line, IsDone, line_drawn}
+use Rattle.std.proofs.lemmas.List.{append-nil}
 use Rattle.early_start.specs.declared.Tried.{Tried}
 use Rattle.wire_curve.specs.declared.film.CurveFault.{CurveFault}
 use Rattle.wire_curve.specs.declared.film.CurveFault.TheVariants.{NoPictures}
-use Rattle.admission.specs.declared.entries.Entry.{Entry}
 use Rattle.admission.specs.Books.{places_taken}
 use Rattle.admission.specs.Histories.{open_count}
-use Rattle.report.specs.EntryLines.{entry_line}
 use Rattle.day_script.specs.declared.scripts.Line.{Line}
 use Rattle.day_script.specs.declared.scripts.Line.TheVariants as lines
 use Rattle.day_run.specs.declared.fairs.TheConstants.{BUFFER_SIZES, LEAST_BUFFER}
@@ -18,12 +25,46 @@ use Rattle.day_run.specs.BookingBalance.{IsReady}
 use Rattle.day_run.specs.ClientStates.{ClientState, Idle, Playing, Pausing, Paused, Rest}
 use Rattle.day_run.specs.Days.{IsAsked, IsFull, IsLine, IsLookLine, IsNoted, IsOfferLine, IsPauseLine, IsResumeLine}
 use Rattle.day_run.specs.Days.{IsTold, SharedLink, DayState, rest_at, slot_lines, state_at}
-use Rattle.day_run.specs.FairDays.{IsDone, is_full_line, line_drawn}
 use Rattle.day_run.specs.JournalLaws.{IsFullJournal, places_needed}
 use Rattle.day_script.specs.LineTexts.{fault_text, full_text, offer_text}
-use Rattle.day_run.proofs.FullJournalLines.{entry-other}
-use Rattle.day_run.proofs.ScriptLineFacts.{IsPlayTaken, LineStep}
+use Rattle.day_run.proofs.ScriptLines.{IsPlayTaken, LineStep}
 
+-- ---- which of the texts that clients are answered say that the journal is full
+digit-other : (c : ℕ) → c < 58 → (c == 114) ≡ false
+digit-other c digit = elim (cases_Bool (c == 114)) [
+  | inl same ↦ absurd (omega (arith, eqb-true c 114 same, digit))
+  | inr other ↦ other
+]
+
+digits-other : (ds rest : List ℕ) → 0 < length ds → AllDigits 10 ds → is_full_line (ds ++ rest) ≡ false
+digits-other [] rest some digits = absurd (omega (arith, some))
+digits-other (x ∷ ds) rest some digits =
+    let digit = digit_from_value x digits.0 in
+    ap (λ r. r && bytes_eq (take 14 (ds ++ rest)) (codes "efused journal")) (digit-other x (omega (arith, digit)))
+
+pub entry-other : (place : ℕ) (entry : Entry) (rest : List ℕ) → place < 2 ^ 64
+    → is_full_line (entry_line place entry ++ rest) ≡ false
+entry-other place entry rest small =
+    let numeral = (decimal_is_IsNumeral place small).0 in
+    let number = decimal place in
+    let seat = field (codes " seat=") entry.maker in
+    let command = command_text entry.command in
+    let answer = answer_text entry.answer in
+    let end = codes "\n" in
+    let parts : ((((number ++ seat) ++ command) ++ answer) ++ end) ++ rest
+    ≡ number ++ (seat ++ (command ++ (answer ++ (end ++ rest)))) =
+    append_assoc (((number ++ seat) ++ command) ++ answer) end rest
+    ∙ append_assoc ((number ++ seat) ++ command) answer (end ++ rest)
+    ∙ append_assoc (number ++ seat) command (answer ++ (end ++ rest))
+    ∙ append_assoc number seat (command ++ (answer ++ (end ++ rest))) in
+    ap is_full_line parts ∙ digits-other number (seat ++ (command ++ (answer ++ (end ++ rest)))) numeral.0 numeral.1
+
+pub entries-other : (place : ℕ) (entries : List Entry) → place < 2 ^ 64
+    → is_full_line (journal_text place entries) ≡ false
+entries-other place [] small = refl
+entries-other place (e ∷ es) small = entry-other place e (journal_text (place + 1) es) small
+
+-- ---- which lines of a day say that the journal is full, and what they then say
 -- the line says something else, or the journal is full
 abbrev OtherOrFull : LineStep → ℕ → Type 0
 OtherOrFull step needed = (is_full_line step.text ≡ false) ⊎ IsFull step.link needed step.old step.new step.text

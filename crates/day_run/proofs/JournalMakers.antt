@@ -12,7 +12,7 @@ use Rattle.day_run.specs.Days.{IsAsked, IsLine, IsLookLine, IsNoted, IsPauseLine
 use Rattle.day_run.specs.Days.{done_halt, halt_by, halt_entries, halts_at, open_halt, rest_at, state_at}
 use Rattle.day_run.specs.JournalLaws.{HasItsMaker, IsMadeBy}
 use Rattle.day_run.proofs.LineOutcomes.{offer-kept}
-use Rattle.day_run.proofs.ScriptLineFacts.{IsPlayTaken, LineStep}
+use Rattle.day_run.proofs.ScriptLines.{IsPlayTaken, LineStep}
 
 none-made : {maker : ℕ} {old new : DayState} → new ≡ old → IsMadeBy maker old new
 none-made {maker} {old} kept = record {

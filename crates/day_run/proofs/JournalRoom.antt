@@ -15,10 +15,9 @@ use Rattle.day_run.specs.BookingBalance.{IsReady}
 use Rattle.day_run.specs.Days.{SharedLink, DayState, entry_by, last_journal}
 use Rattle.day_run.specs.FairDays.{IsTurn, FairTurn}
 use Rattle.day_run.proofs.FairLaws.{mid-ready, turn-mid}
-use Rattle.day_run.proofs.LineBalance.{halted-held, morning-ready, outcome-ready}
-use Rattle.day_run.proofs.LineOutcomes.{LineOutcome, Kept, Asked, Stopped, Looks, Reached, line-outcome, taken-keeps}
-use Rattle.day_run.proofs.LineOutcomes.{turn-outcome, turn_step}
-use Rattle.day_run.proofs.ScriptLineFacts.{LineStep, LinesTaken}
+use Rattle.day_run.proofs.LineOutcomes.{halted-held, morning-ready, outcome-ready, LineOutcome, Kept, Asked, Stopped}
+use Rattle.day_run.proofs.LineOutcomes.{Looks, Reached, line-outcome, taken-keeps, turn-outcome, turn_step}
+use Rattle.day_run.proofs.ScriptLines.{LineStep, LinesTaken}
 use Rattle.day_run.proofs.SentBookedLemmas.{open_one}
 use Rattle.day_run.proofs.SlotBalance.{held-play, last-halted, places-halt, slot-halted}
 

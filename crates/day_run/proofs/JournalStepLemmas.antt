@@ -1,29 +1,130 @@
 -- A day after one more entry of its journal.
-use Rattle.std.proofs.Common.{◌≡◌, ◌≤◌, ℕ, max, List, [], ◌∷◌, ◌++◌, length, set, ◌-◌, true, Option, IsSomeAnd, arith}
-use Rattle.std.proofs.Common.{refl, sym, ap, subst, ◌∙◌}
-use Rattle.std.proofs.lemmas.List.{length-set, length-append, get_or_push}
-use Rattle.plan_cert.specs.declared.Segment.{Segment}
+use Rattle.std.proofs.Common.{◌≡◌, ◌≤◌, ℕ, true, List, [], ◌∷◌, ◌++◌, length, get_or, set, Option, Some, IsSomeAnd}
+use Rattle.std.proofs.Common.{arith, sym, ap, subst, ◌∙◌, max, ◌-◌, refl}
+use Rattle.std.proofs.lemmas.List.{length-append, get_or_append_left, length-set, get_or_push}
 use Rattle.plan_cert.specs.PlanSlots.{total_bytes}
+use Rattle.admission.specs.declared.entries.Command.TheVariants.{Halt, Play, Look}
+use Rattle.admission.specs.declared.entries.Entry.{Entry}
+use Rattle.admission.specs.Histories.{Halts, state_after}
+use Rattle.admission.specs.Machine.{CanHalt, AdmittedPlay, State, play_numbered, next_state}
+use Rattle.admission.proofs.PlayLookup.{found-next}
+use Rattle.admission.proofs.Halts.{halting}
+use Rattle.admission.proofs.HistoryPrefixes.{next_of, state-push}
+use Rattle.day_run.proofs.ListUpdates.{each-set}
+use Rattle.day_run.specs.declared.clients.Client.{Client}
+use Rattle.day_run.specs.declared.clients.Client.TheVariants.{Playing}
+use Rattle.day_run.specs.Clients.{AreBooked, AreGoing, AreTimed, AreUndone, IsBooked, IsGoing, IsOpenOf, IsQuiet}
+use Rattle.day_run.specs.Clients.{IsTimed, IsUndone, IsHaltOf, IsPlaying}
+use Rattle.plan_cert.specs.declared.Segment.{Segment}
 use Rattle.admission.specs.declared.entries.Answer.{Answer}
 use Rattle.admission.specs.declared.entries.Answer.TheVariants.{Admitted}
 use Rattle.admission.specs.declared.entries.Command.{Command}
-use Rattle.admission.specs.declared.entries.Command.TheVariants.{Play, Halt, Look}
-use Rattle.admission.specs.declared.entries.Entry.{Entry}
-use Rattle.admission.specs.Histories.{Halts, state_after}
-use Rattle.admission.specs.Machine.{CanHalt, AdmittedPlay, State, next_state}
-use Rattle.admission.proofs.Halts.{halting}
-use Rattle.admission.proofs.HistoryPrefixes.{state-push}
-use Rattle.day_run.specs.declared.clients.Client.{Client}
 use Rattle.day_run.specs.declared.clients.Client.TheVariants as clients
 use Rattle.day_run.specs.declared.clients.Halt.{Halt as ClientHalt}
 use Rattle.day_run.specs.declared.clients.ClientPlay.{ClientPlay}
-use Rattle.day_run.specs.Clients.{AreBooked, IsBooked, IsGoing, IsHaltOf, IsOpenOf, IsPlaying, IsQuiet, IsTimed}
-use Rattle.day_run.specs.Clients.{IsUndone}
 use Rattle.day_run.specs.MachineState.{IsDayMachine, IsSoundDay}
 use Rattle.day_run.specs.declared.machine.DayMachine.{DayMachine}
-use Rattle.day_run.proofs.OpenBookingLemmas.{HaltsOpenPlay, booked-halt, booked-more, booked-set, going-set}
-use Rattle.day_run.proofs.OpenBookingLemmas.{timed-set, undone-set}
 
+-- ---- the plays that a book has open for the clients of a day, after one more entry
+-- an entry that doesn't halt a play leaves it open
+pub open-push : {xs : List Entry} {c number bytes : ℕ} (e : Entry) → IsOpenOf xs c number bytes
+    → (Halts number e.command → ⊥) → IsOpenOf (xs ++ e ∷ []) c number bytes
+open-push {xs} {c} {number} {bytes} e its apart =
+    let h = halting (state_after xs) number bytes its.can in
+    let still : play_numbered number (next_of (state_after xs) (length xs) e).held ≡ Some h.held =
+    found-next (length xs) e.command e.answer (record { is = h.is; unhalted = apart }) in
+    let P : Option AdmittedPlay → Type 0 =
+    λ o. IsSomeAnd o (λ (h : AdmittedPlay). (h.is_open ≡ true) × (bytes ≤ total_bytes h.play.segments)) in
+    let can : CanHalt (next_of (state_after xs) (length xs) e) number bytes =
+    subst P (sym still) (h.is_open, h.small) in
+    record {
+      inside = omega (arith, length-append xs (e ∷ []), its.inside);
+      maker = λ none. ap (λ (x : Entry). x.maker) (get_or_append_left xs (e ∷ []) none number its.inside)
+          ∙ its.maker none;
+      can = subst (λ (s : State). CanHalt s number bytes) (sym (state-push xs e)) can;
+    }
+
+-- an entry halts none but a client's plays
+pub record HaltsNone (xs : List Entry) (client : ℕ) (e : Entry) : Type 0 where
+  pub apart : (number : ℕ) → Halts number e.command → ((none : Entry) → (get_or xs number none).maker ≡ client) → ⊥
+
+booked-push : (xs : List Entry) (c : ℕ) (client : Client) (e : Entry) → HaltsNone xs c e → IsBooked xs c client
+    → IsBooked (xs ++ e ∷ []) c client
+booked-push xs c (Playing play) e none booked =
+    open-push e booked (λ halts. none.apart play.number halts booked.maker)
+booked-push xs c _ e none booked = tt
+
+-- an entry that halts nothing
+pub booked-more : (xs : List Entry) (clients : List Client) (e : Entry)
+    → ((number : ℕ) → Halts number e.command → ⊥) → AreBooked xs clients → AreBooked (xs ++ e ∷ []) clients
+booked-more xs clients e none booked =
+    record {
+      each =
+          λ c d inside. booked-push xs c (get_or clients c d) e
+          (record { apart = λ number halts _. none number halts }) (booked.each c d inside);
+    }
+
+-- a client is put in the place of one, whose play alone an entry may halt
+pub booked-set : {xs : List Entry} {clients : List Client} {c : ℕ} {e : Entry} (client : Client)
+    → ((d : ℕ) → (d ≡ c → ⊥) → HaltsNone xs d e) → IsBooked (xs ++ e ∷ []) c client → AreBooked xs clients
+    → AreBooked (xs ++ e ∷ []) (set clients c client)
+booked-set {xs} {clients} {c} {e} client others own booked = record {
+  each = each-set (IsBooked (xs ++ e ∷ [])) clients c client own
+      (λ d none inside other. booked-push xs d (get_or clients d none) e (others d other) (booked.each d none inside));
+}
+
+quiet-booked : (xs : List Entry) (c : ℕ) (client : Client) → IsQuiet client → IsBooked xs c client
+quiet-booked xs c (Playing play) quiet = absurd quiet
+quiet-booked xs c _ quiet = tt
+
+-- an entry halts a play of a client that may be halted so
+pub record HaltsOpenPlay (xs : List Entry) (c : ℕ) (e : Entry) : Type 0 where
+  pub number : ℕ
+  pub keep : ℕ
+  pub command : e.command ≡ Halt number keep
+  pub its : IsOpenOf xs c number keep
+
+-- the client is quiet from then on
+pub booked-halt : {xs : List Entry} {clients : List Client} {c : ℕ} {e : Entry} (client : Client)
+    → HaltsOpenPlay xs c e → IsQuiet client → AreBooked xs clients → AreBooked (xs ++ e ∷ []) (set clients c client)
+booked-halt {xs} {c} {e} client halt quiet booked =
+    booked-set client
+    (λ d other. record {
+      apart = λ n halts maker.
+          let same : halt.number ≡ n = subst (Halts n) halt.command halts in
+          other (sym (maker e) ∙ ap (λ k. (get_or xs k e).maker) (sym same) ∙ halt.its.maker e);
+    })
+    (quiet-booked (xs ++ e ∷ []) c client quiet) booked
+
+-- one client is put in the place of another
+pub going-set : (clients : List Client) (c : ℕ) (client : Client) → IsGoing client → AreGoing clients
+    → AreGoing (set clients c client)
+going-set clients c client own going = record {
+  each = each-set (λ (n : ℕ) (x : Client). IsGoing x) clients c client own
+      (λ d none inside other. going.each d none inside);
+}
+
+pub undone-set : (clients : List Client) (c : ℕ) (client : Client) → IsUndone client
+    → AreUndone (length clients) clients → AreUndone (length (set clients c client)) (set clients c client)
+undone-set clients c client own undone = record {
+  each = each-set (λ (n : ℕ) (x : Client). IsUndone x) clients c client own
+      (λ d none inside other. undone.each d none inside);
+}
+
+pub booked-same : (xs : List Entry) (clients : List Client) (c : ℕ) (client : Client) → IsBooked xs c client
+    → AreBooked xs clients → AreBooked xs (set clients c client)
+booked-same xs clients c client own booked = record {
+  each = each-set (IsBooked xs) clients c client own (λ d none inside other. booked.each d none inside);
+}
+
+pub timed-set : (heard : ℕ) (clients : List Client) (c : ℕ) (client : Client) → IsTimed heard client
+    → AreTimed heard clients → AreTimed heard (set clients c client)
+timed-set heard clients c client own timed = record {
+  each = each-set (λ (n : ℕ) (x : Client). IsTimed heard x) clients c client own
+      (λ d none inside other. timed.each d none inside);
+}
+
+-- ---- a day after one more entry of its journal
 now-halt : (state : State) (place number keep : ℕ) (answer : Answer)
     → (next_state state place (Halt number keep) answer).now ≡ state.now
 now-halt state place number keep (Admitted start) = refl
@@ -73,8 +174,7 @@ fewer {xs} {c} {number} {bytes} {keep} le its =
 
 -- the play of a client that is halted so
 pub open-halt : {xs : List Entry} {c : ℕ} {halt : ClientHalt} (client : Client) → IsGoing client
-    → IsBooked xs c client → IsHaltOf client halt
-    → IsOpenOf xs c halt.number halt.keep
+    → IsBooked xs c client → IsHaltOf client halt → IsOpenOf xs c halt.number halt.keep
 open-halt {c} {halt} clients.Idle going booked is = absurd is
 open-halt {xs} {c} {halt} (clients.Playing play) going booked is =
     subst (λ (n : ℕ). IsOpenOf xs c n halt.keep) (sym is.0) (fewer (omega (arith, is.1, going.whole)) booked)

@@ -27,8 +27,8 @@ use Rattle.day_script.specs.LineTexts.{full_text, state_text}
 use Rattle.day_run.specs.MachineState.{reply_text}
 use Rattle.day_run.specs.ClientStates.{Idle, Playing, Pausing, Rest, ClientState, IfBusy, after_sending, is_busy}
 use Rattle.day_run.proofs.ClientSweepLemmas.{state-at, states-set}
-use Rattle.day_run.proofs.ScriptLineFacts.{ClientAsks}
-use Rattle.day_run.proofs.PacerTimingLemmas.{done-sent}
+use Rattle.day_run.proofs.ScriptLines.{ClientAsks}
+use Rattle.day_run.proofs.PauseLemmas.{done-sent}
 
 -- the entries after those of a moment
 pub more-entries : (xs ys es : List Entry) → ys ≡ xs ++ es → drop (length xs) ys ≡ es
@@ -48,9 +48,7 @@ told-full {old} {new} full above entries opened kept = record {
   full = above;
   told = record {
     kept = kept;
-    text_is =
-        ap (λ n. full_text (record { entries = n; live = full.live })) entries
-        ∙ ap (λ n. full_text (record { entries = length old.entries; live = n })) opened;
+    text_is = ap full_text (cc (entries, opened));
   };
 }
 
@@ -102,8 +100,7 @@ states-played {number} {rest} {plan} {play} cs c begun =
     ∙ ap (λ a. with_play c (rest_of rest) plan number a (map state_of cs)) (sym begun.answer_is)
 
 pub states-same : {states : List ClientState} (c : ℕ) (rest : Rest) (plan : List Segment) (number : ℕ)
-    (answer : Answer) → is_admission answer ≡ false
-    → states ≡ with_play c rest plan number answer states
+    (answer : Answer) → is_admission answer ≡ false → states ≡ with_play c rest plan number answer states
 states-same c rest plan number (Admitted start) not = cc not
 states-same c rest plan number _ not = refl
 
@@ -111,8 +108,7 @@ states-same c rest plan number _ not = refl
 pub pause-line : {link : SharedLink} {c : ℕ} {halt : Halt} {old new : DayState} {text : List ℕ} (client next : Client)
     → IsPauseOf old.heard halt client next
     → IsNoted link (entry_by c (commands.Halt halt.number halt.keep) Halted)
-    (set old.states c (state_of next)) old new text
-    → IsPauseLine link c (state_of client) old new text
+    (set old.states c (state_of next)) old new text → IsPauseLine link c (state_of client) old new text
 pause-line {link} {c} {halt} {old} {new} {text} (clients.Playing play) next is n =
     let N : ℕ → Type 0 =
     λ k. IsNoted link (entry_by c (commands.Halt k halt.keep) Halted) (set old.states c (state_of next)) old new text in
@@ -120,8 +116,7 @@ pause-line {link} {c} {halt} {old} {new} {text} (clients.Playing play) next is n
 pause-line {c} {halt} {new} {text} _ next is n = absurd is
 
 pub no-pause : {old new : DayState} {text : List ℕ} (link : SharedLink) (c : ℕ) (client : Client) → IsQuiet client
-    → IsTold state_text old new text
-    → IsPauseLine link c (state_of client) old new text
+    → IsTold state_text old new text → IsPauseLine link c (state_of client) old new text
 no-pause {new} {text} link c (clients.Playing play) quiet told = absurd quiet
 no-pause {new} {text} link c _ quiet told = told
 
@@ -132,20 +127,16 @@ if-free Busy (Playing play) free asked = cc free
 if-free Busy (Pausing stop left) free asked = cc free
 if-free Busy _ free asked = asked
 
-play-asked : {link : SharedLink} {c : ℕ} {one rest : Rest} {own : ClientState} {old new : DayState} {text : List ℕ}
-    → one ≡ rest → own ≡ state_at old c → is_busy own ≡ false
-    → IsAsked link c one old new text → IsPlayLine link c rest old new text
-play-asked {link} {c} {one} {own} {old} {new} {text} r s free asked =
-    let R : Rest → Type 0 = λ x. IsPlayLine link c x old new text in
-    let S : ClientState → Type 0 = λ x. IfBusy x (IsTold state_text old new text) (IsAsked link c one old new text) in
-    subst R r (subst S s (if-free (IsTold state_text old new text) own free asked))
-
 pub play-ok : {one rest : Rest} {own : ClientState} (r : Result LineAnswer NoMemory) (asks : ClientAsks) → one ≡ rest
     → own ≡ state_at asks.old asks.client → is_busy own ≡ false
     → IfOk r (λ told. IsAsked asks.link asks.client one asks.old asks.new (reply_text asks.entries told))
     → IfOk r (λ told. IsPlayLine asks.link asks.client rest asks.old asks.new (reply_text asks.entries told))
-play-ok {one} (Ok told) asks r s free asked =
-    play-asked r s free asked
+play-ok {one} {own} (Ok told) asks r s free asked =
+    let text = reply_text asks.entries told in
+    subst (λ (x : Rest). IsPlayLine asks.link asks.client x asks.old asks.new text) r
+    (subst (λ (x : ClientState). IfBusy x (IsTold state_text asks.old asks.new text)
+    (IsAsked asks.link asks.client one asks.old asks.new text)) s
+    (if-free (IsTold state_text asks.old asks.new text) own free asked))
 play-ok {one} (Err e) asks r s free asked = tt
 
 -- the halts after a sending

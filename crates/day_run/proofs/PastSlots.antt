@@ -22,11 +22,11 @@ use Rattle.day_run.specs.FairDays.{AreTurns, IsTurn, FairTurn, after_turn, turn_
 use Rattle.day_run.specs.ClientStates.{ClientState, booking_of, sent_by}
 use Rattle.day_run.proofs.SentBookedLemmas.{BegunPlay}
 use Rattle.day_run.proofs.SlotBalance.{last-halted, play-stays, slot-halted, stays-halt}
-use Rattle.day_run.proofs.LineBalance.{IsAfterPlay, halted-held, morning-ready, ready-sent, taken-ready}
-use Rattle.day_run.proofs.ScriptLineFacts.{LineStep, LinesTaken, NextTaken}
-use Rattle.day_run.proofs.FairLaws.{mid-heard, mid-ready, turn-mid, turn-ready}
-use Rattle.day_run.proofs.LineOutcomes.{PlayHalted, LineOutcome, Kept, Asked, Stopped, Looks, Reached, line-outcome}
+use Rattle.day_run.proofs.LineOutcomes.{IsAfterPlay, halted-held, morning-ready, ready-sent, taken-ready, PlayHalted}
+use Rattle.day_run.proofs.LineOutcomes.{LineOutcome, Kept, Asked, Stopped, Looks, Reached, line-outcome}
 use Rattle.day_run.proofs.LineOutcomes.{outcome-heard, turn-outcome, turn_step}
+use Rattle.day_run.proofs.ScriptLines.{LineStep, LinesTaken, NextTaken}
+use Rattle.day_run.proofs.FairLaws.{mid-heard, mid-ready, turn-mid, turn-ready}
 use Rattle.day_run.proofs.SoundClients.{kept-most}
 use Rattle.day_run.proofs.SlotTotals.{SlotSpan, greatest, summed, total-joined, total-same}
 
@@ -85,8 +85,7 @@ outcome-past {slot} step (Reached own) ready = λ t past.
     ∙ (slot-halted step.old slot own.later ready.balanced).stays t (omega (arith, past, own.later))
 
 pub day-past : {link : SharedLink} {n : ℕ} (taken : LinesTaken link n) (next : NextTaken link n taken) (t : ℕ)
-    → t ≤ taken.moment.heard
-    → booked_after next.new.entries t ≡ booked_after taken.moment.entries t
+    → t ≤ taken.moment.heard → booked_after next.new.entries t ≡ booked_after taken.moment.entries t
 day-past {link} taken next t past =
     let step : LineStep = record { link = link; old = taken.moment; new = next.new; text = next.text } in
     outcome-past step (line-outcome step next.line next.standing next.is) (taken-ready taken) t past

@@ -24,7 +24,7 @@ use Rattle.day_run.specs.BookingBalance.{AreHeldOf, IsBalanced, IsHeld, share_of
 use Rattle.day_run.specs.Days.{entry_by, halt_by}
 use Rattle.day_run.specs.ClientStates.{Idle, Playing, Pausing, Paused, ClientPlay, ClientState, Rest, booking_of}
 use Rattle.day_run.specs.ClientStates.{growth, is_playing, sent_between, sent_by}
-use Rattle.day_run.proofs.OwnHalts.{halts-none, halts-push}
+use Rattle.day_run.proofs.JournalHalts.{halts-none, halts-push}
 use Rattle.day_run.proofs.SlotTotals.{sum-slots}
 
 -- ---- plays slot by slot
@@ -103,8 +103,7 @@ sent-booked booked heard (suc n) states each =
     ∙ sym (ap (λ k. sum_by booked (range_with_len (heard + 1) k)) f)
 
 pub balanced-sent : (entries : List Entry) (states : List ClientState) (heard slot : ℕ) → heard ≤ slot
-    → IsBalanced entries states heard
-    → sum_by (sent_between heard slot) states
+    → IsBalanced entries states heard → sum_by (sent_between heard slot) states
     ≡ sum_by (booked_in (state_after entries)) (range_with_len (heard + 1) (slot - heard))
 balanced-sent entries states heard slot le balanced =
     let e : heard + (slot - heard) ≡ slot = omega (arith, le) in
@@ -319,8 +318,7 @@ halted-fresh entries c number keep fresh =
 
 -- a client's play was halted, and the client books what is kept of it
 pub balanced-halt : {entries : List Entry} {states : List ClientState} {heard : ℕ} {play : ClientPlay} (c keep : ℕ)
-    (next : ClientState)
-    → BalancedClient heard c entries states (Playing play) → IsShut next
+    (next : ClientState) → BalancedClient heard c entries states (Playing play) → IsShut next
     → ((t : ℕ) → heard < t → share_of t next ≡ share_at t (truncated_play play.start play.plan keep))
     → IsBalanced (entries ++ halt_by c play.number keep) (set states c next) heard
 balanced-halt {entries} {states} {play} c keep next own shut shares =

@@ -20,7 +20,7 @@ use Rattle.day_run.specs.Clients.{after_open}
 use Rattle.day_run.specs.ClientStates.{Idle, Playing, Pausing, Paused, ClientPlay, Rest, ClientState, after_play}
 use Rattle.day_run.specs.ClientStates.{after_sending, booking_of, is_done, pausing_state, sent_by}
 use Rattle.day_run.proofs.LineStepLemmas.{halt_entries-sent}
-use Rattle.day_run.proofs.PacerTimingLemmas.{pausing-cases}
+use Rattle.day_run.proofs.PauseLemmas.{pausing-cases}
 use Rattle.day_run.proofs.ClientSweepLemmas.{IsSwept, entries-more, swept-all, swept-none, swept-set}
 use Rattle.day_run.proofs.SentBookedLemmas.{BalancedClient, BegunPlay, HeldPlay, balanced-halt, booked-begun}
 use Rattle.day_run.proofs.SentBookedLemmas.{booked-halted, open-less, playing_one, share-done}
@@ -78,8 +78,7 @@ sending-held entries c slot (Pausing stop rest) its =
 sending-held entries c slot _ its = tt
 
 pub balanced-sending : (entries : List Entry) (states : List ClientState) (heard slot : ℕ) → heard ≤ slot
-    → IsBalanced entries states heard
-    → IsBalanced entries (map (after_sending slot) states) slot
+    → IsBalanced entries states heard → IsBalanced entries (map (after_sending slot) states) slot
 balanced-sending entries states heard slot le balanced = record {
   each = λ t later. balanced.each t (omega (arith, le, later)) ∙ sym (sending-shares t slot states later);
   held = λ c within.
@@ -182,8 +181,7 @@ its-held {entries} {play} c inside at balanced =
     its.held
 
 step-play : {slot : ℕ} {entries : List Entry} {states : List ClientState} {play : ClientPlay} {done : Bool} (c : ℕ)
-    → is_done slot play ≡ done
-    → BalancedClient slot c entries states (Playing play)
+    → is_done slot play ≡ done → BalancedClient slot c entries states (Playing play)
     → IsStep slot entries (entries ++ cond done (halt_by c play.number (total_bytes play.plan)) [])
     (set states c (cond done Idle (Playing play)))
 step-play {slot} {entries} {play} {done = true} c done own = record {
@@ -258,8 +256,7 @@ ending-next {n} {halt} {after} {begun} {old} step inside e =
     }
 
 ending : {slot : ℕ} {halt : ℕ → ClientState → List Entry} {after : ClientState → ClientState}
-    {begun : List Entry} {old : List ClientState}
-    {n : ℕ} → IsStepOf slot halt after → n ≤ length old
+    {begun : List Entry} {old : List ClientState} {n : ℕ} → IsStepOf slot halt after → n ≤ length old
     → IsBalanced begun old slot → Ending slot n halt after begun old
 ending {slot} {halt} {after} {begun} {old} {n = zero} step most balanced = record {
   entries = begun;

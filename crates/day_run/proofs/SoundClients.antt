@@ -33,11 +33,11 @@ use Rattle.day_run.specs.Days.{entry_by, first_moment, rest_at, state_at, with_p
 use Rattle.day_script.specs.Scripts.{IsWish}
 use Rattle.day_run.specs.ClientStates.{Idle, Playing, Pausing, Paused, IsPause, ClientPlay, Rest, ClientState}
 use Rattle.day_run.specs.ClientStates.{after_play, after_sending, booking_of, is_done, no_medium, sent_by, slot_sent}
-use Rattle.day_run.proofs.LineBalance.{halted-held, morning-ready, outcome-ready, slot-ready}
-use Rattle.day_run.proofs.LineOutcomes.{PlayHalted, line-outcome, offer-kept, taken-keeps}
+use Rattle.day_run.proofs.LineOutcomes.{halted-held, morning-ready, outcome-ready, slot-ready, PlayHalted}
+use Rattle.day_run.proofs.LineOutcomes.{line-outcome, offer-kept, taken-keeps}
 use Rattle.day_run.proofs.ListUpdates.{set-at}
-use Rattle.day_run.proofs.PacerTimingLemmas.{pausing-cases}
-use Rattle.day_run.proofs.ScriptLineFacts.{ClientOf, IsPlayTaken, LineStep, LinesTaken, StandingLine}
+use Rattle.day_run.proofs.PauseLemmas.{pausing-cases}
+use Rattle.day_run.proofs.ScriptLines.{ClientOf, IsPlayTaken, LineStep, LinesTaken, StandingLine}
 
 -- ---- what is true of the clients
 pub record IsSound (m : DayState) : Type 0 where
@@ -57,8 +57,7 @@ record SoundState (heard c : ℕ) (state : ClientState) : Type 0 where
 
 -- the states but one stay
 set-sound : {heard c : ℕ} {state : ClientState} (states : List ClientState) → length states ≡ 256
-    → SoundState heard c state
-    → AreStates heard states → AreStates heard (set states c state)
+    → SoundState heard c state → AreStates heard states → AreStates heard (set states c state)
 set-sound {heard} {c} {state} states count own each d inside =
     set-at (λ (n : ℕ) (s : ClientState). IsSoundClient heard s) {xs = states} {c = c} {d = d} {x = state} {none = Idle}
     (record {

@@ -1,19 +1,43 @@
 -- Films and traces as they are played.
-use Rattle.std.proofs.Common.{◌≡◌, ◌+◌, ℕ, List, [], ◌∷◌, ◌++◌, map, take, get_or, Result, Ok, Err, IfOk, sym, ap}
-use Rattle.std.proofs.Common.{◌∙◌}
-use Rattle.std.specs.Global.{Vec}
-use Rattle.std.proofs.lemmas.List.{map-append, map_more, take_more}
-use Rattle.vod_base.specs.declared.errors.NoMemory.{NoMemory}
+use Rattle.std.proofs.Common.{◌≡◌, length, sum, subst, sym, ◌+◌, ℕ, List, [], ◌∷◌, ◌++◌, map, take, get_or, Result}
+use Rattle.std.proofs.Common.{Ok, Err, IfOk, ap, ◌∙◌, ◌≤◌, arith}
+use Rattle.film_frames.specs.Tracks.{framed_bytes}
+use Rattle.film_frames.proofs.TraceLemmas.{length-zeros}
 use Rattle.day_run.specs.declared.media.Media.{Media}
+use Rattle.day_run.specs.declared.media.Media.TheVariants as played
+use Rattle.day_run.specs.declared.trace_media.TraceMedia.{TraceMedia}
+use Rattle.day_run.specs.MediaPieces.{media_pieces, media_sizes}
+use Rattle.std.specs.Global.{Vec}
+use Rattle.std.proofs.lemmas.List.{map-append, map_more, take_more, length-map}
+use Rattle.vod_base.specs.declared.errors.NoMemory.{NoMemory}
 use Rattle.day_run.specs.declared.media.Source.{Source}
-use Rattle.day_run.specs.declared.media.Source.TheVariants.{Trace}
+use Rattle.day_run.specs.declared.media.Source.TheVariants.{Trace, Film}
 use Rattle.day_script.specs.declared.scripts.Line.{Line}
 use Rattle.day_script.specs.Scripts.{latest_slot, slot_after}
 use Rattle.day_run.specs.ClientStates.{trace_content, source_content}
 use Rattle.day_run.specs.MediaContents.{media_content}
 use Rattle.day_script.proofs.ScriptLines.{latest-push}
 use Rattle.day_script.proofs.Places.{Place}
+use Rattle.std.specs.Prelude.{All, OnOk}
+use Rattle.std.proofs.lemmas.List.Elements.{All-append, All-cons, All-map, All-nil}
+use Rattle.mpeg_scan.proofs.RateLemmas.{time-bounds}
+use Rattle.slot_calendar.specs.declared.profiles.CapStep.{CapStep}
+use Rattle.film_frames.specs.declared.stored_films.Stored.{Stored}
+use Rattle.film_frames.specs.Pieces.{wire_size}
+use Rattle.film_run.specs.Units.{AreUnitSizes, stored_sizes}
+use Rattle.vod_base.specs.declared.limits.TheConstants.{MAX_BYTES, MAX_FILM_PICTURES}
+use Rattle.day_run.specs.DayLaws.{IsLink, IsPlayable, IsSoundMedia}
+use Rattle.day_run.specs.Days.{link_of}
+use Rattle.day_run.specs.Sources.{IsSource}
 
+-- ---- a trace as it is played
+pub trace-length : (medium : Media) (trace : TraceMedia) → medium ≡ played.Trace trace
+    → length (framed_bytes (media_pieces medium)) ≡ sum (media_sizes medium)
+trace-length medium trace e =
+    let P : Media → Type 0 = λ r. length (framed_bytes (media_pieces r)) ≡ sum (media_sizes r) in
+    subst P (sym e) (length-zeros trace.sizes)
+
+-- ---- films and traces as they are played
 pub trace-medium : {source : Source} {sizes : Vec ℕ} {items : List ℕ} (r : Result Media NoMemory)
     → source ≡ Trace sizes → items ≡ sizes.items
     → IfOk r (λ medium. (u : ℕ) → media_content u medium ≡ trace_content u items)
@@ -47,5 +71,54 @@ pub heard-next : {heard next : ℕ} (lines : List Line) (place : Place lines)
 heard-next {next} lines place n h =
     n ∙ ap (λ k. slot_after k (get_or lines i none)) h
     ∙ sym (ap latest_slot (take_more lines i none inside) ∙ latest-push (take i lines) (get_or lines i none))
+  where
+    open place use {index as i, none, inside}
+
+-- ---- films and traces that can be played
+-- a film, of a code from 1 to 8, whose units have the sizes that a trace may have
+pub film-playable : {source : Source} (stored : Stored) → source ≡ Film stored → 1 ≤ stored.film.rate
+    → stored.film.rate ≤ 8
+    → length stored.film.units.items ≤ MAX_FILM_PICTURES → sum (stored_sizes stored) ≤ MAX_BYTES → IsPlayable source
+film-playable stored is low high few small =
+    let time = time-bounds stored.film.rate low high in
+    let sizes : AreUnitSizes (stored_sizes stored) = record {
+      few = omega (arith, few, length-map stored.film.units.items (wire_size stored.film.slice_starts.items));
+      small = small;
+    } in
+    subst IsPlayable (sym is)
+    (λ units some fit. record {
+      sizes = sizes;
+      some_picture_units = omega (arith, time.0);
+      picture_units_fit = omega (arith, time.1);
+    })
+
+trace-fits : {source : Source} (sizes : Vec ℕ) → source ≡ Trace sizes → IsSource source → IsPlayable source
+trace-fits sizes is trace =
+    let kept : AreUnitSizes sizes.items = subst IsSource is trace in
+    subst IsPlayable (sym is)
+    (λ units some fit. record { sizes = kept; some_picture_units = some; picture_units_fit = fit })
+
+-- a trace whose reel was made
+pub trace-playable : {source : Source} {sizes : Vec ℕ} (r : Result Media NoMemory) → source ≡ Trace sizes
+    → IsSource source → OnOk r (IsPlayable source)
+trace-playable {sizes} (Ok medium) is trace = trace-fits sizes is trace
+trace-playable (Err e) is trace = tt
+
+-- a link of films and traces that can be played
+pub link-playable : {steps : List CapStep} {limit slot_units : ℕ} (sources : List Source) → 1 ≤ slot_units
+    → slot_units ≤ 360000 → All IsPlayable sources → IsLink (link_of steps limit slot_units sources)
+link-playable {slot_units} sources some fit all = record {
+  some_slot_units = some;
+  slot_units_fit = fit;
+  media = All-map IsSoundMedia (source_content slot_units) sources (λ i d inside. all i d inside slot_units some fit);
+}
+
+-- one more that can be played
+pub playable-next : (sources : List Source) (place : Place sources) → IsPlayable (get_or sources place.index place.none)
+    → All IsPlayable (take place.index sources) → All IsPlayable (take (place.index + 1) sources)
+playable-next sources place own before =
+    subst (All IsPlayable) (sym (take_more sources i none inside))
+    (All-append IsPlayable (take i sources) (get_or sources i none ∷ []) before
+    (All-cons IsPlayable (get_or sources i none) [] own (All-nil IsPlayable)))
   where
     open place use {index as i, none, inside}

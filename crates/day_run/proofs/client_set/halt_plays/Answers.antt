@@ -1,11 +1,11 @@
-use Rattle.std.proofs.Common.{◌<◌, ◌++◌, ◌∷◌, [], Some, None, length, ap, sym, ◌∙◌, arith}
-use Rattle.std.proofs.lemmas.List.{append-nil, set-get_or}
+use Rattle.std.proofs.Common.{◌<◌, ◌++◌, ◌∷◌, [], Some, None, get_or, refl, length, ap, sym, ◌∙◌, arith}
+use Rattle.std.proofs.lemmas.List.{append-nil}
 use Rattle.admission.specs.declared.entries.Answer.{Answer}
 use Rattle.admission.specs.declared.entries.Command.TheVariants.{Halt}
 use Rattle.admission.specs.declared.entries.Entry.{Entry}
 use Rattle.admission.specs.Books.{Journal}
-use Rattle.day_run.proofs.ClientSweepLemmas.{ended-states}
-use Rattle.day_run.proofs.HaltSweepLemmas.{passed-next}
+use Rattle.day_run.specs.declared.clients.Client.TheVariants.{Idle}
+use Rattle.day_run.proofs.ClientSweepLemmas.{ended-states, passed-next}
 use Rattle.day_run.proofs.client_set.halt_plays.Goals.{in-Some, in_default}
 use Rattle.day_run.proofs.client_set.halt_plays.Goals as goal
 
@@ -20,34 +20,51 @@ loop-maker-preserved c =
           let entry : Answer → Entry =
           λ answer. record { maker = i; command = Halt halt.number halt.keep; answer = answer } in
           let is = w.book-is ∙ w.halt-noted.ensures.noted.journal_is in
-          passed-next c.index-clients-maker.result (Some halt) (record {
+          passed-next (record {
+            place = i;
+            before = c.loop-maker.book;
+            after = c.match-halt_of.book;
+            clients = c.loop-maker.clients;
+            none = c.index-clients-maker.result;
+            halt = Some halt;
+            next = Idle;
             inside = inside;
             its = told.some;
+            quiet = tt;
+            same = tt;
+            going = λ own. tt;
             undone = tt;
+            timed = λ slot timed. tt;
             has = λ slot going timed. told.halt slot i going timed;
             goes = told.state;
             steps = ap (λ (j : Journal). j.steps) is;
             limit = ap (λ (j : Journal). j.limit) is;
             entries = ap (λ (j : Journal). j.entries) is
                 ∙ ap (λ answer. c.loop-maker.book.entries ++ entry answer ∷ []) w.halt-noted.ensures.answer;
-            outcome = record { some = w.clients-is; left = tt };
-          }) c.loop-maker.invariant
+          }) w.clients-is c.loop-maker.invariant
       | in_default w ↦
           let told = w.in_default.ensures {u = tt} in
-          passed-next c.index-clients-maker.result None (record {
+          passed-next (record {
+            place = i;
+            before = c.loop-maker.book;
+            after = c.match-halt_of.book;
+            clients = c.loop-maker.clients;
+            none = c.index-clients-maker.result;
+            halt = None;
+            next = get_or c.loop-maker.clients i c.index-clients-maker.result;
             inside = inside;
             its = tt;
+            quiet = tt;
+            same = refl;
+            going = λ own. own;
             undone = told.none;
+            timed = λ slot timed. timed;
             has = λ slot going timed. told.halt slot i going timed;
             goes = told.state;
             steps = ap (λ (j : Journal). j.steps) w.book-is;
             limit = ap (λ (j : Journal). j.limit) w.book-is;
             entries = ap (λ (j : Journal). j.entries) w.book-is ∙ sym (append-nil c.loop-maker.book.entries);
-            outcome = record {
-              some = tt;
-              left = w.clients-is ∙ set-get_or c.loop-maker.clients i c.index-clients-maker.result;
-            };
-          }) c.loop-maker.invariant
+          }) w.clients-is c.loop-maker.invariant
     ]
 
 pub returns-clause-states : goal.returns-clause-states

@@ -1,4 +1,4 @@
-use Rattle.day_run.proofs.HaltSweepLemmas.{AreHaltedTo}
+use Rattle.day_run.proofs.ClientSweepLemmas.{AreHaltedTo}
 use Rattle.day_run.proofs.client_set.halt_plays.Given as goal
 
 abbrev pub invariant-loop-maker : goal.invariant-loop-maker

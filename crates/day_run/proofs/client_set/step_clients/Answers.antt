@@ -1,7 +1,7 @@
 use Rattle.std.proofs.Common.{◌<◌, List, length, arith}
 use Rattle.admission.specs.declared.entries.Entry.{Entry}
 use Rattle.day_run.specs.Clients.{AreBooked}
-use Rattle.day_run.proofs.OpenBookingLemmas.{booked-same, going-set}
+use Rattle.day_run.proofs.JournalStepLemmas.{booked-same, going-set}
 use Rattle.day_run.proofs.ClientSweepLemmas.{steps-all, steps-next}
 use Rattle.day_run.proofs.client_set.step_clients.Goals as goal
 

@@ -1,6 +1,6 @@
 use Rattle.std.proofs.Common.{◌≡◌, ◌≤◌, ◌==◌, true, false, eq-eqb, ne_eqb, sym, ap, ◌∙◌, arith}
-use Rattle.day_run.proofs.PauseLemmas.{LeftRun, halts, left-rest, left-stopping, left-timed}
-use Rattle.day_run.proofs.PacerTimingLemmas.{pause-of, paused-state, pausing-state}
+use Rattle.day_run.proofs.PauseLemmas.{LeftRun, halts, left-rest, left-stopping, left-timed, pause-of, paused-state}
+use Rattle.day_run.proofs.PauseLemmas.{pausing-state}
 use Rattle.day_run.proofs.clients.pause_play.Goals as goal
 
 pub run_after-run-requires-clause-halt : goal.run_after-run-requires-clause-halt

@@ -1,7 +1,7 @@
 use Rattle.std.proofs.Common.{◌≡◌, ◌+◌, sym, ◌∙◌, arith}
 use Rattle.day_run.specs.MachineState.{day_state_of}
-use Rattle.day_run.proofs.LineBalance.{ready-sent, slot-ready}
-use Rattle.day_run.proofs.FairBalance.{same-counts}
+use Rattle.day_run.proofs.LineOutcomes.{ready-sent, slot-ready}
+use Rattle.day_run.proofs.FairTurns.{same-counts}
 use Rattle.day_run.proofs.fairs.advance.Goals as goal
 
 pub overflow_add-counts : goal.overflow_add-counts

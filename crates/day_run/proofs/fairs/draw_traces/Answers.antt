@@ -4,8 +4,7 @@ use Rattle.day_run.specs.FairProgress.{AreTraces, sizes_in}
 use Rattle.film_run.specs.Units.{AreUnitSizes}
 use Rattle.film_make.specs.Generator.{words_left}
 use Rattle.film_make.specs.Trace.{sizes_of}
-use Rattle.day_run.proofs.DrawnTraceLemmas.{drawn-trace, traces-none, traces-push}
-use Rattle.day_run.proofs.FairDraws.{left-next, left-none, sizes-next}
+use Rattle.day_run.proofs.FairTurns.{drawn-trace, traces-none, traces-push, left-next, left-none, sizes-next}
 use Rattle.day_run.proofs.fairs.draw_traces.Goals as goal
 
 pub loop-trace-init : goal.loop-trace-init

@@ -2,7 +2,7 @@ use Rattle.std.proofs.Common.{◌+◌, ◌%◌, ap, ◌∙◌}
 use Rattle.film_make.specs.Generator.{words_left}
 use Rattle.day_run.specs.declared.fairs.TheConstants.{BUFFER_SIZES, LEAST_BUFFER}
 use Rattle.day_run.specs.MachineState.{link_on, day_state_of}
-use Rattle.day_run.proofs.FairBalance.{play-drawn, ok-of, second-word, third-word, three-left}
+use Rattle.day_run.proofs.FairTurns.{play-drawn, ok-of, second-word, third-word, three-left}
 use Rattle.day_run.proofs.fairs.play_drawn.Goals as goal
 
 pub returns-clause-line : goal.returns-clause-line

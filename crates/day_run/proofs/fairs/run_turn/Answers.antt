@@ -3,7 +3,7 @@ use Rattle.film_make.specs.Generator.{words_left}
 use Rattle.day_run.specs.FairDays.{FairTurn, at_later}
 use Rattle.day_run.specs.FairProgress.{said_text}
 use Rattle.day_run.specs.MachineState.{link_on, day_state_of}
-use Rattle.day_run.proofs.FairBalance.{done-ready, turn-of}
+use Rattle.day_run.proofs.FairTurns.{done-ready, turn-of}
 use Rattle.day_run.proofs.fairs.run_turn.Goals as goal
 
 pub returns-clause-ready : goal.returns-clause-ready

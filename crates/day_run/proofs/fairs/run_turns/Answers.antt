@@ -2,7 +2,7 @@ use Rattle.std.proofs.Common.{ap, sym, refl, ◌∙◌, arith}
 use Rattle.film_make.specs.Generator.{words_left}
 use Rattle.day_run.specs.Days.{DayState}
 use Rattle.day_run.specs.MachineState.{link_on, day_state_of}
-use Rattle.day_run.proofs.FairBalance.{come-next, come-none, ready-morning}
+use Rattle.day_run.proofs.FairTurns.{come-next, come-none, ready-morning}
 use Rattle.day_run.proofs.fairs.run_turns.Goals as goal
 
 pub loop-turn-init : goal.loop-turn-init

@@ -4,7 +4,7 @@ use Rattle.day_run.specs.declared.clients.Client.{Client}
 use Rattle.day_run.specs.Clients.{state_of}
 use Rattle.day_run.specs.FairDays.{words_for}
 use Rattle.day_run.specs.MachineState.{link_on, day_state_of}
-use Rattle.day_run.proofs.FairBalance.{done-as, no-words}
+use Rattle.day_run.proofs.FairTurns.{done-as, no-words}
 use Rattle.day_run.proofs.fairs.turn_client.Goals as goal
 
 pub returns-in-Playing-clause-left : goal.returns-in-Playing-clause-left

@@ -1,7 +1,7 @@
 use Rattle.std.proofs.Common.{arith}
 use Rattle.day_run.proofs.JournalRoom.{last-places, taken-places}
-use Rattle.day_run.proofs.LineBalance.{taken-ready}
-use Rattle.day_run.proofs.ScriptLineFacts.{LinesTaken}
+use Rattle.day_run.proofs.LineOutcomes.{taken-ready}
+use Rattle.day_run.proofs.ScriptLines.{LinesTaken}
 use Rattle.day_run.proofs.laws.law_day_journal_stays_within_limit.Goals as goal
 
 pub returns-clause-lines : goal.returns-clause-lines

@@ -1,6 +1,6 @@
 use Rattle.day_run.proofs.JournalMakers.{line-made}
-use Rattle.day_run.proofs.LineBalance.{taken-ready}
-use Rattle.day_run.proofs.ScriptLineFacts.{LinesTaken}
+use Rattle.day_run.proofs.LineOutcomes.{taken-ready}
+use Rattle.day_run.proofs.ScriptLines.{LinesTaken}
 use Rattle.day_run.proofs.SlotBalance.{last-halted}
 use Rattle.day_run.proofs.laws.law_entries_have_their_makers.Goals as goal
 

@@ -1,4 +1,4 @@
-use Rattle.day_run.proofs.FairUniqueness.{one-fair}
+use Rattle.day_run.proofs.DayUniqueness.{one-fair}
 use Rattle.day_run.proofs.laws.law_fair_is_unique.Goals as goal
 
 pub returns : goal.returns

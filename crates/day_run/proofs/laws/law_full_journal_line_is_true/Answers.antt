@@ -1,8 +1,8 @@
 use Rattle.std.proofs.Common.{arith}
 use Rattle.day_run.proofs.FullLineTexts.{full-line}
 use Rattle.day_run.proofs.JournalRoom.{taken-places}
-use Rattle.day_run.proofs.LineBalance.{taken-ready}
-use Rattle.day_run.proofs.ScriptLineFacts.{LineStep, LinesTaken}
+use Rattle.day_run.proofs.LineOutcomes.{taken-ready}
+use Rattle.day_run.proofs.ScriptLines.{LineStep, LinesTaken}
 use Rattle.day_run.proofs.laws.law_full_journal_line_is_true.Goals as goal
 
 pub returns : goal.returns

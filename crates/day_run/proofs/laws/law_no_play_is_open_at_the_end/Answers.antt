@@ -1,7 +1,7 @@
-use Rattle.day_run.proofs.HaltedPlays.{halted-once}
-use Rattle.day_run.proofs.LineBalance.{taken-ready}
+use Rattle.day_run.proofs.JournalHalts.{halted-once}
+use Rattle.day_run.proofs.LineOutcomes.{taken-ready}
 use Rattle.day_run.proofs.PastSlots.{end-later}
-use Rattle.day_run.proofs.ScriptLineFacts.{LinesTaken}
+use Rattle.day_run.proofs.ScriptLines.{LinesTaken}
 use Rattle.day_run.proofs.SlotBalance.{last-halted, last-open}
 use Rattle.day_run.proofs.laws.law_no_play_is_open_at_the_end.Goals as goal
 

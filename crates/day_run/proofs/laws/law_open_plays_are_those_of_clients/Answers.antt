@@ -1,6 +1,6 @@
-use Rattle.day_run.proofs.HaltedPlays.{open-own}
-use Rattle.day_run.proofs.LineBalance.{taken-ready}
-use Rattle.day_run.proofs.ScriptLineFacts.{LinesTaken}
+use Rattle.day_run.proofs.JournalHalts.{open-own}
+use Rattle.day_run.proofs.LineOutcomes.{taken-ready}
+use Rattle.day_run.proofs.ScriptLines.{LinesTaken}
 use Rattle.day_run.proofs.laws.law_open_plays_are_those_of_clients.Goals as goal
 
 pub returns-clause-count : goal.returns-clause-count

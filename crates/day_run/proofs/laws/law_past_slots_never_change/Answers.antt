@@ -1,5 +1,5 @@
 use Rattle.day_run.proofs.PastSlots.{day-past, end-past}
-use Rattle.day_run.proofs.ScriptLineFacts.{LinesTaken, NextTaken}
+use Rattle.day_run.proofs.ScriptLines.{LinesTaken, NextTaken}
 use Rattle.day_run.proofs.laws.law_past_slots_never_change.Goals as goal
 
 pub returns-clause-line : goal.returns-clause-line

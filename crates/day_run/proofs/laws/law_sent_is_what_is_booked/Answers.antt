@@ -1,4 +1,4 @@
-use Rattle.day_run.proofs.LineBalance.{day-sent}
+use Rattle.day_run.proofs.LineOutcomes.{day-sent}
 use Rattle.day_run.proofs.laws.law_sent_is_what_is_booked.Goals as goal
 
 pub returns : goal.returns

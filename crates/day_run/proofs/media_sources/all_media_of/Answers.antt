@@ -3,8 +3,7 @@ use Rattle.std.proofs.lemmas.List.{length-append, take_all}
 use Rattle.std.specs.Prelude.{All}
 use Rattle.day_run.specs.ClientStates.{source_content}
 use Rattle.day_run.specs.DayLaws.{IsPlayable}
-use Rattle.day_run.proofs.PlayableMedia.{playable-next}
-use Rattle.day_run.proofs.SourceMedia.{contents-next}
+use Rattle.day_run.proofs.SourceMedia.{playable-next, contents-next}
 use Rattle.day_script.proofs.Places.{Place}
 use Rattle.day_run.proofs.media_sources.all_media_of.Goals as goal
 

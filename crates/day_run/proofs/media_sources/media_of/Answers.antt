@@ -1,5 +1,4 @@
-use Rattle.day_run.proofs.SourceMedia.{trace-medium}
-use Rattle.day_run.proofs.PlayableMedia.{film-playable, trace-playable}
+use Rattle.day_run.proofs.SourceMedia.{trace-medium, film-playable, trace-playable}
 use Rattle.day_run.proofs.media_sources.media_of.Goals as goal
 
 pub returns-in-Film-clause-playable : goal.returns-in-Film-clause-playable

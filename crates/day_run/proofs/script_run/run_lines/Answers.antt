@@ -1,7 +1,7 @@
 use Rattle.std.proofs.Common.{◌<◌, length, sym, subst, ◌∙◌, arith}
 use Rattle.std.proofs.lemmas.List.{take_more}
 use Rattle.day_script.specs.Scripts.{AreClients}
-use Rattle.day_run.proofs.LineSequenceLemmas.{run-next}
+use Rattle.day_run.proofs.ScriptLines.{run-next}
 use Rattle.day_script.proofs.ScriptLines.{clients-more}
 use Rattle.day_run.proofs.SourceMedia.{heard-next}
 use Rattle.day_run.proofs.script_run.run_lines.Goals as goal

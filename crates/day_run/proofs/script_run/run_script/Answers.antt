@@ -5,8 +5,8 @@ use Rattle.day_run.specs.Days.{SharedLink, link_of}
 use Rattle.day_run.specs.MachineState.{HasRun, link_on, day_state_of}
 use Rattle.day_run.specs.ClientStates.{MediaContent}
 use Rattle.day_run.specs.MediaContents.{media_content}
-use Rattle.day_run.proofs.LineSequenceLemmas.{day-of}
-use Rattle.day_run.proofs.PlayableMedia.{link-playable}
+use Rattle.day_run.proofs.ScriptLines.{day-of}
+use Rattle.day_run.proofs.SourceMedia.{link-playable}
 use Rattle.day_run.proofs.script_run.run_script.Goals as goal
 
 pub returns-clause-day : goal.returns-clause-day

@@ -1,4 +1,4 @@
-use Rattle.day_run.proofs.TraceMediaLemmas.{trace-length}
+use Rattle.day_run.proofs.SourceMedia.{trace-length}
 use Rattle.day_run.proofs.media.Media.as_sending.Goals as goal
 
 pub returns-in-Trace-clause-all : goal.returns-in-Trace-clause-all

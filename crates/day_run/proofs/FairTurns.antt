@@ -1,12 +1,24 @@
--- Turns of a large day, one after the other.
-use Rattle.std.proofs.Common.{◌≡◌, ◌<◌, ◌+◌, ◌-◌, ◌^◌, ◌%◌, ℕ, max, Bool, cond, List, [], ◌∷◌, ◌++◌, length, map}
-use Rattle.std.proofs.Common.{get_or, arith, Result, Ok, Err, IfOk, refl, sym, ap, subst, ◌∙◌}
-use Rattle.std.specs.Prelude.{OnOk, sum_by}
-use Rattle.std.specs.List.{fold, range_with_len}
-use Rattle.std.proofs.lemmas.List.{length-append, map-append}
-use Rattle.std.proofs.lemmas.List.Sums.{sum_by_push}
-use Rattle.film_make.proofs.GeneratorLemmas.{words_after-twice, words_after-at, words_after-zero}
+-- The traces that a large day draws, and its turns, one after the other.
+use Rattle.std.proofs.Common.{◌≡◌, ◌≤◌, ◌+◌, ◌-◌, ◌*◌, ℕ, List, [], ◌∷◌, ◌++◌, length, map, sum, get_or, arith, sym}
+use Rattle.std.proofs.Common.{ap, subst, ◌∙◌, inl, inr, ◌%◌, add-one, refl, ◌<◌, ◌^◌, max, Bool, cond, Result, Ok}
+use Rattle.std.proofs.Common.{Err, IfOk}
+use Rattle.std.specs.Global.{Vec}
+use Rattle.std.specs.List.{range_with_len, fold}
+use Rattle.std.proofs.lemmas.Bool.{cases_lt}
+use Rattle.std.proofs.lemmas.List.{length-append, get_or_append_left, get_or-append_right, map-append}
+use Rattle.std.proofs.lemmas.List.Sums.{sum_by-cons, sum_by_push}
+use Rattle.std.proofs.lemmas.List.FromFn.{length-range_with_len, length-map-range_with_len, map-range_with_len_more}
+use Rattle.film_make.specs.Trace.{sizes_of, trace_size}
+use Rattle.film_make.proofs.TraceLemmas.{trace_size-range}
+use Rattle.film_run.specs.Units.{AreUnitSizes}
+use Rattle.day_run.specs.FairProgress.{AreTraces, sizes_in, AreTurnResults, Drawn, IsTurnResult, after_turns}
+use Rattle.day_run.specs.FairProgress.{with_slot, with_turn}
 use Rattle.film_make.specs.Generator.{words_after}
+use Rattle.day_run.specs.FairDays.{after_traces, picture_count, trace_drawn, traces_drawn, AreTurns, IsDone, IsTurn}
+use Rattle.day_run.specs.FairDays.{FairTurn, after_turn, at_later, counts_of, is_full_line, is_refused, line_drawn}
+use Rattle.day_run.specs.FairDays.{line_in, turn_booked, turn_peak, turn_sent, words_for}
+use Rattle.std.specs.Prelude.{OnOk, sum_by}
+use Rattle.film_make.proofs.GeneratorLemmas.{words_after-twice, words_after-at, words_after-zero}
 use Rattle.admission.specs.Histories.{state_after}
 use Rattle.admission.specs.Machine.{booked_in}
 use Rattle.day_script.specs.declared.fair_totals.FairTotals.{FairTotals}
@@ -14,19 +26,84 @@ use Rattle.day_run.specs.declared.clients.Client.{Client}
 use Rattle.day_run.specs.Clients.{state_of}
 use Rattle.day_run.specs.BookingBalance.{IsReady}
 use Rattle.day_run.specs.Days.{SharedLink, DayState, IsPlayLine, first_moment, rest_at, state_at}
-use Rattle.day_run.specs.FairDays.{AreTurns, IsDone, IsTurn, FairTurn, after_turn, at_later, counts_of, is_full_line}
-use Rattle.day_run.specs.FairDays.{is_refused, line_drawn, line_in, turn_booked, turn_peak, turn_sent, words_for}
-use Rattle.day_run.specs.FairProgress.{AreTurnResults, Drawn, IsTurnResult, after_turns, with_slot, with_turn}
 use Rattle.day_run.specs.declared.machine.LineAnswer.{LineAnswer}
 use Rattle.day_run.specs.MachineState.{reply_text}
 use Rattle.vod_base.specs.declared.errors.NoMemory.{NoMemory}
 use Rattle.day_run.specs.ClientStates.{Rest, ClientState, Idle}
 use Rattle.day_run.proofs.SentBookedLemmas.{sum-none}
-use Rattle.day_run.proofs.LineBalance.{morning-ready, outcome-ready, ready-kept}
-use Rattle.day_run.proofs.LineOutcomes.{done-outcome}
+use Rattle.day_run.proofs.LineOutcomes.{morning-ready, outcome-ready, ready-kept, done-outcome}
 use Rattle.day_run.proofs.ClientSweepLemmas.{state-at}
-use Rattle.day_run.proofs.ScriptLineFacts.{ClientAsks, ClientOf, LineStep}
+use Rattle.day_run.proofs.ScriptLines.{ClientAsks, ClientOf, LineStep}
 use Rattle.day_run.proofs.SlotTotals.{peak-push}
+
+-- ---- drawn traces
+sum-most : (words : ℕ → ℕ) (ks : List ℕ) → sum (map (trace_size words) ks) ≤ length ks * 7996
+sum-most words [] = omega arith
+sum-most words (k ∷ ks) =
+    let e : sum (map (trace_size words) (k ∷ ks)) ≡ trace_size words k + sum (map (trace_size words) ks) =
+    sum_by-cons (λ x. x) (trace_size words k) (map (trace_size words) ks) in
+    omega (arith, e, (trace_size-range words k).1, sum-most words ks)
+
+pub drawn-trace : (words : ℕ → ℕ) (n : ℕ) → n ≤ 200 → AreUnitSizes (sizes_of words n)
+drawn-trace words n few = record {
+  few = omega (arith, length-map-range_with_len (trace_size words) 0 n);
+  small = omega (arith, sum-most words (range_with_len 0 n), length-range_with_len 0 n);
+}
+
+pub traces-none : AreTraces []
+traces-none = record { each = λ i none inside. absurd (omega (arith, inside)) }
+
+pub traces-push : (traces after : List (Vec ℕ)) (trace : Vec ℕ) → after ≡ traces ++ trace ∷ []
+    → AreUnitSizes trace.items → AreTraces traces → AreTraces after
+traces-push traces after trace e own are =
+    let T : Vec ℕ → Type 0 = λ v. AreUnitSizes v.items in
+    subst AreTraces (sym e) (record {
+      each = λ i none inside. elim (cases_lt i (length traces)) [
+        | inl before ↦ subst T (sym (get_or_append_left traces (trace ∷ []) none i before)) (are.each i none before)
+        | inr past ↦
+            let at : length traces ≡ i = omega (arith, past, inside, length-append traces (trace ∷ [])) in
+            let z : i - i ≡ 0 = omega arith in
+            subst T (sym
+            (get_or-append_right traces (trace ∷ []) i i none at (omega arith)
+            ∙ ap (λ k. get_or (trace ∷ []) k none) z)) own
+      ];
+    })
+
+-- ---- traces that are drawn one after the other
+-- the trace that is drawn by the next words
+pub record TraceDrawn (left : ℕ → ℕ) (pictures : ℕ) (words : ℕ → ℕ) (k : ℕ) (trace : Vec ℕ) : Type 0 where
+  pub left_is : left ≡ after_traces k words
+  pub pictures_are : pictures ≡ 100 + left 0 % 101
+  pub sizes_are : trace.items ≡ sizes_of (words_after 1 left) pictures
+
+-- one trace more
+pub sizes-next : {left : ℕ → ℕ} {pictures : ℕ} {more : List (Vec ℕ)} {words : ℕ → ℕ} {k : ℕ} (traces : List (Vec ℕ))
+    (trace : Vec ℕ) → more ≡ traces ++ trace ∷ [] → TraceDrawn left pictures words k trace
+    → sizes_in traces ≡ traces_drawn k words → sizes_in more ≡ traces_drawn (k + 1) words
+sizes-next {left} {more} {words} {k} traces trace m drawn before =
+    let own : trace.items ≡ trace_drawn (after_traces k words) =
+    drawn.sizes_are ∙ ap (sizes_of (words_after 1 left)) drawn.pictures_are
+    ∙ ap (λ (w : ℕ → ℕ). sizes_of (words_after 1 w) (100 + w 0 % 101)) drawn.left_is in
+    let at : 0 + k ≡ k = omega arith in
+    ap sizes_in m ∙ map-append (λ (v : Vec ℕ). v.items) traces (trace ∷ []) ∙ ap (λ ts. ts ++ trace.items ∷ []) before
+    ∙ ap (λ x. traces_drawn k words ++ x ∷ []) own
+    ∙ sym (map-range_with_len_more (λ i. trace_drawn (after_traces i words)) 0 k k at)
+
+after_traces-more : (words : ℕ → ℕ) (k : ℕ) → after_traces (k + 1) words
+    ≡ words_after (picture_count (after_traces k words)) (words_after 1 (after_traces k words))
+unfolding after_traces
+after_traces-more words k = ap (λ n. after_traces n words) (add-one k)
+
+pub left-next : {left mid next : ℕ → ℕ} {pictures : ℕ} (words : ℕ → ℕ) (k : ℕ) → left ≡ after_traces k words
+    → mid ≡ words_after 1 left → pictures ≡ 100 + left 0 % 101 → next ≡ words_after pictures mid
+    → next ≡ after_traces (k + 1) words
+left-next {left} {next} {pictures} words k l m p n =
+    n ∙ ap (words_after pictures) m ∙ ap (λ c. words_after c (words_after 1 left)) p
+    ∙ ap (λ (w : ℕ → ℕ). words_after (100 + w 0 % 101) (words_after 1 w)) l ∙ sym (after_traces-more words k)
+
+pub left-none : (words : ℕ → ℕ) → words ≡ after_traces 0 words
+unfolding after_traces
+left-none words = refl
 
 -- ---- what a client does keeps the balance
 pub done-ready : {c : ℕ} {state : ClientState} (step : LineStep) (words : ℕ → ℕ) → ClientOf step.old c state
