@@ -153,24 +153,35 @@ pub swept-inside : (f : ClientState → ClientState) (i : ℕ) (old cs : List Cl
     → IsSwept f i (map state_of old) (map state_of cs) → i < length (map state_of old)
 swept-inside f i old cs inside swept = omega (arith, inside, swept.count, length-map cs state_of)
 
-pub steps-next : {i heard slot : ℕ} {old cs : List Client} {new : Client} {sent n : ℕ} (none : Client) → i < length cs
-    → (IsTimed heard (get_or cs i none) → IsStep heard slot (get_or cs i none) new n)
-    → AreStepsTo i heard slot old cs sent → AreStepsTo (i + 1) heard slot old (set cs i new) (sent + n)
-steps-next {i} {heard} {slot} {old} {cs} {new} {n} none inside stepped to =
-    let step = stepped (to.timed.later i none (omega arith) inside) in
-    let at : get_or (map state_of old) i Idle ≡ state_of (get_or cs i none) = swept-at old cs none inside to.swept in
-    let within : i < length (map state_of old) = swept-inside (after_sending slot) i old cs inside to.swept in
-    let S : List ClientState → Type 0 = λ l. IsSwept (after_sending slot) (i + 1) (map state_of old) l in
+-- a client that is stepped, the next after those that have come to the slot
+pub record SteppedClient (heard slot : ℕ) (clients : List Client) : Type 0 where
+  pub place : ℕ
+  pub none : Client
+  pub next : Client
+  pub bytes : ℕ
+  pub inside : place < length clients
+  pub step : IsTimed heard (get_or clients place none) → IsStep heard slot (get_or clients place none) next bytes
+
+pub steps-next : {heard slot : ℕ} {old clients : List Client} {sent : ℕ} (stepped : SteppedClient heard slot clients)
+    → AreStepsTo stepped.place heard slot old clients sent
+    → AreStepsTo (stepped.place + 1) heard slot old (set clients stepped.place stepped.next) (sent + stepped.bytes)
+steps-next {heard} {slot} {old} {clients} stepped to =
+    let own = step (to.timed.later place none (omega arith) inside) in
+    let at : get_or (map state_of old) place Idle ≡ state_of (get_or clients place none) =
+    swept-at old clients none inside to.swept in
+    let within = swept-inside (after_sending slot) place old clients inside to.swept in
     record {
-      timed = timed-next new inside step.timed to.timed;
+      timed = timed-next next inside own.timed to.timed;
       sent_is =
-          ap (λ k. k + n) to.sent_is ∙ ap (λ k. sum_by (sent_between heard slot) (take i (map state_of old)) + k)
-          (step.sent_is ∙ ap (sent_between heard slot) (sym at))
-          ∙ sym (sum-more (sent_between heard slot) (map state_of old) i within);
+          ap (λ k. k + bytes) to.sent_is ∙ ap (λ k. sum_by (sent_between heard slot) (take place (map state_of old)) + k)
+          (own.sent_is ∙ ap (sent_between heard slot) (sym at))
+          ∙ sym (sum-more (sent_between heard slot) (map state_of old) place within);
       swept =
-          subst S (sym (states-set cs i new))
-          (swept-set within (step.state ∙ ap (after_sending slot) (sym at)) to.swept);
+          subst (IsSwept (after_sending slot) (place + 1) (map state_of old)) (sym (states-set clients place next))
+          (swept-set within (own.state ∙ ap (after_sending slot) (sym at)) to.swept);
     }
+  where
+    open stepped use {place, none, next, bytes, inside, step}
 
 pub steps-all : {n heard slot : ℕ} {old new : List Client} {sent : ℕ} → length new ≤ n
     → AreStepsTo n heard slot old new sent → AreSteps heard slot old new sent

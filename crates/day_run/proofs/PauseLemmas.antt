@@ -96,29 +96,39 @@ pub kept-sent : {play : ClientPlay} (heard keep : ℕ) → TimedPlay play heard 
 kept-sent {play} heard keep own kept =
     omega (arith, sent-at play heard own.playing own.timed, own.playing.whole, kept.least, kept.most)
 
-pub pause-of : {play : ClientPlay} {heard keep : ℕ} {last : Option ℕ} {left : Run} {state : ClientState}
-    → IsPlaying play → play.pacer.passed ≡ heard + 1 - play.pacer.start → slots_through last ≡ play.pacer.passed
-    → IsBoundaryAfter play.pacer.pieces (play.pacer.before + play.pacer.sent) (play.pacer.before + keep)
-    → IsRemainingRun (media_sizes play.rest.medium.now) play.rest.playback play.rest.run play.plan last keep left
-    → state ≡ pausing_state heard (truncated_play play.pacer.start play.plan keep) (record (rest_of play.rest) {
-      run =
-          left;
-    }) → IsPause (play_of play) heard keep state
-pause-of {play} {heard} {keep} {last} {left} playing timed through boundary is state-is =
-    let B : List (List ℕ) → Type 0 =
-    λ ps. IsBoundaryAfter ps (play.pacer.before + play.pacer.sent) (play.pacer.before + keep) in
-    let C : ℕ → Type 0 = λ n. IsBoundaryAfter (media_pieces play.rest.medium.now) (n + play.pacer.sent) (n + keep) in
-    let D : ℕ → Type 0 =
-    λ n. IsBoundaryAfter (media_pieces play.rest.medium.now) (play.rest.run.sent + n) (play.rest.run.sent + keep) in
+-- what a pause keeps of a play, up to a boundary, and what it leaves
+pub record PauseLeft (play : ClientPlay) (keep : ℕ) : Type 0 where
+  pub last : Option ℕ
+  pub left : Run
+  pub through : slots_through last ≡ play.pacer.passed
+  pub boundary : IsBoundaryAfter play.pacer.pieces (play.pacer.before + play.pacer.sent) (play.pacer.before + keep)
+  pub left_is : IsRemainingRun (media_sizes play.rest.medium.now) play.rest.playback play.rest.run play.plan last keep
+      left
+
+pub pause-of : {play : ClientPlay} {heard keep : ℕ} {state : ClientState} → TimedPlay play heard
+    → (pause : PauseLeft play keep)
+    → state ≡ pausing_state heard (truncated_play play.pacer.start play.plan keep)
+    (record (rest_of play.rest) { run = pause.left })
+    → IsPause (play_of play) heard keep state
+pause-of {play} {heard} {keep} own pause state-is =
+    let p = play.pacer in
+    let pieces = media_pieces play.rest.medium.now in
+    let C : ℕ → Type 0 = λ n. IsBoundaryAfter pieces (n + p.sent) (n + keep) in
+    let D : ℕ → Type 0 = λ n. IsBoundaryAfter pieces (play.rest.run.sent + n) (play.rest.run.sent + keep) in
     let L : Option ℕ → Type 0 =
     λ o. IsRemainingRun (media_sizes play.rest.medium.now) play.rest.playback play.rest.run play.plan o keep left in
     record {
       boundary =
-          subst D (sent-at play heard playing timed) (subst C playing.before_is (subst B playing.pieces_are boundary));
+          subst D (sent-at play heard playing timed) (subst C playing.before_is
+          (subst (λ (ps : List (List ℕ)). IsBoundaryAfter ps (p.before + p.sent) (p.before + keep)) playing.pieces_are
+          boundary));
       left = left;
-      left_is = subst L (last-slot last play.pacer.start heard play.pacer.passed through timed) is;
+      left_is = subst L (last-slot last p.start heard p.passed through timed) left_is;
       state_is = state-is;
     }
+  where
+    open own use {playing, timed}
+    open pause use {last, left, through, boundary, left_is}
 
 -- the client whose play keeps no more than was sent, and another one
 pub paused-state : {play : ClientPlay} {rest : Rest} (heard keep : ℕ) → TimedPlay play heard → KeptSent play keep

@@ -134,17 +134,15 @@ run-next {link} {here} {before} {after} {old} {new} lines place same run printed
     open place use {index as i, none, inside}
 
 -- an entire day
-pub day-of : {link here : SharedLink} {lines : List Line} {text whole : List ℕ} {m : DayState} {journal : List Entry}
-    → here ≡ link → HasRun here lines text m
-    → whole ≡ text ++ last_lines m → journal ≡ last_journal m → IsDay link lines whole journal
-day-of {here} {lines} {text} {whole} {m} same run w j =
-    record {
-      evening = m;
-      texts = run.texts;
-      run = subst (λ (l : SharedLink). AreLineSteps l lines run.texts first_moment m) same run.run;
-      text_is = w ∙ ap (λ l. l ++ last_lines m) run.text_is;
-      journal_is = j;
-    }
+pub day-of : {link : SharedLink} {lines : List Line} {text whole : List ℕ} {m : DayState} {journal : List Entry}
+    → HasRun link lines text m → whole ≡ text ++ last_lines m → journal ≡ last_journal m → IsDay link lines whole journal
+day-of {m} run w j = record {
+  evening = m;
+  texts = run.texts;
+  run = run.run;
+  text_is = w ∙ ap (λ l. l ++ last_lines m) run.text_is;
+  journal_is = j;
+}
 
 -- a text for each line
 pub day-lines : (link : SharedLink) (lines : List Line) (texts : List (List ℕ)) (old new : DayState)

@@ -20,8 +20,14 @@ loop-client-preserved c =
           booked-same entries cs i new (c.step-sent.ensures.booked entries i own) (inv.booked entries begun);
       few = omega (arith, inv.few, c.step-sent.ensures.few);
       steps = λ heard le timed.
-          steps-next old inside
-          (λ t. c.step-sent.ensures.step heard le t) (inv.steps heard le timed);
+          steps-next (record {
+            place = i;
+            none = old;
+            next = new;
+            bytes = c.step-sent.result;
+            inside = inside;
+            step = λ t. c.step-sent.ensures.step heard le t;
+          }) (inv.steps heard le timed);
     }
 
 pub returns-clause-steps : goal.returns-clause-steps

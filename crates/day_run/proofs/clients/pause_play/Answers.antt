@@ -1,6 +1,6 @@
 use Rattle.std.proofs.Common.{◌≡◌, ◌≤◌, ◌==◌, true, false, eq-eqb, ne_eqb, sym, ap, ◌∙◌, arith}
 use Rattle.day_run.proofs.PauseLemmas.{LeftRun, halts, left-rest, left-stopping, left-timed, pause-of, paused-state}
-use Rattle.day_run.proofs.PauseLemmas.{pausing-state}
+use Rattle.day_run.proofs.PauseLemmas.{TimedPlay, pausing-state}
 use Rattle.day_run.proofs.clients.pause_play.Goals as goal
 
 pub run_after-run-requires-clause-halt : goal.run_after-run-requires-clause-halt
@@ -38,24 +38,31 @@ pub returns-then-sent-keep-clause-pause : goal.returns-then-sent-keep-clause-pau
 returns-then-sent-keep-clause-pause c = λ heard timed.
     let play = c.args.play in
     let keep = c.ask_halt-keep.result in
-    let left = c.run_after-run.result in
+    let own : TimedPlay play heard = record { playing = c.requires.playing; timed = timed } in
     let least : play.pacer.sent ≤ keep = omega (arith, c.ask_halt-keep.ensures.boundary.after) in
     let all : (play.pacer.sent == keep) ≡ true =
     eq-eqb play.pacer.sent keep (sym c.sent-sent.ensures.value ∙ c.if-sent-keep.true) in
-    pause-of c.requires.playing timed c.last_slot-last.ensures c.ask_halt-keep.ensures.boundary
-    c.run_after-run.ensures.left (paused-state heard keep (record { playing = c.requires.playing; timed = timed })
-    (record { least = least; most = c.ask_halt-keep.ensures.most }) all)
+    pause-of own (record {
+      last = c.last_slot-last.result;
+      left = c.run_after-run.result;
+      through = c.last_slot-last.ensures;
+      boundary = c.ask_halt-keep.ensures.boundary;
+      left_is = c.run_after-run.ensures.left;
+    }) (paused-state heard keep own (record { least = least; most = c.ask_halt-keep.ensures.most }) all)
 
 pub returns-clause-pause : goal.returns-clause-pause
 returns-clause-pause c = λ heard timed.
     let play = c.args.play in
     let keep = c.ask_halt-keep.result in
-    let left = c.run_after-run.result in
+    let own : TimedPlay play heard = record { playing = c.requires.playing; timed = timed } in
     let least : play.pacer.sent ≤ keep = omega (arith, c.ask_halt-keep.ensures.boundary.after) in
     let not : (play.pacer.sent == keep) ≡ false =
     ne_eqb play.pacer.sent keep (λ e. c.if-sent-keep.false (c.sent-sent.ensures.value ∙ e)) in
-    pause-of c.requires.playing timed c.last_slot-last.ensures c.ask_halt-keep.ensures.boundary
-    c.run_after-run.ensures.left
-    (pausing-state heard keep (record { playing = c.requires.playing; timed = timed })
-    (record { least = least; most = c.ask_halt-keep.ensures.most }) not
+    pause-of own (record {
+      last = c.last_slot-last.result;
+      left = c.run_after-run.result;
+      through = c.last_slot-last.ensures;
+      boundary = c.ask_halt-keep.ensures.boundary;
+      left_is = c.run_after-run.ensures.left;
+    }) (pausing-state heard keep own (record { least = least; most = c.ask_halt-keep.ensures.most }) not
     (c.ask_halt-keep.ensures.state ∙ ap (λ n. record play.pacer { keep = n }) (sym c.ask_halt-keep.ensures.value)))

@@ -18,13 +18,13 @@ returns-clause-day c =
     let text = c.run_lines.new.text.items in
     let on : List MediaContent → SharedLink =
     λ ts. record { steps = c.args.profile; limit = c.args.limit; slot_units = units; media = ts } in
-    let R : List Line → Type 0 = λ l. HasRun here l text m in
     let same : here ≡ link =
     c.in_ok-machine.ensures.link ∙ ap (λ (l : List Media). on (map (media_content units) l)) c.deref.ensures.value
     ∙ ap on (c.in_ok-media.ensures.contents units) in
-    day-of same
-    (subst R c.deref-2.ensures.value c.in_ok-run_lines.ensures.run) c.in_ok-run_end.ensures.text
-    (c.into_entries.ensures.value ∙ c.in_ok-run_end.ensures.journal)
+    day-of
+    (subst (λ (l : SharedLink). HasRun l c.args.script.now.lines.items text m) same
+    (subst (λ (l : List Line). HasRun here l text m) c.deref-2.ensures.value c.in_ok-run_lines.ensures.run))
+    c.in_ok-run_end.ensures.text (c.into_entries.ensures.value ∙ c.in_ok-run_end.ensures.journal)
 
 pub returns-clause-link : goal.returns-clause-link
 returns-clause-link c =
