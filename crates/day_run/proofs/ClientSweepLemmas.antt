@@ -1,7 +1,7 @@
 -- Clients that are passed over one after the other.
 use Rattle.std.proofs.Common.{◌≡◌, ◌<◌, ◌≤◌, ◌+◌, ℕ, List, [], ◌∷◌, ◌++◌, length, map, take, drop, set, get_or}
 use Rattle.std.proofs.Common.{Option, Some, None, arith, refl, sym, ap, subst, ◌∙◌, inl, inr}
-use Rattle.std.specs.Prelude.{sum_by, OnSome, IfNone, IfSome}
+use Rattle.std.specs.Prelude.{sum_by, IfNone, IfSome}
 use Rattle.std.proofs.lemmas.Bool.{cases_eq}
 use Rattle.std.proofs.lemmas.List.{append_assoc, append-nil, ext_get_or, get_or-map, get_or-set_other}
 use Rattle.std.proofs.lemmas.List.{get_or-set_same, length-map, length-set, length-take, map-set, take_all, take_at}
@@ -11,10 +11,10 @@ use Rattle.admission.specs.declared.entries.Entry.{Entry}
 use Rattle.day_run.proofs.ListUpdates.{set-at}
 use Rattle.day_run.proofs.JournalStepLemmas.{timed-set, halted-now, open-halt, booked-halt, booked-same, going-set}
 use Rattle.day_run.specs.declared.clients.Client.{Client}
+use Rattle.day_run.specs.declared.clients.Client.TheVariants as clients
 use Rattle.day_run.specs.declared.clients.HaltedPlays.{HaltedPlays}
 use Rattle.day_run.specs.Clients.{AreSteps, AreTimed, AreUndone, IsStep, IsTimed, IsUndone, halts_of, state_of}
-use Rattle.day_run.specs.Clients.{AreBooked, AreOnBook, IsBooked, IsGoing, IsHaltOf, IsQuiet, IsSameBook, halt_for}
-use Rattle.day_run.specs.Clients.{state_for}
+use Rattle.day_run.specs.Clients.{AreBooked, AreOnBook, IsGoing, IsHaltOf, IsSameBook, halt_for, state_for}
 use Rattle.day_run.specs.Days.{DayState, at_slot, done_halt, halt_entries, entry_by}
 use Rattle.day_run.specs.ClientStates.{ClientState, Idle, after_play, after_sending, sent_between}
 use Rattle.admission.specs.declared.entries.Answer.TheVariants.{Halted}
@@ -173,7 +173,8 @@ steps-next {heard} {slot} {old} {clients} stepped to =
     record {
       timed = timed-next next inside own.timed to.timed;
       sent_is =
-          ap (λ k. k + bytes) to.sent_is ∙ ap (λ k. sum_by (sent_between heard slot) (take place (map state_of old)) + k)
+          ap (λ k. k + bytes) to.sent_is
+          ∙ ap (λ k. sum_by (sent_between heard slot) (take place (map state_of old)) + k)
           (own.sent_is ∙ ap (sent_between heard slot) (sym at))
           ∙ sym (sum-more (sent_between heard slot) (map state_of old) place within);
       swept =
@@ -279,7 +280,36 @@ pub record AreHaltedTo (which : HaltedPlays) (upto : ℕ) (begun book : Journal)
   pub ended : (slot : ℕ) → AreTimed slot old
       → AreEndedTo which slot upto begun.entries book.entries old new
 
--- a client that is passed: its halt, if it has one, and what it is then
+-- what halts leave of a book but its entries
+pub record BookGrown (before after : Journal) (made : List Entry) : Type 0 where
+  pub steps : after.steps ≡ before.steps
+  pub limit : after.limit ≡ before.limit
+  pub entries : after.entries ≡ before.entries ++ made
+
+pub book-grown : {before after : Journal} {made : List Entry} (entries : List Entry)
+    → after ≡ record before { entries = entries } → entries ≡ before.entries ++ made → BookGrown before after made
+book-grown entries is made_are = record {
+  steps = ap (λ (j : Journal). j.steps) is;
+  limit = ap (λ (j : Journal). j.limit) is;
+  entries = ap (λ (j : Journal). j.entries) is ∙ made_are;
+}
+
+-- a client that is halted, or not
+abbrev pub halted_client : Option Halt → Client → Client
+halted_client None client = client
+halted_client (Some halt) client = clients.Idle
+
+halted-keeps : (P : Client → Type 0) (halt : Option Halt) (client : Client) → P clients.Idle → P client
+    → P (halted_client halt client)
+halted-keeps P None client idle own = own
+halted-keeps P (Some halt) client idle own = idle
+
+halted-undone : (halt : Option Halt) (client : Client) → IfNone halt (IsUndone client)
+    → IsUndone (halted_client halt client)
+halted-undone None client own = own
+halted-undone (Some halt) client own = tt
+
+-- a client that is passed, and its halt, if it has one
 pub record PassedClient (which : HaltedPlays) : Type 0 where
   pub place : ℕ
   pub before : Journal
@@ -287,41 +317,39 @@ pub record PassedClient (which : HaltedPlays) : Type 0 where
   pub clients : List Client
   pub none : Client
   pub halt : Option Halt
-  pub next : Client
   pub inside : place < length clients
   pub its : IfSome halt (IsHaltOf (get_or clients place none))
-  pub quiet : OnSome halt (IsQuiet next)
-  pub same : IfNone halt (next ≡ get_or clients place none)
-  pub going : IsGoing (get_or clients place none) → IsGoing next
-  pub undone : IsUndone next
-  pub timed : (slot : ℕ) → IsTimed slot (get_or clients place none) → IsTimed slot next
+  pub undone : IfNone halt (IsUndone (get_or clients place none))
   pub has : (slot : ℕ) → IsGoing (get_or clients place none) → IsTimed slot (get_or clients place none)
       → halt_for which slot place (state_of (get_or clients place none)) ≡ halts_of place halt
   pub goes : (slot : ℕ) → IsGoing (get_or clients place none) → IsTimed slot (get_or clients place none)
-      → state_for which slot (state_of (get_or clients place none)) ≡ state_of next
-  pub steps : after.steps ≡ before.steps
-  pub limit : after.limit ≡ before.limit
-  pub entries : after.entries ≡ before.entries ++ halts_of place halt
+      → state_for which slot (state_of (get_or clients place none))
+      ≡ state_of (halted_client halt (get_or clients place none))
+  pub grown : BookGrown before after (halts_of place halt)
+
+-- what it is then
+abbrev pub next_of : {which : HaltedPlays} → PassedClient which → Client
+next_of passed = halted_client passed.halt (get_or passed.clients passed.place passed.none)
 
 passed-booked : {which : HaltedPlays} (passed : PassedClient which) → AreOnBook passed.before.entries passed.clients
-    → AreBooked passed.after.entries (set passed.clients passed.place passed.next)
-passed-booked passed sound = by-halt halt its entries quiet same
+    → AreBooked passed.after.entries (set passed.clients passed.place (next_of passed))
+passed-booked passed sound = by-halt halt its grown.entries
   where
-    open passed use {place, before, after, clients as cs, none, halt, next, inside, its, quiet, same, entries}
+    open passed use {place, before, after, clients as cs, none, halt, inside, its, grown}
 
     by-halt : (h : Option Halt) → IfSome h (IsHaltOf (get_or cs place none))
-        → after.entries ≡ before.entries ++ halts_of place h → OnSome h (IsQuiet next)
-        → IfNone h (next ≡ get_or cs place none) → AreBooked after.entries (set cs place next)
-    by-halt None its is quiet same =
-        subst (λ (l : List Entry). AreBooked l (set cs place next)) (sym (is ∙ append-nil before.entries))
-        (booked-same before.entries cs place next
-        (subst (IsBooked before.entries place) (sym same) (sound.booked.each place none inside)) sound.booked)
-    by-halt (Some h) its is quiet same =
+        → after.entries ≡ before.entries ++ halts_of place h
+        → AreBooked after.entries (set cs place (halted_client h (get_or cs place none)))
+    by-halt None its is =
+        subst (λ (l : List Entry). AreBooked l (set cs place (get_or cs place none)))
+        (sym (is ∙ append-nil before.entries))
+        (booked-same before.entries cs place (get_or cs place none) (sound.booked.each place none inside) sound.booked)
+    by-halt (Some h) its is =
         let own = open-halt (get_or cs place none) (sound.going.each place none inside)
         (sound.booked.each place none inside) its in
-        subst (λ (l : List Entry). AreBooked l (set cs place next)) (sym is)
-        (booked-halt {e = entry_by place (commands.Halt h.number h.keep) Halted} next
-        (record { number = h.number; keep = h.keep; command = refl; its = own }) quiet sound.booked)
+        subst (λ (l : List Entry). AreBooked l (set cs place clients.Idle)) (sym is)
+        (booked-halt {e = entry_by place (commands.Halt h.number h.keep) Halted} clients.Idle
+        (record { number = h.number; keep = h.keep; command = refl; its = own }) tt sound.booked)
 
 passed-now : (i : ℕ) (xs ys : List Entry) (halt : Option Halt) → ys ≡ xs ++ halts_of i halt
     → (state_after ys).now ≡ (state_after xs).now
@@ -335,51 +363,53 @@ passed-ended : {which : HaltedPlays} {old : List Client} (passed : PassedClient 
     → IsGoing (get_or passed.clients passed.place passed.none)
     → AreEndedTo which slot passed.place begun.entries passed.before.entries old passed.clients
     → AreEndedTo which slot (passed.place + 1) begun.entries passed.after.entries old
-    (set passed.clients passed.place passed.next)
+    (set passed.clients passed.place (next_of passed))
 passed-ended {which} {old} passed begun slot own to =
     let t : IsTimed slot (get_or cs place none) = to.timed.each place none inside in
+    let next = next_of passed in
     let at : get_or (map state_of old) place Idle ≡ state_of (get_or cs place none) =
     swept-at old cs none inside to.swept in
     let within = swept-inside (state_for which slot) place old cs inside to.swept in
     record {
-      timed = timed-set slot cs place next (timed slot t) to.timed;
+      timed = timed-set slot cs place next (halted-keeps (IsTimed slot) halt (get_or cs place none) tt t) to.timed;
       entries_are = entries-more (halt_for which slot) (map state_of old) begun.entries within (record {
         before_is = to.entries_are;
-        after_is = entries;
+        after_is = grown.entries;
         here = ap (halt_for which slot place) at ∙ has slot own t;
       });
       swept = subst (IsSwept (state_for which slot) (place + 1) (map state_of old)) (sym (states-set cs place next))
           (swept-set within (sym (ap (state_for which slot) at ∙ goes slot own t)) to.swept);
     }
   where
-    open passed use {place, clients as cs, none, next, inside, timed, has, goes, entries}
+    open passed use {place, clients as cs, none, halt, inside, has, goes, grown}
 
 -- one client more
 pub passed-next : {which : HaltedPlays} {begun : Journal} {old new : List Client} (passed : PassedClient which)
-    → new ≡ set passed.clients passed.place passed.next
+    → new ≡ set passed.clients passed.place (next_of passed)
     → AreHaltedTo which passed.place begun passed.before old passed.clients
     → AreHaltedTo which (passed.place + 1) begun passed.after old new
 passed-next {which} {begun} {old} passed new_is to =
     let own : IsGoing (get_or cs place none) = to.sound.going.each place none inside in
+    let next = next_of passed in
     subst (AreHaltedTo which (place + 1) begun after old) (sym new_is) (record {
       sound = record {
-        going = going-set cs place next (going own) to.sound.going;
+        going = going-set cs place next (halted-keeps IsGoing halt (get_or cs place none) tt own) to.sound.going;
         booked = passed-booked passed to.sound;
       };
       kept = record {
-        steps = steps ∙ to.kept.steps;
-        limit = limit ∙ to.kept.limit;
-        now = passed-now place before.entries after.entries halt entries ∙ to.kept.now;
+        steps = grown.steps ∙ to.kept.steps;
+        limit = grown.limit ∙ to.kept.limit;
+        now = passed-now place before.entries after.entries halt grown.entries ∙ to.kept.now;
       };
       undone = record {
         each = λ c any below.
             set-at (λ (n : ℕ) (x : Client). IsUndone x) {xs = cs} {c = place} {d = c} {x = next} {none = any} (record {
               inside = λ same. inside;
-              own = undone;
+              own = halted-undone halt (get_or cs place none) undone;
               other = λ other. to.undone.each c any (omega (arith, below, other));
             });
       };
       ended = λ slot ts. passed-ended passed begun slot own (to.ended slot ts);
     })
   where
-    open passed use {place, before, after, clients as cs, none, halt, next, inside, going, undone, steps, limit, entries}
+    open passed use {place, before, after, clients as cs, none, halt, inside, undone, grown}

@@ -7,9 +7,9 @@ use Rattle.admission.specs.declared.entries.Entry.{Entry}
 use Rattle.admission.specs.Histories.{is_halt}
 use Rattle.day_script.specs.declared.scripts.Line.{Line}
 use Rattle.day_script.specs.declared.scripts.Line.TheVariants as lines
-use Rattle.day_run.specs.ClientStates.{ClientState, Idle, Playing, Pausing, Paused, Rest, is_done}
+use Rattle.day_run.specs.ClientStates.{ClientState, Playing, Pausing, Paused, Rest, is_done}
 use Rattle.day_run.specs.Days.{IsAsked, IsLine, IsLookLine, IsNoted, IsPauseLine, IsResumeLine, SharedLink, DayState}
-use Rattle.day_run.specs.Days.{done_halt, halt_by, halt_entries, halts_at, open_halt, rest_at, state_at}
+use Rattle.day_run.specs.Days.{done_halt, halt_by, halt_entries, halts_at, rest_at, state_at}
 use Rattle.day_run.specs.JournalLaws.{HasItsMaker, IsMadeBy}
 use Rattle.day_run.proofs.LineOutcomes.{offer-kept}
 use Rattle.day_run.proofs.ScriptLines.{IsPlayTaken, LineStep}
@@ -75,12 +75,6 @@ halt-if false c number keep = All-nil IsHaltEntry
 done-halts : (slot c : ℕ) (state : ClientState) → All IsHaltEntry (done_halt slot c state)
 done-halts slot c (Playing play) = halt-if (is_done slot play) c play.number _
 done-halts slot c _ = All-nil IsHaltEntry
-
-open-halts : (heard c : ℕ) (state : ClientState) → All IsHaltEntry (open_halt heard c state)
-open-halts heard c Idle = All-nil IsHaltEntry
-open-halts heard c (Playing play) = one-halt c play.number _
-open-halts heard c (Pausing stop rest) = All-nil IsHaltEntry
-open-halts heard c (Paused rest) = All-nil IsHaltEntry
 
 all-halts : (halt : ℕ → ClientState → List Entry) → ((c : ℕ) (state : ClientState) → All IsHaltEntry (halt c state))
     → (c : ℕ) (states : List ClientState) → All IsHaltEntry (halt_entries halt c states)

@@ -66,7 +66,8 @@ halted-past : (step : LineStep) (own : PlayHalted step) → IsReady step.old →
 halted-past step own ready t past =
     let held = halted-held own ready in
     let most = kept-most step.old.entries own.play own.is.keep held own.is.noted.answered in
-    let sent : sent_by (booking_of own.play) step.old.heard ≤ own.is.keep = omega (arith, own.is.pause.boundary.after) in
+    let sent : sent_by (booking_of own.play) step.old.heard ≤ own.is.keep =
+    omega (arith, own.is.pause.boundary.after) in
     ap (λ (m : DayState). booked_after m.entries t) own.is.noted.new_is
     ∙ stays-halt step.old.entries own.client own.is.keep own.play held (record { sent = sent; most = most }) t past
 

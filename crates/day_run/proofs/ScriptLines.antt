@@ -135,7 +135,8 @@ run-next {link} {here} {before} {after} {old} {new} lines place same run printed
 
 -- an entire day
 pub day-of : {link : SharedLink} {lines : List Line} {text whole : List ℕ} {m : DayState} {journal : List Entry}
-    → HasRun link lines text m → whole ≡ text ++ last_lines m → journal ≡ last_journal m → IsDay link lines whole journal
+    → HasRun link lines text m → whole ≡ text ++ last_lines m → journal ≡ last_journal m
+    → IsDay link lines whole journal
 day-of {m} run w j = record {
   evening = m;
   texts = run.texts;

@@ -89,50 +89,56 @@ returns-in-Some-clause-planned c =
       });
     }
 
-pub returns-in_default : goal.returns-in_default
-returns-in_default c =
+pub returns-in_default-clause-machine : goal.returns-in_default-clause-machine
+returns-in_default-clause-machine c =
     let old = c.args.self.now in
     let day = c.requires.machine in
+    let slot = min old.heard LATEST_SLOT in
+    let e : Entry = record { maker = c.from.result; command = Play slot c.args.plan; answer = c.in-Ok.noted.answer } in
+    let now = played-now old.book.entries e slot c.args.plan refl in
+    day-noted old day (record {
+      e = e;
+      entries_are = ap (λ (j : Journal). j.entries) c.in-Ok.ensures.noted.journal_is;
+      none = λ number halts. halts;
+      now = omega (arith, now, day.now_heard);
+    })
+
+pub returns-in_default-clause-kept : goal.returns-in_default-clause-kept
+returns-in_default-clause-kept c =
+    let is = c.in-Ok.ensures.noted.journal_is in
+    record {
+      link = ap (λ (j : Journal). link_on (record c.args.self.now { book = j })) is;
+      steps = ap (λ (j : Journal). j.steps) is;
+      media = refl;
+    }
+
+pub returns-in_default-clause-planned : goal.returns-in_default-clause-planned
+returns-in_default-clause-planned c =
+    let old = c.args.self.now in
     let made = c.in-Ok.ensures.noted in
     let slot = min old.heard LATEST_SLOT in
-    let late : slot ≡ old.heard = omega (arith, day.heard_fits) in
-    let e : Entry = record { maker = c.from.result; command = Play slot c.args.plan; answer = c.in-Ok.noted.answer } in
-    let y : c.play.new.self.entries ≡ old.book.entries ++ e ∷ [] = ap (λ (j : Journal). j.entries) made.journal_is in
-    let now = played-now old.book.entries e slot c.args.plan refl in
+    let late : slot ≡ old.heard = omega (arith, c.requires.machine.heard_fits) in
+    let e = entry_by c.from.result (Play slot c.args.plan) c.in-Ok.noted.answer in
     record {
-      machine = day-noted old day (record {
-        e = e;
-        entries_are = y;
-        none = λ number halts. halts;
-        now = omega (arith, now, day.now_heard);
-      });
-      kept = record {
-        link = ap (λ (j : Journal). link_on (record old { book = j })) made.journal_is;
-        steps = ap (λ (j : Journal). j.steps) made.journal_is;
-        media = refl;
-      };
-      heard = refl;
-      planned = record {
-        plan = c.args.plan;
-        plan_is = c.requires.plan.plan_is;
-        done = inr (record {
-          room = c.in-Ok.ensures.room;
-          answer = c.in-Ok.noted.answer;
-          noted = noted (record {
-            made = e;
-            is = ap (λ n. entry_by n e.command e.answer) c.from.ensures
-                ∙ ap (λ n. entry_by c.args.client (Play n c.args.plan) e.answer) late;
-            answered = made.answer_is;
-            place = c.in-Ok.noted.place;
-            place_is = made.place_is;
-            entries_are = y;
-            states_are =
-                states-same c.args.client (rest_of c.args.rest) c.args.plan (length old.book.entries)
-                c.in-Ok.noted.answer c.in_default.ensures.none;
-            heard_is = refl;
-          });
+      plan = c.args.plan;
+      plan_is = c.requires.plan.plan_is;
+      done = inr (record {
+        room = c.in-Ok.ensures.room;
+        answer = c.in-Ok.noted.answer;
+        noted = noted (record {
+          made = e;
+          is = ap (λ n. entry_by n e.command e.answer) c.from.ensures
+              ∙ ap (λ n. entry_by c.args.client (Play n c.args.plan) e.answer) late;
+          answered = made.answer_is;
+          place = c.in-Ok.noted.place;
+          place_is = made.place_is;
+          entries_are = ap (λ (j : Journal). j.entries) made.journal_is;
+          states_are =
+              states-same c.args.client (rest_of c.args.rest) c.args.plan (length old.book.entries)
+              c.in-Ok.noted.answer c.in_default.ensures.none;
+          heard_is = refl;
         });
-      };
+      });
     }
 
 pub returns-in-Err-clause-planned : goal.returns-in-Err-clause-planned
