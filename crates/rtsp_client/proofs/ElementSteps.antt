@@ -20,11 +20,10 @@ use Rattle.rtsp_client.specs.declared.watch_request.WatchFault.TheVariants.{Fram
 use Rattle.rtsp_client.specs.ClientHistory.{History, ClientEvent, Frame, Reply}
 use Rattle.rtsp_client.specs.Answers.{GoOn, history_after, block_events, events_of_elements, element_events}
 use Rattle.rtsp_client.specs.Answers.{payload_of, payloads_of, request_after, requests_after}
-use Rattle.rtsp_client.specs.WatchCourses.{Stops, stage}
-use Rattle.rtsp_client.specs.HistoryInvariant.{HistoryInvariant, StateInvariant}
-use Rattle.rtsp_client.specs.ClientState.{replies_in, session_of}
+use Rattle.rtsp_client.specs.WatchCourses.{Stops, WatchStage, stage}
+use Rattle.rtsp_client.specs.HistoryInvariant.{HistoryInvariant}
 use Rattle.rtsp_client.specs.ClientSteps.{HasEndedAt, HasTakenEvents, HasStopped, HasTaken, Observed, observed_more}
-use Rattle.rtsp_client.proofs.ObservedSteps.{observed-none, observed-on}
+use Rattle.rtsp_client.proofs.ObservedSteps.{ObservedChange, Watcher, observed-none, observed-on}
 
 -- ---- lists of moments
 
@@ -100,92 +99,55 @@ put-all old bytes new failed is fits new_is =
 
 -- ---- elements were processed
 
--- the same client, but for its input
-pub record IsSameClient (c new : Client) : Type 0 where
-  pub replies : replies_in new ≡ replies_in c
-  pub session : session_of new ≡ session_of c
-  pub watching : new.watching ≡ c.watching
+pub keeps-moved : {w : Watcher} {input : List ℕ} → HistoryInvariant w.wish w.history w.client
+    → HistoryInvariant w.wish w.history (record w.client { input = input })
+keeps-moved k = record { replies_are = k.replies_are; session_is = k.session_is; state = k.state }
 
-pub keeps-moved : {wish : Wish} {h : History} {c new : Client} → HistoryInvariant wish h c → IsSameClient c new →
-    HistoryInvariant wish h new
-keeps-moved {wish} {h} k same = record {
-  replies_are = same.replies ∙ k.replies_are;
-  session_is = same.session ∙ k.session_is;
-  state = subst (λ w. StateInvariant wish h w) (sym same.watching) k.state;
+pub passed-none : {w : Watcher} {input : List ℕ} {s : Observed} → HistoryInvariant w.wish w.history w.client
+    → HasTakenEvents w.wish w.history [] (record w.client { input = input }) s s
+passed-none {w} {s = s} k = record { good = tt; keeps = keeps-moved {w = w} k; sight_is = observed-none s }
+
+-- the first element has so many bytes and these moments
+pub record IsElement (rest : List ℕ) (n : ℕ) (moments : List ClientEvent) : Type 0 where
+  pub whole : IsElementLength rest n
+  pub moments_are : element_events (take n rest) ≡ moments
+
+pub block-element : {rest : List ℕ} {channel n : ℕ} → IsFirst rest (Ok (Block channel n))
+    → IsElement rest n (block_events channel (take n rest))
+block-element {rest} {n = n} first = record {
+  whole = WholeBlock first.0 first.1 first.3 first.4;
+  moments_are = block-of rest n (omega (arith, first.3)) first.0.1
+      ∙ ap (λ k. block_events k (take n rest)) (sym first.2);
 }
 
-pub passed-none : {wish : Wish} {h : History} {c new : Client} {s : Observed} → HistoryInvariant wish h c → IsSameClient
-    c new
-    → HasTakenEvents wish h [] new s s
-passed-none {s} k same = record {
-  good = tt;
-  keeps = keeps-moved k same;
-  sight_is = observed-none s;
+pub frame-element : {rest : List ℕ} {channel n : ℕ} → IsFirst rest (Ok (Block channel n)) → channel ≡ 0
+    → IsElement rest n (Frame (take n rest) ∷ [])
+frame-element {rest} {n = n} first zero_ =
+    subst (λ k. IsElement rest n (block_events k (take n rest))) zero_ (block-element first)
+
+pub reply-element : {rest : List ℕ} {n : ℕ} → IsFirst rest (Ok (Request n)) → IsElement rest n (Reply (take n rest) ∷ [])
+reply-element {rest} {n} first = record {
+  whole = WholeMessage first.0 first.1 first.2;
+  moments_are = reply-of rest n (omega (arith, first.1.is_head.some, first.1.total_is)) first.0.1 first.0.2;
 }
 
-passed-on : {wish : Wish} {h : History} {a b : List ClientEvent} {mid new : Client} {s t u : Observed}
-    → HasTakenEvents wish h a mid s t
-    → HasTakenEvents wish (history_after h a) b new t u → HasTakenEvents wish h (a ++ b) new s u
-passed-on {wish} {h} {a} {b} {new} {s} first second = record {
-  good = good-on h a b first.good second.good;
-  keeps = subst (λ x. HistoryInvariant wish x new) (sym (after-on h a b)) second.keeps;
-  sight_is = second.sight_is
-      ∙ (ap (λ x. observed_more x (requests_after wish (history_after h a) b) (payloads_of b)) first.sight_is
-      ∙ (observed-on s (requests_after wish h a) (requests_after wish (history_after h a) b) (payloads_of a)
-      (payloads_of b)
-      ∙ (ap (λ x. observed_more s x (payloads_of a ++ payloads_of b)) (sym (requests-on wish h a b))
-      ∙ ap (λ x. observed_more s (requests_after wish h (a ++ b)) x) (sym (flat_map-append payload_of a b)))));
-}
-
--- the client with another input
-moved : {wish : Wish} {h : History} {moments : List ClientEvent} {c new : Client} {s t : Observed}
-    → HasTakenEvents wish h moments c s t
-    → IsSameClient c new → HasTakenEvents wish h moments new s t
-moved p same = record { good = p.good; keeps = keeps-moved p.keeps same; sight_is = p.sight_is }
-
--- the same input, named otherwise
-pub taken-same : {wish : Wish} {h : History} {w rest : List ℕ} {new : Client} {s t : Observed} → w ≡ rest
-    → HasTaken wish h w new s t → HasTaken wish h rest new s t
-taken-same {wish} {h} {new} {s} {t} same taken = subst (λ (i : List ℕ). HasTaken wish h i new s t) same taken
-
--- the first element, of so many bytes, was processed and dropped
-taken-element : {wish : Wish} {h : History} {rest : List ℕ} {n : ℕ} {moments : List ClientEvent} {c new : Client}
-    {s t : Observed}
-    → IsElementLength rest n → element_events (take n rest) ≡ moments → HasTakenEvents wish h moments c s t
-    → IsSameClient c new → new.input ≡ drop n rest
-    → HasTaken wish h rest new s t
-taken-element {wish} {h} {rest} {n} {new} {s} {t} element are passed same dropped = record {
+-- it was processed and dropped
+pub taken-element : {w : Watcher} {rest input : List ℕ} {n : ℕ} {moments : List ClientEvent} {e : ObservedChange}
+    → IsElement rest n moments → HasTakenEvents w.wish w.history moments w.client e.before e.after → input ≡ drop n rest
+    → HasTaken w.wish w.history rest (record w.client { input = input }) e.before e.after
+taken-element {w} {rest} {input} {n} {e = e} element passed dropped = record {
   elements = take n rest ∷ [];
-  cut = (n, (element, refl, sym dropped));
-  passed = subst (λ ms. HasTakenEvents wish h ms new s t) (sym (append-nil (element_events (take n rest)) ∙ are))
-      (moved passed same);
+  cut = (n, (element.whole, refl, sym dropped));
+  passed =
+      subst (λ ms. HasTakenEvents w.wish w.history ms (record w.client { input = input }) e.before e.after)
+      (sym (append-nil (element_events (take n rest)) ∙ element.moments_are))
+      (record { good = passed.good; keeps = keeps-moved passed.keeps; sight_is = passed.sight_is });
 }
 
-pub taken-block : {wish : Wish} {h : History} {rest : List ℕ} {channel n : ℕ} {c new : Client} {s t : Observed}
-    → IsFirst rest (Ok (Block channel n)) → HasTakenEvents wish h (block_events channel (take n rest)) c s t
-    → IsSameClient c new → new.input ≡ drop n rest
-    → HasTaken wish h rest new s t
-taken-block {h} {rest} {n} {c} {new} {s} first passed same dropped =
-    taken-element (WholeBlock first.0 first.1 first.3 first.4)
-    (block-of rest n (omega (arith, first.3)) first.0.1 ∙ ap (λ k. block_events k (take n rest)) (sym first.2))
-    passed same dropped
-
-request-some : (rest : List ℕ) (n : ℕ) → IsFirst rest (Ok (Request n)) → 0 < n
-request-some rest n first = omega (arith, first.1.is_head.some, first.1.total_is)
-
-pub taken-reply : {wish : Wish} {h : History} {rest : List ℕ} {n : ℕ} {c new : Client} {s t : Observed}
-    → IsFirst rest (Ok (Request n)) → HasTakenEvents wish h (Reply (take n rest) ∷ []) c s t
-    → IsSameClient c new → new.input ≡ drop n rest
-    → HasTaken wish h rest new s t
-taken-reply {h} {rest} {n} {c} {new} {s} first passed same dropped =
-    taken-element (WholeMessage first.0 first.1 first.2)
-    (reply-of rest n (request-some rest n first) first.0.1 first.0.2) passed same dropped
-
-pub taken-ends : {wish : Wish} {h : History} {rest : List ℕ} {n : ℕ} {c new : Client} {s : Observed}
-    → IsFirst rest (Ok (Skip n)) → HistoryInvariant wish h c
-    → IsSameClient c new → new.input ≡ drop n rest
-    → HasTaken wish h rest new s s
-taken-ends {wish} {h} {rest} {n} {c} {new} {s} first k same dropped =
+pub taken-ends : {w : Watcher} {rest input : List ℕ} {n : ℕ} {s : Observed} → IsFirst rest (Ok (Skip n))
+    → HistoryInvariant w.wish w.history w.client → input ≡ drop n rest
+    → HasTaken w.wish w.history rest (record w.client { input = input }) s s
+taken-ends {w} {rest} {input} {n} {s} first k dropped =
     let ends : AreLineEnds rest n = first.1 in
     let long : length (take n rest) ≡ n = length-take-le n rest ends.within in
     let none : events_of_elements (map (λ c. c ∷ []) (take n rest)) ≡ [] =
@@ -196,45 +158,55 @@ taken-ends {wish} {h} {rest} {n} {c} {new} {s} first k same dropped =
       elements = map (λ c. c ∷ []) (take n rest);
       cut = subst (λ r. AreInputElements rest (map (λ c. c ∷ []) (take n rest)) r) (sym dropped)
           (next_elements rest (Ok (Skip n)) first rest [] refl);
-      passed = subst (λ ms. HasTakenEvents wish h ms new s s) (sym none) (passed-none k same);
+      passed = subst (λ ms. HasTakenEvents w.wish w.history ms (record w.client { input = input }) s s) (sym none)
+          (passed-none {w = w} k);
     }
 
-pub taken-none : {wish : Wish} {h : History} {c new : Client} {s : Observed} → HistoryInvariant wish h c → IsSameClient
-    c new
-    → new.input ≡ c.input
-    → HasTaken wish h c.input new s s
-taken-none k same input_same = record {
-  elements = [];
-  cut = sym input_same;
-  passed = passed-none k same;
-}
+pub taken-none : {w : Watcher} {input : List ℕ} {s : Observed} → HistoryInvariant w.wish w.history w.client
+    → input ≡ w.client.input → HasTaken w.wish w.history w.client.input (record w.client { input = input }) s s
+taken-none {w} k same = record { elements = []; cut = sym same; passed = passed-none {w = w} k }
 
-pub taken-on : {wish : Wish} {h : History} {rest : List ℕ} {mid new : Client} {s t u : Observed}
-    → HasTaken wish h rest mid s t
-    → ((g : History) → HistoryInvariant wish g mid → HasTaken wish g mid.input new t u) → HasTaken wish h rest new s u
-taken-on {wish} {h} {rest} {mid} {new} {s} {u} first next =
-    let second = next (history_after h (events_of_elements first.elements)) first.passed.keeps in
-    let cuts : CutsInTurn rest mid.input new.input first.elements second.elements =
+-- elements were processed, and then others
+pub taken-on : {w : Watcher} {rest : List ℕ} {new : Client} {s t u : Observed}
+    → HasTaken w.wish w.history rest w.client s t
+    → ((g : History) → HistoryInvariant w.wish g w.client → HasTaken w.wish g w.client.input new t u)
+    → HasTaken w.wish w.history rest new s u
+taken-on {w} {rest} {new} {s} {t} {u} first next =
+    let a = events_of_elements first.elements in
+    let g = history_after w.history a in
+    let second = next g first.passed.keeps in
+    let b = events_of_elements second.elements in
+    let cuts : CutsInTurn rest w.client.input new.input first.elements second.elements =
     record { first = first.cut; next = second.cut } in
+    let both : HasTakenEvents w.wish w.history (a ++ b) new s u = record {
+      good = good-on w.history a b first.passed.good second.passed.good;
+      keeps = subst (λ x. HistoryInvariant w.wish x new) (sym (after-on w.history a b)) second.passed.keeps;
+      sight_is = second.passed.sight_is
+          ∙ (ap (λ x. observed_more x (requests_after w.wish g b) (payloads_of b)) first.passed.sight_is
+          ∙ (observed-on s (requests_after w.wish w.history a) (requests_after w.wish g b) (payloads_of a)
+          (payloads_of b)
+          ∙ (ap (λ x. observed_more s x (payloads_of a ++ payloads_of b)) (sym (requests-on w.wish w.history a b))
+          ∙ ap (observed_more s (requests_after w.wish w.history (a ++ b))) (sym (flat_map-append payload_of a b)))));
+    } in
     record {
       elements = first.elements ++ second.elements;
       cut = cut-on cuts;
       passed =
-          subst (λ ms. HasTakenEvents wish h ms new s u) (sym (flat_map-append element_events first.elements
-          second.elements))
-          (passed-on first.passed second.passed);
+          subst (λ ms. HasTakenEvents w.wish w.history ms new s u)
+          (sym (flat_map-append element_events first.elements second.elements)) both;
     }
 
 -- ---- nothing more was processed
 
-stops-now : {wish : Wish} {h : History} {rest : List ℕ} {end : WatchEnd} {sent out : List ℕ} {s t : Observed}
-    → Stops wish (stage h rest) end sent out → t ≡ observed_more s sent out → HasStopped wish h rest end s t
-stops-now {h} {rest} {end} {sent} {out} {s} stops is = record {
+stops-now : {wish : Wish} {old : WatchStage} {end : WatchEnd} {sent out : List ℕ} {e : ObservedChange}
+    → Stops wish old end sent out → e.after ≡ observed_more e.before sent out
+    → HasStopped wish old.history old.rest end e.before e.after
+stops-now {old} {sent = sent} {out} stops is = record {
   sent = sent;
   out = out;
   stops = record {
     elements = [];
-    mid = rest;
+    mid = old.rest;
     cut = refl;
     good = tt;
     more_sent = sent;
@@ -246,30 +218,16 @@ stops-now {h} {rest} {end} {sent} {out} {s} stops is = record {
   sight_is = is;
 }
 
-stops-at : {wish : Wish} {h : History} {rest : List ℕ} {n : ℕ} {moment : ClientEvent} {end : WatchEnd} {s t : Observed}
-    → IsElementLength rest n → element_events (take n rest) ≡ moment ∷ [] → HasEndedAt wish h moment end s t
-    → HasStopped wish h rest end s t
-stops-at {h} {n} {moment} {end} {s} element is ended =
-    stops-now (inr (moment, ((n, (element, is)), ended.comes))) ended.sight_is
+pub stops-at : {wish : Wish} {old : WatchStage} {n : ℕ} {moment : ClientEvent} {end : WatchEnd} {e : ObservedChange}
+    → IsElement old.rest n (moment ∷ []) → HasEndedAt wish old.history moment end e.before e.after
+    → HasStopped wish old.history old.rest end e.before e.after
+stops-at {wish} {old} {n} {moment} {end} {e} element ended =
+    stops-now {old = old} {e = e} (inr (moment, ((n, (element.whole, element.moments_are)), ended.comes))) ended.sight_is
 
-pub stopped-framing : {wish : Wish} {h : History} {rest : List ℕ} {end : WatchEnd} {s : Observed} (fault : DemuxFault)
-    → IsFirst rest (Err fault) → end ≡ Fault Framing → HasStopped wish h rest end s s
-stopped-framing {h} {end} {s} fault first is =
-    stops-now (inl (is, (fault, first), refl, refl)) (observed-none s)
-
-pub stopped-block : {wish : Wish} {h : History} {rest : List ℕ} {channel n : ℕ} {end : WatchEnd} {s t : Observed}
-    → IsFirst rest (Ok (Block channel n)) → (channel ≡ 0) × HasEndedAt wish h (Frame (take n rest)) end s t
-    → HasStopped wish h rest end s t
-stopped-block {h} {rest} {n} {end} {s} first ended =
-    stops-at (WholeBlock first.0 first.1 first.3 first.4)
-    (block-of rest n (omega (arith, first.3)) first.0.1
-    ∙ ap (λ k. block_events k (take n rest)) (sym first.2 ∙ ended.0)) ended.1
-
-pub stopped-reply : {wish : Wish} {h : History} {rest : List ℕ} {n : ℕ} {end : WatchEnd} {s t : Observed}
-    → IsFirst rest (Ok (Request n)) → HasEndedAt wish h (Reply (take n rest)) end s t → HasStopped wish h rest end s t
-stopped-reply {h} {rest} {n} {end} {s} first ended =
-    stops-at (WholeMessage first.0 first.1 first.2)
-    (reply-of rest n (request-some rest n first) first.0.1 first.0.2) ended
+pub stopped-framing : {wish : Wish} {old : WatchStage} {s : Observed} (fault : DemuxFault)
+    → IsFirst old.rest (Err fault) → HasStopped wish old.history old.rest (Fault Framing) s s
+stopped-framing {old} {s} fault first =
+    stops-now {old = old} {e = record { before = s; after = s }} (inl (refl, (fault, first), refl, refl)) (observed-none s)
 
 -- what two lists of elements send, hand on and leave, one after the other
 requests-in : (wish : Wish) (h : History) (x y : List (List ℕ))
@@ -294,17 +252,19 @@ after-in h x y =
     sym (after-on h (events_of_elements x) (events_of_elements y))
     ∙ ap (history_after h) (sym (flat_map-append element_events x y))
 
-pub stopped-on : {wish : Wish} {h : History} {rest : List ℕ} {mid : Client} {end : WatchEnd} {s t u : Observed}
-    → HasTaken wish h rest mid s t
-    → ((g : History) → HistoryInvariant wish g mid → HasStopped wish g mid.input end t u) → HasStopped wish h rest end s
-    u
-stopped-on {wish} {h} {rest} {mid} {end} {s} first next =
+pub stopped-on : {w : Watcher} {rest : List ℕ} {end : WatchEnd} {s t u : Observed}
+    → HasTaken w.wish w.history rest w.client s t
+    → ((g : History) → HistoryInvariant w.wish g w.client → HasStopped w.wish g w.client.input end t u)
+    → HasStopped w.wish w.history rest end s u
+stopped-on {w} {rest} {end} {s} first next =
+    let wish = w.wish in
+    let h = w.history in
     let a = events_of_elements first.elements in
     let g = history_after h a in
     let second = next g first.passed.keeps in
     let st = second.stops in
     let b = events_of_elements st.elements in
-    let cuts : CutsInTurn rest mid.input st.mid first.elements st.elements =
+    let cuts : CutsInTurn rest w.client.input st.mid first.elements st.elements =
     record { first = first.cut; next = st.cut } in
     record {
       sent = requests_after wish h a ++ second.sent;

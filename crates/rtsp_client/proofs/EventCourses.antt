@@ -1,5 +1,5 @@
 -- Events, one after another, up to the answer.
-use Rattle.std.proofs.Common.{◌≡◌, ℕ, ◌+◌, ◌<◌, List, [], ◌∷◌, ◌++◌, take, Option, Some, None, Ok, IfSome}
+use Rattle.std.proofs.Common.{◌≡◌, ℕ, ◌+◌, ◌^◌, ◌<◌, ◌⊎◌, List, [], ◌∷◌, ◌++◌, take, Option, Some, None, Ok, IfSome}
 use Rattle.std.specs.Prelude.{if◌then◌else◌, is_some, option_map, unwrap_or}
 use Rattle.std.proofs.Common.{refl, sym, ap, subst, ◌∙◌, append_assoc, inl, inr}
 use Rattle.std.proofs.lemmas.List.{append-nil, length-append}
@@ -25,17 +25,17 @@ use Rattle.rtsp_client.specs.HistoryInvariant.{HistoryInvariant, StateInvariant}
 use Rattle.rtsp_client.specs.States.{State, after_slot, new_state}
 use Rattle.rtsp_client.specs.ClientSteps.{HasEnded, HasRound, HasRun, HasStopped, HasTaken, IsUnsent}
 use Rattle.rtsp_client.specs.ClientSteps.{Observed, observed, observed_more}
-use Rattle.rtsp_client.proofs.HistorySteps.{keeps-new, replies-same, session-same, slot-play}
+use Rattle.rtsp_client.proofs.HistorySteps.{keeps-new, replies-same, slot-play}
 use Rattle.rtsp_client.proofs.MeterReadings.{keeps-slot}
-use Rattle.rtsp_client.proofs.ObservedSteps.{observed-none}
+use Rattle.rtsp_client.proofs.ObservedSteps.{ObservedChange, Watcher, observed-none}
 use Rattle.rtsp_client.proofs.ElementSteps.{after-on}
 
 -- ---- one event
 
-pub round-bytes : {wish : Wish} {h : History} {rest bytes : List ℕ} {new : Client} {s t : Observed}
-    → HasTaken wish h (rest ++ bytes) new s t
-    → IsFirst new.input (Ok More) → HasRound wish h rest (HeardBytes bytes) new s t
-round-bytes {h} {new} {s} taken idle = record {
+pub round-bytes : {w : Watcher} {rest bytes : List ℕ} {e : ObservedChange}
+    → HasTaken w.wish w.history (rest ++ bytes) w.client e.before e.after → IsFirst w.client.input (Ok More)
+    → HasRound w.wish w.history rest (HeardBytes bytes) w.client e.before e.after
+round-bytes taken idle = record {
   moments = events_of_elements taken.elements;
   runs = record { brings = (taken.elements, (taken.cut, refl)); good = taken.passed.good; history_is = refl };
   keeps = taken.passed.keeps;
@@ -50,55 +50,53 @@ timed-from o timed s is =
     let Q : IfSome (Some s) (λ (s : RtpSource). 0 < s.picture_time) = subst P is timed in Q
 
 -- a client that waits, with so many bytes cut
-pub record IsWaiting (wish : Wish) (h : History) (c : Client) (cut : ℕ) : Type 0 where
-  pub keeps : HistoryInvariant wish h c
-  pub slot_lasts : 0 < wish.slot_units
-  pub picture_lasts : IfSome c.watching.source (λ (source : RtpSource). 0 < source.picture_time)
-  pub cut_is : cut ≡ cut_bytes c.input
-  pub idle : IsFirst c.input (Ok More)
+pub record IsWaiting (w : Watcher) (cut : ℕ) : Type 0 where
+  pub keeps : HistoryInvariant w.wish w.history w.client
+  pub slot_lasts : 0 < w.wish.slot_units
+  pub picture_lasts : IfSome w.client.watching.source (λ (source : RtpSource). 0 < source.picture_time)
+  pub cut_is : cut ≡ cut_bytes w.client.input
+  pub idle : IsFirst w.client.input (Ok More)
 
--- the client after a slot
-pub record HasHeardSlot (wish : Wish) (c : Client) (slot cut : ℕ) (new : Client) : Type 0 where
-  pub session : new.session ≡ c.session
-  pub input : new.input ≡ c.input
-  pub watching : new.watching ≡ after_slot wish c.watching slot cut
+pub round-slot : {w : Watcher} {slot cut : ℕ} {state : State} {s : Observed} → IsWaiting w cut
+    → state ≡ after_slot w.wish w.client.watching slot cut
+    → HasRound w.wish w.history w.client.input (HeardSlot slot) (record w.client { watching = state }) s s
+round-slot {w} {slot} {cut} {state} {s} waits state_is =
+    let c = w.client in
+    record {
+      moments = Slot slot (cut_bytes c.input) ∷ [];
+      runs = record { brings = (refl, refl); good = (tt, tt); history_is = refl };
+      keeps = record {
+        replies_are = replies-same c state (ap (λ (s : State). s.play) state_is ∙ slot-play w.wish c.watching slot cut)
+            ∙ waits.keeps.replies_are;
+        session_is = waits.keeps.session_is;
+        state = subst (StateInvariant w.wish (Slot slot (cut_bytes c.input) ∷ w.history))
+            (sym (state_is ∙ ap (after_slot w.wish c.watching slot) waits.cut_is))
+            (keeps-slot waits.keeps.state (record {
+              slot_lasts = waits.slot_lasts;
+              picture_lasts = timed-from c.watching.source waits.picture_lasts;
+            }));
+      };
+      idle = waits.idle;
+      sight_is = observed-none s;
+    }
 
-pub round-slot : {wish : Wish} {h : History} {c new : Client} {slot cut : ℕ} {s : Observed}
-    → IsWaiting wish h c cut → HasHeardSlot wish c slot cut new
-    → HasRound wish h c.input (HeardSlot slot) new s s
-round-slot {wish} {h} {c} {new} {slot} {cut} {s} waits later = record {
-  moments = Slot slot (cut_bytes c.input) ∷ [];
-  runs = record { brings = (refl, later.input); good = (tt, tt); history_is = refl };
-  keeps = record {
-    replies_are = replies-same c new later.session (ap (λ (s : State). s.play) later.watching
-        ∙ slot-play wish c.watching slot cut) ∙ waits.keeps.replies_are;
-    session_is = session-same c new later.session ∙ waits.keeps.session_is;
-    state = subst (λ w. StateInvariant wish (Slot slot (cut_bytes c.input) ∷ h) w)
-        (sym (later.watching ∙ ap (after_slot wish c.watching slot) waits.cut_is))
-        (keeps-slot waits.keeps.state
-        (record { slot_lasts = waits.slot_lasts; picture_lasts = timed-from c.watching.source waits.picture_lasts }));
-  };
-  idle = subst (λ i. IsFirst i (Ok More)) (sym later.input) waits.idle;
-  sight_is = observed-none s;
-}
-
-pub ended-bytes : {wish : Wish} {h : History} {rest bytes : List ℕ} {end : WatchEnd} {s t : Observed}
-    → HasStopped wish h (rest ++ bytes) end s t
-    → HasEnded wish h rest (HeardBytes bytes) end s t
-ended-bytes {h} {bytes} {end} {s} stopped = record {
+pub ended-bytes : {wish : Wish} {old : WatchStage} {bytes : List ℕ} {end : WatchEnd} {e : ObservedChange}
+    → HasStopped wish old.history (old.rest ++ bytes) end e.before e.after
+    → HasEnded wish old.history old.rest (HeardBytes bytes) end e.before e.after
+ended-bytes {bytes = bytes} stopped = record {
   sent = stopped.sent;
   out = stopped.out;
   ends = λ count few. inr (inr (bytes, (stopped.sent, (stopped.stops, refl, few))));
   sight_is = stopped.sight_is;
 }
 
-pub ended-peer : {wish : Wish} {h : History} {c : Client} {end : WatchEnd} {s : Observed} → HistoryInvariant wish h c
-    → end ≡ Fault (EndedEarly c.watching.watched.units) → HasEnded wish h c.input HeardEnd end s s
-ended-peer {h} {c} {end} {s} k is = record {
+pub ended-peer : {w : Watcher} {s : Observed} → HistoryInvariant w.wish w.history w.client
+    → HasEnded w.wish w.history w.client.input HeardEnd (Fault (EndedEarly w.client.watching.watched.units)) s s
+ended-peer {s = s} k = record {
   sent = [];
   out = [];
   ends = λ count few. inr (inl
-      (is ∙ ap (λ (w : Watched). Fault (EndedEarly w.units)) k.state.watched_is, few, refl, refl));
+      (ap (λ (w : Watched). Fault (EndedEarly w.units)) k.state.watched_is, few, refl, refl));
   sight_is = observed-none s;
 }
 
@@ -157,35 +155,34 @@ run-none {wish} {client} {s} empty new_ input = record {
     session_is = ap (λ id. unwrap_or (option_map (λ id. id.items) id) []) empty;
     state = subst (λ w. StateInvariant wish [] w) (sym new_) (keeps-new wish);
   };
-  sight_is = ap (λ t. observed t s.out) (sym (told_more-nil s.told))
-      ∙ ap (λ o. observed (told_more s.told []) o) (sym (told_more-nil s.out));
+  sight_is = observed-none s;
 }
 
 -- one more event
-pub run-on : {wish : Wish} {count : ℕ} {event : IoEvent} {c new : Client} {s t u v : Observed}
-    (run : HasRun wish count c s t)
-    → u ≡ observed (told_more t.told (event ∷ [])) t.out
-    → ((h : History) → HistoryInvariant wish h c → HasRound wish h c.input event new u v)
-    → HasRun wish (count + 1) new s v
-run-on {wish} {event} {c} {new} {s} run heard next =
+pub run-on : {wish : Wish} {count : ℕ} {event : IoEvent} {c new : Client} {e d : ObservedChange}
+    (run : HasRun wish count c e.before e.after)
+    → d.before ≡ observed (told_more e.after.told (event ∷ [])) e.after.out
+    → ((h : History) → HistoryInvariant wish h c → HasRound wish h c.input event new d.before d.after)
+    → HasRun wish (count + 1) new e.before d.after
+run-on {wish} {event = event} {c} {e = e} run heard next =
     let round = next run.history run.keeps in
     let r : Round = record { event = event; moments = round.moments } in
     let h : run.history ≡ history_after [] (events_of_rounds run.rounds) =
     history-later (stage [] []) (stage run.history c.input) run.rounds run.runs in
-    let told : told_more (told_more (told_more s.told (rounds_doings wish [] run.rounds)) (event ∷ []))
+    let told : told_more (told_more (told_more e.before.told (rounds_doings wish [] run.rounds)) (event ∷ []))
     (sends (requests_after wish run.history round.moments))
-    ≡ told_more s.told (rounds_doings wish [] (run.rounds ++ r ∷ [])) =
-    told_more-append (told_more s.told (rounds_doings wish [] run.rounds)) (event ∷ [])
+    ≡ told_more e.before.told (rounds_doings wish [] (run.rounds ++ r ∷ [])) =
+    told_more-append (told_more e.before.told (rounds_doings wish [] run.rounds)) (event ∷ [])
     (sends (requests_after wish run.history round.moments))
-    ∙ (told_more-append s.told (rounds_doings wish [] run.rounds)
+    ∙ (told_more-append e.before.told (rounds_doings wish [] run.rounds)
     (event ∷ sends (requests_after wish run.history round.moments))
-    ∙ ap (told_more s.told) (ap
+    ∙ ap (told_more e.before.told) (ap
     (λ g. rounds_doings wish [] run.rounds ++ (event ∷ sends (requests_after wish g round.moments))) h
     ∙ sym (doings-on wish [] run.rounds r))) in
-    let out : told_more (told_more s.out (payloads_of (events_of_rounds run.rounds))) (payloads_of round.moments)
-    ≡ told_more s.out (payloads_of (events_of_rounds (run.rounds ++ r ∷ []))) =
-    told_more-append s.out (payloads_of (events_of_rounds run.rounds)) (payloads_of round.moments)
-    ∙ ap (told_more s.out)
+    let out : told_more (told_more e.before.out (payloads_of (events_of_rounds run.rounds))) (payloads_of round.moments)
+    ≡ told_more e.before.out (payloads_of (events_of_rounds (run.rounds ++ r ∷ []))) =
+    told_more-append e.before.out (payloads_of (events_of_rounds run.rounds)) (payloads_of round.moments)
+    ∙ ap (told_more e.before.out)
     (sym (flat_map-append payload_of (events_of_rounds run.rounds) round.moments)
     ∙ ap payloads_of (sym (moments-of-on run.rounds r))) in
     record {
@@ -198,74 +195,111 @@ run-on {wish} {event} {c} {new} {s} run heard next =
           ∙ (ap (λ x. observed_more x (requests_after wish run.history round.moments) (payloads_of round.moments))
           (heard ∙ ap (λ (y : Observed). observed (told_more y.told (event ∷ [])) y.out) run.sight_is)
           ∙ (ap (λ x. observed x
-          (told_more (told_more s.out (payloads_of (events_of_rounds run.rounds))) (payloads_of round.moments))) told
-          ∙ ap (λ o. observed (told_more s.told (rounds_doings wish [] (run.rounds ++ r ∷ []))) o) out));
+          (told_more (told_more e.before.out (payloads_of (events_of_rounds run.rounds))) (payloads_of round.moments))) told
+          ∙ ap (λ o. observed (told_more e.before.told (rounds_doings wish [] (run.rounds ++ r ∷ []))) o) out));
     }
 
--- the course: SETUP was sent, and then events came
-course-of : {wish : Wish} {count : ℕ} {c : Client} {end : WatchEnd} {told0 : Option (List IoEvent)}
-    {out0 : Option (List ℕ)} {s t : Observed} {doings : List IoEvent} {out : List ℕ} {new_told : Option (List IoEvent)}
-    {new_out : Option (List ℕ)} (run : HasRun wish count c s t)
-    → s ≡ observed (told_more told0 (sends (setup_text wish))) out0
-    → Ends wish (stage run.history c.input) count end doings out
-    → new_told ≡ told_more t.told doings → new_out ≡ told_more t.out out
-    → HasWatched wish end told0 new_told out0 new_out
-course-of {wish} {c} {end} {told0} {out0} {s} {doings} {out} run begun ends told_is out_is =
-    let d = rounds_doings wish [] run.rounds in
+-- a run from SETUP on, before which link and output had exposed `old`
+pub record StartedRun : Type 0 where
+  pub wish : Wish
+  pub count : ℕ
+  pub client : Client
+  pub old : Observed
+  pub change : ObservedChange
+  pub begun : change.before ≡ observed (told_more old.told (sends (setup_text wish))) old.out
+  pub run : HasRun wish count client change.before change.after
+
+abbrev pub started : {wish : Wish} {count : ℕ} {client : Client} {change : ObservedChange} (old : Observed)
+    → HasRun wish count client change.before change.after
+    → change.before ≡ observed (told_more old.told (sends (setup_text wish))) old.out → StartedRun
+started {wish} {count} {client} {change} old run begun = record {
+  wish = wish;
+  count = count;
+  client = client;
+  old = old;
+  change = change;
+  begun = begun;
+  run = run;
+}
+
+-- what ends it: the answer, and what link and output expose last
+pub record LastEvent (r : StartedRun) (end : WatchEnd) (new : Observed) : Type 0 where
+  pub doings : List IoEvent
+  pub out : List ℕ
+  pub ends : Ends r.wish (stage r.run.history r.client.input) r.count end doings out
+  pub told_is : new.told ≡ told_more r.change.after.told doings
+  pub out_is : new.out ≡ told_more r.change.after.out out
+
+course-of : {end : WatchEnd} {new : Observed} (r : StartedRun) → LastEvent r end new
+    → HasWatched r.wish end r.old.told new.told r.old.out new.out
+course-of {end} r last =
+    let run = r.run in
+    let d = rounds_doings r.wish [] run.rounds in
+    let setup = sends (setup_text r.wish) in
+    let payloads = payloads_of (events_of_rounds run.rounds) in
     inl (record {
       rounds = run.rounds;
-      mid = stage run.history c.input;
+      mid = stage run.history r.client.input;
       runs = run.runs;
-      last_doings = doings;
-      last_out = out;
-      ends = subst (λ n. Ends wish (stage run.history c.input) n end doings out) (sym run.count_is) ends;
-      told = told_is
-          ∙ (ap (λ (x : Observed). told_more x.told doings) run.sight_is
-          ∙ (ap (λ (x : Observed). told_more (told_more x.told d) doings) begun
-          ∙ (told_more-append (told_more told0 (sends (setup_text wish))) d doings
-          ∙ told_more-append told0 (sends (setup_text wish)) (d ++ doings))));
-      out = out_is
-          ∙ (ap (λ (x : Observed). told_more x.out out) run.sight_is
-          ∙ (ap (λ (x : Observed). told_more (told_more x.out (payloads_of (events_of_rounds run.rounds))) out) begun
-          ∙ told_more-append out0 (payloads_of (events_of_rounds run.rounds)) out));
+      last_doings = last.doings;
+      last_out = last.out;
+      ends = subst (λ n. Ends r.wish (stage run.history r.client.input) n end last.doings last.out) (sym run.count_is)
+          last.ends;
+      told = last.told_is
+          ∙ (ap (λ (x : Observed). told_more x.told last.doings) run.sight_is
+          ∙ (ap (λ (x : Observed). told_more (told_more x.told d) last.doings) r.begun
+          ∙ (told_more-append (told_more r.old.told setup) d last.doings
+          ∙ told_more-append r.old.told setup (d ++ last.doings))));
+      out = last.out_is
+          ∙ (ap (λ (x : Observed). told_more x.out last.out) run.sight_is
+          ∙ (ap (λ (x : Observed). told_more (told_more x.out payloads) last.out) r.begun
+          ∙ told_more-append r.old.out payloads last.out));
     })
 
 -- an event gave the answer
-pub watched-end : {wish : Wish} {count : ℕ} {event : IoEvent} {c : Client} {end : WatchEnd}
-    {told0 : Option (List IoEvent)} {out0 : Option (List ℕ)} {s t u v : Observed} (run : HasRun wish count c s t)
-    → s ≡ observed (told_more told0 (sends (setup_text wish))) out0 → count < 1099511627776
-    → u ≡ observed (told_more t.told (event ∷ [])) t.out
-    → ((h : History) → HistoryInvariant wish h c → HasEnded wish h c.input event end u v)
-    → HasWatched wish end told0 v.told out0 v.out
-watched-end {count} {event} {c} {end} {s} {t} run begun few heard next =
-    let ended = next run.history run.keeps in
-    course-of run begun (ended.ends count few)
-    (ap (λ (x : Observed). x.told) ended.sight_is
-    ∙ (ap (λ (x : Observed). told_more x.told (sends ended.sent)) heard
-    ∙ told_more-append t.told (event ∷ []) (sends ended.sent)))
-    (ap (λ (x : Observed). x.out) ended.sight_is ∙ ap (λ (x : Observed). told_more x.out ended.out) heard)
+pub watched-end : {event : IoEvent} {end : WatchEnd} {d : ObservedChange} (r : StartedRun) → r.count < 1099511627776
+    → d.before ≡ observed (told_more r.change.after.told (event ∷ [])) r.change.after.out
+    → ((h : History) → HistoryInvariant r.wish h r.client
+    → HasEnded r.wish h r.client.input event end d.before d.after)
+    → HasWatched r.wish end r.old.told d.after.told r.old.out d.after.out
+watched-end {event} {d = d} r few heard next =
+    let ended = next r.run.history r.run.keeps in
+    course-of {new = d.after} r (record {
+      doings = event ∷ sends ended.sent;
+      out = ended.out;
+      ends = ended.ends r.count few;
+      told_is = ap (λ (x : Observed). x.told) ended.sight_is
+          ∙ (ap (λ (x : Observed). told_more x.told (sends ended.sent)) heard
+          ∙ told_more-append r.change.after.told (event ∷ []) (sends ended.sent));
+      out_is = ap (λ (x : Observed). x.out) ended.sight_is ∙ ap (λ (x : Observed). told_more x.out ended.out) heard;
+    })
 
 -- no further event was received
-pub watched-lost : {wish : Wish} {count : ℕ} {c : Client} {end : WatchEnd} {told0 : Option (List IoEvent)}
-    {out0 : Option (List ℕ)} {s t : Observed} {new_told : Option (List IoEvent)} (run : HasRun wish count c s t)
-    → s ≡ observed (told_more told0 (sends (setup_text wish))) out0
-    → count < 1099511627776 → end ≡ LinkFault → new_told ≡ t.told → HasWatched wish end told0 new_told out0 t.out
-watched-lost {c} {end} {s} {t} run begun few is same =
-    course-of run begun (inl (inl (is, few), refl, refl)) (same ∙ sym (told_more-nil t.told))
-    (sym (told_more-nil t.out))
+watched-unheard : {end : WatchEnd} {new : Observed} (r : StartedRun) → new ≡ r.change.after
+    → ((end ≡ LinkFault) × (r.count < 2 ^ 40)) ⊎ ((end ≡ Fault TurnsSpent) × (r.count ≡ 2 ^ 40))
+    → HasWatched r.wish end r.old.told new.told r.old.out new.out
+watched-unheard {new = new} r same cause =
+    course-of {new = new} r (record {
+      doings = [];
+      out = [];
+      ends = inl (cause, refl, refl);
+      told_is = ap (λ (x : Observed). x.told) same ∙ sym (told_more-nil r.change.after.told);
+      out_is = ap (λ (x : Observed). x.out) same ∙ sym (told_more-nil r.change.after.out);
+    })
 
-pub watched-spent : {wish : Wish} {count : ℕ} {c : Client} {told0 : Option (List IoEvent)} {out0 : Option (List ℕ)}
-    {s t : Observed} (run : HasRun wish count c s t) → s ≡ observed (told_more told0 (sends (setup_text wish))) out0
-    → count ≡ 1099511627776
-    → HasWatched wish (Fault TurnsSpent) told0 t.told out0 t.out
-watched-spent {c} {s} {t} run begun all =
-    course-of run begun (inl (inr (refl, all), refl, refl)) (sym (told_more-nil t.told)) (sym (told_more-nil t.out))
+pub watched-lost : {new_told : Option (List IoEvent)} (r : StartedRun) → r.count < 1099511627776
+    → new_told ≡ r.change.after.told → HasWatched r.wish LinkFault r.old.told new_told r.old.out r.change.after.out
+watched-lost r few same = watched-unheard r (ap (λ t. observed t r.change.after.out) same) (inl (refl, few))
+
+pub watched-spent : (r : StartedRun) → r.count ≡ 1099511627776
+    → HasWatched r.wish (Fault TurnsSpent) r.old.told r.change.after.told r.old.out r.change.after.out
+watched-spent r all = watched-unheard {new = r.change.after} r refl (inr (refl, all))
 
 -- it didn't begin
-pub watched-not : (wish : Wish) (end : WatchEnd) (told : Option (List IoEvent)) (out : Option (List ℕ)) → end ≡ NoMemory
-    → HasWatched wish end told told out out
-watched-not wish end told out is =
-    inr (record { front = []; cause = inl (is, refl); told = sym (told_more-nil told); out = refl })
+pub watched-not : (wish : Wish) (told : Option (List IoEvent)) (out : Option (List ℕ))
+    → HasWatched wish NoMemory told told out out
+watched-not wish told out =
+    inr (record { front = []; cause = inl (refl, refl); told = sym (told_more-nil told); out = refl })
 
 pub watched-unsent : (wish : Wish) (end : WatchEnd) (told new_told : Option (List IoEvent))
     (out : Option (List ℕ)) → IsUnsent end wish told new_told

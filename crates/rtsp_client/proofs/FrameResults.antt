@@ -22,194 +22,149 @@ use Rattle.rtsp_client.specs.ClientState.{session_of}
 use Rattle.rtsp_client.specs.States.{State, after_frame, after_report, has_all, source_with}
 use Rattle.rtsp_client.specs.ClientSteps.{HasEndedAt, HasTakenEvents, Observed, observed, observed_more}
 use Rattle.rtsp_client.proofs.HistorySteps.{complete-is, good-is, keeps-frame, keeps-report, replies-same, report-play}
-use Rattle.rtsp_client.proofs.HistorySteps.{session-same}
 use Rattle.rtsp_client.proofs.ReplyResults.{gives, passed-one}
 use Rattle.rtsp_client.proofs.Sources.{rest-whole}
-use Rattle.rtsp_client.proofs.ObservedSteps.{all-front, no-front, observed-both, observed-handed, observed-none}
+use Rattle.rtsp_client.proofs.ObservedSteps.{HasSentPart, ObservedChange, Watcher, all-front, no-front, observed-handed}
+use Rattle.rtsp_client.proofs.ObservedSteps.{observed-none}
 
 -- it isn't the next frame
-pub bad-frame : {wish : Wish} {h : History} {c : Client} {b : List ℕ} {end : WatchEnd} {s : Observed} → HistoryInvariant
-    wish h c
-    → source_with c.watching b ≡ None → end ≡ Fault (BadFrame c.watching.watched.frames)
-    → HasEndedAt wish h (Frame b) end s s
-bad-frame {wish} {h} {c} {b} {end} {s} k none is =
-    gives wish h (Frame b) end s (
-      good-is wish h c.watching b k.state ∙ ap is_some none,
-      is ∙ ap (λ (w : Watched). Fault (BadFrame w.frames)) k.state.watched_is,
+pub bad-frame : {w : Watcher} {b : List ℕ} {s : Observed} → HistoryInvariant w.wish w.history w.client
+    → source_with w.client.watching b ≡ None
+    → HasEndedAt w.wish w.history (Frame b) (Fault (BadFrame w.client.watching.watched.frames)) s s
+bad-frame {w} {b} k none =
+    gives (Frame b) (
+      good-is w.wish w.history w.client.watching b k.state ∙ ap is_some none,
+      ap (λ (w : Watched). Fault (BadFrame w.frames)) k.state.watched_is,
     )
 
-frame-good : {wish : Wish} {h : History} {c : Client} {next : RtpSource} (b : List ℕ) → HistoryInvariant wish h c
-    → source_with c.watching b ≡ Some next
-    → GoesOn h (Frame b)
-frame-good {wish} {h} {c} {next} b k some = good-is wish h c.watching b k.state ∙ ap is_some some
-
--- there was no memory, before the payload was handed on or after it
-pub frame-starved : {wish : Wish} {h : History} {c : Client} {b : List ℕ} {next : RtpSource} {end : WatchEnd}
-    {s : Observed} → HistoryInvariant wish h c
-    → source_with c.watching b ≡ Some next → end ≡ NoMemory → HasEndedAt wish h (Frame b) end s s
-frame-starved {wish} {h} {c} {b} {next} {end} {s} k some is = record {
-  sent = [];
-  out = [];
-  comes = inr (frame-good b k some, subst (λ e. Fails wish h (Frame b) e [] []) (sym is) (refl, no-front (drop 20 b)));
-  sight_is = observed-none s;
-}
-
-pub teardown-starved : {wish : Wish} {h : History} {c : Client} {b : List ℕ} {next : RtpSource} {end : WatchEnd}
-    {out new_out : Option (List ℕ)} (told : Option (List IoEvent)) → HistoryInvariant wish h c
-    → source_with c.watching b ≡ Some next → end ≡ NoMemory
-    → new_out ≡ told_more out (drop 20 b) → HasEndedAt wish h (Frame b) end (observed told out) (observed told new_out)
-teardown-starved {wish} {h} {c} {b} {next} {end} {out} {new_out} told k some is handed = record {
-  sent = [];
-  out = drop 20 b;
-  comes = inr (
-    frame-good b k some,
-    subst (λ e. Fails wish h (Frame b) e [] (drop 20 b)) (sym is) (refl, all-front (drop 20 b)),
-  );
-  sight_is = observed-handed told out new_out (drop 20 b) handed;
-}
-
--- the output failed
-pub frame-cut : {wish : Wish} {h : History} {c : Client} {b : List ℕ} {next : RtpSource} {end : WatchEnd}
-    {out new_out : Option (List ℕ)} (told : Option (List IoEvent)) → HistoryInvariant wish h c
-    → source_with c.watching b ≡ Some next → end ≡ SinkFault
-    → IsWrittenPrefix out new_out (drop 20 b) → HasEndedAt wish h (Frame b) end (observed told out) (observed told
-    new_out)
-frame-cut {wish} {h} {c} {b} {next} {end} {out} {new_out} told k some is front = record {
-  sent = [];
-  out = take front.0 (drop 20 b);
-  comes = inr (
-    frame-good b k some,
-    subst (λ e. Fails wish h (Frame b) e [] (take front.0 (drop 20 b))) (sym is) (refl, (front.0, (front.1.0, refl))),
-  );
-  sight_is = observed-handed told out new_out (take front.0 (drop 20 b)) front.1.1;
-}
-
 -- what the frames say with the first block, and the block's payload, where `w` is the input
-pub source-here : {w : List ℕ} {found answer : Option RtpSource} (c : Client) (n : ℕ) → w ≡ c.input
-    → found ≡ source_with c.watching (take n w) → found ≡ answer → source_with c.watching (take n c.input) ≡ answer
-source-here c n same found is = ap (λ i. source_with c.watching (take n i)) (sym same) ∙ (sym found ∙ is)
+pub source-here : {w : List ℕ} {found : Option RtpSource} (c : Client) (n : ℕ) → w ≡ c.input
+    → found ≡ source_with c.watching (take n w) → found ≡ source_with c.watching (take n c.input)
+source-here c n same found = found ∙ ap (λ i. source_with c.watching (take n i)) same
 
 pub payload-here : {w : List ℕ} (c : Client) (n : ℕ) → w ≡ c.input
     → take (length (take n w) - 20) (drop 20 (take n w)) ≡ drop 20 (take n c.input)
 payload-here {w} c n same = rest-whole 20 (take n w) ∙ ap (λ i. drop 20 (take n i)) same
 
--- a frame is the film's next one, and the client took it up
-pub record TakenFrame (wish : Wish) (h : History) (c mid : Client) (b : List ℕ) (next : RtpSource) : Type 0 where
-  pub keeps : HistoryInvariant wish h c
-  pub next_is : source_with c.watching b ≡ Some next
-  pub long : 20 ≤ length b
-  pub session : mid.session ≡ c.session
-  pub watching : mid.watching ≡ after_frame c.watching next (length b)
+-- a block is the film's next frame
+pub record FoundFrame (w : Watcher) (b : List ℕ) : Type 0 where
+  pub source : RtpSource
+  pub keeps : HistoryInvariant w.wish w.history w.client
+  pub next_is : source_with w.client.watching b ≡ Some source
 
-frame-taken : {wish : Wish} {h : History} {c mid : Client} {b : List ℕ} {next : RtpSource}
-    → TakenFrame wish h c mid b next → GoesOn h (Frame b)
-frame-taken {b} taken = frame-good b taken.keeps taken.next_is
+frame-good : {w : Watcher} {b : List ℕ} → FoundFrame w b → GoesOn w.history (Frame b)
+frame-good {w} {b} found =
+    good-is w.wish w.history w.client.watching b found.keeps.state ∙ ap is_some found.next_is
+
+-- there was no memory, before the payload was handed on or after it
+pub frame-starved : {w : Watcher} {b : List ℕ} {s : Observed} → FoundFrame w b
+    → HasEndedAt w.wish w.history (Frame b) NoMemory s s
+frame-starved {b} {s} found = record {
+  sent = [];
+  out = [];
+  comes = inr (frame-good found, (refl, no-front (drop 20 b)));
+  sight_is = observed-none s;
+}
+
+pub teardown-starved : {w : Watcher} {b : List ℕ} {e : ObservedChange} → FoundFrame w b
+    → e.after ≡ observed_more e.before [] (drop 20 b)
+    → HasEndedAt w.wish w.history (Frame b) NoMemory e.before e.after
+teardown-starved {b} found handed = record {
+  sent = [];
+  out = drop 20 b;
+  comes = inr (frame-good found, (refl, all-front (drop 20 b)));
+  sight_is = handed;
+}
+
+-- the output failed
+pub frame-cut : {w : Watcher} {b : List ℕ} {told : Option (List IoEvent)} {out new : Option (List ℕ)} → FoundFrame w b
+    → IsWrittenPrefix out new (drop 20 b)
+    → HasEndedAt w.wish w.history (Frame b) SinkFault (observed told out) (observed told new)
+frame-cut {b} found front = record {
+  sent = [];
+  out = take front.0 (drop 20 b);
+  comes = inr (frame-good found, (refl, (front.0, (front.1.0, refl))));
+  sight_is = observed-handed _ _ (take front.0 (drop 20 b)) front.1.1;
+}
+
+-- the film's next frame was counted
+pub record TakenFrame (w : Watcher) (b : List ℕ) : Type 0 where
+  pub found : FoundFrame w b
+  pub long : 20 ≤ length b
+  pub state : State
+  pub state_is : state ≡ after_frame w.client.watching found.source (length b)
 
 -- the client after the frame
-keeps-taken : {wish : Wish} {h : History} {c mid : Client} {b : List ℕ} {next : RtpSource}
-    → TakenFrame wish h c mid b next
-    → HistoryInvariant wish (Frame b ∷ h) mid
-keeps-taken {wish} {h} {c} {mid} {b} taken = record {
-  replies_are = replies-same c mid taken.session (ap (λ (s : State). s.play) taken.watching) ∙ taken.keeps.replies_are;
-  session_is = session-same c mid taken.session ∙ taken.keeps.session_is;
-  state = subst (λ w. StateInvariant wish (Frame b ∷ h) w) (sym taken.watching)
-      (keeps-frame taken.keeps.state taken.next_is taken.long);
-}
+keeps-taken : {w : Watcher} {b : List ℕ} (taken : TakenFrame w b)
+    → HistoryInvariant w.wish (Frame b ∷ w.history) (record w.client { watching = taken.state })
+keeps-taken {w} {b} taken =
+    let k = taken.found.keeps in
+    record {
+      replies_are = replies-same w.client taken.state (ap (λ (s : State). s.play) taken.state_is) ∙ k.replies_are;
+      session_is = k.session_is;
+      state = subst (StateInvariant w.wish (Frame b ∷ w.history)) (sym taken.state_is)
+          (keeps-frame k.state taken.found.next_is taken.long);
+    }
 
--- the first bytes of the input, which is `w`, were read as the film's next frame; `found` is what
--- the frames say with it
-pub record ReadFrame (wish : Wish) (h : History) (c : Client) (n : ℕ) (w : List ℕ)
-    (found : Option RtpSource) (next : RtpSource) : Type 0 where
-  pub keeps : HistoryInvariant wish h c
-  pub same : w ≡ c.input
-  pub within : n ≤ length c.input
-  pub found_is : found ≡ source_with c.watching (take n w)
-  pub next_is : found ≡ Some next
-  pub long : 20 ≤ length (take n w)
-
--- and the frame was counted
-pub taken-frame : {wish : Wish} {h : History} {w : List ℕ} {found : Option RtpSource} {next : RtpSource} {state : State}
-    (c : Client) (n : ℕ) → ReadFrame wish h c n w found next
-    → state ≡ after_frame c.watching next n
-    → TakenFrame wish h c (record c { watching = state }) (take n c.input) next
-taken-frame {next} c n read state = record {
-  keeps = read.keeps;
-  next_is = source-here c n read.same read.found_is read.next_is;
-  long = subst (λ (i : List ℕ). 20 ≤ length (take n i)) read.same read.long;
-  session = refl;
-  watching = state ∙ ap (after_frame c.watching next) (sym (length-take-le n c.input read.within));
-}
+complete-now : {w : Watcher} {b : List ℕ} (taken : TakenFrame w b) → has_all taken.state ≡ is_complete (Frame b ∷ w.history)
+complete-now {w} {b} taken = complete-is w.wish (Frame b ∷ w.history) taken.state (keeps-taken taken).state
 
 -- it goes on, and no request is sent
-pub frame-done : {wish : Wish} {h : History} {c mid : Client} {b : List ℕ} {next : RtpSource}
-    {out new_out : Option (List ℕ)} (told : Option (List IoEvent)) → TakenFrame wish h c mid b next
-    → has_all mid.watching ≡ false
-    → new_out ≡ told_more out (drop 20 b) → HasTakenEvents wish h (Frame b ∷ []) mid (observed told out) (observed told
-    new_out)
-frame-done {wish} {h} {mid} {b} {out} {new_out} told taken open_ handed =
-    let keeps = keeps-taken taken in
-    let unmet : is_complete (Frame b ∷ h) ≡ false =
-    sym (complete-is wish (Frame b ∷ h) mid.watching keeps.state) ∙ open_ in
-    passed-one (frame-taken taken) keeps
-    (observed-handed told out new_out (drop 20 b) handed
-    ∙ ap (λ a. observed_more (observed told out) a (drop 20 b))
-    (sym (cond-false (is_complete (Frame b ∷ h)) (teardown_text wish (session h)) [] unmet)))
+pub frame-done : {w : Watcher} {b : List ℕ} {e : ObservedChange} (taken : TakenFrame w b)
+    → has_all taken.state ≡ false → e.after ≡ observed_more e.before [] (drop 20 b)
+    → HasTakenEvents w.wish w.history (Frame b ∷ []) (record w.client { watching = taken.state }) e.before e.after
+frame-done {w} {b} {e} taken open_ handed =
+    passed-one {w = record w { client = record w.client { watching = taken.state } }} {e = e}
+    (frame-good taken.found) (keeps-taken taken)
+    (handed ∙ ap (λ a. observed_more e.before a (drop 20 b)) (sym (cond-false (is_complete (Frame b ∷ w.history))
+    (teardown_text w.wish (session w.history)) [] (sym (complete-now taken) ∙ open_))))
 
-request-last : {wish : Wish} {h : History} {c mid : Client} {b : List ℕ} {next : RtpSource}
-    → TakenFrame wish h c mid b next
-    → has_all mid.watching ≡ true
-    → request_after wish h (Frame b) ≡ teardown_text wish (session_of c)
-request-last {wish} {h} {mid} {b} taken all =
-    cond-true (is_complete (Frame b ∷ h)) (teardown_text wish (session h)) []
-    (sym (complete-is wish (Frame b ∷ h) mid.watching (keeps-taken taken).state) ∙ all)
-    ∙ ap (teardown_text wish) (sym taken.keeps.session_is)
+request-last : {w : Watcher} {b : List ℕ} (taken : TakenFrame w b) → has_all taken.state ≡ true
+    → request_after w.wish w.history (Frame b) ≡ teardown_text w.wish (session_of w.client)
+request-last {w} {b} taken all =
+    cond-true (is_complete (Frame b ∷ w.history)) (teardown_text w.wish (session w.history)) []
+    (sym (complete-now taken) ∙ all)
+    ∙ ap (teardown_text w.wish) (sym taken.found.keeps.session_is)
 
 -- all units are complete, and TEARDOWN was sent
-pub last-done : {wish : Wish} {h : History} {c mid : Client} {b : List ℕ} {next : RtpSource}
-    {new_told : Option (List IoEvent)}
-    {out new_out : Option (List ℕ)} (told : Option (List IoEvent)) → TakenFrame wish h c mid b next
-    → has_all mid.watching ≡ true
-    → new_out ≡ told_more out (drop 20 b) → new_told ≡ told_more told (sends (teardown_text wish (session_of c)))
-    → HasTakenEvents wish h (Frame b ∷ []) mid (observed told out) (observed new_told new_out)
-last-done {wish} {h} {b} {new_told} {out} told taken all handed sent =
-    let P : List ℕ → Type 0 = λ text. new_told ≡ told_more told (sends text) in
-    passed-one (frame-taken taken) (keeps-taken taken)
-    (observed-both told out (request_after wish h (Frame b)) (drop 20 b)
-    (subst P (sym (request-last taken all)) sent) handed)
+pub last-done : {w : Watcher} {b : List ℕ} {e : ObservedChange} (taken : TakenFrame w b)
+    → has_all taken.state ≡ true
+    → e.after ≡ observed_more e.before (teardown_text w.wish (session_of w.client)) (drop 20 b)
+    → HasTakenEvents w.wish w.history (Frame b ∷ []) (record w.client { watching = taken.state }) e.before e.after
+last-done {w} {b} {e} taken all sent =
+    passed-one {w = record w { client = record w.client { watching = taken.state } }} {e = e}
+    (frame-good taken.found) (keeps-taken taken)
+    (sent ∙ ap (λ a. observed_more e.before a (drop 20 b)) (sym (request-last taken all)))
 
 -- or TEARDOWN was sent in part
-pub last-cut : {wish : Wish} {h : History} {c mid : Client} {b : List ℕ} {next : RtpSource} {end : WatchEnd}
-    {told new_told : Option (List IoEvent)}
-    {out new_out : Option (List ℕ)} → TakenFrame wish h c mid b next → has_all mid.watching ≡ true → end ≡ LinkFault
-    → new_out ≡ told_more out (drop 20 b) → IsSentPrefix told new_told (teardown_text wish (session_of c))
-    → HasEndedAt wish h (Frame b) end (observed told out) (observed new_told new_out)
-last-cut {wish} {h} {c} {b} {told} {new_told} {out} {new_out} taken all is handed front =
-    let text = teardown_text wish (session_of c) in
-    let F : List ℕ → Type 0 = λ t. IsPrefixOf (take front.0 text) t in
+pub last-cut : {w : Watcher} {b : List ℕ} {e : ObservedChange} (taken : TakenFrame w b) → has_all taken.state ≡ true
+    → HasSentPart e (teardown_text w.wish (session_of w.client)) (drop 20 b)
+    → HasEndedAt w.wish w.history (Frame b) LinkFault e.before e.after
+last-cut {w} {b} taken all part =
+    let front = take part.sent (teardown_text w.wish (session_of w.client)) in
     record {
-      sent = take front.0 text;
+      sent = front;
       out = drop 20 b;
       comes = inr (
-        frame-taken taken,
-        subst (λ e. Fails wish h (Frame b) e (take front.0 text) (drop 20 b)) (sym is)
-            (subst F (sym (request-last taken all)) (front.0, (front.1.0, refl)), refl),
+        frame-good taken.found,
+        (subst (IsPrefixOf front) (sym (request-last taken all)) (part.sent, (part.within, refl)), refl),
       );
-      sight_is =
-          observed-both {new = new_told} {new_out = new_out} told out (take front.0 text) (drop 20 b) front.1.1 handed;
+      sight_is = part.sight_is;
     }
 
 -- ---- a report
 
-pub report-done : {wish : Wish} {h : History} {c new : Client} {b : List ℕ} {s : Observed} → HistoryInvariant wish h c
-    → new.session ≡ c.session → new.watching ≡ after_report c.watching (length b)
-    → HasTakenEvents wish h (Report b ∷ []) new s s
-report-done {wish} {h} {c} {new} {b} {s} k same state =
-    passed-one tt
+pub report-done : {w : Watcher} {b : List ℕ} {state : State} {s : Observed} → HistoryInvariant w.wish w.history w.client
+    → state ≡ after_report w.client.watching (length b)
+    → HasTakenEvents w.wish w.history (Report b ∷ []) (record w.client { watching = state }) s s
+report-done {w} {b} {state} {s} k is =
+    passed-one {w = record w { client = record w.client { watching = state } }} {e = record { before = s; after = s }} tt
     (record {
-      replies_are = replies-same c new same (ap (λ (s : State). s.play) state ∙ report-play c.watching (length b))
+      replies_are = replies-same w.client state (ap (λ (s : State). s.play) is ∙ report-play w.client.watching (length b))
           ∙ k.replies_are;
-      session_is = session-same c new same ∙ k.session_is;
-      state = subst (λ w. StateInvariant wish (Report b ∷ h) w) (sym state) (keeps-report wish h c.watching b k.state);
+      session_is = k.session_is;
+      state = subst (StateInvariant w.wish (Report b ∷ w.history)) (sym is)
+          (keeps-report w.wish w.history w.client.watching b k.state);
     })
     (observed-none s)
 

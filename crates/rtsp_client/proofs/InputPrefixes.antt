@@ -12,7 +12,6 @@ pub whole-request : (b w : List ℕ) (n : ℕ) → IsFirst b (Ok (Request n)) �
 whole-request b w n first same =
     subst (λ x. IsMessageLength (take n x) (length (take n x))) (sym same) (first_taken b n first)
 
-pub goes-on : (c new : Client) (n : ℕ) → new.watching.received ≤ c.watching.received + n
-    → n ≤ length c.input →
-    new.input ≡ drop n c.input → bytes_in new ≤ bytes_in c
-goes-on c new n few within dropped = omega (arith, few, within, ap length dropped, length-drop n c.input)
+pub goes-on : {received : ℕ} {input : List ℕ} (c : Client) (n : ℕ) → received ≤ c.watching.received + n
+    → n ≤ length c.input → input ≡ drop n c.input → received + length input ≤ bytes_in c
+goes-on c n few within dropped = omega (arith, few, within, ap length dropped, length-drop n c.input)

@@ -1,8 +1,8 @@
 -- A meter between empty and the buffer.
-use Rattle.std.proofs.Common.{◌≡◌, ℕ, zero, suc, ◌+◌, ◌-◌, ◌*◌, ◌/◌, ◌<◌, ◌≤◌, ◌==◌, ◌&&◌, Bool}
+use Rattle.std.proofs.Common.{◌≡◌, ℕ, zero, suc, ◌+◌, ◌-◌, ◌*◌, ◌/◌, ◌<◌, ◌≤◌, ◌==◌, ◌&&◌, ◌↔◌, Bool}
 use Rattle.std.proofs.Common.{true, false, not, nat_lt, nat_le, cond, List, [], ◌∷◌, length, take}
 use Rattle.std.proofs.Common.{sum, max, refl, sym, ap, subst, ◌∙◌, arith, inl, inr}
-use Rattle.std.proofs.lemmas.Bool.{cases_lt, eq-eqb, lt-ltb, le-ltb, lt-leb}
+use Rattle.std.proofs.lemmas.Bool.{and_from, and_right, cases_Bool, cases_lt, eq-eqb, lt-ltb, le-ltb, lt-leb}
 use Rattle.std.proofs.lemmas.List.{take_all, take-take}
 use Rattle.std.proofs.Math.Nat.{div-eq_of_lt}
 use Rattle.std.specs.Int.{div_ceil}
@@ -16,21 +16,31 @@ use Rattle.rtsp_client.specs.Meters.{bytes_waiting}
 use Rattle.rtsp_client.specs.MeterGuarantee.{IsBetween, IsBetweenAlways, IsFilmHeard}
 use Rattle.rtsp_client.proofs.MeterReadings.{Durations, no-units, used-early, used-late, used-sum}
 
+-- a film's units, played at a wish
+pub record FilmPlay : Type 0 where
+  pub wish : Wish
+  pub all : List ℕ
+  pub picture_time : ℕ
+  pub lasts : Durations wish.slot_units picture_time
+
+abbrev pub IsBetweenIn : FilmPlay → ℕ → ℕ → Type 0
+IsBetweenIn f slot came = IsBetween f.wish f.all f.picture_time slot came
+
 -- the next unit isn't used yet
-not-yet : {wish : Wish} {all : List ℕ} {p j came : ℕ} (n : ℕ) → Durations wish.slot_units p
-    → IsBetween wish all p j came
-    → came < sum (take (n + 1) all) → j < use_slot wish p n
-not-yet {wish} {all} {p} {j} n lasts between next =
-    elim (cases_lt j (use_slot wish p n)) [
+not-yet : {j came : ℕ} (f : FilmPlay) (n : ℕ) → IsBetweenIn f j came → came < sum (take (n + 1) f.all)
+    → j < use_slot f.wish f.picture_time n
+not-yet {j} f n between next =
+    elim (cases_lt j (use_slot f.wish f.picture_time n)) [
       | inl early ↦ early
       | inr due ↦
-          let c = div_ceil ((j + 1 - wish.startup) * wish.slot_units) p in
-          let used : used_before wish p (j + 1) 0 all ≡ sum (take (c - 0) all) = used-sum wish (j + 1) 0 all lasts in
+          let c = div_ceil ((j + 1 - f.wish.startup) * f.wish.slot_units) f.picture_time in
+          let used : used_before f.wish f.picture_time (j + 1) 0 f.all ≡ sum (take (c - 0) f.all) =
+          used-sum f.wish (j + 1) 0 f.all f.lasts in
           let many : n < c = elim (cases_lt n c) [
             | inl more ↦ more
-            | inr few ↦ absurd (omega (arith, due, used-late wish.startup (j + 1) n lasts few))
+            | inr few ↦ absurd (omega (arith, due, used-late f.wish.startup (j + 1) n f.lasts few))
           ] in
-          absurd (omega (arith, used, between.low, next, sum-take-rises all (n + 1) (c - 0) (omega (arith, many))))
+          absurd (omega (arith, used, between.low, next, sum-take-rises f.all (n + 1) (c - 0) (omega (arith, many))))
     ]
 
 -- what is used of the complete units is what is used of the film
@@ -60,23 +70,19 @@ used-time wish h p j is =
           ap (used_before wish (time h) j 0) empty ∙ sym (ap (used_before wish p j 0) empty)
     ]
 
-played-is : {wish : Wish} {all : List ℕ} {p : ℕ} {h : History} {j cut : ℕ} → Durations wish.slot_units p
-    → IsFilmHeard all p h cut
-    → IsBetween wish all p j (bytes_received h + cut) → played_before wish h j ≡ used_before wish p j 0 all
-played-is {wish} {all} {p} {h} {j} {cut} lasts heard between =
+played-is : {h : History} {j cut : ℕ} (f : FilmPlay) → IsFilmHeard f.all f.picture_time h cut
+    → IsBetweenIn f j (bytes_received h + cut) → played_before f.wish h j ≡ used_before f.wish f.picture_time j 0 f.all
+played-is {h} {j} f heard between =
     let n = length (sizes h) in
-    used-time wish h p j heard.time_is
-    ∙ (ap (used_before wish p j 0) heard.sizes_are
-    ∙ same-used wish all j n lasts (λ fewer. omega (arith, not-yet n lasts between (heard.next fewer))))
+    used-time f.wish h f.picture_time j heard.time_is
+    ∙ (ap (used_before f.wish f.picture_time j 0) heard.sizes_are
+    ∙ same-used f.wish f.all j n f.lasts (λ fewer. omega (arith, not-yet f n between (heard.next fewer))))
 
 -- the buffer holds what waits
-fits : {wish : Wish} {all : List ℕ} {p : ℕ} {h : History} {cut : ℕ} (slot : ℕ) → Durations wish.slot_units p
-    → IsFilmHeard all p h cut
-    → IsBetween wish all p (place_in h slot) (bytes_received h + cut) → bytes_waiting wish h slot cut ≤ wish.buffer
-fits {all} {p} {h} {cut} slot lasts heard between =
-    omega (arith, played-is lasts heard between, between.up)
+fits : {h : History} {cut : ℕ} (f : FilmPlay) (slot : ℕ) → IsFilmHeard f.all f.picture_time h cut
+    → IsBetweenIn f (place_in h slot) (bytes_received h + cut) → bytes_waiting f.wish h slot cut ≤ f.wish.buffer
+fits f slot heard between = omega (arith, played-is f heard between, between.up)
 
--- no unit lacks_picture
 zero-times : (t : ℕ) → 0 * t ≡ 0
 zero-times t = omega arith
 
@@ -84,40 +90,45 @@ zero-over : (n : ℕ) → 0 / n ≡ 0
 zero-over zero = refl
 zero-over (suc n) = div-eq_of_lt (omega arith)
 
-and-none : (a : Bool) → (a && false) ≡ false
-and-none true = refl
-and-none false = refl
-
 pub use-first : (wish : Wish) (t : ℕ) → use_slot wish t 0 ≡ wish.startup
 use-first wish t = omega (arith, ap (λ n. n / wish.slot_units) (zero-times t), zero-over wish.slot_units)
 
-enough : {wish : Wish} {all : List ℕ} {p : ℕ} {h : History} {j cut : ℕ} → Durations wish.slot_units p
-    → 0 < length all → IsFilmHeard all p h cut
-    → IsBetween wish all p j (bytes_received h + cut) → lacks_picture wish h j ≡ false
-enough {wish} {all} {p} {h} {j} {cut} lasts units_some heard between =
+-- the next unit is used as late at the time that a client knows, before the first frame too
+pub next-later : {all : List ℕ} {p j cut : ℕ} (wish : Wish) (h : History) → IsFilmHeard all p h cut
+    → (j < use_slot wish p (length (sizes h))) ↔ (j < use_slot wish (time h) (length (sizes h)))
+next-later {p = p} {j} wish h heard =
+    elim (cases_lt 0 (frames h)) [
+      | inl begun ↦
+          let n = length (sizes h) in
+          let same = heard.time_is begun in
+          ((λ early. subst (λ t. j < use_slot wish t n) (sym same) early), (λ early. subst (λ t. j < use_slot wish t n) same
+          early))
+      | inr none ↦
+          let L : ℕ → Type 0 = λ n. (j < use_slot wish p n) ↔ (j < use_slot wish (time h) n) in
+          subst L (sym (ap length (no-units h (omega (arith, none)))))
+          (
+            (λ early. omega (arith, early, use-first wish p, use-first wish (time h))),
+            (λ early. omega (arith, early, use-first wish p, use-first wish (time h))),
+          )
+    ]
+
+enough : {h : History} {j cut : ℕ} (f : FilmPlay) → 0 < length f.all → IsFilmHeard f.all f.picture_time h cut
+    → IsBetweenIn f j (bytes_received h + cut) → lacks_picture f.wish h j ≡ false
+enough {h} {j} f some heard between =
     let n = length (sizes h) in
-    elim (cases_lt n (length all)) [
+    let due = use_slot f.wish (time h) n in
+    elim (cases_lt n (length f.all)) [
       | inl fewer ↦
-          let early : j < use_slot wish p n = not-yet n lasts between (heard.next fewer) in
-          let late : j < use_slot wish (time h) n = elim (cases_lt 0 (frames h)) [
-            | inl begun ↦ subst (λ t. j < use_slot wish t n) (sym (heard.time_is begun)) early
-            | inr none ↦
-                let empty : n ≡ 0 = ap length (no-units h (omega (arith, none))) in
-                let here : j < use_slot wish p 0 = subst (λ k. j < use_slot wish p k) empty early in
-                let there : j < use_slot wish (time h) 0 =
-                omega (arith, here, use-first wish p, use-first wish (time h)) in
-                subst (λ k. j < use_slot wish (time h) k) (sym empty) there
+          let late : j < due = (next-later f.wish h heard).0 (not-yet f n between (heard.next fewer)) in
+          and_right (not (is_complete h)) _ (lt-leb due j late)
+      | inr whole ↦
+          let begun : 0 < frames h = elim (cases_lt 0 (frames h)) [
+            | inl begun ↦ begun
+            | inr none ↦ absurd (omega (arith, whole, some, ap length (no-units h (omega (arith, none)))))
           ] in
-          ap (λ b. not (is_complete h) && b) (lt-leb (use_slot wish (time h) n) j late) ∙ and-none (not (is_complete h))
-      | inr whole ↦ let begun : 0 < frames h = elim (cases_lt 0 (frames h)) [
-        | inl yes_ ↦ yes_
-        | inr none ↦ absurd (omega (arith, whole, units_some, ap length (no-units h (omega (arith, none)))))
-      ] in
-          let all_whole : (n == units h) ≡ true =
-          eq-eqb n (units h) (omega (arith, whole, heard.among, heard.units_are begun)) in
-          let complete : is_complete h ≡ true =
-          ap (λ b. b && (n == units h)) (lt-ltb 0 (frames h) begun) ∙ all_whole in
-          ap (λ b. not b && nat_le (use_slot wish (time h) n) j) complete
+          let complete : is_complete h ≡ true = and_from _ _ (lt-ltb 0 (frames h) begun)
+          (eq-eqb n (units h) (omega (arith, whole, heard.among, heard.units_are begun))) in
+          ap (λ b. not b && nat_le due j) complete
     ]
 
 pub record IsQuiet (wish : Wish) (h : History) : Type 0 where
@@ -169,31 +180,23 @@ seen-quiet {wish} {h} {slot} {cut} quiet is finds =
       );
     }
 
-read-quiet : {r : Bool} {wish : Wish} {all : List ℕ} {p : ℕ} {h : History} {slot cut : ℕ}
-    → Durations wish.slot_units p → 0 < length all
-    → IsQuiet wish h → is_read h slot ≡ r
-    → (is_read h slot ≡ true → IsFilmHeard all p h cut × IsBetween wish all p (place_in h slot) (bytes_received h +
-    cut))
-    → IsQuiet wish (Slot slot cut ∷ h)
-read-quiet {r = false} {wish} {all} {p} {h} {slot} {cut} lasts units_some quiet is met = unread-quiet quiet is
-read-quiet {r = true} {wish} {all} {p} {h} {slot} {cut} lasts units_some quiet is met =
-    let now = met is in
-    seen-quiet quiet is (record {
-      holds = fits slot lasts now.0 now.1;
-      full = enough lasts units_some now.0 now.1;
-    })
+read-quiet : {h : History} {slot cut : ℕ} (f : FilmPlay) → 0 < length f.all → IsQuiet f.wish h
+    → (is_read h slot ≡ true
+    → IsFilmHeard f.all f.picture_time h cut × IsBetweenIn f (place_in h slot) (bytes_received h + cut))
+    → IsQuiet f.wish (Slot slot cut ∷ h)
+read-quiet {h} {slot} f some quiet met =
+    elim (cases_Bool (is_read h slot)) [
+      | inl is ↦ let now = met is in seen-quiet quiet is
+          (record { holds = fits f slot now.0 now.1; full = enough f some now.0 now.1 })
+      | inr is ↦ unread-quiet quiet is
+    ]
 
 pub quiet-always : {p : ℕ} (wish : Wish) (all : List ℕ) (h : History) → Durations wish.slot_units p → 0 < length all
     → IsBetweenAlways wish all p h → IsQuiet wish h
 quiet-always wish all [] lasts units_some met = record { over_none = refl; under_none = refl; most_fits = omega arith }
-quiet-always wish all (Reply m ∷ h) lasts units_some met =
+quiet-always {p} wish all (Slot slot cut ∷ h) lasts units_some met =
+    read-quiet (record { wish = wish; all = all; picture_time = p; lasts = lasts }) units_some
+    (quiet-always wish all h lasts units_some met.0) met.1
+quiet-always wish all (_ ∷ h) lasts units_some met =
     let q = quiet-always wish all h lasts units_some met in
     record { over_none = q.over_none; under_none = q.under_none; most_fits = q.most_fits }
-quiet-always wish all (Frame b ∷ h) lasts units_some met =
-    let q = quiet-always wish all h lasts units_some met in
-    record { over_none = q.over_none; under_none = q.under_none; most_fits = q.most_fits }
-quiet-always wish all (Report b ∷ h) lasts units_some met =
-    let q = quiet-always wish all h lasts units_some met in
-    record { over_none = q.over_none; under_none = q.under_none; most_fits = q.most_fits }
-quiet-always wish all (Slot slot cut ∷ h) lasts units_some met =
-    read-quiet lasts units_some (quiet-always wish all h lasts units_some met.0) refl met.1

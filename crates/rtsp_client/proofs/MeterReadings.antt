@@ -3,9 +3,9 @@ use Rattle.std.proofs.Common.{◌≡◌, ℕ, suc, ◌+◌, ◌-◌, ◌*◌, �
 use Rattle.std.proofs.Common.{false, not, nat_lt, nat_le, cond, List, [], ◌∷◌, length, take, sum}
 use Rattle.std.proofs.Common.{get_or, max, min, Option, Some, None, refl, sym, ap, subst, ◌∙◌}
 use Rattle.std.proofs.Common.{arith, inl, inr}
-use Rattle.std.proofs.lemmas.Bool.{cases_lt, cases_eq, cond-true, cond-false, cond_both, eq-eqb}
+use Rattle.std.proofs.lemmas.Bool.{and_right, cases_lt, cases_eq, cond-true, cond-false, cond_both, eq-eqb}
 use Rattle.std.proofs.lemmas.Bool.{ne_eqb, lt-ltb, le-ltb, le-leb, lt-leb}
-use Rattle.std.proofs.lemmas.List.{take_all}
+use Rattle.std.proofs.lemmas.List.{nil_from_length, take_all}
 use Rattle.std.proofs.lemmas.List.Sums.{sum_by-cons}
 use Rattle.std.proofs.lemmas.Nat.{le-div, div_below}
 use Rattle.std.proofs.Math.Nat.{mul-le-mul_right}
@@ -24,7 +24,7 @@ use Rattle.rtsp_client.specs.Meters.{use_slot, used_before, bytes_waiting, watch
 use Rattle.rtsp_client.specs.States.{State, after_reading, after_slot, is_lacking, place_of}
 use Rattle.rtsp_client.specs.States.{played_of, reading_at, time_of, used_bytes}
 use Rattle.rtsp_client.specs.HistoryInvariant.{AreSumsOf, IsPlayOf, IsSourceOf, StateInvariant}
-use Rattle.rtsp_client.proofs.HistorySteps.{complete-is}
+use Rattle.rtsp_client.proofs.HistorySteps.{complete-is, play-on, source-on}
 
 -- a slot and a picture last
 pub record Durations (slot_units picture_time : ℕ) : Type 0 where
@@ -50,9 +50,6 @@ used-late {s} {p} d j k lasts many =
     let slots : j - d ≤ k * p / s = le-div (j - d) (k * p) s lasts.slot_lasts above in
     omega (arith, slots)
 
-sum-cons : (x : ℕ) (xs : List ℕ) → sum (x ∷ xs) ≡ x + sum xs
-sum-cons x xs = sum_by-cons (λ (y : ℕ). y) x xs
-
 pub used-sum : {p : ℕ} (wish : Wish) (j unit : ℕ) (sizes : List ℕ) → Durations wish.slot_units p
     → used_before wish p j unit sizes ≡ sum (take (div_ceil ((j - wish.startup) * wish.slot_units) p - unit) sizes)
 used-sum {p} wish j unit [] lasts =
@@ -70,7 +67,7 @@ used-sum {p} wish j unit (size ∷ sizes) lasts =
             used,
             rest,
             ap (λ n. sum (take n (size ∷ sizes))) one,
-            sum-cons size (take (c - (unit + 1)) sizes),
+            sum_by-cons (λ (y : ℕ). y) size (take (c - (unit + 1)) sizes),
           )
       | inr many ↦
           let none : c - unit ≡ 0 = omega (arith, many) in
@@ -79,13 +76,6 @@ used-sum {p} wish j unit (size ∷ sizes) lasts =
           (le-ltb (use_slot wish p unit) j (used-late wish.startup j unit lasts many)) in
           omega (arith, unused, rest, ap (λ n. sum (take n (size ∷ sizes))) none, ap (λ n. sum (take n sizes)) after)
     ]
-
-no-items : (xs : List ℕ) → length xs ≤ 0 → xs ≡ []
-no-items [] none = refl
-no-items (x ∷ xs) none = absurd (omega (arith, none))
-
-none-is : (n : ℕ) → n ≤ 0 → n ≡ 0
-none-is n none = omega (arith, none)
 
 ends-sum : (ends sizes : List ℕ) (count : ℕ) → AreSumsOf ends sizes
     → used_bytes ends (min count (length ends)) ≡ sum (take count sizes)
@@ -96,8 +86,8 @@ ends-sum ends sizes count are =
           ∙ elim (cases_lt 0 count) [
             | inl some ↦
                 let empty : length sizes ≤ 0 = omega (arith, none, some, are.count) in
-                sym (ap sum (take_all count sizes (omega (arith, empty))) ∙ ap sum (no-items sizes empty))
-            | inr zero_ ↦ sym (ap (λ n. sum (take n sizes)) (none-is count zero_))
+                sym (ap sum (take_all count sizes (omega (arith, empty))) ∙ ap sum (nil_from_length sizes (omega (arith, empty))))
+            | inr zero_ ↦ sym (ap (λ n. sum (take n sizes)) {y = 0} (omega (arith, zero_)))
           ]
       | inr some ↦
           let m = min count (length ends) in
@@ -114,13 +104,8 @@ ends-sum ends sizes count are =
 
 pub no-units : (h : History) → frames h ≡ 0 → sizes h ≡ []
 no-units [] none = refl
-no-units (Reply m ∷ h) none = no-units h none
 no-units (Frame b ∷ h) none = absurd (omega (arith, none))
-no-units (Report b ∷ h) none = no-units h none
-no-units (Slot t cut ∷ h) none = no-units h none
-
-less-none : (n : ℕ) → n ≡ n - 0
-less-none n = omega arith
+no-units (_ ∷ h) none = no-units h none
 
 -- a slot lasts, and so do the pictures of a source, where there is one
 pub record HasDurations (wish : Wish) (source : Option RtpSource) : Type 0 where
@@ -138,7 +123,7 @@ played-in {source = Some source} {ends} wish h j lasts is are =
     cond-false (frames h == 0) 0 (time_in (first_frame h))
     (ne_eqb (frames h) 0 (λ none. absurd (omega (arith, is.some, none)))) ∙ sym is.time_is in
     ends-sum ends (sizes h) (div_ceil ((j - wish.startup) * wish.slot_units) p) are
-    ∙ (ap (λ n. sum (take n (sizes h))) (less-none (div_ceil ((j - wish.startup) * wish.slot_units) p))
+    ∙ (ap (λ n. sum (take n (sizes h))) {y = div_ceil ((j - wish.startup) * wish.slot_units) p - 0} (omega arith)
     ∙ (sym (used-sum wish j 0 (sizes h)
     (record { slot_lasts = lasts.slot_lasts; picture_lasts = lasts.picture_lasts source refl }))
     ∙ sym (ap (λ n. used_before wish n j 0 (sizes h)) t)))
@@ -167,26 +152,8 @@ slot-late [] = omega arith
 slot-late (Reply m ∷ h) =
     cond_both (replies h == 1) (last_slot h) (slot_before h) (λ n. n ≤ last_slot h) (λ e. omega arith)
     (λ e. slot-late h)
-slot-late (Frame b ∷ h) = slot-late h
-slot-late (Report b ∷ h) = slot-late h
 slot-late (Slot t cut ∷ h) = omega (arith, slot-late h)
-
-play-slot : (play : Option Play) (h : History) (t cut : ℕ) → IsPlayOf play h → IsPlayOf play (Slot t cut ∷ h)
-play-slot None h t cut is = is
-play-slot (Some play) h t cut is =
-    record { playing = is.playing; start_is = is.start_is; slot_is = is.slot_is; end_is = is.end_is }
-
-source-slot : (source : Option RtpSource) (h : History) (t cut : ℕ) → IsSourceOf source h
-    → IsSourceOf source (Slot t cut ∷ h)
-source-slot None h t cut is = is
-source-slot (Some source) h t cut is = record {
-  some = is.some;
-  ssrc_is = is.ssrc_is;
-  sequence_is = is.sequence_is;
-  marker_is = is.marker_is;
-  time_is = is.time_is;
-  units_are = is.units_are;
-}
+slot-late (_ ∷ h) = slot-late h
 
 -- a slot at which the meter isn't read
 unread : (wish : Wish) (h : History) (t cut : ℕ) → is_read h t ≡ false
@@ -206,8 +173,8 @@ slot-with : {wish : Wish} {h : History} {s : State} {t cut last : ℕ} {w : Watc
     → StateInvariant wish (Slot t cut ∷ h) (record s { last_slot = last; watched = w })
 slot-with {h} {s} {t} {cut} {last} {w} k greatest is = record {
   last_slot_is = greatest;
-  play_is = play-slot s.play h t cut k.play_is;
-  source_is = source-slot s.source h t cut k.source_is;
+  play_is = play-on s.play (Slot t cut) h tt k.play_is;
+  source_is = source-on s.source (Slot t cut) h tt k.source_is;
   begun = k.begun;
   inside = k.inside;
   ends_are = k.ends_are;
@@ -241,15 +208,6 @@ read-at {wish} {h} {s} t cut k lasts reads =
     ∙ (ap (λ b. step (watched_in wish h) (bytes_waiting wish h t cut) b) (lacks-in wish h s j k)
     ∙ sym (ap whole reads)))
 
-and-middle : (a c : Bool) → (a && (false && c)) ≡ false
-and-middle true c = refl
-and-middle false c = refl
-
-and-end : (a b : Bool) → (a && (b && false)) ≡ false
-and-end true true = refl
-and-end true false = refl
-and-end false b = refl
-
 keeps-later : {wish : Wish} {h : History} {s : State} {t cut : ℕ} (play : Option Play) → StateInvariant wish h s
     → HasDurations wish s.source
     → last_slot h < t → IsPlayOf play h
@@ -274,7 +232,7 @@ keeps-later {wish} {h} {s} {t} {cut} (Some play) k lasts later is =
           (k.watched_is
           ∙ unread wish h t cut
           (ap (λ b. is_playing h && (b && nat_lt (last_slot h) t)) unmet
-          ∙ and-middle (is_playing h) (nat_lt (last_slot h) t))))
+          ∙ and_right (is_playing h) (false && nat_lt (last_slot h) t) refl)))
       | inr due ↦
           let le : nat_le (start h + slot_before h) t ≡ true =
           le-leb (start h + slot_before h) t (omega (arith, due, is.start_is, is.slot_is, late, later)) in
@@ -308,5 +266,5 @@ keeps-slot {wish} {h} {s} {t} {cut} k lasts =
           (k.watched_is
           ∙ unread wish h t cut
           (ap (λ b. is_playing h && (nat_le (start h + slot_before h) t && b)) (le-ltb (last_slot h) t old)
-          ∙ and-end (is_playing h) (nat_le (start h + slot_before h) t))))
+          ∙ and_right (is_playing h) _ (and_right (nat_le (start h + slot_before h) t) false refl))))
     ]

@@ -15,38 +15,28 @@ use Rattle.rtsp_client.specs.Meters.{most_waiting, place_in, played_before, time
 use Rattle.rtsp_client.specs.Meters.{used_before}
 use Rattle.rtsp_client.specs.MeterGuarantee.{IsBetween, IsBetweenAlways, IsFilmHeardAlways, IsFilmHeard}
 use Rattle.rtsp_client.proofs.HistorySteps.{sum-one}
-use Rattle.rtsp_client.proofs.MeterReadings.{Durations, no-units, used-sum}
-use Rattle.rtsp_client.proofs.MeterBounds.{same-used, use-first, used-time}
+use Rattle.rtsp_client.proofs.MeterReadings.{Durations, used-sum}
+use Rattle.rtsp_client.proofs.MeterBounds.{FilmPlay, IsBetweenIn, next-later, same-used, used-time}
 
 -- the bytes of complete units are among those that came
-frame-received : (last : Bool) (whole : List ℕ) (pending n came : ℕ) → sum whole + pending ≤ came
-    → sum (cond last (whole ++ (pending + n) ∷ []) whole) + cond last 0 (pending + n) ≤ came + n
-frame-received true whole pending n came is = omega (arith, is, sum-one whole (pending + n))
-frame-received false whole pending n came is = omega (arith, is)
-
--- bytes of complete units, of the unit that isn't complete, and all that came
-record Amounts : Type 0 where
-  whole : ℕ
-  pending : ℕ
-  came : ℕ
-
-report-received : (playing outside : Bool) (bytes : Amounts) (n : ℕ) → bytes.whole + bytes.pending ≤ bytes.came
-    → bytes.whole + cond (playing && outside) (bytes.pending + n) bytes.pending
-    ≤ cond playing (bytes.came + n) bytes.came
-report-received true true bytes n is = omega (arith, is)
-report-received true false bytes n is = omega (arith, is)
-report-received false outside bytes n is = is
-
 whole-received : (h : History) → sum (sizes h) + bytes_pending h ≤ bytes_received h
 whole-received [] = omega arith
-whole-received (Reply m ∷ h) = whole-received h
-whole-received (Frame b ∷ h) =
-    frame-received (is_last b) (sizes h) (bytes_pending h) (length b) (bytes_received h) (whole-received h)
-whole-received (Report b ∷ h) =
-    report-received (is_playing h) (not (is_inside h))
-    (record { whole = sum (sizes h); pending = bytes_pending h; came = bytes_received h })
-    (length b) (whole-received h)
-whole-received (Slot slot cut ∷ h) = whole-received h
+whole-received (Frame b ∷ h) = by-last (is_last b) (whole-received h)
+  where
+    by-last : (last : Bool) → sum (sizes h) + bytes_pending h ≤ bytes_received h
+        → sum (cond last (sizes h ++ (bytes_pending h + length b) ∷ []) (sizes h))
+        + cond last 0 (bytes_pending h + length b) ≤ bytes_received h + length b
+    by-last true is = omega (arith, is, sum-one (sizes h) (bytes_pending h + length b))
+    by-last false is = omega (arith, is)
+whole-received (Report b ∷ h) = by-case (is_playing h) (not (is_inside h)) (whole-received h)
+  where
+    by-case : (playing outside : Bool) → sum (sizes h) + bytes_pending h ≤ bytes_received h
+        → sum (sizes h) + cond (playing && outside) (bytes_pending h + length b) (bytes_pending h)
+        ≤ cond playing (bytes_received h + length b) (bytes_received h)
+    by-case true true is = omega (arith, is)
+    by-case true false is = omega (arith, is)
+    by-case false outside is = is
+whole-received (_ ∷ h) = whole-received h
 
 -- what is used is among all
 used-most : {p : ℕ} (wish : Wish) (j : ℕ) (xs : List ℕ) → Durations wish.slot_units p
@@ -55,11 +45,11 @@ used-most {p} wish j xs lasts =
     let c = div_ceil ((j - wish.startup) * wish.slot_units) p in
     omega (arith, used-sum wish j 0 xs lasts, sum_by-take-le (λ (x : ℕ). x) xs (c - 0))
 
--- where none lacks_picture, the next unit isn't used yet
-next-early : {all : List ℕ} {p : ℕ} {h : History} {cut : ℕ} (wish : Wish) (j : ℕ) → IsFilmHeard all p h cut
+-- where no picture is missing, the next unit isn't used yet
+next-early : {all : List ℕ} {p cut : ℕ} {h : History} (wish : Wish) (j : ℕ) → IsFilmHeard all p h cut
     → lacks_picture wish h j ≡ false
     → length (sizes h) < length all → j < use_slot wish p (length (sizes h))
-next-early {all} {p} {h} {cut} wish j heard enough fewer =
+next-early {h = h} wish j heard enough fewer =
     let n = length (sizes h) in
     elim (cases_Bool (is_complete h)) [
       | inl complete ↦
@@ -70,34 +60,32 @@ next-early {all} {p} {h} {cut} wish j heard enough fewer =
       | inr open_ ↦
           let late : nat_le (use_slot wish (time h) n) j ≡ false =
           sym (ap (λ b. not b && nat_le (use_slot wish (time h) n) j) open_) ∙ enough in
-          let below : j < use_slot wish (time h) n = grind (arith, nat_tests) in
-          elim (cases_lt 0 (frames h)) [
-            | inl begun ↦ subst (λ t. j < use_slot wish t n) (heard.time_is begun) below
-            | inr none ↦
-                let empty : n ≡ 0 = ap length (no-units h (omega (arith, none))) in
-                let here : j < use_slot wish (time h) 0 = subst (λ k. j < use_slot wish (time h) k) empty below in
-                let there : j < use_slot wish p 0 = omega (arith, here, use-first wish p, use-first wish (time h)) in
-                subst (λ k. j < use_slot wish p k) (sym empty) there
-          ]
+          (next-later wish h heard).1 (grind (arith, nat_tests))
     ]
 
-between : {wish : Wish} {all : List ℕ} {p : ℕ} {h : History} {cut : ℕ} (slot : ℕ) → Durations wish.slot_units p
-    → IsFilmHeard all p h cut
-    → nat_lt wish.buffer (bytes_waiting wish h slot cut) ≡ false → lacks_picture wish h (place_in h slot) ≡ false
-    → IsBetween wish all p (place_in h slot) (bytes_received h + cut)
-between {wish} {all} {p} {h} {cut} slot lasts heard not_over not_under =
+between : {h : History} {cut : ℕ} (f : FilmPlay) (slot : ℕ) → IsFilmHeard f.all f.picture_time h cut
+    → nat_lt f.wish.buffer (bytes_waiting f.wish h slot cut) ≡ false → lacks_picture f.wish h (place_in h slot) ≡ false
+    → IsBetweenIn f (place_in h slot) (bytes_received h + cut)
+between {h} {cut} f slot heard not_over not_under =
+    let all = f.all in
     let n = length (sizes h) in
     let j = place_in h slot in
-    let early : n < length all → j < use_slot wish p n = next-early wish j heard not_under in
-    let by_end : used_before wish p (j + 1) 0 (take n all) ≡ used_before wish p (j + 1) 0 all =
-    same-used wish all (j + 1) n lasts (λ fewer. omega (arith, early fewer)) in
-    let before : used_before wish p j 0 (take n all) ≡ used_before wish p j 0 all =
-    same-used wish all j n lasts (λ fewer. omega (arith, early fewer)) in
-    let played : played_before wish h j ≡ used_before wish p j 0 all =
-    used-time wish h p j heard.time_is ∙ (ap (used_before wish p j 0) heard.sizes_are ∙ before) in
-    let holds : bytes_waiting wish h slot cut ≤ wish.buffer = grind (arith, nat_tests) in
+    let early : n < length all → j < use_slot f.wish f.picture_time n = next-early f.wish j heard not_under in
+    let same : (k : ℕ) → k ≤ j + 1
+    → used_before f.wish f.picture_time k 0 (take n all) ≡ used_before f.wish f.picture_time k 0 all =
+    λ k most. same-used f.wish all k n f.lasts (λ fewer. omega (arith, early fewer, most)) in
+    let played : played_before f.wish h j ≡ used_before f.wish f.picture_time j 0 all =
+    used-time f.wish h f.picture_time j heard.time_is
+    ∙ (ap (used_before f.wish f.picture_time j 0) heard.sizes_are ∙ same j (omega arith)) in
+    let holds : bytes_waiting f.wish h slot cut ≤ f.wish.buffer = grind (arith, nat_tests) in
     record {
-      low = omega (arith, by_end, used-most wish (j + 1) (take n all) lasts, ap sum heard.sizes_are, whole-received h);
+      low = omega (
+        arith,
+        same (j + 1) (omega arith),
+        used-most f.wish (j + 1) (take n all) f.lasts,
+        ap sum heard.sizes_are,
+        whole-received h,
+      );
       up = omega (arith, played, holds);
     }
 
@@ -114,29 +102,22 @@ pub record HasNoCounts (wish : Wish) (h : History) : Type 0 where
   pub over : count_over wish h ≡ 0
   pub under : count_under wish h ≡ 0
 
-pub between-always : {p : ℕ} (wish : Wish) (all : List ℕ) (h : History) → Durations wish.slot_units p
-    → IsFilmHeardAlways wish all p h
-    → HasNoCounts wish h
-    → IsBetweenAlways wish all p h
-between-always wish all [] lasts heard none = tt
-between-always wish all (Reply m ∷ h) lasts heard none =
-    between-always wish all h lasts heard (record { over = none.over; under = none.under })
-between-always wish all (Frame b ∷ h) lasts heard none =
-    between-always wish all h lasts heard (record { over = none.over; under = none.under })
-between-always wish all (Report b ∷ h) lasts heard none =
-    between-always wish all h lasts heard (record { over = none.over; under = none.under })
-between-always wish all (Slot slot cut ∷ h) lasts heard none =
-    let o =
-    no-count (is_read h slot && nat_lt wish.buffer (bytes_waiting wish h slot cut)) (count_over wish h) none.over in
-    let u = no-count (is_read h slot && lacks_picture wish h (place_in h slot)) (count_under wish h) none.under in (
-      between-always wish all h lasts heard.0 (record { over = o.1; under = u.1 }),
+pub between-always : (f : FilmPlay) (h : History) → IsFilmHeardAlways f.wish f.all f.picture_time h → HasNoCounts f.wish h
+    → IsBetweenAlways f.wish f.all f.picture_time h
+between-always f [] heard none = tt
+between-always f (Slot slot cut ∷ h) heard none =
+    let over = nat_lt f.wish.buffer (bytes_waiting f.wish h slot cut) in
+    let lacks = lacks_picture f.wish h (place_in h slot) in
+    let o = no-count (is_read h slot && over) (count_over f.wish h) none.over in
+    let u = no-count (is_read h slot && lacks) (count_under f.wish h) none.under in (
+      between-always f h heard.0 (record { over = o.1; under = u.1 }),
       λ read. (
         heard.1 read,
-        between slot lasts (heard.1 read)
-            (tested (is_read h slot) (nat_lt wish.buffer (bytes_waiting wish h slot cut)) read o.0)
-            (tested (is_read h slot) (lacks_picture wish h (place_in h slot)) read u.0),
+        between f slot (heard.1 read) (tested (is_read h slot) over read o.0)
+            (tested (is_read h slot) lacks read u.0),
       ),
     )
+between-always f (_ ∷ h) heard none = between-always f h heard (record { over = none.over; under = none.under })
 
 -- the most that waited is above the buffer where a reading was over
 most_waiting-step : (read : Bool) (before waiting over buffer : ℕ) → ((before ≤ buffer) ↔ (over ≡ 0))
@@ -154,9 +135,7 @@ most_waiting-step true before waiting over buffer same = (
 
 pub most_waiting-tells : (wish : Wish) (h : History) → (most_waiting wish h ≤ wish.buffer) ↔ (count_over wish h ≡ 0)
 most_waiting-tells wish [] = ((λ fits. refl), (λ none. omega arith))
-most_waiting-tells wish (Reply m ∷ h) = most_waiting-tells wish h
-most_waiting-tells wish (Frame b ∷ h) = most_waiting-tells wish h
-most_waiting-tells wish (Report b ∷ h) = most_waiting-tells wish h
 most_waiting-tells wish (Slot slot cut ∷ h) =
     most_waiting-step (is_read h slot) (most_waiting wish h) (bytes_waiting wish h slot cut)
     (count_over wish h) wish.buffer (most_waiting-tells wish h)
+most_waiting-tells wish (_ ∷ h) = most_waiting-tells wish h

@@ -2,7 +2,8 @@
 use Rattle.std.proofs.Common.{◌≡◌, ℕ, ◌+◌, ◌-◌, ◌%◌, ◌^◌, ◌<◌, ◌==◌, true, false, not, cond, List, []}
 use Rattle.std.proofs.Common.{◌∷◌, ◌++◌, length, drop, get_or, is_ok, refl, sym, ap, ◌∙◌, arith}
 use Rattle.std.proofs.lemmas.Bool.{and_from, cond-false, eq-eqb, ne_eqb}
-use Rattle.std.proofs.lemmas.List.{get_or_append_left, get_or-append_right, length-append}
+use Rattle.std.proofs.lemmas.List.{get_or_append_left, length-append}
+use Rattle.std.proofs.Math.Seq.{get_or-append_seam}
 use Rattle.rtp_pack.specs.Heads.{head_at, head_of}
 use Rattle.film_frames.specs.Laws.{AreConsecutive, sequence_of}
 use Rattle.rtsp_client.specs.ClientHistory.{History, Frame, Reply, Report, Slot, first_frame, frames}
@@ -10,22 +11,12 @@ use Rattle.rtsp_client.specs.ClientHistory.{is_playing, latest_frame}
 use Rattle.rtsp_client.specs.Films.{is_complete, is_first_good, is_good_frame, is_next_good}
 use Rattle.rtsp_client.specs.MeterGuarantee.{frames_heard}
 
--- the frame behind those that were received
-last-of : (all : List (List ℕ)) (block : List ℕ) → get_or (all ++ block ∷ []) (length all) [] ≡ block
-last-of all block =
-    let none : length all - length all ≡ 0 = omega arith in
-    get_or-append_right all (block ∷ []) (length all) (length all) [] refl (omega arith)
-    ∙ ap (λ k. get_or (block ∷ []) k []) none
-
 pub record AreHeard (h : History) (all : List (List ℕ)) : Type 0 where
   pub count : frames h ≡ length all
   pub latest : 0 < length all → latest_frame h ≡ get_or all (length all - 1) []
 
 pub heard : (h : History) → AreHeard h (frames_heard h)
 heard [] = record { count = refl; latest = λ some. absurd (omega (arith, some)) }
-heard (Reply m ∷ h) = let is = heard h in record { count = is.count; latest = is.latest }
-heard (Report b ∷ h) = let is = heard h in record { count = is.count; latest = is.latest }
-heard (Slot slot cut ∷ h) = let is = heard h in record { count = is.count; latest = is.latest }
 heard (Frame b ∷ h) =
     let all = frames_heard h in
     let is = heard h in
@@ -33,8 +24,9 @@ heard (Frame b ∷ h) =
     let last : length (all ++ b ∷ []) - 1 ≡ length all = omega (arith, long) in
     record {
       count = omega (arith, is.count, long);
-      latest = λ some. sym (ap (λ k. get_or (all ++ b ∷ []) k []) last ∙ last-of all b);
+      latest = λ some. sym (ap (λ k. get_or (all ++ b ∷ []) k []) last ∙ get_or-append_seam all b [] []);
     }
+heard (_ ∷ h) = let is = heard h in record { count = is.count; latest = is.latest }
 
 pub next-accepted : (h : History) (block : List ℕ) (first : ℕ) → is_playing h ≡ true → is_complete h ≡ false
     → 0 < frames h → is_ok (head_of (drop 4 block)) ≡ true
@@ -46,7 +38,7 @@ next-accepted h block first playing open_ some read source consecutive =
     let long : length (all ++ block ∷ []) ≡ length all + 1 = length-append all (block ∷ []) in
     let more : 0 < length all = omega (arith, some, is.count) in
     let number : sequence_of block ≡ (first + length all) % 2 ^ 16 =
-    sym (ap sequence_of (last-of all block)) ∙ consecutive (length all) (omega (arith, long)) in
+    sym (ap sequence_of (get_or-append_seam all block [] [])) ∙ consecutive (length all) (omega (arith, long)) in
     let before : sequence_of (latest_frame h) ≡ (first + (length all - 1)) % 2 ^ 16 =
     ap sequence_of (is.latest more ∙ sym (get_or_append_left all (block ∷ []) [] (length all - 1) (omega (
       arith,

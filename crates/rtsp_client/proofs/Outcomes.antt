@@ -7,10 +7,6 @@ pub on-ok : {A E P Q R : Type 0} (r : Result A E) → OnOk r P → OnOk r Q → 
 on-ok (Ok a) p q f = f p q
 on-ok (Err e) p q f = tt
 
-pub if-err : {A E : Type 0} (r : Result A E) (P Q : E → Type 0) → IfErr r P → ((e : E) → P e → Q e) → IfErr r Q
-if-err (Ok a) P Q p f = tt
-if-err (Err e) P Q p f = f e p
-
 -- what `ok_or` made an error of was None, and the error is the one that was given
 pub ok-or-err : {A E : Type 0} {o : Option A} {r : Result A E} {e : E} (given : E) →
     r ≡ ok_or o given → o ≡ result_ok r → r ≡ Err e → (o ≡ None) × (e ≡ given)

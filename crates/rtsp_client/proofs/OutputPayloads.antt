@@ -8,9 +8,7 @@ use Rattle.rtsp_client.specs.MeterGuarantee.{frames_of}
 
 pub payloads-are : (moments : List ClientEvent) → payloads_of moments ≡ payloads (frames_of moments)
 payloads-are [] = refl
-payloads-are (Reply m ∷ moments) = payloads-are moments
 payloads-are (Frame b ∷ moments) =
     ap (λ x. drop 20 b ++ x) (payloads-are moments)
     ∙ sym (flat_map-cons (λ (frame : List ℕ). drop 20 frame) b (frames_of moments))
-payloads-are (Report b ∷ moments) = payloads-are moments
-payloads-are (Slot t cut ∷ moments) = payloads-are moments
+payloads-are (_ ∷ moments) = payloads-are moments

@@ -29,18 +29,14 @@ reading-at wish h slot cut = record {
 
 pub over-counted : (wish : Wish) (h : History) → count_over wish h ≡ length (filter (is_overrun wish) (readings wish h))
 over-counted wish [] = refl
-over-counted wish (Reply m ∷ h) = over-counted wish h
-over-counted wish (Frame b ∷ h) = over-counted wish h
-over-counted wish (Report b ∷ h) = over-counted wish h
 over-counted wish (Slot slot cut ∷ h) =
     one-more (is_overrun wish) (is_read h slot) (reading-at wish h slot cut) (count_over wish h) (readings wish h)
     (over-counted wish h)
+over-counted wish (_ ∷ h) = over-counted wish h
 
 pub under-counted : (wish : Wish) (h : History) → count_under wish h ≡ length (filter is_underrun (readings wish h))
 under-counted wish [] = refl
-under-counted wish (Reply m ∷ h) = under-counted wish h
-under-counted wish (Frame b ∷ h) = under-counted wish h
-under-counted wish (Report b ∷ h) = under-counted wish h
 under-counted wish (Slot slot cut ∷ h) =
     one-more is_underrun (is_read h slot) (reading-at wish h slot cut) (count_under wish h) (readings wish h)
     (under-counted wish h)
+under-counted wish (_ ∷ h) = under-counted wish h

@@ -174,136 +174,102 @@ film-short wish film =
       decimal-short wish.port (omega (arith, film.port)),
     )
 
--- a request of these parts is asked by its text
-asked : (text : List ℕ) (parts : RequestPieces) (sequence : ℕ) → text ≡ request_text parts → AreRequest parts sequence
-    → AreShort parts → IsRequestText text parts sequence
-asked text parts sequence is request short = subst (λ (t : List ℕ). IsRequestText t parts sequence) (sym is) (record {
-  found = λ later. request_found parts sequence later request short;
-  read = request_of parts sequence request;
-  values = values_of parts request.front;
-})
-
--- a head is as long as the text of a request without a body
-head-long : (text : List ℕ) (parts : RequestPieces) → text ≡ request_text parts → parts.body ≡ []
-    → length (request_head parts) ≡ length text
-head-long text parts is none =
-    ap length (sym (append-nil (request_head parts)) ∙ ap (λ l. request_head parts ++ l) (sym none) ∙ sym is)
+-- a request without a body is asked by its text, if that is short
+asked : {text : List ℕ} (parts : RequestPieces) (sequence : ℕ) → AreRequest parts sequence → parts.body ≡ []
+    → text ≡ request_text parts → length text ≤ 4096 → IsRequestText text parts sequence
+asked {text} parts sequence request none is short =
+    let head : length (request_head parts) ≡ length text =
+    ap length (sym (append-nil (request_head parts)) ∙ ap (λ l. request_head parts ++ l) (sym none) ∙ sym is) in
+    let bounds : AreShort parts =
+    record { head_is = omega (arith, head, short); body_is = omega (arith, ap length none) } in
+    subst (λ (t : List ℕ). IsRequestText t parts sequence) (sym is) (record {
+      found = λ later. request_found parts sequence later request bounds;
+      read = request_of parts sequence request;
+      values = values_of parts request.front;
+    })
 
 -- SETUP
-setup-front : (wish : Wish) → IsFilm wish → AreFront (setup_parts wish)
-setup-front wish film = record {
-  method_is = word_of (codes "SETUP") refl;
-  url_is = video-is-url wish film;
-  fields_are =
-      field-more (codes "CSeq") (codes "1")
-      (record { name = codes "Transport"; value = codes "RTP/AVP/TCP;unicast;interleaved=0-1" }
-      ∷ record { name = codes "x-Buffer"; value = decimal wish.buffer }
-      ∷ record { name = codes "x-Startup"; value = decimal wish.startup } ∷ []) refl refl
-      (field-more (codes "Transport") (codes "RTP/AVP/TCP;unicast;interleaved=0-1")
-      (record { name = codes "x-Buffer"; value = decimal wish.buffer }
-      ∷ record { name = codes "x-Startup"; value = decimal wish.startup } ∷ []) refl refl
-      (field-more (codes "x-Buffer") (decimal wish.buffer)
-      (record { name = codes "x-Startup"; value = decimal wish.startup } ∷ []) refl
-      (digits wish.buffer (omega (arith, film.is_wish.most_buffer)))
-      (field-more (codes "x-Startup") (decimal wish.startup) [] refl
-      (digits wish.startup (omega (arith, film.is_wish.startup)))
-      (All-nil IsHeaderField))));
-}
-
 setup-request : (wish : Wish) → IsFilm wish → AreRequest (setup_parts wish) 1
 unfolding value_named
-setup-request wish film = record { front = setup-front wish film; sequence_is = refl; length_is = refl }
-
-setup-short : (wish : Wish) → IsFilm wish → AreShort (setup_parts wish)
-setup-short wish film = record {
-  head_is = omega (
-    arith,
-    head-long (setup_text wish) (setup_parts wish) (setup-is wish) refl,
-    put-long (codes "SETUP ") (setup_rest wish),
-    film-short wish film,
-    decimal-short wish.buffer (omega (arith, film.is_wish.most_buffer)),
-    decimal-short wish.startup (omega (arith, film.is_wish.startup)),
-  );
-  body_is = omega arith;
-}
+setup-request wish film =
+    let startup : Field = record { name = codes "x-Startup"; value = decimal wish.startup } in
+    let buffer : Field = record { name = codes "x-Buffer"; value = decimal wish.buffer } in
+    let transport : Field = record { name = codes "Transport"; value = codes "RTP/AVP/TCP;unicast;interleaved=0-1" } in
+    record {
+      front = record {
+        method_is = word_of (codes "SETUP") refl;
+        url_is = video-is-url wish film;
+        fields_are =
+            field-more (codes "CSeq") (codes "1") (transport ∷ buffer ∷ startup ∷ []) refl refl
+            (field-more transport.name transport.value (buffer ∷ startup ∷ []) refl refl
+            (field-more buffer.name buffer.value (startup ∷ []) refl
+            (digits wish.buffer (omega (arith, film.is_wish.most_buffer)))
+            (field-more startup.name startup.value [] refl (digits wish.startup (omega (arith, film.is_wish.startup)))
+            (All-nil IsHeaderField))));
+      };
+      sequence_is = refl;
+      length_is = refl;
+    }
 
 pub setup-asked : (wish : Wish) → IsWish wish → wish.port < 2 ^ 16 → IsRequestText (setup_text wish) (setup_parts wish)
     1
 setup-asked wish is port =
     let film : IsFilm wish = record { is_wish = is; port = port } in
-    asked (setup_text wish) (setup_parts wish) 1 (setup-is wish) (setup-request wish film) (setup-short wish film)
+    asked (setup_parts wish) 1 (setup-request wish film) refl (setup-is wish)
+    (omega (
+      arith,
+      put-long (codes "SETUP ") (setup_rest wish),
+      film-short wish film,
+      decimal-short wish.buffer (omega (arith, is.most_buffer)),
+      decimal-short wish.startup (omega (arith, is.startup)),
+    ))
 
 -- PLAY
-play-front : (wish : Wish) (session : List ℕ) → IsFilm wish → IsSessionId session → AreFront (play_parts wish session)
-play-front wish session film id = record {
-  method_is = word_of (codes "PLAY") refl;
-  url_is = film-is-url wish film;
-  fields_are =
-      field-more (codes "CSeq") (codes "2")
-      (record { name = codes "Session"; value = session }
-      ∷ record { name = codes "Range"; value = codes "npt=0-" } ∷ []) refl refl
-      (session-more session (record { name = codes "Range"; value = codes "npt=0-" } ∷ []) id
-      (field-more (codes "Range") (codes "npt=0-") [] refl refl
-      (All-nil IsHeaderField)));
-}
-
 play-request : (wish : Wish) (session : List ℕ) → IsFilm wish → IsSessionId session
     → AreRequest (play_parts wish session) 2
 unfolding value_named
 play-request wish session film id =
-    record { front = play-front wish session film id; sequence_is = refl; length_is = refl }
-
-play-short : (wish : Wish) (session : List ℕ) → IsFilm wish → IsSessionId session → AreShort (play_parts wish session)
-play-short wish session film id = record {
-  head_is = omega (
-    arith,
-    head-long (play_text wish session) (play_parts wish session) (play-is wish session) refl,
-    put-long (codes "PLAY ") (play_rest wish session),
-    film-short wish film,
-    id.short,
-  );
-  body_is = omega arith;
-}
+    let range : Field = record { name = codes "Range"; value = codes "npt=0-" } in
+    record {
+      front = record {
+        method_is = word_of (codes "PLAY") refl;
+        url_is = film-is-url wish film;
+        fields_are =
+            field-more (codes "CSeq") (codes "2")
+            (record { name = codes "Session"; value = session } ∷ range ∷ []) refl refl
+            (session-more session (range ∷ []) id
+            (field-more range.name range.value [] refl refl (All-nil IsHeaderField)));
+      };
+      sequence_is = refl;
+      length_is = refl;
+    }
 
 pub play-asked : (wish : Wish) (session : List ℕ) → IsWish wish → wish.port < 2 ^ 16 → IsSessionId session
     → IsRequestText (play_text wish session) (play_parts wish session) 2
 play-asked wish session is port id =
     let film : IsFilm wish = record { is_wish = is; port = port } in
-    asked (play_text wish session) (play_parts wish session) 2 (play-is wish session)
-    (play-request wish session film id) (play-short wish session film id)
+    asked (play_parts wish session) 2 (play-request wish session film id) refl (play-is wish session)
+    (omega (arith, put-long (codes "PLAY ") (play_rest wish session), film-short wish film, id.short))
 
 -- TEARDOWN
-teardown-front : (wish : Wish) (session : List ℕ) → IsFilm wish → IsSessionId session
-    → AreFront (teardown_parts wish session)
-teardown-front wish session film id = record {
-  method_is = word_of (codes "TEARDOWN") refl;
-  url_is = film-is-url wish film;
-  fields_are = field-more (codes "CSeq") (codes "3") (record { name = codes "Session"; value = session } ∷ []) refl refl
-      (session-more session [] id (All-nil IsHeaderField));
-}
-
 teardown-request : (wish : Wish) (session : List ℕ) → IsFilm wish → IsSessionId session
     → AreRequest (teardown_parts wish session) 3
 unfolding value_named
-teardown-request wish session film id =
-    record { front = teardown-front wish session film id; sequence_is = refl; length_is = refl }
-
-teardown-short : (wish : Wish) (session : List ℕ) → IsFilm wish → IsSessionId session
-    → AreShort (teardown_parts wish session)
-teardown-short wish session film id = record {
-  head_is = omega (
-    arith,
-    head-long (teardown_text wish session) (teardown_parts wish session) (teardown-is wish session) refl,
-    put-long (codes "TEARDOWN ") (teardown_rest wish session),
-    film-short wish film,
-    id.short,
-  );
-  body_is = omega arith;
+teardown-request wish session film id = record {
+  front = record {
+    method_is = word_of (codes "TEARDOWN") refl;
+    url_is = film-is-url wish film;
+    fields_are =
+        field-more (codes "CSeq") (codes "3") (record { name = codes "Session"; value = session } ∷ []) refl refl
+        (session-more session [] id (All-nil IsHeaderField));
+  };
+  sequence_is = refl;
+  length_is = refl;
 }
 
 pub teardown-asked : (wish : Wish) (session : List ℕ) → IsWish wish → wish.port < 2 ^ 16 → IsSessionId session
     → IsRequestText (teardown_text wish session) (teardown_parts wish session) 3
 teardown-asked wish session is port id =
     let film : IsFilm wish = record { is_wish = is; port = port } in
-    asked (teardown_text wish session) (teardown_parts wish session) 3 (teardown-is wish session)
-    (teardown-request wish session film id) (teardown-short wish session film id)
+    asked (teardown_parts wish session) 3 (teardown-request wish session film id) refl (teardown-is wish session)
+    (omega (arith, put-long (codes "TEARDOWN ") (teardown_rest wish session), film-short wish film, id.short))

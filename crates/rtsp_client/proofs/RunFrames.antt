@@ -95,11 +95,17 @@ frame_block run unit p f =
     interleaved_block run.identity.channel
     (head_bytes (packet_head run.identity (picture_time run.rate) unit p f) ++ payload run.film p)
 
--- pieces that are frames of packets of a unit
-record AreFramesOf (run : FramedRun) (unit : PictureUnit) (make : Packet → Part) : Type 0 where
-  bytes : (p : Packet) (f o : ℕ) → piece_bytes run f o (make p) ≡ frame_block run unit p f
+-- a unit of a run, with the pieces that its packets make
+record UnitPieces : Type 0 where
+  run : FramedRun
+  unit : PictureUnit
+  make : Packet → Part
+
+-- they are frames of the packets
+record AreFramesOf (u : UnitPieces) : Type 0 where
+  bytes : (p : Packet) (f o : ℕ) → piece_bytes u.run f o (u.make p) ≡ frame_block u.run u.unit p f
   among : (p : Packet) (ps : List Part) (b : List ℕ) (bs : List (List ℕ))
-      → frames_among (make p ∷ ps) (b ∷ bs) ≡ b ∷ frames_among ps bs
+      → frames_among (u.make p ∷ ps) (b ∷ bs) ≡ b ∷ frames_among ps bs
 
 -- a piece that is a report
 record IsReport (report : Part) : Type 0 where
@@ -117,52 +123,59 @@ with-frame : {source : ℕ} {marker : Bool} (block : List ℕ) → IsRead source
 with-frame block read = record { is_read = read.is_read; source_is = read.source_is }
 
 -- the frames of a packet and of the pieces after it
-one-frame : {run : FramedRun} {unit : PictureUnit} {make : Packet → Part} → AreFramesOf run unit make
-    → (p : Packet) (ps : List Part) (f o : ℕ)
-    → frame_block run unit p f ∷ frames_among ps (blocks_from run (f + count_of (make p)) (o + octets_of (make p)) ps)
-    ≡ frames_among (make p ∷ ps) (blocks_from run f o (make p ∷ ps))
-one-frame {run} {unit} {make} are p ps f o =
-    let tail = blocks_from run (f + count_of (make p)) (o + octets_of (make p)) ps in
+one-frame : {u : UnitPieces} → AreFramesOf u → (p : Packet) (ps : List Part) (f o : ℕ)
+    → frame_block u.run u.unit p f
+    ∷ frames_among ps (blocks_from u.run (f + count_of (u.make p)) (o + octets_of (u.make p)) ps)
+    ≡ frames_among (u.make p ∷ ps) (blocks_from u.run f o (u.make p ∷ ps))
+one-frame {u} are p ps f o =
+    let tail = blocks_from u.run (f + count_of (u.make p)) (o + octets_of (u.make p)) ps in
     ap (λ (b : List ℕ). b ∷ frames_among ps tail) (sym (are.bytes p f o))
-    ∙ sym (are.among p ps (piece_bytes run f o (make p)) tail)
+    ∙ sym (are.among p ps (piece_bytes u.run f o (u.make p)) tail)
+
+-- a packet's frame before others: the last one of a unit, or one that goes on
+last-frame : {source units : ℕ} {block : List ℕ} {tail : List (List ℕ)} → IsRead source true block
+    → AreFrames source units tail → AreFrames source (suc units) (block ∷ tail)
+last-frame {block = block} {tail} read more = record {
+  all = (with-frame block read, more.all);
+  count = cond-true (is_last block) (suc (count_last tail)) (count_last tail) read.last_is ∙ ap suc more.count;
+  ends = ends-last block tail read.last_is more.ends;
+}
+
+open-frame : {source units : ℕ} {block : List ℕ} {tail : List (List ℕ)} → IsRead source false block
+    → AreFrames source (suc units) tail → AreFrames source (suc units) (block ∷ tail)
+open-frame {block = block} {tail} read more = record {
+  all = (with-frame block read, more.all);
+  count = cond-false (is_last block) (suc (count_last tail)) (count_last tail) read.last_is ∙ more.count;
+  ends = ends-more block tail (omega (arith, more.count)) more.ends;
+}
 
 -- the frames of a unit's packets, and those of the pieces after them
-packets-frames : {run : FramedRun} {unit : PictureUnit} {make : Packet → Part} (units : ℕ) (packets : List Packet)
-    (rest : List Part) → run.identity.ssrc < 2 ^ 32 → AreFramesOf run unit make → IsLastMarked packets
-    → 0 < length packets → SendFrames run units rest → SendFrames run (suc units) (map make packets ++ rest)
-packets-frames units [] rest small are marked some then = absurd (omega (arith, some))
-packets-frames {run} {unit} {make} units (p ∷ []) rest small are marked some then = record {
-  sent = λ f o.
-      let read = head-read run.identity.channel (packet_head run.identity (picture_time run.rate) unit p f)
-      (payload run.film p) small in
-      let block = frame_block run unit p f in
-      let more = then.sent (f + count_of (make p)) (o + octets_of (make p)) in
-      let tail = frames_among rest (blocks_from run (f + count_of (make p)) (o + octets_of (make p)) rest) in
-      let last : is_last block ≡ true = read.last_is ∙ marked in
-      let all : AreFrames run.identity.ssrc (suc units) (block ∷ tail) = record {
-        all = (with-frame block read, more.all);
-        count = cond-true (is_last block) (suc (count_last tail)) (count_last tail) last ∙ ap suc more.count;
-        ends = ends-last block tail last more.ends;
-      } in
-      subst (λ (l : List (List ℕ)). AreFrames run.identity.ssrc (suc units) l) (one-frame are p rest f o) all;
-}
-packets-frames {run} {unit} {make} units (p ∷ (q ∷ packets)) rest small are marked some then = record {
-  sent = λ f o.
-      let read = head-read run.identity.channel (packet_head run.identity (picture_time run.rate) unit p f)
-      (payload run.film p) small in
-      let block = frame_block run unit p f in
-      let pieces = map make (q ∷ packets) ++ rest in
-      let more = (packets-frames {make = make} units (q ∷ packets) rest small are marked.1 (omega arith) then).sent
-      (f + count_of (make p)) (o + octets_of (make p)) in
-      let tail = frames_among pieces (blocks_from run (f + count_of (make p)) (o + octets_of (make p)) pieces) in
-      let open_ : is_last block ≡ false = read.last_is ∙ marked.0 in
-      let all : AreFrames run.identity.ssrc (suc units) (block ∷ tail) = record {
-        all = (with-frame block read, more.all);
-        count = cond-false (is_last block) (suc (count_last tail)) (count_last tail) open_ ∙ more.count;
-        ends = ends-more block tail (omega (arith, more.count)) more.ends;
-      } in
-      subst (λ (l : List (List ℕ)). AreFrames run.identity.ssrc (suc units) l) (one-frame are p pieces f o) all;
-}
+packets-frames : {u : UnitPieces} (units : ℕ) (packets : List Packet)
+    (rest : List Part) → u.run.identity.ssrc < 2 ^ 32 → AreFramesOf u → IsLastMarked packets
+    → 0 < length packets → SendFrames u.run units rest → SendFrames u.run (suc units) (map u.make packets ++ rest)
+packets-frames {u} units packets rest small are = by-list packets
+  where
+    read : (p : Packet) (f : ℕ) → IsRead u.run.identity.ssrc p.marker (frame_block u.run u.unit p f)
+    read p f = head-read u.run.identity.channel (packet_head u.run.identity (picture_time u.run.rate) u.unit p f)
+        (payload u.run.film p) small
+
+    by-list : (packets : List Packet) → IsLastMarked packets → 0 < length packets → SendFrames u.run units rest
+        → SendFrames u.run (suc units) (map u.make packets ++ rest)
+    by-list [] marked some then = absurd (omega (arith, some))
+    by-list (p ∷ []) marked some then = record {
+      sent = λ f o.
+          subst (λ (l : List (List ℕ)). AreFrames u.run.identity.ssrc (suc units) l) (one-frame are p rest f o)
+          (last-frame (subst (λ m. IsRead u.run.identity.ssrc m (frame_block u.run u.unit p f)) marked (read p f))
+          (then.sent (f + count_of (u.make p)) (o + octets_of (u.make p))));
+    }
+    by-list (p ∷ (q ∷ packets)) marked some then = record {
+      sent = λ f o.
+          subst (λ (l : List (List ℕ)). AreFrames u.run.identity.ssrc (suc units) l)
+          (one-frame are p (map u.make (q ∷ packets) ++ rest) f o)
+          (open-frame (subst (λ m. IsRead u.run.identity.ssrc m (frame_block u.run u.unit p f)) marked.0 (read p f))
+          ((by-list (q ∷ packets) marked.1 (omega arith) then).sent (f + count_of (u.make p))
+          (o + octets_of (u.make p))));
+    }
 
 reports-frames : {run : FramedRun} {report : Part} (units : ℕ) (starts : Bool) (frames rest : List Part)
     → IsReport report → SendFrames run units (frames ++ rest)
@@ -206,7 +219,7 @@ units-frames end run starts units small laid f o = (by-units units laid).sent f 
         subst (λ (l : List Part). SendFrames run (suc (length units)) l) (sym (pieces-cons starts unit units))
         (reports-frames {report = _} (suc (length units)) unit.starts_group (map _ packets) rest
         (record { none = λ ps b bs. refl })
-        (packets-frames {unit = unit} {make = _} (length units) packets rest small
+        (packets-frames {u = record { run = run; unit = unit; make = _ }} (length units) packets rest small
         (record { bytes = λ p g n. refl; among = λ p ps b bs. refl }) marked (some-packets starts unit)
         (by-units units laid.1)))
 
@@ -219,23 +232,23 @@ pub record BeginsWith (run : FramedRun) (unit : PictureUnit) (packet : Packet) (
   pub are : frames ≡ block ∷ more
   pub payload_is : drop 20 block ≡ payload run.film packet
 
-first-by : {run : FramedRun} {unit : PictureUnit} {make : Packet → Part} {report : Part} (packet : Packet)
-    (starts : Bool) (frames rest : List Part) → AreFramesOf run unit make → IsReport report → (f o : ℕ)
-    → BeginsWith run unit packet
-    (frames_among ((cond starts (report ∷ []) [] ++ (make packet ∷ frames)) ++ rest)
-    (blocks_from run f o ((cond starts (report ∷ []) [] ++ (make packet ∷ frames)) ++ rest)))
-first-by {run} {unit} {make} {report} packet true frames rest are is f o =
-    let ps = make packet ∷ (frames ++ rest) in
-    let tail = blocks_from run (f + count_of report) (o + octets_of report) ps in
+first-by : {u : UnitPieces} {report : Part} (packet : Packet) (starts : Bool) (frames rest : List Part)
+    → AreFramesOf u → IsReport report → (f o : ℕ)
+    → BeginsWith u.run u.unit packet
+    (frames_among ((cond starts (report ∷ []) [] ++ (u.make packet ∷ frames)) ++ rest)
+    (blocks_from u.run f o ((cond starts (report ∷ []) [] ++ (u.make packet ∷ frames)) ++ rest)))
+first-by {u} {report} packet true frames rest are is f o =
+    let ps = u.make packet ∷ (frames ++ rest) in
+    let tail = blocks_from u.run (f + count_of report) (o + octets_of report) ps in
     record {
-      block = frame_block run unit packet (f + count_of report);
+      block = frame_block u.run u.unit packet (f + count_of report);
       more = _;
-      are = is.none ps (piece_bytes run f o report) tail
+      are = is.none ps (piece_bytes u.run f o report) tail
           ∙ sym (one-frame are packet (frames ++ rest) (f + count_of report) (o + octets_of report));
       payload_is = refl;
     }
-first-by {run} {unit} packet false frames rest are is f o = record {
-  block = frame_block run unit packet f;
+first-by {u} packet false frames rest are is f o = record {
+  block = frame_block u.run u.unit packet f;
   more = _;
   are = sym (one-frame are packet (frames ++ rest) f o);
   payload_is = refl;
@@ -255,17 +268,18 @@ has-packet starts unit = by-list (unit_packets starts unit) refl (some-packets s
     by-list [] is some = absurd (omega (arith, some))
     by-list (p ∷ packets) is some = record { packet = p; packets = packets; are = is }
 
-begins-unit : {run : FramedRun} {starts : List ℕ} {unit : PictureUnit} {make : Packet → Part} {report : Part}
-    (there : HasPacket starts unit) (rest : List Part) → AreFramesOf run unit make → IsReport report
-    → BeginsWith run unit there.packet
-    (frames_among ((cond unit.starts_group (report ∷ []) [] ++ map make (unit_packets starts unit)) ++ rest)
-    (blocks_from run 0 0 ((cond unit.starts_group (report ∷ []) [] ++ map make (unit_packets starts unit)) ++ rest)))
-begins-unit {run} {unit} {make} {report} there rest are is =
-    let Q : List Packet → Type 0 = λ ps. BeginsWith run unit there.packet
-    (frames_among ((cond unit.starts_group (report ∷ []) [] ++ map make ps) ++ rest)
-    (blocks_from run 0 0 ((cond unit.starts_group (report ∷ []) [] ++ map make ps) ++ rest))) in
+begins-unit : {starts : List ℕ} {u : UnitPieces} {report : Part} (there : HasPacket starts u.unit) (rest : List Part)
+    → AreFramesOf u → IsReport report
+    → BeginsWith u.run u.unit there.packet
+    (frames_among ((cond u.unit.starts_group (report ∷ []) [] ++ map u.make (unit_packets starts u.unit)) ++ rest)
+    (blocks_from u.run 0 0
+    ((cond u.unit.starts_group (report ∷ []) [] ++ map u.make (unit_packets starts u.unit)) ++ rest)))
+begins-unit {u = u} {report} there rest are is =
+    let Q : List Packet → Type 0 = λ ps. BeginsWith u.run u.unit there.packet
+    (frames_among ((cond u.unit.starts_group (report ∷ []) [] ++ map u.make ps) ++ rest)
+    (blocks_from u.run 0 0 ((cond u.unit.starts_group (report ∷ []) [] ++ map u.make ps) ++ rest))) in
     subst Q (sym there.are)
-    (first-by {make = make} {report = report} there.packet unit.starts_group (map make there.packets) rest are is 0 0)
+    (first-by {u = u} {report = report} there.packet u.unit.starts_group (map u.make there.packets) rest are is 0 0)
 
 pub first-frame : (run : FramedRun) (starts : List ℕ) (unit : PictureUnit) (units : List PictureUnit)
     (there : HasPacket starts unit)
@@ -274,7 +288,7 @@ pub first-frame : (run : FramedRun) (starts : List ℕ) (unit : PictureUnit) (un
 first-frame run starts unit units there =
     let P : List Part → Type 0 = λ l. BeginsWith run unit there.packet (frames_among l (blocks_from run 0 0 l)) in
     subst P (sym (pieces-cons starts unit units))
-    (begins-unit {make = _} {report = _} there (pieces_of starts units)
+    (begins-unit {u = record { run = run; unit = unit; make = _ }} {report = _} there (pieces_of starts units)
     (record { bytes = λ p g n. refl; among = λ p ps b bs. refl }) (record { none = λ ps b bs. refl }))
 
 -- the first packet of a unit goes as far as its head, or further, where no cut stands in a head

@@ -2,6 +2,7 @@
 use Rattle.std.proofs.Common.{◌≡◌, ℕ, ◌≤◌, ◌==◌, Bool, true, false, cond, List, length, Option, Some, None}
 use Rattle.std.proofs.Common.{refl, ap, subst}
 use Rattle.std.specs.Prelude.{option_map, option_and_then, codes}
+use Rattle.std.proofs.lemmas.Option.{cond_some}
 use Rattle.std.specs.List.{before_first, list_all}
 use Rattle.vod_base.specs.Blanks.{without_blanks}
 use Rattle.rtsp_text.specs.Fields.{header_value}
@@ -14,15 +15,10 @@ record IsUsable (found : Option (List ℕ)) (id : List ℕ) : Type 0 where
   found_is : found ≡ Some id
   bytes : list_all is_value_byte id ≡ true
 
-usable-by : (passes : Bool) (found id : List ℕ) → cond passes (Some found) None ≡ Some id
-    → (passes ≡ true) × (found ≡ id)
-usable-by true found id is = (refl, cc)
-usable-by false found id is = cc
-
 usable : (found : Option (List ℕ)) (id : List ℕ) → option_and_then usable_id found ≡ Some id → IsUsable found id
 usable None id is = cc
 usable (Some found) id is =
-    let parts = usable-by (list_all is_value_byte found) found id is in
+    let parts = cond_some (list_all is_value_byte found) found id is in
     record {
       found_is = ap (λ (l : List ℕ). Some l) parts.1;
       bytes = subst (λ l. list_all is_value_byte l ≡ true) parts.1 parts.0;

@@ -3,19 +3,15 @@ use Rattle.std.proofs.Common.{◌≡◌, ℕ, ◌+◌, ◌≤◌, ◌&&◌, Bool
 use Rattle.std.proofs.Common.{Option, Some, None, refl, ap, subst, ◌∙◌, codes}
 use Rattle.std.specs.Prelude.{option_and_then}
 use Rattle.std.proofs.lemmas.Bool.{and_from, and_parts, cond-true, le-leb, leb-true}
+use Rattle.std.proofs.lemmas.Option.{cond_some}
 use Rattle.vod_base.specs.declared.links.TheConstants.{LATEST_SLOT}
 use Rattle.rtsp_client.specs.Replies.{number_in, play_start, start_within}
-
-in-range : (within : Bool) (n start : ℕ) → cond within (Some n) None ≡ Some start
-    → (within ≡ true) × (n ≡ start)
-in-range true n start is = (refl, cc)
-in-range false n start is = cc
 
 within-of : (found : Option ℕ) (start : ℕ) → option_and_then start_within found ≡ Some start
     → (1 ≤ start) × (start ≤ LATEST_SLOT + 1)
 within-of None start is = cc
 within-of (Some n) start is =
-    let parts = in-range (nat_le 1 n && nat_le n (LATEST_SLOT + 1)) n start is in
+    let parts = cond_some (nat_le 1 n && nat_le n (LATEST_SLOT + 1)) n start is in
     let both = and_parts (nat_le 1 n) (nat_le n (LATEST_SLOT + 1)) parts.0 in
     subst (λ m. (1 ≤ m) × (m ≤ LATEST_SLOT + 1)) parts.1 (leb-true 1 n both.0, leb-true n (LATEST_SLOT + 1) both.1)
 

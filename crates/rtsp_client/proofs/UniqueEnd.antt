@@ -57,8 +57,7 @@ gives-once wish h (Reply message) (inr (inr (good, two, is))) (inr (inl (code, (
     absurd (refused.1 (orderly-once refused.0 good.0))
 gives-once wish h (Reply message) (inr (inr (good, two, is))) (inr (inr (good', two', is'))) = is ∙ sym is'
 gives-once wish h (Frame block) one other = one.1 ∙ sym other.1
-gives-once wish h (Report block) one other = absurd one
-gives-once wish h (Slot slot cut) one other = absurd one
+gives-once wish h _ one other = absurd one
 
 -- and then the watching doesn't go on
 pub gives-not-on : (wish : Wish) (h : History) (end : WatchEnd) (moment : ClientEvent) → Gives wish h moment end
@@ -67,8 +66,7 @@ gives-not-on wish h end (Reply message) (inl (bad, is)) on = bad-not-good bad on
 gives-not-on wish h end (Reply message) (inr (inl (code, (refused, is)))) on = refused.1 (orderly-once refused.0 on.0.0)
 gives-not-on wish h end (Reply message) (inr (inr (good, two, is))) on = omega (arith, two, on.1)
 gives-not-on wish h end (Frame block) given on = both_ways (is_good_frame h block) given.0 on
-gives-not-on wish h end (Report block) given on = given
-gives-not-on wish h end (Slot slot cut) given on = given
+gives-not-on wish h end _ given on = given
 
 good-later : (h : History) (a b : List ClientEvent) → GoOn h (a ++ b) → GoOn (history_after h a) b
 good-later h [] b good = good
@@ -81,32 +79,21 @@ pub data Quits (wish : Wish) (h : History) (rest : List ℕ) (end : WatchEnd) : 
   AtFraming : end ≡ Fault Framing → (fault : DemuxFault) → IsFirst rest (Err fault) → Quits wish h rest end
   AtMoment : (moment : ClientEvent) → IsNext rest moment → Gives wish h moment end → Quits wish h rest end
 
-record HasFailed (wish : Wish) (h : History) (moment : ClientEvent) (end : WatchEnd) (sent out : List ℕ) : Type 0 where
-  fails : Fails wish h moment end sent out
-
-fails-not : {wish : Wish} {h : History} {moment : ClientEvent} {sent out : List ℕ} (end : WatchEnd) → IsDecided end
-    → HasFailed wish h moment end sent out → ⊥
-fails-not (Done watched) decided failed = failed.fails
-fails-not (Fault fault) decided failed = failed.fails
-fails-not LinkFault decided failed = decided
-fails-not SinkFault decided failed = decided
-fails-not NoMemory decided failed = decided
-
 -- such an answer, with nothing sent and nothing handed on
-record QuitsAlone (wish : Wish) (h : History) (rest : List ℕ) (end : WatchEnd) (sent out : List ℕ) : Type 0 where
-  quits : Quits wish h rest end
+record QuitsAlone (wish : Wish) (old : WatchStage) (end : WatchEnd) (sent out : List ℕ) : Type 0 where
+  quits : Quits wish old.history old.rest end
   no_sent : sent ≡ []
   no_out : out ≡ []
 
-quits-alone : {wish : Wish} {mid : WatchStage} {end : WatchEnd} {sent out : List ℕ} → IsDecided end
-    → Stops wish mid end sent out → QuitsAlone wish mid.history mid.rest end sent out
-quits-alone decided (inl (is, (fault, first), no_sent, no_out)) =
+quits-alone : {wish : Wish} {sent out : List ℕ} (old : WatchStage) (end : WatchEnd) → IsDecided end
+    → Stops wish old end sent out → QuitsAlone wish old end sent out
+quits-alone old end decided (inl (is, (fault, first), no_sent, no_out)) =
     record { quits = AtFraming is fault first; no_sent = no_sent; no_out = no_out }
-quits-alone decided (inr (moment, (next, inl (given, no_sent, no_out)))) =
+quits-alone old end decided (inr (moment, (next, inl (given, no_sent, no_out)))) =
     record { quits = AtMoment moment next given; no_sent = no_sent; no_out = no_out }
-quits-alone {wish} {mid} {end} {sent} {out} decided (inr (moment, (next, inr (on, fails)))) =
-    let failed : HasFailed wish mid.history moment end sent out = record { fails = fails } in
-    absurd (fails-not end decided failed)
+quits-alone old (Done watched) decided (inr (moment, (next, inr (on, failed)))) = absurd failed
+quits-alone old (Fault fault) decided (inr (moment, (next, inr (on, failed)))) = absurd failed
+quits-alone old _ decided (inr (moment, (next, inr (on, failed)))) = absurd decided
 
 abbrev first_moment : ClientEvent → List ClientEvent → ClientEvent
 first_moment other [] = other
@@ -137,17 +124,18 @@ quits-not-idle {rest} (AtFraming is fault first) idle =
 quits-not-idle {rest} (AtMoment moment (n, (element, _)) given) idle = tells_none rest (Ok More) idle n element
 
 -- and no element of them is processed
-quits-not-on : {wish : Wish} {h : History} {rest : List ℕ} {end : WatchEnd} (later element : List ℕ)
-    (elements : List (List ℕ)) → Quits wish h rest end → AreInputElements rest (element ∷ elements) later
-    → GoOn h (events_of_elements (element ∷ elements)) → ⊥
-quits-not-on {rest} later element elements (AtFraming is fault first) (n, cut) good =
-    tells_none rest (Err fault) first n cut.0
-quits-not-on {wish} {h} {rest} {end} later element elements (AtMoment moment (n, (front, is)) given) (n', cut) good =
+quits-not-on : {wish : Wish} {old : WatchStage} {end : WatchEnd} (later element : List ℕ)
+    (elements : List (List ℕ)) → Quits wish old.history old.rest end
+    → AreInputElements old.rest (element ∷ elements) later
+    → GoOn old.history (events_of_elements (element ∷ elements)) → ⊥
+quits-not-on {old = old} later element elements (AtFraming is fault first) (n, cut) good =
+    tells_none old.rest (Err fault) first n cut.0
+quits-not-on {wish} {old} {end} later element elements (AtMoment moment (n, (front, is)) given) (n', cut) good =
     let same : element_events element ≡ moment ∷ [] =
-    ap element_events cut.1 ∙ ap (λ k. element_events (take k rest)) (element_once rest n' n cut.0 front) ∙ is in
-    let on : GoOn h (moment ∷ events_of_elements elements) =
-    subst (λ (ms : List ClientEvent). GoOn h (ms ++ events_of_elements elements)) same good in
-    gives-not-on wish h end moment given on.0
+    ap element_events cut.1 ∙ ap (λ k. element_events (take k old.rest)) (element_once old.rest n' n cut.0 front) ∙ is in
+    let on : GoOn old.history (moment ∷ events_of_elements elements) =
+    subst (λ (ms : List ClientEvent). GoOn old.history (ms ++ events_of_elements elements)) same good in
+    gives-not-on wish old.history end moment given on.0
 
 -- ---- elements, one after another
 
@@ -162,19 +150,29 @@ pub record IsQuit (wish : Wish) (h : History) (bytes : List ℕ) (elements : Lis
   pub passed : IsPassed h bytes elements rest
   pub quits : Quits wish (history_after h (events_of_elements elements)) rest end
 
-record AreSame (one other : List (List ℕ)) (rest later : List ℕ) : Type 0 where
-  elements_are : one ≡ other
-  rest_is : rest ≡ later
+-- bytes split into elements, and what is left of them
+pub record SplitBytes : Type 0 where
+  pub elements : List (List ℕ)
+  pub rest : List ℕ
+
+record AreSame (one other : SplitBytes) : Type 0 where
+  elements_are : one.elements ≡ other.elements
+  rest_is : one.rest ≡ other.rest
 
 -- no further element is processed after the answer
-no-further : {wish : Wish} {h : History} {bytes : List ℕ} {one other : List (List ℕ)} {rest later : List ℕ}
-    {end : WatchEnd} (more : List (List ℕ)) → IsQuit wish h bytes one rest end → IsPassed h bytes other later
-    → other ≡ one ++ more → AreInputElements rest more later → AreSame one other rest later
-no-further {one} [] quit passed is cut = record { elements_are = sym (is ∙ append-nil one); rest_is = cut }
-no-further {h} {one} {later} (element ∷ more) quit passed is cut =
-    absurd (quits-not-on later element more quit.quits cut
-    (good-later h (events_of_elements one) (events_of_elements (element ∷ more))
-    (subst (GoOn h) (ap events_of_elements is ∙ flat_map-append element_events one (element ∷ more)) passed.good)))
+no-further : {wish : Wish} {old : WatchStage} {one other : SplitBytes} {end : WatchEnd} (more : List (List ℕ))
+    → IsQuit wish old.history old.rest one.elements one.rest end
+    → IsPassed old.history old.rest other.elements other.rest
+    → other.elements ≡ one.elements ++ more → AreInputElements one.rest more other.rest → AreSame one other
+no-further {one = one} [] quit passed is cut =
+    record { elements_are = sym (is ∙ append-nil one.elements); rest_is = cut }
+no-further {old = old} {one} (element ∷ more) quit passed is cut =
+    let before = events_of_elements one.elements in
+    absurd (quits-not-on {old = record { history = history_after old.history before; rest = one.rest }} _ element more
+    quit.quits cut
+    (good-later old.history before (events_of_elements (element ∷ more))
+    (subst (GoOn old.history)
+    (ap events_of_elements is ∙ flat_map-append element_events one.elements (element ∷ more)) passed.good)))
 
 -- where no complete element is first, none is processed
 idle-stays : {rest later : List ℕ} (more : List (List ℕ)) → IsFirst rest (Ok More) → AreInputElements rest more later
@@ -183,14 +181,16 @@ idle-stays [] idle cut = subst (λ r. IsFirst r (Ok More)) cut idle
 idle-stays {rest} (element ∷ more) idle (n, cut) = absurd (tells_none rest (Ok More) idle n cut.0)
 
 -- bytes that give the answer are not all processed
-pub quit-not-passed : {wish : Wish} {h : History} {bytes : List ℕ} {one other : List (List ℕ)} {rest later : List ℕ}
-    {end : WatchEnd} → IsQuit wish h bytes one rest end → IsPassed h bytes other later → IsFirst later (Ok More) → ⊥
-quit-not-passed {bytes} {one} {other} {rest} {later} quit passed idle =
-    let cuts : TwoCuts bytes one other rest later = record { one = quit.passed.cut; other = passed.cut } in
+pub quit-not-passed : {wish : Wish} {old : WatchStage} {one other : SplitBytes} {end : WatchEnd}
+    → IsQuit wish old.history old.rest one.elements one.rest end
+    → IsPassed old.history old.rest other.elements other.rest → IsFirst other.rest (Ok More) → ⊥
+quit-not-passed {old = old} {one} {other} quit passed idle =
+    let cuts : TwoCuts old.rest one.elements other.elements one.rest other.rest =
+    record { one = quit.passed.cut; other = passed.cut } in
     elim (cuts_agree cuts) [
       | inl (more, (is, cut)) ↦
-          quits-not-idle quit.quits
-          (subst (λ r. IsFirst r (Ok More)) (sym (no-further more quit passed is cut).rest_is) idle)
+          let same : AreSame one other = no-further {old = old} more quit passed is cut in
+          quits-not-idle quit.quits (subst (λ r. IsFirst r (Ok More)) (sym same.rest_is) idle)
       | inr (more, (is, cut)) ↦ quits-not-idle quit.quits (idle-stays more idle cut)
     ]
 
@@ -199,20 +199,23 @@ record AreSameQuits (one other : List (List ℕ)) (end later : WatchEnd) : Type 
   elements_are : one ≡ other
   end_is : end ≡ later
 
-quit-once : {wish : Wish} {h : History} {bytes : List ℕ} {one other : List (List ℕ)} {rest rest' : List ℕ}
-    {end end' : WatchEnd} → IsQuit wish h bytes one rest end → IsQuit wish h bytes other rest' end'
-    → AreSameQuits one other end end'
-quit-once {wish} {h} {bytes} {one} {other} {rest} {rest'} {end} {end'} quit quit' =
-    let cuts : TwoCuts bytes one other rest rest' = record { one = quit.passed.cut; other = quit'.passed.cut } in
-    let same : AreSame one other rest rest' = elim (cuts_agree cuts) [
-      | inl (more, (is, cut)) ↦ no-further more quit quit'.passed is cut
+quit-once : {wish : Wish} {old : WatchStage} {one other : SplitBytes} {end end' : WatchEnd}
+    → IsQuit wish old.history old.rest one.elements one.rest end
+    → IsQuit wish old.history old.rest other.elements other.rest end'
+    → AreSameQuits one.elements other.elements end end'
+quit-once {wish} {old} {one} {other} {end} quit quit' =
+    let cuts : TwoCuts old.rest one.elements other.elements one.rest other.rest =
+    record { one = quit.passed.cut; other = quit'.passed.cut } in
+    let same : AreSame one other = elim (cuts_agree cuts) [
+      | inl (more, (is, cut)) ↦ no-further {old = old} more quit quit'.passed is cut
       | inr (more, (is, cut)) ↦
-          let back = no-further more quit' quit.passed is cut in
+          let back : AreSame other one = no-further {old = old} more quit' quit.passed is cut in
           record { elements_are = sym back.elements_are; rest_is = sym back.rest_is }
     ] in
-    let there : Quits wish (history_after h (events_of_elements other)) rest' end =
-    subst (λ r. Quits wish (history_after h (events_of_elements other)) r end) same.rest_is
-    (subst (λ es. Quits wish (history_after h (events_of_elements es)) rest end) same.elements_are quit.quits) in
+    let after = λ (es : List (List ℕ)). history_after old.history (events_of_elements es) in
+    let there : Quits wish (after other.elements) other.rest end =
+    subst (λ r. Quits wish (after other.elements) r end) same.rest_is
+    (subst (λ es. Quits wish (after es) one.rest end) same.elements_are quit.quits) in
     record { elements_are = same.elements_are; end_is = quits-once there quit'.quits }
 
 -- ---- what the client did
@@ -222,28 +225,29 @@ pub stops-quit : {wish : Wish} {old : WatchStage} {end : WatchEnd} {sent out : L
     → IsQuit wish old.history old.rest stops.elements stops.mid end
 stops-quit decided stops = record {
   passed = record { cut = stops.cut; good = stops.good };
-  quits = (quits-alone decided stops.stops).quits;
+  quits = (quits-alone _ _ decided stops.stops).quits;
 }
 
--- the same answer, after the same was sent and handed on
-pub record AreSameStops (end end' : WatchEnd) (sent sent' out out' : List ℕ) : Type 0 where
-  pub end_is : end ≡ end'
-  pub sent_is : sent ≡ sent'
-  pub out_is : out ≡ out'
+-- an answer, after what was sent and handed on
+pub record StopOutcome : Type 0 where
+  pub end : WatchEnd
+  pub sent : List ℕ
+  pub out : List ℕ
 
-pub stops-once : {wish : Wish} {old : WatchStage} {end end' : WatchEnd} {sent sent' out out' : List ℕ} → IsDecided end
-    → IsDecided end' → StopsAt wish old end sent out → StopsAt wish old end' sent' out'
-    → AreSameStops end end' sent sent' out out'
-stops-once {wish} {old} decided decided' one other =
-    let alone = quits-alone {wish = wish} decided one.stops in
-    let alone' = quits-alone {wish = wish} decided' other.stops in
-    let same = quit-once (stops-quit decided one) (stops-quit decided' other) in
+pub stops-once : {wish : Wish} {old : WatchStage} {a b : StopOutcome} → IsDecided a.end → IsDecided b.end
+    → StopsAt wish old a.end a.sent a.out → StopsAt wish old b.end b.sent b.out → a ≡ b
+stops-once {wish} {old} {a} {b} decided decided' one other =
+    let alone = quits-alone {wish = wish} _ _ decided one.stops in
+    let alone' = quits-alone {wish = wish} _ _ decided' other.stops in
+    let same = quit-once {old = old} (stops-quit decided one) (stops-quit decided' other) in
     let requests = λ (es : List (List ℕ)). requests_after wish old.history (events_of_elements es) in
     let payloads = λ (es : List (List ℕ)). payloads_of (events_of_elements es) in
-    record {
-      end_is = same.end_is;
-      sent_is = one.sent_is ∙ ap (λ x. requests one.elements ++ x) (alone.no_sent ∙ sym alone'.no_sent)
-          ∙ ap (λ es. requests es ++ other.more_sent) same.elements_are ∙ sym other.sent_is;
-      out_is = one.out_is ∙ ap (λ x. payloads one.elements ++ x) (alone.no_out ∙ sym alone'.no_out)
-          ∙ ap (λ es. payloads es ++ other.more_out) same.elements_are ∙ sym other.out_is;
-    }
+    let end_is : a.end ≡ b.end = same.end_is in
+    let sent_is : a.sent ≡ b.sent =
+    one.sent_is ∙ ap (λ x. requests one.elements ++ x) (alone.no_sent ∙ sym alone'.no_sent)
+    ∙ ap (λ es. requests es ++ other.more_sent) same.elements_are ∙ sym other.sent_is in
+    let out_is : a.out ≡ b.out =
+    one.out_is ∙ ap (λ x. payloads one.elements ++ x) (alone.no_out ∙ sym alone'.no_out)
+    ∙ ap (λ es. payloads es ++ other.more_out) same.elements_are ∙ sym other.out_is in
+    ap (λ e. record a { end = e }) end_is
+    ∙ (ap (λ s. record b { sent = s; out = a.out }) sent_is ∙ ap (λ o. record b { out = o }) out_is)

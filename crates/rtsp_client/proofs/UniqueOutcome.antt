@@ -19,7 +19,7 @@ use Rattle.rtsp_client.specs.WatchCourses.{Brings, Ends, HasNotBegun, Round, Run
 use Rattle.rtsp_client.specs.WatchCourses.{events_of_rounds, rounds_doings, stage}
 use Rattle.rtsp_client.specs.Requests.{setup_text}
 use Rattle.rtsp_client.specs.Outcomes.{IsDecided, IsOutcome, WatchOutcome, events_in}
-use Rattle.rtsp_client.proofs.UniqueEnd.{IsPassed, quit-not-passed, stops-once, stops-quit}
+use Rattle.rtsp_client.proofs.UniqueEnd.{IsPassed, StopOutcome, quit-not-passed, stops-once, stops-quit}
 
 -- ---- events
 
@@ -41,10 +41,8 @@ events_of (round ∷ rounds) = round.event ∷ events_of rounds
 
 event-heard : (old new : List ℕ) (moments : List ClientEvent) (event : IoEvent) → Brings event old moments new
     → (doings : List IoEvent) → events_in (event ∷ doings) ≡ event ∷ events_in doings
-event-heard old new moments (HeardBytes bytes) brings doings = refl
-event-heard old new moments (HeardSlot slot) brings doings = refl
-event-heard old new moments HeardEnd brings doings = absurd brings
 event-heard old new moments (Sent byte) brings doings = absurd brings
+event-heard old new moments _ brings doings = refl
 
 rounds-heard : (wish : Wish) (old mid : WatchStage) (rounds : List Round) → RunsAll old rounds mid
     → events_in (rounds_doings wish old.history rounds) ≡ events_of rounds
@@ -61,40 +59,52 @@ rounds-heard wish old mid (round ∷ rounds) (next, (runs, idle, all)) =
 
 -- ---- one event
 
--- the same moments, and the same bytes that wait
-record AreSameMoments (one other : List ClientEvent) (rest rest' : List ℕ) : Type 0 where
-  moments_are : one ≡ other
-  rest_is : rest ≡ rest'
+-- what an event brought: moments, and bytes that wait
+record Brought : Type 0 where
+  moments : List ClientEvent
+  rest : List ℕ
 
-brings-once : {new new' : List ℕ} {moments moments' : List ClientEvent} (old : List ℕ) (event : IoEvent)
-    → Brings event old moments new → IsFirst new (Ok More) → Brings event old moments' new' → IsFirst new' (Ok More)
-    → AreSameMoments moments moments' new new'
-brings-once {new} {new'} old (HeardBytes bytes) (elements, (cut, is)) idle (elements', (cut', is')) idle' =
-    let streams : TwoStreams (old ++ bytes) elements elements' new new' =
-    record { one = (cut, tells_none new (Ok More) idle); other = (cut', tells_none new' (Ok More) idle') } in
+brought-is : {a b : Brought} → a.moments ≡ b.moments → a.rest ≡ b.rest → a ≡ b
+brought-is {a} {b} moments rest =
+    ap (λ ms. record a { moments = ms }) moments ∙ ap (λ r. record b { rest = r }) rest
+
+brings-once : {a b : Brought} (old : List ℕ) (event : IoEvent) → Brings event old a.moments a.rest
+    → IsFirst a.rest (Ok More) → Brings event old b.moments b.rest → IsFirst b.rest (Ok More) → a ≡ b
+brings-once {a} {b} old (HeardBytes bytes) (elements, (cut, is)) idle (elements', (cut', is')) idle' =
+    let streams : TwoStreams (old ++ bytes) elements elements' a.rest b.rest = record {
+      one = (cut, tells_none a.rest (Ok More) idle);
+      other = (cut', tells_none b.rest (Ok More) idle');
+    } in
     let same = stream_once streams in
-    record { moments_are = is ∙ ap events_of_elements same.0 ∙ sym is'; rest_is = same.1 }
-brings-once old (HeardSlot slot) (is, same) idle (is', same') idle' =
-    record { moments_are = is ∙ sym is'; rest_is = same ∙ sym same' }
-brings-once old HeardEnd brings idle brings' idle' = absurd brings
-brings-once old (Sent byte) brings idle brings' idle' = absurd brings
+    brought-is (is ∙ ap events_of_elements same.0 ∙ sym is') same.1
+brings-once old (HeardSlot slot) (is, same) idle (is', same') idle' = brought-is (is ∙ sym is') (same ∙ sym same')
+brings-once old _ brings idle brings' idle' = absurd brings
+
+-- a round was processed, and no complete element waits
+record RoundDone (old : WatchStage) (round : Round) : Type 0 where
+  mid : WatchStage
+  runs : Runs old round mid
+  idle : IsFirst mid.rest (Ok More)
 
 record AreSameRounds (one other : Round) (mid mid' : WatchStage) : Type 0 where
   round_is : one ≡ other
   mid_is : mid ≡ mid'
 
-runs-once : {old mid mid' : WatchStage} {one other : Round} → Runs old one mid → IsFirst mid.rest (Ok More)
-    → Runs old other mid' → IsFirst mid'.rest (Ok More) → one.event ≡ other.event
-    → AreSameRounds one other mid mid'
-runs-once {old} {mid} {mid'} {one} {other} runs idle runs' idle' heard =
-    let same = brings-once old.rest other.event
-    (subst (λ e. Brings e old.rest one.moments mid.rest) heard runs.brings) idle runs'.brings idle' in
-    let history_is : mid.history ≡ mid'.history =
-    runs.history_is ∙ ap (history_after old.history) same.moments_are ∙ sym runs'.history_is in
+runs-once : {old : WatchStage} {one other : Round} (a : RoundDone old one) (b : RoundDone old other)
+    → one.event ≡ other.event → AreSameRounds one other a.mid b.mid
+runs-once {old} {one} {other} a b heard =
+    let brought : record { moments = one.moments; rest = a.mid.rest }
+    ≡ record { moments = other.moments; rest = b.mid.rest } =
+    brings-once {a = record { moments = one.moments; rest = a.mid.rest }}
+    {b = record { moments = other.moments; rest = b.mid.rest }} old.rest other.event
+    (subst (λ e. Brings e old.rest one.moments a.mid.rest) heard a.runs.brings) a.idle b.runs.brings b.idle in
+    let moments : one.moments ≡ other.moments = ap (λ (x : Brought). x.moments) brought in
+    let history_is : a.mid.history ≡ b.mid.history =
+    a.runs.history_is ∙ ap (history_after old.history) moments ∙ sym b.runs.history_is in
     record {
       round_is = ap (λ e. record { event = e; moments = one.moments }) heard
-          ∙ ap (λ ms. record { event = other.event; moments = ms }) same.moments_are;
-      mid_is = ap (λ h. stage h mid.rest) history_is ∙ ap (stage mid'.history) same.rest_is;
+          ∙ ap (λ ms. record { event = other.event; moments = ms }) moments;
+      mid_is = ap (λ h. stage h a.mid.rest) history_is ∙ ap (λ (x : Brought). stage b.mid.history x.rest) brought;
     }
 
 -- ---- the last event
@@ -143,18 +153,10 @@ after_first (doing ∷ doings) = doings
 
 abbrev bytes_or_none : IoEvent → List ℕ
 bytes_or_none (HeardBytes bytes) = bytes
-bytes_or_none (HeardSlot slot) = []
-bytes_or_none HeardEnd = []
-bytes_or_none (Sent byte) = []
-
-abbrev is_peer_end : IoEvent → Bool
-is_peer_end (HeardBytes bytes) = false
-is_peer_end (HeardSlot slot) = false
-is_peer_end HeardEnd = true
-is_peer_end (Sent byte) = false
+bytes_or_none _ = []
 
 no-end-of-bytes : {bytes : List ℕ} → HeardEnd ≡ HeardBytes bytes → ⊥
-no-end-of-bytes same = both_ways (is_peer_end HeardEnd) (ap is_peer_end same) refl
+no-end-of-bytes same = cc
 
 finals-once : {wish : Wish} {old : WatchStage} {count : ℕ} {a b : Final} (later : List IoEvent) → Closes wish old count a
     → Closes wish old count b → events_in b.doings ≡ events_in a.doings ++ later → a ≡ b
@@ -182,74 +184,86 @@ finals-once {wish} {old} {a} {b} later (Stopped bytes sent decided stops doings 
     sym (ap (λ ds. bytes_or_none (event_or_end (events_in ds ++ later))) doings)
     ∙ sym (ap (λ ds. bytes_or_none (event_or_end ds)) same)
     ∙ ap (λ ds. bytes_or_none (event_or_end (events_in ds))) doings' in
-    let one = stops-once decided decided'
+    let one : record { end = a.end; sent = sent; out = a.out } ≡ record { end = b.end; sent = sent'; out = b.out } =
+    stops-once {a = record { end = a.end; sent = sent; out = a.out }}
+    {b = record { end = b.end; sent = sent'; out = b.out }} decided decided'
     (subst (λ x. StopsAt wish (stage old.history (old.rest ++ x)) a.end sent a.out) bytes_are stops) stops' in
-    final-is one.end_is
-    (doings ∙ ap (λ x. HeardBytes x ∷ sends sent) bytes_are ∙ ap (λ x. HeardBytes bytes' ∷ sends x) one.sent_is
-    ∙ sym doings') one.out_is
+    final-is (ap (λ (s : StopOutcome). s.end) one)
+    (doings ∙ ap (λ x. HeardBytes x ∷ sends sent) bytes_are
+    ∙ ap (λ (s : StopOutcome). HeardBytes bytes' ∷ sends s.sent) one ∙ sym doings')
+    (ap (λ (s : StopOutcome). s.out) one)
 
 -- the watching doesn't go on at the event that gives the answer
-closes-not-runs : {wish : Wish} {old mid : WatchStage} {count : ℕ} {f : Final} {round : Round} {more : List IoEvent}
-    (later : List IoEvent) → Closes wish old count f → count < 2 ^ 40 → Runs old round mid → IsFirst mid.rest (Ok More)
-    → events_in f.doings ++ later ≡ round.event ∷ more → ⊥
-closes-not-runs later (Spent is all doings out) few runs idle same = omega (arith, all, few)
-closes-not-runs {old} {mid} {round} later (Ended is _ doings out) few runs idle same =
-    let first : round.event ≡ HeardEnd =
-    sym (ap event_or_end same) ∙ ap (λ ds. event_or_end (events_in ds ++ later)) doings in
-    subst (λ e. Brings e old.rest round.moments mid.rest) first runs.brings
-closes-not-runs {old} {mid} {round} later (Stopped bytes sent decided stops doings _) few runs idle same =
-    let first : round.event ≡ HeardBytes bytes =
-    sym (ap event_or_end same) ∙ ap (λ ds. event_or_end (events_in ds ++ later)) doings in
-    let brings : Brings (HeardBytes bytes) old.rest round.moments mid.rest =
-    subst (λ e. Brings e old.rest round.moments mid.rest) first runs.brings in
-    let passed : IsPassed old.history (old.rest ++ bytes) brings.0 mid.rest =
-    record { cut = brings.1.0; good = subst (GoOn old.history) brings.1.1 runs.good } in
-    quit-not-passed (stops-quit decided stops) passed idle
+closes-not-runs : {wish : Wish} {old : WatchStage} {count : ℕ} {f : Final} {round : Round} (later : List IoEvent)
+    → Closes wish old count f → count < 2 ^ 40 → RoundDone old round
+    → event_or_end (events_in f.doings ++ later) ≡ round.event → ⊥
+closes-not-runs later (Spent is all doings out) few done same = omega (arith, all, few)
+closes-not-runs {old = old} {round = round} later (Ended is _ doings out) few done same =
+    let first : round.event ≡ HeardEnd = sym same ∙ ap (λ ds. event_or_end (events_in ds ++ later)) doings in
+    subst (λ e. Brings e old.rest round.moments done.mid.rest) first done.runs.brings
+closes-not-runs {old = old} {round = round} later (Stopped bytes sent decided stops doings _) few done same =
+    let first : round.event ≡ HeardBytes bytes = sym same ∙ ap (λ ds. event_or_end (events_in ds ++ later)) doings in
+    let brings : Brings (HeardBytes bytes) old.rest round.moments done.mid.rest =
+    subst (λ e. Brings e old.rest round.moments done.mid.rest) first done.runs.brings in
+    let passed : IsPassed old.history (old.rest ++ bytes) brings.0 done.mid.rest =
+    record { cut = brings.1.0; good = subst (GoOn old.history) brings.1.1 done.runs.good } in
+    quit-not-passed {old = stage old.history (old.rest ++ bytes)} (stops-quit decided stops) passed done.idle
 
 -- ---- all events
 
-record IsCourse (wish : Wish) (old : WatchStage) (count : ℕ) (rounds : List Round) (f : Final) : Type 0 where
+-- where a course begins: a stage, after so many events
+record CourseStart : Type 0 where
+  stage : WatchStage
+  count : ℕ
+
+record IsCourse (wish : Wish) (start : CourseStart) (rounds : List Round) (f : Final) : Type 0 where
   mid : WatchStage
-  runs : RunsAll old rounds mid
-  closes : Closes wish mid (count + length rounds) f
+  runs : RunsAll start.stage rounds mid
+  closes : Closes wish mid (start.count + length rounds) f
 
 record AreSameCourses (one other : List Round) (a b : Final) : Type 0 where
   rounds_are : one ≡ other
   final_is : a ≡ b
 
 -- a course of no round ends where it begins, and one of several goes on after its first round
-closes-here : {wish : Wish} {old : WatchStage} {count : ℕ} {f : Final} → IsCourse wish old count [] f
-    → Closes wish old (count + 0) f
-closes-here {wish} {old} {count} {f} x = subst (λ s. Closes wish s (count + 0) f) x.runs x.closes
+closes-here : {wish : Wish} {start : CourseStart} {f : Final} → IsCourse wish start [] f
+    → Closes wish start.stage (start.count + 0) f
+closes-here {wish} {start} {f} x = subst (λ s. Closes wish s (start.count + 0) f) x.runs x.closes
 
-course-rest : {wish : Wish} {old : WatchStage} {count : ℕ} {round : Round} {rounds : List Round} {f : Final}
-    (x : IsCourse wish old count (round ∷ rounds) f) → IsCourse wish x.runs.0 (count + 1) rounds f
-course-rest {wish} {old} {count} {round} {rounds} {f} x =
-    let one_more : count + length (round ∷ rounds) ≡ count + 1 + length rounds = omega arith in
+course-rest : {wish : Wish} {start : CourseStart} {round : Round} {rounds : List Round} {f : Final}
+    (x : IsCourse wish start (round ∷ rounds) f)
+    → IsCourse wish (record { stage = x.runs.0; count = start.count + 1 }) rounds f
+course-rest {wish} {start} {round} {rounds} {f} x =
+    let one_more : start.count + length (round ∷ rounds) ≡ start.count + 1 + length rounds = omega arith in
     record {
       mid = x.mid;
       runs = x.runs.1.2;
       closes = subst (λ n. Closes wish x.mid n f) one_more x.closes;
     }
 
-courses-once : {wish : Wish} {a b : Final} (later : List IoEvent) (one other : List Round) {old : WatchStage} {count : ℕ}
-    → IsCourse wish old count one a → IsCourse wish old count other b
+abbrev first-done : {wish : Wish} {start : CourseStart} {round : Round} {rounds : List Round} {f : Final}
+    → IsCourse wish start (round ∷ rounds) f → RoundDone start.stage round
+first-done x = record { mid = x.runs.0; runs = x.runs.1.0; idle = x.runs.1.1 }
+
+courses-once : {wish : Wish} {a b : Final} (later : List IoEvent) (one other : List Round) {start : CourseStart}
+    → IsCourse wish start one a → IsCourse wish start other b
     → events_of other ++ events_in b.doings ≡ (events_of one ++ events_in a.doings) ++ later
     → AreSameCourses one other a b
 courses-once later [] [] x y same =
     record { rounds_are = refl; final_is = finals-once later (closes-here x) (closes-here y) same }
-courses-once later [] (round ∷ other) {old} {count} x y same =
-    let few : count + length (round ∷ other) ≤ 2 ^ 40 = closes-few y.closes in
-    absurd (closes-not-runs later (closes-here x) (omega (arith, few)) y.runs.1.0 y.runs.1.1 (sym same))
-courses-once {wish} {a} {b} later (round ∷ one) [] {old} {count} x y same =
-    let few : count + length (round ∷ one) ≤ 2 ^ 40 = closes-few x.closes in
-    absurd (closes-not-runs [] (closes-here y) (omega (arith, few)) x.runs.1.0 x.runs.1.1
-    (append-nil (events_in b.doings) ∙ same))
-courses-once {wish} {a} {b} later (round ∷ one) (round' ∷ other) {old} {count} x y same =
+courses-once later [] (round ∷ other) {start} x y same =
+    let few : start.count + length (round ∷ other) ≤ 2 ^ 40 = closes-few y.closes in
+    absurd (closes-not-runs later (closes-here x) (omega (arith, few)) (first-done y) (sym (ap event_or_end same)))
+courses-once {b = b} later (round ∷ one) [] {start} x y same =
+    let few : start.count + length (round ∷ one) ≤ 2 ^ 40 = closes-few x.closes in
+    absurd (closes-not-runs [] (closes-here y) (omega (arith, few)) (first-done x)
+    (ap event_or_end (append-nil (events_in b.doings) ∙ same)))
+courses-once {wish} {b = b} later (round ∷ one) (round' ∷ other) {start} x y same =
     let event : round.event ≡ round'.event = sym (ap event_or_end same) in
-    let next = runs-once x.runs.1.0 x.runs.1.1 y.runs.1.0 y.runs.1.1 event in
-    let second : IsCourse wish x.runs.0 (count + 1) other b =
-    subst (λ s. IsCourse wish s (count + 1) other b) (sym next.mid_is) (course-rest y) in
+    let next = runs-once (first-done x) (first-done y) event in
+    let second : IsCourse wish (record { stage = x.runs.0; count = start.count + 1 }) other b =
+    subst (λ s. IsCourse wish (record { stage = s; count = start.count + 1 }) other b) (sym next.mid_is)
+    (course-rest y) in
     let rest = courses-once later one other (course-rest x) second (ap after_first same) in
     record {
       rounds_are = ap (λ r. r ∷ one) next.round_is ∙ ap (λ rs. round' ∷ rs) rest.rounds_are;
@@ -269,16 +283,13 @@ outcome_of wish out rounds f = record {
 record HasCome (wish : Wish) (out : Option (List ℕ)) (o : WatchOutcome) : Type 0 where
   rounds : List Round
   final : Final
-  course : IsCourse wish (stage [] []) 0 rounds final
+  course : IsCourse wish (record { stage = stage [] []; count = 0 }) rounds final
   outcome_is : o ≡ outcome_of wish out rounds final
 
 not-begun : {wish : Wish} {end : WatchEnd} {t t' : Option (List IoEvent)} {o o' : Option (List ℕ)} → IsDecided end
     → HasNotBegun wish end t t' o o' → ⊥
 not-begun decided none =
-    elim none.cause [
-      | inl memory ↦ subst IsDecided memory.0 decided
-      | inr lost ↦ subst IsDecided lost.0 decided
-    ]
+    elim none.cause [ | inl memory ↦ subst IsDecided memory.0 decided | inr lost ↦ subst IsDecided lost.0 decided ]
 
 has-come : {wish : Wish} {told : List IoEvent} {out : Option (List ℕ)} {o : WatchOutcome} → IsOutcome wish told out o
     → HasCome wish out o

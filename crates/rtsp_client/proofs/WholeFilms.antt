@@ -87,6 +87,19 @@ begins-film {film} {rate} {from} packet begins here long bounds =
 abbrev pub HeadsUncut : Type 0
 HeadsUncut = ForAllCutPoints (λ from headers_end slices cuts. IsUncut from headers_end cuts)
 
+-- a film whose frames are sent under the identity of a sender
+pub record SentFilm : Type 0 where
+  pub film : Film
+  pub identity : Identity
+  pub uncut : HeadsUncut
+  pub small : identity.ssrc < 2 ^ 32
+
+abbrev frames_sent : SentFilm → List (List ℕ)
+frames_sent s = frames_of_film s.film s.identity
+
+sent-frames : (s : SentFilm) → AreFrames s.identity.ssrc (length s.film.units.items) (frames_sent s)
+sent-frames s = film-frames s.film s.identity s.small
+
 -- the film's first frame begins it, and gives its rate
 pub record FirstIs (film : Film) (frames : List (List ℕ)) : Type 0 where
   pub block : List ℕ
@@ -95,9 +108,11 @@ pub record FirstIs (film : Film) (frames : List (List ℕ)) : Type 0 where
   pub begins : begins_film (drop 20 block) ≡ true
   pub time_is : time_in block ≡ picture_time film.rate
 
-film-first : HeadsUncut → (film : Film) (identity : Identity) → FirstIs film (frames_of_film film identity)
-film-first uncut film identity = by-units film.units.items refl
+film-first : (s : SentFilm) → FirstIs s.film (frames_of_film s.film s.identity)
+film-first s = by-units film.units.items refl
   where
+    open s use {film, identity, uncut}
+
     run : FramedRun
     run = run_of film 0 (length film.units.items) identity
 
@@ -136,9 +151,6 @@ film-first uncut film identity = by-units film.units.items refl
 
 sizes-count : (h : History) → length (sizes h) ≡ count_last (frames_heard h)
 sizes-count [] = refl
-sizes-count (Reply m ∷ h) = sizes-count h
-sizes-count (Report b ∷ h) = sizes-count h
-sizes-count (Slot t cut ∷ h) = sizes-count h
 sizes-count (Frame b ∷ h) =
     by-last (sizes h) (bytes_pending h + length b) (is_last b) (sizes-count h) ∙ sym (count-append (frames_heard h) (b ∷ []))
   where
@@ -146,6 +158,7 @@ sizes-count (Frame b ∷ h) =
         → length (cond last (all ++ size ∷ []) all) ≡ n + cond last 1 0
     by-last all size true is = omega (arith, is, length-append all (size ∷ []))
     by-last all size false is = omega (arith, is)
+sizes-count (_ ∷ h) = sizes-count h
 
 -- the first frame that was received
 record BeginsHeard (h : History) : Type 0 where
@@ -154,204 +167,197 @@ record BeginsHeard (h : History) : Type 0 where
 
 begins-heard : (h : History) → 0 < frames h → BeginsHeard h
 begins-heard [] some = absurd (omega (arith, some))
-begins-heard (Reply m ∷ h) some = let is = begins-heard h some in record { more = is.more; are = is.are }
-begins-heard (Report b ∷ h) some = let is = begins-heard h some in record { more = is.more; are = is.are }
-begins-heard (Slot t cut ∷ h) some = let is = begins-heard h some in record { more = is.more; are = is.are }
 begins-heard (Frame b ∷ h) some =
     elim (cases_eq (frames h) 0) [
-      | inl none ↦
-          let nothing : frames_heard h ≡ [] =
-          nil_from_length (frames_heard h) (omega (arith, none, (heard h).count)) in
-          record {
-            more = [];
-            are = ap (λ (l : List (List ℕ)). l ++ b ∷ []) nothing
-                ∙ ap (λ (f : List ℕ). f ∷ []) (sym (cond-true (frames h == 0) b (first_frame h)
-                (eq-eqb (frames h) 0 none)));
-          }
+      | inl none ↦ record {
+        more = [];
+        are = ap (λ (l : List (List ℕ)). l ++ b ∷ [])
+            (nil_from_length (frames_heard h) (omega (arith, none, (heard h).count)))
+            ∙ ap (λ (f : List ℕ). f ∷ [])
+            (sym (cond-true (frames h == 0) b (first_frame h) (eq-eqb (frames h) 0 none)));
+      }
       | inr there ↦
           let is = begins-heard h (omega (arith, there)) in
           record {
             more = is.more ++ b ∷ [];
             are = ap (λ (l : List (List ℕ)). l ++ b ∷ []) is.are
-                ∙ ap (λ (f : List ℕ). f ∷ (is.more ++ b ∷ [])) (sym (cond-false (frames h == 0) b (first_frame h)
-                (ne_eqb (frames h) 0 there)));
+                ∙ ap (λ (f : List ℕ). f ∷ (is.more ++ b ∷ []))
+                (sym (cond-false (frames h == 0) b (first_frame h) (ne_eqb (frames h) 0 there)));
           }
     ]
+begins-heard (_ ∷ h) some = let is = begins-heard h some in record { more = is.more; are = is.are }
+
+-- the first frame of a list, and the first that was received, are the film's first one
+same-first : {block : List ℕ} {more : List (List ℕ)} (s : SentFilm) → frames_sent s ≡ block ∷ more
+    → (begins_film (drop 20 block) ≡ true) × (time_in block ≡ picture_time s.film.rate)
+same-first {block} s are =
+    let first = film-first s in
+    let both : first.block ∷ first.more ≡ block ∷ _ = sym first.are ∙ are in
+    let same : first.block ≡ block = cc in
+    (subst (λ b. begins_film (drop 20 b) ≡ true) same first.begins,
+      subst (λ b. time_in b ≡ picture_time s.film.rate) same first.time_is)
 
 -- a client that received some of a film's first frames knows its number of units
-units-known : {film : Film} {h : History} (identity : Identity) (rest : List (List ℕ)) → HeadsUncut → AwaitsFilm film h
-    → frames_of_film film identity ≡ frames_heard h ++ rest → 0 < frames h → units h ≡ length film.units.items
-units-known {film} {h} identity rest uncut awaits are some =
-    let first = film-first uncut film identity in
+units-known : {h : History} (s : SentFilm) (rest : List (List ℕ)) → AwaitsFilm s.film h
+    → frames_sent s ≡ frames_heard h ++ rest → 0 < frames h → units h ≡ length s.film.units.items
+units-known {h} s rest awaits are some =
     let begun = begins-heard h some in
-    let both : first.block ∷ first.more ≡ first_frame h ∷ (begun.more ++ rest) =
-    sym first.are ∙ (are ∙ ap (λ (l : List (List ℕ)). l ++ rest) begun.are) in
-    let same : first.block ≡ first_frame h = cc in
+    let first = same-first s (are ∙ ap (λ (l : List (List ℕ)). l ++ rest) begun.are) in
     cond-false (frames h == 0) 0 (units_until (end_ms h) (time_in (first_frame h)))
     (ne_eqb (frames h) 0 (λ none. omega (arith, none, some)))
-    ∙ (ap (λ t. units_until (end_ms h) t) (ap time_in (sym same) ∙ first.time_is) ∙ awaits.end_is)
+    ∙ (ap (units_until (end_ms h)) first.1 ∙ awaits.end_is)
 
 -- ---- a film's next frame
 
 -- these frames were received of a film, from its first one on, and this one is the next
-pub record IsNext (film : Film) (identity : Identity) (h : History) (block : List ℕ) : Type 0 where
-  pub rest : List (List ℕ)
-  pub small : identity.ssrc < 2 ^ 32
-  pub awaits : AwaitsFilm film h
-  pub are : frames_of_film film identity ≡ frames_heard h ++ block ∷ rest
+record IsNext (s : SentFilm) (h : History) (block : List ℕ) : Type 0 where
+  rest : List (List ℕ)
+  awaits : AwaitsFilm s.film h
+  are : frames_sent s ≡ frames_heard h ++ block ∷ rest
 
 -- units are missing then
-open-yet : {film : Film} {identity : Identity} {h : History} {block : List ℕ} → HeadsUncut
-    → IsNext film identity h block
-    → is_complete h ≡ false
-open-yet {film} {identity} {h} {block} uncut next =
-    let all = film-frames film identity next.small in
-    let counted : count_last (frames_of_film film identity)
-    ≡ count_last (frames_heard h) + count_last (block ∷ next.rest) =
+open-yet : {h : History} {block : List ℕ} (s : SentFilm) → IsNext s h block → is_complete h ≡ false
+open-yet {h} {block} s next =
+    let all = sent-frames s in
+    let counted : count_last (frames_sent s) ≡ count_last (frames_heard h) + count_last (block ∷ next.rest) =
     ap count_last next.are ∙ count-append (frames_heard h) (block ∷ next.rest) in
     let later = ends-later (frames_heard h) block next.rest (subst EndsUnit next.are all.ends) in
     elim (cases_eq (frames h) 0) [
       | inl none ↦ ap (λ b. b && (length (sizes h) == units h)) (le-ltb 0 (frames h) (omega (arith, none)))
       | inr there ↦
-          let known = units-known identity (block ∷ next.rest) uncut next.awaits next.are (omega (arith, there)) in
+          let known = units-known s (block ∷ next.rest) next.awaits next.are (omega (arith, there)) in
           and_right (nat_lt 0 (frames h)) (length (sizes h) == units h)
           (ne_eqb (length (sizes h)) (units h)
           (λ same. omega (arith, same, known, sizes-count h, counted, later, all.count)))
     ]
 
 -- the film's first frame, where none came before it
-first-accepted : {film : Film} {identity : Identity} {h : History} {block : List ℕ} → HeadsUncut
-    → IsNext film identity h block → frames h ≡ 0 → is_first_good h block ≡ true
-first-accepted {film} {identity} {h} {block} uncut next none =
+first-accepted : {h : History} {block : List ℕ} (s : SentFilm) → IsNext s h block → frames h ≡ 0
+    → is_first_good h block ≡ true
+first-accepted {h} {block} s next none =
+    let film = s.film in
     let nothing : frames_heard h ≡ [] = nil_from_length (frames_heard h) (omega (arith, none, (heard h).count)) in
-    let first = film-first uncut film identity in
-    let both : first.block ∷ first.more ≡ block ∷ next.rest =
-    sym first.are ∙ (next.are ∙ ap (λ (l : List (List ℕ)). l ++ block ∷ next.rest) nothing) in
-    let same : first.block ≡ block = cc in
+    let first = same-first s (next.are ∙ ap (λ (l : List (List ℕ)). l ++ block ∷ next.rest) nothing) in
     let count : units_until (end_ms h) (time_in block) ≡ length film.units.items =
-    ap (λ t. units_until (end_ms h) t) (ap time_in (sym same) ∙ first.time_is) ∙ next.awaits.end_is in
+    ap (units_until (end_ms h)) first.1 ∙ next.awaits.end_is in
     let some = film-some film.bytes.items film.rate film.units.items film.slice_starts.items film.grammar in
-    and_from _ _ (ap (λ b. begins_film (drop 20 b)) (sym same) ∙ first.begins)
+    and_from _ _ first.0
     (and_from _ _ (le-leb 1 (units_until (end_ms h) (time_in block)) (omega (arith, count, some)))
     (le-leb (units_until (end_ms h) (time_in block)) 4194304 (omega (arith, count, film-few film))))
 
 -- the first frame that came is of the film's source, where one did
-first-from : {film : Film} {identity : Identity} {h : History} {block : List ℕ} → IsNext film identity h block
-    → 0 < frames h → IsFrom identity.ssrc (first_frame h)
-first-from {film} {identity} {h} {block} next there =
+first-from : {h : History} {block : List ℕ} (s : SentFilm) → IsNext s h block → 0 < frames h
+    → IsFrom s.identity.ssrc (first_frame h)
+first-from {h} {block} s next there =
     let begun = begins-heard h there in
-    let whole : frames_of_film film identity ≡ (first_frame h ∷ begun.more) ++ block ∷ next.rest =
+    let whole : frames_sent s ≡ (first_frame h ∷ begun.more) ++ block ∷ next.rest =
     next.are ∙ ap (λ (l : List (List ℕ)). l ++ block ∷ next.rest) begun.are in
     from-at [] (first_frame h) (begun.more ++ block ∷ next.rest)
-    (subst (AllFrom identity.ssrc) whole (film-frames film identity next.small).all)
+    (subst (AllFrom s.identity.ssrc) whole (sent-frames s).all)
 
--- the frames that came and the next one have sequence numbers in order
-numbers-heard : {film : Film} {identity : Identity} {h : History} {block : List ℕ}
-    → AreConsecutive identity.sequence (frames_of_film film identity) → IsNext film identity h block
-    → AreConsecutive identity.sequence (frames_heard h ++ block ∷ [])
-numbers-heard {film} {identity} {h} {block} numbers next =
-    let parts : frames_of_film film identity ≡ (frames_heard h ++ block ∷ []) ++ next.rest =
+-- the frames of a film have sequence numbers in order
+abbrev pub AreNumbered : SentFilm → Type 0
+AreNumbered s = AreConsecutive s.identity.sequence (frames_of_film s.film s.identity)
+
+numbers-heard : {h : History} {block : List ℕ} (s : SentFilm) → AreNumbered s → IsNext s h block
+    → AreConsecutive s.identity.sequence (frames_heard h ++ block ∷ [])
+numbers-heard {h} {block} s numbers next =
+    let parts : frames_sent s ≡ (frames_heard h ++ block ∷ []) ++ next.rest =
     next.are ∙ sym (append_assoc (frames_heard h) (block ∷ []) next.rest) in
-    let count : length (frames_of_film film identity)
-    ≡ length (frames_heard h ++ block ∷ []) + length next.rest =
+    let count : length (frames_sent s) ≡ length (frames_heard h ++ block ∷ []) + length next.rest =
     ap (λ (l : List (List ℕ)). length l) parts ∙ length-append (frames_heard h ++ block ∷ []) next.rest in
     λ k few. ap sequence_of (sym (get_or_append_left (frames_heard h ++ block ∷ []) next.rest [] k few)
     ∙ ap (λ l. get_or l k []) (sym parts))
     ∙ numbers k (omega (arith, few, count))
 
-pub frame-accepted : {film : Film} {identity : Identity} {h : History} {block : List ℕ} → HeadsUncut
-    → AreConsecutive identity.sequence (frames_of_film film identity) → IsNext film identity h block
+next-good : {h : History} {block : List ℕ} (s : SentFilm) → AreNumbered s → IsNext s h block
     → is_good_frame h block ≡ true
-frame-accepted {film} {identity} {h} {block} uncut numbers next =
-    let all = film-frames film identity next.small in
-    let from = from-at (frames_heard h) block next.rest (subst (AllFrom identity.ssrc) next.are all.all) in
-    let missing = open-yet uncut next in
+next-good {h} {block} s numbers next =
+    let from = from-at (frames_heard h) block next.rest
+    (subst (AllFrom s.identity.ssrc) next.are (sent-frames s).all) in
+    let missing = open-yet s next in
     elim (cases_eq (frames h) 0) [
       | inl none ↦
           and_from _ _ next.awaits.playing (and_from _ _ (ap not missing) (and_from _ _ from.is_read
           (cond-true (frames h == 0) (is_first_good h block) (is_next_good h block) (eq-eqb (frames h) 0 none)
-          ∙ first-accepted uncut next none)))
+          ∙ first-accepted s next none)))
       | inr there ↦
           let begun : 0 < frames h = omega (arith, there) in
-          next-accepted h block identity.sequence next.awaits.playing missing begun from.is_read
-          (from.source_is ∙ sym (first-from next begun).source_is) (numbers-heard numbers next)
+          next-accepted h block s.identity.sequence next.awaits.playing missing begun from.is_read
+          (from.source_is ∙ sym (first-from s next begun).source_is) (numbers-heard s numbers next)
     ]
+
+pub frame-accepted : (s : SentFilm) → AreNumbered s → (h : History) (block : List ℕ) (rest : List (List ℕ))
+    → AwaitsFilm s.film h → frames_of_film s.film s.identity ≡ frames_heard h ++ block ∷ rest
+    → is_good_frame h block ≡ true
+frame-accepted s numbers h block rest awaits are =
+    next-good s numbers (record { rest = rest; awaits = awaits; are = are })
 
 -- ---- and its end
 
-pub film-complete : {film : Film} {h : History} → HeadsUncut → (identity : Identity) → identity.ssrc < 2 ^ 32
-    → AwaitsFilm film h
-    → frames_of_film film identity ≡ frames_heard h → is_complete h ≡ true
-film-complete {film} {h} uncut identity small awaits are =
-    let all = film-frames film identity small in
-    let first = film-first uncut film identity in
+film-complete : {h : History} (s : SentFilm) → AwaitsFilm s.film h → frames_sent s ≡ frames_heard h
+    → is_complete h ≡ true
+film-complete {h} s awaits are =
+    let first = film-first s in
     let count : length (frames_heard h) ≡ suc (length first.more) =
     ap (λ (l : List (List ℕ)). length l) (sym are ∙ first.are) in
     let some : 0 < frames h = omega (arith, (heard h).count, count) in
-    let known = units-known identity [] uncut awaits (are ∙ sym (append-nil (frames_heard h))) some in
-    let sizes_are : length (sizes h) ≡ length film.units.items =
-    sizes-count h ∙ (ap count_last (sym are) ∙ all.count) in
+    let known = units-known s [] awaits (are ∙ sym (append-nil (frames_heard h))) some in
+    let sizes_are : length (sizes h) ≡ length s.film.units.items =
+    sizes-count h ∙ (ap count_last (sym are) ∙ (sent-frames s).count) in
     and_from _ _ (lt-ltb 0 (frames h) some) (eq-eqb (length (sizes h)) (units h) (sizes_are ∙ sym known))
 
+-- a client that waits for a film does so after events that are no reply
+awaits-on : {film : Film} {h : History} (event : ClientEvent) → HaveNoReply (event ∷ []) → AwaitsFilm film h
+    → AwaitsFilm film (event ∷ h)
+awaits-on (Reply m) none awaits = absurd none
+awaits-on _ none awaits = record { playing = awaits.playing; end_is = awaits.end_is }
+
 -- the frames of events, in order, each accepted
-pub all-accepted : {film : Film} (identity : Identity) → HeadsUncut → (h : History) (events : List ClientEvent) (rest : List (List ℕ))
-    → identity.ssrc < 2 ^ 32 → AreConsecutive identity.sequence (frames_of_film film identity) → AwaitsFilm film h
-    → HaveNoReply events → frames_of_film film identity ≡ (frames_heard h ++ frames_of events) ++ rest → GoOn h events
-all-accepted identity uncut h [] rest small numbers awaits none are = tt
-all-accepted identity uncut h (Reply m ∷ events) rest small numbers awaits none are = absurd none
-all-accepted {film} identity uncut h (Report b ∷ events) rest small numbers awaits none are = (
-  tt,
-  all-accepted {film = film} identity uncut (Report b ∷ h) events rest small numbers
-      (record { playing = awaits.playing; end_is = awaits.end_is }) none are,
+pub all-accepted : (s : SentFilm) → AreNumbered s → (h : History) (events : List ClientEvent) (rest : List (List ℕ))
+    → AwaitsFilm s.film h → HaveNoReply events
+    → frames_of_film s.film s.identity ≡ (frames_heard h ++ frames_of events) ++ rest → GoOn h events
+all-accepted s numbers h [] rest awaits none are = tt
+all-accepted s numbers h (Reply m ∷ events) rest awaits none are = absurd none
+all-accepted s numbers h (Frame b ∷ events) rest awaits none are = (
+  next-good s numbers (record {
+    rest = frames_of events ++ rest;
+    awaits = awaits;
+    are = are ∙ append_assoc (frames_heard h) (b ∷ frames_of events) rest;
+  }),
+  all-accepted s numbers (Frame b ∷ h) events rest (awaits-on (Frame b) tt awaits) none
+      (are ∙ ap (λ (l : List (List ℕ)). l ++ rest) (sym (append_assoc (frames_heard h) (b ∷ []) (frames_of events)))),
 )
-all-accepted {film} identity uncut h (Slot t cut ∷ events) rest small numbers awaits none are = (
-  tt,
-  all-accepted {film = film} identity uncut (Slot t cut ∷ h) events rest small numbers
-      (record { playing = awaits.playing; end_is = awaits.end_is }) none are,
-)
-all-accepted {film} identity uncut h (Frame b ∷ events) rest small numbers awaits none are =
-    let here : frames_of_film film identity ≡ frames_heard h ++ b ∷ (frames_of events ++ rest) =
-    are ∙ append_assoc (frames_heard h) (b ∷ frames_of events) rest in
-    let later : frames_of_film film identity ≡ ((frames_heard h ++ b ∷ []) ++ frames_of events) ++ rest =
-    are ∙ ap (λ (l : List (List ℕ)). l ++ rest) (sym (append_assoc (frames_heard h) (b ∷ []) (frames_of events))) in (
-      frame-accepted uncut numbers (record {
-        rest = frames_of events ++ rest;
-        small = small;
-        awaits = awaits;
-        are = here;
-      }),
-      all-accepted {film = film} identity uncut (Frame b ∷ h) events rest small numbers
-          (record { playing = awaits.playing; end_is = awaits.end_is }) none later,
-    )
+all-accepted s numbers h (Report b ∷ events) rest awaits none are =
+    (tt, all-accepted s numbers (Report b ∷ h) events rest (awaits-on (Report b) tt awaits) none are)
+all-accepted s numbers h (Slot t cut ∷ events) rest awaits none are =
+    (tt, all-accepted s numbers (Slot t cut ∷ h) events rest (awaits-on (Slot t cut) tt awaits) none are)
 
 -- TEARDOWN is sent after the last frame, and nothing before
-pub teardown-last : {film : Film} {h : History} (block : List ℕ) → HeadsUncut → (wish : Wish) (identity : Identity)
-    → identity.ssrc < 2 ^ 32 → AwaitsFilm film h → frames_of_film film identity ≡ frames_heard h ++ block ∷ []
+pub teardown-last : (s : SentFilm) (wish : Wish) (h : History) (block : List ℕ) → AwaitsFilm s.film h
+    → frames_of_film s.film s.identity ≡ frames_heard h ++ block ∷ []
     → request_after wish h (Frame block) ≡ teardown_text wish (session h)
-teardown-last {film} {h} block uncut wish identity small awaits are =
+teardown-last s wish h block awaits are =
     cond-true (is_complete (Frame block ∷ h)) (teardown_text wish (session h)) []
-    (film-complete {film = film} {h = Frame block ∷ h} uncut identity small
-    (record { playing = awaits.playing; end_is = awaits.end_is }) are)
+    (film-complete {h = Frame block ∷ h} s (awaits-on (Frame block) tt awaits) are)
 
-pub nothing-before : {film : Film} {h : History} (block next : List ℕ) (rest : List (List ℕ)) → HeadsUncut
-    → (wish : Wish) (identity : Identity) → identity.ssrc < 2 ^ 32 → AwaitsFilm film h
-    → frames_of_film film identity ≡ frames_heard h ++ block ∷ next ∷ rest → request_after wish h (Frame block) ≡ []
-nothing-before {film} {h} block next rest uncut wish identity small awaits are =
-    let more : IsNext film identity (Frame block ∷ h) next = record {
+pub nothing-before : (s : SentFilm) (wish : Wish) (h : History) (block next : List ℕ) (rest : List (List ℕ))
+    → AwaitsFilm s.film h → frames_of_film s.film s.identity ≡ frames_heard h ++ block ∷ next ∷ rest
+    → request_after wish h (Frame block) ≡ []
+nothing-before s wish h block next rest awaits are =
+    let more : IsNext s (Frame block ∷ h) next = record {
       rest = rest;
-      small = small;
-      awaits = record { playing = awaits.playing; end_is = awaits.end_is };
+      awaits = awaits-on (Frame block) tt awaits;
       are = are ∙ sym (append_assoc (frames_heard h) (block ∷ []) (next ∷ rest));
     } in
-    cond-false (is_complete (Frame block ∷ h)) (teardown_text wish (session h)) [] (open-yet uncut more)
+    cond-false (is_complete (Frame block ∷ h)) (teardown_text wish (session h)) [] (open-yet s more)
 
 -- with the reply to TEARDOWN the watching is done
-pub film-done : {film : Film} {h : History} → HeadsUncut → (wish : Wish) (identity : Identity) (message : List ℕ)
-    → identity.ssrc < 2 ^ 32 → AwaitsFilm film h → frames_of_film film identity ≡ frames_heard h → replies h ≡ 2
-    → IsAnswer message 3 200 → Gives wish h (Reply message) (Done (watched_in wish h))
-film-done {film} {h} uncut wish identity message small awaits are two answer =
-    let complete = film-complete uncut identity small awaits are in
-    let awaited : is_awaited h ≡ true = or_right (nat_lt (replies h) 2) (is_complete h) complete in
+pub film-done : {h : History} {message : List ℕ} (s : SentFilm) (wish : Wish) → AwaitsFilm s.film h
+    → frames_of_film s.film s.identity ≡ frames_heard h → replies h ≡ 2 → IsAnswer message 3 200
+    → Gives wish h (Reply message) (Done (watched_in wish h))
+film-done {h} {message} s wish awaits are two answer =
+    let awaited : is_awaited h ≡ true = or_right (nat_lt (replies h) 2) (is_complete h) (film-complete s awaits are) in
     let fields : has_fields h message ≡ true = ap (λ n. cond (n == 0) (is_some (setup_session message))
     (cond (n == 1) (is_some (play_range message) && is_some (play_start message)) true)) two in
     let third : 3 ≡ replies h + 1 = omega (arith, two) in

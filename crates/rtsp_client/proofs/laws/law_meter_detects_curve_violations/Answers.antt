@@ -4,9 +4,12 @@ use Rattle.rtsp_client.proofs.laws.law_meter_detects_curve_violations.Goals as g
 
 pub returns-clause-between : goal.returns-clause-between
 returns-clause-between c = λ wish sizes time h is timed heard over under.
-    between-always wish sizes h
-    (record { slot_lasts = omega (arith, is.some_units); picture_lasts = timed }) heard
-    (record { over = over; under = under })
+    between-always (record {
+      wish = wish;
+      all = sizes;
+      picture_time = time;
+      lasts = record { slot_lasts = omega (arith, is.some_units); picture_lasts = timed };
+    }) h heard (record { over = over; under = under })
 
 pub returns-clause-most : goal.returns-clause-most
 returns-clause-most c = most_waiting-tells

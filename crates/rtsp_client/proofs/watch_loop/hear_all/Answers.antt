@@ -2,7 +2,7 @@ use Rattle.std.proofs.Common.{◌≡◌, List, length, Option, rules, refl, ap, 
 use Rattle.vod_base.specs.Links.{IoEvent}
 use Rattle.rtsp_client.specs.States.{State}
 use Rattle.rtsp_client.specs.ClientSteps.{observed}
-use Rattle.rtsp_client.proofs.EventCourses.{run-none, run-on, watched-end, watched-lost, watched-spent}
+use Rattle.rtsp_client.proofs.EventCourses.{run-none, run-on, started, watched-end, watched-lost, watched-spent}
 use Rattle.rtsp_client.proofs.watch_loop.hear_all.Goals as goal
 
 pub events-init : goal.events-init
@@ -19,15 +19,16 @@ events-init g c = (
 pub returns-in_default-clause-watched : goal.returns-in_default-clause-watched
 returns-in_default-clause-watched g c = λ told begun.
     watched-lost
-    c.events.invariant.3
-    (ap (λ (t : Option (List IoEvent)). observed t (g.O.Sink.written c.args.out.now)) begun) c.events-test.true refl
-    c.in_default.ensures.lost
+    (started (observed told (g.O.Sink.written c.args.out.now)) c.events.invariant.3
+    (ap (λ (t : Option (List IoEvent)). observed t (g.O.Sink.written c.args.out.now)) begun))
+    c.events-test.true c.in_default.ensures.lost
 
 pub returns-in-Break-clause-watched : goal.returns-in-Break-clause-watched
 returns-in-Break-clause-watched g c = λ told begun.
     watched-end
-    c.events.invariant.3
-    (ap (λ (t : Option (List IoEvent)). observed t (g.O.Sink.written c.args.out.now)) begun) c.events-test.true
+    (started (observed told (g.O.Sink.written c.args.out.now)) c.events.invariant.3
+    (ap (λ (t : Option (List IoEvent)). observed t (g.O.Sink.written c.args.out.now)) begun))
+    c.events-test.true
     (ap (λ (t : Option (List IoEvent)). observed t (g.O.Sink.written c.events.out)) c.in-Ok.ensures.heard)
     (λ h k. c.in-Break.ensures.ended h k)
 
@@ -35,8 +36,9 @@ pub returns-clause-watched : goal.returns-clause-watched
 returns-clause-watched g c = λ told begun.
     let spent : c.events._event ≡ 1099511627776 = search rules in
     watched-spent
-    c.events.invariant.3
-    (ap (λ (t : Option (List IoEvent)). observed t (g.O.Sink.written c.args.out.now)) begun) spent
+    (started (observed told (g.O.Sink.written c.args.out.now)) c.events.invariant.3
+    (ap (λ (t : Option (List IoEvent)). observed t (g.O.Sink.written c.args.out.now)) begun))
+    spent
 
 pub events-preserved : goal.events-preserved
 events-preserved g c = (

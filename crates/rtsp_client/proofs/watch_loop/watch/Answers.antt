@@ -1,10 +1,9 @@
-use Rattle.std.proofs.Common.{refl}
 use Rattle.rtsp_client.proofs.EventCourses.{watched-not, watched-unsent}
 use Rattle.rtsp_client.proofs.watch_loop.watch.Goals as goal
 
 pub returns-in_default-clause-watched : goal.returns-in_default-clause-watched
 returns-in_default-clause-watched g c =
-    watched-not c.args.wish.now _ (g.K.Link.told c.args.link.now) (g.O.Sink.written c.args.out.now) refl
+    watched-not c.args.wish.now (g.K.Link.told c.args.link.now) (g.O.Sink.written c.args.out.now)
 
 pub returns-in-Err-clause-watched : goal.returns-in-Err-clause-watched
 returns-in-Err-clause-watched g c =

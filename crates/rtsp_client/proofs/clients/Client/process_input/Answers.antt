@@ -8,7 +8,7 @@ elements-init g c = (
   omega arith,
   omega arith,
   omega arith,
-  λ h k. taken-none k (record { replies = refl; session = refl; watching = refl }) refl,
+  λ h k. taken-none k refl,
 )
 
 pub returns-in_err-more-clause-stopped : goal.returns-in_err-more-clause-stopped

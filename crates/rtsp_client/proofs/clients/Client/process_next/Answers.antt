@@ -3,49 +3,42 @@ use Rattle.interleave.specs.Elements.{IsFirst}
 use Rattle.interleave.specs.declared.elements.Step.TheVariants.{Block, Request, Skip}
 use Rattle.rtsp_text.proofs.WholeRequests.{fewer, first_is, some_request}
 use Rattle.rtsp_client.proofs.InputPrefixes.{goes-on}
-use Rattle.rtsp_client.proofs.ElementSteps.{keeps-moved, stopped-block, stopped-framing, stopped-reply}
-use Rattle.rtsp_client.proofs.ElementSteps.{taken-block, taken-ends, taken-none, taken-reply, taken-same}
+use Rattle.rtsp_client.proofs.ElementSteps.{block-element, frame-element, keeps-moved, reply-element}
+use Rattle.rtsp_client.proofs.ElementSteps.{stopped-framing, stops-at, taken-element, taken-ends, taken-none}
 use Rattle.rtsp_client.proofs.clients.Client.process_next.Goals as goal
 
 pub returns-in-Err-clause-stopped : goal.returns-in-Err-clause-stopped
 returns-in-Err-clause-stopped g c = λ h k.
-    stopped-framing c.in-Err.field-0
-    c.in-Err.ensures.first refl
+    stopped-framing c.in-Err.field-0 c.in-Err.ensures.first
 
 pub returns-in-Ok-More-clause-idle : goal.returns-in-Ok-More-clause-idle
 returns-in-Ok-More-clause-idle g c =
     λ _. first_is c.in-Ok-More.ensures.first c.look.ensures.waiting c.in-Ok-More.field-0-is
 
 pub returns-in-Ok-More-clause-taken : goal.returns-in-Ok-More-clause-taken
-returns-in-Ok-More-clause-taken g c = λ h k.
-    taken-none k (record { replies = refl; session = refl; watching = refl })
-    c.look.ensures.waiting
+returns-in-Ok-More-clause-taken g c = λ h k. taken-none k c.look.ensures.waiting
 
 pub returns-in-Ok-Skip-clause-taken : goal.returns-in-Ok-Skip-clause-taken
 returns-in-Ok-Skip-clause-taken g c = λ h k.
-    taken-ends
-    (first_is c.in-Ok-Skip.ensures.first refl c.in-Ok-Skip.field-0-is) k
-    (record { replies = refl; session = refl; watching = refl })
+    taken-ends (first_is c.in-Ok-Skip.ensures.first refl c.in-Ok-Skip.field-0-is) k
     (c.drop_front.ensures ∙ ap (drop c.in-Ok-Skip.length) c.look.ensures.waiting)
 
 pub returns-in_err-take_block-in-Ok-Block-clause-stopped : goal.returns-in_err-take_block-in-Ok-Block-clause-stopped
 returns-in_err-take_block-in-Ok-Block-clause-stopped g c =
     rw c.from_residual.ensures
     (λ h k.
+    let ended = c.in_err-take_block-in-Ok-Block.ensures.ended h (keeps-moved k) in
     rw (← c.look.ensures.waiting)
-    (stopped-block
-    (first_is c.in-Ok-Block.ensures.first c.look.ensures.waiting c.in-Ok-Block.field-0-is)
-    (c.in_err-take_block-in-Ok-Block.ensures.ended h
-    (keeps-moved k (record { replies = refl; session = refl; watching = refl })))))
+    (stops-at
+    (frame-element (first_is c.in-Ok-Block.ensures.first c.look.ensures.waiting c.in-Ok-Block.field-0-is) ended.0)
+    ended.1))
 
 pub returns-in_ok-take_block-in-Ok-Block-clause-taken : goal.returns-in_ok-take_block-in-Ok-Block-clause-taken
 returns-in_ok-take_block-in-Ok-Block-clause-taken g c = λ h k.
-    taken-same c.look.ensures.waiting
-    (taken-block
-    (first_is c.in-Ok-Block.ensures.first c.look.ensures.waiting c.in-Ok-Block.field-0-is)
-    (c.in_ok-take_block-in-Ok-Block.ensures.passed h
-    (keeps-moved k (record { replies = refl; session = refl; watching = refl })))
-    (record { replies = refl; session = refl; watching = refl })
+    rw (← c.look.ensures.waiting)
+    (taken-element
+    (block-element (first_is c.in-Ok-Block.ensures.first c.look.ensures.waiting c.in-Ok-Block.field-0-is))
+    (c.in_ok-take_block-in-Ok-Block.ensures.passed h (keeps-moved k))
     (c.drop_front-in-Ok-Block.ensures ∙ ap (drop c.in-Ok-Block.length) c.take_block.ensures.input))
 
 pub returns-in_err-take_reply-in-Ok-Request-clause-stopped : goal.returns-in_err-take_reply-in-Ok-Request-clause-stopped
@@ -53,33 +46,23 @@ returns-in_err-take_reply-in-Ok-Request-clause-stopped g c =
     rw c.from_residual-in_err-take_reply-in-Ok-Request.ensures
     (λ h k.
     rw (← c.look.ensures.waiting)
-    (stopped-reply
-    (first_is c.in-Ok-Request.ensures.first c.look.ensures.waiting c.in-Ok-Request.field-0-is)
-    (c.in_err-take_reply-in-Ok-Request.ensures.ended (g.O.Sink.written c.args.out.now) h
-    (keeps-moved k (record { replies = refl; session = refl; watching = refl })))))
+    (stops-at
+    (reply-element (first_is c.in-Ok-Request.ensures.first c.look.ensures.waiting c.in-Ok-Request.field-0-is))
+    (c.in_err-take_reply-in-Ok-Request.ensures.ended (g.O.Sink.written c.args.out.now) h (keeps-moved k))))
 
 pub returns-in_ok-take_reply-in-Ok-Request-clause-taken : goal.returns-in_ok-take_reply-in-Ok-Request-clause-taken
 returns-in_ok-take_reply-in-Ok-Request-clause-taken g c = λ h k.
-    taken-same c.look.ensures.waiting
-    (taken-reply
-    (first_is c.in-Ok-Request.ensures.first c.look.ensures.waiting c.in-Ok-Request.field-0-is)
-    (c.in_ok-take_reply-in-Ok-Request.ensures.passed (g.O.Sink.written c.args.out.now) h
-    (keeps-moved k (record { replies = refl; session = refl; watching = refl })))
-    (record { replies = refl; session = refl; watching = refl })
+    rw (← c.look.ensures.waiting)
+    (taken-element
+    (reply-element (first_is c.in-Ok-Request.ensures.first c.look.ensures.waiting c.in-Ok-Request.field-0-is))
+    (c.in_ok-take_reply-in-Ok-Request.ensures.passed (g.O.Sink.written c.args.out.now) h (keeps-moved k))
     (c.drop_front-in-Ok-Request.ensures ∙ ap (drop c.in-Ok-Request.length) c.take_reply.ensures.input))
 
 pub returns-in-Ok-Skip-clause-few : goal.returns-in-Ok-Skip-clause-few
 returns-in-Ok-Skip-clause-few g c =
     let first : IsFirst c.args.self.now.input (Ok (Skip c.in-Ok-Skip.length)) =
     first_is c.in-Ok-Skip.ensures.first refl c.in-Ok-Skip.field-0-is in
-    goes-on c.args.self.now
-    (record {
-      alloc = c.args.self.now.alloc;
-      input = c.drop_front.new.self;
-      session = c.args.self.now.session;
-      watching = c.args.self.now.watching;
-    })
-    c.in-Ok-Skip.length (omega arith) first.1.within
+    goes-on c.args.self.now c.in-Ok-Skip.length (omega arith) first.1.within
     (c.drop_front.ensures ∙ ap (drop c.in-Ok-Skip.length) c.look.ensures.waiting)
 
 pub returns-in-Ok-Skip-clause-shorter : goal.returns-in-Ok-Skip-clause-shorter
@@ -93,14 +76,7 @@ pub returns-in_ok-take_block-in-Ok-Block-clause-few : goal.returns-in_ok-take_bl
 returns-in_ok-take_block-in-Ok-Block-clause-few g c =
     let first : IsFirst c.args.self.now.input (Ok (Block c.in-Ok-Block.channel c.in-Ok-Block.length)) =
     first_is c.in-Ok-Block.ensures.first refl c.in-Ok-Block.field-0-is in
-    goes-on c.args.self.now
-    (record {
-      alloc = c.take_block.new.self.alloc;
-      input = c.drop_front-in-Ok-Block.new.self;
-      session = c.take_block.new.self.session;
-      watching = c.take_block.new.self.watching;
-    })
-    c.in-Ok-Block.length c.in_ok-take_block-in-Ok-Block.ensures.few first.4
+    goes-on c.args.self.now c.in-Ok-Block.length c.in_ok-take_block-in-Ok-Block.ensures.few first.4
     (c.drop_front-in-Ok-Block.ensures
     ∙ ap (drop c.in-Ok-Block.length) (c.take_block.ensures.input ∙ c.look.ensures.waiting))
 
@@ -117,14 +93,7 @@ pub returns-in_ok-take_reply-in-Ok-Request-clause-few : goal.returns-in_ok-take_
 returns-in_ok-take_reply-in-Ok-Request-clause-few g c =
     let first : IsFirst c.args.self.now.input (Ok (Request c.in-Ok-Request.length)) =
     first_is c.in-Ok-Request.ensures.first refl c.in-Ok-Request.field-0-is in
-    goes-on c.args.self.now
-    (record {
-      alloc = c.take_reply.new.self.alloc;
-      input = c.drop_front-in-Ok-Request.new.self;
-      session = c.take_reply.new.self.session;
-      watching = c.take_reply.new.self.watching;
-    })
-    c.in-Ok-Request.length (omega (arith, c.take_reply.ensures.few)) first.2
+    goes-on c.args.self.now c.in-Ok-Request.length (omega (arith, c.take_reply.ensures.few)) first.2
     (c.drop_front-in-Ok-Request.ensures
     ∙ ap (drop c.in-Ok-Request.length) (c.take_reply.ensures.input ∙ c.look.ensures.waiting))
 

@@ -1,7 +1,4 @@
 use Rattle.std.proofs.Common.{ℕ, ◌+◌, List, take, refl, ap, subst, arith}
-use Rattle.rtsp_client.specs.declared.watch_request.WatchEnd.TheVariants.{Done, Fault}
-use Rattle.rtsp_client.specs.declared.watch_request.Watched.{Watched}
-use Rattle.rtsp_client.specs.declared.watch_request.WatchFault.TheVariants.{BadReply}
 use Rattle.rtsp_client.specs.ClientState.{IsAwaited}
 use Rattle.rtsp_client.proofs.InputPrefixes.{whole-request}
 use Rattle.rtsp_client.proofs.ReplyResults.{bad-reply, refused-reply, watch-done}
@@ -16,18 +13,17 @@ awaited_code-requires g c = record {
 
 pub returns-in_default-clause-ended : goal.returns-in_default-clause-ended
 returns-in_default-clause-ended g c = λ out h k.
-    bad-reply
-    k
+    rw c.replies-number.ensures.count
+    (bad-reply k
     (subst (λ (i : List ℕ). (code : ℕ) → ¬ IsAwaited c.args.self.now (take c.args.length i) code)
-    c.waiting.ensures c.in_default.ensures) (ap (λ n. Fault (BadReply (n + 1))) c.replies-number.ensures.count)
+    c.waiting.ensures c.in_default.ensures))
 
 pub returns-then-code-ne200-clause-ended : goal.returns-then-code-ne200-clause-ended
 returns-then-code-ne200-clause-ended g c = λ out h k.
-    refused-reply
-    k
+    refused-reply k
     (subst (λ (i : List ℕ). IsAwaited c.args.self.now (take c.args.length i) c.in-Some.code)
     c.waiting.ensures c.in-Some.ensures)
-    c.if-code-ne200.true refl
+    c.if-code-ne200.true
 
 pub returns-in-0-clause-passed : goal.returns-in-0-clause-passed
 returns-in-0-clause-passed g c = rw c.flow_of.ensures (λ out h k. c.take_setup.ensures.passed out h k)
@@ -51,5 +47,6 @@ returns-in_default-replies-clause-ended g c = λ out h k.
     c.waiting.ensures c.in-Some.ensures in
     let good : IsAwaited c.args.self.now message 200 =
     subst (IsAwaited c.args.self.now message) c.if-code-ne200.false heard in
-    watch-done k (omega (arith, c.replies.ensures.count, c.replies.ensures.most)) good
-    (ap (λ (w : Watched). Done w) c.tally.ensures)
+    rw c.tally.ensures
+    (watch-done k
+    (record { count_is = omega (arith, c.replies.ensures.count, c.replies.ensures.most); awaited = good }))
