@@ -2,21 +2,18 @@
 use Rattle.std.proofs.Common.{◌≡◌, ℕ, ◌≤◌, ◌-◌, ◌==◌, true, false, List, [], ◌∷◌, length, take}
 use Rattle.std.proofs.Common.{drop, Option, Some, None, is_some, refl, sym, ap, subst, ◌∙◌, inr}
 use Rattle.std.proofs.lemmas.Bool.{cond-true, cond-false, ne_eqb}
-use Rattle.std.proofs.lemmas.List.{length-take-le}
-use Rattle.vod_base.specs.Links.{IoEvent, IsSentPrefix, sends, told_more}
+use Rattle.vod_base.specs.Links.{IoEvent}
 use Rattle.vod_base.specs.IoState.{IsWrittenPrefix}
 use Rattle.rtsp_client.specs.declared.clients.Client.{Client}
 use Rattle.rtsp_client.specs.declared.frames.RtpSource.{RtpSource}
-use Rattle.rtsp_client.specs.declared.watch_request.Wish.{Wish}
 use Rattle.rtsp_client.specs.declared.watch_request.Watched.{Watched}
-use Rattle.rtsp_client.specs.declared.watch_request.WatchEnd.{WatchEnd}
 use Rattle.rtsp_client.specs.declared.watch_request.WatchEnd.TheVariants.{Fault, LinkFault, SinkFault, NoMemory}
 use Rattle.rtsp_client.specs.declared.watch_request.WatchFault.TheVariants.{BadFrame}
 use Rattle.rtsp_client.specs.Requests.{teardown_text}
-use Rattle.rtsp_client.specs.ClientHistory.{History, Frame, Report, session}
+use Rattle.rtsp_client.specs.ClientHistory.{Frame, Report, session}
 use Rattle.rtsp_client.specs.Films.{is_complete}
 use Rattle.rtsp_client.specs.Answers.{GoesOn, block_events, request_after}
-use Rattle.rtsp_client.specs.WatchCourses.{Fails, IsPrefixOf}
+use Rattle.rtsp_client.specs.WatchCourses.{IsPrefixOf}
 use Rattle.rtsp_client.specs.HistoryInvariant.{HistoryInvariant, StateInvariant}
 use Rattle.rtsp_client.specs.ClientState.{session_of}
 use Rattle.rtsp_client.specs.States.{State, after_frame, after_report, has_all, source_with}

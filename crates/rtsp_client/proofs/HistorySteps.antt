@@ -1,11 +1,10 @@
 -- What a client keeps, one moment after another.
-use Rattle.std.proofs.Common.{◌≡◌, ℕ, ◌+◌, ◌-◌, ◌%◌, ◌^◌, ◌<◌, ◌≤◌, ◌==◌, ◌&&◌, Bool, true, false}
-use Rattle.std.proofs.Common.{not, nat_lt, nat_le, cond, List, [], ◌∷◌, ◌++◌, length, drop, sum}
-use Rattle.std.proofs.Common.{get_or, Option, Some, None, Result, Ok, Err, is_some, is_ok}
-use Rattle.std.proofs.Common.{unwrap_or, if◌then◌else◌, refl, sym, ap, subst, ◌∙◌, arith, inl, inr}
-use Rattle.std.specs.Prelude.{option_map}
-use Rattle.std.proofs.lemmas.Bool.{and_parts, cases_lt, cond-true, cond-false, cond_both, eq-eqb, ne_eqb, lt-ltb, le-ltb}
-use Rattle.std.proofs.lemmas.Bool.{true≢false}
+use Rattle.std.proofs.Common.{◌≡◌, ℕ, ◌+◌, ◌-◌, ◌%◌, ◌<◌, ◌≤◌, ◌==◌, ◌&&◌, Bool, true, false, not, nat_lt, nat_le}
+use Rattle.std.proofs.Common.{cond, List, [], ◌∷◌, ◌++◌, length, drop, sum, get_or, Option, Some, None, Result, Ok}
+use Rattle.std.proofs.Common.{Err, is_some, is_ok, unwrap_or, if◌then◌else◌, refl, sym, ap, subst, ◌∙◌, arith, inl}
+use Rattle.std.proofs.Common.{inr}
+use Rattle.std.proofs.lemmas.Bool.{and_parts, cases_lt, cond-true, cond-false, cond_both, eq-eqb, ne_eqb, lt-ltb}
+use Rattle.std.proofs.lemmas.Bool.{le-ltb, true≢false}
 use Rattle.std.proofs.lemmas.Option.{cond_some}
 use Rattle.std.proofs.lemmas.List.{length-append, length-drop, take-append-le, take_all}
 use Rattle.std.proofs.lemmas.List.Sums.{sum_by-append}
@@ -21,16 +20,15 @@ use Rattle.rtsp_client.specs.declared.watch_request.Wish.{Wish}
 use Rattle.rtsp_client.specs.declared.watch_request.Watched.{Watched}
 use Rattle.rtsp_client.specs.Replies.{play_range, play_start}
 use Rattle.rtsp_client.specs.ClientHistory.{History, ClientEvent, Frame, Reply, Report, end_ms, first_frame, frames}
-use Rattle.rtsp_client.specs.ClientHistory.{latest_frame}
-use Rattle.rtsp_client.specs.ClientHistory.{is_inside, is_last, is_playing, last_slot, payloads}
-use Rattle.rtsp_client.specs.ClientHistory.{bytes_pending, bytes_received, replies, reports, sizes}
-use Rattle.rtsp_client.specs.ClientHistory.{slot_before, start}
-use Rattle.rtsp_client.specs.Films.{begins_film, is_complete, is_first_good, is_good_frame}
-use Rattle.rtsp_client.specs.Films.{is_next_good, time_in, units, units_until}
+use Rattle.rtsp_client.specs.ClientHistory.{latest_frame, is_inside, is_last, is_playing, last_slot, payloads}
+use Rattle.rtsp_client.specs.ClientHistory.{bytes_pending, bytes_received, replies, reports, sizes, slot_before}
+use Rattle.rtsp_client.specs.ClientHistory.{start}
+use Rattle.rtsp_client.specs.Films.{is_complete, is_first_good, is_good_frame, is_next_good, time_in, units}
+use Rattle.rtsp_client.specs.Films.{units_until}
 use Rattle.rtsp_client.specs.Meters.{watched_in}
-use Rattle.rtsp_client.specs.States.{State, after_frame, after_play, after_report, has_all, is_all}
-use Rattle.rtsp_client.specs.States.{is_between, new_state, report_in, source_after, source_played}
-use Rattle.rtsp_client.specs.States.{after_slot, place_of, reading_at, source_read, source_with}
+use Rattle.rtsp_client.specs.States.{State, after_frame, after_play, after_report, has_all, is_all, is_between}
+use Rattle.rtsp_client.specs.States.{new_state, report_in, source_after, source_played, after_slot, place_of}
+use Rattle.rtsp_client.specs.States.{reading_at, source_read, source_with}
 use Rattle.rtsp_client.specs.ClientState.{replies_in}
 use Rattle.rtsp_client.specs.HistoryInvariant.{AreSumsOf, IsPlayOf, IsSource, IsSourceOf, StateInvariant}
 

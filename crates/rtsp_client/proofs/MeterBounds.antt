@@ -1,18 +1,17 @@
 -- A meter between empty and the buffer.
-use Rattle.std.proofs.Common.{◌≡◌, ℕ, zero, suc, ◌+◌, ◌-◌, ◌*◌, ◌/◌, ◌<◌, ◌≤◌, ◌==◌, ◌&&◌, ◌↔◌, Bool}
-use Rattle.std.proofs.Common.{true, false, not, nat_lt, nat_le, cond, List, [], ◌∷◌, length, take}
-use Rattle.std.proofs.Common.{sum, max, refl, sym, ap, subst, ◌∙◌, arith, inl, inr}
+use Rattle.std.proofs.Common.{◌≡◌, ℕ, zero, suc, ◌+◌, ◌-◌, ◌*◌, ◌/◌, ◌<◌, ◌≤◌, ◌&&◌, ◌↔◌, true, false, not, nat_lt}
+use Rattle.std.proofs.Common.{nat_le, cond, List, [], ◌∷◌, length, take, sum, max, refl, sym, ap, subst, ◌∙◌, arith}
+use Rattle.std.proofs.Common.{inl, inr}
 use Rattle.std.proofs.lemmas.Bool.{and_from, and_right, cases_Bool, cases_lt, eq-eqb, lt-ltb, le-ltb, lt-leb}
 use Rattle.std.proofs.lemmas.List.{take_all, take-take}
 use Rattle.std.proofs.Math.Nat.{div-eq_of_lt}
 use Rattle.std.specs.Int.{div_ceil}
 use Rattle.vod_base.proofs.PrefixSums.{sum-take-rises}
 use Rattle.rtsp_client.specs.declared.watch_request.Wish.{Wish}
-use Rattle.rtsp_client.specs.ClientHistory.{History, Frame, Reply, Report, Slot, frames, bytes_received, sizes}
+use Rattle.rtsp_client.specs.ClientHistory.{History, Slot, frames, bytes_received, sizes}
 use Rattle.rtsp_client.specs.Films.{is_complete, units}
-use Rattle.rtsp_client.specs.Meters.{is_read, lacks_picture, most_waiting, count_over, place_in}
-use Rattle.rtsp_client.specs.Meters.{played_before, time, count_under, use_slot, used_before}
-use Rattle.rtsp_client.specs.Meters.{bytes_waiting}
+use Rattle.rtsp_client.specs.Meters.{is_read, lacks_picture, most_waiting, count_over, place_in, played_before, time}
+use Rattle.rtsp_client.specs.Meters.{count_under, use_slot, used_before, bytes_waiting}
 use Rattle.rtsp_client.specs.MeterGuarantee.{IsBetween, IsBetweenAlways, IsFilmHeard}
 use Rattle.rtsp_client.proofs.MeterReadings.{Durations, no-units, used-early, used-late, used-sum}
 
@@ -100,13 +99,14 @@ next-later {p = p} {j} wish h heard =
     elim (cases_lt 0 (frames h)) [
       | inl begun ↦
           let n = length (sizes h) in
-          let same = heard.time_is begun in
-          ((λ early. subst (λ t. j < use_slot wish t n) (sym same) early), (λ early. subst (λ t. j < use_slot wish t n) same
-          early))
+          let same = heard.time_is begun in (
+            (λ early. subst (λ t. j < use_slot wish t n) (sym same) early),
+            (λ early. subst (λ t. j < use_slot wish t n) same
+                early),
+          )
       | inr none ↦
           let L : ℕ → Type 0 = λ n. (j < use_slot wish p n) ↔ (j < use_slot wish (time h) n) in
-          subst L (sym (ap length (no-units h (omega (arith, none)))))
-          (
+          subst L (sym (ap length (no-units h (omega (arith, none))))) (
             (λ early. omega (arith, early, use-first wish p, use-first wish (time h))),
             (λ early. omega (arith, early, use-first wish p, use-first wish (time h))),
           )

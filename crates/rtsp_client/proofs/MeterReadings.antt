@@ -1,10 +1,9 @@
 -- What the meter reads of what a client keeps.
-use Rattle.std.proofs.Common.{◌≡◌, ℕ, suc, ◌+◌, ◌-◌, ◌*◌, ◌/◌, ◌<◌, ◌≤◌, ◌==◌, ◌&&◌, Bool, true}
-use Rattle.std.proofs.Common.{false, not, nat_lt, nat_le, cond, List, [], ◌∷◌, length, take, sum}
-use Rattle.std.proofs.Common.{get_or, max, min, Option, Some, None, refl, sym, ap, subst, ◌∙◌}
-use Rattle.std.proofs.Common.{arith, inl, inr}
-use Rattle.std.proofs.lemmas.Bool.{and_right, cases_lt, cases_eq, cond-true, cond-false, cond_both, eq-eqb}
-use Rattle.std.proofs.lemmas.Bool.{ne_eqb, lt-ltb, le-ltb, le-leb, lt-leb}
+use Rattle.std.proofs.Common.{◌≡◌, ℕ, suc, ◌+◌, ◌-◌, ◌*◌, ◌/◌, ◌<◌, ◌≤◌, ◌==◌, ◌&&◌, Bool, true, false, not, nat_lt}
+use Rattle.std.proofs.Common.{nat_le, cond, List, [], ◌∷◌, length, take, sum, get_or, max, min, Option, Some, None}
+use Rattle.std.proofs.Common.{refl, sym, ap, subst, ◌∙◌, arith, inl, inr}
+use Rattle.std.proofs.lemmas.Bool.{and_right, cases_lt, cases_eq, cond-true, cond-false, cond_both, eq-eqb, ne_eqb}
+use Rattle.std.proofs.lemmas.Bool.{lt-ltb, le-ltb, le-leb, lt-leb}
 use Rattle.std.proofs.lemmas.List.{nil_from_length, take_all}
 use Rattle.std.proofs.lemmas.List.Sums.{sum_by-cons}
 use Rattle.std.proofs.lemmas.Nat.{le-div, div_below}
@@ -15,14 +14,13 @@ use Rattle.rtsp_client.specs.declared.frames.RtpSource.{RtpSource}
 use Rattle.rtsp_client.specs.declared.play_reply.Play.{Play}
 use Rattle.rtsp_client.specs.declared.watch_request.Wish.{Wish}
 use Rattle.rtsp_client.specs.declared.watch_request.Watched.{Watched}
-use Rattle.rtsp_client.specs.ClientHistory.{History, Frame, Reply, Report, Slot, first_frame, frames}
-use Rattle.rtsp_client.specs.ClientHistory.{is_playing, last_slot, bytes_received, replies, sizes}
-use Rattle.rtsp_client.specs.ClientHistory.{slot_before, start}
+use Rattle.rtsp_client.specs.ClientHistory.{History, Frame, Reply, Slot, first_frame, frames, is_playing, last_slot}
+use Rattle.rtsp_client.specs.ClientHistory.{bytes_received, replies, sizes, slot_before, start}
 use Rattle.rtsp_client.specs.Films.{is_complete, time_in}
-use Rattle.rtsp_client.specs.Meters.{is_read, lacks_picture, place_in, played_before, time}
-use Rattle.rtsp_client.specs.Meters.{use_slot, used_before, bytes_waiting, watched_in}
-use Rattle.rtsp_client.specs.States.{State, after_reading, after_slot, is_lacking, place_of}
-use Rattle.rtsp_client.specs.States.{played_of, reading_at, time_of, used_bytes}
+use Rattle.rtsp_client.specs.Meters.{is_read, lacks_picture, place_in, played_before, time, use_slot, used_before}
+use Rattle.rtsp_client.specs.Meters.{bytes_waiting, watched_in}
+use Rattle.rtsp_client.specs.States.{State, after_reading, after_slot, is_lacking, place_of, played_of, reading_at}
+use Rattle.rtsp_client.specs.States.{time_of, used_bytes}
 use Rattle.rtsp_client.specs.HistoryInvariant.{AreSumsOf, IsPlayOf, IsSourceOf, StateInvariant}
 use Rattle.rtsp_client.proofs.HistorySteps.{complete-is, play-on, source-on}
 

@@ -1,19 +1,18 @@
 -- A meter that was never over and never under: what came lay between the curves at each reading.
-use Rattle.std.proofs.Common.{◌≡◌, ℕ, ◌+◌, ◌-◌, ◌*◌, ◌<◌, ◌≤◌, ◌==◌, ◌&&◌, ◌↔◌, Bool, true, false}
-use Rattle.std.proofs.Common.{not, nat_lt, nat_le, cond, List, [], ◌∷◌, ◌++◌, length, take, sum}
-use Rattle.std.proofs.Common.{max, refl, sym, ap, subst, ◌∙◌, arith, inl, inr}
-use Rattle.std.proofs.lemmas.Bool.{cases_Bool, cases_lt, and_parts, eqb-true, le-ltb}
+use Rattle.std.proofs.Common.{◌≡◌, ℕ, ◌+◌, ◌-◌, ◌*◌, ◌<◌, ◌≤◌, ◌==◌, ◌&&◌, ◌↔◌, Bool, true, false, not, nat_lt}
+use Rattle.std.proofs.Common.{nat_le, cond, List, [], ◌∷◌, ◌++◌, length, take, sum, max, refl, sym, ap, ◌∙◌, arith}
+use Rattle.std.proofs.Common.{inl, inr}
+use Rattle.std.proofs.lemmas.Bool.{cases_Bool, and_parts, eqb-true, le-ltb}
 use Rattle.std.proofs.lemmas.Bool.Decides.{nat_tests}
 use Rattle.std.proofs.lemmas.List.Sums.{sum_by-take-le}
 use Rattle.std.specs.Int.{div_ceil}
 use Rattle.rtsp_client.specs.declared.watch_request.Wish.{Wish}
-use Rattle.rtsp_client.specs.ClientHistory.{History, Frame, Reply, Report, Slot, bytes_pending}
-use Rattle.rtsp_client.specs.ClientHistory.{bytes_received, frames, is_inside, is_last, is_playing, sizes}
+use Rattle.rtsp_client.specs.ClientHistory.{History, Frame, Report, Slot, bytes_pending, bytes_received, frames}
+use Rattle.rtsp_client.specs.ClientHistory.{is_inside, is_last, is_playing, sizes}
 use Rattle.rtsp_client.specs.Films.{is_complete, units}
-use Rattle.rtsp_client.specs.Meters.{bytes_waiting, count_over, count_under, is_read, lacks_picture}
-use Rattle.rtsp_client.specs.Meters.{most_waiting, place_in, played_before, time, use_slot}
-use Rattle.rtsp_client.specs.Meters.{used_before}
-use Rattle.rtsp_client.specs.MeterGuarantee.{IsBetween, IsBetweenAlways, IsFilmHeardAlways, IsFilmHeard}
+use Rattle.rtsp_client.specs.Meters.{bytes_waiting, count_over, count_under, is_read, lacks_picture, most_waiting}
+use Rattle.rtsp_client.specs.Meters.{place_in, played_before, time, use_slot, used_before}
+use Rattle.rtsp_client.specs.MeterGuarantee.{IsBetweenAlways, IsFilmHeardAlways, IsFilmHeard}
 use Rattle.rtsp_client.proofs.HistorySteps.{sum-one}
 use Rattle.rtsp_client.proofs.MeterReadings.{Durations, used-sum}
 use Rattle.rtsp_client.proofs.MeterBounds.{FilmPlay, IsBetweenIn, next-later, same-used, used-time}

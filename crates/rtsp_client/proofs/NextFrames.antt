@@ -1,13 +1,12 @@
 -- The frame whose sequence number is the next one is accepted.
-use Rattle.std.proofs.Common.{◌≡◌, ℕ, ◌+◌, ◌-◌, ◌%◌, ◌^◌, ◌<◌, ◌==◌, true, false, not, cond, List, []}
-use Rattle.std.proofs.Common.{◌∷◌, ◌++◌, length, drop, get_or, is_ok, refl, sym, ap, ◌∙◌, arith}
+use Rattle.std.proofs.Common.{◌≡◌, ℕ, ◌+◌, ◌-◌, ◌%◌, ◌^◌, ◌<◌, ◌==◌, true, false, not, cond, List, [], ◌∷◌, ◌++◌}
+use Rattle.std.proofs.Common.{length, drop, get_or, is_ok, refl, sym, ap, ◌∙◌, arith}
 use Rattle.std.proofs.lemmas.Bool.{and_from, cond-false, eq-eqb, ne_eqb}
 use Rattle.std.proofs.lemmas.List.{get_or_append_left, length-append}
 use Rattle.std.proofs.Math.Seq.{get_or-append_seam}
 use Rattle.rtp_pack.specs.Heads.{head_at, head_of}
 use Rattle.film_frames.specs.Laws.{AreConsecutive, sequence_of}
-use Rattle.rtsp_client.specs.ClientHistory.{History, Frame, Reply, Report, Slot, first_frame, frames}
-use Rattle.rtsp_client.specs.ClientHistory.{is_playing, latest_frame}
+use Rattle.rtsp_client.specs.ClientHistory.{History, Frame, first_frame, frames, is_playing, latest_frame}
 use Rattle.rtsp_client.specs.Films.{is_complete, is_first_good, is_good_frame, is_next_good}
 use Rattle.rtsp_client.specs.MeterGuarantee.{frames_heard}
 

@@ -1,5 +1,5 @@
 -- Facts on what a call answered.
-use Rattle.std.proofs.Common.{◌≡◌, ◌∙◌, ap, Option, None, Result, Ok, Err, OnOk, IfErr}
+use Rattle.std.proofs.Common.{◌≡◌, ◌∙◌, ap, Option, None, Result, Ok, Err, OnOk}
 use Rattle.std.specs.Prelude.{ok_or}
 use Rattle.std.specs.Result.{result_ok}
 

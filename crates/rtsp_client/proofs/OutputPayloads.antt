@@ -2,7 +2,7 @@
 use Rattle.std.proofs.Common.{◌≡◌, ℕ, List, [], ◌∷◌, ◌++◌, drop, refl, sym, ap, ◌∙◌}
 use Rattle.std.proofs.lemmas.List.Concat.{flat_map-cons}
 use Rattle.film_frames.specs.Laws.{payloads}
-use Rattle.rtsp_client.specs.ClientHistory.{ClientEvent, Frame, Reply, Report, Slot}
+use Rattle.rtsp_client.specs.ClientHistory.{ClientEvent, Frame}
 use Rattle.rtsp_client.specs.Answers.{payloads_of}
 use Rattle.rtsp_client.specs.MeterGuarantee.{frames_of}
 

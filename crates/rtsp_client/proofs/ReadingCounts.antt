@@ -1,12 +1,10 @@
 -- The counts of the meter are those of its readings.
-use Rattle.std.proofs.Common.{◌≡◌, ℕ, ◌+◌, ◌&&◌, Bool, true, false, cond, List, [], ◌∷◌, length}
-use Rattle.std.proofs.Common.{refl, arith}
+use Rattle.std.proofs.Common.{◌≡◌, ℕ, ◌+◌, ◌&&◌, Bool, true, false, cond, List, [], ◌∷◌, length, refl, arith}
 use Rattle.std.specs.List.{filter}
 use Rattle.rtsp_client.specs.declared.watch_request.Wish.{Wish}
-use Rattle.rtsp_client.specs.ClientHistory.{History, Frame, Reply, Report, Slot}
+use Rattle.rtsp_client.specs.ClientHistory.{History, Slot}
 use Rattle.rtsp_client.specs.MeterReadings.{MeterReading, is_overrun, is_underrun, readings}
-use Rattle.rtsp_client.specs.Meters.{bytes_waiting, count_over, count_under, is_read, lacks_picture}
-use Rattle.rtsp_client.specs.Meters.{place_in}
+use Rattle.rtsp_client.specs.Meters.{bytes_waiting, count_over, count_under, is_read, lacks_picture, place_in}
 
 -- a count of one more where a reading is so
 one-more : (test : MeterReading → Bool) (read : Bool) (reading : MeterReading) (count : ℕ) (rest : List MeterReading)

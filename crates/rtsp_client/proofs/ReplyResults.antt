@@ -1,12 +1,10 @@
 -- What a reply comes to.
 use Rattle.std.proofs.Common.{◌≡◌, ◌≢◌, ℕ, ◌+◌, ◌==◌, ◌&&◌, ◌||◌, Bool, true, false, nat_lt, List, []}
-use Rattle.std.proofs.Common.{◌∷◌, ◌++◌, take, Option, Some, None, Result, Ok, is_some, unwrap_or}
+use Rattle.std.proofs.Common.{◌∷◌, ◌++◌, take, Option, Some, None, is_some, unwrap_or}
 use Rattle.std.proofs.Common.{if◌then◌else◌, refl, sym, ap, subst, ◌∙◌, arith, inl, inr}
-use Rattle.std.specs.Prelude.{MatchOption, option_map}
-use Rattle.std.specs.Result.{result_ok}
+use Rattle.std.specs.Prelude.{MatchOption}
 use Rattle.std.proofs.lemmas.Bool.{cond-true, cond-false, eq-eqb, ne_eqb}
 use Rattle.std.proofs.lemmas.List.{append-nil}
-use Rattle.vod_base.specs.Links.{IoEvent, IsSentPrefix, sends, told_more}
 use Rattle.rtsp_client.specs.declared.clients.Client.{Client}
 use Rattle.rtsp_client.specs.declared.watch_request.Wish.{Wish}
 use Rattle.rtsp_client.specs.declared.watch_request.Watched.{Watched}
@@ -16,12 +14,12 @@ use Rattle.rtsp_client.specs.declared.watch_request.WatchFault.TheVariants.{Refu
 use Rattle.rtsp_client.specs.Replies.{IsAnswer, play_range, play_start, setup_session}
 use Rattle.rtsp_client.specs.Requests.{play_text}
 use Rattle.rtsp_client.specs.ClientHistory.{History, ClientEvent, Reply, replies, session}
-use Rattle.rtsp_client.specs.Answers.{Gives, GoesOn, IsOrderly, has_fields, is_awaited, payload_of, request_after}
-use Rattle.rtsp_client.specs.WatchCourses.{Fails, IsPrefixOf}
+use Rattle.rtsp_client.specs.Answers.{Gives, GoesOn, IsOrderly, is_awaited, payload_of, request_after}
+use Rattle.rtsp_client.specs.WatchCourses.{IsPrefixOf}
 use Rattle.rtsp_client.specs.HistoryInvariant.{HistoryInvariant, StateInvariant}
 use Rattle.rtsp_client.specs.ClientState.{IsAwaited, replies_in, session_of}
 use Rattle.rtsp_client.specs.States.{State, after_play, has_all}
-use Rattle.rtsp_client.specs.ClientSteps.{HasEndedAt, HasTakenEvents, Observed, observed, observed_more}
+use Rattle.rtsp_client.specs.ClientSteps.{HasEndedAt, HasTakenEvents, Observed, observed_more}
 use Rattle.rtsp_client.proofs.HistorySteps.{PlayRead, complete-is, keeps-first, keeps-play}
 use Rattle.rtsp_client.proofs.ObservedSteps.{HasSentPart, ObservedChange, Watcher, no-front, observed-none}
 

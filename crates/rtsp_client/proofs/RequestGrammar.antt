@@ -16,7 +16,7 @@ use Rattle.vod_base.specs.Blanks.{is_blank, without_leading_blanks, without_blan
 use Rattle.vod_base.specs.Names.{is_name_byte}
 use Rattle.rtsp_text.specs.Grammar.{is_token, is_url_byte, is_value_byte, IsUrl, IsRtspUrl}
 use Rattle.rtsp_text.specs.Replies.{Field, value_named}
-use Rattle.rtsp_text.specs.RequestTexts.{RequestPieces, request_head, request_text, IsHeaderField, AreFront, AreRequest}
+use Rattle.rtsp_text.specs.RequestTexts.{RequestPieces, request_head, request_text, IsHeaderField, AreRequest}
 use Rattle.rtsp_text.specs.RequestTexts.{AreShort}
 use Rattle.vod_base.proofs.DigitLemmas.{decimal_numerals}
 use Rattle.vod_base.proofs.TextLemmas.{trimmed_is}

@@ -1,6 +1,5 @@
 -- The id of a session that a client takes fits in a header field of its requests.
-use Rattle.std.proofs.Common.{◌≡◌, ℕ, ◌≤◌, ◌==◌, Bool, true, false, cond, List, length, Option, Some, None}
-use Rattle.std.proofs.Common.{refl, ap, subst}
+use Rattle.std.proofs.Common.{◌≡◌, ℕ, ◌≤◌, ◌==◌, true, List, length, Option, Some, None, ap, subst}
 use Rattle.std.specs.Prelude.{option_map, option_and_then, codes}
 use Rattle.std.proofs.lemmas.Option.{cond_some}
 use Rattle.std.specs.List.{before_first, list_all}

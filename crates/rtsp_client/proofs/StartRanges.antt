@@ -1,6 +1,5 @@
 -- The range of the start that is read in a reply to PLAY.
-use Rattle.std.proofs.Common.{◌≡◌, ℕ, ◌+◌, ◌≤◌, ◌&&◌, Bool, true, false, nat_le, cond, List}
-use Rattle.std.proofs.Common.{Option, Some, None, refl, ap, subst, ◌∙◌, codes}
+use Rattle.std.proofs.Common.{◌≡◌, ℕ, ◌+◌, ◌≤◌, ◌&&◌, nat_le, List, Option, Some, None, ap, subst, ◌∙◌, codes}
 use Rattle.std.specs.Prelude.{option_and_then}
 use Rattle.std.proofs.lemmas.Bool.{and_from, and_parts, cond-true, le-leb, leb-true}
 use Rattle.std.proofs.lemmas.Option.{cond_some}

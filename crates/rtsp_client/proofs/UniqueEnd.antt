@@ -14,13 +14,13 @@ use Rattle.interleave.proofs.ElementUniqueness.{answer_once}
 use Rattle.rtsp_text.proofs.StatusTexts.{line_once}
 use Rattle.rtsp_client.specs.declared.watch_request.Wish.{Wish}
 use Rattle.rtsp_client.specs.declared.watch_request.WatchEnd.{WatchEnd}
-use Rattle.rtsp_client.specs.declared.watch_request.WatchEnd.TheVariants.{Done, Fault, LinkFault, NoMemory, SinkFault}
+use Rattle.rtsp_client.specs.declared.watch_request.WatchEnd.TheVariants.{Done, Fault}
 use Rattle.rtsp_client.specs.declared.watch_request.WatchFault.TheVariants.{Framing, Refused}
-use Rattle.rtsp_client.specs.ClientHistory.{History, ClientEvent, Frame, Reply, Report, Slot}
+use Rattle.rtsp_client.specs.ClientHistory.{History, ClientEvent, Frame, Reply}
 use Rattle.rtsp_client.specs.Films.{is_good_frame}
 use Rattle.rtsp_client.specs.Answers.{Gives, GoOn, GoesOn, IsBadReply, IsGoodReply, IsOrderly, has_fields}
 use Rattle.rtsp_client.specs.Answers.{history_after, events_of_elements, element_events, payloads_of, requests_after}
-use Rattle.rtsp_client.specs.WatchCourses.{Fails, IsNext, WatchStage, Stops, StopsAt}
+use Rattle.rtsp_client.specs.WatchCourses.{IsNext, WatchStage, Stops, StopsAt}
 use Rattle.rtsp_client.specs.Outcomes.{IsDecided}
 
 -- ---- replies

@@ -1,8 +1,6 @@
 -- The events that were received decide a watching's answer.
 use Rattle.std.proofs.Common.{◌≡◌, ℕ, ◌+◌, ◌^◌, ◌<◌, ◌≤◌, ◌++◌, ◌∷◌, [], List, length, Option, Ok}
-use Rattle.std.proofs.Common.{Bool, true, false}
 use Rattle.std.proofs.Common.{refl, sym, ap, subst, ◌∙◌, arith, inl, inr}
-use Rattle.std.proofs.lemmas.Bool.{both_ways}
 use Rattle.std.proofs.lemmas.List.{append-nil, append_cancel_left}
 use Rattle.std.proofs.lemmas.Option.{same_Some}
 use Rattle.vod_base.specs.Links.{IoEvent, HeardBytes, HeardEnd, HeardSlot, Sent, sends, told_more}
@@ -289,7 +287,7 @@ record HasCome (wish : Wish) (out : Option (List ℕ)) (o : WatchOutcome) : Type
 not-begun : {wish : Wish} {end : WatchEnd} {t t' : Option (List IoEvent)} {o o' : Option (List ℕ)} → IsDecided end
     → HasNotBegun wish end t t' o o' → ⊥
 not-begun decided none =
-    elim none.cause [ | inl memory ↦ subst IsDecided memory.0 decided | inr lost ↦ subst IsDecided lost.0 decided ]
+    elim none.cause [ inl memory ↦ subst IsDecided memory.0 decided | inr lost ↦ subst IsDecided lost.0 decided ]
 
 has-come : {wish : Wish} {told : List IoEvent} {out : Option (List ℕ)} {o : WatchOutcome} → IsOutcome wish told out o
     → HasCome wish out o

@@ -1,9 +1,9 @@
 -- A client accepts each frame of a film that it waits for, and then has all of it.
-use Rattle.std.proofs.Common.{◌≡◌, ℕ, suc, ◌+◌, ◌-◌, ◌%◌, ◌^◌, ◌<◌, ◌≤◌, ◌==◌, ◌&&◌, Bool, true, false, not}
-use Rattle.std.proofs.Common.{nat_lt, cond, min, List, [], ◌∷◌, ◌++◌, append_assoc, length, take, drop}
-use Rattle.std.proofs.Common.{get_or, is_some, Some, slice_get, refl, sym, ap, subst, ◌∙◌, arith, inl, inr}
-use Rattle.std.proofs.lemmas.Bool.{and_from, and_right, cases_eq, cond-false, cond-true, eq-eqb, le-leb, le-ltb, lt-ltb}
-use Rattle.std.proofs.lemmas.Bool.{ne_eqb, or_right}
+use Rattle.std.proofs.Common.{◌≡◌, ℕ, suc, ◌+◌, ◌-◌, ◌%◌, ◌^◌, ◌<◌, ◌≤◌, ◌==◌, ◌&&◌, Bool, true, false, not, nat_lt}
+use Rattle.std.proofs.Common.{cond, min, List, [], ◌∷◌, ◌++◌, append_assoc, length, take, drop, get_or, is_some, Some}
+use Rattle.std.proofs.Common.{slice_get, refl, sym, ap, subst, ◌∙◌, arith, inl, inr}
+use Rattle.std.proofs.lemmas.Bool.{and_from, and_right, cases_eq, cond-false, cond-true, eq-eqb, le-leb, le-ltb}
+use Rattle.std.proofs.lemmas.Bool.{lt-ltb, ne_eqb, or_right}
 use Rattle.std.proofs.lemmas.List.{append-nil, get_or-drop, get_or-take, get_or_append_left, get_or_default}
 use Rattle.std.proofs.lemmas.List.{length-append, length-drop, length-take, nil_from_length, take_all}
 use Rattle.mpeg_scan.specs.declared.films.Film.{Film}
@@ -24,11 +24,10 @@ use Rattle.film_frames.proofs.FilmPieceLemmas.{film-few, laid-film}
 use Rattle.rtsp_client.specs.declared.watch_request.Wish.{Wish}
 use Rattle.rtsp_client.specs.declared.watch_request.WatchEnd.TheVariants.{Done}
 use Rattle.rtsp_client.specs.Answers.{Gives, GoOn, has_fields, is_awaited, request_after}
-use Rattle.rtsp_client.specs.ClientHistory.{History, ClientEvent, Frame, Reply, Report, Slot, end_ms}
-use Rattle.rtsp_client.specs.ClientHistory.{first_frame, frames, is_last, replies, session}
-use Rattle.rtsp_client.specs.ClientHistory.{bytes_pending, sizes}
-use Rattle.rtsp_client.specs.Films.{begins_film, is_complete, is_first_good, is_good_frame, is_next_good}
-use Rattle.rtsp_client.specs.Films.{rate_code, time_in, units, units_until}
+use Rattle.rtsp_client.specs.ClientHistory.{History, ClientEvent, Frame, Reply, Report, Slot, end_ms, first_frame}
+use Rattle.rtsp_client.specs.ClientHistory.{frames, is_last, replies, session, bytes_pending, sizes}
+use Rattle.rtsp_client.specs.Films.{begins_film, is_complete, is_first_good, is_good_frame, is_next_good, rate_code}
+use Rattle.rtsp_client.specs.Films.{time_in, units, units_until}
 use Rattle.rtsp_client.specs.MeterGuarantee.{frames_heard, frames_of}
 use Rattle.rtsp_client.specs.Meters.{watched_in}
 use Rattle.rtsp_client.specs.Replies.{IsAnswer, play_range, play_start, setup_session}
@@ -193,9 +192,10 @@ same-first : {block : List ℕ} {more : List (List ℕ)} (s : SentFilm) → fram
 same-first {block} s are =
     let first = film-first s in
     let both : first.block ∷ first.more ≡ block ∷ _ = sym first.are ∙ are in
-    let same : first.block ≡ block = cc in
-    (subst (λ b. begins_film (drop 20 b) ≡ true) same first.begins,
-      subst (λ b. time_in b ≡ picture_time s.film.rate) same first.time_is)
+    let same : first.block ≡ block = cc in (
+      subst (λ b. begins_film (drop 20 b) ≡ true) same first.begins,
+      subst (λ b. time_in b ≡ picture_time s.film.rate) same first.time_is,
+    )
 
 -- a client that received some of a film's first frames knows its number of units
 units-known : {h : History} (s : SentFilm) (rest : List (List ℕ)) → AwaitsFilm s.film h

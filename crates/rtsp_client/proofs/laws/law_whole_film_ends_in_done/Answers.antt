@@ -1,8 +1,8 @@
-use Rattle.std.proofs.Common.{ℕ, ◌^◌, ◌<◌, length}
+use Rattle.std.proofs.Common.{◌^◌, ◌<◌, length}
 use Rattle.mpeg_scan.specs.declared.films.Film.{Film}
 use Rattle.rtp_pack.specs.declared.reports.Identity.{Identity}
 use Rattle.film_frames.specs.FramedRuns.{run_of}
-use Rattle.rtsp_client.proofs.WholeFilms.{AreNumbered, HeadsUncut, SentFilm, all-accepted, film-done, frame-accepted}
+use Rattle.rtsp_client.proofs.WholeFilms.{HeadsUncut, SentFilm, all-accepted, film-done, frame-accepted}
 use Rattle.rtsp_client.proofs.WholeFilms.{nothing-before, teardown-last}
 use Rattle.rtsp_client.proofs.laws.law_whole_film_ends_in_done.Goals as goal
 

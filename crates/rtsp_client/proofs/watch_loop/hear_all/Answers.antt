@@ -1,4 +1,4 @@
-use Rattle.std.proofs.Common.{◌≡◌, List, length, Option, rules, refl, ap, arith, inl}
+use Rattle.std.proofs.Common.{◌≡◌, List, length, Option, rules, ap, arith, inl}
 use Rattle.vod_base.specs.Links.{IoEvent}
 use Rattle.rtsp_client.specs.States.{State}
 use Rattle.rtsp_client.specs.ClientSteps.{observed}

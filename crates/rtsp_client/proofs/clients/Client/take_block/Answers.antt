@@ -1,4 +1,4 @@
-use Rattle.std.proofs.Common.{◌≡◌, List, rules, length, take, sym, ap, ◌∙◌}
+use Rattle.std.proofs.Common.{◌≡◌, rules, length, take, sym, ap, ◌∙◌}
 use Rattle.std.proofs.lemmas.List.{length-take-le}
 use Rattle.std.proofs.lemmas.Result.{IfErr-weaker}
 use Rattle.rtsp_client.specs.States.{after_report}

@@ -1,4 +1,4 @@
-use Rattle.std.proofs.Common.{ℕ, ◌+◌, List, take, refl, ap, subst, arith}
+use Rattle.std.proofs.Common.{ℕ, List, take, subst, arith}
 use Rattle.rtsp_client.specs.ClientState.{IsAwaited}
 use Rattle.rtsp_client.proofs.InputPrefixes.{whole-request}
 use Rattle.rtsp_client.proofs.ReplyResults.{bad-reply, refused-reply, watch-done}
