@@ -230,8 +230,7 @@ stopped-framing {old} {s} fault first =
     stops-now {old = old} {e = record { before = s; after = s }} (inl (refl, (fault, first), refl, refl)) (observed-none s)
 
 -- what two lists of elements send, hand on and leave, one after the other
-requests-in : (wish : Wish) (h : History) (x y : List (List ℕ))
-    → requests_after wish h (events_of_elements x)
+requests-in : (wish : Wish) (h : History) (x y : List (List ℕ)) → requests_after wish h (events_of_elements x)
     ++ requests_after wish (history_after h (events_of_elements x)) (events_of_elements y)
     ≡ requests_after wish h (events_of_elements (x ++ y))
 requests-in wish h x y =

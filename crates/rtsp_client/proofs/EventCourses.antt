@@ -71,7 +71,7 @@ round-slot {w} {slot} {cut} {state} {s} waits state_is =
         session_is = waits.keeps.session_is;
         state = subst (StateInvariant w.wish (Slot slot (cut_bytes c.input) ∷ w.history))
             (sym (state_is ∙ ap (after_slot w.wish c.watching slot) waits.cut_is))
-            (keeps-slot waits.keeps.state (record {
+            (keeps-slot slot (cut_bytes c.input) waits.keeps.state (record {
               slot_lasts = waits.slot_lasts;
               picture_lasts = timed-from c.watching.source waits.picture_lasts;
             }));
@@ -103,8 +103,7 @@ ended-peer {s = s} k = record {
 -- ---- all events
 
 runs-on : {mid new : WatchStage} {round : Round} (old : WatchStage) (rounds : List Round) → RunsAll old rounds mid
-    → Runs mid round new → IsFirst new.rest (Ok More)
-    → RunsAll old (rounds ++ round ∷ []) new
+    → Runs mid round new → IsFirst new.rest (Ok More) → RunsAll old (rounds ++ round ∷ []) new
 runs-on {new} {round} old [] all runs idle =
     let R : WatchStage → Type 0 = λ x. Runs x round new in
     (new, (subst R all runs, idle, refl))
@@ -142,8 +141,7 @@ moments-of-on (first ∷ rounds) round =
     ∙ sym (append_assoc first.moments (events_of_rounds rounds) round.moments)
 
 pub run-none : {wish : Wish} {client : Client} {s : Observed} → client.session ≡ None
-    → client.watching ≡ new_state
-    → client.input ≡ [] → HasRun wish 0 client s s
+    → client.watching ≡ new_state → client.input ≡ [] → HasRun wish 0 client s s
 run-none {wish} {client} {s} empty new_ input = record {
   rounds = [];
   count_is = refl;
@@ -302,8 +300,7 @@ watched-not wish told out =
     inr (record { front = []; cause = inl (refl, refl); told = sym (told_more-nil told); out = refl })
 
 pub watched-unsent : (wish : Wish) (end : WatchEnd) (told new_told : Option (List IoEvent))
-    (out : Option (List ℕ)) → IsUnsent end wish told new_told
-    → HasWatched wish end told new_told out out
+    (out : Option (List ℕ)) → IsUnsent end wish told new_told → HasWatched wish end told new_told out out
 watched-unsent wish end told new_told out (inl none) =
     inr (record { front = []; cause = inl (none.0, refl); told = none.1 ∙ sym (told_more-nil told); out = refl })
 watched-unsent wish end told new_told out (inr cut) =

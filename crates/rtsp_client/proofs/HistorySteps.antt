@@ -32,6 +32,12 @@ use Rattle.rtsp_client.specs.States.{reading_at, source_read, source_with}
 use Rattle.rtsp_client.specs.ClientState.{replies_in}
 use Rattle.rtsp_client.specs.HistoryInvariant.{AreSumsOf, IsPlayOf, IsSource, IsSourceOf, StateInvariant}
 
+-- a state that is kept, with the wish and the history that it has
+pub record KeptState : Type 0 where
+  pub wish : Wish
+  pub history : History
+  pub state : State
+
 -- ---- nothing was received
 
 pub keeps-new : (wish : Wish) → StateInvariant wish [] new_state
@@ -80,19 +86,19 @@ play-first None h m is none = le-ltb 1 (replies h + 1) (omega (arith, none))
 play-first (Some play) h m is none = absurd (true≢false (sym is.playing ∙ no-play h (omega (arith, none))))
 
 source-first : (source : Option RtpSource) (h : History) (m : List ℕ) → IsSourceOf source h
-    → (0 < frames h → is_playing h ≡ true)
-    → replies h ≤ 1 → IsSourceOf source (Reply m ∷ h)
+    → (0 < frames h → is_playing h ≡ true) → replies h ≤ 1 → IsSourceOf source (Reply m ∷ h)
 source-first None h m is begun few = is
 source-first (Some source) h m is begun few = absurd (true≢false (sym (begun is.some) ∙ no-play h few))
 
 -- one of the first two replies, after which this is known of the play
-keeps-reply : {wish : Wish} {h : History} {s : State} {m : List ℕ} {play : Option Play} → StateInvariant wish h s
-    → replies h ≤ 1 → IsPlayOf play (Reply m ∷ h) → StateInvariant wish (Reply m ∷ h) (record s { play = play })
-keeps-reply {h} {s} {m} k few played = record {
+keeps-reply : {x : KeptState} {m : List ℕ} {play : Option Play} → StateInvariant x.wish x.history x.state
+    → replies x.history ≤ 1 → IsPlayOf play (Reply m ∷ x.history)
+    → StateInvariant x.wish (Reply m ∷ x.history) (record x.state { play = play })
+keeps-reply {x} {m} k few played = record {
   last_slot_is = k.last_slot_is;
   play_is = played;
-  source_is = source-first s.source h m k.source_is k.begun few;
-  begun = λ some. absurd (true≢false (sym (k.begun some) ∙ no-play h few));
+  source_is = source-first x.state.source x.history m k.source_is k.begun few;
+  begun = λ some. absurd (true≢false (sym (k.begun some) ∙ no-play x.history few));
   inside = k.inside;
   ends_are = k.ends_are;
   received_is = k.received_is;
@@ -100,9 +106,10 @@ keeps-reply {h} {s} {m} k few played = record {
   watched_is = k.watched_is;
 }
 
-pub keeps-first : {wish : Wish} {h : History} {s : State} (m : List ℕ) → StateInvariant wish h s → replies h ≡ 0
-    → StateInvariant wish (Reply m ∷ h) s
-keeps-first {h} {s} m k none = keeps-reply k (omega (arith, none)) (play-first s.play h m k.play_is none)
+pub keeps-first : {x : KeptState} (m : List ℕ) → StateInvariant x.wish x.history x.state → replies x.history ≡ 0
+    → StateInvariant x.wish (Reply m ∷ x.history) x.state
+keeps-first {x} m k none =
+    keeps-reply {x = x} k (omega (arith, none)) (play-first x.state.play x.history m k.play_is none)
 
 second-is : {A : Type 0} (h : History) (x y : A) → replies h ≡ 1 → cond (replies h == 1) x y ≡ x
 second-is h x y one = cond-true (replies h == 1) x y (eq-eqb (replies h) 1 one)
@@ -114,10 +121,12 @@ pub record PlayRead (m : List ℕ) : Type 0 where
   pub start_is : play_start m ≡ Some start
   pub end_is : play_range m ≡ Some end_ms
 
-pub keeps-play : {wish : Wish} {h : History} {s : State} {m : List ℕ} → StateInvariant wish h s → replies h ≡ 1
-    → (read : PlayRead m) → StateInvariant wish (Reply m ∷ h) (after_play s read.start read.end_ms)
-keeps-play {h} {m} k one read =
-    keeps-reply k (omega (arith, one))
+pub keeps-play : {x : KeptState} {m : List ℕ} → StateInvariant x.wish x.history x.state → replies x.history ≡ 1
+    → (read : PlayRead m)
+    → StateInvariant x.wish (Reply m ∷ x.history) (after_play x.state read.start read.end_ms)
+keeps-play {x} {m} k one read =
+    let h = x.history in
+    keeps-reply {x = x} k (omega (arith, one))
     (record {
       playing = lt-ltb 1 (replies h + 1) (omega (arith, one));
       start_is = sym (second-is h (unwrap_or (play_start m) 0) (start h) one ∙ ap (λ o. unwrap_or o 0) read.start_is);
@@ -223,22 +232,25 @@ unless : {A : Type 0} (all good : Bool) (x : A) → cond all None (cond good (So
 unless true good x = refl
 unless false good x = refl
 
-found-in : {wish : Wish} {h : History} {s : State} (play : Option Play) (b : List ℕ) → IsPlayOf play h
-    → StateInvariant wish h s → source_played play s b ≡ found_with h b (is_good_frame h b)
-found-in {h} None b is k = sym (ap (λ c. found_with h b (c && (not (is_complete h) &&
-    (is_ok (head_of (drop 4 b)) && is_next h b)))) is)
-found-in {wish} {h} {s} (Some play) b is k =
+found-in : {x : KeptState} (play : Option Play) (b : List ℕ) → IsPlayOf play x.history
+    → StateInvariant x.wish x.history x.state
+    → source_played play x.state b ≡ found_with x.history b (is_good_frame x.history b)
+found-in {x} None b is k = sym (ap (λ c. found_with x.history b (c && (not (is_complete x.history) &&
+    (is_ok (head_of (drop 4 b)) && is_next x.history b)))) is)
+found-in {x} (Some play) b is k =
+    let h = x.history in
+    let s = x.state in
     let read = head_of (drop 4 b) in
     let good = is_ok read && is_next h b in
     ap (λ ms. cond (has_all s) None (source_read s.source read (drop 20 b) ms)) is.end_is
     ∙ (ap (cond (has_all s) None) (read-is read s.source h b k.source_is refl)
     ∙ (unless (has_all s) good _
-    ∙ (ap (λ all. found_with h b (not all && good)) (complete-is wish h s k)
+    ∙ (ap (λ all. found_with h b (not all && good)) (complete-is x.wish h s k)
     ∙ sym (ap (λ c. found_with h b (c && (not (is_complete h) && good))) is.playing))))
 
-found-is : {wish : Wish} {h : History} {s : State} (b : List ℕ) → StateInvariant wish h s
-    → source_with s b ≡ found_with h b (is_good_frame h b)
-found-is {s} b k = found-in s.play b k.play_is k
+found-is : {x : KeptState} (b : List ℕ) → StateInvariant x.wish x.history x.state
+    → source_with x.state b ≡ found_with x.history b (is_good_frame x.history b)
+found-is {x} b k = found-in {x = x} x.state.play b k.play_is k
 
 some-cond : {A : Type 0} (c : Bool) (x : A) → is_some (cond c (Some x) None) ≡ c
 some-cond true x = refl
@@ -246,7 +258,7 @@ some-cond false x = refl
 
 pub good-is : (wish : Wish) (h : History) (s : State) (b : List ℕ) → StateInvariant wish h s
     → is_good_frame h b ≡ is_some (source_with s b)
-good-is wish h s b k = sym (ap is_some (found-is b k) ∙ some-cond (is_good_frame h b) _)
+good-is wish h s b k = sym (ap is_some (found-is {x = record { wish = wish; history = h; state = s }} b k) ∙ some-cond (is_good_frame h b) _)
 
 -- ---- a frame
 
@@ -285,31 +297,46 @@ ends-more {ends} {sizes} {end} size are is =
     }
 
 -- the sizes of the complete units and the sums that are kept of them, with a frame
-record SizesKept (ends sizes : List ℕ) (pending taken : ℕ) : Type 0 where
-  ends_are : AreSumsOf ends sizes
-  taken_is : taken ≡ sum sizes + pending
+record UnitSizes : Type 0 where
+  ends : List ℕ
+  sizes : List ℕ
+  pending : ℕ
+  taken : ℕ
 
-sizes-kept : {ends sizes : List ℕ} {pending taken : ℕ} (last : Bool) (n : ℕ) → SizesKept ends sizes pending taken
-    → SizesKept (cond last (ends ++ (taken + n) ∷ []) ends) (cond last (sizes ++ (pending + n) ∷ []) sizes)
-    (cond last 0 (pending + n)) (taken + n)
-sizes-kept {sizes} {pending} true n kept = record {
-  ends_are = ends-more (pending + n) kept.ends_are (omega (arith, kept.taken_is));
-  taken_is = omega (arith, kept.taken_is, sum-one sizes (pending + n));
+record AreKept (u : UnitSizes) : Type 0 where
+  ends_are : AreSumsOf u.ends u.sizes
+  taken_is : u.taken ≡ sum u.sizes + u.pending
+
+abbrev sizes_with : UnitSizes → Bool → ℕ → UnitSizes
+sizes_with u last n = record {
+  ends = cond last (u.ends ++ (u.taken + n) ∷ []) u.ends;
+  sizes = cond last (u.sizes ++ (u.pending + n) ∷ []) u.sizes;
+  pending = cond last 0 (u.pending + n);
+  taken = u.taken + n;
 }
-sizes-kept false n kept = record { ends_are = kept.ends_are; taken_is = omega (arith, kept.taken_is) }
+
+sizes-kept : (u : UnitSizes) (last : Bool) (n : ℕ) → AreKept u → AreKept (sizes_with u last n)
+sizes-kept u true n kept = record {
+  ends_are = ends-more (u.pending + n) kept.ends_are (omega (arith, kept.taken_is));
+  taken_is = omega (arith, kept.taken_is, sum-one u.sizes (u.pending + n));
+}
+sizes-kept u false n kept = record { ends_are = kept.ends_are; taken_is = omega (arith, kept.taken_is) }
 
 whole-more : (last : Bool) (sizes : List ℕ) (size : ℕ)
     → cond last (length sizes + 1) (length sizes) ≡ length (cond last (sizes ++ size ∷ []) sizes)
 whole-more true sizes size = sym (length-append sizes (size ∷ []))
 whole-more false sizes size = refl
 
-keeps-good : {wish : Wish} {h : History} {s : State} {b : List ℕ} → StateInvariant wish h s
-    → is_good_frame h b ≡ true → 20 ≤ length b
-    → StateInvariant wish (Frame b ∷ h) (after_frame s (source_from h (first_frame (Frame b ∷ h)) b) (length b))
-keeps-good {wish} {h} {s} {b} k good long =
-    let sizes_are : SizesKept s.ends (sizes h) (bytes_pending h) s.taken =
-    record { ends_are = k.ends_are; taken_is = k.taken_is } in
-    let kept = sizes-kept (is_last b) (length b) sizes_are in
+keeps-good : {x : KeptState} {b : List ℕ} → StateInvariant x.wish x.history x.state
+    → is_good_frame x.history b ≡ true → 20 ≤ length b → StateInvariant x.wish (Frame b ∷ x.history)
+    (after_frame x.state (source_from x.history (first_frame (Frame b ∷ x.history)) b) (length b))
+keeps-good {x} {b} k good long =
+    let wish = x.wish in
+    let h = x.history in
+    let s = x.state in
+    let units : UnitSizes =
+    record { ends = s.ends; sizes = sizes h; pending = bytes_pending h; taken = s.taken } in
+    let kept = sizes-kept units (is_last b) (length b) (record { ends_are = k.ends_are; taken_is = k.taken_is }) in
     let handed : length (payloads h ++ drop 20 b) ≡ length (payloads h) + (length b - 20) =
     omega (arith, length-append (payloads h) (drop 20 b), length-drop 20 b) in
     record {
@@ -333,11 +360,13 @@ keeps-good {wish} {h} {s} {b} k good long =
           ∙ ap (λ n. record (watched_in wish (Frame b ∷ h)) { bytes = n }) (sym handed));
     }
 
-pub keeps-frame : {wish : Wish} {h : History} {s : State} {b : List ℕ} {next : RtpSource} → StateInvariant wish h s
-    → source_with s b ≡ Some next → 20 ≤ length b → StateInvariant wish (Frame b ∷ h) (after_frame s next (length b))
-keeps-frame {wish} {h} {s} {b} {next} k with_it long =
-    let good = cond_some (is_good_frame h b) _ next (sym (found-is b k) ∙ with_it) in
-    subst (λ n. StateInvariant wish (Frame b ∷ h) (after_frame s n (length b))) good.1 (keeps-good k good.0 long)
+pub keeps-frame : {x : KeptState} {b : List ℕ} {next : RtpSource} → StateInvariant x.wish x.history x.state
+    → source_with x.state b ≡ Some next → 20 ≤ length b
+    → StateInvariant x.wish (Frame b ∷ x.history) (after_frame x.state next (length b))
+keeps-frame {x} {b} {next} k with_it long =
+    let good = cond_some (is_good_frame x.history b) _ next (sym (found-is {x = x} b k) ∙ with_it) in
+    subst (λ n. StateInvariant x.wish (Frame b ∷ x.history) (after_frame x.state n (length b))) good.1
+    (keeps-good {x = x} k good.0 long)
 
 -- ---- a report, and a slot
 
@@ -366,39 +395,48 @@ between-taken : {taken : ℕ} (m : Bool) (sizes pending n : ℕ) → taken ≡ s
 between-taken true sizes pending n is = omega (arith, is)
 between-taken false sizes pending n is = is
 
-report-state : {wish : Wish} {h : History} {s : State} {b : List ℕ} (play : Option Play) → StateInvariant wish h s
-    → IsPlayOf play h → StateInvariant wish (Report b ∷ h) (report_in play s (length b))
-report-state {wish} {h} {s} {b} None k is = record {
+-- the bytes that came, those of the unit that isn't complete, and the counts, after a report
+abbrev received_with : History → List ℕ → Bool → ℕ
+received_with h b plays = cond plays (bytes_received h + length b) (bytes_received h)
+
+abbrev pending_with : History → List ℕ → Bool → Bool → ℕ
+pending_with h b plays inside = cond (plays && not inside) (bytes_pending h + length b) (bytes_pending h)
+
+abbrev watched_with : Wish → History → Bool → Watched
+watched_with wish h plays = record (watched_in wish h) { reports = cond plays (reports h + 1) (reports h) }
+
+report-state : {x : KeptState} {b : List ℕ} (play : Option Play) → StateInvariant x.wish x.history x.state
+    → IsPlayOf play x.history → StateInvariant x.wish (Report b ∷ x.history) (report_in play x.state (length b))
+report-state {x} {b} None k is = record {
   last_slot_is = k.last_slot_is;
   play_is = play-on s.play (Report b) h tt k.play_is;
   source_is = source-on s.source (Report b) h tt k.source_is;
   begun = k.begun;
   inside = k.inside;
   ends_are = k.ends_are;
-  received_is = k.received_is ∙ sym (ap (λ c. cond c (bytes_received h + length b) (bytes_received h)) is);
-  taken_is = k.taken_is
-      ∙ sym (ap (λ c. sum (sizes h) + cond (c && not (is_inside h)) (bytes_pending h + length b) (bytes_pending h)) is);
-  watched_is = k.watched_is
-      ∙ sym (ap (λ c. record (watched_in wish h) { reports = cond c (reports h + 1) (reports h) }) is);
+  received_is = k.received_is ∙ sym (ap (received_with h b) is);
+  taken_is = k.taken_is ∙ sym (ap (λ c. sum (sizes h) + pending_with h b c (is_inside h)) is);
+  watched_is = k.watched_is ∙ sym (ap (watched_with wish h) is);
 }
-report-state {wish} {h} {s} {b} (Some play) k is = record {
+  where
+    open x use {wish, history as h, state as s}
+report-state {x} {b} (Some play) k is = record {
   last_slot_is = k.last_slot_is;
   play_is = play-on s.play (Report b) h tt k.play_is;
   source_is = source-on s.source (Report b) h tt k.source_is;
   begun = k.begun;
   inside = k.inside;
   ends_are = k.ends_are;
-  received_is =
-      ap (λ n. n + length b) k.received_is
-      ∙ sym (ap (λ c. cond c (bytes_received h + length b) (bytes_received h)) is.playing);
+  received_is = ap (λ n. n + length b) k.received_is ∙ sym (ap (received_with h b) is.playing);
   taken_is = between-taken (is_between s.source) (sum (sizes h)) (bytes_pending h) (length b) k.taken_is
-      ∙ (sym (ap (λ i. sum (sizes h) + cond (not i) (bytes_pending h + length b) (bytes_pending h)) k.inside)
-      ∙ sym (ap (λ c. sum (sizes h) + cond (c && not (is_inside h)) (bytes_pending h + length b) (bytes_pending h))
-      is.playing));
+      ∙ (sym (ap (λ i. sum (sizes h) + pending_with h b true i) k.inside)
+      ∙ sym (ap (λ c. sum (sizes h) + pending_with h b c (is_inside h)) is.playing));
   watched_is = ap (λ (w : Watched). record w { reports = w.reports + 1 }) k.watched_is
-      ∙ sym (ap (λ c. record (watched_in wish h) { reports = cond c (reports h + 1) (reports h) }) is.playing);
+      ∙ sym (ap (watched_with wish h) is.playing);
 }
+  where
+    open x use {wish, history as h, state as s}
 
 pub keeps-report : (wish : Wish) (h : History) (s : State) (b : List ℕ) → StateInvariant wish h s
     → StateInvariant wish (Report b ∷ h) (after_report s (length b))
-keeps-report wish h s b k = report-state s.play k k.play_is
+keeps-report wish h s b k = report-state {x = record { wish = wish; history = h; state = s }} s.play k k.play_is

@@ -1,5 +1,5 @@
 -- A meter between empty and the buffer.
-use Rattle.std.proofs.Common.{◌≡◌, ℕ, zero, suc, ◌+◌, ◌-◌, ◌*◌, ◌/◌, ◌<◌, ◌≤◌, ◌&&◌, ◌↔◌, true, false, not, nat_lt}
+use Rattle.std.proofs.Common.{◌≡◌, Bool, ℕ, zero, suc, ◌+◌, ◌-◌, ◌*◌, ◌/◌, ◌<◌, ◌≤◌, ◌&&◌, ◌↔◌, true, false, not, nat_lt}
 use Rattle.std.proofs.Common.{nat_le, cond, List, [], ◌∷◌, length, take, sum, max, refl, sym, ap, subst, ◌∙◌, arith}
 use Rattle.std.proofs.Common.{inl, inr}
 use Rattle.std.proofs.lemmas.Bool.{and_from, and_right, cases_Bool, cases_lt, eq-eqb, lt-ltb, le-ltb, lt-leb}
@@ -37,25 +37,25 @@ not-yet {j} f n between next =
           used-sum f.wish (j + 1) 0 f.all f.lasts in
           let many : n < c = elim (cases_lt n c) [
             | inl more ↦ more
-            | inr few ↦ absurd (omega (arith, due, used-late f.wish.startup (j + 1) n f.lasts few))
+            | inr few ↦ absurd (omega (arith, due, used-late f.wish (j + 1) n f.lasts few))
           ] in
           absurd (omega (arith, used, between.low, next, sum-take-rises f.all (n + 1) (c - 0) (omega (arith, many))))
     ]
 
 -- what is used of the complete units is what is used of the film
-pub same-used : {p : ℕ} (wish : Wish) (all : List ℕ) (j n : ℕ) → Durations wish.slot_units p
-    → (n < length all → j ≤ use_slot wish p n)
-    → used_before wish p j 0 (take n all) ≡ used_before wish p j 0 all
-same-used {p} wish all j n lasts early =
-    let c = div_ceil ((j - wish.startup) * wish.slot_units) p in
-    elim (cases_lt n (length all)) [
-      | inl fewer ↦ let few : c - 0 ≤ n = elim (cases_lt n c) [
-        | inl more ↦ absurd (omega (arith, early fewer, used-early wish.startup j n lasts more))
-        | inr less ↦ omega (arith, less)
-      ] in
-          used-sum wish j 0 (take n all) lasts
-          ∙ (ap sum (take-take (c - 0) n all few) ∙ sym (used-sum wish j 0 all lasts))
-      | inr whole ↦ ap (used_before wish p j 0) (take_all n all whole)
+pub same-used : (f : FilmPlay) (j n : ℕ) → (n < length f.all → j ≤ use_slot f.wish f.picture_time n)
+    → used_before f.wish f.picture_time j 0 (take n f.all) ≡ used_before f.wish f.picture_time j 0 f.all
+same-used f j n early =
+    let c = div_ceil ((j - f.wish.startup) * f.wish.slot_units) f.picture_time in
+    elim (cases_lt n (length f.all)) [
+      | inl fewer ↦
+          let few : c - 0 ≤ n = elim (cases_lt n c) [
+            | inl more ↦ absurd (omega (arith, early fewer, used-early f.wish j n f.lasts more))
+            | inr less ↦ omega (arith, less)
+          ] in
+          used-sum f.wish j 0 (take n f.all) f.lasts
+          ∙ (ap sum (take-take (c - 0) n f.all few) ∙ sym (used-sum f.wish j 0 f.all f.lasts))
+      | inr whole ↦ ap (used_before f.wish f.picture_time j 0) (take_all n f.all whole)
     ]
 
 -- before the first frame any time will do
@@ -75,7 +75,7 @@ played-is {h} {j} f heard between =
     let n = length (sizes h) in
     used-time f.wish h f.picture_time j heard.time_is
     ∙ (ap (used_before f.wish f.picture_time j 0) heard.sizes_are
-    ∙ same-used f.wish f.all j n f.lasts (λ fewer. omega (arith, not-yet f n between (heard.next fewer))))
+    ∙ same-used f j n (λ fewer. omega (arith, not-yet f n between (heard.next fewer))))
 
 -- the buffer holds what waits
 fits : {h : History} {cut : ℕ} (f : FilmPlay) (slot : ℕ) → IsFilmHeard f.all f.picture_time h cut
@@ -92,34 +92,43 @@ zero-over (suc n) = div-eq_of_lt (omega arith)
 pub use-first : (wish : Wish) (t : ℕ) → use_slot wish t 0 ≡ wish.startup
 use-first wish t = omega (arith, ap (λ n. n / wish.slot_units) (zero-times t), zero-over wish.slot_units)
 
+-- a slot at which the meter is read, after a history and while bytes of a block wait
+pub record Reading : Type 0 where
+  pub history : History
+  pub slot : ℕ
+  pub cut : ℕ
+
+abbrev pub place_of : Reading → ℕ
+place_of r = place_in r.history r.slot
+
 -- the next unit is used as late at the time that a client knows, before the first frame too
-pub next-later : {all : List ℕ} {p j cut : ℕ} (wish : Wish) (h : History) → IsFilmHeard all p h cut
-    → (j < use_slot wish p (length (sizes h))) ↔ (j < use_slot wish (time h) (length (sizes h)))
-next-later {p = p} {j} wish h heard =
+pub next-later : {h : History} {cut : ℕ} (f : FilmPlay) (j : ℕ) → IsFilmHeard f.all f.picture_time h cut
+    → (j < use_slot f.wish f.picture_time (length (sizes h))) ↔ (j < use_slot f.wish (time h) (length (sizes h)))
+next-later {h} f j heard =
+    let n = length (sizes h) in
     elim (cases_lt 0 (frames h)) [
       | inl begun ↦
-          let n = length (sizes h) in
-          let same = heard.time_is begun in (
-            (λ early. subst (λ t. j < use_slot wish t n) (sym same) early),
-            (λ early. subst (λ t. j < use_slot wish t n) same
-                early),
-          )
+          let U : ℕ → Type 0 = λ t. (j < use_slot f.wish f.picture_time n) ↔ (j < use_slot f.wish t n) in
+          subst U (sym (heard.time_is begun)) ((λ early. early), (λ early. early))
       | inr none ↦
-          let L : ℕ → Type 0 = λ n. (j < use_slot wish p n) ↔ (j < use_slot wish (time h) n) in
-          subst L (sym (ap length (no-units h (omega (arith, none))))) (
-            (λ early. omega (arith, early, use-first wish p, use-first wish (time h))),
-            (λ early. omega (arith, early, use-first wish p, use-first wish (time h))),
-          )
+          let first = use-first f.wish f.picture_time in
+          let known = use-first f.wish (time h) in
+          let L : ℕ → Type 0 = λ n. (j < use_slot f.wish f.picture_time n) ↔ (j < use_slot f.wish (time h) n) in
+          subst L (sym (ap length (no-units h (omega (arith, none)))))
+          ((λ early. omega (arith, early, first, known)), (λ early. omega (arith, early, first, known)))
     ]
 
-enough : {h : History} {j cut : ℕ} (f : FilmPlay) → 0 < length f.all → IsFilmHeard f.all f.picture_time h cut
-    → IsBetweenIn f j (bytes_received h + cut) → lacks_picture f.wish h j ≡ false
-enough {h} {j} f some heard between =
+enough : (f : FilmPlay) (r : Reading) → 0 < length f.all → IsFilmHeard f.all f.picture_time r.history r.cut
+    → IsBetweenIn f (place_of r) (bytes_received r.history + r.cut)
+    → lacks_picture f.wish r.history (place_of r) ≡ false
+enough f r some heard between =
+    let h = r.history in
+    let j = place_of r in
     let n = length (sizes h) in
     let due = use_slot f.wish (time h) n in
     elim (cases_lt n (length f.all)) [
       | inl fewer ↦
-          let late : j < due = (next-later f.wish h heard).0 (not-yet f n between (heard.next fewer)) in
+          let late : j < due = (next-later f j heard).0 (not-yet f n between (heard.next fewer)) in
           and_right (not (is_complete h)) _ (lt-leb due j late)
       | inr whole ↦
           let begun : 0 < frames h = elim (cases_lt 0 (frames h)) [
@@ -154,40 +163,40 @@ unread-quiet {wish} {h} {slot} {cut} quiet is = record {
 }
 
 -- what a reading finds: the buffer holds what waits, and no picture is missing
-record FindsEnough (wish : Wish) (h : History) (slot cut : ℕ) : Type 0 where
-  holds : bytes_waiting wish h slot cut ≤ wish.buffer
-  full : lacks_picture wish h (place_in h slot) ≡ false
+record FindsEnough (wish : Wish) (r : Reading) : Type 0 where
+  holds : bytes_waiting wish r.history r.slot r.cut ≤ wish.buffer
+  full : lacks_picture wish r.history (place_of r) ≡ false
 
-seen-quiet : {wish : Wish} {h : History} {slot cut : ℕ} → IsQuiet wish h → is_read h slot ≡ true
-    → FindsEnough wish h slot cut → IsQuiet wish (Slot slot cut ∷ h)
-seen-quiet {wish} {h} {slot} {cut} quiet is finds =
-    let not_over : nat_lt wish.buffer (bytes_waiting wish h slot cut) ≡ false =
-    le-ltb wish.buffer (bytes_waiting wish h slot cut) finds.holds in
+seen-quiet : {wish : Wish} (r : Reading) → IsQuiet wish r.history → is_read r.history r.slot ≡ true
+    → FindsEnough wish r → IsQuiet wish (Slot r.slot r.cut ∷ r.history)
+seen-quiet {wish} r quiet is finds =
+    let h = r.history in
+    let waiting = bytes_waiting wish h r.slot r.cut in
+    let over = λ (c : Bool). cond c (count_over wish h + 1) (count_over wish h) in
+    let under = λ (c : Bool). cond c (count_under wish h + 1) (count_under wish h) in
     record {
-      over_none = ap
-          (λ r. cond (r && nat_lt wish.buffer (bytes_waiting wish h slot cut)) (count_over wish h + 1)
-          (count_over wish h)) is
-          ∙ (ap (λ b. cond (true && b) (count_over wish h + 1) (count_over wish h)) not_over ∙ quiet.over_none);
-      under_none =
-          ap (λ r. cond (r && lacks_picture wish h (place_in h slot)) (count_under wish h + 1) (count_under wish h)) is
-          ∙ (ap (λ b. cond (true && b) (count_under wish h + 1) (count_under wish h)) finds.full ∙ quiet.under_none);
+      over_none = ap (λ c. over (c && nat_lt wish.buffer waiting)) is
+          ∙ (ap (λ c. over (true && c)) (le-ltb wish.buffer waiting finds.holds) ∙ quiet.over_none);
+      under_none = ap (λ c. under (c && lacks_picture wish h (place_of r))) is
+          ∙ (ap (λ c. under (true && c)) finds.full ∙ quiet.under_none);
       most_fits = omega (
         arith,
-        ap (λ r. cond r (max (most_waiting wish h) (bytes_waiting wish h slot cut))
-            (most_waiting wish h)) is,
+        ap (λ c. cond c (max (most_waiting wish h) waiting) (most_waiting wish h)) is,
         quiet.most_fits,
         finds.holds,
       );
     }
 
-read-quiet : {h : History} {slot cut : ℕ} (f : FilmPlay) → 0 < length f.all → IsQuiet f.wish h
-    → (is_read h slot ≡ true
-    → IsFilmHeard f.all f.picture_time h cut × IsBetweenIn f (place_in h slot) (bytes_received h + cut))
-    → IsQuiet f.wish (Slot slot cut ∷ h)
-read-quiet {h} {slot} f some quiet met =
-    elim (cases_Bool (is_read h slot)) [
-      | inl is ↦ let now = met is in seen-quiet quiet is
-          (record { holds = fits f slot now.0 now.1; full = enough f some now.0 now.1 })
+read-quiet : (f : FilmPlay) (r : Reading) → 0 < length f.all → IsQuiet f.wish r.history
+    → (is_read r.history r.slot ≡ true → IsFilmHeard f.all f.picture_time r.history r.cut
+    × IsBetweenIn f (place_of r) (bytes_received r.history + r.cut))
+    → IsQuiet f.wish (Slot r.slot r.cut ∷ r.history)
+read-quiet f r some quiet met =
+    elim (cases_Bool (is_read r.history r.slot)) [
+      | inl is ↦
+          let now = met is in
+          seen-quiet r quiet is
+          (record { holds = fits f r.slot now.0 now.1; full = enough f r some now.0 now.1 })
       | inr is ↦ unread-quiet quiet is
     ]
 
@@ -195,7 +204,8 @@ pub quiet-always : {p : ℕ} (wish : Wish) (all : List ℕ) (h : History) → Du
     → IsBetweenAlways wish all p h → IsQuiet wish h
 quiet-always wish all [] lasts units_some met = record { over_none = refl; under_none = refl; most_fits = omega arith }
 quiet-always {p} wish all (Slot slot cut ∷ h) lasts units_some met =
-    read-quiet (record { wish = wish; all = all; picture_time = p; lasts = lasts }) units_some
+    read-quiet (record { wish = wish; all = all; picture_time = p; lasts = lasts })
+    (record { history = h; slot = slot; cut = cut }) units_some
     (quiet-always wish all h lasts units_some met.0) met.1
 quiet-always wish all (_ ∷ h) lasts units_some met =
     let q = quiet-always wish all h lasts units_some met in

@@ -18,11 +18,11 @@ use Rattle.rtsp_client.specs.ClientHistory.{History, Frame, Reply, Slot, first_f
 use Rattle.rtsp_client.specs.ClientHistory.{bytes_received, replies, sizes, slot_before, start}
 use Rattle.rtsp_client.specs.Films.{is_complete, time_in}
 use Rattle.rtsp_client.specs.Meters.{is_read, lacks_picture, place_in, played_before, time, use_slot, used_before}
-use Rattle.rtsp_client.specs.Meters.{bytes_waiting, watched_in}
+use Rattle.rtsp_client.specs.Meters.{count_over, count_under, most_waiting, bytes_waiting, watched_in}
 use Rattle.rtsp_client.specs.States.{State, after_reading, after_slot, is_lacking, place_of, played_of, reading_at}
 use Rattle.rtsp_client.specs.States.{time_of, used_bytes}
 use Rattle.rtsp_client.specs.HistoryInvariant.{AreSumsOf, IsPlayOf, IsSourceOf, StateInvariant}
-use Rattle.rtsp_client.proofs.HistorySteps.{complete-is, play-on, source-on}
+use Rattle.rtsp_client.proofs.HistorySteps.{KeptState, complete-is, play-on, source-on}
 
 -- a slot and a picture last
 pub record Durations (slot_units picture_time : ℕ) : Type 0 where
@@ -30,8 +30,11 @@ pub record Durations (slot_units picture_time : ℕ) : Type 0 where
   pub picture_lasts : 0 < picture_time
 
 -- a unit is used before a slot exactly where its number is below that count
-pub used-early : {s p : ℕ} (d j k : ℕ) → Durations s p → k < div_ceil ((j - d) * s) p → k * p / s + d < j
-used-early {s} {p} d j k lasts few =
+pub used-early : {p : ℕ} (wish : Wish) (j k : ℕ) → Durations wish.slot_units p
+    → k < div_ceil ((j - wish.startup) * wish.slot_units) p → use_slot wish p k < j
+used-early {p} wish j k lasts few =
+    let s = wish.slot_units in
+    let d = wish.startup in
     let c = div_ceil ((j - d) * s) p in
     let top = (div_ceil_times ((j - d) * s) p lasts.picture_lasts).1 in
     let rows : (k + 1) * p ≤ c * p = mul-le-mul_right p (omega (arith, few)) in
@@ -39,8 +42,11 @@ used-early {s} {p} d j k lasts few =
     let below : k * p / s < j - d = div_below (k * p) s (j - d) lasts.slot_lasts small in
     omega (arith, below)
 
-pub used-late : {s p : ℕ} (d j k : ℕ) → Durations s p → div_ceil ((j - d) * s) p ≤ k → j ≤ k * p / s + d
-used-late {s} {p} d j k lasts many =
+pub used-late : {p : ℕ} (wish : Wish) (j k : ℕ) → Durations wish.slot_units p
+    → div_ceil ((j - wish.startup) * wish.slot_units) p ≤ k → j ≤ use_slot wish p k
+used-late {p} wish j k lasts many =
+    let s = wish.slot_units in
+    let d = wish.startup in
     let c = div_ceil ((j - d) * s) p in
     let least = (div_ceil_times ((j - d) * s) p lasts.picture_lasts).0 in
     let rows : c * p ≤ k * p = mul-le-mul_right p many in
@@ -59,7 +65,7 @@ used-sum {p} wish j unit (size ∷ sizes) lasts =
       | inl few ↦
           let one : c - unit ≡ suc (c - (unit + 1)) = omega (arith, few) in
           let used = cond-true (nat_lt (use_slot wish p unit) j) size 0
-          (lt-ltb (use_slot wish p unit) j (used-early wish.startup j unit lasts few)) in
+          (lt-ltb (use_slot wish p unit) j (used-early wish j unit lasts few)) in
           omega (
             arith,
             used,
@@ -71,7 +77,7 @@ used-sum {p} wish j unit (size ∷ sizes) lasts =
           let none : c - unit ≡ 0 = omega (arith, many) in
           let after : c - (unit + 1) ≡ 0 = omega (arith, many) in
           let unused = cond-false (nat_lt (use_slot wish p unit) j) size 0
-          (le-ltb (use_slot wish p unit) j (used-late wish.startup j unit lasts many)) in
+          (le-ltb (use_slot wish p unit) j (used-late wish j unit lasts many)) in
           omega (arith, unused, rest, ap (λ n. sum (take n (size ∷ sizes))) none, ap (λ n. sum (take n sizes)) after)
     ]
 
@@ -111,8 +117,7 @@ pub record HasDurations (wish : Wish) (source : Option RtpSource) : Type 0 where
   pub picture_lasts : (src : RtpSource) → source ≡ Some src → 0 < src.picture_time
 
 played-in : {source : Option RtpSource} {ends : List ℕ} (wish : Wish) (h : History) (j : ℕ)
-    → HasDurations wish source → IsSourceOf source h
-    → AreSumsOf ends (sizes h)
+    → HasDurations wish source → IsSourceOf source h → AreSumsOf ends (sizes h)
     → played_of wish source ends j ≡ played_before wish h j
 played-in {source = None} wish h j lasts is are = sym (ap (used_before wish (time h) j 0) (no-units h is))
 played-in {source = Some source} {ends} wish h j lasts is are =
@@ -153,21 +158,22 @@ slot-late (Reply m ∷ h) =
 slot-late (Slot t cut ∷ h) = omega (arith, slot-late h)
 slot-late (_ ∷ h) = slot-late h
 
--- a slot at which the meter isn't read
+-- the counts after a slot, at which the meter is read or isn't
+abbrev counts_with : Wish → History → ℕ → ℕ → Bool → Watched
+counts_with wish h t cut read =
+    let waiting = bytes_waiting wish h t cut in
+    record (watched_in wish h) {
+      most = cond read (max (most_waiting wish h) waiting) (most_waiting wish h);
+      over = cond (read && nat_lt wish.buffer waiting) (count_over wish h + 1) (count_over wish h);
+      under = cond (read && lacks_picture wish h (place_in h t)) (count_under wish h + 1) (count_under wish h);
+    }
+
 unread : (wish : Wish) (h : History) (t cut : ℕ) → is_read h t ≡ false
     → watched_in wish h ≡ watched_in wish (Slot t cut ∷ h)
-unread wish h t cut missed =
-    let step : Bool → Watched = λ (r : Bool). record (watched_in wish h) {
-      most = cond r (max (watched_in wish h).most (bytes_waiting wish h t cut)) (watched_in wish h).most;
-      over = cond (r && nat_lt wish.buffer (bytes_waiting wish h t cut)) ((watched_in wish h).over + 1)
-          (watched_in wish h).over;
-      under = cond (r && lacks_picture wish h (place_in h t)) ((watched_in wish h).under + 1) (watched_in wish h).under;
-    } in
-    sym (ap step missed)
+unread wish h t cut missed = sym (ap (counts_with wish h t cut) missed)
 
 slot-with : {wish : Wish} {h : History} {s : State} {t cut last : ℕ} {w : Watched} → StateInvariant wish h s
-    → last ≡ max t (last_slot h)
-    → w ≡ watched_in wish (Slot t cut ∷ h)
+    → last ≡ max t (last_slot h) → w ≡ watched_in wish (Slot t cut ∷ h)
     → StateInvariant wish (Slot t cut ∷ h) (record s { last_slot = last; watched = w })
 slot-with {h} {s} {t} {cut} {last} {w} k greatest is = record {
   last_slot_is = greatest;
@@ -181,10 +187,13 @@ slot-with {h} {s} {t} {cut} {last} {w} k greatest is = record {
   watched_is = is;
 }
 
-read-at : {wish : Wish} {h : History} {s : State} (t cut : ℕ) → StateInvariant wish h s → HasDurations wish s.source
-    → is_read h t ≡ true
-    → (after_reading wish s (place_in h t) cut).watched ≡ watched_in wish (Slot t cut ∷ h)
-read-at {wish} {h} {s} t cut k lasts reads =
+read-at : {x : KeptState} (t cut : ℕ) → StateInvariant x.wish x.history x.state → HasDurations x.wish x.state.source
+    → is_read x.history t ≡ true
+    → (after_reading x.wish x.state (place_in x.history t) cut).watched ≡ watched_in x.wish (Slot t cut ∷ x.history)
+read-at {x} t cut k lasts reads =
+    let wish = x.wish in
+    let h = x.history in
+    let s = x.state in
     let j = place_in h t in
     let amount : (s.received + cut) - played_of wish s.source s.ends j ≡ bytes_waiting wish h t cut =
     ap (λ n. (n + cut) - played_of wish s.source s.ends j) k.received_is
@@ -194,21 +203,14 @@ read-at {wish} {h} {s} t cut k lasts reads =
       over = cond (nat_lt wish.buffer n) (w.over + 1) w.over;
       under = cond l (w.under + 1) w.under;
     } in
-    let whole : Bool → Watched = λ (r : Bool). record (watched_in wish h) {
-      most = cond r (max (watched_in wish h).most (bytes_waiting wish h t cut)) (watched_in wish h).most;
-      over = cond (r && nat_lt wish.buffer (bytes_waiting wish h t cut)) ((watched_in wish h).over + 1)
-          (watched_in wish h).over;
-      under = cond (r && lacks_picture wish h j) ((watched_in wish h).under + 1) (watched_in wish h).under;
-    } in
     ap (λ (w : Watched). step w ((s.received + cut) - played_of wish s.source s.ends j) (is_lacking wish s j))
     k.watched_is
     ∙ (ap (λ n. step (watched_in wish h) n (is_lacking wish s j)) amount
     ∙ (ap (λ b. step (watched_in wish h) (bytes_waiting wish h t cut) b) (lacks-in wish h s j k)
-    ∙ sym (ap whole reads)))
+    ∙ sym (ap (counts_with wish h t cut) reads)))
 
 keeps-later : {wish : Wish} {h : History} {s : State} {t cut : ℕ} (play : Option Play) → StateInvariant wish h s
-    → HasDurations wish s.source
-    → last_slot h < t → IsPlayOf play h
+    → HasDurations wish s.source → last_slot h < t → IsPlayOf play h
     → StateInvariant wish (Slot t cut ∷ h) (reading_at wish (record s { last_slot = t }) (place_of play t) cut)
 keeps-later {wish} {h} {s} {t} {cut} None k lasts later is =
     slot-with k (omega (arith, later))
@@ -242,13 +244,16 @@ keeps-later {wish} {h} {s} {t} {cut} (Some play) k lasts later is =
           (cond-true (nat_le play.start (t - play.slot_before)) (Some j) None
           (le-leb play.start (t - play.slot_before) due)))
           (subst P (ap (λ n. Some n) (sym place))
-          (slot-with k (omega (arith, later)) (read-at t cut k lasts reads)))
+          (slot-with k (omega (arith, later)) (read-at {x = record { wish = wish; history = h; state = s }} t cut k lasts reads)))
     ]
 
-pub keeps-slot : {wish : Wish} {h : History} {s : State} {t cut : ℕ} → StateInvariant wish h s → HasDurations wish
-    s.source
-    → StateInvariant wish (Slot t cut ∷ h) (after_slot wish s t cut)
-keeps-slot {wish} {h} {s} {t} {cut} k lasts =
+pub keeps-slot : {x : KeptState} (t cut : ℕ) → StateInvariant x.wish x.history x.state
+    → HasDurations x.wish x.state.source
+    → StateInvariant x.wish (Slot t cut ∷ x.history) (after_slot x.wish x.state t cut)
+keeps-slot {x} t cut k lasts =
+    let wish = x.wish in
+    let h = x.history in
+    let s = x.state in
     let P : State → Type 0 = λ x. StateInvariant wish (Slot t cut ∷ h) x in
     elim (cases_lt (last_slot h) t) [
       | inl later ↦

@@ -15,7 +15,7 @@ use Rattle.rtsp_client.specs.Meters.{place_in, played_before, time, use_slot, us
 use Rattle.rtsp_client.specs.MeterGuarantee.{IsBetweenAlways, IsFilmHeardAlways, IsFilmHeard}
 use Rattle.rtsp_client.proofs.HistorySteps.{sum-one}
 use Rattle.rtsp_client.proofs.MeterReadings.{Durations, used-sum}
-use Rattle.rtsp_client.proofs.MeterBounds.{FilmPlay, IsBetweenIn, next-later, same-used, used-time}
+use Rattle.rtsp_client.proofs.MeterBounds.{FilmPlay, IsBetweenIn, Reading, next-later, place_of, same-used, used-time}
 
 -- the bytes of complete units are among those that came
 whole-received : (h : History) → sum (sizes h) + bytes_pending h ≤ bytes_received h
@@ -45,10 +45,10 @@ used-most {p} wish j xs lasts =
     omega (arith, used-sum wish j 0 xs lasts, sum_by-take-le (λ (x : ℕ). x) xs (c - 0))
 
 -- where no picture is missing, the next unit isn't used yet
-next-early : {all : List ℕ} {p cut : ℕ} {h : History} (wish : Wish) (j : ℕ) → IsFilmHeard all p h cut
-    → lacks_picture wish h j ≡ false
-    → length (sizes h) < length all → j < use_slot wish p (length (sizes h))
-next-early {h = h} wish j heard enough fewer =
+next-early : {h : History} {cut : ℕ} (f : FilmPlay) (j : ℕ) → IsFilmHeard f.all f.picture_time h cut
+    → lacks_picture f.wish h j ≡ false → length (sizes h) < length f.all
+    → j < use_slot f.wish f.picture_time (length (sizes h))
+next-early {h} f j heard enough fewer =
     let n = length (sizes h) in
     elim (cases_Bool (is_complete h)) [
       | inl complete ↦
@@ -57,31 +57,32 @@ next-early {h = h} wish j heard enough fewer =
           let begun : 0 < frames h = grind (arith, nat_tests) in
           absurd (omega (arith, eqb-true n (units h) parts.1, heard.units_are begun, fewer))
       | inr open_ ↦
-          let late : nat_le (use_slot wish (time h) n) j ≡ false =
-          sym (ap (λ b. not b && nat_le (use_slot wish (time h) n) j) open_) ∙ enough in
-          (next-later wish h heard).1 (grind (arith, nat_tests))
+          let late : nat_le (use_slot f.wish (time h) n) j ≡ false =
+          sym (ap (λ b. not b && nat_le (use_slot f.wish (time h) n) j) open_) ∙ enough in
+          (next-later f j heard).1 (grind (arith, nat_tests))
     ]
 
-between : {h : History} {cut : ℕ} (f : FilmPlay) (slot : ℕ) → IsFilmHeard f.all f.picture_time h cut
-    → nat_lt f.wish.buffer (bytes_waiting f.wish h slot cut) ≡ false → lacks_picture f.wish h (place_in h slot) ≡ false
-    → IsBetweenIn f (place_in h slot) (bytes_received h + cut)
-between {h} {cut} f slot heard not_over not_under =
-    let all = f.all in
+between : (f : FilmPlay) (r : Reading) → IsFilmHeard f.all f.picture_time r.history r.cut
+    → nat_lt f.wish.buffer (bytes_waiting f.wish r.history r.slot r.cut) ≡ false
+    → lacks_picture f.wish r.history (place_of r) ≡ false
+    → IsBetweenIn f (place_of r) (bytes_received r.history + r.cut)
+between f r heard not_over not_under =
+    let h = r.history in
     let n = length (sizes h) in
-    let j = place_in h slot in
-    let early : n < length all → j < use_slot f.wish f.picture_time n = next-early f.wish j heard not_under in
+    let j = place_of r in
+    let early : n < length f.all → j < use_slot f.wish f.picture_time n = next-early f j heard not_under in
     let same : (k : ℕ) → k ≤ j + 1
-    → used_before f.wish f.picture_time k 0 (take n all) ≡ used_before f.wish f.picture_time k 0 all =
-    λ k most. same-used f.wish all k n f.lasts (λ fewer. omega (arith, early fewer, most)) in
-    let played : played_before f.wish h j ≡ used_before f.wish f.picture_time j 0 all =
+    → used_before f.wish f.picture_time k 0 (take n f.all) ≡ used_before f.wish f.picture_time k 0 f.all =
+    λ k most. same-used f k n (λ fewer. omega (arith, early fewer, most)) in
+    let played : played_before f.wish h j ≡ used_before f.wish f.picture_time j 0 f.all =
     used-time f.wish h f.picture_time j heard.time_is
     ∙ (ap (used_before f.wish f.picture_time j 0) heard.sizes_are ∙ same j (omega arith)) in
-    let holds : bytes_waiting f.wish h slot cut ≤ f.wish.buffer = grind (arith, nat_tests) in
+    let holds : bytes_waiting f.wish h r.slot r.cut ≤ f.wish.buffer = grind (arith, nat_tests) in
     record {
       low = omega (
         arith,
         same (j + 1) (omega arith),
-        used-most f.wish (j + 1) (take n all) f.lasts,
+        used-most f.wish (j + 1) (take n f.all) f.lasts,
         ap sum heard.sizes_are,
         whole-received h,
       );
@@ -112,7 +113,7 @@ between-always f (Slot slot cut ∷ h) heard none =
       between-always f h heard.0 (record { over = o.1; under = u.1 }),
       λ read. (
         heard.1 read,
-        between f slot (heard.1 read) (tested (is_read h slot) over read o.0)
+        between f (record { history = h; slot = slot; cut = cut }) (heard.1 read) (tested (is_read h slot) over read o.0)
             (tested (is_read h slot) lacks read u.0),
       ),
     )

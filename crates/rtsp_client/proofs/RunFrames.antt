@@ -202,8 +202,7 @@ some-packets starts unit = packets-some unit (first_portion unit.from unit.head_
 
 -- the frames of units, each laid out in its film
 pub units-frames : (end : ℕ) (run : FramedRun) (starts : List ℕ) (units : List PictureUnit) → run.identity.ssrc < 2 ^ 32
-    → AreLaid end starts units → (f o : ℕ)
-    → AreFrames run.identity.ssrc (length units)
+    → AreLaid end starts units → (f o : ℕ) → AreFrames run.identity.ssrc (length units)
     (frames_among (pieces_of starts units) (blocks_from run f o (pieces_of starts units)))
 units-frames end run starts units small laid f o = (by-units units laid).sent f o
   where
@@ -232,8 +231,7 @@ pub record BeginsWith (run : FramedRun) (unit : PictureUnit) (packet : Packet) (
   pub payload_is : drop 20 block ≡ payload run.film packet
 
 first-by : {u : UnitPieces} {report : Part} (packet : Packet) (starts : Bool) (frames rest : List Part)
-    → AreFramesOf u → IsReport report → (f o : ℕ)
-    → BeginsWith u.run u.unit packet
+    → AreFramesOf u → IsReport report → (f o : ℕ) → BeginsWith u.run u.unit packet
     (frames_among ((cond starts (report ∷ []) [] ++ (u.make packet ∷ frames)) ++ rest)
     (blocks_from u.run f o ((cond starts (report ∷ []) [] ++ (u.make packet ∷ frames)) ++ rest)))
 first-by {u} {report} packet true frames rest are is f o =
@@ -268,8 +266,7 @@ has-packet starts unit = by-list (unit_packets starts unit) refl (some-packets s
     by-list (p ∷ packets) is some = record { packet = p; packets = packets; are = is }
 
 begins-unit : {starts : List ℕ} {u : UnitPieces} {report : Part} (there : HasPacket starts u.unit) (rest : List Part)
-    → AreFramesOf u → IsReport report
-    → BeginsWith u.run u.unit there.packet
+    → AreFramesOf u → IsReport report → BeginsWith u.run u.unit there.packet
     (frames_among ((cond u.unit.starts_group (report ∷ []) [] ++ map u.make (unit_packets starts u.unit)) ++ rest)
     (blocks_from u.run 0 0
     ((cond u.unit.starts_group (report ∷ []) [] ++ map u.make (unit_packets starts u.unit)) ++ rest)))

@@ -221,8 +221,7 @@ quit-once {wish} {old} {one} {other} {end} quit quit' =
 -- ---- what the client did
 
 pub stops-quit : {wish : Wish} {old : WatchStage} {end : WatchEnd} {sent out : List ℕ} → IsDecided end
-    → (stops : StopsAt wish old end sent out)
-    → IsQuit wish old.history old.rest stops.elements stops.mid end
+    → (stops : StopsAt wish old end sent out) → IsQuit wish old.history old.rest stops.elements stops.mid end
 stops-quit decided stops = record {
   passed = record { cut = stops.cut; good = stops.good };
   quits = (quits-alone _ _ decided stops.stops).quits;

@@ -45,8 +45,7 @@ taken g c h k = record {
       (sym (length-take-le c.args.length c.args.self.now.input c.requires.within));
 }
 
-handed : (g : _) (c : After-is_complete g)
-    → g.O.Sink.written c.write_all.new.self
+handed : (g : _) (c : After-is_complete g) → g.O.Sink.written c.write_all.new.self
     ≡ told_more (g.O.Sink.written c.args.out.now) (drop 20 (take c.args.length c.args.self.now.input))
 handed g c =
     c.in_ok-write_all.ensures.whole
