@@ -2,6 +2,7 @@
 use Rattle.std.proofs.Common.{◌≡◌, ℕ, suc, ◌+◌, ◌-◌, ◌*◌, ◌/◌, ◌<◌, ◌≤◌, ◌==◌, ◌&&◌, Bool, true, false, not, nat_lt}
 use Rattle.std.proofs.Common.{nat_le, cond, List, [], ◌∷◌, length, take, sum, get_or, max, min, Option, Some, None}
 use Rattle.std.proofs.Common.{refl, sym, ap, subst, ◌∙◌, arith, inl, inr}
+use Rattle.std.proofs.lemmas.Bool.{and_from, and_left, leb-false, leb-true}
 use Rattle.std.proofs.lemmas.Bool.{and_right, cases_lt, cases_eq, cond-true, cond-false, cond_both, eq-eqb, ne_eqb}
 use Rattle.std.proofs.lemmas.Bool.{lt-ltb, le-ltb, le-leb, lt-leb}
 use Rattle.std.proofs.lemmas.List.{nil_from_length, take_all}
@@ -209,43 +210,33 @@ read-at {x} t cut k lasts reads =
     ∙ (ap (λ b. step (watched_in wish h) (bytes_waiting wish h t cut) b) (lacks-in wish h s j k)
     ∙ sym (ap (counts_with wish h t cut) reads)))
 
-keeps-later : {wish : Wish} {h : History} {s : State} {t cut : ℕ} (play : Option Play) → StateInvariant wish h s
-    → HasDurations wish s.source → last_slot h < t → IsPlayOf play h
-    → StateInvariant wish (Slot t cut ∷ h) (reading_at wish (record s { last_slot = t }) (place_of play t) cut)
-keeps-later {wish} {h} {s} {t} {cut} None k lasts later is =
+keeps-later : {x : KeptState} {t cut : ℕ} (play : Option Play) → StateInvariant x.wish x.history x.state
+    → HasDurations x.wish x.state.source → last_slot x.history < t → IsPlayOf play x.history
+    → StateInvariant x.wish (Slot t cut ∷ x.history)
+    (reading_at x.wish (record x.state { last_slot = t }) (place_of play t) cut)
+keeps-later {x} {t} {cut} None k lasts later is =
     slot-with k (omega (arith, later))
-    (k.watched_is ∙ unread wish h t cut
-    (ap (λ b. b && (nat_le (start h + slot_before h) t && nat_lt (last_slot h) t)) is))
-keeps-later {wish} {h} {s} {t} {cut} (Some play) k lasts later is =
+    (k.watched_is ∙ unread x.wish x.history t cut (and_left (is_playing x.history) _ is))
+keeps-later {x} {t} {cut} (Some play) k lasts later is =
+    let wish = x.wish in
+    let h = x.history in
     let late = slot-late h in
-    let P : Option ℕ → Type 0 =
-    λ place. StateInvariant wish (Slot t cut ∷ h) (reading_at wish (record s { last_slot = t }) place cut) in
     let j = (t - play.slot_before) - play.start in
-    elim (cases_lt (t - play.slot_before) play.start) [
-      | inl early ↦
-          let unmet : nat_le (start h + slot_before h) t ≡ false =
-          lt-leb (start h + slot_before h) t (omega (arith, early, is.start_is, is.slot_is, late, later)) in
-          subst P (sym
-          (cond-false (nat_le play.start (t - play.slot_before)) (Some j) None
-          (lt-leb play.start (t - play.slot_before) early)))
-          (slot-with k (omega (arith, later))
-          (k.watched_is
-          ∙ unread wish h t cut
-          (ap (λ b. is_playing h && (b && nat_lt (last_slot h) t)) unmet
-          ∙ and_right (is_playing h) (false && nat_lt (last_slot h) t) refl)))
-      | inr due ↦
-          let le : nat_le (start h + slot_before h) t ≡ true =
-          le-leb (start h + slot_before h) t (omega (arith, due, is.start_is, is.slot_is, late, later)) in
-          let reads : is_read h t ≡ true =
-          ap (λ b. b && (nat_le (start h + slot_before h) t && nat_lt (last_slot h) t)) is.playing
-          ∙ (ap (λ b. b && nat_lt (last_slot h) t) le ∙ lt-ltb (last_slot h) t later) in
-          let place : j ≡ place_in h t = omega (arith, due, is.start_is, is.slot_is) in
-          subst P (sym
-          (cond-true (nat_le play.start (t - play.slot_before)) (Some j) None
-          (le-leb play.start (t - play.slot_before) due)))
-          (subst P (ap (λ n. Some n) (sym place))
-          (slot-with k (omega (arith, later)) (read-at {x = record { wish = wish; history = h; state = s }} t cut k lasts reads)))
-    ]
+    let P : Option ℕ → Type 0 =
+    λ place. StateInvariant wish (Slot t cut ∷ h) (reading_at wish (record x.state { last_slot = t }) place cut) in
+    cond_both (nat_le play.start (t - play.slot_before)) (Some j) None P
+    (λ due.
+    let from : play.start ≤ t - play.slot_before = leb-true play.start (t - play.slot_before) due in
+    let reads : is_read h t ≡ true = and_from _ _ is.playing (and_from _ _
+    (le-leb (start h + slot_before h) t (omega (arith, from, is.start_is, is.slot_is, late, later)))
+    (lt-ltb (last_slot h) t later)) in
+    let place : place_in h t ≡ j = omega (arith, from, is.start_is, is.slot_is) in
+    subst (λ n. P (Some n)) place (slot-with k (omega (arith, later)) (read-at {x = x} t cut k lasts reads)))
+    (λ early.
+    let before : t - play.slot_before < play.start = leb-false play.start (t - play.slot_before) early in
+    slot-with k (omega (arith, later))
+    (k.watched_is ∙ unread wish h t cut (and_right (is_playing h) _ (and_left _ (nat_lt (last_slot h) t)
+    (lt-leb (start h + slot_before h) t (omega (arith, before, is.start_is, is.slot_is, late, later)))))))
 
 pub keeps-slot : {x : KeptState} (t cut : ℕ) → StateInvariant x.wish x.history x.state
     → HasDurations x.wish x.state.source
@@ -254,20 +245,11 @@ keeps-slot {x} t cut k lasts =
     let wish = x.wish in
     let h = x.history in
     let s = x.state in
-    let P : State → Type 0 = λ x. StateInvariant wish (Slot t cut ∷ h) x in
-    elim (cases_lt (last_slot h) t) [
-      | inl later ↦
-          subst P (sym (cond-false (nat_le t s.last_slot) s
-          (reading_at wish (record s { last_slot = t }) (place_of s.play t) cut)
-          (lt-leb t s.last_slot (omega (arith, later, k.last_slot_is)))))
-          (keeps-later s.play k lasts later k.play_is)
-      | inr old ↦
-          subst P (sym (cond-true (nat_le t s.last_slot) s
-          (reading_at wish (record s { last_slot = t }) (place_of s.play t) cut)
-          (le-leb t s.last_slot (omega (arith, old, k.last_slot_is)))))
-          (slot-with k (omega (arith, old, k.last_slot_is))
-          (k.watched_is
-          ∙ unread wish h t cut
-          (ap (λ b. is_playing h && (nat_le (start h + slot_before h) t && b)) (le-ltb (last_slot h) t old)
-          ∙ and_right (is_playing h) _ (and_right (nat_le (start h + slot_before h) t) false refl))))
-    ]
+    cond_both (nat_le t s.last_slot) s (reading_at wish (record s { last_slot = t }) (place_of s.play t) cut)
+    (StateInvariant wish (Slot t cut ∷ h))
+    (λ known.
+    let old : t ≤ last_slot h = omega (arith, leb-true t s.last_slot known, k.last_slot_is) in
+    slot-with k (omega (arith, old, k.last_slot_is))
+    (k.watched_is ∙ unread wish h t cut (and_right (is_playing h) _ (and_right _ _ (le-ltb (last_slot h) t old)))))
+    (λ new_.
+    keeps-later {x = x} s.play k lasts (omega (arith, leb-false t s.last_slot new_, k.last_slot_is)) k.play_is)

@@ -155,17 +155,14 @@ pub record SplitBytes : Type 0 where
   pub elements : List (List ℕ)
   pub rest : List ℕ
 
-record AreSame (one other : SplitBytes) : Type 0 where
-  elements_are : one.elements ≡ other.elements
-  rest_is : one.rest ≡ other.rest
-
 -- no further element is processed after the answer
 no-further : {wish : Wish} {old : WatchStage} {one other : SplitBytes} {end : WatchEnd} (more : List (List ℕ))
     → IsQuit wish old.history old.rest one.elements one.rest end
     → IsPassed old.history old.rest other.elements other.rest
-    → other.elements ≡ one.elements ++ more → AreInputElements one.rest more other.rest → AreSame one other
-no-further {one = one} [] quit passed is cut =
-    record { elements_are = sym (is ∙ append-nil one.elements); rest_is = cut }
+    → other.elements ≡ one.elements ++ more → AreInputElements one.rest more other.rest → one ≡ other
+no-further {one = one} {other} [] quit passed is cut =
+    ap (λ es. record one { elements = es }) (sym (is ∙ append-nil one.elements))
+    ∙ ap (λ r. record other { rest = r }) cut
 no-further {old = old} {one} (element ∷ more) quit passed is cut =
     let before = events_of_elements one.elements in
     absurd (quits-not-on {old = record { history = history_after old.history before; rest = one.rest }} _ element more
@@ -189,8 +186,8 @@ quit-not-passed {old = old} {one} {other} quit passed idle =
     record { one = quit.passed.cut; other = passed.cut } in
     elim (cuts_agree cuts) [
       | inl (more, (is, cut)) ↦
-          let same : AreSame one other = no-further {old = old} more quit passed is cut in
-          quits-not-idle quit.quits (subst (λ r. IsFirst r (Ok More)) (sym same.rest_is) idle)
+          let same : one ≡ other = no-further {old = old} more quit passed is cut in
+          quits-not-idle quit.quits (subst (λ (x : SplitBytes). IsFirst x.rest (Ok More)) (sym same) idle)
       | inr (more, (is, cut)) ↦ quits-not-idle quit.quits (idle-stays more idle cut)
     ]
 
@@ -206,17 +203,14 @@ quit-once : {wish : Wish} {old : WatchStage} {one other : SplitBytes} {end end' 
 quit-once {wish} {old} {one} {other} {end} quit quit' =
     let cuts : TwoCuts old.rest one.elements other.elements one.rest other.rest =
     record { one = quit.passed.cut; other = quit'.passed.cut } in
-    let same : AreSame one other = elim (cuts_agree cuts) [
+    let same : one ≡ other = elim (cuts_agree cuts) [
       | inl (more, (is, cut)) ↦ no-further {old = old} more quit quit'.passed is cut
-      | inr (more, (is, cut)) ↦
-          let back : AreSame other one = no-further {old = old} more quit' quit.passed is cut in
-          record { elements_are = sym back.elements_are; rest_is = sym back.rest_is }
+      | inr (more, (is, cut)) ↦ sym (no-further {old = old} {one = other} {other = one} more quit' quit.passed is cut)
     ] in
-    let after = λ (es : List (List ℕ)). history_after old.history (events_of_elements es) in
-    let there : Quits wish (after other.elements) other.rest end =
-    subst (λ r. Quits wish (after other.elements) r end) same.rest_is
-    (subst (λ es. Quits wish (after es) one.rest end) same.elements_are quit.quits) in
-    record { elements_are = same.elements_are; end_is = quits-once there quit'.quits }
+    let there : Quits wish (history_after old.history (events_of_elements other.elements)) other.rest end =
+    subst (λ (x : SplitBytes). Quits wish (history_after old.history (events_of_elements x.elements)) x.rest end) same
+    quit.quits in
+    record { elements_are = ap (λ (x : SplitBytes). x.elements) same; end_is = quits-once there quit'.quits }
 
 -- ---- what the client did
 
