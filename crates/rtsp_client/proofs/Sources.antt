@@ -1,6 +1,6 @@
 -- What the frames say with one more block.
 use Rattle.std.proofs.Common.{◌≡◌, ℕ, ◌≤◌, Bool, true, false, if◌then◌else◌, List, length, take, drop, ◌-◌, Option}
-use Rattle.std.proofs.Common.{Some, None, Result, Ok, Err, refl, sym, ap, ◌∙◌, arith}
+use Rattle.std.proofs.Common.{Some, None, Result, Ok, Err, refl, sym, ap, arith}
 use Rattle.std.proofs.lemmas.List.{length-drop, take_all}
 use Rattle.std.proofs.lemmas.Bool.Decides.{nat_tests}
 use Rattle.std.proofs.lemmas.Option.{none-some, same_Some}
@@ -11,8 +11,7 @@ use Rattle.rtp_pack.specs.declared.heads.Head.{Head}
 use Rattle.rtp_pack.specs.declared.heads.HeadFault.{HeadFault}
 use Rattle.rtp_pack.specs.declared.heads.HeadFault.TheVariants.{Short}
 use Rattle.rtsp_client.specs.declared.frames.RtpSource.{RtpSource}
-use Rattle.rtsp_client.specs.declared.play_reply.Play.{Play}
-use Rattle.rtsp_client.specs.States.{State, has_all, source_played, source_read, source_with}
+use Rattle.rtsp_client.specs.States.{source_read}
 
 -- a head that is read is complete
 not-short : {head : Head} (short : Bool) (rest : Result Head HeadFault)
@@ -30,27 +29,6 @@ head-long block is =
       length-drop 4 block,
       at-least (length (drop 4 block)) (not-short (nat_lt (length (drop 4 block)) 16) _ is),
     )
-
--- no reply to PLAY was received
-pub source-unplayed : (s : State) (block : List ℕ) → s.play ≡ None → None ≡ source_with s block
-source-unplayed s block is = sym (ap (λ play. source_played play s block) is)
-
--- all pictures are complete, or some are to come
-pub source-all : {play : Play} (s : State) (block : List ℕ) → s.play ≡ Some play → has_all s ≡ true
-    → None ≡ source_with s block
-source-all {play} s block is all = sym (ap (λ p. source_played p s block) is
-    ∙ ap (λ (b : Bool). if b then None else source_read s.source (head_of (drop 4 block)) (drop 20 block)
-    play.end_ms) all)
-
-pub source-read : {play : Play} {found : Option RtpSource} {head : Result Head HeadFault} (s : State)
-    (block : List ℕ) → s.play ≡ Some play → has_all s ≡ false →
-    head_of (drop 4 block) ≡ head → found ≡ source_read s.source head (drop 20 block) play.end_ms
-    → found ≡ source_with s block
-source-read {play} s block is some read found =
-    found ∙ ap (λ h. source_read s.source h (drop 20 block) play.end_ms) (sym read)
-    ∙ sym (ap (λ p. source_played p s block) is
-    ∙ ap (λ (b : Bool). if b then None else source_read s.source (head_of (drop 4 block)) (drop 20 block)
-    play.end_ms) some)
 
 -- a head was read, or it wasn't
 pub head-read : {head : Head} (read : Result Head HeadFault) → result_ok read ≡ Some head → read ≡ Ok head
