@@ -1,6 +1,5 @@
 -- A client that receives a film's stream refuses none of it, and comes to `Done` once all of it came.
-use Rattle.std.proofs.Common.{◌≡◌, ℕ, List, [], ◌∷◌, ◌++◌, length, take, Some, Ok, refl, sym, ap, subst}
-use Rattle.std.proofs.Common.{◌∙◌, inl, inr}
+use Rattle.std.proofs.Common.{◌≡◌, ℕ, List, [], ◌∷◌, ◌++◌, length, take, Some, Ok, refl, sym, ap, subst, ◌∙◌, inl, inr}
 use Rattle.std.proofs.lemmas.List.{append-nil}
 use Rattle.vod_base.specs.Links.{IoEvent}
 use Rattle.interleave.specs.Elements.{IsFirst}
@@ -77,12 +76,9 @@ stopped_done {wish} {rounds} {mid} {bytes} {end} s count decided stopped front =
 -- an answer that is `Done` where the events decide it refuses nothing
 refuses_none : (end : WatchEnd) → (IsDecided end → (watched : Watched) × (end ≡ Done watched))
     → RefusesNothing end
-refuses_none (Done watched) decided = tt
 refuses_none (Fault fault) decided =
     let its = decided tt in absurd (let same : Fault fault ≡ Done its.0 = its.1 in let no : ⊥ = cc in no)
-refuses_none LinkFault decided = tt
-refuses_none SinkFault decided = tt
-refuses_none NoMemory decided = tt
+refuses_none _ decided = tt
 
 -- ---- the entire watching
 

@@ -1,8 +1,7 @@
 -- A client that receives a server's stream goes on at each reply, frame and report of it, up to the
 -- reply to TEARDOWN, which ends the watching.
-use Rattle.std.proofs.Common.{◌≡◌, ℕ, ◌+◌, ◌<◌, ◌≤◌, ◌==◌, ◌&&◌, ◌⊎◌, ◌^◌, true, nat_lt, List, []}
-use Rattle.std.proofs.Common.{◌∷◌, ◌++◌, length, take, drop, Some, is_some, unwrap_or, Err, refl, sym, ap}
-use Rattle.std.proofs.Common.{subst, ◌∙◌, arith, inl, inr}
+use Rattle.std.proofs.Common.{◌≡◌, ℕ, ◌+◌, ◌<◌, ◌≤◌, ◌==◌, ◌&&◌, ◌⊎◌, ◌^◌, true, nat_lt, List, [], ◌∷◌, ◌++◌, length}
+use Rattle.std.proofs.Common.{take, drop, Some, is_some, unwrap_or, Err, refl, sym, ap, subst, ◌∙◌, arith, inl, inr}
 use Rattle.std.proofs.lemmas.Bool.{cond-true, cond-false, eq-eqb, lt-ltb, ne_eqb, or_left}
 use Rattle.std.proofs.lemmas.List.{append-nil, drop_at, take-append-drop, take-append-le, take_at}
 use Rattle.interleave.specs.Elements.{IsFirst}
@@ -188,9 +187,7 @@ reply_moment {h} wish element moment_is same reply accepted =
 pub two_replies : (h : History) → HasGoneOn h → replies h ≤ 2
 two_replies [] gone = omega arith
 two_replies (Reply message ∷ h) gone = let few = gone.0.1 in omega (arith, few)
-two_replies (Frame block ∷ h) gone = two_replies h gone.1
-two_replies (Report block ∷ h) gone = two_replies h gone.1
-two_replies (Slot slot cut ∷ h) gone = two_replies h gone.1
+two_replies (_ ∷ h) gone = two_replies h gone.1
 
 -- ---- the film
 

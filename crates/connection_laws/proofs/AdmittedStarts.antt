@@ -1,8 +1,8 @@
 -- In which slots a connection asks for plays, and in which slots its plays begin.
 use Rattle.std.specs.Prelude.{⊤, All, Option}
 use Rattle.std.specs.List.{fold}
-use Rattle.std.proofs.Common.{◌≡◌, ℕ, zero, suc, ◌+◌, ◌^◌, ◌≤◌, ◌++◌, List, [], ◌∷◌, max, min}
-use Rattle.std.proofs.Common.{take, arith, refl, sym, ap, subst}
+use Rattle.std.proofs.Common.{◌≡◌, ℕ, zero, suc, ◌+◌, ◌^◌, ◌≤◌, ◌++◌, List, [], ◌∷◌, max, min, take, arith, refl, sym}
+use Rattle.std.proofs.Common.{ap, subst, map}
 use Rattle.std.proofs.lemmas.List.Elements.{All-append, All-contains, All-cons, All-get_or, All-head, All-nil, All-tail}
 use Rattle.std.proofs.lemmas.List.Elements.{All-weaker}
 use Rattle.plan_cert.specs.PlanSlots.{total_bytes}
@@ -24,14 +24,12 @@ use Rattle.session.specs.declared.commands.Ask.{Ask}
 use Rattle.film_streams.specs.declared.settings.Settings.{Settings}
 use Rattle.session.specs.declared.states.Awaited.{Awaited}
 use Rattle.session.specs.declared.states.Awaited.TheVariants.{Nothing, Play, Halt, Look, Offer}
-use Rattle.session.specs.SessionStates.{OpenBooking}
-use Rattle.session.specs.SessionStates.{SessionState}
+use Rattle.session.specs.SessionStates.{OpenBooking, SessionState}
 use Rattle.rtsp_client.specs.declared.watch_request.Wish.{Wish}
 use Rattle.conn.specs.Agreement.{Activity, HasDone, Visit, doings_outcomes}
-use Rattle.conn.specs.EventSteps.{Ending, Unheard, PeerEnded, Overfull, AtElement, InSlot, InReply}
-use Rattle.conn.specs.EventSteps.{Round, ending_outcomes, entries_in, round_outcomes, rounds_outcomes}
-use Rattle.conn.specs.InputSteps.{Outcome, Unasked, Entered, WasFull}
-use Rattle.conn.specs.InputSteps.{Offered}
+use Rattle.conn.specs.EventSteps.{Ending, Unheard, PeerEnded, Overfull, AtElement, InSlot, InReply, Round}
+use Rattle.conn.specs.EventSteps.{ending_outcomes, entries_in, round_outcomes, rounds_outcomes}
+use Rattle.conn.specs.InputSteps.{Outcome, Unasked, Entered, WasFull, Offered, IsHaltAnswered}
 use Rattle.conn.specs.Journals.{AgreeWith, StandsIn, Terms}
 use Rattle.conn.specs.Plays.{ending_rounds}
 use Rattle.conn.specs.declared.reports.ConnReport.{ConnReport}
@@ -41,23 +39,18 @@ use Rattle.connection_laws.specs.Plays.{StationRequest, Asks, FilmPlay, kept_in,
 use Rattle.connection_laws.specs.StartRanges.{AreMadeByConnections, IsCourseIn, IsMadeByConnection, StartsInRange}
 use Rattle.connection_laws.proofs.BookedPlays.{course_outcomes, outcomes_in}
 use Rattle.connection_laws.proofs.StationAnswers.{AnswersAs, NoneAsked, PlayAdmitted, PlayRefused, PlayFull, PlayHalted}
-use Rattle.connection_laws.proofs.StationAnswers.{LookMade, LookFull, OfferMade, answers_as}
-use Rattle.connection_laws.proofs.StationAnswers.{FinishesAs, NothingLeft, DoneHalted}
-use Rattle.connection_laws.proofs.StationAnswers.{ClosesAs, NothingOpen, BookingHalted}
+use Rattle.connection_laws.proofs.StationAnswers.{LookMade, LookFull, OfferMade, answers_as, FinishesAs, NothingLeft}
+use Rattle.connection_laws.proofs.StationAnswers.{DoneHalted, ClosesAs, NothingOpen, BookingHalted}
 use Rattle.std.proofs.lemmas.List.{map-append}
 use Rattle.connection_laws.specs.Notes.{StationCall, outcome_of}
 use Rattle.connection_laws.proofs.CourseTurns.{IsKeptByDoings, doings_kept, turns_told}
 use Rattle.station.specs.Ledgers.{play_of}
-use Rattle.std.proofs.Common.{map}
 use Rattle.plan_cert.specs.declared.Segment.{Segment}
-use Rattle.conn.specs.InputSteps.{IsHaltAnswered}
 
 -- ---- the entries among what the station answered
 abbrev InEntry : (PlacedEntry → Type 0) → Outcome → Type 0
-InEntry P Unasked = ⊤
 InEntry P (Entered placed) = P placed
-InEntry P (WasFull more entries live) = ⊤
-InEntry P (Offered at_slot note) = ⊤
+InEntry P _ = ⊤
 
 abbrev InEntries : (PlacedEntry → Type 0) → List Outcome → Type 0
 InEntries P [] = ⊤
@@ -79,11 +72,9 @@ entries_rest P (x ∷ xs) ys are = entries_rest P xs ys are.1
 all_entries : (P : PlacedEntry → Type 0) (outcomes : List Outcome) → InEntries P outcomes
     → All P (entries_in outcomes)
 all_entries P [] are = All-nil P
-all_entries P (Unasked ∷ outcomes) are = all_entries P outcomes are.1
 all_entries P (Entered placed ∷ outcomes) are =
     All-cons P placed (entries_in outcomes) are.0 (all_entries P outcomes are.1)
-all_entries P (WasFull more entries live ∷ outcomes) are = all_entries P outcomes are.1
-all_entries P (Offered at_slot note ∷ outcomes) are = all_entries P outcomes are.1
+all_entries P (_ ∷ outcomes) are = all_entries P outcomes are.1
 
 -- ---- in which slots a connection asks
 abbrev AsksInRange : PlacedEntry → Type 0
@@ -101,17 +92,14 @@ play_range placed heard plan command =
 
 ask_range : {asking new : SessionState} {ask : Ask} {outcome : Outcome} → AnswersAs asking new ask outcome
     → InEntry AsksInRange outcome
-ask_range (NoneAsked is) = tt
 ask_range {asking} (PlayAdmitted {plan = plan} {placed = placed} play) =
     play_range placed asking.heard plan play.command
 ask_range {asking} (PlayRefused {plan = plan} {placed = placed} play) =
     play_range placed asking.heard plan play.command
-ask_range (PlayFull is) = tt
 ask_range (PlayHalted halt) = halt_range halt
 ask_range (LookMade {placed = placed} look) =
     let none : asked_in placed.entry.command ≡ 0 = ap asked_in look.command in omega (arith, none)
-ask_range (LookFull is) = tt
-ask_range (OfferMade is) = tt
+ask_range _ = tt
 
 finish_range : {s new : SessionState} {awaited : Awaited} {halt : Outcome} → FinishesAs s new awaited halt
     → InEntry AsksInRange halt
@@ -142,13 +130,11 @@ range_kept = record {
 }
 
 -- a connection asks for no play in a slot after 2^62
-pub asked_range : (films : List Stored) (settings : Settings) (words : List ℕ) (doings : Activity)
-    (report : ConnReport) → HasDone films settings words doings report
-    → All AsksInRange (entries_in (doings_outcomes doings))
-asked_range films settings words doings report done =
+pub asked_range : {films : List Stored} {settings : Settings} {words : List ℕ} {doings : Activity} {report : ConnReport}
+    → HasDone films settings words doings report → All AsksInRange (entries_in (doings_outcomes doings))
+asked_range {doings = doings} done =
     all_entries AsksInRange (doings_outcomes doings)
-    (subst (InEntries AsksInRange) (turns_told films settings words doings report done)
-    (doings_kept range_kept films settings words doings report done))
+    (subst (InEntries AsksInRange) (turns_told done) (doings_kept done range_kept))
 
 -- ---- the latest slot in which a play was asked for
 abbrev later : ℕ → Entry → ℕ
@@ -180,7 +166,7 @@ later_most most base (x ∷ xs) few all =
 
 made_range : (e : Entry) → IsMadeByConnection e → asked_in e.command ≤ 2 ^ 62
 made_range e made =
-    let all = asked_range made.films made.settings made.words made.doings made.report made.done in
+    let all = asked_range made.done in
     subst (λ (x : Entry). asked_in x.command ≤ 2 ^ 62) made.entry_is
     (All-contains AsksInRange (entries_in (doings_outcomes made.doings)) made.placed all made.among)
 
@@ -201,8 +187,7 @@ StartsNext journal placed = (start : ℕ) → placed.entry.answer ≡ Admitted s
 answer_start : (steps : List CapStep) (state : State) (command : Command) (start : ℕ)
     → IsAnswer steps state command (Admitted start) → start ≡ max state.now (asked_in command) + 1
 answer_start steps state (PlayCommand slot segments) start is = is.0
-answer_start steps state (HaltCommand number keep) start is = absurd is
-answer_start steps state (LookCommand slot) start is = absurd is
+answer_start steps state _ start is = absurd is
 
 stands_next : {terms : Terms} {journal : List Entry} (from : ℕ) (placed : PlacedEntry) → IsLegal terms.steps journal
     → StandsIn terms journal from placed → StartsNext journal placed
@@ -235,13 +220,10 @@ agree_next terms journal from (Offered at_slot note ∷ outcomes) legal agree =
 
 ending_entries : (P : PlacedEntry → Type 0) (ending : Ending) → InEntries P (ending_outcomes ending)
     → InEntries P (rounds_outcomes (ending_rounds ending))
-ending_entries P Unheard are = tt
-ending_entries P PeerEnded are = tt
-ending_entries P (Overfull bytes) are = tt
 ending_entries P (AtElement round) are = entries_join P (round_outcomes round) [] are tt
-ending_entries P (InSlot slot front) are = tt
 ending_entries P (InReply round message outcome front) are =
     entries_join P (round_outcomes round) [] (entries_front P (round_outcomes round) (outcome ∷ []) are) tt
+ending_entries P _ are = tt
 
 course_entries : (P : PlacedEntry → Type 0) (rounds : List Round) (ending : Ending)
     → InEntries P (rounds_outcomes rounds) → InEntries P (ending_outcomes ending)
@@ -267,21 +249,13 @@ admitted_starts S (Play prepared) (Admitted start) askings starts =
       before = prepared.run.sent;
       pieces = run_pieces prepared.frames;
     }) [] (starts start refl) (All-nil (Begins S))
-admitted_starts S (Play prepared) (Overflow slot booked asked) askings starts = All-nil (Begins S)
-admitted_starts S (Play prepared) Halted askings starts = All-nil (Begins S)
-admitted_starts S (Play prepared) (Looked now at booked) askings starts = All-nil (Begins S)
-admitted_starts S Nothing answer askings starts = All-nil (Begins S)
-admitted_starts S (Halt keep next) answer askings starts = All-nil (Begins S)
-admitted_starts S (Look sequence) answer askings starts = All-nil (Begins S)
-admitted_starts S (Offer sequence) answer askings starts = All-nil (Begins S)
+admitted_starts S _ _ askings starts = All-nil (Begins S)
 
 begun_starts : (journal : List Entry) (asked : Awaited) (outcome : Outcome) (askings : List StationRequest)
     → InEntry (StartsNext journal) outcome → All (Begins (IsNext journal)) (plays_begun asked outcome askings)
-begun_starts journal asked Unasked askings next = All-nil (Begins (IsNext journal))
 begun_starts journal asked (Entered placed) askings next =
     admitted_starts (IsNext journal) asked placed.entry.answer askings next
-begun_starts journal asked (WasFull more entries live) askings next = All-nil (Begins (IsNext journal))
-begun_starts journal asked (Offered at_slot note) askings next = All-nil (Begins (IsNext journal))
+begun_starts journal asked _ askings next = All-nil (Begins (IsNext journal))
 
 plays_start : (journal : List Entry) (askings : List StationRequest)
     → InEntries (StartsNext journal) (outcomes_in askings) → All (Begins (IsNext journal)) (plays_of askings)

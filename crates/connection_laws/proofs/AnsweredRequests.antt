@@ -29,7 +29,7 @@ good_replies {wish} {stored} {course} asked few played =
     let b = beginning_of asked in
     let read : AreRead b 1 (course_replies course) = (one_play asked).read few in
     let ordered : map text_of (course_texts course) ++ waiting ≡ course_replies course =
-    replies_in_order course.films course.settings course.words course.rounds course.last course.follows in
+    replies_in_order course in
     let texts : map text_of (course_texts course) ++ waiting
     ≡ played.setup ∷ played.played ∷ (map text_of played.later ++ waiting) =
     ap (λ ts. map text_of ts ++ waiting) played.texts in

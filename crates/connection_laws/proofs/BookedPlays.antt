@@ -16,16 +16,13 @@ use Rattle.session.specs.declared.states.Awaited.TheVariants.{Play}
 use Rattle.session.specs.SessionStates.{SessionState}
 use Rattle.conn.specs.EventSteps.{Round, entries_in, round_outcomes, rounds_outcomes, takings_outcomes}
 use Rattle.conn.specs.InputSteps.{Outcome, Unasked, Entered, WasFull, Offered, SentPart, Stage, ElementStep, Passed}
-use Rattle.conn.specs.InputSteps.{Answered}
-use Rattle.conn.specs.InputSteps.{TakesAll, entry_in}
+use Rattle.conn.specs.InputSteps.{Answered, TakesAll, entry_in}
 use Rattle.connection_laws.specs.Courses.{IsCourseBetween, asked_by, askings_of, first_stage, round_askings}
-use Rattle.connection_laws.specs.Courses.{takings_askings}
+use Rattle.connection_laws.specs.Courses.{takings_askings, Course, course_plays}
 use Rattle.connection_laws.specs.Plays.{StationRequest, Asks, plays_admitted, plays_begun, booked_by, booked_plays}
-use Rattle.connection_laws.specs.Plays.{booking_of}
-use Rattle.connection_laws.specs.Plays.{kept_among, kept_in, kept_with, plays_of}
+use Rattle.connection_laws.specs.Plays.{booking_of, kept_among, kept_in, kept_with, plays_of}
 use Rattle.connection_laws.proofs.RequestEffects.{Ends, Starts, Stays, TurnsAs, told_by, turns_as}
-use Rattle.connection_laws.proofs.StationAnswers.{FinishesAs, NothingLeft, DoneHalted}
-use Rattle.connection_laws.proofs.StationAnswers.{ComesAs, BytesCame, SlotCame}
+use Rattle.connection_laws.proofs.StationAnswers.{FinishesAs, NothingLeft, DoneHalted, ComesAs, BytesCame, SlotCame}
 use Rattle.connection_laws.proofs.CourseAskings.{IsKeptByAskings, course_kept}
 
 -- the play that begins is the one that the entry records, if any
@@ -46,16 +43,12 @@ outcomes_in (Asks asked outcome ∷ askings) = outcome ∷ outcomes_in askings
 pub kept_more : (outcome : Outcome) (made : List PlacedEntry) (all : ℕ)
     → kept_with outcome (kept_among made all) ≡ kept_among (entry_in outcome ++ made) all
 kept_more Unasked made all = refl
-kept_more (Entered placed) made all = refl
-kept_more (WasFull more entries live) made all = refl
-kept_more (Offered at_slot note) made all = refl
+kept_more _ made all = refl
 
 told_more : (outcome : Outcome) (made : List PlacedEntry)
     → told_by outcome made ++ booked_plays made ≡ booked_plays (entry_in outcome ++ made)
 told_more Unasked made = refl
-told_more (Entered placed) made = refl
-told_more (WasFull more entries live) made = refl
-told_more (Offered at_slot note) made = refl
+told_more _ made = refl
 
 kept_same : (askings : List StationRequest) (all : ℕ) → kept_in askings all ≡ kept_among (entries_in (outcomes_in
     askings)) all
@@ -147,12 +140,10 @@ course_outcomes old new (round ∷ rounds) follows =
     ∙ ap (λ os. round_outcomes round ++ os) (course_outcomes follows.0 new rounds follows.1.1)
 
 -- the plays of a course are those that its entries record
-pub plays_booked : (films : List Stored) (settings : Settings) (words : List ℕ) (rounds : List Round) (new : Stage)
-    (follows : IsCourseBetween (first_stage films settings words) rounds new)
-    → map booking_of (plays_of (askings_of (first_stage films settings words) rounds new follows))
-    ≡ booked_plays (entries_in (rounds_outcomes rounds))
-plays_booked films settings words rounds new follows =
-    let first : Stage = first_stage films settings words in
-    let made : List StationRequest = askings_of first rounds new follows in
-    plays_told made (course_kept told_kept first new rounds follows (record { rest = refl; sound = tt }))
-    ∙ ap (λ os. booked_plays (entries_in os)) (course_outcomes first new rounds follows)
+pub plays_booked : (course : Course)
+    → map booking_of (course_plays course) ≡ booked_plays (entries_in (rounds_outcomes course.rounds))
+plays_booked course =
+    let first : Stage = first_stage course.films course.settings course.words in
+    plays_told (askings_of first course.rounds course.last course.follows)
+    (course_kept told_kept first course.last course.rounds course.follows (record { rest = refl; sound = tt }))
+    ∙ ap (λ os. booked_plays (entries_in os)) (course_outcomes first course.last course.rounds course.follows)

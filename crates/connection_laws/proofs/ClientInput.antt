@@ -1,7 +1,6 @@
 -- What a client has received, event by event: the first elements of the bytes that came.
-use Rattle.std.proofs.Common.{◌≡◌, ℕ, ◌+◌, ◌<◌, ◌≤◌, ◌==◌, ◌||◌, Bool, true, false, nat_lt, List}
-use Rattle.std.proofs.Common.{[], ◌∷◌, ◌++◌, take, refl, sym, ap, ap₂, subst, ◌∙◌, append_assoc}
-use Rattle.std.proofs.Common.{arith, inl, inr}
+use Rattle.std.proofs.Common.{◌≡◌, ℕ, ◌+◌, ◌<◌, ◌≤◌, ◌==◌, ◌||◌, Bool, true, false, nat_lt, List, [], ◌∷◌, ◌++◌, take}
+use Rattle.std.proofs.Common.{refl, sym, ap, ap₂, subst, ◌∙◌, append_assoc, arith, inl, inr}
 use Rattle.std.proofs.lemmas.Bool.{cond-false, ne_eqb}
 use Rattle.std.proofs.lemmas.List.{append-nil}
 use Rattle.vod_base.specs.Links.{IoEvent, HeardBytes, HeardEnd, HeardSlot, Sent}
@@ -100,8 +99,7 @@ heard_event {bytes} {old} {new} (HeardSlot slot) moments heard brings good histo
     } in
     let B : List ℕ → Type 0 = λ b. Heard b new in
     subst B (sym (append-nil bytes)) (subst (Heard bytes) is mid)
-heard_event {new} HeardEnd moments heard brings good history = absurd brings
-heard_event {new} (Sent byte) moments heard brings good history = absurd brings
+heard_event _ moments heard brings good history = absurd brings
 
 pub heard_round : (bytes : List ℕ) (old new : WatchStage) (round : Round) → Heard bytes old → Runs old round new
     → Heard (bytes ++ bytes_in round.event) new
@@ -132,9 +130,7 @@ slot_once h (Reply m) playing =
           (cond-false (replies h == 1) _ (slot_before h) other),
       omega (arith, playing),
     )
-slot_once h (Frame b) playing = (refl, playing)
-slot_once h (Report b) playing = (refl, playing)
-slot_once h (Slot t cut) playing = (refl, playing)
+slot_once h _ playing = (refl, playing)
 
 pub slot_stays : (h : History) (ms : List ClientEvent) → 1 < replies h → first_slot (history_after h ms) ≡ first_slot h
 slot_stays h [] playing = refl

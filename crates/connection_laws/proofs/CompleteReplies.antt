@@ -1,15 +1,14 @@
 -- Each reply to a client's SETUP, PLAY and TEARDOWN is a complete message.
 use Rattle.std.specs.Prelude.{⊤}
-use Rattle.std.proofs.Common.{◌≡◌, ℕ, ◌<◌, ◌≤◌, ◌^◌, ◌⊎◌, true, nat_lt, nat_le, List, [], ◌∷◌, ◌++◌}
-use Rattle.std.proofs.Common.{◌&&◌, ◌==◌, not, map, get_or, codes, decimal, string_bytes, length, sym, ap, subst}
-use Rattle.std.proofs.Common.{◌∙◌, arith, inl, inr}
+use Rattle.std.proofs.Common.{◌≡◌, ℕ, ◌<◌, ◌≤◌, ◌^◌, ◌⊎◌, true, nat_lt, nat_le, List, [], ◌∷◌, ◌++◌, ◌&&◌, ◌==◌, not}
+use Rattle.std.proofs.Common.{map, get_or, codes, decimal, string_bytes, length, sym, ap, subst, ◌∙◌, arith, inl, inr}
 use Rattle.std.specs.List.{list_all}
 use Rattle.std.proofs.lemmas.Bool.{and_parts}
 use Rattle.std.proofs.lemmas.Bool.Decides.{nat_tests}
 use Rattle.std.proofs.lemmas.Fmt.{length-decimal-le}
 use Rattle.std.proofs.lemmas.List.{length-append}
 use Rattle.film_frames.specs.declared.stored_films.Stored.{Stored}
-use Rattle.admission.specs.declared.entries.Answer.TheVariants.{Admitted, Halted}
+use Rattle.admission.specs.declared.entries.Answer.TheVariants.{Admitted, Halted, Overflow, Looked}
 use Rattle.admission.specs.Makers.{PlacedEntry}
 use Rattle.rtsp_client.specs.RequestParts.{teardown_parts}
 use Rattle.rtsp_client.specs.Requests.{film_url, play_text, setup_text, teardown_text}
@@ -24,11 +23,10 @@ use Rattle.session.specs.declared.commands.Ask.{Ask}
 use Rattle.session.specs.declared.commands.Ask.TheVariants.{Reply as AskReply, Play as AskPlay, Halt as AskHalt}
 use Rattle.session.specs.declared.commands.Ask.TheVariants.{Look as AskLook, Offer as AskOffer}
 use Rattle.session_laws.specs.EndLaws.{HaltsPlay}
-use Rattle.session.specs.Laws.{IsTeardown}
+use Rattle.session.specs.Laws.{IsTeardown, InitStage, PlayingStage, ReadyStage, StateKind as SessionStage, stage_of}
 use Rattle.session_laws.specs.MethodLaws.{setup_in}
 use Rattle.rtsp_replies.specs.Replies.{session_text}
 use Rattle.session.specs.RequestSteps.{Hears, after_admission}
-use Rattle.session.specs.Laws.{InitStage, PlayingStage, ReadyStage, StateKind as SessionStage, stage_of}
 use Rattle.film_streams.specs.SettingRanges.{AreFilms}
 use Rattle.session.specs.SessionStates.{SessionState}
 use Rattle.session_laws.specs.CompleteReplies.{HasValidIds, LeavesRoom, RepliesAreComplete}
@@ -36,8 +34,8 @@ use Rattle.rtsp_replies.specs.Messages.{IsMessage}
 use Rattle.session_laws.proofs.PauseTeardownLemmas.{teardown_ends}
 use Rattle.session_laws.proofs.CompleteReplyLemmas.{keeps_named, replies_whole}
 use Rattle.conn.specs.EventSteps.{Round, Runs}
-use Rattle.conn.specs.InputSteps.{Answered, Entered, HasHeard, IsReplied}
-use Rattle.conn.specs.InputSteps.{Outcome, SentPart, Passed, Stage, ElementStep, TakesAll}
+use Rattle.conn.specs.InputSteps.{Answered, Entered, HasHeard, IsReplied, Outcome, SentPart, Passed, Stage, ElementStep}
+use Rattle.conn.specs.InputSteps.{TakesAll}
 use Rattle.connection_laws.specs.Courses.{IsCourseBetween}
 use Rattle.connection_laws.specs.Replies.{PlacedText, replies_of, takings_replies, text_of}
 use Rattle.connection_laws.proofs.KeptParts.{answered_names, names_in, replied_names}
@@ -50,7 +48,6 @@ use Rattle.connection_laws.proofs.ReplyReadings.{teardown_read as read_teardown}
 use Rattle.connection_laws.proofs.RequestReplies.{IsNamed, named_still, teardown_replied}
 use Rattle.connection_laws.proofs.StationAnswers.{AnswersAs, NoneAsked, PlayAdmitted, PlayRefused, PlayFull, PlayHalted}
 use Rattle.connection_laws.proofs.StationAnswers.{LookMade, LookFull, OfferMade, answers_as}
-use Rattle.admission.specs.declared.entries.Answer.TheVariants.{Overflow, Looked}
 
 -- ---- the films and the id stay
 
@@ -80,10 +77,8 @@ opened_named runs named = named_as (opened_setup runs).names named
 -- the reply is the session's own, at once or once a play was halted
 abbrev IsOwnReply : Ask → Type 0
 IsOwnReply AskReply = ⊤
-IsOwnReply (AskPlay plan) = ⊥
 IsOwnReply (AskHalt keep) = ⊤
-IsOwnReply (AskLook slot) = ⊥
-IsOwnReply (AskOffer plan offers) = ⊥
+IsOwnReply _ = ⊥
 
 -- the session's own reply is the one that it made, and what SETUP settled stays
 record OwnReply (asking new : SessionState) (ask : Ask) : Type 0 where
@@ -103,12 +98,7 @@ own_reply {asking} (PlayHalted halt) own = record {
   text = ap (λ (s : SessionState). s.text) halt.halts;
   setup = ap (λ (s : SessionState). setup_in s.state) halt.halts ∙ halted_setup asking.state asking.awaited;
 }
-own_reply (PlayAdmitted play) own = absurd own
-own_reply (PlayRefused play) own = absurd own
-own_reply (PlayFull is) own = absurd own
-own_reply (LookMade look) own = absurd own
-own_reply (LookFull is) own = absurd own
-own_reply (OfferMade is) own = absurd own
+own_reply _ own = absurd own
 
 own_whole : {asking new : SessionState} {ask : Ask} {outcome : Outcome} → AnswersAs asking new ask outcome
     → IsOwnReply ask → RepliesAreComplete ask asking → IsMessage new.text
@@ -153,9 +143,8 @@ reply_whole {outcome = outcome} heard is whole =
 -- ---- TEARDOWN
 
 own_halt : (stage : SessionStage) (ask : Ask) → HaltsPlay stage ask → IsOwnReply ask
-own_halt InitStage ask is = subst IsOwnReply (sym is) tt
-own_halt ReadyStage ask is = subst IsOwnReply (sym is) tt
 own_halt PlayingStage ask is = subst IsOwnReply (sym is.1) tt
+own_halt _ ask is = subst IsOwnReply (sym is) tt
 
 teardown_read : (b : Beginning) (old new : SessionState) {message : List ℕ} {ask : Ask}
     → message ≡ teardown_text b.wish b.session → Hears old message ask new

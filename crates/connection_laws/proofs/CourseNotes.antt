@@ -1,6 +1,6 @@
 -- The notes of a connection's report, event by event.
-use Rattle.std.proofs.Common.{◌≡◌, ℕ, ◌++◌, if◌then◌else◌, Bool, true, false, List, [], ◌∷◌, None}
-use Rattle.std.proofs.Common.{refl, sym, ap, subst, ◌∙◌}
+use Rattle.std.proofs.Common.{◌≡◌, ℕ, ◌++◌, if◌then◌else◌, Bool, true, false, List, [], ◌∷◌, None, refl, sym, ap, subst}
+use Rattle.std.proofs.Common.{◌∙◌, Option, Some}
 use Rattle.std.proofs.lemmas.List.{append-nil}
 use Rattle.film_frames.specs.declared.stored_films.Stored.{Stored}
 use Rattle.film_streams.specs.declared.settings.Settings.{Settings}
@@ -9,25 +9,19 @@ use Rattle.session.specs.declared.states.Awaited.TheVariants.{Nothing, Play, Hal
 use Rattle.session.specs.declared.states.AfterHalt.{AfterHalt}
 use Rattle.session.specs.declared.states.State.{State}
 use Rattle.session.specs.declared.states.State.TheVariants.{Init, Ready, Playing, Stopping}
-use Rattle.session.specs.SlotSteps.{due_state, is_between}
-use Rattle.session.specs.SlotSteps.{kept_of, sent_reply, after_slot}
-use Rattle.session.specs.SlotSteps.{stepped_in}
-use Rattle.session.specs.SessionStates.{SessionState, open_in}
+use Rattle.session.specs.SlotSteps.{due_state, is_between, kept_of, sent_reply, after_slot, stepped_in}
+use Rattle.session.specs.SessionStates.{SessionState, open_in, OpenBooking, open_of}
 use Rattle.session.specs.SlotTransitions.{IsCarried, after_stop}
 use Rattle.conn.specs.InputSteps.{Outcome, Unasked}
 use Rattle.conn.specs.declared.reports.ConnReport.{ConnReport}
 use Rattle.conn.specs.Agreement.{Activity, HasDone}
-use Rattle.connection_laws.specs.Notes.{StationCall, notes_of_calls, notes_of}
-use Rattle.connection_laws.specs.Notes.{station_call}
-use Rattle.connection_laws.specs.Notes.{station_calls}
-use Rattle.connection_laws.proofs.PlayNotes.{Carries, IsKept, carries_as, carries_none, carries_then}
-use Rattle.connection_laws.proofs.PlayNotes.{halt_turn, halted_open, heard_on, no_halt_note, no_note}
-use Rattle.connection_laws.proofs.PlayNotes.{notes_until, open_note, unasked_turn}
-use Rattle.connection_laws.proofs.StationAnswers.{FinishesAs, NothingLeft, DoneHalted}
-use Rattle.connection_laws.proofs.StationAnswers.{ClosesAs, NothingOpen, BookingHalted, closes_as}
-use Rattle.connection_laws.proofs.CourseTurns.{IsKeptByDoings, doings_kept, last_rest}
-use Rattle.std.proofs.Common.{Option, Some}
-use Rattle.session.specs.SessionStates.{OpenBooking, open_of}
+use Rattle.connection_laws.specs.Notes.{StationCall, notes_of_calls, notes_of, station_call, station_calls}
+use Rattle.connection_laws.proofs.PlayNotes.{Carries, IsKept, carries_as, carries_none, carries_then, halt_turn}
+use Rattle.connection_laws.proofs.PlayNotes.{halted_open, heard_on, no_halt_note, no_note, notes_until, open_note}
+use Rattle.connection_laws.proofs.PlayNotes.{unasked_turn}
+use Rattle.connection_laws.proofs.StationAnswers.{FinishesAs, NothingLeft, DoneHalted, ClosesAs, NothingOpen}
+use Rattle.connection_laws.proofs.StationAnswers.{BookingHalted, closes_as}
+use Rattle.connection_laws.proofs.CourseTurns.{IsKeptByDoings, doings_kept, last_rest, all_calls}
 use Rattle.connection_laws.proofs.KeptParts.{slot_keeps}
 
 abbrev CarriesOf : SessionState → List StationCall → SessionState → Type 0
@@ -47,9 +41,7 @@ to_same old mid new turns same on =
 stepped_open : (stop : Bool) (slot : ℕ) (state : State) (later : List StationCall)
     → open_note (stepped_in stop slot state) later ≡ open_note state later
 stepped_open stop slot Init later = refl
-stepped_open stop slot (Ready setup paused) later = refl
-stepped_open stop slot (Playing setup play) later = refl
-stepped_open stop slot (Stopping setup stopping) later = refl
+stepped_open stop slot _ later = refl
 
 between_open : (between : Bool) (slot : ℕ) (state : State) (later : List StationCall)
     → open_note (if between then stepped_in false slot (stepped_in true slot state) else stepped_in true slot
@@ -65,9 +57,7 @@ due_open false slot state later = stepped_open false slot state later
 
 settled_open : (state : State) (later : List StationCall) → open_note (after_stop state) later ≡ open_note state later
 settled_open Init later = refl
-settled_open (Ready setup paused) later = refl
-settled_open (Playing setup play) later = refl
-settled_open (Stopping setup stop) later = refl
+settled_open _ later = refl
 
 slotted_same : (old : SessionState) (slot : ℕ) → IsSame old (after_slot old slot)
 slotted_same old slot = record {
@@ -87,10 +77,8 @@ slotted_same old slot = record {
 
 kept_halt : (state : State) (awaited : Awaited) (keep : ℕ) (next : AfterHalt) → awaited ≡ Halt keep next
     → IsKept state awaited keep
-kept_halt Init awaited keep next is = tt
-kept_halt (Ready setup paused) awaited keep next is = tt
 kept_halt (Playing setup play) awaited keep next is = ap (λ a. kept_of a play.pacer.due) is
-kept_halt (Stopping setup stop) awaited keep next is = tt
+kept_halt _ awaited keep next is = tt
 
 finished_turn : {s new : SessionState} {awaited : Awaited} {halt : Outcome} → FinishesAs s new awaited halt
     → s.awaited ≡ awaited → CarriesOf s (station_call s halt ∷ []) new
@@ -105,22 +93,11 @@ finished_turn {s} {new} (DoneHalted {keep = keep} {next = next} {placed = placed
 carried_open : (old new : State) → IsCarried old new → (later : List StationCall) → open_note new later ≡ open_note old
     later
 carried_open Init Init carried later = refl
-carried_open Init (Ready s p) carried later = absurd carried
-carried_open Init (Playing s p) carried later = absurd carried
-carried_open Init (Stopping s p) carried later = absurd carried
-carried_open (Ready setup paused) Init carried later = absurd carried
 carried_open (Ready setup paused) (Ready s p) carried later = refl
-carried_open (Ready setup paused) (Playing s p) carried later = absurd carried
-carried_open (Ready setup paused) (Stopping s p) carried later = absurd carried
-carried_open (Playing setup play) Init carried later = absurd carried
-carried_open (Playing setup play) (Ready s p) carried later = absurd carried
 carried_open (Playing setup play) (Playing s p) carried later =
     rw carried.0 (rw carried.1 (rw carried.2 (rw carried.3 (rw carried.4 refl))))
-carried_open (Playing setup play) (Stopping s p) carried later = absurd carried
-carried_open (Stopping setup stop) Init carried later = absurd carried
-carried_open (Stopping setup stop) (Ready s p) carried later = absurd carried
-carried_open (Stopping setup stop) (Playing s p) carried later = absurd carried
 carried_open (Stopping setup stop) (Stopping s p) carried later = refl
+carried_open _ _ carried later = absurd carried
 
 -- ---- the halt of a booking that is open at the end
 record IsShut (last closed : SessionState) (halt : Outcome) : Type 0 where
@@ -128,19 +105,15 @@ record IsShut (last closed : SessionState) (halt : Outcome) : Type 0 where
   none : (later : List StationCall) → open_note closed.state later ≡ []
 
 none_open : (state : State) (later : List StationCall) → open_in state ≡ None → open_note state later ≡ []
-none_open Init later none = refl
-none_open (Ready setup paused) later none = refl
 none_open (Playing setup play) later none = absurd (let no : ⊥ = cc in no)
-none_open (Stopping setup stop) later none = refl
+none_open _ later none = refl
 
 kept_open : {booking : OpenBooking} (state : State) (awaited : Awaited) → open_in state ≡ Some booking
     → awaited ≡ Nothing → IsKept state awaited booking.due
-kept_open Init awaited opens rest = tt
-kept_open (Ready setup paused) awaited opens rest = tt
 kept_open {booking} (Playing setup play) awaited opens rest =
     let same : record { plan = play.plan; start = play.start; due = play.pacer.due } ≡ booking = cc in
     ap (λ a. kept_of a play.pacer.due) rest ∙ ap (λ (b : OpenBooking). b.due) same
-kept_open (Stopping setup stop) awaited opens rest = tt
+kept_open _ awaited opens rest = tt
 
 shut : {last closed : SessionState} {held : Option OpenBooking} {halt : Outcome} → ClosesAs last closed held halt
     → open_of last ≡ held → last.awaited ≡ Nothing → IsShut last closed halt
@@ -184,13 +157,10 @@ until_none (turn ∷ turns) =
     ap (λ ts. notes_of_calls turn.asking turn.outcome ts ++ notes_until turns []) (append-nil turns)
     ∙ ap (λ ns. notes_of_calls turn.asking turn.outcome turns ++ ns) (until_none turns)
 
-pub plays_noted : (films : List Stored) (settings : Settings) (words : List ℕ) (doings : Activity) (report : ConnReport)
-    (done : HasDone films settings words doings report)
-    → report.plays.items ≡ notes_of (station_calls films settings words doings report done)
-plays_noted films settings words doings report done =
-    let turns = station_calls films settings words doings report done in
-    let all = doings_kept carries_kept films settings words doings report done in
-    let closed = shut (closes_as (open_of done.last.session) doings.halt done.closes) refl
-    (last_rest films settings words doings report done) in
+pub plays_noted : {films : List Stored} {settings : Settings} {words : List ℕ} {doings : Activity} {report : ConnReport}
+    (done : HasDone films settings words doings report) → report.plays.items ≡ notes_of (all_calls done)
+plays_noted {doings = doings} done =
+    let all = doings_kept done carries_kept in
+    let closed = shut (closes_as (open_of done.last.session) doings.halt done.closes) refl (last_rest done) in
     done.report_is.plays ∙ sym (append-nil done.closed.plays)
-    ∙ ap (λ ns. done.closed.plays ++ ns) (sym (closed.none [])) ∙ sym (all.on []) ∙ until_none turns
+    ∙ ap (λ ns. done.closed.plays ++ ns) (sym (closed.none [])) ∙ sym (all.on []) ∙ until_none (all_calls done)

@@ -1,7 +1,6 @@
 -- The replies of a connection's course, one after another, each at its place.
-use Rattle.std.proofs.Common.{◌≡◌, ℕ, ◌+◌, ◌-◌, ◌<◌, ◌≤◌, ◌++◌, Bool, min, max}
-use Rattle.std.proofs.Common.{List, [], ◌∷◌, Option, Some, None, refl, ap, sym, ◌∙◌, subst, inl}
-use Rattle.std.proofs.Common.{inr, arith}
+use Rattle.std.proofs.Common.{◌≡◌, ℕ, ◌+◌, ◌-◌, ◌<◌, ◌≤◌, ◌++◌, Bool, min, max, List, [], ◌∷◌, Option, Some, None, refl}
+use Rattle.std.proofs.Common.{ap, sym, ◌∙◌, subst, inl, inr, arith}
 use Rattle.std.proofs.lemmas.List.{append-nil}
 use Rattle.vod_base.specs.Links.{IoEvent}
 use Rattle.film_frames.specs.declared.stored_films.Stored.{Stored}
@@ -13,10 +12,10 @@ use Rattle.conn.specs.Films.{rounds_parts, takings_parts}
 use Rattle.conn.specs.EventSteps.{Round, Runs}
 use Rattle.conn.specs.InputSteps.{Outcome, SentPart, Stage}
 use Rattle.connection_laws.specs.Courses.{IsCourseBetween, asked_by, askings_of, first_stage, greatest_slot}
-use Rattle.connection_laws.specs.Courses.{round_askings, slot_in}
+use Rattle.connection_laws.specs.Courses.{round_askings, slot_in, Course, course_plays}
 use Rattle.connection_laws.specs.ReplyPlaces.{AreSentAt, IsBoundaryIn, slots_from, takings_slots}
 use Rattle.connection_laws.specs.Plays.{StationRequest, Asks, due_by as all_due, due_of, plays_of}
-use Rattle.connection_laws.specs.Replies.{placed_texts}
+use Rattle.connection_laws.specs.Replies.{placed_texts, course_texts}
 use Rattle.connection_laws.proofs.FilmBytes.{Stands, course_step, opened_stands, round_step, stands_by}
 use Rattle.connection_laws.proofs.JoinedFilms.{IsOnTime, IsSound, play_with}
 use Rattle.connection_laws.proofs.KeptParts.{takes_heard}
@@ -27,6 +26,7 @@ use Rattle.connection_laws.proofs.WaitingReplies.{Fits, IsHeld, IsHeldUp, Stand,
 use Rattle.connection_laws.proofs.SessionMoves.{HeldIn, Move, move_none, move_then, takes_move}
 use Rattle.connection_laws.proofs.SlotMoves.{StandingHeld, slot_move, still_move}
 use Rattle.connection_laws.proofs.StationAnswers.{ComesAs, BytesCame, SlotCame, comes_as}
+use Rattle.session.specs.SessionStates.{SessionState}
 
 comes_move : {old opened : Stage} {event : IoEvent} {due : List SentPart} {halt : Outcome} {pending : Option ℕ}
     → ComesAs old opened event due halt → StandingHeld old.session pending
@@ -135,31 +135,25 @@ end_stand (Ending p) waits heard (Some slot) sound held =
       );
     }
 
-course_sound : (old new : Stage) (rounds : List Round) (follows : IsCourseBetween old rounds new) → Stands old.session
-    → IsSound (sends_in new.session.state) new.session.waits new.session.heard
-course_sound old new rounds follows stands = (course_step old new rounds follows stands).on.sound
-
-pub replies_sent : (films : List Stored) (settings : Settings) (words : List ℕ) (rounds : List Round) (new : Stage)
-    (follows : IsCourseBetween (first_stage films settings words) rounds new)
-    → AreSentAt (greatest_slot rounds)
-    (plays_of (askings_of (first_stage films settings words) rounds new follows)) (slots_from 0 rounds)
-    (placed_texts 0 (rounds_parts rounds))
-replies_sent films settings words rounds new follows =
-    let first : Stage = first_stage films settings words in
+pub replies_sent : (course : Course) → AreSentAt (greatest_slot course.rounds) (course_plays course)
+    (slots_from 0 course.rounds) (course_texts course)
+replies_sent course =
+    let first : Stage = first_stage course.films course.settings course.words in
     let stands : Stands first.session = record { rest = refl; sound = tt } in
-    let made : List StationRequest = askings_of first rounds new follows in
-    let slots : List ℕ = slots_from 0 rounds in
-    let parts : List SentPart = rounds_parts rounds in
-    let heard : ℕ = new.session.heard in
-    let move = course_move {pending = None} first new rounds follows stands refl in
-    let ends : Fits (point (sends_in new.session.state) heard move.after) [] heard [] [] = record {
+    let made : List StationRequest = askings_of first course.rounds course.last course.follows in
+    let slots : List ℕ = slots_from 0 course.rounds in
+    let parts : List SentPart = rounds_parts course.rounds in
+    let new : SessionState = course.last.session in
+    let heard : ℕ = new.heard in
+    let move = course_move {pending = None} first course.last course.rounds course.follows stands refl in
+    let sound = (course_step first course.last course.rounds course.follows stands).on.sound in
+    let fits = move.goes_on.rest [] heard [] [] (omega arith) (record {
       from = tt;
       later = record { starts = tt; begins = refl };
-      stand = end_stand (sends_in new.session.state) new.session.waits heard move.after
-          (course_sound first new rounds follows stands) move.held;
-    } in
-    let fits = move.goes_on.rest [] heard [] [] (omega arith) ends in
-    let last : heard ≡ greatest_slot rounds = course_heard first new rounds follows stands ∙ omega arith in
+      stand = end_stand (sends_in new.state) new.waits heard move.after sound move.held;
+    }) in
+    let last : heard ≡ greatest_slot course.rounds =
+    course_heard first course.last course.rounds course.follows stands ∙ omega arith in
     subst (λ t. AreSentAt t (plays_of made) slots (placed_texts 0 parts)) last
     (subst (λ ms. AreSentAt heard (plays_of ms) slots (placed_texts 0 parts)) (append-nil made)
     (subst (λ ss. AreSentAt heard (plays_of (made ++ [])) ss (placed_texts 0 parts)) (append-nil slots)

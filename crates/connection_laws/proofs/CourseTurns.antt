@@ -7,33 +7,27 @@ use Rattle.film_frames.specs.declared.stored_films.Stored.{Stored}
 use Rattle.film_streams.specs.declared.settings.Settings.{Settings}
 use Rattle.session.specs.declared.states.Awaited.{Awaited}
 use Rattle.session.specs.declared.states.Awaited.TheVariants.{Nothing}
-use Rattle.session.specs.SlotSteps.{can_reply}
-use Rattle.session.specs.SlotSteps.{sent_reply, after_slot}
-use Rattle.session.specs.SessionStates.{SessionState}
-use Rattle.conn.specs.EventSteps.{Ending, Unheard, PeerEnded, Overfull, AtElement, InSlot, InReply}
-use Rattle.conn.specs.EventSteps.{Ends, Round, Runs, RunsAll, ending_outcomes, round_outcomes}
-use Rattle.conn.specs.EventSteps.{rounds_outcomes, takings_outcomes}
-use Rattle.conn.specs.InputSteps.{Outcome, Unasked}
-use Rattle.conn.specs.InputSteps.{SentPart, Stage, ElementStep, Passed, Answered, TakesAll, after_reply}
-use Rattle.conn.specs.InputSteps.{film_bytes}
+use Rattle.session.specs.SlotSteps.{can_reply, sent_reply, after_slot}
+use Rattle.session.specs.SessionStates.{SessionState, OpenBooking, open_of}
+use Rattle.conn.specs.EventSteps.{Ending, Unheard, PeerEnded, Overfull, AtElement, InSlot, InReply, Ends, Round, Runs}
+use Rattle.conn.specs.EventSteps.{RunsAll, ending_outcomes, round_outcomes, rounds_outcomes, takings_outcomes}
+use Rattle.conn.specs.EventSteps.{HasFailedInSlot}
+use Rattle.conn.specs.InputSteps.{Outcome, Unasked, SentPart, Stage, ElementStep, Passed, Answered, TakesAll}
+use Rattle.conn.specs.InputSteps.{after_reply, film_bytes, HasHeard}
 use Rattle.conn.specs.declared.reports.ConnEnd.{ConnEnd}
 use Rattle.conn.specs.declared.reports.ConnReport.{ConnReport}
 use Rattle.conn.specs.Agreement.{Activity, HasDone, doings_outcomes}
 use Rattle.conn.specs.Films.{rounds_film}
 use Rattle.connection_laws.specs.Courses.{askings_of, first_stage, round_askings}
-use Rattle.connection_laws.specs.Notes.{StationCall, asking_at, ending_calls}
-use Rattle.connection_laws.specs.Notes.{outcome_of, round_calls, rounds_calls, taken_calls, station_call}
-use Rattle.connection_laws.specs.Notes.{station_calls}
+use Rattle.connection_laws.specs.Notes.{StationCall, asking_at, ending_calls, outcome_of, round_calls, rounds_calls}
+use Rattle.connection_laws.specs.Notes.{taken_calls, station_call, station_calls}
 use Rattle.connection_laws.proofs.FilmBytes.{Stands, course_step, round_step, stands_by, turn_after}
 use Rattle.connection_laws.proofs.RequestEffects.{turns_as}
 use Rattle.connection_laws.proofs.CourseJoins.{follows_all}
 use Rattle.session.proofs.StepInvariantLemmas.{nothing_of}
 use Rattle.conn.proofs.ReplyContents.{CourseEnd}
-use Rattle.connection_laws.proofs.StationAnswers.{ClosesAs, closes_as, FinishesAs}
-use Rattle.connection_laws.proofs.StationAnswers.{ComesAs, BytesCame, SlotCame, comes_as}
-use Rattle.session.specs.SessionStates.{OpenBooking, open_of}
-use Rattle.conn.specs.InputSteps.{HasHeard}
-use Rattle.conn.specs.EventSteps.{HasFailedInSlot}
+use Rattle.connection_laws.proofs.StationAnswers.{ClosesAs, closes_as, FinishesAs, ComesAs, BytesCame, SlotCame}
+use Rattle.connection_laws.proofs.StationAnswers.{comes_as}
 
 -- a relation between a session, what the station is asked and answers, and the session after it, which each doing of
 -- the session satisfies
@@ -109,8 +103,6 @@ module _ {R : SessionState → List StationCall → SessionState → Type 0} (ke
 
   ending_kept : (old new : Stage) (count : ℕ) (ending : Ending) (end : ConnEnd)
       (ends : Ends old count ending end new) → R old.session (ending_calls old count ending end new ends) new.session
-  ending_kept old new count Unheard end ends = still old new ends.1
-  ending_kept old new count PeerEnded end ends = still old new ends.1
   ending_kept old new count (Overfull bytes) end ends = still old new ends.3
   ending_kept old new count (AtElement round) end ends = round_kept old new round ends.0
   ending_kept old new count (InSlot slot front) end ends = kept.failed old new slot front ends.1
@@ -124,6 +116,7 @@ module _ {R : SessionState → List StationCall → SessionState → Type 0} (ke
       kept.joins old.session e.mid.session new.session (round_calls old round e.mid e.runs) (turn ∷ [])
       (round_kept old e.mid round e.runs)
       (subst (λ (t : Stage). R e.mid.session (turn ∷ []) t.session) (sym e.fails.new_is) last)
+  ending_kept old new count _ end ends = still old new ends.1
 
 -- ---- between doings nothing is awaited
 pub stands_all : (old new : Stage) (rounds : List Round) → RunsAll old rounds new → Stands old.session
@@ -140,8 +133,6 @@ stands_round old new round runs stands =
 
 pub ending_rest : {old : Stage} (ending : Ending) (ended : CourseEnd old ending) → Stands old.session →
     ended.new.session.awaited ≡ Nothing
-ending_rest Unheard ended stands = ap (λ (s : Stage). s.session.awaited) ended.ends.1 ∙ stands.rest
-ending_rest PeerEnded ended stands = ap (λ (s : Stage). s.session.awaited) ended.ends.1 ∙ stands.rest
 ending_rest (Overfull bytes) ended stands = ap (λ (s : Stage). s.session.awaited) ended.ends.3 ∙ stands.rest
 ending_rest {old} (AtElement round) ended stands = (stands_round old ended.new round ended.ends.0 stands).rest
 ending_rest (InSlot slot front) ended stands = nothing_of ended.new.session.awaited ended.ends.1.rest
@@ -152,33 +143,7 @@ ending_rest {old} (InReply round message outcome front) ended stands =
     (stands_round old e.mid round e.runs stands).rest in
     ap (λ (s : Stage). s.session.awaited) failed.new_is
     ∙ (turn_after e.mid.session failed.answered failed.heard.asking.awaited outcome turns).awaited
-
--- nothing is awaited as a connection ends
-pub last_rest : (films : List Stored) (settings : Settings) (words : List ℕ) (doings : Activity) (report : ConnReport)
-    (done : HasDone films settings words doings report) → done.last.session.awaited ≡ Nothing
-last_rest films settings words doings report done =
-    ending_rest doings.ending
-    (record { count = length doings.rounds; end = report.end; new = done.last; ends = done.ends })
-    (stands_all (first_stage films settings words) done.mid doings.rounds done.runs
-    (record { rest = refl; sound = tt }))
-
--- all that a connection did
-pub doings_kept : {R : SessionState → List StationCall → SessionState → Type 0} (kept : IsKeptByDoings R)
-    (films : List Stored) (settings : Settings) (words : List ℕ) (doings : Activity) (report : ConnReport)
-    (done : HasDone films settings words doings report)
-    → R (first_stage films settings words).session (station_calls films settings words doings report done) done.closed
-doings_kept {R} kept films settings words doings report done =
-    let first : Stage = first_stage films settings words in
-    let count = length doings.rounds in
-    let heard = rounds_calls first doings.rounds done.mid done.runs in
-    let ended = ending_calls done.mid count doings.ending report.end done.last done.ends in
-    let last : SessionState = done.last.session in
-    kept.joins first.session last done.closed (heard ++ ended) (station_call last doings.halt ∷ [])
-    (kept.joins first.session done.mid.session last heard ended
-    (rounds_kept kept first done.mid doings.rounds done.runs)
-    (ending_kept kept done.mid done.last count doings.ending report.end done.ends))
-    (kept.close (open_of last) doings.halt last done.closed (closes_as (open_of last) doings.halt done.closes) refl
-    (last_rest films settings words doings report done))
+ending_rest _ ended stands = ap (λ (s : Stage). s.session.awaited) ended.ends.1 ∙ stands.rest
 
 -- ---- the answers of turns are those of the doings
 takes_outcomes : (old new : Stage) (takings : List ElementStep) (takes : TakesAll old takings new)
@@ -205,25 +170,50 @@ rounds_outcomes_are old new (round ∷ rounds) runs =
 ending_outcomes_are : (old new : Stage) (count : ℕ) (ending : Ending) (end : ConnEnd)
     (ends : Ends old count ending end new)
     → map outcome_of (ending_calls old count ending end new ends) ≡ ending_outcomes ending
-ending_outcomes_are old new count Unheard end ends = refl
-ending_outcomes_are old new count PeerEnded end ends = refl
-ending_outcomes_are old new count (Overfull bytes) end ends = refl
 ending_outcomes_are old new count (AtElement round) end ends = round_outcomes_are old new round ends.0
-ending_outcomes_are old new count (InSlot slot front) end ends = refl
 ending_outcomes_are old new count (InReply round message outcome front) end ends =
     map-append outcome_of (round_calls old round ends.1.mid ends.1.runs)
     (station_call ends.1.fails.heard.asking outcome ∷ [])
     ∙ ap (λ os. os ++ outcome ∷ []) (round_outcomes_are old ends.1.mid round ends.1.runs)
+ending_outcomes_are old new count _ end ends = refl
 
-pub turns_told : (films : List Stored) (settings : Settings) (words : List ℕ) (doings : Activity) (report : ConnReport)
-    (done : HasDone films settings words doings report)
-    → map outcome_of (station_calls films settings words doings report done) ≡ doings_outcomes doings
-turns_told films settings words doings report done =
-    let first = first_stage films settings words in
-    let heard = rounds_calls first doings.rounds done.mid done.runs in
-    let ended = ending_calls done.mid (length doings.rounds) doings.ending report.end done.last done.ends in
-    map-append outcome_of (heard ++ ended) (station_call done.last.session doings.halt ∷ [])
-    ∙ ap (λ os. os ++ doings.halt ∷ []) (map-append outcome_of heard ended
-    ∙ ap (λ os. os ++ map outcome_of ended) (rounds_outcomes_are first done.mid doings.rounds done.runs)
-    ∙ ap (λ os. rounds_outcomes doings.rounds ++ os)
-    (ending_outcomes_are done.mid done.last (length doings.rounds) doings.ending report.end done.ends))
+-- ---- all that a connection did, up to its report
+module _ {films : List Stored} {settings : Settings} {words : List ℕ} {doings : Activity} {report : ConnReport}
+    (done : HasDone films settings words doings report) where
+  -- nothing is awaited as it ends
+  pub last_rest : done.last.session.awaited ≡ Nothing
+  last_rest =
+      ending_rest doings.ending
+      (record { count = length doings.rounds; end = report.end; new = done.last; ends = done.ends })
+      (stands_all (first_stage films settings words) done.mid doings.rounds done.runs
+      (record { rest = refl; sound = tt }))
+
+  abbrev pub all_calls : List StationCall
+  all_calls = station_calls films settings words doings report done
+
+  abbrev heard_calls : List StationCall
+  heard_calls = rounds_calls (first_stage films settings words) doings.rounds done.mid done.runs
+
+  abbrev ended_calls : List StationCall
+  ended_calls = ending_calls done.mid (length doings.rounds) doings.ending report.end done.last done.ends
+
+  pub doings_kept : {R : SessionState → List StationCall → SessionState → Type 0} → IsKeptByDoings R
+      → R (first_stage films settings words).session all_calls done.closed
+  doings_kept {R} kept =
+      let first : Stage = first_stage films settings words in
+      let last : SessionState = done.last.session in
+      kept.joins first.session last done.closed (heard_calls ++ ended_calls) (station_call last doings.halt ∷ [])
+      (kept.joins first.session done.mid.session last heard_calls ended_calls
+      (rounds_kept kept first done.mid doings.rounds done.runs)
+      (ending_kept kept done.mid done.last (length doings.rounds) doings.ending report.end done.ends))
+      (kept.close (open_of last) doings.halt last done.closed (closes_as (open_of last) doings.halt done.closes) refl
+      last_rest)
+
+  pub turns_told : map outcome_of all_calls ≡ doings_outcomes doings
+  turns_told =
+      map-append outcome_of (heard_calls ++ ended_calls) (station_call done.last.session doings.halt ∷ [])
+      ∙ ap (λ os. os ++ doings.halt ∷ []) (map-append outcome_of heard_calls ended_calls
+      ∙ ap (λ os. os ++ map outcome_of ended_calls)
+      (rounds_outcomes_are (first_stage films settings words) done.mid doings.rounds done.runs)
+      ∙ ap (λ os. rounds_outcomes doings.rounds ++ os)
+      (ending_outcomes_are done.mid done.last (length doings.rounds) doings.ending report.end done.ends))

@@ -1,8 +1,7 @@
 -- The elements of a connection's input that are processed, one after another: each byte CR or LF,
 -- each block, each request.
-use Rattle.std.proofs.Common.{◌≡◌, ◌⊎◌, ℕ, zero, suc, ◌<◌, ◌≤◌, ◌++◌, true, false, List, [], ◌∷◌}
-use Rattle.std.proofs.Common.{Ok, Err, length, take, drop, get_or, refl, ap, sym, ◌∙◌, subst, inl}
-use Rattle.std.proofs.Common.{inr, arith}
+use Rattle.std.proofs.Common.{◌≡◌, ◌⊎◌, ℕ, zero, suc, ◌<◌, ◌≤◌, ◌++◌, true, false, List, [], ◌∷◌, Ok, Err, length, take}
+use Rattle.std.proofs.Common.{drop, get_or, refl, ap, sym, ◌∙◌, subst, inl, inr, arith}
 use Rattle.std.proofs.lemmas.Bool.{both_ways, true≢false}
 use Rattle.std.proofs.lemmas.List.{append-nil, append_assoc, take-append-le, drop-append-le, length-append}
 use Rattle.std.proofs.lemmas.List.{get_or_append_left}
@@ -22,15 +21,13 @@ use Rattle.session.specs.SessionStates.{SessionState}
 use Rattle.session.proofs.RequestEffectLemmas.{hears_ground}
 use Rattle.conn.proofs.CourseSteps.{stage_is}
 use Rattle.conn.specs.EventSteps.{IsStopped, takings_bytes, takings_outcomes}
-use Rattle.conn.specs.InputSteps.{Answered, IsAskAnswered, IsNext, IsPassed, IsReplied, Outcome, SentPart}
-use Rattle.conn.specs.InputSteps.{Passed, Stage, ElementStep, TakesAll, after_reply, parts_bytes, reply_parts}
-use Rattle.conn.specs.InputSteps.{stage}
+use Rattle.conn.specs.InputSteps.{Answered, IsAskAnswered, IsNext, IsPassed, IsReplied, Outcome, SentPart, Passed}
+use Rattle.conn.specs.InputSteps.{Stage, ElementStep, TakesAll, after_reply, parts_bytes, reply_parts, stage}
 use Rattle.conn.specs.declared.reports.ConnEnd.{ConnEnd}
 use Rattle.conn.specs.declared.reports.ConnEnd.TheVariants.{Ended, TornDown, LinkFault, TooMuchInput, HeadTooLong}
 use Rattle.conn.specs.declared.reports.ConnEnd.TheVariants.{BodyTooLong, TurnsSpent, NoMemory}
 use Rattle.connection_laws.specs.InputSplits.{AllLackMemoryAlike, AreSameAnswers, HeardRequest, IsDrained}
-use Rattle.connection_laws.specs.InputSplits.{LackMemoryAlike, answer_in, answers_in}
-use Rattle.connection_laws.specs.InputSplits.{heard_requests_taken}
+use Rattle.connection_laws.specs.InputSplits.{LackMemoryAlike, answer_in, answers_in, heard_requests_taken}
 use Rattle.connection_laws.proofs.KeptParts.{answered_names, replied_names}
 use Rattle.connection_laws.proofs.UniqueResults.{AnswersAlike, answers_same, hears_same}
 
@@ -312,16 +309,12 @@ idle_done old new element (inl more) goes =
 idle_done old new element (inr request) goes = waits_on old new element request.1.0 request.1.1 goes
 
 stopped_done : (old new : Stage) (element : Element) (end : ConnEnd) → IsStopped end old → Goes old element new → ⊥
-stopped_done old new element Ended stopped goes = absurd stopped
 stopped_done old new element TornDown stopped goes = true≢false (sym stopped ∙ goes_on old new element goes)
-stopped_done old new element LinkFault stopped goes = absurd stopped
-stopped_done old new element TooMuchInput stopped goes = absurd stopped
 stopped_done old new element HeadTooLong stopped goes =
     let first = first_element old new element goes in tells_none old.input (Err LongHead) stopped.1 first.0 first.1
 stopped_done old new element BodyTooLong stopped goes =
     let first = first_element old new element goes in tells_none old.input (Err LongBody) stopped.1 first.0 first.1
-stopped_done old new element TurnsSpent stopped goes = absurd stopped
-stopped_done old new element NoMemory stopped goes = absurd stopped
+stopped_done old new element _ stopped goes = absurd stopped
 
 done_goes : (old new : Stage) (element : Element) → IsDrained old → Goes old element new → ⊥
 done_goes old new element (inl idle) goes = idle_done old new element idle.waits goes

@@ -1,6 +1,6 @@
 -- The promise from a server to its client's meter.
-use Rattle.std.proofs.Common.{◌≡◌, ℕ, suc, ◌+◌, ◌-◌, ◌<◌, ◌≤◌, min, List, [], ◌∷◌, ◌++◌, length}
-use Rattle.std.proofs.Common.{take, drop, map, sum, refl, sym, ap, subst, ◌∙◌, arith, inl, inr}
+use Rattle.std.proofs.Common.{◌≡◌, ℕ, suc, ◌+◌, ◌-◌, ◌<◌, ◌≤◌, min, List, [], ◌∷◌, ◌++◌, length, take, drop, map, sum}
+use Rattle.std.proofs.Common.{refl, sym, ap, subst, ◌∙◌, arith, inl, inr}
 use Rattle.conn.proofs.ReplyContents.{parts-more}
 use Rattle.std.proofs.lemmas.Bool.{cases_lt}
 use Rattle.std.proofs.lemmas.List.{length-append, length-map, length-take, take_all, take-take}
@@ -29,10 +29,10 @@ use Rattle.conn.specs.InputSteps.{Outcome, SentPart, Stage, film_bytes}
 use Rattle.conn.proofs.CurveBounds.{planned_between}
 use Rattle.connection_laws.specs.Courses.{Course, IsCourseBetween, askings_of, first_stage, greatest_slot, rounds_bytes}
 use Rattle.connection_laws.specs.Plays.{FilmPlay, due_of, film_of, film_written, plays_of}
-use Rattle.connection_laws.specs.Replies.{PlacedText, placed_text, placed_texts, text_of, insert_texts}
+use Rattle.connection_laws.specs.Replies.{PlacedText, placed_text, placed_texts, text_of, insert_texts, course_texts}
 use Rattle.connection_laws.proofs.GreatestSlots.{course_heard, film_written_is}
 use Rattle.connection_laws.proofs.ReplyOrder.{bytes_woven}
-use Rattle.connection_laws.proofs.TextPlacement.{course_film, rounds_sent}
+use Rattle.connection_laws.proofs.TextPlacement.{film_sent, rounds_sent}
 use Rattle.connection_laws.proofs.FilmBytes.{Stands, course_step, stands_by}
 use Rattle.rtsp_client.specs.declared.watch_request.Wish.{Wish}
 use Rattle.rtsp_client.specs.MeterGuarantee.{IsBetween}
@@ -47,10 +47,8 @@ use Rattle.connection_laws.proofs.CourseJoins.{parts_of}
 use Rattle.connection_laws.proofs.ElementStreams.{AreAlone, alone_append}
 use Rattle.connection_laws.proofs.UnitSizes.{blocks_one}
 use Rattle.connection_laws.proofs.SentStreams.{AreEvents, IsCounted, IsEvent, IsFromTo, IsFrontOf, all_woven}
-use Rattle.connection_laws.proofs.SentStreams.{counted_by, framed_append, parts_length, rounds_latest}
-use Rattle.connection_laws.proofs.SentStreams.{rounds_sent_are, texts_parts, texts_within, texts_length}
-use Rattle.connection_laws.proofs.SentStreams.{whole_rounds}
-use Rattle.connection_laws.specs.Replies.{course_texts}
+use Rattle.connection_laws.proofs.SentStreams.{counted_by, framed_append, parts_length, rounds_latest, rounds_sent_are}
+use Rattle.connection_laws.proofs.SentStreams.{texts_parts, texts_within, texts_length, whole_rounds}
 
 -- ---- the stream
 
@@ -142,7 +140,7 @@ sent_through {first} {play} course later last follows one whole =
     ap plays_of (sym (askings_parts begin course.last first later follows)) ∙ one in
     let mid : Stands parts.0.session =
     stands_by begin.session parts.0.session a (rounds_film first) (course_step begin parts.0 first parts.1.0 stands) in
-    let written = film_written_is course.films course.settings course.words first parts.0 parts.1.0 in
+    let front : Course = record course { rounds = first; last = parts.0; follows = parts.1.0 } in
     let its = late_play begin.session.heard (askings_of begin (first ++ later) course.last follows) play []
     (course_late begin course.last (first ++ later) follows stands) one in
     let now : plays_of a ≡ play ∷ [] = elim (one_so_far a b play both whole) [
@@ -154,9 +152,9 @@ sent_through {first} {play} course later last follows one whole =
           absurd (omega (arith, late.late, heard, last.slot_is))
     ] in
     record {
-      film = written ∙ ap (film_written (greatest_slot first)) now;
+      film = film_written_is front ∙ ap (film_written (greatest_slot first)) now;
       plan = its.plan;
-      parts = course_film begin parts.0 first parts.1.0;
+      parts = film_sent begin parts.0 first parts.1.0;
     }
 
 -- of one play, as many bytes as are due
@@ -228,10 +226,8 @@ sent_between {wish} {stored} {identity} {play} {x} {rounds} {j} whole is blocks 
 
 event_is : (old opened : Stage) (event : IoEvent) (due : List SentPart) (halt : Outcome)
     → Comes old event due halt opened → IsEvent event
-event_is old opened (HeardBytes bytes) due halt comes = tt
-event_is old opened (HeardSlot slot) due halt comes = tt
-event_is old opened HeardEnd due halt comes = tt
 event_is old opened (Sent byte) due halt comes = comes
+event_is old opened _ due halt comes = tt
 
 events_are : (old new : Stage) (rounds : List Round) → IsCourseBetween old rounds new → AreEvents rounds
 events_are old new [] follows = tt
@@ -344,10 +340,10 @@ all_sent wish stored course played =
     ap (film_written g) played.plays
     ∙ (one_written g play
     ∙ ap (take (due_of g play)) (film_blocks_are wish stored played.identity play played.whole)) in
-    let woven_is = bytes_woven course.films course.settings course.words course.rounds course.last course.follows in
+    let woven_is = bytes_woven course in
     let size : length (film_bytes parts) ≡ length film =
-    ap (λ (l : List ℕ). length l) (course_film begin course.last course.rounds course.follows
-    ∙ film_written_is course.films course.settings course.words course.rounds course.last course.follows) in
+    ap (λ (l : List ℕ). length l) (film_sent begin course.last course.rounds course.follows
+    ∙ film_written_is course) in
     let T : List PlacedText → Type 0 = λ l. IsFromTo 0 (0 + length (film_bytes parts)) l in
     let all_within = subst T played.texts (texts_within 0 parts) in
     let F : ℕ → Type 0 = λ n. IsFromTo 0 n played.later in

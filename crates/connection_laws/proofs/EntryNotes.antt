@@ -14,35 +14,28 @@ use Rattle.session.specs.declared.states.Awaited.TheVariants.{Nothing, Play, Hal
 use Rattle.session.specs.declared.states.AfterHalt.{AfterHalt}
 use Rattle.session.specs.declared.states.Prepared.{Prepared}
 use Rattle.film_streams.specs.declared.setups.Setup.{Setup}
-use Rattle.session.specs.SessionStates.{SessionState}
+use Rattle.session.specs.SessionStates.{SessionState, OpenBooking}
 use Rattle.conn.specs.Agreement.{Activity, HasDone, doings_outcomes}
 use Rattle.conn.specs.EventSteps.{entries_in}
-use Rattle.conn.specs.InputSteps.{Outcome, Unasked, Entered}
-use Rattle.conn.specs.InputSteps.{WasFull}
-use Rattle.conn.specs.InputSteps.{Offered, entry_in}
+use Rattle.conn.specs.InputSteps.{Outcome, Unasked, Entered, WasFull, Offered, entry_in, IsHaltAnswered}
 use Rattle.conn.specs.declared.reports.ConnReport.{ConnReport}
-use Rattle.connection_laws.specs.Notes.{StationCall, kept_later, noted_for, noted_play}
-use Rattle.connection_laws.specs.Notes.{notes_of, notes_of_calls, outcome_of, placed_play, placed_plays}
-use Rattle.connection_laws.specs.Notes.{PlacedPlay, station_calls}
+use Rattle.connection_laws.specs.Notes.{StationCall, kept_later, noted_for, noted_play, notes_of, notes_of_calls}
+use Rattle.connection_laws.specs.Notes.{outcome_of, placed_play, placed_plays, PlacedPlay, station_calls}
 use Rattle.connection_laws.specs.Plays.{booked_by, kept_among, kept_with}
-use Rattle.connection_laws.proofs.CourseTurns.{IsKeptByDoings, doings_kept, turns_told}
+use Rattle.connection_laws.proofs.CourseTurns.{IsKeptByDoings, doings_kept, turns_told, all_calls}
 use Rattle.connection_laws.proofs.CourseNotes.{plays_noted}
-use Rattle.connection_laws.proofs.StationAnswers.{FinishesAs, NothingLeft, DoneHalted}
-use Rattle.connection_laws.proofs.StationAnswers.{ClosesAs, NothingOpen, BookingHalted}
+use Rattle.connection_laws.proofs.StationAnswers.{FinishesAs, NothingLeft, DoneHalted, ClosesAs, NothingOpen}
+use Rattle.connection_laws.proofs.StationAnswers.{BookingHalted}
 use Rattle.connection_laws.proofs.RequestAnswers.{RequestAnswer, OwnReply, SetupReply, Admission, Refusal, HaltMade}
 use Rattle.connection_laws.proofs.RequestAnswers.{LookAnswer, JournalFull, OfferAnswer, PlayRequest, request_answer}
 use Rattle.connection_laws.proofs.PlayNotes.{begun_note, no_note}
-use Rattle.session.specs.SessionStates.{OpenBooking}
-use Rattle.conn.specs.InputSteps.{IsHaltAnswered}
 use Rattle.connection_laws.proofs.BookedPlays.{kept_more}
 
 -- the play that an answer's entry records
 abbrev placed_by : Outcome → List PlacedEntry → List PlacedPlay
-placed_by Unasked made = []
 placed_by (Entered placed) made =
     map (placed_play placed.place) (booked_by (play_admitted placed.entry.command placed.entry.answer) made)
-placed_by (WasFull more entries live) made = []
-placed_by (Offered at_slot note) made = []
+placed_by _ made = []
 
 -- turns keep of a play what these entries keep of it
 abbrev KeepsAs : List StationCall → List PlacedEntry → Type 0
@@ -79,9 +72,7 @@ keeps_as (turn ∷ turns) all =
 placed_more : (outcome : Outcome) (made : List PlacedEntry)
     → placed_by outcome made ++ placed_plays made ≡ placed_plays (entry_in outcome ++ made)
 placed_more Unasked made = refl
-placed_more (Entered placed) made = refl
-placed_more (WasFull more entries live) made = refl
-placed_more (Offered at_slot note) made = refl
+placed_more _ made = refl
 
 turns_noted : (turns : List StationCall) → AreNoted turns
     → map noted_play (notes_of turns) ≡ placed_plays (made_by_turns turns)
@@ -142,8 +133,6 @@ play_noted {asking = asking} play placed command = λ later.
 -- by what was asked and answered
 answered_noted : {old asking new : SessionState} {outcome : Outcome} → RequestAnswer old asking new outcome
     → IsNoted asking outcome
-answered_noted {asking = asking} (OwnReply text tearing is same) = unasked_noted asking
-answered_noted {asking = asking} (SetupReply text setup init is same) = unasked_noted asking
 answered_noted (Admission {placed = placed} play is) = play_noted play placed is.command
 answered_noted (Refusal {placed = placed} play is) = play_noted play placed is.command
 answered_noted {asking = asking} (HaltMade halt is) =
@@ -153,6 +142,7 @@ answered_noted {asking = asking} (LookAnswer {placed = placed} look is) =
     (ap (λ c. play_admitted c placed.entry.answer) is.command)
 answered_noted (JournalFull awaited waiting is) = λ later. refl
 answered_noted (OfferAnswer sequence waiting is) = λ later. refl
+answered_noted {asking} _ = unasked_noted asking
 
 -- the halt of a play that is done
 finished_noted : {asking new : SessionState} {awaited : Awaited} {halt : Outcome} → FinishesAs asking new awaited halt
@@ -184,12 +174,9 @@ noted_kept = record {
   close = λ held halt last closed closing opens rest. (shut_noted closing rest, tt);
 }
 
-pub entries_noted : (films : List Stored) (settings : Settings) (words : List ℕ) (doings : Activity) (report :
-    ConnReport)
-    (done : HasDone films settings words doings report)
+pub entries_noted : {films : List Stored} {settings : Settings} {words : List ℕ} {doings : Activity}
+    {report : ConnReport} → HasDone films settings words doings report
     → map noted_play report.plays.items ≡ placed_plays (entries_in (doings_outcomes doings))
-entries_noted films settings words doings report done =
-    ap (map noted_play) (plays_noted films settings words doings report done)
-    ∙ turns_noted (station_calls films settings words doings report done)
-    (doings_kept noted_kept films settings words doings report done)
-    ∙ ap (λ os. placed_plays (entries_in os)) (turns_told films settings words doings report done)
+entries_noted done =
+    ap (map noted_play) (plays_noted done) ∙ turns_noted (all_calls done) (doings_kept done noted_kept)
+    ∙ ap (λ os. placed_plays (entries_in os)) (turns_told done)

@@ -13,18 +13,15 @@ use Rattle.session.specs.declared.states.Awaited.{Awaited}
 use Rattle.session.specs.declared.states.Awaited.TheVariants.{Nothing, Halt}
 use Rattle.session.specs.declared.states.AfterHalt.TheVariants.{Done}
 use Rattle.session.specs.RequestSteps.{after_halt}
-use Rattle.session.specs.SlotSteps.{can_reply, due_bytes, after_play, is_between, is_done_in}
-use Rattle.session.specs.SlotSteps.{is_sending, is_taken, sent_due, sent_in, sent_slot, step_bytes}
-use Rattle.session.specs.SlotSteps.{stepped_in}
+use Rattle.session.specs.SlotSteps.{can_reply, due_bytes, after_play, is_between, is_done_in, is_sending, is_taken}
+use Rattle.session.specs.SlotSteps.{sent_due, sent_in, sent_slot, step_bytes, stepped_in}
 use Rattle.session.specs.SessionStates.{SessionState, awaited_answer, awaited_answer_of}
 use Rattle.conn.specs.EventSteps.{EndsInReply, HasFailedInSlot, IsPrefixOf, Round, Runs, round_bytes, takings_bytes}
-use Rattle.conn.specs.InputSteps.{Answered, Entered, Film, IsFinished, Outcome, Stage, ElementStep, TakesAll}
-use Rattle.conn.specs.InputSteps.{Text, Unasked, after_reply, due_parts, parts_bytes, reply_parts}
-use Rattle.conn.specs.InputSteps.{slot_parts, stage}
-use Rattle.connection_laws.specs.Courses.{Course, IsCourseBetween, first_stage, rounds_bytes}
+use Rattle.conn.specs.InputSteps.{Answered, Entered, Film, IsFinished, Outcome, Stage, ElementStep, TakesAll, Text}
+use Rattle.conn.specs.InputSteps.{Unasked, after_reply, due_parts, parts_bytes, reply_parts, slot_parts, stage}
+use Rattle.connection_laws.specs.Courses.{Course, IsCourseBetween, first_stage, rounds_bytes, askings_of}
 use Rattle.connection_laws.specs.Failures.{IsCutShort}
 use Rattle.connection_laws.proofs.FilmBytes.{Stands, course_step, stands_by, reply_awaited}
-use Rattle.connection_laws.specs.Courses.{askings_of}
 use Rattle.conn.specs.Films.{rounds_film}
 
 -- ---- prefixes

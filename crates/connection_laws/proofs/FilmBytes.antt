@@ -1,7 +1,6 @@
 -- What a connection writes of films, event by event, is what is due of its plays.
-use Rattle.std.proofs.Common.{◌≡◌, ℕ, ◌^◌, ◌<◌, ◌≤◌, ◌++◌, ◌&&◌, ◌==◌, if◌then◌else◌, Bool, true}
-use Rattle.std.proofs.Common.{false, nat_lt, nat_le, List, [], ◌∷◌, take, refl, ap, sym, ◌∙◌, subst}
-use Rattle.std.proofs.Common.{arith}
+use Rattle.std.proofs.Common.{◌≡◌, ℕ, ◌^◌, ◌<◌, ◌≤◌, ◌++◌, ◌&&◌, ◌==◌, if◌then◌else◌, Bool, true, false, nat_lt, nat_le}
+use Rattle.std.proofs.Common.{List, [], ◌∷◌, take, refl, ap, sym, ◌∙◌, subst, arith}
 use Rattle.conn.proofs.PlayProgress.{reply_state, reply_heard}
 use Rattle.std.proofs.lemmas.Bool.{eqb-true, ltb-true, true≢false, and_parts}
 use Rattle.std.proofs.lemmas.List.{append-nil}
@@ -17,15 +16,14 @@ use Rattle.session.specs.declared.states.Play.{Play as Played}
 use Rattle.film_streams.specs.declared.setups.Setup.{Setup}
 use Rattle.session.specs.declared.states.State.{State}
 use Rattle.session.specs.declared.states.State.TheVariants.{Init, Ready, Playing, Stopping}
-use Rattle.session.specs.SlotSteps.{can_reply, after_play, halted_in, is_between, is_done_in}
-use Rattle.session.specs.SlotSteps.{is_sending, sent_due, sent_in, sent_reply, sent_slot, after_slot}
-use Rattle.session.specs.SlotSteps.{stepped_in}
+use Rattle.session.specs.SlotSteps.{can_reply, after_play, halted_in, is_between, is_done_in, is_sending, sent_due}
+use Rattle.session.specs.SlotSteps.{sent_in, sent_reply, sent_slot, after_slot, stepped_in, is_taken}
 use Rattle.session.specs.SessionStates.{SessionState}
 use Rattle.conn.specs.Films.{rounds_film}
 use Rattle.conn.specs.EventSteps.{Round, Runs}
-use Rattle.conn.specs.InputSteps.{Outcome, Unasked, Entered, SentPart, Stage, ElementStep}
-use Rattle.conn.specs.InputSteps.{Passed, Answered, IsHaltAnswered, IsReplied}
-use Rattle.conn.specs.InputSteps.{Takes, TakesAll, after_reply, due_parts, film_bytes, slot_parts}
+use Rattle.conn.specs.InputSteps.{Outcome, Unasked, Entered, SentPart, Stage, ElementStep, Passed, Answered}
+use Rattle.conn.specs.InputSteps.{IsHaltAnswered, IsReplied, Takes, TakesAll, after_reply, due_parts, film_bytes}
+use Rattle.conn.specs.InputSteps.{slot_parts}
 use Rattle.connection_laws.specs.Courses.{IsCourseBetween, asked_by, askings_of, round_askings, takings_askings}
 use Rattle.connection_laws.specs.Plays.{StationRequest, Asks, plays_admitted, plays_begun, kept_by, kept_in, kept_with}
 use Rattle.connection_laws.specs.Plays.{plays_of}
@@ -34,9 +32,8 @@ use Rattle.connection_laws.proofs.Slots.{reply_on, same_on, slot_goes, state_aft
 use Rattle.connection_laws.proofs.FilmSteps.{GoesOn, sound_waits, still_rest, then_on, turn_goes}
 use Rattle.connection_laws.proofs.RequestEffects.{Ends, Going, Idle, IsAfter, Starts, Stays, TurnsAs, sends_in}
 use Rattle.connection_laws.proofs.RequestEffects.{turns_as}
-use Rattle.connection_laws.proofs.StationAnswers.{FinishesAs, NothingLeft, DoneHalted, nothing_left}
-use Rattle.connection_laws.proofs.StationAnswers.{ComesAs, BytesCame, SlotCame, comes_as}
-use Rattle.session.specs.SlotSteps.{is_taken}
+use Rattle.connection_laws.proofs.StationAnswers.{FinishesAs, NothingLeft, DoneHalted, nothing_left, ComesAs, BytesCame}
+use Rattle.connection_laws.proofs.StationAnswers.{SlotCame, comes_as}
 use Rattle.session.specs.declared.states.AfterHalt.{AfterHalt}
 
 -- between doings nothing is awaited, and what is sent is on time
@@ -183,9 +180,6 @@ halt_if {keep = keep} {next = next} false asks is =
 done_in : {s : SessionState} {keep : ℕ} {next : AfterHalt} (state : State) → s.state ≡ state
     → IsSound (sends_in state) s.waits s.heard → s.awaited ≡ Halt keep next
     → s.awaited ≡ (if is_done_in state then Halt (sent_in state) Done else Nothing) → DonePlay s keep
-done_in Init is sound asks finished = absurd (true≢false (sym (halt_if {sent = 0} false asks finished).0))
-done_in (Ready setup paused) is sound asks finished =
-    absurd (true≢false (sym (halt_if {sent = 0} false asks finished).0))
 done_in (Playing setup play) is sound asks finished =
     let halt = halt_if (is_done play.pacer) asks finished in record {
       setup = setup;
@@ -196,8 +190,7 @@ done_in (Playing setup play) is sound asks finished =
       sent = halt.1;
       asks = halt.2;
     }
-done_in (Stopping setup stop) is sound asks finished =
-    absurd (true≢false (sym (halt_if {sent = 0} false asks finished).0))
+done_in _ is sound asks finished = absurd (true≢false (sym (halt_if {sent = 0} false asks finished).0))
 
 -- a slot is over: what is sent is on time, and the halt of a play that is done is asked for
 pub record IsSlotOver (s : SessionState) : Type 0 where
@@ -316,10 +309,9 @@ sent_step {old} slot stands sending later finishing =
 -- nothing is being sent
 pub idle_sound : (state : State) (waits : Bool) (from to : ℕ) → is_sending state ≡ false
     → IsSound (sends_in state) waits from → IsSound (sends_in state) waits to
-idle_sound Init waits from to none sound = tt
-idle_sound (Ready setup paused) waits from to none sound = tt
 idle_sound (Playing setup play) waits from to none sound = absurd (true≢false none)
 idle_sound (Stopping setup stop) waits from to none sound = absurd (true≢false none)
+idle_sound _ waits from to none sound = tt
 
 idle_on : (old : SessionState) (slot : ℕ) → Stands old → is_sending old.state ≡ false → old.heard < slot
     → On old (record old { heard = slot }) [] []

@@ -1,8 +1,7 @@
 -- What a client reads of an entire film's blocks: the sizes of its units, the time of its pictures,
 -- and its bytes.
-use Rattle.std.proofs.Common.{◌≡◌, ℕ, ◌+◌, ◌-◌, ◌<◌, ◌≤◌, ◌==◌, true, nat_lt, min, List, [], ◌∷◌}
-use Rattle.std.proofs.Common.{length, take, drop, map, sum, Some, slice_get, refl, sym, ap, subst}
-use Rattle.std.proofs.Common.{◌∙◌, arith, inl, inr}
+use Rattle.std.proofs.Common.{◌≡◌, ℕ, ◌+◌, ◌-◌, ◌<◌, ◌≤◌, ◌==◌, true, nat_lt, min, List, [], ◌∷◌, length, take, drop}
+use Rattle.std.proofs.Common.{map, sum, Some, slice_get, refl, sym, ap, subst, ◌∙◌, arith, inl, inr}
 use Rattle.std.proofs.lemmas.Bool.{cases_lt, cond-false, eqb-true, ltb-true, ne_eqb, and_parts}
 use Rattle.std.proofs.lemmas.List.{length-take-le, take_all}
 use Rattle.std.proofs.lemmas.List.Sums.{sum_by-take-le}

@@ -18,8 +18,7 @@ use Rattle.rtsp_text.specs.Replies.{Field, field_line, reply_front, reply_text}
 use Rattle.rtsp_text.proofs.UrlBytes.{name_in_url}
 use Rattle.vod_base.specs.Names.{good_name, is_name_byte}
 use Rattle.film_streams.specs.Films.{IsFilmAt, length_ms}
-use Rattle.rtsp_replies.specs.Replies.{field, play_fields}
-use Rattle.rtsp_replies.specs.Replies.{started_text}
+use Rattle.rtsp_replies.specs.Replies.{field, play_fields, started_text}
 use Rattle.session_laws.specs.MethodLaws.{setup_in}
 use Rattle.session.specs.SessionStates.{SessionState, has_session_in}
 use Rattle.session.specs.SlotSteps.{admitted_in}
@@ -28,18 +27,15 @@ use Rattle.rtsp_replies.specs.Messages.{IsMessage}
 use Rattle.rtsp_text.proofs.LineBounds.{all-drop, all-take}
 use Rattle.rtsp_text.proofs.ReplyTexts.{front_field, whole_reply}
 use Rattle.rtsp_fields.specs.Urls.{IsRead}
-use Rattle.conn.specs.InputSteps.{HasHeard, IsAskAnswered, Outcome}
+use Rattle.conn.specs.InputSteps.{HasHeard, IsAskAnswered, Outcome, Entered}
 use Rattle.connection_laws.proofs.CompleteReplies.{admitted_from, id_printed}
 use Rattle.connection_laws.proofs.KeptSetups.{IsSameSetup}
 use Rattle.connection_laws.proofs.PrintedTexts.{IsPrinted}
 use Rattle.connection_laws.proofs.ReplyReadings.{IsPlayAnswer, play_answer}
 use Rattle.connection_laws.proofs.RequestEffects.{Begins}
-use Rattle.connection_laws.proofs.RequestReplies.{IsNamed, named_still, play_asked}
+use Rattle.connection_laws.proofs.RequestReplies.{IsNamed, named_still, play_asked, asked_named, AsksClientPlay}
 use Rattle.connection_laws.proofs.SetupOnly.{Beginning, IsUnbegun, IsWaiting}
 use Rattle.connection_laws.proofs.KeptParts.{answered_names}
-use Rattle.connection_laws.proofs.RequestReplies.{asked_named}
-use Rattle.connection_laws.proofs.RequestReplies.{AsksClientPlay}
-use Rattle.conn.specs.InputSteps.{Entered}
 use Rattle.connection_laws.proofs.StationAnswers.{answers_as}
 
 -- ---- numbers in their ranges

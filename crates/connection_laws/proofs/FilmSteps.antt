@@ -20,8 +20,7 @@ use Rattle.connection_laws.specs.Plays.{StationRequest, Asks, plays_admitted, pl
 use Rattle.connection_laws.specs.Plays.{plays_of}
 use Rattle.connection_laws.proofs.JoinedFilms.{IsFilm, IsRest, IsSound, film_in, play_with}
 use Rattle.connection_laws.proofs.RequestEffects.{Begins, Ends, Ending, Going, Halts, Idle, IsStill, Sends, Starts}
-use Rattle.connection_laws.proofs.RequestEffects.{Stays, TurnsAs}
-use Rattle.connection_laws.proofs.RequestEffects.{pacing_for, sends_in}
+use Rattle.connection_laws.proofs.RequestEffects.{Stays, TurnsAs, pacing_for, sends_in}
 
 -- what is sent goes on: what was asked meanwhile, and the film's bytes
 pub record GoesOn (old new : Sends) (from to : ℕ) (waits : Bool) (made : List StationRequest) (bytes : List ℕ) : Type 0

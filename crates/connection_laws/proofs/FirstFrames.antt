@@ -1,8 +1,7 @@
 -- The first frame that a client receives of a film, and the time of a picture in it.
-use Rattle.std.proofs.Common.{◌≡◌, ℕ, zero, suc, ◌+◌, ◌-◌, ◌%◌, ◌<◌, ◌≤◌, ◌==◌, ◌&&◌, Bool, true}
-use Rattle.std.proofs.Common.{false, not, nat_le, cond, List, [], ◌∷◌, ◌++◌, length, take, drop}
-use Rattle.std.proofs.Common.{get_or, is_ok, sym, ap, subst, ◌∙◌, append_assoc, min, arith, inl}
-use Rattle.std.proofs.Common.{inr}
+use Rattle.std.proofs.Common.{◌≡◌, ℕ, zero, suc, ◌+◌, ◌-◌, ◌%◌, ◌<◌, ◌≤◌, ◌==◌, ◌&&◌, Bool, true, false, not, nat_le}
+use Rattle.std.proofs.Common.{cond, List, [], ◌∷◌, ◌++◌, length, take, drop, get_or, is_ok, sym, ap, subst, ◌∙◌}
+use Rattle.std.proofs.Common.{append_assoc, min, arith, inl, inr}
 use Rattle.std.proofs.lemmas.Bool.{cases_eq, cond-true, cond-false, eq-eqb, ne_eqb, leb-true, and_parts}
 use Rattle.std.proofs.lemmas.List.{get_or-drop, get_or-take, length-take}
 use Rattle.mpeg_scan.specs.declared.units.Unit.{Unit as PictureUnit}
@@ -17,15 +16,12 @@ use Rattle.film_frames.specs.FramedRuns.{FramedRun, blocks_from, payload}
 use Rattle.rtsp_client.specs.Answers.{GoOn, GoesOn, history_after, events_of_elements}
 use Rattle.rtsp_client.specs.Films.{begins_film, is_complete, is_first_good, is_next_good, time_in, units_until}
 use Rattle.rtsp_client.specs.ClientHistory.{History, ClientEvent, Frame, Reply, Report, Slot, end_ms, first_frame}
-use Rattle.rtsp_client.specs.ClientHistory.{frames}
-use Rattle.rtsp_client.specs.ClientHistory.{is_playing}
+use Rattle.rtsp_client.specs.ClientHistory.{frames, is_playing}
 use Rattle.connection_laws.proofs.Blocks.{frame_block, frame_blocks, frame_moment, frames_one, frames_after}
-use Rattle.connection_laws.proofs.Blocks.{octets_after}
-use Rattle.connection_laws.proofs.Blocks.{report_block, report_if, report_moment}
+use Rattle.connection_laws.proofs.Blocks.{octets_after, report_block, report_if, report_moment, RunFrom}
 use Rattle.connection_laws.proofs.HistorySums.{AreOneBlocks, Sum, blocks_first, blocks_one_append, blocks_one_take}
 use Rattle.connection_laws.proofs.HistorySums.{step, steps}
 use Rattle.connection_laws.proofs.UnitSizes.{blocks_one, frame_sizes, more_blocks, packets_there, report_sizes}
-use Rattle.connection_laws.proofs.Blocks.{RunFrom}
 
 -- at each of its moments a watching went on
 abbrev pub HasGoneOn : History → Type 0
@@ -39,9 +35,6 @@ gone_on h (m ∷ ms) gone good = gone_on (m ∷ h) ms (good.0, gone) good.1
 -- its first frame begins a film
 pub first_good : (h : History) → HasGoneOn h → 0 < frames h → begins_film (drop 20 (first_frame h)) ≡ true
 first_good [] gone some = absurd (omega (arith, some))
-first_good (Reply m ∷ h) gone some = first_good h gone.1 some
-first_good (Report b ∷ h) gone some = first_good h gone.1 some
-first_good (Slot t cut ∷ h) gone some = first_good h gone.1 some
 first_good (Frame b ∷ h) gone some =
     let P : List ℕ → Type 0 = λ f. begins_film (drop 20 f) ≡ true in
     let head : Bool = is_ok (head_of (drop 4 b)) in
@@ -61,6 +54,7 @@ first_good (Frame b ∷ h) gone some =
           subst P (sym (cond-false (frames h == 0) b (first_frame h) (ne_eqb (frames h) 0 more)))
           (first_good h gone.1 (omega (arith, more)))
     ]
+first_good (_ ∷ h) gone some = first_good h gone.1 some
 
 -- ---- the first frame of a run
 
@@ -82,7 +76,6 @@ lead : (starts : Bool) (from : RunFrom) (k : ℕ) (first : FirstFrame) (sum : Fr
     (steps sum.sum (events_of_elements (take k (report_if starts from.run first.unit from.frames from.octets ++
     (frame_block from.run first.unit first.packet from.frames ∷ first.rest))))).first ≡ frame_block from.run first.unit
     first.packet from.frames
-lead false from zero first sum some = absurd (omega (arith, sum.none, some))
 lead false from (suc k) first sum some =
     let b = frame_block run unit p f in
     frame_sizes b (take k rest) s (λ t. t.first ≡ b) (frame_moment run f unit p media)
@@ -92,7 +85,6 @@ lead false from (suc k) first sum some =
     open from use {run, frames as f, media}
     open first use {unit, packet as p, rest, are_blocks as are}
     open sum use {sum as s, none}
-lead true from zero first sum some = absurd (omega (arith, sum.none, some))
 lead true from (suc k) first sum some =
     let r = report_block run unit f o in
     let b = frame_block run unit p f in
@@ -102,6 +94,7 @@ lead true from (suc k) first sum some =
   where
     open from use {run, frames as f, octets as o, control}
     open first use {unit, packet as p, rest}
+lead _ from zero first sum some = absurd (omega (arith, sum.none, some))
 
 pub record IsLed (run : FramedRun) (starts : List ℕ) (unit : PictureUnit) (f : ℕ) (first : List ℕ) : Type 0 where
   pub packet : Packet

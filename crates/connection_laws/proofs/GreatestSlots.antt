@@ -6,14 +6,13 @@ use Rattle.std.proofs.lemmas.List.{append-nil}
 use Rattle.vod_base.specs.Links.{IoEvent, HeardSlot}
 use Rattle.film_frames.specs.declared.stored_films.Stored.{Stored}
 use Rattle.film_streams.specs.declared.settings.Settings.{Settings}
-use Rattle.session.specs.SlotSteps.{after_play, is_between, is_sending, sent_due, sent_slot}
-use Rattle.session.specs.SlotSteps.{after_slot, stepped_in}
+use Rattle.session.specs.SlotSteps.{after_play, is_between, is_sending, sent_due, sent_slot, after_slot, stepped_in}
 use Rattle.session.specs.SessionStates.{SessionState}
 use Rattle.conn.specs.Films.{rounds_film}
 use Rattle.conn.specs.EventSteps.{Round}
 use Rattle.conn.specs.InputSteps.{Outcome, SentPart, Stage, film_bytes}
 use Rattle.connection_laws.specs.Courses.{IsCourseBetween, askings_of, first_stage, greatest_slot, round_askings}
-use Rattle.connection_laws.specs.Courses.{slot_in}
+use Rattle.connection_laws.specs.Courses.{slot_in, Course, course_plays, course_film}
 use Rattle.connection_laws.specs.Plays.{AreOver, StationRequest, film_written, plays_of}
 use Rattle.connection_laws.proofs.JoinedFilms.{IsFilm, film_is, film_over_all, rest_none}
 use Rattle.connection_laws.proofs.FilmBytes.{Stands, course_step, round_step, stands_by}
@@ -64,37 +63,27 @@ course_heard old new (round ∷ rounds) follows stands =
     let left = takes_heard runs.opened follows.0 round.takings runs.takes in
     omega (arith, rest, left, comes)
 
--- what a connection wrote of films, from its beginning on
-course_is : (films : List Stored) (settings : Settings) (words : List ℕ) (rounds : List Round) (new : Stage)
-    (follows : IsCourseBetween (first_stage films settings words) rounds new)
-    → IsFilm (greatest_slot rounds)
-    (plays_of (askings_of (first_stage films settings words) rounds new follows)) (rounds_film rounds)
-course_is films settings words rounds new follows =
-    let first : Stage = first_stage films settings words in
+-- what a connection wrote of films in its course
+course_is : (course : Course) → IsFilm (greatest_slot course.rounds) (course_plays course) (rounds_film course.rounds)
+course_is course =
+    let first : Stage = first_stage course.films course.settings course.words in
     let stands : Stands first.session = record { rest = refl; sound = tt } in
-    let made : List StationRequest = askings_of first rounds new follows in
-    let step = course_step first new rounds follows stands in
-    let film : IsFilm new.session.heard (plays_of (made ++ [])) (rounds_film rounds ++ []) =
-    step.on.rest [] new.session.heard [] (omega arith)
-    (rest_none (sends_in new.session.state) new.session.waits new.session.heard step.on.sound) in
-    let last : new.session.heard ≡ greatest_slot rounds = course_heard first new rounds follows stands ∙ omega arith in
-    subst (λ t. IsFilm t (plays_of made) (rounds_film rounds)) last
-    (subst (λ ms. IsFilm new.session.heard (plays_of ms) (rounds_film rounds)) (append-nil made)
-    (subst (IsFilm new.session.heard (plays_of (made ++ []))) (append-nil (rounds_film rounds)) film))
+    let made : List StationRequest = askings_of first course.rounds course.last course.follows in
+    let film : List ℕ = rounds_film course.rounds in
+    let new : SessionState = course.last.session in
+    let step = course_step first course.last course.rounds course.follows stands in
+    let all : IsFilm new.heard (plays_of (made ++ [])) (film ++ []) =
+    step.on.rest [] new.heard [] (omega arith) (rest_none (sends_in new.state) new.waits new.heard step.on.sound) in
+    let last : new.heard ≡ greatest_slot course.rounds =
+    course_heard first course.last course.rounds course.follows stands ∙ omega arith in
+    subst (λ t. IsFilm t (plays_of made) film) last
+    (subst (λ ms. IsFilm new.heard (plays_of ms) film) (append-nil made)
+    (subst (IsFilm new.heard (plays_of (made ++ []))) (append-nil film) all))
 
-pub film_written_is : (films : List Stored) (settings : Settings) (words : List ℕ) (rounds : List Round) (new : Stage)
-    (follows : IsCourseBetween (first_stage films settings words) rounds new)
-    → rounds_film rounds
-    ≡ film_written (greatest_slot rounds) (plays_of (askings_of (first_stage films settings words) rounds new follows))
-film_written_is films settings words rounds new follows =
-    film_is (greatest_slot rounds) (plays_of (askings_of (first_stage films settings words) rounds new follows))
-    (rounds_film rounds)
-    (course_is films settings words rounds new follows)
+pub film_written_is : (course : Course) → rounds_film course.rounds ≡ course_film course
+film_written_is course =
+    film_is (greatest_slot course.rounds) (course_plays course) (rounds_film course.rounds) (course_is course)
 
-pub plays_over : (films : List Stored) (settings : Settings) (words : List ℕ) (rounds : List Round) (new : Stage)
-    (follows : IsCourseBetween (first_stage films settings words) rounds new)
-    → AreOver (greatest_slot rounds) (plays_of (askings_of (first_stage films settings words) rounds new follows))
-plays_over films settings words rounds new follows =
-    film_over_all (greatest_slot rounds)
-    (plays_of (askings_of (first_stage films settings words) rounds new follows)) (rounds_film rounds)
-    (course_is films settings words rounds new follows)
+pub plays_over : (course : Course) → AreOver (greatest_slot course.rounds) (course_plays course)
+plays_over course =
+    film_over_all (greatest_slot course.rounds) (course_plays course) (rounds_film course.rounds) (course_is course)

@@ -1,15 +1,14 @@
 -- What a client's history comes to, but for its slots: a sum that each moment adds to.
-use Rattle.std.proofs.Common.{◌≡◌, ℕ, zero, suc, ◌+◌, ◌<◌, ◌≤◌, ◌⊎◌, ◌==◌, ◌&&◌, Bool, true, false}
-use Rattle.std.proofs.Common.{not, nat_lt, if◌then◌else◌, List, [], ◌∷◌, ◌++◌, length, take, drop}
-use Rattle.std.proofs.Common.{get_or, unwrap_or, refl, sym, subst, ◌∙◌, append_assoc, arith, inl}
-use Rattle.std.proofs.Common.{inr}
+use Rattle.std.proofs.Common.{◌≡◌, ℕ, zero, suc, ◌+◌, ◌<◌, ◌≤◌, ◌⊎◌, ◌==◌, ◌&&◌, Bool, true, false, not, nat_lt}
+use Rattle.std.proofs.Common.{if◌then◌else◌, List, [], ◌∷◌, ◌++◌, length, take, drop, get_or, unwrap_or, refl, sym}
+use Rattle.std.proofs.Common.{subst, ◌∙◌, append_assoc, arith, inl, inr}
 use Rattle.std.proofs.lemmas.Bool.{cond-true, cond-false, ne_eqb}
 use Rattle.std.proofs.lemmas.List.{append-nil, length-append}
 use Rattle.film_frames.specs.Tracks.{framed_bytes}
 use Rattle.rtsp_client.specs.Replies.{play_range}
-use Rattle.rtsp_client.specs.ClientHistory.{History, ClientEvent, Frame, Reply, Report, Slot, end_ms}
-use Rattle.rtsp_client.specs.ClientHistory.{first_frame, frames, is_inside, is_last, payloads}
-use Rattle.rtsp_client.specs.ClientHistory.{bytes_pending, bytes_received, replies, sizes}
+use Rattle.rtsp_client.specs.ClientHistory.{History, ClientEvent, Frame, Reply, Report, Slot, end_ms, first_frame}
+use Rattle.rtsp_client.specs.ClientHistory.{frames, is_inside, is_last, payloads, bytes_pending, bytes_received}
+use Rattle.rtsp_client.specs.ClientHistory.{replies, sizes}
 use Rattle.rtsp_client.specs.Answers.{history_after, events_of_elements, element_events, payloads_of}
 
 pub record Sum : Type 0 where
@@ -108,9 +107,8 @@ blocks_one_append [] ys one two = two
 blocks_one_append (x ∷ xs) ys one two = (one.0, blocks_one_append xs ys one.1 two)
 
 pub blocks_one_take : (k : ℕ) (bs : List (List ℕ)) → AreOneBlocks bs → AreOneBlocks (take k bs)
-blocks_one_take zero bs are = tt
-blocks_one_take (suc k) [] are = tt
 blocks_one_take (suc k) (b ∷ bs) are = (are.0, blocks_one_take k bs are.1)
+blocks_one_take _ _ are = tt
 
 -- what blocks leave as it was
 pub record IsSame (s t : Sum) : Type 0 where

@@ -11,14 +11,13 @@ use Rattle.conn.specs.InputSteps.{HasStepped, Outcome, SentPart, Stage, parts_by
 use Rattle.conn.specs.declared.reports.ConnEnd.{ConnEnd}
 use Rattle.connection_laws.specs.Courses.{first_stage, rounds_bytes}
 use Rattle.connection_laws.specs.InputSplits.{AllLackMemoryAlike, HaveSameInput, HaveSameOutput, AreSameAnswers}
-use Rattle.connection_laws.specs.InputSplits.{Beginning}
-use Rattle.connection_laws.specs.InputSplits.{InputSplit, HeardRequest, IsDrained, TakesUp, all_heard, answer_in}
-use Rattle.connection_laws.specs.InputSplits.{answers_in, heard_in, heard_requests_in, heard_requests_taken}
+use Rattle.connection_laws.specs.InputSplits.{Beginning, InputSplit, HeardRequest, IsDrained, TakesUp, all_heard}
+use Rattle.connection_laws.specs.InputSplits.{answer_in, answers_in, heard_in, heard_requests_in, heard_requests_taken}
 use Rattle.connection_laws.proofs.KeptParts.{stepped_names}
 use Rattle.connection_laws.proofs.UniqueResults.{steps_same}
-use Rattle.connection_laws.proofs.ElementPaths.{GoesAll, Path, Element, ends_same, goes_films, goes_grow}
-use Rattle.connection_laws.proofs.ElementPaths.{join_answers, join_bytes, join_goes, join_hearings, longer}
-use Rattle.connection_laws.proofs.ElementPaths.{path_of, elements_answers, elements_bytes, elements_hearings}
+use Rattle.connection_laws.proofs.ElementPaths.{GoesAll, Path, Element, ends_same, goes_films, goes_grow, join_answers}
+use Rattle.connection_laws.proofs.ElementPaths.{join_bytes, join_goes, join_hearings, longer, path_of, elements_answers}
+use Rattle.connection_laws.proofs.ElementPaths.{elements_bytes, elements_hearings}
 
 -- a slot, and the bytes that came after it
 record Leg : Type 0 where
@@ -235,8 +234,7 @@ event_split {base} {new = new} {event = HeardBytes bytes} {all} front taken done
     subst (λ ps. S ps taken.halt) (sym taken.comes.0)
     (subst (S []) (sym taken.comes.1) (bytes_split front taken later))
 event_split {event = HeardSlot slot} front taken done later = slot_split front taken done later
-event_split {event = HeardEnd} front taken done later = absurd taken.comes
-event_split {event = Sent byte} front taken done later = absurd taken.comes
+event_split front taken done later = absurd taken.comes
 
 -- event after event
 abbrev rounds_exchange : (cur : Stage) (rounds : List Round) (new : Stage) → TakesUp cur rounds new → Exchange
@@ -306,29 +304,20 @@ is_some [] = false
 is_some (doing ∷ doings) = true
 
 abbrev is_bytes : List IoEvent → Bool
-is_bytes [] = false
 is_bytes (HeardBytes bytes ∷ doings) = true
-is_bytes (HeardSlot slot ∷ doings) = false
-is_bytes (HeardEnd ∷ doings) = false
-is_bytes (Sent byte ∷ doings) = false
+is_bytes _ = false
 
 abbrev slot_of : List IoEvent → ℕ
-slot_of [] = 0
-slot_of (HeardBytes bytes ∷ doings) = 0
 slot_of (HeardSlot slot ∷ doings) = slot
-slot_of (HeardEnd ∷ doings) = 0
-slot_of (Sent byte ∷ doings) = 0
+slot_of _ = 0
 
 abbrev first_in : List ℕ → ℕ
 first_in [] = 0
 first_in (byte ∷ bytes) = byte
 
 abbrev byte_of : List IoEvent → ℕ
-byte_of [] = 0
 byte_of (HeardBytes bytes ∷ doings) = first_in bytes
-byte_of (HeardSlot slot ∷ doings) = 0
-byte_of (HeardEnd ∷ doings) = 0
-byte_of (Sent byte ∷ doings) = 0
+byte_of _ = 0
 
 abbrev tail_of : List IoEvent → List IoEvent
 tail_of [] = []
@@ -476,12 +465,10 @@ takes_part old new (round ∷ first) rest takes =
 -- what is alike is alike in prefixes
 pub same_fronts : (one more other further : List Outcome) → AreSameAnswers (one ++ more) (other ++ further)
     → AreSameAnswers one other
-same_fronts [] more other further same = tt
-same_fronts (x ∷ one) more [] further same = tt
 same_fronts (x ∷ one) more (y ∷ other) further same = (same.0, same_fronts one more other further same.1)
+same_fronts _ more _ further same = tt
 
 pub lack_fronts : (one more other further : List HeardRequest) → AllLackMemoryAlike (one ++ more) (other ++ further)
     → AllLackMemoryAlike one other
-lack_fronts [] more other further alike = tt
-lack_fronts (x ∷ one) more [] further alike = tt
 lack_fronts (x ∷ one) more (y ∷ other) further alike = (alike.0, lack_fronts one more other further alike.1)
+lack_fronts _ more _ further alike = tt

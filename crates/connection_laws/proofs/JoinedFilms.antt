@@ -13,8 +13,7 @@ use Rattle.pacer.proofs.PacerStateLemmas.{first-slots-rise}
 use Rattle.pacer.proofs.SendLemmas.{between-join}
 use Rattle.conn.proofs.FilmBytes.{sent_through, through_is}
 use Rattle.connection_laws.specs.Plays.{AreOver, StationRequest, FilmPlay, due_by as all_due, due_of, film_of}
-use Rattle.connection_laws.specs.Plays.{film_written}
-use Rattle.connection_laws.specs.Plays.{bytes_of_plays, kept_in, plays_of}
+use Rattle.connection_laws.specs.Plays.{film_written, bytes_of_plays, kept_in, plays_of}
 use Rattle.connection_laws.proofs.RequestEffects.{Sends, Idle, Going, Ending}
 
 -- the film of a pacing, and its play where so much is kept
@@ -55,9 +54,8 @@ film_is slot (play ∷ next ∷ plays) bytes is =
     ∙ ap (λ n. take n (front ++ bytes_of_plays (next ∷ plays))) (sym (sum_by-cons (due_of slot) play (next ∷ plays)))
 
 pub film_over_all : (slot : ℕ) (plays : List FilmPlay) (bytes : List ℕ) → IsFilm slot plays bytes → AreOver slot plays
-film_over_all slot [] bytes is = tt
-film_over_all slot (play ∷ []) bytes is = tt
 film_over_all slot (play ∷ next ∷ plays) bytes is = (is.1.2.0, film_over_all slot (next ∷ plays) is.0 is.1.1)
+film_over_all slot _ bytes is = tt
 
 -- what was sent of the film in hand, and what is sent from here on, are the bytes of the plays from here on
 abbrev pub IsRest : Sends → List StationRequest → ℕ → List ℕ → Type 0

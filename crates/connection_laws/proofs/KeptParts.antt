@@ -13,9 +13,8 @@ use Rattle.conn.proofs.HaltAnswers.{finished_as_before}
 use Rattle.conn.specs.InputSteps.{Answered, ElementStep, HasHeard, HasStepped, IsAskAnswered, IsReplied, Outcome}
 use Rattle.conn.specs.InputSteps.{Passed, SentPart, Stage, TakesAll, after_reply}
 use Rattle.connection_laws.proofs.StationAnswers.{AnswersAs, NoneAsked, PlayAdmitted, PlayRefused, PlayFull, PlayHalted}
-use Rattle.connection_laws.proofs.StationAnswers.{LookMade, LookFull, OfferMade, answers_as}
-use Rattle.connection_laws.proofs.StationAnswers.{ClosesAs, NothingOpen, BookingHalted, FinishesAs, NothingLeft}
-use Rattle.connection_laws.proofs.StationAnswers.{DoneHalted}
+use Rattle.connection_laws.proofs.StationAnswers.{LookMade, LookFull, OfferMade, answers_as, ClosesAs, NothingOpen}
+use Rattle.connection_laws.proofs.StationAnswers.{BookingHalted, FinishesAs, NothingLeft, DoneHalted}
 
 -- what no request and no reply to one changes
 pub record LastingPart : Type 0 where

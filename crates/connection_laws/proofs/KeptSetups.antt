@@ -9,24 +9,22 @@ use Rattle.film_streams.specs.declared.setups.Setup.{Setup}
 use Rattle.session.specs.declared.states.State.{State}
 use Rattle.session.specs.declared.states.State.TheVariants.{Init, Ready, Playing, Stopping}
 use Rattle.session_laws.specs.MethodLaws.{setup_in}
-use Rattle.session.specs.SlotSteps.{halted_in, next_of, state_once_halted}
+use Rattle.session.specs.SlotSteps.{halted_in, next_of, state_once_halted, after_slot, can_reply, is_between}
+use Rattle.session.specs.SlotSteps.{stepped_in}
 use Rattle.session.specs.SessionStates.{SessionState}
-use Rattle.session.specs.SlotSteps.{after_slot, can_reply, is_between, stepped_in}
 use Rattle.session.specs.SlotTransitions.{after_stop}
 use Rattle.conn.specs.EventSteps.{Round, Runs}
 use Rattle.conn.specs.InputSteps.{Outcome, SentPart, Stage, after_reply}
-use Rattle.connection_laws.proofs.StationAnswers.{ComesAs, BytesCame, SlotCame, comes_as}
-use Rattle.connection_laws.proofs.StationAnswers.{FinishesAs, NothingLeft, DoneHalted}
-use Rattle.connection_laws.proofs.KeptParts.{finish_keeps, names_in, replied_names, reply_keeps, same_names}
-use Rattle.connection_laws.proofs.KeptParts.{slot_keeps, slot_names}
+use Rattle.connection_laws.proofs.StationAnswers.{ComesAs, BytesCame, SlotCame, comes_as, FinishesAs, NothingLeft}
+use Rattle.connection_laws.proofs.StationAnswers.{DoneHalted}
+use Rattle.connection_laws.proofs.KeptParts.{finish_keeps, names_in, replied_names, reply_keeps, same_names, slot_keeps}
+use Rattle.connection_laws.proofs.KeptParts.{slot_names}
 
 -- ---- states
 
 stepped_setup : (stop : Bool) (slot : ℕ) (state : State) → setup_in (stepped_in stop slot state) ≡ setup_in state
 stepped_setup stop slot Init = refl
-stepped_setup stop slot (Ready setup paused) = refl
-stepped_setup stop slot (Playing setup play) = refl
-stepped_setup stop slot (Stopping setup stopped) = refl
+stepped_setup stop slot _ = refl
 
 due_setup : (waits between : Bool) (state : State) (slot : ℕ)
     → setup_in (if waits then (if between then stepped_in false slot (stepped_in true slot state)
@@ -38,21 +36,16 @@ due_setup false between state slot = stepped_setup false slot state
 
 stop_setup : (state : State) → setup_in (after_stop state) ≡ setup_in state
 stop_setup Init = refl
-stop_setup (Ready setup paused) = refl
-stop_setup (Playing setup play) = refl
-stop_setup (Stopping setup stopped) = refl
+stop_setup _ = refl
 
 once_halted : (setup : Setup) (play : Played) (next : AfterHalt)
     → setup_in (state_once_halted setup play next) ≡ Some setup
 once_halted setup play Done = refl
-once_halted setup play (Paused run) = refl
-once_halted setup play Torn = refl
+once_halted setup play _ = refl
 
 pub halted_setup : (state : State) (awaited : Awaited) → setup_in (halted_in state awaited) ≡ setup_in state
-halted_setup Init awaited = refl
-halted_setup (Ready setup paused) awaited = refl
 halted_setup (Playing setup play) awaited = once_halted setup play (next_of awaited)
-halted_setup (Stopping setup stopped) awaited = refl
+halted_setup _ awaited = refl
 
 -- ---- steps
 

@@ -1,8 +1,8 @@
 -- At each reading of the meter what came lies between the film's curves.
 use Rattle.std.specs.Prelude.{⊤}
-use Rattle.std.proofs.Common.{◌≡◌, ℕ, ◌+◌, ◌-◌, ◌<◌, ◌≤◌, ◌==◌, ◌&&◌, Bool, true, false, nat_lt}
-use Rattle.std.proofs.Common.{nat_le, cond, min, List, [], ◌∷◌, ◌++◌, length, take, get_or, Ok}
-use Rattle.std.proofs.Common.{refl, sym, ap, subst, ◌∙◌, append_assoc, arith, inl, inr}
+use Rattle.std.proofs.Common.{◌≡◌, ℕ, ◌+◌, ◌-◌, ◌<◌, ◌≤◌, ◌==◌, ◌&&◌, Bool, true, false, nat_lt, nat_le, cond, min}
+use Rattle.std.proofs.Common.{List, [], ◌∷◌, ◌++◌, length, take, get_or, Ok, refl, sym, ap, subst, ◌∙◌, append_assoc}
+use Rattle.std.proofs.Common.{arith, inl, inr}
 use Rattle.std.proofs.lemmas.Bool.{cases_lt, leb-true, ltb-true, and_parts}
 use Rattle.std.proofs.lemmas.List.{append-nil, length-append, length-take, take-append-le, take-take, take_all}
 use Rattle.vod_base.specs.Links.{IoEvent, HeardBytes, HeardEnd, HeardSlot, Sent}
@@ -32,17 +32,13 @@ use Rattle.connection_laws.proofs.MeterInput.{Stream, all_of, begun_sum, film_pl
 
 abbrev HasNoSlot : List ClientEvent → Type 0
 HasNoSlot [] = ⊤
-HasNoSlot (Reply m ∷ ms) = HasNoSlot ms
-HasNoSlot (Frame b ∷ ms) = HasNoSlot ms
-HasNoSlot (Report b ∷ ms) = HasNoSlot ms
 HasNoSlot (Slot t cut ∷ ms) = ⊥
+HasNoSlot (_ ∷ ms) = HasNoSlot ms
 
 no_slot_append : (a b : List ClientEvent) → HasNoSlot a → HasNoSlot b → HasNoSlot (a ++ b)
 no_slot_append [] b one two = two
-no_slot_append (Reply m ∷ a) b one two = no_slot_append a b one two
-no_slot_append (Frame x ∷ a) b one two = no_slot_append a b one two
-no_slot_append (Report x ∷ a) b one two = no_slot_append a b one two
 no_slot_append (Slot t cut ∷ a) b one two = absurd one
+no_slot_append (_ ∷ a) b one two = no_slot_append a b one two
 
 no_slot_if : (c : Bool) (a b : List ClientEvent) → HasNoSlot a → HasNoSlot b → HasNoSlot (cond c a b)
 no_slot_if true a b one two = one

@@ -1,17 +1,17 @@
 -- A report's missed slots are those of its events.
-use Rattle.std.proofs.Common.{◌≡◌, ℕ, ◌+◌, ◌&&◌, if◌then◌else◌, Option, Bool, true, false, List, [], ◌∷◌}
-use Rattle.std.proofs.Common.{length, arith, refl, sym, ap, ◌∙◌}
+use Rattle.std.proofs.Common.{◌≡◌, ℕ, ◌+◌, ◌&&◌, if◌then◌else◌, Option, Bool, true, false, List, [], ◌∷◌, length, arith}
+use Rattle.std.proofs.Common.{refl, sym, ap, ◌∙◌}
 use Rattle.std.proofs.lemmas.Bool.{and_from}
 use Rattle.vod_base.specs.Links.{IoEvent}
 use Rattle.film_frames.specs.declared.stored_films.Stored.{Stored}
 use Rattle.film_streams.specs.declared.settings.Settings.{Settings}
 use Rattle.session_laws.specs.PlayLaws.{slots_missed}
-use Rattle.session.specs.SlotSteps.{after_play, is_between, is_sending, is_taken}
-use Rattle.session.specs.SlotSteps.{after_slot, missed_between, sent_due, sent_slot, start_in, stepped_in}
+use Rattle.session.specs.SlotSteps.{after_play, is_between, is_sending, is_taken, after_slot, missed_between, sent_due}
+use Rattle.session.specs.SlotSteps.{sent_slot, start_in, stepped_in}
 use Rattle.session.specs.SessionStates.{OpenBooking, SessionState, open_of}
 use Rattle.session_laws.proofs.SlotCountLemmas.{missed_is}
-use Rattle.conn.specs.EventSteps.{Ending, Unheard, PeerEnded, Overfull, AtElement, InSlot, InReply, Ends, Round}
-use Rattle.conn.specs.EventSteps.{Runs, RunsAll}
+use Rattle.conn.specs.EventSteps.{Ending, Unheard, PeerEnded, Overfull, AtElement, InSlot, InReply, Ends, Round, Runs}
+use Rattle.conn.specs.EventSteps.{RunsAll}
 use Rattle.conn.specs.InputSteps.{HasHeard, IsClosed, Outcome, SentPart, Stage}
 use Rattle.conn.specs.declared.reports.ConnEnd.{ConnEnd}
 use Rattle.conn.specs.declared.reports.ConnReport.{ConnReport}
@@ -33,8 +33,7 @@ slotted_if : (old : SessionState) (slot : ℕ) (taken sending : Bool)
 slotted_if old slot true true =
     reply_keeps (λ (s : SessionState). s.late) (λ s. refl) (old.waits && is_between (stepped_in true slot old.state))
     (sent_due old slot)
-slotted_if old slot true false = omega arith
-slotted_if old slot false sending = omega arith
+slotted_if old slot _ _ = omega arith
 
 missed_if : (taken : Bool) (heard start slot : ℕ)
     → (if taken then missed_between heard start slot else 0) ≡ (if taken then slots_missed heard slot start else 0)
@@ -67,8 +66,6 @@ rounds_late old new (round ∷ rounds) runs =
 -- ---- ends
 ending_late : (old new : Stage) (count : ℕ) (ending : Ending) (end : ConnEnd) → Ends old count ending end new
     → new.session.late ≡ old.session.late + ending_missed old.session ending
-ending_late old new count Unheard end ends = ap (λ (s : Stage). s.session.late) ends.1 ∙ omega arith
-ending_late old new count PeerEnded end ends = ap (λ (s : Stage). s.session.late) ends.1 ∙ omega arith
 ending_late old new count (Overfull bytes) end ends = ap (λ (s : Stage). s.session.late) ends.3 ∙ omega arith
 ending_late old new count (AtElement round) end ends = round_late old new round ends.0
 ending_late old new count (InSlot slot front) end ends =
@@ -82,23 +79,22 @@ ending_late old new count (InReply round message outcome front) end ends =
     let failed = e.fails in
     ap (λ (s : Stage). s.session.late) failed.new_is
     ∙ heard_late failed.heard ∙ round_late old e.mid round e.runs
+ending_late old new count _ end ends = ap (λ (s : Stage). s.session.late) ends.1 ∙ omega arith
 
 closed_late : (held : Option OpenBooking) (last closed : SessionState) (halt : Outcome) → IsClosed held last halt closed
     → closed.late ≡ last.late
 closed_late held last closed halt closes =
     ap (λ (part : LastingPart). part.late) (close_keeps (closes_as held halt closes))
 
-pub late_is : (films : List Stored) (settings : Settings) (words : List ℕ) (doings : Activity)
-    (report : ConnReport) (done : HasDone films settings words doings report)
-    → report.late
+pub late_is : {films : List Stored} {settings : Settings} {words : List ℕ} {doings : Activity} {report : ConnReport}
+    (done : HasDone films settings words doings report) → report.late
     ≡ rounds_missed (first_stage films settings words) doings.rounds done.mid done.runs
     + ending_missed done.mid.session doings.ending
-late_is films settings words doings report done =
-    let first = first_stage films settings words in
+late_is {films} {settings} {words} {doings} {report} done =
     omega (
       arith,
       done.report_is.late,
       closed_late (open_of done.last.session) done.last.session done.closed doings.halt done.closes,
       ending_late done.mid done.last (length doings.rounds) doings.ending report.end done.ends,
-      rounds_late first done.mid doings.rounds done.runs,
+      rounds_late (first_stage films settings words) done.mid doings.rounds done.runs,
     )

@@ -1,10 +1,8 @@
 -- A connection that is asked for SETUP and PLAY, and perhaps TEARDOWN, has one play at most, of the
 -- entire film.
 use Rattle.std.specs.Prelude.{⊤}
-use Rattle.std.proofs.Common.{true, false, Option, None, is_some, inl, inr, ◌+◌, ◌≤◌}
-use Rattle.std.proofs.Common.{◌≡◌, ℕ, zero, suc, ◌<◌, ◌^◌, max, List, [], ◌∷◌, ◌++◌, length, get_or, codes, refl, sym}
-use Rattle.std.proofs.Common.{ap}
-use Rattle.std.proofs.Common.{subst, ◌∙◌, arith}
+use Rattle.std.proofs.Common.{true, false, Option, None, is_some, inl, inr, ◌+◌, ◌≤◌, ◌≡◌, ℕ, zero, suc, ◌<◌, ◌^◌, max}
+use Rattle.std.proofs.Common.{List, [], ◌∷◌, ◌++◌, length, get_or, codes, refl, sym, ap, subst, ◌∙◌, arith}
 use Rattle.film_frames.specs.FramedRuns.{run_pieces}
 use Rattle.plan_cert.specs.PlanSlots.{total_bytes}
 use Rattle.rtsp_client.specs.Requests.{film_url, play_text, setup_text}
@@ -24,17 +22,16 @@ use Rattle.rtsp_replies.specs.Messages.{IsMessage}
 use Rattle.session_laws.proofs.CompleteReplyLemmas.{replies_whole}
 use Rattle.conn.specs.EventSteps.{Round}
 use Rattle.conn.specs.InputSteps.{Answered, HasHeard, IsAskAnswered, IsReplied, Outcome, Passed, SentPart, Stage}
-use Rattle.conn.specs.InputSteps.{ElementStep, TakesAll}
+use Rattle.conn.specs.InputSteps.{ElementStep, TakesAll, Entered}
 use Rattle.connection_laws.specs.Courses.{IsCourseBetween, askings_of, slot_in, takings_askings}
 use Rattle.connection_laws.specs.ReplyPlaces.{slots_from, takings_slots}
 use Rattle.connection_laws.specs.Plays.{StationRequest, Asks, FilmPlay, kept_in, plays_admitted, plays_begun, plays_of}
 use Rattle.connection_laws.proofs.FilmBytes.{Stands, taken_stands}
-use Rattle.connection_laws.proofs.StationAnswers.{comes_as}
+use Rattle.connection_laws.proofs.StationAnswers.{comes_as, answers_as}
 use Rattle.connection_laws.proofs.KeptParts.{LastingPart, taken_keeps}
 use Rattle.connection_laws.proofs.GreatestSlots.{comes_heard}
 use Rattle.connection_laws.proofs.NoPlays.{AreNoPlays, IsNoPlay, event_none, no_play_begins, no_plays_front}
-use Rattle.connection_laws.proofs.NoPlays.{no_plays_rest}
-use Rattle.connection_laws.proofs.NoPlays.{rounds_none, takes_stands, takings_none}
+use Rattle.connection_laws.proofs.NoPlays.{no_plays_rest, rounds_none, takes_stands, takings_none}
 use Rattle.session_laws.proofs.PlayInReadyLemmas.{IsPlayHeard, play_heard}
 use Rattle.connection_laws.proofs.Requests.{rounds_requests, takings_requests}
 use Rattle.connection_laws.proofs.ClientSetups.{setup_is}
@@ -44,8 +41,7 @@ use Rattle.connection_laws.proofs.SetupOnly.{Beginning, IsWaiting, answered_wait
 use Rattle.connection_laws.proofs.SetupOnly.{setup_asked}
 use Rattle.connection_laws.proofs.CompleteReplies.{AreTeardowns, AreWhole, admitted_from, answered_named, opened_named}
 use Rattle.connection_laws.proofs.CompleteReplies.{id_printed, play_room, reply_whole, rounds_torn, setup_room}
-use Rattle.connection_laws.proofs.CompleteReplies.{takings_torn}
-use Rattle.connection_laws.proofs.CompleteReplies.{teardowns_cut, whole_later}
+use Rattle.connection_laws.proofs.CompleteReplies.{takings_torn, teardowns_cut, whole_later}
 use Rattle.connection_laws.specs.Replies.{replies_of, takings_replies}
 use Rattle.connection_laws.proofs.FirstPlays.{IsWished, wished_play}
 use Rattle.connection_laws.proofs.FilmReplies.{IsFilmAnswer, IsPlayBegun as IsPlayBegunAt, play_begun as play_begun_at}
@@ -53,8 +49,6 @@ use Rattle.connection_laws.proofs.KeptSetups.{opened_setup, replied_setup}
 use Rattle.connection_laws.specs.WatchEnds.{AreAnswers}
 use Rattle.connection_laws.proofs.ReplyReadings.{IsSetupRead, setup_read}
 use Rattle.connection_laws.proofs.RequestReplies.{IsNamed, named_still, setup_replied}
-use Rattle.conn.specs.InputSteps.{Entered}
-use Rattle.connection_laws.proofs.StationAnswers.{answers_as}
 
 -- ---- the walk to PLAY
 
@@ -84,10 +78,9 @@ pub record IsOnePlay (b : Beginning) (out : Outlook) (slot ahead : ℕ) (slots :
 
 -- the replies to so many SETUPs, to PLAY and to TEARDOWN, as the client reads them
 abbrev pub AreRead : Beginning → ℕ → List (List ℕ) → Type 0
-AreRead b zero [] = ⊥
 AreRead b zero (reply ∷ replies) = IsFilmAnswer b reply × AreAnswers replies
-AreRead b (suc n) [] = ⊥
 AreRead b (suc n) (reply ∷ replies) = IsSetupRead reply × AreRead b n replies
+AreRead b _ [] = ⊥
 
 -- where no SETUP is to come, there is a session
 abbrev pub IsReadyFor : ℕ → SessionState → Type 0
@@ -110,9 +103,7 @@ IsFresh (one ∷ two ∷ ahead) s = ⊥
 
 has_setup : (state : State) → has_session_in state ≡ is_some (setup_in state)
 has_setup Init = refl
-has_setup (Ready setup paused) = refl
-has_setup (Playing setup play) = refl
-has_setup (Stopping setup stop) = refl
+has_setup _ = refl
 
 ready_still : (old new : SessionState) (n : ℕ) → setup_in new.state ≡ setup_in old.state → IsReadyFor n new
     → IsReadyFor n old

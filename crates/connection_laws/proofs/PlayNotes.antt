@@ -19,8 +19,7 @@ use Rattle.session.specs.declared.states.State.TheVariants.{Init, Ready, Playing
 use Rattle.session.specs.RequestSteps.{after_halt}
 use Rattle.session.specs.SlotSteps.{admitted_in, halted_in, halted_notes, kept_of, note_of, state_once_halted}
 use Rattle.session.specs.SessionStates.{SessionState}
-use Rattle.conn.specs.InputSteps.{HasHeard, IsHaltAnswered, Outcome, Unasked}
-use Rattle.conn.specs.InputSteps.{Entered}
+use Rattle.conn.specs.InputSteps.{HasHeard, IsHaltAnswered, Outcome, Unasked, Entered}
 use Rattle.connection_laws.specs.Notes.{StationCall, kept_later, note_for, notes_of_calls, noted_entry, noted_for}
 use Rattle.connection_laws.specs.Notes.{station_call}
 use Rattle.connection_laws.specs.Plays.{kept_by, kept_with}
@@ -109,44 +108,31 @@ unasked_turn plays state asking = still_turn plays state asking Unasked (λ late
 pub no_note : (state : State) (awaited : Awaited) (placed : PlacedEntry) (later : List StationCall)
     → ((prepared : Prepared) → awaited ≡ Play prepared → ⊥)
     → noted_entry state awaited placed later ≡ []
-no_note Init awaited placed later other = refl
-no_note (Ready setup paused) Nothing placed later other = refl
 no_note (Ready setup paused) (Play prepared) placed later other = absurd (other prepared refl)
-no_note (Ready setup paused) (Halt keep next) placed later other = refl
-no_note (Ready setup paused) (Look sequence) placed later other = refl
-no_note (Ready setup paused) (Offer sequence) placed later other = refl
-no_note (Playing setup play) awaited placed later other = refl
-no_note (Stopping setup stop) awaited placed later other = refl
+no_note _ _ placed later other = refl
 
 -- ---- a halt
 after_open : (setup : Setup) (play : Played) (next : AfterHalt) (later : List StationCall)
     → open_note (state_once_halted setup play next) later ≡ []
 after_open setup play Done later = refl
-after_open setup play (Paused run) later = refl
-after_open setup play Torn later = refl
+after_open setup play _ later = refl
 
 pub halted_open : (state : State) (awaited : Awaited) (later : List StationCall)
     → open_note (halted_in state awaited) later ≡ []
-halted_open Init awaited later = refl
-halted_open (Ready setup paused) awaited later = refl
 halted_open (Playing setup play) awaited later = after_open setup play _ later
-halted_open (Stopping setup stop) awaited later = refl
+halted_open _ awaited later = refl
 
 -- what is due of a play that is under way
 abbrev pub IsKept : State → Awaited → ℕ → Type 0
-IsKept Init awaited keep = Unit {0}
-IsKept (Ready setup paused) awaited keep = Unit {0}
 IsKept (Playing setup play) awaited keep = kept_of awaited play.pacer.due ≡ keep
-IsKept (Stopping setup stop) awaited keep = Unit {0}
+IsKept _ awaited keep = Unit {0}
 
 halted_as : {keep : ℕ} (state : State) (awaited : Awaited) (turn : StationCall) (later : List StationCall)
     → IsKept state awaited keep → ((k : ℕ) → kept_with turn.outcome k ≡ keep)
     → open_note state (turn ∷ later) ≡ halted_notes state awaited
-halted_as Init awaited turn later is kept = refl
-halted_as (Ready setup paused) awaited turn later is kept = refl
 halted_as (Playing setup play) awaited turn later is kept =
     ap (λ k. note_of setup play k ∷ []) (kept (kept_later later (total_bytes play.plan)) ∙ sym is)
-halted_as (Stopping setup stop) awaited turn later is kept = refl
+halted_as _ awaited turn later is kept = refl
 
 -- the entry of a halt, and the session after it
 pub record HaltEntry (s : SessionState) : Type 0 where

@@ -1,8 +1,7 @@
 -- What a client reads in the reply to PLAY that a server writes.
-use Rattle.std.proofs.Common.{◌≡◌, ℕ, zero, suc, ◌+◌, ◌-◌, ◌*◌, ◌/◌, ◌%◌, ◌^◌, ◌<◌, ◌≤◌, ◌&&◌, ◌==◌}
-use Rattle.std.proofs.Common.{Bool, true, false, not, nat_lt, nat_le, List, [], ◌∷◌, ◌++◌, All}
-use Rattle.std.proofs.Common.{codes, decimal, length, get_or, take, drop, Some, None, refl, sym, ap}
-use Rattle.std.proofs.Common.{subst, ◌∙◌, append_assoc, arith, inl, inr, rules}
+use Rattle.std.proofs.Common.{◌≡◌, ℕ, zero, suc, ◌+◌, ◌-◌, ◌*◌, ◌/◌, ◌%◌, ◌^◌, ◌<◌, ◌≤◌, ◌&&◌, ◌==◌, Bool, true, false}
+use Rattle.std.proofs.Common.{not, nat_lt, nat_le, List, [], ◌∷◌, ◌++◌, All, codes, decimal, length, get_or, take, drop}
+use Rattle.std.proofs.Common.{Some, None, refl, sym, ap, subst, ◌∙◌, append_assoc, arith, inl, inr, rules}
 use Rattle.std.specs.Prelude.{option_map, option_and_then}
 use Rattle.std.specs.Int.{div_ceil}
 use Rattle.std.proofs.lemmas.Bool.{cases_lt, cond-true, eq-eqb, eqb-true, ltb-true, le-leb}
@@ -73,8 +72,7 @@ and_three false b c one two three_ = one
 -- a first zero of more than one digit
 no_zero : (long zero_ : Bool) → (long ≡ true → zero_ ≡ true → ⊥) → not (long && zero_) ≡ true
 no_zero true true clash = absurd (clash refl refl)
-no_zero true false clash = refl
-no_zero false zero_ clash = refl
+no_zero _ _ clash = refl
 
 -- the three digits after a point
 record ThreeDigits : Type 0 where

@@ -1,7 +1,7 @@
 -- The plays of a course send its runs in order.
-use Rattle.std.proofs.Common.{◌≡◌, ℕ, ◌+◌, ◌-◌, ◌%◌, ◌≤◌, ◌⊎◌, ◌&&◌, ◌++◌, if◌then◌else◌, Bool, true, false, List, [], ◌∷◌}
-use Rattle.std.proofs.Common.{Option, Some, None, slice_get, slice_index, add_assoc, refl, sym, ap}
-use Rattle.std.proofs.Common.{subst, ◌∙◌, inl, inr, arith}
+use Rattle.std.proofs.Common.{◌≡◌, ℕ, ◌+◌, ◌-◌, ◌%◌, ◌≤◌, ◌⊎◌, ◌&&◌, ◌++◌, if◌then◌else◌, Bool, true, false, List, []}
+use Rattle.std.proofs.Common.{◌∷◌, Option, Some, None, slice_get, slice_index, add_assoc, refl, sym, ap, subst, ◌∙◌}
+use Rattle.std.proofs.Common.{inl, inr, arith}
 use Rattle.std.proofs.lemmas.Bool.{true≢false}
 use Rattle.std.proofs.lemmas.List.{append_assoc, append-nil}
 use Rattle.plan_cert.specs.PlanSlots.{total_bytes}
@@ -28,21 +28,19 @@ use Rattle.film_streams.specs.declared.setups.Setup.{Setup}
 use Rattle.session.specs.declared.states.State.{State}
 use Rattle.session.specs.declared.states.State.TheVariants.{Init, Ready, Playing, Stopping}
 use Rattle.film_streams.specs.declared.stream_numbers.StreamSource.{StreamSource}
-use Rattle.session.specs.RunRequests.{sending_of}
+use Rattle.session.specs.RunRequests.{sending_of, counts_before}
 use Rattle.film_streams.specs.Films.{IsFilmAt}
-use Rattle.film_streams.specs.StreamNumbers.{counts_after, identity_of}
+use Rattle.film_streams.specs.StreamNumbers.{counts_after, identity_of, source_of}
 use Rattle.session.specs.Laws.{GoesOn}
 use Rattle.session.specs.RequestSteps.{after_admission, after_halt, counts_done}
-use Rattle.film_streams.specs.StreamNumbers.{source_of}
-use Rattle.session.specs.RunRequests.{counts_before}
 use Rattle.session.specs.SessionStates.{SessionState}
-use Rattle.session.specs.SlotSteps.{admitted_in, after_play, after_slot, can_reply, due_state, finished_in, is_between, is_sending}
-use Rattle.session.specs.SlotSteps.{is_done_in, is_taken, sent_due, sent_reply, sent_slot}
-use Rattle.session.specs.SlotSteps.{stepped_in}
+use Rattle.session.specs.SlotSteps.{admitted_in, after_play, after_slot, can_reply, due_state, finished_in, is_between}
+use Rattle.session.specs.SlotSteps.{is_sending, is_done_in, is_taken, sent_due, sent_reply, sent_slot, stepped_in}
 use Rattle.session.specs.SlotTransitions.{after_stop}
 use Rattle.session_laws.proofs.RunLemmas.{IsLeftBy, IsNextRun, RunsAs, Replies, SetsUp, AsksPlay, Stops, AsksLook}
 use Rattle.session_laws.proofs.RunLemmas.{AsksOffer, one_film, run_goes_on, runs_as}
 use Rattle.conn.specs.InputSteps.{IsReplied, Outcome, Unasked, Entered, WasFull, Offered, SentPart, Stage}
+use Rattle.conn.specs.InputSteps.{IsHaltAnswered}
 use Rattle.connection_laws.specs.Courses.{Course, asked_by, askings_of, course_plays, first_stage}
 use Rattle.connection_laws.specs.Plays.{FilmPlay, StationRequest, Asks, kept_by, kept_in, kept_with, plays_admitted}
 use Rattle.connection_laws.specs.Plays.{plays_begun, plays_of}
@@ -50,11 +48,9 @@ use Rattle.connection_laws.specs.LookLimits.{course_looks, look_in, looks_in}
 use Rattle.connection_laws.specs.PlayRuns.{AreRunsInOrder, IsFirstRun, IsLaterRun, RunPlace, SendsNext, run_place}
 use Rattle.connection_laws.proofs.FilmBytes.{Stands, reply_awaited}
 use Rattle.connection_laws.proofs.StationAnswers.{AnswersAs, NoneAsked, PlayAdmitted, PlayRefused, PlayFull, PlayHalted}
-use Rattle.connection_laws.proofs.StationAnswers.{LookMade, LookFull, OfferMade, answers_as}
-use Rattle.connection_laws.proofs.StationAnswers.{FinishesAs, NothingLeft, DoneHalted}
-use Rattle.connection_laws.proofs.StationAnswers.{ComesAs, BytesCame, SlotCame}
+use Rattle.connection_laws.proofs.StationAnswers.{LookMade, LookFull, OfferMade, answers_as, FinishesAs, NothingLeft}
+use Rattle.connection_laws.proofs.StationAnswers.{DoneHalted, ComesAs, BytesCame, SlotCame}
 use Rattle.connection_laws.proofs.CourseAskings.{IsKeptByAskings, course_kept}
-use Rattle.conn.specs.InputSteps.{IsHaltAnswered}
 use Rattle.connection_laws.proofs.KeptParts.{reply_keeps, slot_keeps}
 
 -- what the runs of a session go by, and what of a reply matters to them
@@ -193,11 +189,9 @@ module _ (words : List ℕ) where
 
   same_kept : (at : Standing) (g : ℕ → ℕ) (state : State) → ((k : ℕ) → at.kept k ≡ g k) → IsIn state at
       → IsIn state (record at { kept = g })
-  same_kept at g Init same is = is
-  same_kept at g (Ready setup paused) same is = is
   same_kept at g (Playing setup play) same is =
       subst (λ k. IsUnderWay at.stream setup play.run (play.run.sent + k) at.last) (same (total_bytes play.plan)) is
-  same_kept at g (Stopping setup stop) same is = is
+  same_kept at g _ same is = is
 
   still : {old new : SessionState} {asked : Awaited} {outcome : Outcome} → IsQuiet asked outcome
       → new.looks_left ≡ old.looks_left - look_in asked → Moves old new → Leads old new (Asks asked outcome ∷ [])
@@ -214,9 +208,7 @@ module _ (words : List ℕ) where
   stepped : (at : Standing) (stop : Bool) (slot : ℕ) (state : State) → IsIn state at
       → IsIn (stepped_in stop slot state) at
   stepped at stop slot Init is = is
-  stepped at stop slot (Ready setup paused) is = is
-  stepped at stop slot (Playing setup play) is = is
-  stepped at stop slot (Stopping setup halted) is = is
+  stepped at stop slot _ is = is
 
   due_between : (at : Standing) (between : Bool) (slot : ℕ) (state : State) → IsIn state at
       → IsIn (if between then stepped_in false slot (stepped_in true slot state) else stepped_in true slot state) at
@@ -229,14 +221,13 @@ module _ (words : List ℕ) where
 
   stopped : (at : Standing) (state : State) → IsIn state at → IsIn (after_stop state)
       (record at { flags = record { waits = false; tearing = at.flags.tearing; torn = at.flags.tearing } })
-  stopped at Init is = is
   stopped at (Ready setup paused) (inl torn) = inl (torn.0, torn.0)
   stopped at (Ready setup paused) (inr rest) = inr rest
-  stopped at (Playing setup play) is = is
   stopped at (Stopping setup stop) is = elim is.1 [
     | inl tearing ↦ inl (tearing, tearing)
     | inr rest ↦ inr rest
   ]
+  stopped at _ is = is
 
   slot_looks : (s : SessionState) (slot : ℕ) → (after_slot s slot).looks_left ≡ s.looks_left
   slot_looks s slot =
@@ -262,8 +253,7 @@ module _ (words : List ℕ) where
   slot_moves : (s : SessionState) (slot : ℕ) (taken sending : Bool)
       → Moves s (if taken then (if sending then after_play (sent_slot s slot) else record s { heard = slot }) else s)
   slot_moves s slot true true = sent_moves s slot
-  slot_moves s slot true false = λ kept last is. is
-  slot_moves s slot false sending = λ kept last is. is
+  slot_moves s slot _ _ = λ kept last is. is
 
   -- ---- halts
 
@@ -346,11 +336,9 @@ module _ (words : List ℕ) where
   done_asks setup play keep awaited false rest = inl rest
 
   play_asks : (state : State) (awaited : Awaited) → awaited ≡ Nothing → AsksIn state (finished_in state awaited)
-  play_asks Init awaited rest = inl rest
-  play_asks (Ready setup paused) awaited rest = inl rest
   play_asks (Playing setup play) awaited rest =
       done_asks setup play play.pacer.sent awaited (is_done_in (Playing setup play)) rest
-  play_asks (Stopping setup stop) awaited rest = inl rest
+  play_asks _ awaited rest = inl rest
 
   slot_asks : (s : SessionState) (slot : ℕ) (taken sending : Bool) → s.awaited ≡ Nothing
       → (let t : SessionState = if taken then (if sending then after_play (sent_slot s slot) else record s
@@ -358,8 +346,7 @@ module _ (words : List ℕ) where
   slot_asks s slot true true rest =
       play_asks (sent_slot s slot).state (sent_slot s slot).awaited
       (reply_awaited (s.waits && is_between (stepped_in true slot s.state)) (sent_due s slot) ∙ rest)
-  slot_asks s slot true false rest = inl rest
-  slot_asks s slot false sending rest = inl rest
+  slot_asks s slot _ _ rest = inl rest
 
   finishes : {awaited : Awaited} {halt : Outcome} (s new : SessionState) → AsksIn s.state s.awaited
       → s.awaited ≡ awaited → FinishesAs s new awaited halt → Leads s new (Asks s.awaited halt ∷ [])
@@ -393,11 +380,10 @@ module _ (words : List ℕ) where
   said : (at : Standing) (state : State) (tearing : Bool) → at.flags.waits ≡ false → at.flags.torn ≡ false
       → IsIn state at
       → IsIn state (record at { flags = record { waits = true; tearing = tearing; torn = at.flags.torn } })
-  said at Init tearing replied on is = is
   said at (Ready setup paused) tearing replied on (inl torn) = absurd (true≢false (sym torn.1 ∙ on))
   said at (Ready setup paused) tearing replied on (inr rest) = inr rest
-  said at (Playing setup play) tearing replied on is = is
   said at (Stopping setup stop) tearing replied on is = absurd (true≢false (sym is.0 ∙ replied))
+  said at _ tearing replied on is = is
 
   module _ (old : SessionState) (replied : old.waits ≡ false) (linked : old.torn ≡ false) where
     abbrev Answers : Outcome → SessionState → Ask → SessionState → Type 0

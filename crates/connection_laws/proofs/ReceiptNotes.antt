@@ -1,6 +1,6 @@
 -- The receipts and offers of a connection's report, event by event.
-use Rattle.std.proofs.Common.{◌≡◌, ℕ, ◌++◌, List, [], ◌∷◌, Option, refl, sym, ap, subst, ◌∙◌}
-use Rattle.std.proofs.lemmas.List.{append_assoc, append-nil}
+use Rattle.std.proofs.Common.{◌≡◌, ℕ, ◌++◌, List, [], ◌∷◌, Option, refl, sym, ap, subst, ◌∙◌, map, true}
+use Rattle.std.proofs.lemmas.List.{append_assoc, append-nil, map-append}
 use Rattle.film_frames.specs.declared.stored_films.Stored.{Stored}
 use Rattle.admission.specs.declared.entries.Answer.{Answer}
 use Rattle.admission.specs.Makers.{PlacedEntry}
@@ -10,7 +10,7 @@ use Rattle.session_records.specs.declared.notes.OfferNote.{OfferNote}
 use Rattle.session_records.specs.declared.notes.Receipt.{Receipt}
 use Rattle.session_records.specs.declared.notes.Receipt.TheVariants.{Entry as EntryReceipt, Full as FullReceipt}
 use Rattle.film_streams.specs.declared.settings.Settings.{Settings}
-use Rattle.session.specs.SlotSteps.{after_slot}
+use Rattle.session.specs.SlotSteps.{after_slot, sent_reply}
 use Rattle.session.specs.SessionStates.{OpenBooking, SessionState}
 use Rattle.session_laws.proofs.RequestShapes.{HearsAs, Replies, SetsUp, AsksPlay, Stops, AsksLook, AsksOffer, hears_as}
 use Rattle.conn.specs.InputSteps.{HasHeard, Outcome, Unasked, Entered, WasFull}
@@ -19,15 +19,11 @@ use Rattle.conn.specs.Agreement.{Activity, HasDone, doings_outcomes}
 use Rattle.connection_laws.specs.Courses.{first_stage}
 use Rattle.connection_laws.specs.Receipts.{offer_in, offers_in, receipt_in, receipts_in}
 use Rattle.connection_laws.proofs.StationAnswers.{AnswersAs, NoneAsked, PlayAdmitted, PlayRefused, PlayFull, PlayHalted}
-use Rattle.connection_laws.proofs.StationAnswers.{LookMade, LookFull, OfferMade, answers_as}
-use Rattle.connection_laws.proofs.StationAnswers.{FinishesAs, NothingLeft, DoneHalted}
-use Rattle.connection_laws.proofs.StationAnswers.{ClosesAs, NothingOpen, BookingHalted}
+use Rattle.connection_laws.proofs.StationAnswers.{LookMade, LookFull, OfferMade, answers_as, FinishesAs, NothingLeft}
+use Rattle.connection_laws.proofs.StationAnswers.{DoneHalted, ClosesAs, NothingOpen, BookingHalted}
 use Rattle.connection_laws.proofs.KeptParts.{slot_keeps}
-use Rattle.std.proofs.lemmas.List.{map-append}
 use Rattle.connection_laws.specs.Notes.{StationCall, outcome_of}
 use Rattle.connection_laws.proofs.CourseTurns.{IsKeptByDoings, doings_kept, turns_told}
-use Rattle.session.specs.SlotSteps.{sent_reply}
-use Rattle.std.proofs.Common.{map, true}
 
 -- what is noted of answers grows by theirs
 record Logs (old new : SessionState) (outcomes : List Outcome) : Type 0 where
@@ -163,22 +159,15 @@ logs_kept = record {
   close = λ held halt last closed closing opens rest. logs_closed closing;
 }
 
-logs_all : (films : List Stored) (settings : Settings) (words : List ℕ) (doings : Activity) (report : ConnReport)
-    (done : HasDone films settings words doings report)
-    → Logs (first_stage films settings words).session done.closed (doings_outcomes doings)
-logs_all films settings words doings report done =
-    subst (Logs (first_stage films settings words).session done.closed)
-    (turns_told films settings words doings report done)
-    (doings_kept logs_kept films settings words doings report done)
+module _ {films : List Stored} {settings : Settings} {words : List ℕ} {doings : Activity} {report : ConnReport}
+    (done : HasDone films settings words doings report) where
+  logs_all : Logs (first_stage films settings words).session done.closed (doings_outcomes doings)
+  logs_all =
+      subst (Logs (first_stage films settings words).session done.closed) (turns_told done)
+      (doings_kept done logs_kept)
 
-pub receipts_told : (films : List Stored) (settings : Settings) (words : List ℕ) (doings : Activity)
-    (report : ConnReport) → HasDone films settings words doings report
-    → report.receipts.items ≡ receipts_in (doings_outcomes doings)
-receipts_told films settings words doings report done =
-    done.report_is.receipts ∙ (logs_all films settings words doings report done).receipts
+  pub receipts_told : report.receipts.items ≡ receipts_in (doings_outcomes doings)
+  receipts_told = done.report_is.receipts ∙ logs_all.receipts
 
-pub offers_told : (films : List Stored) (settings : Settings) (words : List ℕ) (doings : Activity)
-    (report : ConnReport) → HasDone films settings words doings report
-    → report.offers.items ≡ offers_in (doings_outcomes doings)
-offers_told films settings words doings report done =
-    done.report_is.offers ∙ (logs_all films settings words doings report done).offers
+  pub offers_told : report.offers.items ≡ offers_in (doings_outcomes doings)
+  offers_told = done.report_is.offers ∙ logs_all.offers

@@ -1,7 +1,6 @@
 -- Each reply of a connection stands at the first boundary from what was due when its request was processed.
-use Rattle.std.proofs.Common.{◌≡◌, ℕ, ◌+◌, ◌-◌, ◌<◌, ◌≤◌, ◌++◌, ◌&&◌, if◌then◌else◌, Bool, true}
-use Rattle.std.proofs.Common.{false, min, List, [], ◌∷◌, Option, Some, None, length, refl, ap, sym}
-use Rattle.std.proofs.Common.{◌∙◌, subst, inl, arith}
+use Rattle.std.proofs.Common.{◌≡◌, ℕ, ◌+◌, ◌-◌, ◌<◌, ◌≤◌, ◌++◌, ◌&&◌, if◌then◌else◌, Bool, true, false, min, List, []}
+use Rattle.std.proofs.Common.{◌∷◌, Option, Some, None, length, refl, ap, sym, ◌∙◌, subst, inl, arith}
 use Rattle.conn.proofs.ReplyPlacement.{boundary_here}
 use Rattle.std.proofs.lemmas.Bool.{true≢false}
 use Rattle.film_frames.specs.FramedRuns.{run_pieces}
@@ -23,18 +22,15 @@ use Rattle.conn.specs.InputSteps.{Outcome, SentPart, Text}
 use Rattle.conn.proofs.FilmBytes.{sent_through, slot_is, stopped_is}
 use Rattle.connection_laws.specs.ReplyPlaces.{AreSentAt, IsSentAt}
 use Rattle.connection_laws.specs.Plays.{StationRequest, Asks, FilmPlay, plays_admitted, plays_begun, due_by as all_due}
-use Rattle.connection_laws.specs.Plays.{due_of}
-use Rattle.connection_laws.specs.Plays.{kept_by, kept_in, kept_with, plays_of}
+use Rattle.connection_laws.specs.Plays.{due_of, kept_by, kept_in, kept_with, plays_of}
 use Rattle.connection_laws.specs.Replies.{placed_text, placed_texts}
 use Rattle.connection_laws.proofs.JoinedFilms.{IsOnTime, IsSound, play_with, through_time}
 use Rattle.connection_laws.proofs.TextPlaces.{AreLater, StandAt, from_lower, later_lower, none_due, over_at, text_at}
 use Rattle.connection_laws.proofs.Slots.{ended_at, ending_cases, going_cases, parts_of, state_after, waits_after}
 use Rattle.connection_laws.proofs.RequestEffects.{Begins, Ends, Ending, Going, Halts, Idle, IsStill, Sends, Starts}
-use Rattle.connection_laws.proofs.RequestEffects.{Stays, TurnsAs}
-use Rattle.connection_laws.proofs.RequestEffects.{pacing_for, sends_in}
-use Rattle.connection_laws.proofs.WaitingReplies.{Fits, GoesTo, IsHeld, Stand, after_slot, at_here, due_far}
-use Rattle.connection_laws.proofs.WaitingReplies.{due_going, due_here, goes_same, held_here, parts_in, slot_at}
-use Rattle.connection_laws.proofs.WaitingReplies.{point, still_held}
+use Rattle.connection_laws.proofs.RequestEffects.{Stays, TurnsAs, pacing_for, sends_in}
+use Rattle.connection_laws.proofs.WaitingReplies.{Fits, GoesTo, IsHeld, Stand, after_slot, at_here, due_far, due_going}
+use Rattle.connection_laws.proofs.WaitingReplies.{due_here, goes_same, held_here, parts_in, slot_at, point, still_held}
 use Rattle.film_streams.specs.declared.setups.Setup.{Setup}
 use Rattle.session.specs.declared.states.Play.{Play as Played}
 
@@ -91,8 +87,7 @@ in_hand_of : (sends : Sends) (slot : ℕ) (later : LaterCourse) →
     Stand sends (Some slot) later.askings later.end later.slots later.parts →
     Stand sends None later.askings later.end (slot ∷ later.slots) later.parts
 in_hand_of Idle slot later stand = stand
-in_hand_of (Going p) slot later stand = in_hand stand
-in_hand_of (Ending p) slot later stand = in_hand stand
+in_hand_of _ slot later stand = in_hand stand
 
 taken_fits : {sends : Sends} {heard : ℕ} {askings : List StationRequest} {end : ℕ} {slots : List ℕ} {parts : List
     SentPart}
@@ -278,16 +273,6 @@ pub record Replying (state : State) (goes : Bool) (heard : ℕ) (text : List ℕ
 pub replying : (state : State) (goes : Bool) (heard : ℕ) (text : List ℕ) → IsSound (sends_in state) true heard
     → is_between state ≡ goes
     → Replying state goes heard text
-replying Init true heard text sound is = record {
-  after = None;
-  held = refl;
-  goes_on = record { later = omega arith; rest = λ askings end more rest on fits. idle_reply fits };
-}
-replying (Ready setup paused) true heard text sound is = record {
-  after = None;
-  held = refl;
-  goes_on = record { later = omega arith; rest = λ askings end more rest on fits. idle_reply fits };
-}
 replying (Playing setup play) true heard text sound is = record {
   after = None;
   held = refl;
@@ -309,6 +294,11 @@ replying (Stopping setup stop) false heard text sound is = record {
   after = Some heard;
   held = (refl, held_here stop.pacer heard sound.0 is);
   goes_on = goes_same (point (Ending stop.pacer) heard (Some heard));
+}
+replying _ true heard text sound is = record {
+  after = None;
+  held = refl;
+  goes_on = record { later = omega arith; rest = λ askings end more rest on fits. idle_reply fits };
 }
 
 -- ---- a slot
@@ -343,11 +333,10 @@ going_held : {p : PacerState} {heard slot : ℕ} {between : Bool} (waits : Bool)
     → stands_at_boundary (after_step true slot p) ≡ between → IsHeld pending (Going p) waits heard
     → IsHeld (after_slot between pending) (Going (sent_through slot p)) (if waits && between then false else waits) slot
 going_held {p} {slot} {between} true None on later stands held = absurd (true≢false held)
-going_held {p} {slot} {between} false None on later stands held = refl
 going_held {p} {slot} {between} false (Some taken) on later stands held = absurd (true≢false (sym held.0))
-going_held {p} {slot} {between = true} true (Some taken) on later stands held = refl
 going_held {p} {slot} {between = false} true (Some taken) on later stands held =
     (refl, still_held on.pacing later held.1 stands)
+going_held _ _ on later stands held = refl
 
 -- the rest of a play that was halted
 abbrev ends_in : Bool → PacerState → Sends
@@ -462,8 +451,6 @@ pub slot_moves : {state : State} {waits : Bool} {heard slot : ℕ} {text : List 
     → is_sending state ≡ true
     → IsSound (sends_in state) waits heard → heard < slot → IsHeld pending (sends_in state) waits heard
     → SlotMoves state waits heard slot text pending
-slot_moves {state = Init} sending sound later held = absurd (true≢false (sym sending))
-slot_moves {state = Ready setup paused} sending sound later held = absurd (true≢false (sym sending))
 slot_moves {state = Playing setup play} {waits} sending sound later held = going_moves waits setup play sound later held
 slot_moves {state = Stopping setup stop} {waits = false} {slot} {text} sending sound later held =
     absurd (true≢false (sym sound.1))
@@ -482,3 +469,4 @@ slot_moves {state = Stopping setup stop} {waits = true} {heard} {slot} {text} {p
           (parts_of true (Stopping setup stop) text slot)) (sym sends)
           (ending_slot text sound later held);
     }
+slot_moves sending sound later held = absurd (true≢false (sym sending))

@@ -9,27 +9,25 @@ use Rattle.session.specs.declared.states.Awaited.{Awaited}
 use Rattle.session.specs.declared.states.Awaited.TheVariants.{Nothing, Halt}
 use Rattle.session.specs.declared.states.AfterHalt.TheVariants.{Done}
 use Rattle.session.specs.RequestSteps.{is_answered}
-use Rattle.session.specs.SlotSteps.{can_reply, after_play, is_between, is_done_in, is_sending}
-use Rattle.session.specs.SlotSteps.{is_taken, next_of, sent_due, sent_in, sent_reply, sent_slot}
-use Rattle.session.specs.SlotSteps.{after_slot, step_bytes, stepped_in}
+use Rattle.session.specs.SlotSteps.{can_reply, after_play, is_between, is_done_in, is_sending, is_taken, next_of}
+use Rattle.session.specs.SlotSteps.{sent_due, sent_in, sent_reply, sent_slot, after_slot, step_bytes, stepped_in}
 use Rattle.session.specs.SessionStates.{SessionState}
 use Rattle.conn.specs.Films.{round_parts, rounds_parts, takings_parts}
 use Rattle.conn.specs.EventSteps.{Round}
-use Rattle.conn.specs.InputSteps.{Answered, Film, IsReplied}
-use Rattle.conn.specs.InputSteps.{Outcome, SentPart, Passed, Stage, ElementStep, TakesAll, Text}
-use Rattle.conn.specs.InputSteps.{due_parts, film_bytes, slot_parts}
+use Rattle.conn.specs.InputSteps.{Answered, Film, IsReplied, Outcome, SentPart, Passed, Stage, ElementStep, TakesAll}
+use Rattle.conn.specs.InputSteps.{Text, due_parts, film_bytes, slot_parts}
 use Rattle.connection_laws.specs.Courses.{IsCourseBetween, askings_of, first_stage, greatest_slot, rounds_bytes}
-use Rattle.connection_laws.specs.Courses.{round_askings}
+use Rattle.connection_laws.specs.Courses.{round_askings, Course, course_film}
 use Rattle.connection_laws.specs.Plays.{film_written, plays_of}
 use Rattle.connection_laws.specs.Replies.{placed_texts, replies_of, takings_replies, text_of, waiting_reply}
-use Rattle.connection_laws.specs.Replies.{insert_texts}
+use Rattle.connection_laws.specs.Replies.{insert_texts, course_texts, course_replies}
 use Rattle.connection_laws.proofs.FilmBytes.{Stands, opened_stands, round_step, stands_by, taken_stands, turn_after}
 use Rattle.connection_laws.proofs.FilmBytes.{reply_awaited}
 use Rattle.connection_laws.proofs.GreatestSlots.{film_written_is}
 use Rattle.connection_laws.proofs.RequestEffects.{turns_as}
-use Rattle.connection_laws.proofs.TextPlacement.{course_film, parts_woven, rounds_sent}
-use Rattle.connection_laws.proofs.StationAnswers.{FinishesAs, NothingLeft, DoneHalted}
-use Rattle.connection_laws.proofs.StationAnswers.{ComesAs, BytesCame, SlotCame, comes_as}
+use Rattle.connection_laws.proofs.TextPlacement.{film_sent, parts_woven, rounds_sent}
+use Rattle.connection_laws.proofs.StationAnswers.{FinishesAs, NothingLeft, DoneHalted, ComesAs, BytesCame, SlotCame}
+use Rattle.connection_laws.proofs.StationAnswers.{comes_as}
 
 -- the texts among parts
 abbrev texts_in : List SentPart → List (List ℕ)
@@ -145,8 +143,6 @@ slot_cases : (old : SessionState) (slot : ℕ) (taken sending : Bool) → old.aw
     if taken then (if sending then after_play (sent_slot old slot) else record old { heard = slot }) else old in
     (texts_in (if taken && sending then due_parts old slot else []) ++ waiting_reply s ≡ waiting_reply old)
     × (next_of s.awaited ≡ Done)
-slot_cases old slot false sending rest = (refl, ap next_of rest)
-slot_cases old slot true false rest = (refl, ap next_of rest)
 slot_cases old slot true true rest =
     let between : Bool = is_between (stepped_in true slot old.state) in
     let goes : Bool = old.waits && between in
@@ -157,6 +153,7 @@ slot_cases old slot true true rest =
           (step_bytes false slot (stepped_in true slot old.state)) (step_bytes false slot old.state),
       done_next (is_done_in sent.state) (sent_in sent.state) sent.awaited (reply_awaited goes due ∙ rest),
     )
+slot_cases old slot _ _ rest = (refl, ap next_of rest)
 
 slot_replies : {new : SessionState} {halt : Outcome} (old : SessionState) (slot : ℕ) → old.awaited ≡ Nothing
     → FinishesAs (after_slot old slot) new (after_slot old slot).awaited halt
@@ -172,10 +169,10 @@ comes_replies {old} {opened} (BytesCame is) stands =
     waiting_same old.session opened.session (ap (λ (s : Stage). s.session) is)
 comes_replies {old} (SlotCame {slot = slot} finish) stands = slot_replies old.session slot stands.rest finish
 
-course_replies : (old new : Stage) (rounds : List Round) (follows : IsCourseBetween old rounds new) → Stands old.session
+replies_between : (old new : Stage) (rounds : List Round) (follows : IsCourseBetween old rounds new) → Stands old.session
     → Replies old.session (texts_in (rounds_parts rounds)) (replies_of old rounds new follows) new.session
-course_replies old new [] follows stands = waiting_same old.session new.session (ap (λ (s : Stage). s.session) follows)
-course_replies old new (round ∷ rounds) follows stands =
+replies_between old new [] follows stands = waiting_same old.session new.session (ap (λ (s : Stage). s.session) follows)
+replies_between old new (round ∷ rounds) follows stands =
     let runs = follows.1.0 in
     let opened = runs.opened in
     let due : List (List ℕ) = texts_in round.due in
@@ -200,30 +197,25 @@ course_replies old new (round ∷ rounds) follows stands =
       new = new.session;
       texts = texts_in (rounds_parts rounds);
       messages = replies_of follows.0 rounds new follows.1.1;
-      replied = course_replies follows.0 new rounds follows.1.1 mid;
+      replied = replies_between follows.0 new rounds follows.1.1 mid;
     })
     (due ++ taken) replies first in
     subst (λ ts. Replies old.session ts (replies ++ replies_of follows.0 rounds new follows.1.1) new.session)
     (sym (texts_append (round_parts round) (rounds_parts rounds)
     ∙ ap (λ ts. ts ++ texts_in (rounds_parts rounds)) (texts_append round.due (takings_parts round.takings)))) all
 
--- from a connection's beginning on
-pub replies_in_order : (films : List Stored) (settings : Settings) (words : List ℕ) (rounds : List Round) (new : Stage)
-    (follows : IsCourseBetween (first_stage films settings words) rounds new)
-    → map text_of (placed_texts 0 (rounds_parts rounds)) ++ waiting_reply new.session
-    ≡ replies_of (first_stage films settings words) rounds new follows
-replies_in_order films settings words rounds new follows =
-    ap (λ ts. ts ++ waiting_reply new.session) (texts_placed 0 (rounds_parts rounds))
-    ∙ course_replies (first_stage films settings words) new rounds follows (record { rest = refl; sound = tt })
+-- in a connection's course
+pub replies_in_order : (course : Course)
+    → map text_of (course_texts course) ++ waiting_reply course.last.session ≡ course_replies course
+replies_in_order course =
+    ap (λ ts. ts ++ waiting_reply course.last.session) (texts_placed 0 (rounds_parts course.rounds))
+    ∙ replies_between (first_stage course.films course.settings course.words) course.last course.rounds course.follows
+    (record { rest = refl; sound = tt })
 
-pub bytes_woven : (films : List Stored) (settings : Settings) (words : List ℕ) (rounds : List Round) (new : Stage)
-    (follows : IsCourseBetween (first_stage films settings words) rounds new)
-    → rounds_bytes rounds
-    ≡ insert_texts 0
-    (film_written (greatest_slot rounds) (plays_of (askings_of (first_stage films settings words) rounds new follows)))
-    (placed_texts 0 (rounds_parts rounds))
-bytes_woven films settings words rounds new follows =
-    rounds_sent rounds ∙ parts_woven 0 (rounds_parts rounds)
-    ∙ ap (λ bs. insert_texts 0 bs (placed_texts 0 (rounds_parts rounds)))
-    (course_film (first_stage films settings words) new rounds follows
-    ∙ film_written_is films settings words rounds new follows)
+pub bytes_woven : (course : Course)
+    → rounds_bytes course.rounds ≡ insert_texts 0 (course_film course) (course_texts course)
+bytes_woven course =
+    rounds_sent course.rounds ∙ parts_woven 0 (rounds_parts course.rounds)
+    ∙ ap (λ bs. insert_texts 0 bs (course_texts course))
+    (film_sent (first_stage course.films course.settings course.words) course.last course.rounds course.follows
+    ∙ film_written_is course)

@@ -9,7 +9,8 @@ use Rattle.film_streams.specs.declared.settings.Settings.{Settings}
 use Rattle.session.specs.RequestSteps.{new_session_state}
 use Rattle.conn.specs.Agreement.{Activity, HasDone}
 use Rattle.conn.specs.ConnectionService.{HasServedFrom}
-use Rattle.conn.specs.EventSteps.{Ending, Ends, Unheard, PeerEnded, Overfull, AtElement, InSlot, InReply, Round, RunsAll}
+use Rattle.conn.specs.EventSteps.{Ending, Ends, Unheard, PeerEnded, Overfull, AtElement, InSlot, InReply, Round}
+use Rattle.conn.specs.EventSteps.{RunsAll}
 use Rattle.conn.specs.InputSteps.{Stage}
 use Rattle.conn.specs.Plays.{ending_rounds}
 use Rattle.conn.specs.declared.reports.ConnEnd.{ConnEnd}
@@ -31,14 +32,11 @@ no_more old mid rounds runs = record {
 
 up_to_end : (old mid : Stage) (rounds : List Round) (ending : Ending) (end : ConnEnd) (new : Stage) (count : ℕ)
     → RunsAll old rounds mid → Ends mid count ending end new → LeadsTo old (rounds ++ ending_rounds ending)
-up_to_end old mid rounds Unheard end new count runs ends = no_more old mid rounds runs
-up_to_end old mid rounds PeerEnded end new count runs ends = no_more old mid rounds runs
-up_to_end old mid rounds (Overfull bytes) end new count runs ends = no_more old mid rounds runs
 up_to_end old mid rounds (AtElement round) end new count runs ends =
     record { last = new; follows = follows_last old rounds runs ends.0 }
-up_to_end old mid rounds (InSlot slot front) end new count runs ends = no_more old mid rounds runs
 up_to_end old mid rounds (InReply round message outcome front) end new count runs ends =
     record { last = ends.1.mid; follows = follows_last old rounds runs ends.1.runs }
+up_to_end old mid rounds _ end new count runs ends = no_more old mid rounds runs
 
 pub course_of : (films : List Stored) (settings : Settings) (words : List ℕ) (doings : Activity) (report : ConnReport)
     → HasDone films settings words doings report → (course : Course) × IsCourseOf films settings words doings course

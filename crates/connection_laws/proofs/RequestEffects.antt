@@ -1,6 +1,5 @@
 -- What a request and its answer make of a session: what is sent of a film, and the play that begins or ends.
-use Rattle.std.proofs.Common.{◌≡◌, ℕ, ◌<◌, ◌^◌, if◌then◌else◌, Bool, true, false, List, [], None, refl, sym}
-use Rattle.std.proofs.Common.{ap, subst}
+use Rattle.std.proofs.Common.{◌≡◌, ℕ, ◌<◌, ◌^◌, if◌then◌else◌, Bool, true, false, List, [], None, refl, sym, ap, subst}
 use Rattle.std.proofs.Common.{◌∙◌}
 use Rattle.film_frames.specs.FramedRuns.{run_pieces}
 use Rattle.pacer.specs.PacerStates.{IsPacerState, PacerState, next_boundary, new_pacer_state}
@@ -28,8 +27,7 @@ use Rattle.connection_laws.specs.Plays.{StationRequest, plays_admitted, plays_be
 use Rattle.connection_laws.proofs.StationAnswers.{IsAdmitted, IsLooked, IsRefused}
 use Rattle.connection_laws.proofs.RequestAnswers.{RequestAnswer, OwnReply, SetupReply, Admission, Refusal, HaltMade}
 use Rattle.connection_laws.proofs.RequestAnswers.{LookAnswer, JournalFull, OfferAnswer, HaltRequest, IsAsking}
-use Rattle.connection_laws.proofs.RequestAnswers.{PlayRequest, request_answer}
-use Rattle.connection_laws.proofs.RequestAnswers.{LookRequest}
+use Rattle.connection_laws.proofs.RequestAnswers.{PlayRequest, request_answer, LookRequest}
 
 -- what of a film is being sent: nothing, a play, or the rest of one that was halted
 pub data Sends : Type 0 where
@@ -38,10 +36,9 @@ pub data Sends : Type 0 where
   Ending : PacerState → Sends
 
 abbrev pub sends_in : State → Sends
-sends_in Init = Idle
-sends_in (Ready setup paused) = Idle
 sends_in (Playing setup play) = Going play.pacer
 sends_in (Stopping setup stop) = Ending stop.pacer
+sends_in _ = Idle
 
 -- a session that was answered: nothing is awaited, its reply waits, and the slot is the same
 pub record IsAfter (old new : SessionState) : Type 0 where
@@ -51,10 +48,8 @@ pub record IsAfter (old new : SessionState) : Type 0 where
 
 -- the plays that an answer's entry records
 abbrev pub told_by : Outcome → List PlacedEntry → List Booked
-told_by Unasked made = []
 told_by (Entered placed) made = booked_by (play_admitted placed.entry.command placed.entry.answer) made
-told_by (WasFull more entries live) made = []
-told_by (Offered at_slot note) made = []
+told_by _ made = []
 
 -- neither begins nor halts a play
 pub record IsStill (asked : Awaited) (outcome : Outcome) : Type 0 where
@@ -213,8 +208,7 @@ begins_turn {old} {asking} {new} {placed} play is =
 stopped_sends : (setup : Setup) (play : Played) (next : AfterHalt) → is_answered next ≡ true
     → sends_in (state_once_halted setup play next) ≡ Ending play.pacer
 stopped_sends setup play Done told = absurd (let no : ⊥ = cc in no)
-stopped_sends setup play (Paused run) told = refl
-stopped_sends setup play Torn told = refl
+stopped_sends setup play _ told = refl
 
 told_if : (b waits : Bool) → b ≡ true → (if b then true else waits) ≡ true
 told_if true waits is = refl

@@ -196,9 +196,7 @@ teardown_head b = record {
 
 has_one : {setup : Setup} (state : State) → setup_in state ≡ Some setup → has_session_in state ≡ true
 has_one Init is = absurd (let no : ⊥ = cc in no)
-has_one (Ready setup paused) is = refl
-has_one (Playing setup play) is = refl
-has_one (Stopping setup stop) is = refl
+has_one _ is = refl
 
 pub teardown_replied : {message : List ℕ} (b : Beginning) (old : SessionState) (ask : Ask) (new : SessionState)
     → IsNamed b old → message ≡ teardown_text b.wish b.session → Hears old message ask new → AnswersTeardown old new

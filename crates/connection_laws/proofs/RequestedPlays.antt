@@ -184,9 +184,8 @@ asked_played {wish} {stored} {course} asked =
     let now = greatest_slot course.rounds in
     let slots = slots_from 0 course.rounds in
     let S : List FilmPlay → Type 0 = λ ps. AreSentAt now ps slots (course_texts course) in
-    let sent = subst S plays
-    (replies_sent course.films course.settings course.words course.rounds course.last course.follows) in
-    let ordered = replies_in_order course.films course.settings course.words course.rounds course.last course.follows in
+    let sent = subst S plays (replies_sent course) in
+    let ordered = replies_in_order course in
     let total = length (framed_bytes (film_blocks stored one.wished.identity)) in
     let replies : AreReplies play now total slots (course_texts course) = record {
       begins = one.wished.before;

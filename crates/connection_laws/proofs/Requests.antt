@@ -1,7 +1,6 @@
 -- The requests that were processed are those of the input, in order.
-use Rattle.std.proofs.Common.{◌≡◌, ◌⊎◌, ℕ, ◌<◌, ◌++◌, ◌||◌, ◌==◌, if◌then◌else◌, Bool, true, false}
-use Rattle.std.proofs.Common.{List, [], ◌∷◌, Ok, Err, length, take, drop, map, get_or, refl, ap}
-use Rattle.std.proofs.Common.{sym, ◌∙◌, subst, inl, inr, arith}
+use Rattle.std.proofs.Common.{◌≡◌, ◌⊎◌, ℕ, ◌<◌, ◌++◌, ◌||◌, ◌==◌, if◌then◌else◌, Bool, true, false, List, [], ◌∷◌, Ok}
+use Rattle.std.proofs.Common.{Err, length, take, drop, map, get_or, refl, ap, sym, ◌∙◌, subst, inl, inr, arith}
 use Rattle.std.proofs.lemmas.List.{append-nil, append_assoc, get_or-take}
 use Rattle.vod_base.specs.Links.{IoEvent, HeardBytes, HeardEnd, HeardSlot, Sent}
 use Rattle.interleave.specs.Heads.{is_line_end}
@@ -21,8 +20,7 @@ use Rattle.connection_laws.specs.InputSplits.{heard_requests_in, heard_requests_
 use Rattle.connection_laws.specs.Requests.{AreTaken, AwaitsReply, bytes_in, is_no_request, message_of, requests_in}
 use Rattle.connection_laws.specs.Requests.{rounds_input}
 use Rattle.connection_laws.proofs.ElementPaths.{GoesAll, IsOver, AnEnd, ABlock, Over, Element, RequestElement}
-use Rattle.connection_laws.proofs.ElementPaths.{over_element, path_of}
-use Rattle.connection_laws.proofs.ElementPaths.{elements_hearings}
+use Rattle.connection_laws.proofs.ElementPaths.{over_element, path_of, elements_hearings}
 
 append_by : (other : Bool) (x : List ℕ) (all xs ys : List (List ℕ)) → all ≡ xs ++ ys
     → (if other then all else x ∷ all) ≡ (if other then xs else x ∷ xs) ++ ys
@@ -117,8 +115,7 @@ comes_input : (old opened : Stage) (event : IoEvent) (due : List SentPart) (halt
     → opened.input ≡ old.input ++ bytes_in event
 comes_input old opened (HeardBytes bytes) due halt comes = ap (λ (s : Stage). s.input) comes.3
 comes_input old opened (HeardSlot slot) due halt comes = comes.0 ∙ sym (append-nil old.input)
-comes_input old opened HeardEnd due halt comes = absurd comes
-comes_input old opened (Sent byte) due halt comes = absurd comes
+comes_input old opened _ due halt comes = absurd comes
 
 hearings_map : (xs ys : List HeardRequest) → map message_of (xs ++ ys) ≡ map message_of xs ++ map message_of ys
 hearings_map [] ys = refl
@@ -229,14 +226,10 @@ idle_rest stage (inl more) = inl (tells_none stage.input (Ok More) more)
 idle_rest stage (inr request) = inr (inl (record { length = request.0; first = request.1.0; waits = request.1.1 }))
 
 stopped_rest : (stage : Stage) (end : ConnEnd) → IsStopped end stage → IsRest stage
-stopped_rest stage Ended stopped = absurd stopped
 stopped_rest stage TornDown stopped = inr (inr stopped)
-stopped_rest stage LinkFault stopped = absurd stopped
-stopped_rest stage TooMuchInput stopped = absurd stopped
 stopped_rest stage HeadTooLong stopped = inl (tells_none stage.input (Err LongHead) stopped.1)
 stopped_rest stage BodyTooLong stopped = inl (tells_none stage.input (Err LongBody) stopped.1)
-stopped_rest stage TurnsSpent stopped = absurd stopped
-stopped_rest stage NoMemory stopped = absurd stopped
+stopped_rest stage _ stopped = absurd stopped
 
 done_rest : (stage : Stage) → IsDrained stage → IsRest stage
 done_rest stage (inl idle) = idle_rest stage idle.waits

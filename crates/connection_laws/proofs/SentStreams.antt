@@ -1,8 +1,7 @@
 -- What a connection sent as a stream of two replies, a film's blocks, and later replies.
 use Rattle.std.specs.Prelude.{⊤}
-use Rattle.std.proofs.Common.{◌≡◌, ℕ, ◌+◌, ◌-◌, ◌<◌, ◌≤◌, max, min, List, [], ◌∷◌, ◌++◌, length}
-use Rattle.std.proofs.Common.{take, drop, map, refl, sym, ap, subst, ◌∙◌, append_assoc, arith, inl}
-use Rattle.std.proofs.Common.{inr}
+use Rattle.std.proofs.Common.{◌≡◌, ℕ, ◌+◌, ◌-◌, ◌<◌, ◌≤◌, max, min, List, [], ◌∷◌, ◌++◌, length, take, drop, map, refl}
+use Rattle.std.proofs.Common.{sym, ap, subst, ◌∙◌, append_assoc, arith, inl, inr}
 use Rattle.std.proofs.lemmas.Bool.{cases_lt}
 use Rattle.std.proofs.lemmas.List.{append-nil, drop_all, length-append, length-take, take_all}
 use Rattle.std.proofs.Math.Seq.{drop-nil, take-append-add, take-nil}
@@ -199,10 +198,8 @@ all_woven front setup played later after within =
 
 sent_append : (a b : List IoEvent) → sent_bytes (a ++ b) ≡ sent_bytes a ++ sent_bytes b
 sent_append [] b = refl
-sent_append (HeardBytes bytes ∷ a) b = sent_append a b
-sent_append (HeardSlot slot ∷ a) b = sent_append a b
-sent_append (HeardEnd ∷ a) b = sent_append a b
 sent_append (Sent byte ∷ a) b = ap (λ l. byte ∷ l) (sent_append a b)
+sent_append (_ ∷ a) b = sent_append a b
 
 sent_sends : (bytes : List ℕ) → sent_bytes (sends bytes) ≡ bytes
 sent_sends [] = refl
@@ -218,20 +215,16 @@ latest_sends (b ∷ bytes) = omega (arith, latest_sends bytes)
 
 -- an event that isn't a byte that was sent
 abbrev pub IsEvent : IoEvent → Type 0
-IsEvent (HeardBytes bytes) = ⊤
-IsEvent (HeardSlot slot) = ⊤
-IsEvent HeardEnd = ⊤
 IsEvent (Sent byte) = ⊥
+IsEvent _ = ⊤
 
 abbrev pub AreEvents : List Round → Type 0
 AreEvents [] = ⊤
 AreEvents (round ∷ rounds) = IsEvent round.event × AreEvents rounds
 
 event_sent : (event : IoEvent) (rest : List IoEvent) → IsEvent event → sent_bytes (event ∷ rest) ≡ sent_bytes rest
-event_sent (HeardBytes bytes) rest is = refl
-event_sent (HeardSlot slot) rest is = refl
-event_sent HeardEnd rest is = refl
 event_sent (Sent byte) rest is = absurd is
+event_sent _ rest is = refl
 
 pub rounds_sent_are : (rounds : List Round) → AreEvents rounds → sent_bytes (rounds_doings rounds) ≡ rounds_bytes rounds
 rounds_sent_are [] are = refl

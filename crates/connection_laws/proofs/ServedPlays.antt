@@ -17,20 +17,17 @@ use Rattle.session.specs.declared.states.Awaited.TheVariants.{Nothing, Play, Hal
 use Rattle.session.specs.declared.states.Prepared.{Prepared}
 use Rattle.session.specs.SessionStates.{SessionState}
 use Rattle.conn.specs.EventSteps.{Round}
-use Rattle.conn.specs.InputSteps.{Outcome, Unasked, Entered, WasFull, Offered, Stage}
+use Rattle.conn.specs.InputSteps.{Outcome, Unasked, Entered, WasFull, Offered, Stage, SentPart}
 use Rattle.connection_laws.specs.Courses.{IsCourseBetween, IsCourseSplit, asked_by, askings_of, round_askings}
 use Rattle.connection_laws.specs.Plays.{StationRequest, Asks, FilmPlay, plays_admitted, plays_begun, kept_by, kept_in}
-use Rattle.connection_laws.specs.Plays.{kept_with}
-use Rattle.connection_laws.specs.Plays.{plays_of}
+use Rattle.connection_laws.specs.Plays.{kept_with, plays_of}
 use Rattle.connection_laws.proofs.FilmBytes.{Stands}
 use Rattle.connection_laws.proofs.CourseJoins.{parts_of}
 use Rattle.connection_laws.proofs.RequestEffects.{Begins, Ends, Starts, Stays, TurnsAs, turns_as}
-use Rattle.connection_laws.proofs.StationAnswers.{FinishesAs, NothingLeft, DoneHalted}
-use Rattle.connection_laws.proofs.StationAnswers.{ComesAs, BytesCame, SlotCame}
+use Rattle.connection_laws.proofs.StationAnswers.{FinishesAs, NothingLeft, DoneHalted, ComesAs, BytesCame, SlotCame}
 use Rattle.connection_laws.proofs.CourseAskings.{IsKeptByAskings, course_kept}
 use Rattle.connection_laws.proofs.GreatestSlots.{comes_heard}
 use Rattle.connection_laws.proofs.KeptParts.{LastingPart, taken_keeps}
-use Rattle.conn.specs.InputSteps.{SentPart}
 
 -- ---- askings in two parts
 
@@ -56,15 +53,12 @@ abbrev IsKeptSome : (ℕ → ℕ) → Type 0
 IsKeptSome keep = ((later : ℕ) → keep later ≡ later) ⊎ ((n : ℕ) × ((later : ℕ) → keep later ≡ n))
 
 kept_command : (command : Command) → IsKeptSome (kept_by command)
-kept_command (PlayCommand slot plan) = inl (λ later. refl)
 kept_command (HaltCommand number keep) = inr (keep, λ later. refl)
-kept_command (LookCommand slot) = inl (λ later. refl)
+kept_command _ = inl (λ later. refl)
 
 kept_outcome : (outcome : Outcome) → IsKeptSome (kept_with outcome)
-kept_outcome Unasked = inl (λ later. refl)
 kept_outcome (Entered placed) = kept_command placed.entry.command
-kept_outcome (WasFull more entries live) = inl (λ later. refl)
-kept_outcome (Offered slot note) = inl (λ later. refl)
+kept_outcome _ = inl (λ later. refl)
 
 kept_both : (one two : ℕ → ℕ) → IsKeptSome one → IsKeptSome two → IsKeptSome (λ later. one (two later))
 kept_both one two (inl same) (inl other) = inl (λ later. same (two later) ∙ other later)
@@ -101,22 +95,16 @@ entered_either : (asked : Awaited) (placed : PlacedEntry) (answer : Answer) → 
     → Beginning asked (Entered placed)
 entered_either (Play prepared) placed (Admitted start) is =
     BeginsOne prepared start (λ askings. ap (λ a. plays_admitted (Play prepared) a askings) is)
-entered_either (Play prepared) placed (Overflow slot booked asks) is =
-    BeginsNone (λ askings. ap (λ a. plays_admitted (Play prepared) a askings) is)
-entered_either (Play prepared) placed Halted is =
-    BeginsNone (λ askings. ap (λ a. plays_admitted (Play prepared) a askings) is)
-entered_either (Play prepared) placed (Looked now at booked) is =
-    BeginsNone (λ askings. ap (λ a. plays_admitted (Play prepared) a askings) is)
 entered_either Nothing placed answer is = BeginsNone (λ askings. refl)
 entered_either (Halt keep next) placed answer is = BeginsNone (λ askings. refl)
 entered_either (Look sequence) placed answer is = BeginsNone (λ askings. refl)
 entered_either (Offer sequence) placed answer is = BeginsNone (λ askings. refl)
+entered_either (Play prepared) placed _ is =
+    BeginsNone (λ askings. ap (λ a. plays_admitted (Play prepared) a askings) is)
 
 either : (asked : Awaited) (outcome : Outcome) → Beginning asked outcome
-either asked Unasked = BeginsNone (λ askings. refl)
 either asked (Entered placed) = entered_either asked placed placed.entry.answer refl
-either asked (WasFull more entries live) = BeginsNone (λ askings. refl)
-either asked (Offered slot note) = BeginsNone (λ askings. refl)
+either asked _ = BeginsNone (λ askings. refl)
 
 -- none at all, none so far
 before_by : {asked : Awaited} {outcome : Outcome} (a b : List StationRequest)

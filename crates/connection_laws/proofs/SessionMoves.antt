@@ -7,8 +7,7 @@ use Rattle.session.specs.SlotSteps.{can_reply, is_between, sent_reply}
 use Rattle.session.specs.SessionStates.{SessionState}
 use Rattle.conn.specs.Films.{takings_parts}
 use Rattle.conn.specs.InputSteps.{Answered, IsReplied, Outcome, SentPart, Passed, Stage, ElementStep, TakesAll, Text}
-use Rattle.conn.specs.InputSteps.{after_reply}
-use Rattle.conn.specs.InputSteps.{reply_parts}
+use Rattle.conn.specs.InputSteps.{after_reply, reply_parts}
 use Rattle.connection_laws.specs.Courses.{takings_askings}
 use Rattle.connection_laws.specs.ReplyPlaces.{takings_slots}
 use Rattle.connection_laws.specs.Plays.{StationRequest, Asks}
@@ -48,8 +47,7 @@ unheld : (pending : Option ℕ) (sends : Sends) (waits : Bool) (heard : ℕ) →
     → waits ≡ false → pending ≡ None
 unheld None sends waits heard held none = refl
 unheld (Some slot) Idle waits heard held none = absurd held
-unheld (Some slot) (Going p) waits heard held none = absurd (true≢false (sym held.0 ∙ none))
-unheld (Some slot) (Ending p) waits heard held none = absurd (true≢false (sym held.0 ∙ none))
+unheld (Some slot) _ waits heard held none = absurd (true≢false (sym held.0 ∙ none))
 
 -- ---- a request
 

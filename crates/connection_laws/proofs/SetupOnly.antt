@@ -24,21 +24,18 @@ use Rattle.session.specs.SlotSteps.{after_play, can_reply, is_sending, is_taken,
 use Rattle.session.specs.SessionStates.{SessionState}
 use Rattle.session.specs.SlotTransitions.{after_stop}
 use Rattle.conn.specs.EventSteps.{Round, Runs}
-use Rattle.conn.specs.InputSteps.{Answered, Entered, IsAskAnswered, Offered, Outcome, SentPart, Stage}
-use Rattle.conn.specs.InputSteps.{Takes}
-use Rattle.conn.specs.InputSteps.{Unasked, WasFull}
+use Rattle.conn.specs.InputSteps.{Answered, Entered, IsAskAnswered, Offered, Outcome, SentPart, Stage, Takes, Unasked}
+use Rattle.conn.specs.InputSteps.{WasFull}
 use Rattle.connection_laws.proofs.FilmBytes.{Stands, opened_stands, taken_stands}
 use Rattle.connection_laws.proofs.ClientSetups.{IsSettled, settled_by, setup_is}
 use Rattle.session_laws.proofs.SetupLemmas.{IsSetupRequest, SetupHeard, Refused, Settled, setup_heard}
-use Rattle.connection_laws.proofs.StationAnswers.{nothing_left}
-use Rattle.connection_laws.proofs.StationAnswers.{ComesAs, BytesCame, SlotCame, comes_as}
+use Rattle.connection_laws.proofs.StationAnswers.{nothing_left, ComesAs, BytesCame, SlotCame, comes_as}
 
 -- no play has begun, and a SETUP that was answered 200 settled what the client wished
 abbrev pub IsUnbegun : Wish → List Stored → State → Type 0
 IsUnbegun wish films Init = ⊤
 IsUnbegun wish films (Ready setup paused) = (paused ≡ None) × IsSettled wish films setup
-IsUnbegun wish films (Playing setup play) = ⊥
-IsUnbegun wish films (Stopping setup stop) = ⊥
+IsUnbegun wish films _ = ⊥
 
 -- what a course begins with, and what it is asked for
 pub record Beginning : Type 0 where
@@ -60,10 +57,9 @@ pub record IsWaiting (b : Beginning) (s : SessionState) : Type 0 where
   pub unbegun : IsUnbegun b.wish b.films s.state
 
 unsending : (wish : Wish) (films : List Stored) (state : State) → IsUnbegun wish films state → is_sending state ≡ false
-unsending wish films Init is = refl
-unsending wish films (Ready setup paused) is = refl
 unsending wish films (Playing setup play) is = absurd is
 unsending wish films (Stopping setup stop) is = absurd is
+unsending wish films _ is = refl
 
 -- what a slot leaves where nothing is sent: all but the slot that was received last
 record UnsentPart : Type 0 where
@@ -86,9 +82,8 @@ heard_on : (old : SessionState) (slot : ℕ) (taken sending : Bool) → sending 
     → unsent_part
     (if taken then (if sending then after_play (sent_slot old slot) else record old { heard = slot }) else old)
     ≡ unsent_part old
-heard_on old slot true false is = refl
 heard_on old slot true true is = absurd (true≢false is)
-heard_on old slot false sending is = refl
+heard_on old slot _ _ is = refl
 
 comes_same : {old opened : Stage} {event : IoEvent} {due : List SentPart} {halt : Outcome}
     → ComesAs old opened event due halt → old.session.awaited ≡ Nothing → is_sending old.session.state ≡ false
@@ -115,10 +110,9 @@ opened_waits {b} {old} {new} {round} runs waits =
 -- a reply that goes out leaves a film that isn't sent as it is
 unbegun_reply : (wish : Wish) (films : List Stored) (state : State) → IsUnbegun wish films state
     → IsUnbegun wish films (after_stop state)
-unbegun_reply wish films Init is = is
-unbegun_reply wish films (Ready setup paused) is = is
 unbegun_reply wish films (Playing setup play) is = absurd is
 unbegun_reply wish films (Stopping setup stop) is = absurd is
+unbegun_reply wish films _ is = is
 
 pub record IsWaitingStill (b : Beginning) (s : SessionState) : Type 0 where
   pub films_are : s.films ≡ b.films

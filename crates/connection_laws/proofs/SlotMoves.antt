@@ -1,7 +1,6 @@
 -- What a slot makes of a session and of the reply that is held up.
-use Rattle.std.proofs.Common.{◌≡◌, ℕ, ◌+◌, ◌<◌, ◌≤◌, ◌++◌, ◌&&◌, if◌then◌else◌, Bool}
-use Rattle.std.proofs.Common.{true, false, List, [], ◌∷◌, Option, Some, None, refl}
-use Rattle.std.proofs.Common.{ap, sym, ◌∙◌, subst, arith}
+use Rattle.std.proofs.Common.{◌≡◌, ℕ, ◌+◌, ◌<◌, ◌≤◌, ◌++◌, ◌&&◌, if◌then◌else◌, Bool, true, false, List, [], ◌∷◌}
+use Rattle.std.proofs.Common.{Option, Some, None, refl, ap, sym, ◌∙◌, subst, arith}
 use Rattle.conn.proofs.PlayProgress.{reply_state, reply_heard}
 use Rattle.std.proofs.lemmas.Bool.{true≢false}
 use Rattle.std.proofs.lemmas.List.{append-nil}
@@ -15,11 +14,10 @@ use Rattle.session.specs.declared.states.AfterHalt.TheVariants.{Done}
 use Rattle.session.specs.declared.states.State.{State}
 use Rattle.session.specs.declared.states.State.TheVariants.{Init, Ready, Playing, Stopping}
 use Rattle.session.specs.RequestSteps.{is_answered}
-use Rattle.session.specs.SlotSteps.{after_play, is_between, is_sending, next_of, sent_due}
-use Rattle.session.specs.SlotSteps.{sent_slot, after_slot, stepped_in}
+use Rattle.session.specs.SlotSteps.{after_play, is_between, is_sending, next_of, sent_due, sent_slot, after_slot}
+use Rattle.session.specs.SlotSteps.{stepped_in}
 use Rattle.session.specs.SessionStates.{SessionState}
-use Rattle.conn.specs.InputSteps.{Entered, IsHaltAnswered, Outcome, SentPart}
-use Rattle.conn.specs.InputSteps.{due_parts, slot_parts}
+use Rattle.conn.specs.InputSteps.{Entered, IsHaltAnswered, Outcome, SentPart, due_parts, slot_parts}
 use Rattle.connection_laws.specs.Plays.{StationRequest, Asks, plays_admitted, plays_begun, kept_by, kept_in, kept_with}
 use Rattle.connection_laws.specs.Plays.{plays_of}
 use Rattle.connection_laws.proofs.FilmBytes.{DonePlay, IsSlotOver, Stands, done_kept, done_play, halted_idle}
@@ -166,12 +164,11 @@ sent_move {old} {new} {halt} {pending} slot standing sending later finishing =
 idle_none : (state : State) (pending : Option ℕ) (waits : Bool) (heard : ℕ) → is_sending state ≡ false
     → IsHeld pending (sends_in state) waits heard
     → (pending ≡ None) × (sends_in state ≡ Idle)
-idle_none Init None waits heard none held = (refl, refl)
 idle_none Init (Some slot) waits heard none held = absurd held
-idle_none (Ready setup paused) None waits heard none held = (refl, refl)
 idle_none (Ready setup paused) (Some slot) waits heard none held = absurd held
 idle_none (Playing setup play) pending waits heard none held = absurd (true≢false none)
 idle_none (Stopping setup stop) pending waits heard none held = absurd (true≢false none)
+idle_none _ None waits heard none held = (refl, refl)
 
 idle_later : (from to : ℕ) → from ≤ to → GoesTo (point Idle from None) (point Idle to None) [] [] []
 idle_later from to less = record {

@@ -45,12 +45,11 @@ over_on p slot on ended = record {
 
 replied_on : (state : State) (waits : Bool) (slot : ℕ) → IsSound (sends_in state) waits slot → is_between state ≡ true
     → GoesOn (sends_in state) (sends_in (after_stop state)) slot slot false [] []
-replied_on Init waits slot sound between = same_on Idle false slot tt
-replied_on (Ready setup paused) waits slot sound between = same_on Idle false slot tt
 replied_on (Playing setup play) waits slot sound between = same_on (Going play.pacer) false slot sound
 replied_on (Stopping setup stop) waits slot sound between =
     let p : PacerState = stop.pacer in
     over_on p slot sound.0 (ended_at sound.0 sound.2 (boundary_here p sound.0.pacing between) refl)
+replied_on _ waits slot sound between = same_on Idle false slot tt
 
 pub reply_on : (goes : Bool) (state : State) (waits : Bool) (slot : ℕ) → IsSound (sends_in state) waits slot
     → (goes ≡ true → is_between state ≡ true)
@@ -185,8 +184,6 @@ SlotGoes state waits heard slot text =
 pub slot_goes : {heard slot : ℕ} (state : State) (waits : Bool) (text : List ℕ) → is_sending state ≡ true
     → IsSound (sends_in state) waits heard → heard < slot
     → SlotGoes state waits heard slot text
-slot_goes {slot} Init waits text sending sound later = absurd (true≢false (sym sending))
-slot_goes {slot} (Ready setup paused) waits text sending sound later = absurd (true≢false (sym sending))
 slot_goes {heard} {slot} (Playing setup play) waits text sending sound later =
     let p : PacerState = play.pacer in
     let one : PacerState = after_step true slot p in
@@ -215,3 +212,4 @@ slot_goes {heard} {slot} (Stopping setup stop) true text sending sound later =
     (subst (GoesOn (Ending p) (if stands_at_boundary one then Idle else Ending one) heard slot last [])
     (sym (film_of true p text slot sound.0.pacing))
     (ending_either sound later refl))
+slot_goes _ waits text sending sound later = absurd (true≢false (sym sending))

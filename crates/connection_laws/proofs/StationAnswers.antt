@@ -14,8 +14,7 @@ use Rattle.session.specs.declared.commands.Ask.TheVariants.{Look as AskLook, Off
 use Rattle.session.specs.declared.states.AfterHalt.{AfterHalt}
 use Rattle.session.specs.declared.states.Awaited.{Awaited}
 use Rattle.session.specs.declared.states.Awaited.TheVariants.{Nothing, Play, Halt, Look, Offer}
-use Rattle.session.specs.RequestSteps.{after_admission, after_full, after_halt, after_look, after_offer}
-use Rattle.session.specs.RequestSteps.{after_overflow}
+use Rattle.session.specs.RequestSteps.{after_admission, after_full, after_halt, after_look, after_offer, after_overflow}
 use Rattle.session.specs.SlotSteps.{after_slot}
 use Rattle.session.specs.SlotTransitions.{IsPlayIn}
 use Rattle.session.specs.SessionStates.{OpenBooking, SessionState, awaited_answer_of}
@@ -122,8 +121,7 @@ play_as (Overflow slot booked asked) is command answered = PlayRefused (record {
   command = command;
   new_is = answered;
 })
-play_as Halted is command answered = absurd answered
-play_as (Looked now at booked) is command answered = absurd answered
+play_as _ is command answered = absurd answered
 
 look_as : {asking new : SessionState} {slot : ℕ} {placed : PlacedEntry} (answer : Answer)
     → placed.entry.answer ≡ answer → placed.entry.command ≡ look_at slot
@@ -136,9 +134,7 @@ look_as (Looked now at booked) is command answered = LookMade (record {
   command = command;
   new_is = answered;
 })
-look_as (Admitted start) is command answered = absurd answered
-look_as (Overflow slot booked asked) is command answered = absurd answered
-look_as Halted is command answered = absurd answered
+look_as _ is command answered = absurd answered
 
 -- a halt's entry
 pub data HaltsAs (old new : SessionState) (keep : ℕ) : Outcome → Type 0 where
@@ -146,10 +142,8 @@ pub data HaltsAs (old new : SessionState) (keep : ℕ) : Outcome → Type 0 wher
 
 pub halts_as : {old new : SessionState} {keep : ℕ} (outcome : Outcome) → IsHalted old keep outcome new
     → HaltsAs old new keep outcome
-halts_as Unasked halted = absurd halted
 halts_as (Entered placed) halted = HaltEntered halted
-halts_as (WasFull more entries live) halted = absurd halted
-halts_as (Offered at_slot note) halted = absurd halted
+halts_as _ halted = absurd halted
 
 halt_as : {asking new : SessionState} {keep : ℕ} {outcome : Outcome} → HaltsAs asking new keep outcome
     → AnswersAs asking new (AskHalt keep) outcome
@@ -164,16 +158,7 @@ answers_as (AskHalt keep) outcome answered = halt_as (halts_as outcome answered)
 answers_as (AskLook slot) (Entered placed) answered = look_as placed.entry.answer refl answered.0 answered.1
 answers_as (AskLook slot) (WasFull more entries live) answered = LookFull answered.0
 answers_as (AskOffer plan offers) (Offered at_slot note) answered = OfferMade answered.2
-answers_as AskReply (Entered placed) answered = absurd answered
-answers_as AskReply (WasFull more entries live) answered = absurd answered
-answers_as AskReply (Offered at_slot note) answered = absurd answered
-answers_as (AskPlay plan) Unasked answered = absurd answered
-answers_as (AskPlay plan) (Offered at_slot note) answered = absurd answered
-answers_as (AskLook slot) Unasked answered = absurd answered
-answers_as (AskLook slot) (Offered at_slot note) answered = absurd answered
-answers_as (AskOffer plan offers) Unasked answered = absurd answered
-answers_as (AskOffer plan offers) (Entered placed) answered = absurd answered
-answers_as (AskOffer plan offers) (WasFull more entries live) answered = absurd answered
+answers_as _ _ answered = absurd answered
 
 -- a slot leaves nothing to ask, or a play that is done is halted
 pub data FinishesAs (s new : SessionState) : Awaited → Outcome → Type 0 where
@@ -198,13 +183,8 @@ done_as (HaltEntered halted) = DoneHalted halted
 pub finishes_as : {s new : SessionState} (awaited : Awaited) (outcome : Outcome)
     → IsFinished (awaited_answer_of awaited) s outcome new → FinishesAs s new awaited outcome
 finishes_as Nothing Unasked is = NothingLeft is
-finishes_as Nothing (Entered placed) is = absurd is
-finishes_as Nothing (WasFull more entries live) is = absurd is
-finishes_as Nothing (Offered at_slot note) is = absurd is
 finishes_as (Halt keep next) outcome is = done_as (halts_as outcome is)
-finishes_as (Play prepared) outcome is = absurd is
-finishes_as (Look sequence) outcome is = absurd is
-finishes_as (Offer sequence) outcome is = absurd is
+finishes_as _ _ is = absurd is
 
 -- a connection ends without an open booking, or it halts its booking with what is due
 pub data ClosesAs (old new : SessionState) : Option OpenBooking → Outcome → Type 0 where
@@ -219,10 +199,8 @@ booking_as (HaltEntered halted) = BookingHalted halted
 pub closes_as : {old new : SessionState} (held : Option OpenBooking) (outcome : Outcome) → IsClosed held old outcome new
     → ClosesAs old new held outcome
 closes_as None Unasked is = NothingOpen is
-closes_as None (Entered placed) is = absurd is
-closes_as None (WasFull more entries live) is = absurd is
-closes_as None (Offered at_slot note) is = absurd is
 closes_as (Some booking) outcome is = booking_as (halts_as outcome is)
+closes_as None _ is = absurd is
 
 -- an event came: bytes, or a slot
 pub data ComesAs (old opened : Stage) : IoEvent → List SentPart → Outcome → Type 0 where
@@ -240,5 +218,4 @@ comes_as {old} {opened} (HeardBytes bytes) due halt comes =
 comes_as {old} {opened} (HeardSlot slot) due halt comes =
     subst (λ ps. ComesAs old opened (HeardSlot slot) ps halt) (sym comes.1.parts_are)
     (SlotCame (finishes_as (after_slot old.session slot).awaited halt comes.1.finished))
-comes_as HeardEnd due halt comes = absurd comes
-comes_as (Sent byte) due halt comes = absurd comes
+comes_as _ due halt comes = absurd comes

@@ -6,10 +6,9 @@ use Rattle.std.proofs.lemmas.List.{append-nil, append_assoc}
 use Rattle.std.proofs.Math.Seq.{drop-append-add, take-append-add}
 use Rattle.conn.specs.Films.{round_parts, rounds_film, rounds_parts, takings_parts}
 use Rattle.conn.specs.EventSteps.{Round, takings_bytes}
-use Rattle.connection_laws.specs.Courses.{rounds_bytes}
+use Rattle.connection_laws.specs.Courses.{rounds_bytes, IsCourseBetween}
 use Rattle.conn.specs.InputSteps.{Answered, Film, SentPart, Passed, Stage, ElementStep, Text, film_bytes, part_bytes}
 use Rattle.conn.specs.InputSteps.{parts_bytes}
-use Rattle.connection_laws.specs.Courses.{IsCourseBetween}
 use Rattle.connection_laws.specs.Replies.{PlacedText, placed_texts, insert_texts}
 
 -- the first text stands at or after a place
@@ -55,16 +54,16 @@ parts_woven place (Text text ∷ parts) =
     ∙ ap (λ n. take n film ++ (text ++ insert_texts place (drop n film) texts)) none
 
 -- the film's bytes among all parts are those of the slots
-pub course_film : (old new : Stage) (rounds : List Round) → IsCourseBetween old rounds new
+pub film_sent : (old new : Stage) (rounds : List Round) → IsCourseBetween old rounds new
     → film_bytes (rounds_parts rounds) ≡ rounds_film rounds
-course_film old new [] follows = refl
-course_film old new (round ∷ rounds) follows =
+film_sent old new [] follows = refl
+film_sent old new (round ∷ rounds) follows =
     film_bytes-append (round_parts round) (rounds_parts rounds)
     ∙ ap (λ bs. bs ++ film_bytes (rounds_parts rounds)) (film_bytes-append round.due (takings_parts round.takings))
     ∙ ap (λ bs. (film_bytes round.due ++ bs) ++ film_bytes (rounds_parts rounds))
     (takings_film follows.1.0.opened follows.0 round.takings follows.1.0.takes)
     ∙ ap (λ bs. bs ++ film_bytes (rounds_parts rounds)) (append-nil (film_bytes round.due))
-    ∙ ap (λ bs. film_bytes round.due ++ bs) (course_film follows.0 new rounds follows.1.1)
+    ∙ ap (λ bs. film_bytes round.due ++ bs) (film_sent follows.0 new rounds follows.1.1)
 
 -- and all bytes of the parts are those of the rounds
 parts_bytes_append : (xs ys : List SentPart) → parts_bytes (xs ++ ys) ≡ parts_bytes xs ++ parts_bytes ys

@@ -15,9 +15,8 @@ use Rattle.session.specs.SessionStates.{SessionState}
 use Rattle.conn.specs.InputSteps.{Outcome, Unasked, Entered, WasFull, Offered, SentPart, HasStepped, IsAskAnswered}
 use Rattle.connection_laws.specs.InputSplits.{AreSameAnswers, HeardRequest, LackMemoryAlike, RanOutOfMemory, answer_in}
 use Rattle.connection_laws.proofs.StationAnswers.{AnswersAs, NoneAsked, PlayAdmitted, PlayRefused, PlayFull, PlayHalted}
-use Rattle.connection_laws.proofs.StationAnswers.{LookMade, LookFull, OfferMade, answer_leaves, answers_as}
-use Rattle.connection_laws.proofs.StationAnswers.{FinishesAs, NothingLeft, DoneHalted, after_outcome, finish_leaves}
-use Rattle.connection_laws.proofs.StationAnswers.{finishes_as}
+use Rattle.connection_laws.proofs.StationAnswers.{LookMade, LookFull, OfferMade, answer_leaves, answers_as, FinishesAs}
+use Rattle.connection_laws.proofs.StationAnswers.{NothingLeft, DoneHalted, after_outcome, finish_leaves, finishes_as}
 
 -- ---- a request is received
 
@@ -72,9 +71,7 @@ hears_same {one} {other} same =
 abbrev IsAsked : Bool → Outcome → Type 0
 IsAsked false outcome = outcome ≡ Unasked
 IsAsked true Unasked = ⊥
-IsAsked true (Entered placed) = ⊤
-IsAsked true (WasFull more entries live) = ⊤
-IsAsked true (Offered at_slot note) = ⊤
+IsAsked true _ = ⊤
 
 -- answers that begin with these two are the same
 pub record AnswersAlike (one other : Outcome) : Type 0 where
@@ -84,9 +81,7 @@ pub record AnswersAlike (one other : Outcome) : Type 0 where
 
 answer_one : (outcome : Outcome) → IsAsked true outcome → answer_in outcome ≡ outcome ∷ []
 answer_one Unasked is = absurd is
-answer_one (Entered placed) is = refl
-answer_one (WasFull more entries live) is = refl
-answer_one (Offered at_slot note) is = refl
+answer_one _ is = refl
 
 outcomes_same : {one other : Outcome} (asked : Bool) (alike : AnswersAlike one other) → IsAsked asked one
     → IsAsked asked other → (other ≡ one) × AreSameAnswers alike.ones alike.others
@@ -115,21 +110,12 @@ results_same old asked alike are leave =
 -- a reply of the session's own asks the station for nothing
 abbrev is_asking : Ask → Bool
 is_asking AskReply = false
-is_asking (AskPlay plan) = true
-is_asking (AskHalt keep) = true
-is_asking (AskLook slot) = true
-is_asking (AskOffer plan offers) = true
+is_asking _ = true
 
 asked_as : {asking new : SessionState} {ask : Ask} {outcome : Outcome} → AnswersAs asking new ask outcome
     → IsAsked (is_asking ask) outcome
 asked_as (NoneAsked is) = refl
-asked_as (PlayAdmitted play) = tt
-asked_as (PlayRefused play) = tt
-asked_as (PlayFull is) = tt
-asked_as (PlayHalted halt) = tt
-asked_as (LookMade look) = tt
-asked_as (LookFull is) = tt
-asked_as (OfferMade is) = tt
+asked_as _ = tt
 
 -- the same answer, and the same session after it
 pub answers_same : {new again : SessionState} {one other : Outcome} (old : SessionState) (ask : Ask)
@@ -143,11 +129,8 @@ answers_same {one = one} {other = other} old ask alike answered =
 -- ---- a slot is processed
 
 abbrev is_halting : Awaited → Bool
-is_halting Nothing = false
-is_halting (Play prepared) = false
 is_halting (Halt keep next) = true
-is_halting (Look sequence) = false
-is_halting (Offer sequence) = false
+is_halting _ = false
 
 finished_as : {s new : SessionState} {awaited : Awaited} {outcome : Outcome} → FinishesAs s new awaited outcome
     → IsAsked (is_halting awaited) outcome

@@ -1,7 +1,7 @@
 -- The sizes of units, as a client reads them from the frames and reports of a run.
-use Rattle.std.proofs.Common.{◌≡◌, ℕ, zero, suc, ◌+◌, ◌-◌, ◌<◌, ◌≤◌, ◌&&◌, Bool, true, false, not}
-use Rattle.std.proofs.Common.{nat_lt, List, [], ◌∷◌, ◌++◌, length, take, map, sum, refl, sym, ap}
-use Rattle.std.proofs.Common.{subst, ◌∙◌, append_assoc, arith, inl, inr}
+use Rattle.std.proofs.Common.{◌≡◌, ℕ, zero, suc, ◌+◌, ◌-◌, ◌<◌, ◌≤◌, ◌&&◌, Bool, true, false, not, nat_lt, List, []}
+use Rattle.std.proofs.Common.{◌∷◌, ◌++◌, length, take, map, sum, refl, sym, ap, subst, ◌∙◌, append_assoc, arith, inl}
+use Rattle.std.proofs.Common.{inr}
 use Rattle.std.proofs.lemmas.Bool.{cases_lt, cond-true, cond-false, and_from}
 use Rattle.std.proofs.lemmas.List.{append-nil, length-append, take-append-le, take_all}
 use Rattle.std.proofs.lemmas.List.Sums.{sum_by-cons}
@@ -25,13 +25,12 @@ use Rattle.film_frames.proofs.TrackLemmas.{begin-all}
 use Rattle.rtsp_client.specs.Answers.{events_of_elements, element_events}
 use Rattle.rtsp_client.specs.ClientHistory.{Frame, ClientEvent, Reply, Report, Slot, is_last}
 use Rattle.rtsp_client.specs.MeterGuarantee.{frames_of}
-use Rattle.connection_laws.proofs.Blocks.{blocks_append, frame_block, frame_blocks, frame_moment}
-use Rattle.connection_laws.proofs.Blocks.{frames_after, last_is, octets_after, report_block, report_if}
-use Rattle.connection_laws.proofs.Blocks.{report_moment, unit_among, unit_blocks, unit_made, unit_one}
+use Rattle.connection_laws.proofs.Blocks.{blocks_append, frame_block, frame_blocks, frame_moment, frames_after, last_is}
+use Rattle.connection_laws.proofs.Blocks.{octets_after, report_block, report_if, report_moment, unit_among, unit_blocks}
+use Rattle.connection_laws.proofs.Blocks.{unit_made, unit_one, RunFrom}
 use Rattle.connection_laws.proofs.PieceCounts.{count_past, count_within}
 use Rattle.connection_laws.proofs.HistorySums.{AreOneBlocks, Sum, blocks_one_append, blocks_same, plays, step, steps}
 use Rattle.connection_laws.proofs.HistorySums.{steps_on}
-use Rattle.connection_laws.proofs.Blocks.{RunFrom}
 
 -- the moments of blocks, in two parts
 pub moments_parts : (xs ys : List (List ℕ)) → events_of_elements (xs ++ ys) ≡ events_of_elements xs ++
@@ -66,8 +65,6 @@ part_frames : (of_run : UnitOfRun) (k : ℕ) (packets : List Packet) (s : Sum) �
     k < length (frame_blocks of_run.run of_run.unit of_run.frames packets) →
     (steps s (events_of_elements (take k (frame_blocks of_run.run of_run.unit of_run.frames packets)))).sizes ≡ s.sizes
 part_frames of_run zero packets s marked few = refl
-part_frames of_run (suc k) [] s marked few = absurd (omega (arith, few))
-part_frames of_run (suc k) (p ∷ []) s marked few = absurd (omega (arith, few))
 part_frames of_run (suc k) (p ∷ (q ∷ packets)) s marked few =
     let b = frame_block run unit p f in
     frame_sizes b (take k (frame_blocks run unit (f + 1) (q ∷ packets))) s (λ t. t.sizes ≡ s.sizes)
@@ -77,6 +74,7 @@ part_frames of_run (suc k) (p ∷ (q ∷ packets)) s marked few =
     ∙ cond-false (is_last b) (s.sizes ++ (s.pending + length b) ∷ []) s.sizes (last_is run f unit p ∙ marked.0))
   where
     open of_run use {run, frames as f, unit, media}
+part_frames of_run (suc k) _ s marked few = absurd (omega (arith, few))
 
 -- a unit is complete: its size is that of its frames and of what waited before them
 pub record IsUnitDone (s : Sum) (size : ℕ) (t : Sum) : Type 0 where
@@ -416,10 +414,8 @@ units_come {c} {s} from starts (unit ∷ units) laid between =
 
 pub frames_parts : (a b : List ClientEvent) → frames_of (a ++ b) ≡ frames_of a ++ frames_of b
 frames_parts [] b = refl
-frames_parts (Reply m ∷ a) b = frames_parts a b
 frames_parts (Frame x ∷ a) b = ap (λ l. x ∷ l) (frames_parts a b)
-frames_parts (Report x ∷ a) b = frames_parts a b
-frames_parts (Slot t cut ∷ a) b = frames_parts a b
+frames_parts (_ ∷ a) b = frames_parts a b
 
 frames_told : (run : FramedRun) (f : ℕ) (unit : PictureUnit) (packets : List Packet) → run.identity.channel ≡ 0
     → frames_of (events_of_elements (frame_blocks run unit f packets)) ≡ frame_blocks run unit f packets

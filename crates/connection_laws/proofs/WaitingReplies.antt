@@ -1,7 +1,6 @@
 -- A reply that waits, and where it is sent: what each doing of a connection makes of it.
-use Rattle.std.proofs.Common.{◌≡◌, ℕ, ◌+◌, ◌-◌, ◌<◌, ◌≤◌, ◌++◌, if◌then◌else◌, Bool, true, false}
-use Rattle.std.proofs.Common.{min, List, [], ◌∷◌, Option, Some, None, length, drop, refl, ap, sym}
-use Rattle.std.proofs.Common.{◌∙◌, subst, inl, inr, arith, eq-eqb}
+use Rattle.std.proofs.Common.{◌≡◌, ℕ, ◌+◌, ◌-◌, ◌<◌, ◌≤◌, ◌++◌, if◌then◌else◌, Bool, true, false, min, List, [], ◌∷◌}
+use Rattle.std.proofs.Common.{Option, Some, None, length, drop, refl, ap, sym, ◌∙◌, subst, inl, inr, arith, eq-eqb}
 use Rattle.conn.proofs.ReplyPlacement.{boundary_here}
 use Rattle.std.proofs.lemmas.Bool.{cases_lt, true≢false}
 use Rattle.std.proofs.lemmas.List.{append_assoc, length-take, length-drop}

@@ -1,6 +1,6 @@
 -- A client that has watched a film over a link on which its bytes lay between the curves.
-use Rattle.std.proofs.Common.{◌≡◌, ℕ, ◌-◌, ◌<◌, ◌≤◌, List, [], ◌∷◌, ◌++◌, length, take, drop, Some}
-use Rattle.std.proofs.Common.{slice_get, refl, sym, ap, subst, ◌∙◌, append_assoc, arith, inl, inr}
+use Rattle.std.proofs.Common.{◌≡◌, ℕ, ◌-◌, ◌<◌, ◌≤◌, List, [], ◌∷◌, ◌++◌, length, take, drop, Some, slice_get, refl}
+use Rattle.std.proofs.Common.{sym, ap, subst, ◌∙◌, append_assoc, arith, inl, inr}
 use Rattle.std.proofs.lemmas.List.{append-nil, length-map}
 use Rattle.std.proofs.lemmas.List.Concat.{flat_map-append}
 use Rattle.vod_base.specs.Links.{IoEvent, HeardBytes, HeardEnd, HeardSlot, Sent, sends}
@@ -17,8 +17,7 @@ use Rattle.rtsp_client.specs.declared.watch_request.WatchEnd.{WatchEnd}
 use Rattle.rtsp_client.specs.declared.watch_request.WatchEnd.TheVariants.{Done}
 use Rattle.rtsp_client.specs.Answers.{Gives, history_after, events_of_elements, payload_of, payloads_of, requests_after}
 use Rattle.rtsp_client.specs.WatchCourses.{Ends, HasCourse, IsNext, Round, RunsAll, WatchStage, Stops, StopsAt}
-use Rattle.rtsp_client.specs.WatchCourses.{events_of_rounds}
-use Rattle.rtsp_client.specs.WatchCourses.{rounds_doings, stage}
+use Rattle.rtsp_client.specs.WatchCourses.{events_of_rounds, rounds_doings, stage}
 use Rattle.rtsp_client.specs.Meters.{first_slot}
 use Rattle.rtsp_client.specs.ClientHistory.{History, ClientEvent, payloads, replies}
 use Rattle.rtsp_client.specs.MeterGuarantee.{IsBetweenAlways}
@@ -32,8 +31,7 @@ use Rattle.connection_laws.proofs.FilmReading.{IsFilmIn, film_comes_back, film_s
 use Rattle.connection_laws.proofs.FinishedWatches.{done_sum}
 use Rattle.connection_laws.specs.Requests.{bytes_in}
 use Rattle.connection_laws.proofs.ClientInput.{Heard, IsDrained, at_done, heard_all, heard_more, heard_none}
-use Rattle.connection_laws.proofs.ClientInput.{replies_later}
-use Rattle.connection_laws.proofs.ClientInput.{rounds_heard}
+use Rattle.connection_laws.proofs.ClientInput.{replies_later, rounds_heard}
 use Rattle.connection_laws.proofs.MeterInput.{Stream, all_of}
 use Rattle.connection_laws.proofs.MeterBounds.{AreFed, always_all, always_elements, front_of}
 use Rattle.connection_laws.proofs.HistorySums.{Sum, steps_payloads, sum_after, sum_of}
@@ -156,9 +154,7 @@ heard_append : (a b : List IoEvent) → heard_bytes (a ++ b) ≡ heard_bytes a +
 heard_append [] b = refl
 heard_append (HeardBytes bytes ∷ a) b =
     ap (λ l. bytes ++ l) (heard_append a b) ∙ sym (append_assoc bytes (heard_bytes a) (heard_bytes b))
-heard_append (HeardSlot slot ∷ a) b = heard_append a b
-heard_append (HeardEnd ∷ a) b = heard_append a b
-heard_append (Sent byte ∷ a) b = heard_append a b
+heard_append (_ ∷ a) b = heard_append a b
 
 heard_sends : (bytes : List ℕ) → heard_bytes (sends bytes) ≡ []
 heard_sends [] = refl
@@ -166,9 +162,7 @@ heard_sends (b ∷ bytes) = heard_sends bytes
 
 heard_one : (event : IoEvent) (rest : List IoEvent) → heard_bytes (event ∷ rest) ≡ bytes_in event ++ heard_bytes rest
 heard_one (HeardBytes bytes) rest = refl
-heard_one (HeardSlot slot) rest = refl
-heard_one HeardEnd rest = refl
-heard_one (Sent byte) rest = refl
+heard_one _ rest = refl
 
 heard_rounds : (wish : Wish) (h : History) (rounds : List Round) → heard_bytes (rounds_doings wish h rounds)
     ≡ rounds_heard rounds

@@ -2,7 +2,7 @@ use Rattle.connection_laws.proofs.AdmittedStarts.{asked_range, course_range, cou
 use Rattle.connection_laws.proofs.laws.law_admitted_plays_start_in_range.Goals as goal
 
 pub returns-clause-asked : goal.returns-clause-asked
-returns-clause-asked c = asked_range
+returns-clause-asked c = λ films settings words doings report done. asked_range done
 
 pub returns-clause-latest : goal.returns-clause-latest
 returns-clause-latest c = latest_range

@@ -2,9 +2,7 @@ use Rattle.connection_laws.proofs.GreatestSlots.{film_written_is, plays_over}
 use Rattle.connection_laws.proofs.laws.law_film_written_equals_bytes_due.Goals as goal
 
 pub returns-clause-film : goal.returns-clause-film
-returns-clause-film c =
-    λ course. film_written_is course.films course.settings course.words course.rounds course.last course.follows
+returns-clause-film c = film_written_is
 
 pub returns-clause-over : goal.returns-clause-over
-returns-clause-over c = λ course. plays_over course.films course.settings course.words course.rounds course.last
-    course.follows
+returns-clause-over c = plays_over

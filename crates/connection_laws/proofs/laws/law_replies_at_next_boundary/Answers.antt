@@ -2,4 +2,4 @@ use Rattle.connection_laws.proofs.CourseReplies.{replies_sent}
 use Rattle.connection_laws.proofs.laws.law_replies_at_next_boundary.Goals as goal
 
 pub returns : goal.returns
-returns c = λ course. replies_sent course.films course.settings course.words course.rounds course.last course.follows
+returns c = replies_sent

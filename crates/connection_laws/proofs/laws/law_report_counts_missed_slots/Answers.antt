@@ -2,4 +2,4 @@ use Rattle.connection_laws.proofs.MissedSlots.{late_is}
 use Rattle.connection_laws.proofs.laws.law_report_counts_missed_slots.Goals as goal
 
 pub returns : goal.returns
-returns c = late_is
+returns c = λ films settings words doings report done. late_is done
