@@ -11,7 +11,7 @@ use Rattle.rtp_pack.specs.declared.reports.Identity.{Identity}
 use Rattle.film_frames.specs.Tracks.{framed_bytes}
 use Rattle.rtsp_client.specs.declared.watch_request.Wish.{Wish}
 use Rattle.rtsp_client.specs.declared.watch_request.WatchEnd.{WatchEnd}
-use Rattle.rtsp_client.specs.declared.watch_request.WatchEnd.TheVariants.{Done, Fault, LinkFault, SinkFault, NoMemory}
+use Rattle.rtsp_client.specs.declared.watch_request.WatchEnd.TheVariants.{Done, Fault}
 use Rattle.rtsp_client.specs.declared.watch_request.Watched.{Watched}
 use Rattle.rtsp_client.specs.Answers.{history_after, events_of_elements}
 use Rattle.rtsp_client.specs.Meters.{watched_in}

@@ -26,7 +26,7 @@ use Rattle.rtsp_client.specs.Films.{is_complete, is_good_frame, units_until}
 use Rattle.rtsp_client.specs.MeterGuarantee.{frames_heard, frames_of}
 use Rattle.rtsp_client.specs.Meters.{watched_in}
 use Rattle.rtsp_client.specs.Replies.{IsAnswer, play_range, play_start, setup_session}
-use Rattle.rtsp_client.specs.ClientHistory.{History, ClientEvent, Frame, Reply, Report, Slot, end_ms, replies}
+use Rattle.rtsp_client.specs.ClientHistory.{History, ClientEvent, Frame, Reply, Report, end_ms, replies}
 use Rattle.rtsp_client.specs.WatchCourses.{IsNext}
 use Rattle.rtsp_client.specs.WholeFilms.{AwaitsFilm, frames_of_film}
 use Rattle.connection_laws.specs.WatchEnds.{AreAnswers, AreGoodReplies}

@@ -10,10 +10,9 @@ use Rattle.film_frames.specs.declared.stored_films.Stored.{Stored}
 use Rattle.film_frames.specs.FramedRuns.{run_pieces}
 use Rattle.slot_calendar.specs.declared.profiles.CapStep.{CapStep}
 use Rattle.admission.specs.declared.entries.Answer.{Answer}
-use Rattle.admission.specs.declared.entries.Answer.TheVariants.{Admitted, Halted, Looked, Overflow}
+use Rattle.admission.specs.declared.entries.Answer.TheVariants.{Admitted}
 use Rattle.admission.specs.declared.entries.Command.{Command}
-use Rattle.admission.specs.declared.entries.Command.TheVariants.{Play as PlayCommand, Halt as HaltCommand}
-use Rattle.admission.specs.declared.entries.Command.TheVariants.{Look as LookCommand}
+use Rattle.admission.specs.declared.entries.Command.TheVariants.{Play as PlayCommand}
 use Rattle.admission.specs.declared.entries.Entry.{Entry}
 use Rattle.admission.specs.Histories.{IsLegal, asked_in, latest_asked, state_after}
 use Rattle.admission.specs.Machine.{IsAnswer, State}
@@ -23,12 +22,12 @@ use Rattle.admission.proofs.PlayCounts.{tally}
 use Rattle.session.specs.declared.commands.Ask.{Ask}
 use Rattle.film_streams.specs.declared.settings.Settings.{Settings}
 use Rattle.session.specs.declared.states.Awaited.{Awaited}
-use Rattle.session.specs.declared.states.Awaited.TheVariants.{Nothing, Play, Halt, Look, Offer}
+use Rattle.session.specs.declared.states.Awaited.TheVariants.{Play}
 use Rattle.session.specs.SessionStates.{OpenBooking, SessionState}
 use Rattle.rtsp_client.specs.declared.watch_request.Wish.{Wish}
 use Rattle.conn.specs.Agreement.{Activity, HasDone, Visit, doings_outcomes}
-use Rattle.conn.specs.EventSteps.{Ending, Unheard, PeerEnded, Overfull, AtElement, InSlot, InReply, Round}
-use Rattle.conn.specs.EventSteps.{ending_outcomes, entries_in, round_outcomes, rounds_outcomes}
+use Rattle.conn.specs.EventSteps.{Ending, AtElement, InReply, Round, ending_outcomes, entries_in, round_outcomes}
+use Rattle.conn.specs.EventSteps.{rounds_outcomes}
 use Rattle.conn.specs.InputSteps.{Outcome, Unasked, Entered, WasFull, Offered, IsHaltAnswered}
 use Rattle.conn.specs.Journals.{AgreeWith, StandsIn, Terms}
 use Rattle.conn.specs.Plays.{ending_rounds}
@@ -38,9 +37,9 @@ use Rattle.connection_laws.specs.Courses.{Course, askings_of, course_plays, firs
 use Rattle.connection_laws.specs.Plays.{StationRequest, Asks, FilmPlay, kept_in, plays_admitted, plays_begun, plays_of}
 use Rattle.connection_laws.specs.StartRanges.{AreMadeByConnections, IsCourseIn, IsMadeByConnection, StartsInRange}
 use Rattle.connection_laws.proofs.BookedPlays.{course_outcomes, outcomes_in}
-use Rattle.connection_laws.proofs.StationAnswers.{AnswersAs, NoneAsked, PlayAdmitted, PlayRefused, PlayFull, PlayHalted}
-use Rattle.connection_laws.proofs.StationAnswers.{LookMade, LookFull, OfferMade, answers_as, FinishesAs, NothingLeft}
-use Rattle.connection_laws.proofs.StationAnswers.{DoneHalted, ClosesAs, NothingOpen, BookingHalted}
+use Rattle.connection_laws.proofs.StationAnswers.{AnswersAs, PlayAdmitted, PlayRefused, PlayHalted, LookMade}
+use Rattle.connection_laws.proofs.StationAnswers.{answers_as, FinishesAs, NothingLeft, DoneHalted, ClosesAs}
+use Rattle.connection_laws.proofs.StationAnswers.{NothingOpen, BookingHalted}
 use Rattle.std.proofs.lemmas.List.{map-append}
 use Rattle.connection_laws.specs.Notes.{StationCall, outcome_of}
 use Rattle.connection_laws.proofs.CourseTurns.{IsKeptByDoings, doings_kept, turns_told}

@@ -5,25 +5,23 @@ use Rattle.std.proofs.lemmas.List.{map-append}
 use Rattle.vod_base.specs.Links.{IoEvent}
 use Rattle.plan_cert.specs.PlanSlots.{total_bytes}
 use Rattle.slot_calendar.specs.Plays.{truncated_play}
-use Rattle.film_frames.specs.declared.stored_films.Stored.{Stored}
 use Rattle.admission.specs.Histories.{play_admitted}
 use Rattle.admission.specs.Makers.{PlacedEntry}
 use Rattle.admission.specs.declared.entries.Answer.TheVariants.{Admitted}
 use Rattle.station.specs.Ledgers.{play_of}
-use Rattle.film_streams.specs.declared.settings.Settings.{Settings}
 use Rattle.session.specs.declared.states.Awaited.{Awaited}
 use Rattle.session.specs.declared.states.Awaited.TheVariants.{Play}
 use Rattle.session.specs.SessionStates.{SessionState}
 use Rattle.conn.specs.EventSteps.{Round, entries_in, round_outcomes, rounds_outcomes, takings_outcomes}
-use Rattle.conn.specs.InputSteps.{Outcome, Unasked, Entered, WasFull, Offered, SentPart, Stage, ElementStep, Passed}
-use Rattle.conn.specs.InputSteps.{Answered, TakesAll, entry_in}
+use Rattle.conn.specs.InputSteps.{Outcome, Unasked, SentPart, Stage, ElementStep, Passed, Answered, TakesAll, entry_in}
 use Rattle.connection_laws.specs.Courses.{IsCourseBetween, asked_by, askings_of, first_stage, round_askings}
 use Rattle.connection_laws.specs.Courses.{takings_askings, Course, course_plays}
 use Rattle.connection_laws.specs.Plays.{StationRequest, Asks, plays_admitted, plays_begun, booked_by, booked_plays}
 use Rattle.connection_laws.specs.Plays.{booking_of, kept_among, kept_in, kept_with, plays_of}
 use Rattle.connection_laws.proofs.RequestEffects.{Ends, Starts, Stays, TurnsAs, told_by, turns_as}
 use Rattle.connection_laws.proofs.StationAnswers.{FinishesAs, NothingLeft, DoneHalted, ComesAs, BytesCame, SlotCame}
-use Rattle.connection_laws.proofs.CourseAskings.{IsKeptByAskings, course_kept}
+use Rattle.connection_laws.proofs.CourseInduction.{Piece}
+use Rattle.connection_laws.proofs.FilmBytes.{IsKeptStanding, standing_course_kept}
 
 -- the play that begins is the one that the entry records, if any
 abbrev pub IsToldBy : Awaited → Outcome → Type 0
@@ -114,13 +112,13 @@ comes_told : {old opened : Stage} {event : IoEvent} {due : List SentPart} {halt 
 comes_told (BytesCame is) = λ askings made keeps. refl
 comes_told (SlotCame finish) = finish_told finish
 
-abbrev ToldAskings : SessionState → List StationRequest → SessionState → Type 0
-ToldAskings old made new = AreTold made
+abbrev ToldOn : SessionState → Piece → SessionState → Type 0
+ToldOn old piece new = AreTold piece.askings
 
-told_kept : IsKeptByAskings ToldAskings
+told_kept : IsKeptStanding ToldOn
 told_kept = record {
   none = λ s. tt;
-  joins = λ a b c made more one two. told_append made more one two;
+  joins = λ a b c one two first rest. told_append one.askings two.askings first rest;
   request = λ old new message outcome parts replied stands. (
     turn_told old.session replied.answered replied.heard.asking.awaited outcome
         (turns_as old.session message outcome replied.answered replied.heard stands.rest),
@@ -145,5 +143,5 @@ pub plays_booked : (course : Course)
 plays_booked course =
     let first : Stage = first_stage course.films course.settings course.words in
     plays_told (askings_of first course.rounds course.last course.follows)
-    (course_kept told_kept first course.last course.rounds course.follows (record { rest = refl; sound = tt }))
+    (standing_course_kept told_kept first course.last course.rounds course.follows (record { rest = refl; sound = tt }))
     ∙ ap (λ os. booked_plays (entries_in os)) (course_outcomes first course.last course.rounds course.follows)

@@ -3,7 +3,7 @@ use Rattle.std.proofs.Common.{◌≡◌, ℕ, ◌+◌, ◌<◌, ◌≤◌, ◌==
 use Rattle.std.proofs.Common.{refl, sym, ap, ap₂, subst, ◌∙◌, append_assoc, arith, inl, inr}
 use Rattle.std.proofs.lemmas.Bool.{cond-false, ne_eqb}
 use Rattle.std.proofs.lemmas.List.{append-nil}
-use Rattle.vod_base.specs.Links.{IoEvent, HeardBytes, HeardEnd, HeardSlot, Sent}
+use Rattle.vod_base.specs.Links.{IoEvent, HeardBytes, HeardSlot}
 use Rattle.interleave.specs.Streams.{AreInputElements, IsElementLength}
 use Rattle.interleave.proofs.StreamElements.{CutsInTurn, cuts_join}
 use Rattle.rtsp_client.specs.declared.watch_request.Wish.{Wish}

@@ -20,10 +20,9 @@ use Rattle.rtsp_text.specs.RequestTexts.{request_head}
 use Rattle.rtsp_text.proofs.MessageUniqueness.{request_once}
 use Rattle.vod_base.specs.Names.{good_name, is_name_byte}
 use Rattle.session.specs.declared.commands.Ask.{Ask}
-use Rattle.session.specs.declared.commands.Ask.TheVariants.{Reply as AskReply, Play as AskPlay, Halt as AskHalt}
-use Rattle.session.specs.declared.commands.Ask.TheVariants.{Look as AskLook, Offer as AskOffer}
+use Rattle.session.specs.declared.commands.Ask.TheVariants.{Reply as AskReply, Halt as AskHalt}
 use Rattle.session_laws.specs.EndLaws.{HaltsPlay}
-use Rattle.session.specs.Laws.{IsTeardown, InitStage, PlayingStage, ReadyStage, StateKind as SessionStage, stage_of}
+use Rattle.session.specs.Laws.{IsTeardown, PlayingStage, StateKind as SessionStage, stage_of}
 use Rattle.session_laws.specs.MethodLaws.{setup_in}
 use Rattle.rtsp_replies.specs.Replies.{session_text}
 use Rattle.session.specs.RequestSteps.{Hears, after_admission}
@@ -46,8 +45,8 @@ use Rattle.connection_laws.proofs.PrintedTexts.{IsPrinted, printed_w64}
 use Rattle.connection_laws.specs.WatchEnds.{AreAnswers}
 use Rattle.connection_laws.proofs.ReplyReadings.{teardown_read as read_teardown}
 use Rattle.connection_laws.proofs.RequestReplies.{IsNamed, named_still, teardown_replied}
-use Rattle.connection_laws.proofs.StationAnswers.{AnswersAs, NoneAsked, PlayAdmitted, PlayRefused, PlayFull, PlayHalted}
-use Rattle.connection_laws.proofs.StationAnswers.{LookMade, LookFull, OfferMade, answers_as}
+use Rattle.connection_laws.proofs.StationAnswers.{AnswersAs, NoneAsked, PlayAdmitted, PlayRefused, PlayHalted, LookMade}
+use Rattle.connection_laws.proofs.StationAnswers.{answers_as}
 
 -- ---- the films and the id stay
 

@@ -15,7 +15,7 @@ use Rattle.session.specs.SlotTransitions.{IsCarried, after_stop}
 use Rattle.conn.specs.InputSteps.{Outcome, Unasked}
 use Rattle.conn.specs.declared.reports.ConnReport.{ConnReport}
 use Rattle.conn.specs.Agreement.{Activity, HasDone}
-use Rattle.connection_laws.specs.Notes.{StationCall, notes_of_calls, notes_of, station_call, station_calls}
+use Rattle.connection_laws.specs.Notes.{StationCall, notes_of_calls, notes_of, station_call}
 use Rattle.connection_laws.proofs.PlayNotes.{Carries, IsKept, carries_as, carries_none, carries_then, halt_turn}
 use Rattle.connection_laws.proofs.PlayNotes.{halted_open, heard_on, no_halt_note, no_note, notes_until, open_note}
 use Rattle.connection_laws.proofs.PlayNotes.{unasked_turn}

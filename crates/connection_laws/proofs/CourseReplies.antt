@@ -1,31 +1,26 @@
 -- The replies of a connection's course, one after another, each at its place.
-use Rattle.std.proofs.Common.{◌≡◌, ℕ, ◌+◌, ◌-◌, ◌<◌, ◌≤◌, ◌++◌, Bool, min, max, List, [], ◌∷◌, Option, Some, None, refl}
-use Rattle.std.proofs.Common.{ap, sym, ◌∙◌, subst, inl, inr, arith}
+use Rattle.std.proofs.Common.{◌≡◌, ℕ, ◌+◌, ◌-◌, ◌<◌, ◌≤◌, ◌++◌, Bool, min, List, [], ◌∷◌, Option, Some, None, refl, ap}
+use Rattle.std.proofs.Common.{sym, ◌∙◌, subst, inl, inr, arith}
 use Rattle.std.proofs.lemmas.List.{append-nil}
 use Rattle.vod_base.specs.Links.{IoEvent}
-use Rattle.film_frames.specs.declared.stored_films.Stored.{Stored}
 use Rattle.plan_cert.specs.PlanSlots.{total_bytes}
 use Rattle.pacer.specs.PacerStates.{PacerState, first_slots}
-use Rattle.film_streams.specs.declared.settings.Settings.{Settings}
 use Rattle.session.specs.declared.states.Awaited.TheVariants.{Nothing}
-use Rattle.conn.specs.Films.{rounds_parts, takings_parts}
-use Rattle.conn.specs.EventSteps.{Round, Runs}
+use Rattle.conn.specs.Films.{rounds_parts}
 use Rattle.conn.specs.InputSteps.{Outcome, SentPart, Stage}
-use Rattle.connection_laws.specs.Courses.{IsCourseBetween, asked_by, askings_of, first_stage, greatest_slot}
-use Rattle.connection_laws.specs.Courses.{round_askings, slot_in, Course, course_plays}
-use Rattle.connection_laws.specs.ReplyPlaces.{AreSentAt, IsBoundaryIn, slots_from, takings_slots}
+use Rattle.connection_laws.specs.Courses.{asked_by, askings_of, first_stage, greatest_slot, Course, course_plays}
+use Rattle.connection_laws.specs.ReplyPlaces.{AreSentAt, IsBoundaryIn, slots_from}
 use Rattle.connection_laws.specs.Plays.{StationRequest, Asks, due_by as all_due, due_of, plays_of}
 use Rattle.connection_laws.specs.Replies.{placed_texts, course_texts}
-use Rattle.connection_laws.proofs.FilmBytes.{Stands, course_step, opened_stands, round_step, stands_by}
+use Rattle.connection_laws.proofs.FilmBytes.{Stands, course_step, IsKeptStanding, standing_course_kept}
 use Rattle.connection_laws.proofs.JoinedFilms.{IsOnTime, IsSound, play_with}
-use Rattle.connection_laws.proofs.KeptParts.{takes_heard}
-use Rattle.connection_laws.proofs.GreatestSlots.{comes_heard, course_heard}
+use Rattle.connection_laws.proofs.CourseInduction.{course_heard, Piece, request_piece}
 use Rattle.connection_laws.proofs.TextPlaces.{due_then}
 use Rattle.connection_laws.proofs.RequestEffects.{Going, Idle, Ending, Sends, sends_in, unasked_still}
-use Rattle.connection_laws.proofs.WaitingReplies.{Fits, IsHeld, IsHeldUp, Stand, due_going, due_here, point}
-use Rattle.connection_laws.proofs.SessionMoves.{HeldIn, Move, move_none, move_then, takes_move}
+use Rattle.connection_laws.proofs.WaitingReplies.{IsHeld, IsHeldUp, Stand, due_going, due_here}
+use Rattle.connection_laws.proofs.SessionMoves.{HeldIn, Move, move_none, move_then, answered_move, unheld}
 use Rattle.connection_laws.proofs.SlotMoves.{StandingHeld, slot_move, still_move}
-use Rattle.connection_laws.proofs.StationAnswers.{ComesAs, BytesCame, SlotCame, comes_as}
+use Rattle.connection_laws.proofs.StationAnswers.{ComesAs, BytesCame, SlotCame}
 use Rattle.session.specs.SessionStates.{SessionState}
 
 comes_move : {old opened : Stage} {event : IoEvent} {due : List SentPart} {halt : Outcome} {pending : Option ℕ}
@@ -35,50 +30,23 @@ comes_move (BytesCame is) standing =
     still_move (ap (λ (s : Stage). s.session) is) (unasked_still Nothing) standing.held
 comes_move (SlotCame {slot = slot} finish) standing = slot_move slot standing finish
 
-round_move : {old new : Stage} {round : Round} {pending : Option ℕ} (runs : Runs old round new)
-    → Stands old.session → HeldIn pending old.session
-    → Move old.session new.session pending (round_askings old round new runs)
-    (takings_slots (max old.session.heard (slot_in round.event)) round.takings)
-    (round.due ++ takings_parts round.takings)
-round_move {old} {new} {round} {pending} runs stands held =
-    let opened : Stage = runs.opened in
-    let made : List StationRequest = Asks (asked_by old.session round.event) round.halt ∷ [] in
-    let one = comes_move {pending = pending} (comes_as round.event round.due round.halt runs.comes)
-    (record { stands = stands; held = held }) in
-    let two = takes_move opened new round.takings runs.takes (opened_stands old new round runs stands) one.held in
-    let all : Move old.session new.session pending (round_askings old round new runs)
-    (takings_slots opened.session.heard round.takings) (round.due ++ takings_parts round.takings) =
-    move_then
-    one two in
-    subst (λ h. Move old.session new.session pending (round_askings old round new runs)
-    (takings_slots h round.takings) (round.due ++ takings_parts round.takings))
-    (comes_heard (comes_as round.event round.due round.halt runs.comes)) all
+abbrev MovesOn : SessionState → Piece → SessionState → Type 0
+MovesOn old piece new = (pending : Option ℕ) → HeldIn pending old
+    → Move old new pending piece.askings piece.slots piece.parts
 
-course_move : {pending : Option ℕ} (old new : Stage) (rounds : List Round) (follows : IsCourseBetween old rounds new)
-    → Stands old.session
-    → HeldIn pending old.session
-    → Move old.session new.session pending (askings_of old rounds new follows)
-    (slots_from old.session.heard rounds) (rounds_parts rounds)
-course_move {pending} old new [] follows stands held =
-    subst (λ (s : Stage). Move old.session s.session pending [] [] []) (sym follows)
-    (move_none old.session pending held)
-course_move {pending} old new (round ∷ rounds) follows stands held =
-    let mid : Stage = follows.0 in
-    let runs = follows.1.0 in
-    let now : ℕ = max old.session.heard (slot_in round.event) in
-    let one = round_move runs stands held in
-    let mids : Stands mid.session =
-    stands_by old.session mid.session (round_askings old round mid runs) _ (round_step old mid round runs stands) in
-    let rest = course_move {pending = one.after} mid new rounds follows.1.1 mids one.held in
-    let heard : mid.session.heard ≡ now =
-    takes_heard runs.opened mid round.takings runs.takes
-    ∙ comes_heard (comes_as round.event round.due round.halt runs.comes) in
-    subst (λ h. Move old.session new.session pending
-    (round_askings old round mid runs ++ askings_of mid rounds new follows.1.1)
-    (takings_slots now round.takings ++ slots_from h rounds)
-    ((round.due ++ takings_parts round.takings) ++ rounds_parts rounds)) heard
-    (move_then
-    one rest)
+moves_kept : IsKeptStanding MovesOn
+moves_kept = record {
+  none = λ s pending held. move_none s pending held;
+  joins = λ a b c one two first rest pending held.
+      let mid = first pending held in move_then mid (rest mid.after mid.held);
+  request = λ old new message outcome parts replied stands pending held.
+      let piece = request_piece replied in
+      subst (λ o. Move old.session new.session o piece.askings piece.slots parts)
+      (sym (unheld pending (sends_in old.session.state) old.session.waits old.session.heard held replied.next.replied))
+      (answered_move replied stands);
+  event = λ old opened event due halt comes stands pending held.
+      comes_move comes (record { stands = stands; held = held });
+}
 
 -- ---- where a course ends
 
@@ -145,7 +113,7 @@ replies_sent course =
     let parts : List SentPart = rounds_parts course.rounds in
     let new : SessionState = course.last.session in
     let heard : ℕ = new.heard in
-    let move = course_move {pending = None} first course.last course.rounds course.follows stands refl in
+    let move = standing_course_kept moves_kept first course.last course.rounds course.follows stands None refl in
     let sound = (course_step first course.last course.rounds course.follows stands).on.sound in
     let fits = move.goes_on.rest [] heard [] [] (omega arith) (record {
       from = tt;
@@ -153,7 +121,7 @@ replies_sent course =
       stand = end_stand (sends_in new.state) new.waits heard move.after sound move.held;
     }) in
     let last : heard ≡ greatest_slot course.rounds =
-    course_heard first course.last course.rounds course.follows stands ∙ omega arith in
+    course_heard first course.last course.rounds course.follows ∙ omega arith in
     subst (λ t. AreSentAt t (plays_of made) slots (placed_texts 0 parts)) last
     (subst (λ ms. AreSentAt heard (plays_of ms) slots (placed_texts 0 parts)) (append-nil made)
     (subst (λ ss. AreSentAt heard (plays_of (made ++ [])) ss (placed_texts 0 parts)) (append-nil slots)

@@ -9,19 +9,17 @@ use Rattle.session.specs.declared.states.Awaited.{Awaited}
 use Rattle.session.specs.declared.states.Awaited.TheVariants.{Nothing}
 use Rattle.session.specs.SlotSteps.{can_reply, sent_reply, after_slot}
 use Rattle.session.specs.SessionStates.{SessionState, OpenBooking, open_of}
-use Rattle.conn.specs.EventSteps.{Ending, Unheard, PeerEnded, Overfull, AtElement, InSlot, InReply, Ends, Round, Runs}
-use Rattle.conn.specs.EventSteps.{RunsAll, ending_outcomes, round_outcomes, rounds_outcomes, takings_outcomes}
-use Rattle.conn.specs.EventSteps.{HasFailedInSlot}
+use Rattle.conn.specs.EventSteps.{Ending, Overfull, AtElement, InSlot, InReply, Ends, Round, Runs, RunsAll}
+use Rattle.conn.specs.EventSteps.{ending_outcomes, round_outcomes, rounds_outcomes, takings_outcomes, HasFailedInSlot}
 use Rattle.conn.specs.InputSteps.{Outcome, Unasked, SentPart, Stage, ElementStep, Passed, Answered, TakesAll}
-use Rattle.conn.specs.InputSteps.{after_reply, film_bytes, HasHeard}
+use Rattle.conn.specs.InputSteps.{after_reply, HasHeard}
 use Rattle.conn.specs.declared.reports.ConnEnd.{ConnEnd}
 use Rattle.conn.specs.declared.reports.ConnReport.{ConnReport}
 use Rattle.conn.specs.Agreement.{Activity, HasDone, doings_outcomes}
-use Rattle.conn.specs.Films.{rounds_film}
-use Rattle.connection_laws.specs.Courses.{askings_of, first_stage, round_askings}
+use Rattle.connection_laws.specs.Courses.{first_stage}
 use Rattle.connection_laws.specs.Notes.{StationCall, asking_at, ending_calls, outcome_of, round_calls, rounds_calls}
 use Rattle.connection_laws.specs.Notes.{taken_calls, station_call, station_calls}
-use Rattle.connection_laws.proofs.FilmBytes.{Stands, course_step, round_step, stands_by, turn_after}
+use Rattle.connection_laws.proofs.FilmBytes.{Stands, turn_after, course_stands, round_stands}
 use Rattle.connection_laws.proofs.RequestEffects.{turns_as}
 use Rattle.connection_laws.proofs.CourseJoins.{follows_all}
 use Rattle.session.proofs.StepInvariantLemmas.{nothing_of}
@@ -119,28 +117,19 @@ module _ {R : SessionState → List StationCall → SessionState → Type 0} (ke
   ending_kept old new count _ end ends = still old new ends.1
 
 -- ---- between doings nothing is awaited
-pub stands_all : (old new : Stage) (rounds : List Round) → RunsAll old rounds new → Stands old.session
-    → Stands new.session
-stands_all old new rounds runs stands =
-    let follows = follows_all old new rounds runs in
-    stands_by old.session new.session (askings_of old rounds new follows) (rounds_film rounds)
-    (course_step old new rounds follows stands)
-
-pub stands_round : (old new : Stage) (round : Round) → Runs old round new → Stands old.session → Stands new.session
-stands_round old new round runs stands =
-    stands_by old.session new.session (round_askings old round new runs) (film_bytes round.due)
-    (round_step old new round runs stands)
+stands_all : (old new : Stage) (rounds : List Round) → RunsAll old rounds new → Stands old.session → Stands new.session
+stands_all old new rounds runs = course_stands old new rounds (follows_all old new rounds runs)
 
 pub ending_rest : {old : Stage} (ending : Ending) (ended : CourseEnd old ending) → Stands old.session →
     ended.new.session.awaited ≡ Nothing
 ending_rest (Overfull bytes) ended stands = ap (λ (s : Stage). s.session.awaited) ended.ends.3 ∙ stands.rest
-ending_rest {old} (AtElement round) ended stands = (stands_round old ended.new round ended.ends.0 stands).rest
+ending_rest {old} (AtElement round) ended stands = (round_stands old ended.new round ended.ends.0 stands).rest
 ending_rest (InSlot slot front) ended stands = nothing_of ended.new.session.awaited ended.ends.1.rest
 ending_rest {old} (InReply round message outcome front) ended stands =
     let e = ended.ends.1 in
     let failed = e.fails in
     let turns = turns_as e.mid.session message outcome failed.answered failed.heard
-    (stands_round old e.mid round e.runs stands).rest in
+    (round_stands old e.mid round e.runs stands).rest in
     ap (λ (s : Stage). s.session.awaited) failed.new_is
     ∙ (turn_after e.mid.session failed.answered failed.heard.asking.awaited outcome turns).awaited
 ending_rest _ ended stands = ap (λ (s : Stage). s.session.awaited) ended.ends.1 ∙ stands.rest

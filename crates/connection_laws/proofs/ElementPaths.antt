@@ -24,8 +24,7 @@ use Rattle.conn.specs.EventSteps.{IsStopped, takings_bytes, takings_outcomes}
 use Rattle.conn.specs.InputSteps.{Answered, IsAskAnswered, IsNext, IsPassed, IsReplied, Outcome, SentPart, Passed}
 use Rattle.conn.specs.InputSteps.{Stage, ElementStep, TakesAll, after_reply, parts_bytes, reply_parts, stage}
 use Rattle.conn.specs.declared.reports.ConnEnd.{ConnEnd}
-use Rattle.conn.specs.declared.reports.ConnEnd.TheVariants.{Ended, TornDown, LinkFault, TooMuchInput, HeadTooLong}
-use Rattle.conn.specs.declared.reports.ConnEnd.TheVariants.{BodyTooLong, TurnsSpent, NoMemory}
+use Rattle.conn.specs.declared.reports.ConnEnd.TheVariants.{TornDown, HeadTooLong, BodyTooLong}
 use Rattle.connection_laws.specs.InputSplits.{AllLackMemoryAlike, AreSameAnswers, HeardRequest, IsDrained}
 use Rattle.connection_laws.specs.InputSplits.{LackMemoryAlike, answer_in, answers_in, heard_requests_taken}
 use Rattle.connection_laws.proofs.KeptParts.{answered_names, replied_names}

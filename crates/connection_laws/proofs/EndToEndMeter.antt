@@ -5,7 +5,7 @@ use Rattle.conn.proofs.ReplyContents.{parts-more}
 use Rattle.std.proofs.lemmas.Bool.{cases_lt}
 use Rattle.std.proofs.lemmas.List.{length-append, length-map, length-take, take_all, take-take}
 use Rattle.std.proofs.lemmas.List.Sums.{sum_by-take-le}
-use Rattle.vod_base.specs.Links.{IoEvent, HeardBytes, HeardEnd, HeardSlot, Sent}
+use Rattle.vod_base.specs.Links.{IoEvent, Sent}
 use Rattle.mpeg_scan.specs.declared.films.Film.{Film}
 use Rattle.mpeg_scan.specs.PictureRates.{picture_time}
 use Rattle.rtp_pack.specs.declared.reports.Identity.{Identity}
@@ -30,10 +30,11 @@ use Rattle.conn.proofs.CurveBounds.{planned_between}
 use Rattle.connection_laws.specs.Courses.{Course, IsCourseBetween, askings_of, first_stage, greatest_slot, rounds_bytes}
 use Rattle.connection_laws.specs.Plays.{FilmPlay, due_of, film_of, film_written, plays_of}
 use Rattle.connection_laws.specs.Replies.{PlacedText, placed_text, placed_texts, text_of, insert_texts, course_texts}
-use Rattle.connection_laws.proofs.GreatestSlots.{course_heard, film_written_is}
+use Rattle.connection_laws.proofs.GreatestSlots.{film_written_is}
+use Rattle.connection_laws.proofs.CourseInduction.{course_heard}
 use Rattle.connection_laws.proofs.ReplyOrder.{bytes_woven}
 use Rattle.connection_laws.proofs.TextPlacement.{film_sent, rounds_sent}
-use Rattle.connection_laws.proofs.FilmBytes.{Stands, course_step, stands_by}
+use Rattle.connection_laws.proofs.FilmBytes.{Stands, course_stands}
 use Rattle.rtsp_client.specs.declared.watch_request.Wish.{Wish}
 use Rattle.rtsp_client.specs.MeterGuarantee.{IsBetween}
 use Rattle.connection_laws.specs.LinkDelivery.{IsWrittenBy, latest_slot, sent_bytes}
@@ -139,7 +140,7 @@ sent_through {first} {play} course later last follows one whole =
     let both : plays_of (a ++ b) ≡ play ∷ [] =
     ap plays_of (sym (askings_parts begin course.last first later follows)) ∙ one in
     let mid : Stands parts.0.session =
-    stands_by begin.session parts.0.session a (rounds_film first) (course_step begin parts.0 first parts.1.0 stands) in
+    course_stands begin parts.0 first parts.1.0 stands in
     let front : Course = record course { rounds = first; last = parts.0; follows = parts.1.0 } in
     let its = late_play begin.session.heard (askings_of begin (first ++ later) course.last follows) play []
     (course_late begin course.last (first ++ later) follows stands) one in
@@ -148,7 +149,7 @@ sent_through {first} {play} course later last follows one whole =
       | inr after ↦
           let late = late_play parts.0.session.heard b play []
           (course_late parts.0 course.last later parts.1.1 mid) after.1 in
-          let heard = course_heard begin parts.0 first parts.1.0 stands in
+          let heard = course_heard begin parts.0 first parts.1.0 in
           absurd (omega (arith, late.late, heard, last.slot_is))
     ] in
     record {

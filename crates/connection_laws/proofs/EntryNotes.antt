@@ -17,17 +17,17 @@ use Rattle.film_streams.specs.declared.setups.Setup.{Setup}
 use Rattle.session.specs.SessionStates.{SessionState, OpenBooking}
 use Rattle.conn.specs.Agreement.{Activity, HasDone, doings_outcomes}
 use Rattle.conn.specs.EventSteps.{entries_in}
-use Rattle.conn.specs.InputSteps.{Outcome, Unasked, Entered, WasFull, Offered, entry_in, IsHaltAnswered}
+use Rattle.conn.specs.InputSteps.{Outcome, Unasked, Entered, entry_in, IsHaltAnswered}
 use Rattle.conn.specs.declared.reports.ConnReport.{ConnReport}
 use Rattle.connection_laws.specs.Notes.{StationCall, kept_later, noted_for, noted_play, notes_of, notes_of_calls}
-use Rattle.connection_laws.specs.Notes.{outcome_of, placed_play, placed_plays, PlacedPlay, station_calls}
+use Rattle.connection_laws.specs.Notes.{outcome_of, placed_play, placed_plays, PlacedPlay}
 use Rattle.connection_laws.specs.Plays.{booked_by, kept_among, kept_with}
 use Rattle.connection_laws.proofs.CourseTurns.{IsKeptByDoings, doings_kept, turns_told, all_calls}
 use Rattle.connection_laws.proofs.CourseNotes.{plays_noted}
 use Rattle.connection_laws.proofs.StationAnswers.{FinishesAs, NothingLeft, DoneHalted, ClosesAs, NothingOpen}
 use Rattle.connection_laws.proofs.StationAnswers.{BookingHalted}
-use Rattle.connection_laws.proofs.RequestAnswers.{RequestAnswer, OwnReply, SetupReply, Admission, Refusal, HaltMade}
-use Rattle.connection_laws.proofs.RequestAnswers.{LookAnswer, JournalFull, OfferAnswer, PlayRequest, request_answer}
+use Rattle.connection_laws.proofs.RequestAnswers.{RequestAnswer, Admission, Refusal, HaltMade, LookAnswer, JournalFull}
+use Rattle.connection_laws.proofs.RequestAnswers.{OfferAnswer, PlayRequest, request_answer}
 use Rattle.connection_laws.proofs.PlayNotes.{begun_note, no_note}
 use Rattle.connection_laws.proofs.BookedPlays.{kept_more}
 

@@ -19,10 +19,9 @@ use Rattle.session.specs.SessionStates.{SessionState, awaited_answer, awaited_an
 use Rattle.conn.specs.EventSteps.{EndsInReply, HasFailedInSlot, IsPrefixOf, Round, Runs, round_bytes, takings_bytes}
 use Rattle.conn.specs.InputSteps.{Answered, Entered, Film, IsFinished, Outcome, Stage, ElementStep, TakesAll, Text}
 use Rattle.conn.specs.InputSteps.{Unasked, after_reply, due_parts, parts_bytes, reply_parts, slot_parts, stage}
-use Rattle.connection_laws.specs.Courses.{Course, IsCourseBetween, first_stage, rounds_bytes, askings_of}
+use Rattle.connection_laws.specs.Courses.{Course, IsCourseBetween, first_stage, rounds_bytes}
 use Rattle.connection_laws.specs.Failures.{IsCutShort}
-use Rattle.connection_laws.proofs.FilmBytes.{Stands, course_step, stands_by, reply_awaited}
-use Rattle.conn.specs.Films.{rounds_film}
+use Rattle.connection_laws.proofs.FilmBytes.{Stands, reply_awaited, course_stands}
 
 -- ---- prefixes
 front_of : (xs ys : List ℕ) → IsPrefixOf xs (xs ++ ys)
@@ -143,8 +142,7 @@ failed_slot course slot front new failed =
     let old = course.last in
     let first = first_stage course.films course.settings course.words in
     let stands : Stands old.session =
-    stands_by first.session old.session (askings_of first course.rounds old course.follows) (rounds_film course.rounds)
-    (course_step first old course.rounds course.follows (record { rest = refl; sound = tt })) in
+    course_stands first old course.rounds course.follows (record { rest = refl; sound = tt }) in
     let can = finish_slotted old.session slot (is_taken old.session slot) (is_sending old.session.state) stands.rest in
     let round : Round = record {
       event = HeardSlot slot;

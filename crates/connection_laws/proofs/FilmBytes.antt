@@ -15,7 +15,7 @@ use Rattle.session.specs.declared.states.AfterHalt.TheVariants.{Done}
 use Rattle.session.specs.declared.states.Play.{Play as Played}
 use Rattle.film_streams.specs.declared.setups.Setup.{Setup}
 use Rattle.session.specs.declared.states.State.{State}
-use Rattle.session.specs.declared.states.State.TheVariants.{Init, Ready, Playing, Stopping}
+use Rattle.session.specs.declared.states.State.TheVariants.{Playing, Stopping}
 use Rattle.session.specs.SlotSteps.{can_reply, after_play, halted_in, is_between, is_done_in, is_sending, sent_due}
 use Rattle.session.specs.SlotSteps.{sent_in, sent_reply, sent_slot, after_slot, stepped_in, is_taken}
 use Rattle.session.specs.SessionStates.{SessionState}
@@ -24,7 +24,7 @@ use Rattle.conn.specs.EventSteps.{Round, Runs}
 use Rattle.conn.specs.InputSteps.{Outcome, Unasked, Entered, SentPart, Stage, ElementStep, Passed, Answered}
 use Rattle.conn.specs.InputSteps.{IsHaltAnswered, IsReplied, Takes, TakesAll, after_reply, due_parts, film_bytes}
 use Rattle.conn.specs.InputSteps.{slot_parts}
-use Rattle.connection_laws.specs.Courses.{IsCourseBetween, asked_by, askings_of, round_askings, takings_askings}
+use Rattle.connection_laws.specs.Courses.{IsCourseBetween, asked_by, askings_of, takings_askings}
 use Rattle.connection_laws.specs.Plays.{StationRequest, Asks, plays_admitted, plays_begun, kept_by, kept_in, kept_with}
 use Rattle.connection_laws.specs.Plays.{plays_of}
 use Rattle.connection_laws.proofs.JoinedFilms.{IsFilm, IsOnTime, IsRest, IsSound, film_in, film_over, play_with}
@@ -35,6 +35,8 @@ use Rattle.connection_laws.proofs.RequestEffects.{turns_as}
 use Rattle.connection_laws.proofs.StationAnswers.{FinishesAs, NothingLeft, DoneHalted, nothing_left, ComesAs, BytesCame}
 use Rattle.connection_laws.proofs.StationAnswers.{SlotCame, comes_as}
 use Rattle.session.specs.declared.states.AfterHalt.{AfterHalt}
+use Rattle.connection_laws.proofs.CourseInduction.{IsKeptByCourse, Piece, course_kept, course_piece, event_piece}
+use Rattle.connection_laws.proofs.CourseInduction.{joined, no_piece, request_piece, takings_kept}
 
 -- between doings nothing is awaited, and what is sent is on time
 pub record Stands (session : SessionState) : Type 0 where
@@ -112,20 +114,6 @@ pub taken_stands : (old new : Stage) (taking : ElementStep) → Takes old taking
 taken_stands old new (Passed n) takes stands = subst Stands (sym (ap (λ (s : Stage). s.session) takes.2)) stands
 taken_stands old new (Answered message outcome parts) takes stands =
     stands_by old.session new.session (Asks takes.heard.asking.awaited outcome ∷ []) [] (answered_step takes stands)
-
-pub takes_step : (old new : Stage) (takings : List ElementStep) (takes : TakesAll old takings new) → Stands old.session
-    → Step old.session new.session (takings_askings old takings new takes) []
-takes_step old new [] takes stands =
-    subst (λ (s : Stage). Step old.session s.session [] []) (sym takes) (step_none old.session stands)
-takes_step old new (Passed n ∷ takings) takes stands =
-    let same : takes.0.session ≡ old.session = ap (λ (s : Stage). s.session) takes.1.0.2 in
-    let rest = takes_step takes.0 new takings takes.1.1 (subst Stands (sym same) stands) in
-    subst (λ s. Step s new.session (takings_askings takes.0 takings new takes.1.1) []) same rest
-takes_step old new (Answered message outcome parts ∷ takings) takes stands =
-    let made : List StationRequest = Asks takes.1.0.heard.asking.awaited outcome ∷ [] in
-    let one = answered_step takes.1.0 stands in
-    let rest = takes_step takes.0 new takings takes.1.1 (stands_by old.session takes.0.session made [] one) in
-    step_then one rest
 
 -- ---- slots
 
@@ -357,37 +345,84 @@ comes_step {old} (BytesCame is) stands =
     (same_step old.session old.session stands refl))
 comes_step {old} (SlotCame {slot = slot} finish) stands = slot_step old.session slot stands finish
 
+-- what a connection writes of films as it goes on
+abbrev StepsOn : SessionState → Piece → SessionState → Type 0
+StepsOn old piece new = Stands old → Step old new piece.askings piece.film
+
+steps_kept : IsKeptByCourse StepsOn
+steps_kept = record {
+  none = λ s stands. step_none s stands;
+  joins = λ a b c one two first rest stands.
+      let step = first stands in step_then step (rest (stands_by a b one.askings one.film step));
+  request = λ old new message outcome parts replied stands. answered_step replied stands;
+  event = λ old opened event due halt comes stands. comes_step comes stands;
+}
+
+pub course_step : (old new : Stage) (rounds : List Round) (follows : IsCourseBetween old rounds new)
+    → Stands old.session → Step old.session new.session (askings_of old rounds new follows) (rounds_film rounds)
+course_step = course_kept steps_kept
+
+-- ---- so a session stands between doings
+
+pub comes_stands : {old opened : Stage} {event : IoEvent} {due : List SentPart} {halt : Outcome}
+    → ComesAs old opened event due halt → Stands old.session → Stands opened.session
+comes_stands {old} {opened} {event} {due} {halt} comes stands =
+    stands_by old.session opened.session (Asks (asked_by old.session event) halt ∷ []) (film_bytes due)
+    (comes_step comes stands)
+
 pub opened_stands : (old new : Stage) (round : Round) (runs : Runs old round new) → Stands old.session
     → Stands runs.opened.session
-opened_stands old new round runs stands =
-    stands_by old.session runs.opened.session (Asks (asked_by old.session round.event) round.halt ∷ [])
-    (film_bytes round.due)
-    (comes_step (comes_as round.event round.due round.halt runs.comes) stands)
+opened_stands old new round runs = comes_stands (comes_as round.event round.due round.halt runs.comes)
 
-pub opened_rest : (old new : Stage) (round : Round) (runs : Runs old round new) → Stands old.session
-    → runs.opened.session.awaited ≡ Nothing
-opened_rest old new round runs stands =
-    (comes_step (comes_as round.event round.due round.halt runs.comes) stands).rest
+pub takes_stands : (old new : Stage) (takings : List ElementStep) → TakesAll old takings new → Stands old.session
+    → Stands new.session
+takes_stands old new takings takes stands =
+    stands_by old.session new.session (takings_askings old takings new takes) []
+    (takings_kept steps_kept old new takings takes stands)
 
-pub round_step : (old new : Stage) (round : Round) (runs : Runs old round new) → Stands old.session
-    → Step old.session new.session (round_askings old round new runs) (film_bytes round.due)
-round_step old new round runs stands =
-    let made : List StationRequest = Asks (asked_by old.session round.event) round.halt ∷ [] in
-    let one = comes_step (comes_as round.event round.due round.halt runs.comes) stands in
-    let two = takes_step runs.opened new round.takings runs.takes
-    (stands_by old.session runs.opened.session made (film_bytes round.due) one) in
-    let more : List StationRequest = takings_askings runs.opened round.takings new runs.takes in
-    subst (λ bs. Step old.session new.session (made ++ more) bs) (append-nil (film_bytes round.due))
-    (step_then one two)
+pub round_stands : (old new : Stage) (round : Round) → Runs old round new → Stands old.session → Stands new.session
+round_stands old new round runs stands =
+    takes_stands runs.opened new round.takings runs.takes (opened_stands old new round runs stands)
 
-pub course_step : (old new : Stage) (rounds : List Round) (follows : IsCourseBetween old rounds new) → Stands
-    old.session
-    → Step old.session new.session (askings_of old rounds new follows) (rounds_film rounds)
-course_step old new [] follows stands =
-    subst (λ (s : Stage). Step old.session s.session [] []) (sym follows) (step_none old.session stands)
-course_step old new (round ∷ rounds) follows stands =
-    let made : List StationRequest = round_askings old round follows.0 follows.1.0 in
-    let one = round_step old follows.0 round follows.1.0 stands in
-    let two = course_step follows.0 new rounds follows.1.1
-    (stands_by old.session follows.0.session made (film_bytes round.due) one) in
-    step_then one two
+pub course_stands : (old new : Stage) (rounds : List Round) → IsCourseBetween old rounds new → Stands old.session
+    → Stands new.session
+course_stands old new rounds follows stands =
+    stands_by old.session new.session (askings_of old rounds new follows) (rounds_film rounds)
+    (course_step old new rounds follows stands)
+
+-- ---- one induction from a session that stands
+
+-- a relation between a session, what is done, and the session after it, which each request and each event satisfies
+-- where the session stands
+pub record IsKeptStanding (R : SessionState → Piece → SessionState → Type 0) : Type 0 where
+  pub none : (s : SessionState) → R s no_piece s
+  pub joins : (a b c : SessionState) (one two : Piece) → R a one b → R b two c → R a (joined one two) c
+  pub request : (old new : Stage) (message : List ℕ) (outcome : Outcome) (parts : List SentPart)
+      (replied : IsReplied old message outcome parts new) → Stands old.session
+      → R old.session (request_piece replied) new.session
+  pub event : (old opened : Stage) (event : IoEvent) (due : List SentPart) (halt : Outcome)
+      → ComesAs old opened event due halt → Stands old.session
+      → R old.session (event_piece old.session event due halt) opened.session
+
+module _ {R : SessionState → Piece → SessionState → Type 0} (kept : IsKeptStanding R) where
+  abbrev FromStanding : SessionState → Piece → SessionState → Type 0
+  FromStanding old piece new = Stands old → Stands new × R old piece new
+
+  kept_from_standing : IsKeptByCourse FromStanding
+  kept_from_standing = record {
+    none = λ s stands. (stands, kept.none s);
+    joins = λ a b c one two first rest stands.
+        let mid = first stands in
+        let last = rest mid.0 in (last.0, kept.joins a b c one two mid.1 last.1);
+    request = λ old new message outcome parts replied stands. (
+      taken_stands old new (Answered message outcome parts) replied stands,
+      kept.request old new message outcome parts replied stands,
+    );
+    event = λ old opened event due halt comes stands.
+        (comes_stands comes stands, kept.event old opened event due halt comes stands);
+  }
+
+  pub standing_course_kept : (old new : Stage) (rounds : List Round) (follows : IsCourseBetween old rounds new)
+      → Stands old.session → R old.session (course_piece old rounds new follows) new.session
+  standing_course_kept old new rounds follows stands =
+      (course_kept kept_from_standing old new rounds follows stands).1

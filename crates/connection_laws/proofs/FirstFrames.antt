@@ -15,8 +15,8 @@ use Rattle.film_frames.specs.Pieces.{pieces_of, unit_pieces}
 use Rattle.film_frames.specs.FramedRuns.{FramedRun, blocks_from, payload}
 use Rattle.rtsp_client.specs.Answers.{GoOn, GoesOn, history_after, events_of_elements}
 use Rattle.rtsp_client.specs.Films.{begins_film, is_complete, is_first_good, is_next_good, time_in, units_until}
-use Rattle.rtsp_client.specs.ClientHistory.{History, ClientEvent, Frame, Reply, Report, Slot, end_ms, first_frame}
-use Rattle.rtsp_client.specs.ClientHistory.{frames, is_playing}
+use Rattle.rtsp_client.specs.ClientHistory.{History, ClientEvent, Frame, Report, end_ms, first_frame, frames}
+use Rattle.rtsp_client.specs.ClientHistory.{is_playing}
 use Rattle.connection_laws.proofs.Blocks.{frame_block, frame_blocks, frame_moment, frames_one, frames_after}
 use Rattle.connection_laws.proofs.Blocks.{octets_after, report_block, report_if, report_moment, RunFrom}
 use Rattle.connection_laws.proofs.HistorySums.{AreOneBlocks, Sum, blocks_first, blocks_one_append, blocks_one_take}

@@ -2,12 +2,12 @@
 use Rattle.std.proofs.Common.{◌≡◌, ℕ, if◌then◌else◌, Bool, true, false, List, Some, refl, ap, ◌∙◌}
 use Rattle.vod_base.specs.Links.{IoEvent}
 use Rattle.session.specs.declared.states.AfterHalt.{AfterHalt}
-use Rattle.session.specs.declared.states.AfterHalt.TheVariants.{Done, Paused, Torn}
+use Rattle.session.specs.declared.states.AfterHalt.TheVariants.{Done}
 use Rattle.session.specs.declared.states.Awaited.{Awaited}
 use Rattle.session.specs.declared.states.Play.{Play as Played}
 use Rattle.film_streams.specs.declared.setups.Setup.{Setup}
 use Rattle.session.specs.declared.states.State.{State}
-use Rattle.session.specs.declared.states.State.TheVariants.{Init, Ready, Playing, Stopping}
+use Rattle.session.specs.declared.states.State.TheVariants.{Init, Playing}
 use Rattle.session_laws.specs.MethodLaws.{setup_in}
 use Rattle.session.specs.SlotSteps.{halted_in, next_of, state_once_halted, after_slot, can_reply, is_between}
 use Rattle.session.specs.SlotSteps.{stepped_in}

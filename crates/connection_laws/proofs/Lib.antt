@@ -3,11 +3,11 @@ mod KeptParts
 mod RequestAnswers
 mod RequestEffects
 mod JoinedFilms
+mod CourseInduction
 mod FilmSteps
 mod Slots
 mod FilmBytes
 mod GreatestSlots
-mod CourseAskings
 mod CourseJoins
 mod BookedPlays
 mod TextPlacement

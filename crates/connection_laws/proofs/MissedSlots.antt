@@ -10,8 +10,7 @@ use Rattle.session.specs.SlotSteps.{after_play, is_between, is_sending, is_taken
 use Rattle.session.specs.SlotSteps.{sent_slot, start_in, stepped_in}
 use Rattle.session.specs.SessionStates.{OpenBooking, SessionState, open_of}
 use Rattle.session_laws.proofs.SlotCountLemmas.{missed_is}
-use Rattle.conn.specs.EventSteps.{Ending, Unheard, PeerEnded, Overfull, AtElement, InSlot, InReply, Ends, Round, Runs}
-use Rattle.conn.specs.EventSteps.{RunsAll}
+use Rattle.conn.specs.EventSteps.{Ending, Overfull, AtElement, InSlot, InReply, Ends, Round, Runs, RunsAll}
 use Rattle.conn.specs.InputSteps.{HasHeard, IsClosed, Outcome, SentPart, Stage}
 use Rattle.conn.specs.declared.reports.ConnEnd.{ConnEnd}
 use Rattle.conn.specs.declared.reports.ConnReport.{ConnReport}

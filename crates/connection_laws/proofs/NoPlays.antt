@@ -1,6 +1,6 @@
 -- Requests other than PLAY begin no play.
 use Rattle.std.specs.Prelude.{⊤}
-use Rattle.std.proofs.Common.{ℕ, ◌≡◌, ◌≢◌, List, [], ◌∷◌, ◌++◌, codes, refl, sym, ap, subst, ◌∙◌}
+use Rattle.std.proofs.Common.{ℕ, ◌≡◌, ◌≢◌, List, [], ◌∷◌, ◌++◌, codes, refl, ap, ◌∙◌}
 use Rattle.session.specs.declared.states.Awaited.{Awaited}
 use Rattle.session.specs.RefusalOrder.{IsReadAs}
 use Rattle.session.specs.SessionStates.{SessionState}
@@ -9,7 +9,7 @@ use Rattle.conn.specs.EventSteps.{Round, Runs}
 use Rattle.conn.specs.InputSteps.{Answered, IsReplied, Outcome, SentPart, Passed, Stage, ElementStep, TakesAll}
 use Rattle.connection_laws.specs.Courses.{IsCourseBetween, asked_by, askings_of, takings_askings}
 use Rattle.connection_laws.specs.Plays.{StationRequest, plays_begun, plays_of}
-use Rattle.connection_laws.proofs.FilmBytes.{Stands, opened_stands, taken_stands}
+use Rattle.connection_laws.proofs.FilmBytes.{Stands, opened_stands, taken_stands, takes_stands}
 use Rattle.session_laws.proofs.PlayInReadyLemmas.{play_heard}
 use Rattle.connection_laws.proofs.Requests.{rounds_requests, takings_requests}
 use Rattle.connection_laws.proofs.ServedPlays.{comes_none}
@@ -76,12 +76,6 @@ takings_none old new (Answered message outcome parts ∷ takings) takes more has
 pub no_plays_front : (a b : List (List ℕ)) → AreNoPlays (a ++ b) → AreNoPlays a
 no_plays_front [] b are = tt
 no_plays_front (message ∷ a) b are = (are.0, no_plays_front a b are.1)
-
-pub takes_stands : (old new : Stage) (takings : List ElementStep) → TakesAll old takings new → Stands old.session
-    → Stands new.session
-takes_stands old new [] takes stands = subst (λ (s : Stage). Stands s.session) (sym takes) stands
-takes_stands old new (taking ∷ takings) takes stands =
-    takes_stands takes.0 new takings takes.1.1 (taken_stands old takes.0 taking takes.1.0 stands)
 
 pub event_none : {old new : Stage} {round : Round} (runs : Runs old round new) (askings : List StationRequest)
     → plays_begun (asked_by old.session round.event) round.halt askings ≡ []

@@ -16,7 +16,7 @@ use Rattle.session_laws.specs.MethodLaws.{setup_in}
 use Rattle.session.specs.SessionStates.{SessionState, has_session_in}
 use Rattle.film_streams.specs.declared.setups.Setup.{Setup}
 use Rattle.session.specs.declared.states.State.{State}
-use Rattle.session.specs.declared.states.State.TheVariants.{Init, Ready, Playing, Stopping}
+use Rattle.session.specs.declared.states.State.TheVariants.{Init}
 use Rattle.session_laws.specs.CompleteReplies.{HasValidIds, RepliesAreComplete}
 use Rattle.rtsp_replies.specs.Messages.{IsMessage}
 use Rattle.session_laws.proofs.CompleteReplyLemmas.{replies_whole}
@@ -26,12 +26,12 @@ use Rattle.conn.specs.InputSteps.{ElementStep, TakesAll, Entered}
 use Rattle.connection_laws.specs.Courses.{IsCourseBetween, askings_of, slot_in, takings_askings}
 use Rattle.connection_laws.specs.ReplyPlaces.{slots_from, takings_slots}
 use Rattle.connection_laws.specs.Plays.{StationRequest, Asks, FilmPlay, kept_in, plays_admitted, plays_begun, plays_of}
-use Rattle.connection_laws.proofs.FilmBytes.{Stands, taken_stands}
+use Rattle.connection_laws.proofs.FilmBytes.{Stands, taken_stands, takes_stands}
 use Rattle.connection_laws.proofs.StationAnswers.{comes_as, answers_as}
 use Rattle.connection_laws.proofs.KeptParts.{LastingPart, taken_keeps}
-use Rattle.connection_laws.proofs.GreatestSlots.{comes_heard}
+use Rattle.connection_laws.proofs.CourseInduction.{comes_heard}
 use Rattle.connection_laws.proofs.NoPlays.{AreNoPlays, IsNoPlay, event_none, no_play_begins, no_plays_front}
-use Rattle.connection_laws.proofs.NoPlays.{no_plays_rest, rounds_none, takes_stands, takings_none}
+use Rattle.connection_laws.proofs.NoPlays.{no_plays_rest, rounds_none, takings_none}
 use Rattle.session_laws.proofs.PlayInReadyLemmas.{IsPlayHeard, play_heard}
 use Rattle.connection_laws.proofs.Requests.{rounds_requests, takings_requests}
 use Rattle.connection_laws.proofs.ClientSetups.{setup_is}

@@ -1,4 +1,5 @@
 -- The plays of a course send its runs in order.
+use Rattle.connection_laws.proofs.FilmBytes.{standing_course_kept, Stands, reply_awaited, IsKeptStanding}
 use Rattle.std.proofs.Common.{◌≡◌, ℕ, ◌+◌, ◌-◌, ◌%◌, ◌≤◌, ◌⊎◌, ◌&&◌, ◌++◌, if◌then◌else◌, Bool, true, false, List, []}
 use Rattle.std.proofs.Common.{◌∷◌, Option, Some, None, slice_get, slice_index, add_assoc, refl, sym, ap, subst, ◌∙◌}
 use Rattle.std.proofs.Common.{inl, inr, arith}
@@ -46,12 +47,11 @@ use Rattle.connection_laws.specs.Plays.{FilmPlay, StationRequest, Asks, kept_by,
 use Rattle.connection_laws.specs.Plays.{plays_begun, plays_of}
 use Rattle.connection_laws.specs.LookLimits.{course_looks, look_in, looks_in}
 use Rattle.connection_laws.specs.PlayRuns.{AreRunsInOrder, IsFirstRun, IsLaterRun, RunPlace, SendsNext, run_place}
-use Rattle.connection_laws.proofs.FilmBytes.{Stands, reply_awaited}
 use Rattle.connection_laws.proofs.StationAnswers.{AnswersAs, NoneAsked, PlayAdmitted, PlayRefused, PlayFull, PlayHalted}
 use Rattle.connection_laws.proofs.StationAnswers.{LookMade, LookFull, OfferMade, answers_as, FinishesAs, NothingLeft}
 use Rattle.connection_laws.proofs.StationAnswers.{DoneHalted, ComesAs, BytesCame, SlotCame}
-use Rattle.connection_laws.proofs.CourseAskings.{IsKeptByAskings, course_kept}
 use Rattle.connection_laws.proofs.KeptParts.{reply_keeps, slot_keeps}
+use Rattle.connection_laws.proofs.CourseInduction.{Piece}
 
 -- what the runs of a session go by, and what of a reply matters to them
 record Stream : Type 0 where
@@ -635,13 +635,13 @@ module _ (words : List ℕ) where
       (reply_keeps (λ (s : SessionState). s.looks_left) (λ s. refl) (can_reply replied.answered) replied.answered)
       (reply_moves (can_reply replied.answered) replied.answered)))
 
-  abbrev LeadsOn : SessionState → List StationRequest → SessionState → Type 0
-  LeadsOn old made new = Leads old new made
+  abbrev LeadsOn : SessionState → Piece → SessionState → Type 0
+  LeadsOn old piece new = Leads old new piece.askings
 
-  leads_kept : IsKeptByAskings LeadsOn
+  leads_kept : IsKeptStanding LeadsOn
   leads_kept = record {
     none = λ s. moves refl (moves_none s);
-    joins = λ a b c made more one two. leads_then one two;
+    joins = λ a b c one two first rest. leads_then first rest;
     request = λ old new message outcome parts replied stands. answered_leads old new message outcome parts replied
         stands;
     event = λ old opened event due halt comes stands. comes_leads stands comes;
@@ -651,7 +651,7 @@ module _ (words : List ℕ) where
 course_leads : (course : Course) → (let first : Stage = first_stage course.films course.settings course.words in
     Leads course.words first.session course.last.session (askings_of first course.rounds course.last course.follows))
 course_leads course =
-    course_kept (leads_kept course.words) (first_stage course.films course.settings course.words) course.last
+    standing_course_kept (leads_kept course.words) (first_stage course.films course.settings course.words) course.last
     course.rounds course.follows (record { rest = refl; sound = tt })
 
 pub runs_in_order : (course : Course) → AreRunsInOrder course.words None (course_plays course)

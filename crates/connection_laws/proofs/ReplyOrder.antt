@@ -3,8 +3,6 @@ use Rattle.std.proofs.Common.{◌≡◌, ℕ, ◌+◌, ◌++◌, ◌&&◌, if◌
 use Rattle.std.proofs.Common.{refl, ap, sym, ◌∙◌, subst}
 use Rattle.std.proofs.lemmas.List.{append-nil, append_assoc}
 use Rattle.vod_base.specs.Links.{IoEvent}
-use Rattle.film_frames.specs.declared.stored_films.Stored.{Stored}
-use Rattle.film_streams.specs.declared.settings.Settings.{Settings}
 use Rattle.session.specs.declared.states.Awaited.{Awaited}
 use Rattle.session.specs.declared.states.Awaited.TheVariants.{Nothing, Halt}
 use Rattle.session.specs.declared.states.AfterHalt.TheVariants.{Done}
@@ -12,22 +10,17 @@ use Rattle.session.specs.RequestSteps.{is_answered}
 use Rattle.session.specs.SlotSteps.{can_reply, after_play, is_between, is_done_in, is_sending, is_taken, next_of}
 use Rattle.session.specs.SlotSteps.{sent_due, sent_in, sent_reply, sent_slot, after_slot, step_bytes, stepped_in}
 use Rattle.session.specs.SessionStates.{SessionState}
-use Rattle.conn.specs.Films.{round_parts, rounds_parts, takings_parts}
-use Rattle.conn.specs.EventSteps.{Round}
-use Rattle.conn.specs.InputSteps.{Answered, Film, IsReplied, Outcome, SentPart, Passed, Stage, ElementStep, TakesAll}
-use Rattle.conn.specs.InputSteps.{Text, due_parts, film_bytes, slot_parts}
-use Rattle.connection_laws.specs.Courses.{IsCourseBetween, askings_of, first_stage, greatest_slot, rounds_bytes}
-use Rattle.connection_laws.specs.Courses.{round_askings, Course, course_film}
-use Rattle.connection_laws.specs.Plays.{film_written, plays_of}
-use Rattle.connection_laws.specs.Replies.{placed_texts, replies_of, takings_replies, text_of, waiting_reply}
-use Rattle.connection_laws.specs.Replies.{insert_texts, course_texts, course_replies}
-use Rattle.connection_laws.proofs.FilmBytes.{Stands, opened_stands, round_step, stands_by, taken_stands, turn_after}
-use Rattle.connection_laws.proofs.FilmBytes.{reply_awaited}
+use Rattle.conn.specs.Films.{rounds_parts}
+use Rattle.conn.specs.InputSteps.{Film, IsReplied, Outcome, SentPart, Stage, Text, due_parts, slot_parts}
+use Rattle.connection_laws.specs.Courses.{first_stage, rounds_bytes, Course, course_film}
+use Rattle.connection_laws.specs.Replies.{placed_texts, text_of, waiting_reply, insert_texts, course_texts}
+use Rattle.connection_laws.specs.Replies.{course_replies}
+use Rattle.connection_laws.proofs.FilmBytes.{Stands, turn_after, reply_awaited, IsKeptStanding, standing_course_kept}
 use Rattle.connection_laws.proofs.GreatestSlots.{film_written_is}
 use Rattle.connection_laws.proofs.RequestEffects.{turns_as}
 use Rattle.connection_laws.proofs.TextPlacement.{film_sent, parts_woven, rounds_sent}
 use Rattle.connection_laws.proofs.StationAnswers.{FinishesAs, NothingLeft, DoneHalted, ComesAs, BytesCame, SlotCame}
-use Rattle.connection_laws.proofs.StationAnswers.{comes_as}
+use Rattle.connection_laws.proofs.CourseInduction.{Piece}
 
 -- the texts among parts
 abbrev texts_in : List SentPart → List (List ℕ)
@@ -91,28 +84,6 @@ answered_replies {old} {new} {message} {outcome} {parts} replied stands =
     ∙ reply_cases (can_reply replied.answered) replied.answered after.waits
     ∙ ap (λ ts. ts ++ replied.answered.text ∷ []) (sym (waits_none old.session replied.next.replied))
 
-takes_replies : (old new : Stage) (takings : List ElementStep) (takes : TakesAll old takings new) → Stands old.session
-    → Replies old.session (texts_in (takings_parts takings)) (takings_replies old takings new takes) new.session
-takes_replies old new [] takes stands = waiting_same old.session new.session (ap (λ (s : Stage). s.session) takes)
-takes_replies old new (Passed n ∷ takings) takes stands =
-    let same : takes.0.session ≡ old.session = ap (λ (s : Stage). s.session) takes.1.0.2 in
-    subst (λ s. Replies s (texts_in (takings_parts takings)) (takings_replies takes.0 takings new takes.1.1)
-    new.session) same
-    (takes_replies takes.0 new takings takes.1.1 (taken_stands old takes.0 (Passed n) takes.1.0 stands))
-takes_replies old new (Answered message outcome parts ∷ takings) takes stands =
-    let text : List ℕ = takes.1.0.answered.text in
-    let rest : List (List ℕ) = takings_replies takes.0 takings new takes.1.1 in
-    subst (λ ts. Replies old.session ts (text ∷ rest) new.session) (sym (texts_append parts (takings_parts takings)))
-    (replies_then old.session (record {
-      old = takes.0.session;
-      new = new.session;
-      texts = texts_in (takings_parts takings);
-      messages = rest;
-      replied = takes_replies takes.0 new takings takes.1.1
-          (taken_stands old takes.0 (Answered message outcome parts) takes.1.0 stands);
-    }) (texts_in parts) (text ∷ [])
-    (answered_replies takes.1.0 stands))
-
 -- a play that is done is halted without a reply
 finished_waiting : {s new : SessionState} {awaited : Awaited} {halt : Outcome} → FinishesAs s new awaited halt
     → next_of s.awaited ≡ Done → waiting_reply new ≡ waiting_reply s
@@ -169,47 +140,31 @@ comes_replies {old} {opened} (BytesCame is) stands =
     waiting_same old.session opened.session (ap (λ (s : Stage). s.session) is)
 comes_replies {old} (SlotCame {slot = slot} finish) stands = slot_replies old.session slot stands.rest finish
 
-replies_between : (old new : Stage) (rounds : List Round) (follows : IsCourseBetween old rounds new) → Stands old.session
-    → Replies old.session (texts_in (rounds_parts rounds)) (replies_of old rounds new follows) new.session
-replies_between old new [] follows stands = waiting_same old.session new.session (ap (λ (s : Stage). s.session) follows)
-replies_between old new (round ∷ rounds) follows stands =
-    let runs = follows.1.0 in
-    let opened = runs.opened in
-    let due : List (List ℕ) = texts_in round.due in
-    let taken : List (List ℕ) = texts_in (takings_parts round.takings) in
-    let replies : List (List ℕ) = takings_replies opened round.takings follows.0 runs.takes in
-    let mid : Stands follows.0.session =
-    stands_by old.session follows.0.session (round_askings old round follows.0 runs) (film_bytes round.due)
-    (round_step old follows.0 round runs stands) in
-    let first : Replies old.session (due ++ taken) ([] ++ replies) follows.0.session =
-    replies_then old.session (record {
-      old = opened.session;
-      new = follows.0.session;
-      texts = taken;
-      messages = replies;
-      replied = takes_replies opened follows.0 round.takings runs.takes (opened_stands old follows.0 round runs stands);
-    }) due []
-    (comes_replies (comes_as round.event round.due round.halt runs.comes) stands) in
-    let all : Replies old.session ((due ++ taken) ++ texts_in (rounds_parts rounds))
-    (replies ++ replies_of follows.0 rounds new follows.1.1) new.session =
-    replies_then old.session (record {
-      old = follows.0.session;
-      new = new.session;
-      texts = texts_in (rounds_parts rounds);
-      messages = replies_of follows.0 rounds new follows.1.1;
-      replied = replies_between follows.0 new rounds follows.1.1 mid;
-    })
-    (due ++ taken) replies first in
-    subst (λ ts. Replies old.session ts (replies ++ replies_of follows.0 rounds new follows.1.1) new.session)
-    (sym (texts_append (round_parts round) (rounds_parts rounds)
-    ∙ ap (λ ts. ts ++ texts_in (rounds_parts rounds)) (texts_append round.due (takings_parts round.takings)))) all
+abbrev RepliesOn : SessionState → Piece → SessionState → Type 0
+RepliesOn old piece new = Replies old (texts_in piece.parts) piece.replies new
+
+replies_kept : IsKeptStanding RepliesOn
+replies_kept = record {
+  none = λ s. waiting_same s s refl;
+  joins = λ a b c one two first rest.
+      subst (λ ts. Replies a ts (one.replies ++ two.replies) c) (sym (texts_append one.parts two.parts))
+      (replies_then a (record {
+        old = b;
+        new = c;
+        texts = texts_in two.parts;
+        messages = two.replies;
+        replied = rest;
+      }) (texts_in one.parts) one.replies first);
+  request = λ old new message outcome parts replied stands. answered_replies replied stands;
+  event = λ old opened event due halt comes stands. comes_replies comes stands;
+}
 
 -- in a connection's course
 pub replies_in_order : (course : Course)
     → map text_of (course_texts course) ++ waiting_reply course.last.session ≡ course_replies course
 replies_in_order course =
     ap (λ ts. ts ++ waiting_reply course.last.session) (texts_placed 0 (rounds_parts course.rounds))
-    ∙ replies_between (first_stage course.films course.settings course.words) course.last course.rounds course.follows
+    ∙ standing_course_kept replies_kept (first_stage course.films course.settings course.words) course.last course.rounds course.follows
     (record { rest = refl; sound = tt })
 
 pub bytes_woven : (course : Course)

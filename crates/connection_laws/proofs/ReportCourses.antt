@@ -9,8 +9,7 @@ use Rattle.film_streams.specs.declared.settings.Settings.{Settings}
 use Rattle.session.specs.RequestSteps.{new_session_state}
 use Rattle.conn.specs.Agreement.{Activity, HasDone}
 use Rattle.conn.specs.ConnectionService.{HasServedFrom}
-use Rattle.conn.specs.EventSteps.{Ending, Ends, Unheard, PeerEnded, Overfull, AtElement, InSlot, InReply, Round}
-use Rattle.conn.specs.EventSteps.{RunsAll}
+use Rattle.conn.specs.EventSteps.{Ending, Ends, AtElement, InReply, Round, RunsAll}
 use Rattle.conn.specs.InputSteps.{Stage}
 use Rattle.conn.specs.Plays.{ending_rounds}
 use Rattle.conn.specs.declared.reports.ConnEnd.{ConnEnd}

@@ -12,17 +12,17 @@ use Rattle.station.specs.Ledgers.{play_of}
 use Rattle.session.specs.declared.states.Awaited.{Awaited}
 use Rattle.session.specs.declared.states.Awaited.TheVariants.{Nothing, Play, Halt}
 use Rattle.session.specs.declared.states.AfterHalt.{AfterHalt}
-use Rattle.session.specs.declared.states.AfterHalt.TheVariants.{Done, Paused, Torn}
+use Rattle.session.specs.declared.states.AfterHalt.TheVariants.{Done}
 use Rattle.session.specs.declared.states.Play.{Play as Played}
 use Rattle.session.specs.declared.states.Prepared.{Prepared}
 use Rattle.film_streams.specs.declared.setups.Setup.{Setup}
 use Rattle.session.specs.declared.states.State.{State}
-use Rattle.session.specs.declared.states.State.TheVariants.{Init, Ready, Playing, Stopping}
+use Rattle.session.specs.declared.states.State.TheVariants.{Ready, Playing, Stopping}
 use Rattle.session.specs.RequestSteps.{after_halt, is_answered}
 use Rattle.session.specs.SlotSteps.{admitted_in, halted_in, next_of, state_once_halted}
 use Rattle.session.specs.SessionStates.{SessionState}
 use Rattle.session.specs.SlotTransitions.{IsPlayIn}
-use Rattle.conn.specs.InputSteps.{HasHeard, IsHaltAnswered, Outcome, Unasked, Entered, WasFull, Offered}
+use Rattle.conn.specs.InputSteps.{HasHeard, IsHaltAnswered, Outcome, Unasked, Entered}
 use Rattle.connection_laws.specs.Plays.{StationRequest, plays_admitted, plays_begun, booked_by, kept_by, kept_with}
 use Rattle.connection_laws.proofs.StationAnswers.{IsAdmitted, IsLooked, IsRefused}
 use Rattle.connection_laws.proofs.RequestAnswers.{RequestAnswer, OwnReply, SetupReply, Admission, Refusal, HaltMade}

@@ -2,7 +2,7 @@
 use Rattle.std.proofs.Common.{◌≡◌, ◌⊎◌, ℕ, ◌<◌, ◌++◌, ◌||◌, ◌==◌, if◌then◌else◌, Bool, true, false, List, [], ◌∷◌, Ok}
 use Rattle.std.proofs.Common.{Err, length, take, drop, map, get_or, refl, ap, sym, ◌∙◌, subst, inl, inr, arith}
 use Rattle.std.proofs.lemmas.List.{append-nil, append_assoc, get_or-take}
-use Rattle.vod_base.specs.Links.{IoEvent, HeardBytes, HeardEnd, HeardSlot, Sent}
+use Rattle.vod_base.specs.Links.{IoEvent, HeardBytes, HeardSlot}
 use Rattle.interleave.specs.Heads.{is_line_end}
 use Rattle.interleave.specs.Elements.{IsFirst, StartsMessage}
 use Rattle.interleave.specs.Streams.{AreInputElements, IsElementLength, WholeMessage}
@@ -12,8 +12,7 @@ use Rattle.interleave.proofs.StreamElements.{cut_grows, tells_none}
 use Rattle.conn.specs.EventSteps.{Comes, IsStopped, Round}
 use Rattle.conn.specs.InputSteps.{Answered, Outcome, SentPart, Passed, Stage, ElementStep, TakesAll, stage}
 use Rattle.conn.specs.declared.reports.ConnEnd.{ConnEnd}
-use Rattle.conn.specs.declared.reports.ConnEnd.TheVariants.{Ended, TornDown, LinkFault, TooMuchInput, HeadTooLong}
-use Rattle.conn.specs.declared.reports.ConnEnd.TheVariants.{BodyTooLong, TurnsSpent, NoMemory}
+use Rattle.conn.specs.declared.reports.ConnEnd.TheVariants.{TornDown, HeadTooLong, BodyTooLong}
 use Rattle.connection_laws.specs.Courses.{IsCourseBetween, first_stage}
 use Rattle.connection_laws.specs.InputSplits.{Beginning, InputSplit, HeardRequest, IsDrained, TakesUp}
 use Rattle.connection_laws.specs.InputSplits.{heard_requests_in, heard_requests_taken}

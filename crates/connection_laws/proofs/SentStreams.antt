@@ -5,7 +5,7 @@ use Rattle.std.proofs.Common.{sym, ap, subst, ◌∙◌, append_assoc, arith, in
 use Rattle.std.proofs.lemmas.Bool.{cases_lt}
 use Rattle.std.proofs.lemmas.List.{append-nil, drop_all, length-append, length-take, take_all}
 use Rattle.std.proofs.Math.Seq.{drop-nil, take-append-add, take-nil}
-use Rattle.vod_base.specs.Links.{IoEvent, HeardBytes, HeardEnd, HeardSlot, Sent, sends}
+use Rattle.vod_base.specs.Links.{IoEvent, Sent, sends}
 use Rattle.film_frames.specs.Tracks.{framed_bytes}
 use Rattle.conn.specs.EventSteps.{Round, round_bytes, rounds_doings}
 use Rattle.conn.specs.InputSteps.{Film, SentPart, Text, film_bytes, parts_bytes}

@@ -7,26 +7,24 @@ use Rattle.plan_cert.specs.Plan.{IsPlan}
 use Rattle.plan_cert.specs.PlanSlots.{total_bytes}
 use Rattle.film_frames.specs.FramedRuns.{run_pieces}
 use Rattle.admission.specs.declared.entries.Answer.{Answer}
-use Rattle.admission.specs.declared.entries.Answer.TheVariants.{Admitted, Halted, Looked, Overflow}
+use Rattle.admission.specs.declared.entries.Answer.TheVariants.{Admitted}
 use Rattle.admission.specs.declared.entries.Command.{Command}
-use Rattle.admission.specs.declared.entries.Command.TheVariants.{Play as PlayCommand, Halt as HaltCommand}
-use Rattle.admission.specs.declared.entries.Command.TheVariants.{Look as LookCommand}
+use Rattle.admission.specs.declared.entries.Command.TheVariants.{Halt as HaltCommand}
 use Rattle.admission.specs.Makers.{PlacedEntry}
 use Rattle.session.specs.declared.states.Awaited.{Awaited}
 use Rattle.session.specs.declared.states.Awaited.TheVariants.{Nothing, Play, Halt, Look, Offer}
 use Rattle.session.specs.declared.states.Prepared.{Prepared}
 use Rattle.session.specs.SessionStates.{SessionState}
 use Rattle.conn.specs.EventSteps.{Round}
-use Rattle.conn.specs.InputSteps.{Outcome, Unasked, Entered, WasFull, Offered, Stage, SentPart}
+use Rattle.conn.specs.InputSteps.{Outcome, Entered, Stage, SentPart}
 use Rattle.connection_laws.specs.Courses.{IsCourseBetween, IsCourseSplit, asked_by, askings_of, round_askings}
 use Rattle.connection_laws.specs.Plays.{StationRequest, Asks, FilmPlay, plays_admitted, plays_begun, kept_by, kept_in}
 use Rattle.connection_laws.specs.Plays.{kept_with, plays_of}
-use Rattle.connection_laws.proofs.FilmBytes.{Stands}
+use Rattle.connection_laws.proofs.FilmBytes.{Stands, IsKeptStanding, standing_course_kept}
 use Rattle.connection_laws.proofs.CourseJoins.{parts_of}
 use Rattle.connection_laws.proofs.RequestEffects.{Begins, Ends, Starts, Stays, TurnsAs, turns_as}
 use Rattle.connection_laws.proofs.StationAnswers.{FinishesAs, NothingLeft, DoneHalted, ComesAs, BytesCame, SlotCame}
-use Rattle.connection_laws.proofs.CourseAskings.{IsKeptByAskings, course_kept}
-use Rattle.connection_laws.proofs.GreatestSlots.{comes_heard}
+use Rattle.connection_laws.proofs.CourseInduction.{comes_heard, Piece}
 use Rattle.connection_laws.proofs.KeptParts.{LastingPart, taken_keeps}
 
 -- ---- askings in two parts
@@ -240,12 +238,16 @@ record LateAskings (old : SessionState) (made : List StationRequest) (new : Sess
   later : old.heard ≤ new.heard
   late : AreLate old.heard made
 
-late_kept : IsKeptByAskings LateAskings
+abbrev LateOn : SessionState → Piece → SessionState → Type 0
+LateOn old piece new = LateAskings old piece.askings new
+
+late_kept : IsKeptStanding LateOn
 late_kept = record {
   none = λ s. record { later = omega arith; late = tt };
-  joins = λ a b c made more one two. record {
-    later = omega (arith, one.later, two.later);
-    late = late_append a.heard made more one.late (late_lower a.heard b.heard more one.later two.late);
+  joins = λ a b c one two first rest. record {
+    later = omega (arith, first.later, rest.later);
+    late = late_append a.heard one.askings two.askings first.late
+        (late_lower a.heard b.heard two.askings first.later rest.late);
   };
   request = λ old new message outcome parts replied stands. record {
     later = let same = ap (λ (part : LastingPart). part.heard) (taken_keeps replied) in omega (arith, same);
@@ -264,4 +266,4 @@ late_kept = record {
 pub course_late : (old new : Stage) (rounds : List Round) (follows : IsCourseBetween old rounds new) → Stands
     old.session
     → AreLate old.session.heard (askings_of old rounds new follows)
-course_late old new rounds follows stands = (course_kept late_kept old new rounds follows stands).late
+course_late old new rounds follows stands = (standing_course_kept late_kept old new rounds follows stands).late

@@ -5,17 +5,12 @@ use Rattle.std.proofs.lemmas.Bool.{true≢false}
 use Rattle.session.specs.declared.states.Awaited.{Awaited}
 use Rattle.session.specs.SlotSteps.{can_reply, is_between, sent_reply}
 use Rattle.session.specs.SessionStates.{SessionState}
-use Rattle.conn.specs.Films.{takings_parts}
-use Rattle.conn.specs.InputSteps.{Answered, IsReplied, Outcome, SentPart, Passed, Stage, ElementStep, TakesAll, Text}
-use Rattle.conn.specs.InputSteps.{after_reply, reply_parts}
-use Rattle.connection_laws.specs.Courses.{takings_askings}
-use Rattle.connection_laws.specs.ReplyPlaces.{takings_slots}
+use Rattle.conn.specs.InputSteps.{IsReplied, Outcome, SentPart, Stage, Text, after_reply, reply_parts}
 use Rattle.connection_laws.specs.Plays.{StationRequest, Asks}
-use Rattle.connection_laws.proofs.FilmBytes.{Stands, taken_stands, turn_after, turn_step}
+use Rattle.connection_laws.proofs.FilmBytes.{Stands, turn_after, turn_step}
 use Rattle.connection_laws.proofs.JoinedFilms.{IsSound}
-use Rattle.connection_laws.proofs.KeptParts.{LastingPart, taken_keeps}
 use Rattle.connection_laws.proofs.ReplyBoundaries.{Replying, replying, turn_fits}
-use Rattle.connection_laws.proofs.RequestEffects.{Going, Idle, Ending, Sends, sends_in, turns_as}
+use Rattle.connection_laws.proofs.RequestEffects.{Idle, Sends, sends_in, turns_as}
 use Rattle.connection_laws.proofs.WaitingReplies.{GoesTo, IsHeld, goes_same, goes_then, point}
 
 -- what a doing makes of a session, of the reply that is held up, and of what is sent
@@ -43,7 +38,7 @@ move_then {a} {c} {made} {taken} one two = record {
   goes_on = goes_then one.goes_on two.goes_on;
 }
 
-unheld : (pending : Option ℕ) (sends : Sends) (waits : Bool) (heard : ℕ) → IsHeld pending sends waits heard
+pub unheld : (pending : Option ℕ) (sends : Sends) (waits : Bool) (heard : ℕ) → IsHeld pending sends waits heard
     → waits ≡ false → pending ≡ None
 unheld None sends waits heard held none = refl
 unheld (Some slot) Idle waits heard held none = absurd held
@@ -68,7 +63,7 @@ reply_move s waits sound =
     (if goes then Text s.text ∷ [] else [])) can
     (reply_as s (is_between s.state) waits (replying s.state (is_between s.state) s.heard s.text sound refl))
 
-answered_move : {old new : Stage} {message : List ℕ} {outcome : Outcome} {parts : List SentPart}
+pub answered_move : {old new : Stage} {message : List ℕ} {outcome : Outcome} {parts : List SentPart}
     (replied : IsReplied old message outcome parts new)
     → Stands old.session
     → Move old.session new.session None (Asks replied.heard.asking.awaited outcome ∷ []) (old.session.heard ∷ []) parts
@@ -96,35 +91,3 @@ answered_move {old} {new} {message} {outcome} replied stands =
     (sym replied.parts_are)
     (subst (λ (n : Stage). Move old.session n.session None (Asks asked outcome ∷ []) (old.session.heard ∷ [])
     (reply_parts s)) (sym replied.new_is) all)
-
-pub takes_move : {pending : Option ℕ} (old new : Stage) (takings : List ElementStep) (takes : TakesAll old takings new)
-    → Stands old.session → HeldIn pending old.session
-    → Move old.session new.session pending (takings_askings old takings new takes)
-    (takings_slots old.session.heard takings) (takings_parts takings)
-takes_move {pending} old new [] takes stands held =
-    subst (λ (s : Stage). Move old.session s.session pending [] [] []) (sym takes) (move_none old.session pending held)
-takes_move {pending} old new (Passed n ∷ takings) takes stands held =
-    let same : takes.0.session ≡ old.session = ap (λ (s : Stage). s.session) takes.1.0.2 in
-    subst (λ s. Move s new.session pending (takings_askings takes.0 takings new takes.1.1)
-    (takings_slots s.heard takings) (takings_parts takings)) same
-    (takes_move takes.0 new takings takes.1.1 (subst Stands (sym same) stands) (subst (HeldIn pending) (sym same) held))
-takes_move {pending} old new (Answered message outcome parts ∷ takings) takes stands held =
-    let mid : Stage = takes.0 in
-    let replied = takes.1.0 in
-    let none : pending ≡ None =
-    unheld pending (sends_in old.session.state) old.session.waits old.session.heard held replied.next.replied in
-    let one = answered_move replied stands in
-    let rest = takes_move {pending = one.after} mid new takings takes.1.1
-    (taken_stands old mid (Answered message outcome parts) replied stands) one.held in
-    let same : mid.session.heard ≡ old.session.heard =
-    ap (λ (part : LastingPart). part.heard) (taken_keeps replied) in
-    let made : List StationRequest = Asks replied.heard.asking.awaited outcome ∷ takings_askings mid takings new
-    takes.1.1 in
-    let all : Move old.session new.session None made
-    (old.session.heard ∷ takings_slots mid.session.heard takings) (parts ++ takings_parts takings) =
-    move_then
-    one rest in
-    subst (λ o. Move old.session new.session o made
-    (old.session.heard ∷ takings_slots old.session.heard takings) (parts ++ takings_parts takings)) (sym none)
-    (subst (λ h. Move old.session new.session None made (old.session.heard ∷ takings_slots h takings)
-    (parts ++ takings_parts takings)) same all)

@@ -12,7 +12,7 @@ use Rattle.session.specs.declared.states.Play.{Play as Played}
 use Rattle.session.specs.declared.states.Stop.{Stop}
 use Rattle.film_streams.specs.declared.setups.Setup.{Setup}
 use Rattle.session.specs.declared.states.State.{State}
-use Rattle.session.specs.declared.states.State.TheVariants.{Init, Ready, Playing, Stopping}
+use Rattle.session.specs.declared.states.State.TheVariants.{Playing, Stopping}
 use Rattle.session.specs.SlotSteps.{is_between, is_sending, step_bytes, stepped_in}
 use Rattle.session.specs.SlotTransitions.{after_stop}
 use Rattle.conn.specs.InputSteps.{SentPart, Film, Text, film_bytes}

@@ -2,20 +2,18 @@
 use Rattle.std.specs.Prelude.{⊤}
 use Rattle.std.proofs.Common.{◌≡◌, ℕ, ◌++◌, Bool, true, false, List, [], ◌∷◌, refl, ap, sym, ◌∙◌, subst, inl, inr}
 use Rattle.session.specs.declared.commands.Ask.{Ask}
-use Rattle.session.specs.declared.commands.Ask.TheVariants.{Reply as AskReply, Play as AskPlay, Halt as AskHalt}
-use Rattle.session.specs.declared.commands.Ask.TheVariants.{Look as AskLook, Offer as AskOffer}
+use Rattle.session.specs.declared.commands.Ask.TheVariants.{Reply as AskReply}
 use Rattle.session.specs.declared.states.Awaited.{Awaited}
-use Rattle.session.specs.declared.states.Awaited.TheVariants.{Nothing, Play, Halt, Look, Offer}
+use Rattle.session.specs.declared.states.Awaited.TheVariants.{Halt}
 use Rattle.session.specs.RequestSteps.{Hears}
 use Rattle.session.specs.Laws.{IsOneAnswer}
 use Rattle.film_streams.specs.SettingRanges.{AreFilms}
 use Rattle.session_laws.proofs.AnswerUniqueness.{hears_once}
 use Rattle.session.specs.SlotSteps.{after_slot}
 use Rattle.session.specs.SessionStates.{SessionState}
-use Rattle.conn.specs.InputSteps.{Outcome, Unasked, Entered, WasFull, Offered, SentPart, HasStepped, IsAskAnswered}
+use Rattle.conn.specs.InputSteps.{Outcome, Unasked, SentPart, HasStepped, IsAskAnswered}
 use Rattle.connection_laws.specs.InputSplits.{AreSameAnswers, HeardRequest, LackMemoryAlike, RanOutOfMemory, answer_in}
-use Rattle.connection_laws.proofs.StationAnswers.{AnswersAs, NoneAsked, PlayAdmitted, PlayRefused, PlayFull, PlayHalted}
-use Rattle.connection_laws.proofs.StationAnswers.{LookMade, LookFull, OfferMade, answer_leaves, answers_as, FinishesAs}
+use Rattle.connection_laws.proofs.StationAnswers.{AnswersAs, NoneAsked, answer_leaves, answers_as, FinishesAs}
 use Rattle.connection_laws.proofs.StationAnswers.{NothingLeft, DoneHalted, after_outcome, finish_leaves, finishes_as}
 
 -- ---- a request is received

@@ -23,7 +23,7 @@ use Rattle.film_frames.proofs.PieceLemmas.{pieces-cons, unit-sound, unit-wire}
 use Rattle.film_frames.proofs.RunBytesLemmas.{blocks_from-begin, blocks_from-count}
 use Rattle.film_frames.proofs.TrackLemmas.{begin-all}
 use Rattle.rtsp_client.specs.Answers.{events_of_elements, element_events}
-use Rattle.rtsp_client.specs.ClientHistory.{Frame, ClientEvent, Reply, Report, Slot, is_last}
+use Rattle.rtsp_client.specs.ClientHistory.{Frame, ClientEvent, Report, is_last}
 use Rattle.rtsp_client.specs.MeterGuarantee.{frames_of}
 use Rattle.connection_laws.proofs.Blocks.{blocks_append, frame_block, frame_blocks, frame_moment, frames_after, last_is}
 use Rattle.connection_laws.proofs.Blocks.{octets_after, report_block, report_if, report_moment, unit_among, unit_blocks}

@@ -1,0 +1,188 @@
+-- One induction over what a connection does, from its first event on.
+use Rattle.std.proofs.Common.{◌≡◌, ℕ, ◌^◌, ◌<◌, ◌≤◌, ◌++◌, ◌&&◌, if◌then◌else◌, Bool, true, false, nat_le, max, List}
+use Rattle.std.proofs.Common.{[], ◌∷◌, refl, ap, sym, ◌∙◌, subst, arith}
+use Rattle.std.proofs.lemmas.Bool.{ltb-true, ltb-false}
+use Rattle.std.proofs.lemmas.List.{append-nil}
+use Rattle.vod_base.specs.Links.{IoEvent, HeardSlot}
+use Rattle.session.specs.SlotSteps.{after_play, is_between, is_sending, sent_due, sent_slot, after_slot, stepped_in}
+use Rattle.session.specs.SessionStates.{SessionState}
+use Rattle.conn.specs.Films.{rounds_film, rounds_parts, round_parts, takings_parts}
+use Rattle.conn.specs.EventSteps.{Round, Runs}
+use Rattle.conn.specs.InputSteps.{Answered, ElementStep, IsReplied, Outcome, Passed, SentPart, Stage, TakesAll}
+use Rattle.conn.specs.InputSteps.{film_bytes}
+use Rattle.connection_laws.specs.Courses.{IsCourseBetween, asked_by, askings_of, greatest_slot, round_askings, slot_in}
+use Rattle.connection_laws.specs.Courses.{takings_askings}
+use Rattle.connection_laws.specs.Plays.{StationRequest, Asks}
+use Rattle.connection_laws.specs.Replies.{replies_of, takings_replies}
+use Rattle.connection_laws.specs.ReplyPlaces.{slots_from, takings_slots}
+use Rattle.connection_laws.proofs.StationAnswers.{ComesAs, BytesCame, SlotCame, comes_as}
+use Rattle.connection_laws.proofs.KeptParts.{LastingPart, finish_keeps, reply_keeps, taken_keeps, takes_heard}
+
+-- ---- the slot that was received last
+
+sent_heard : (old : SessionState) (slot : ℕ) → (after_play (sent_slot old slot)).heard ≡ slot
+sent_heard old slot =
+    reply_keeps (λ (s : SessionState). s.heard) (λ s. refl)
+    (old.waits && is_between (stepped_in true slot old.state)) (sent_due old slot)
+
+slot_cases : {later : Bool} (old : SessionState) (slot : ℕ) (small sending : Bool)
+    → (later ≡ true → old.heard < slot) → (later ≡ false → slot ≤ old.heard)
+    → (if later && small then (if sending then after_play (sent_slot old slot) else record old
+    { heard = slot }) else old).heard
+    ≡ max old.heard (if small then slot else 0)
+slot_cases {later = true} old slot true true after before = let h : old.heard < slot =
+    after refl in sent_heard old slot ∙ omega (arith, h)
+slot_cases {later = true} old slot true false after before = let h : old.heard < slot = after refl in omega (arith, h)
+slot_cases {later = true} old slot false sending after before = omega arith
+slot_cases {later = false} old slot true sending after before = let h : slot ≤ old.heard = before refl in
+    omega (arith, h)
+slot_cases {later = false} old slot false sending after before = omega arith
+
+slotted_heard : (old : SessionState) (slot : ℕ) → (after_slot old slot).heard ≡ max old.heard (slot_in (HeardSlot slot))
+slotted_heard old slot =
+    slot_cases old slot (nat_le slot (2 ^ 62)) (is_sending old.state) (ltb-true old.heard slot)
+    (ltb-false old.heard slot)
+
+pub comes_heard : {old opened : Stage} {event : IoEvent} {due : List SentPart} {halt : Outcome}
+    → ComesAs old opened event due halt → opened.session.heard ≡ max old.session.heard (slot_in event)
+comes_heard {old} (BytesCame is) = ap (λ (s : Stage). s.session.heard) is ∙ omega arith
+comes_heard {old} (SlotCame {slot = slot} finish) =
+    ap (λ (part : LastingPart). part.heard) (finish_keeps finish) ∙ slotted_heard old.session slot
+
+pub round_heard : (old new : Stage) (round : Round) → Runs old round new
+    → new.session.heard ≡ max old.session.heard (slot_in round.event)
+round_heard old new round runs =
+    takes_heard runs.opened new round.takings runs.takes
+    ∙ comes_heard (comes_as round.event round.due round.halt runs.comes)
+
+-- it is the greatest one
+pub course_heard : (old new : Stage) (rounds : List Round) → IsCourseBetween old rounds new
+    → new.session.heard ≡ max old.session.heard (greatest_slot rounds)
+course_heard old new [] follows = ap (λ (s : Stage). s.session.heard) follows ∙ omega arith
+course_heard old new (round ∷ rounds) follows =
+    omega (
+      arith,
+      round_heard old follows.0 round follows.1.0,
+      course_heard follows.0 new rounds follows.1.1,
+    )
+
+-- ---- what is done between two sessions
+
+-- what the station is asked, the slots in which requests are processed, what is sent, the film's bytes of it, and the
+-- replies
+pub record Piece : Type 0 where
+  pub askings : List StationRequest
+  pub slots : List ℕ
+  pub parts : List SentPart
+  pub film : List ℕ
+  pub replies : List (List ℕ)
+
+abbrev pub no_piece : Piece
+no_piece = record { askings = []; slots = []; parts = []; film = []; replies = [] }
+
+abbrev pub joined : Piece → Piece → Piece
+joined a b = record {
+  askings = a.askings ++ b.askings;
+  slots = a.slots ++ b.slots;
+  parts = a.parts ++ b.parts;
+  film = a.film ++ b.film;
+  replies = a.replies ++ b.replies;
+}
+
+abbrev pub request_piece : {old new : Stage} {message : List ℕ} {outcome : Outcome} {parts : List SentPart}
+    → IsReplied old message outcome parts new → Piece
+request_piece {old} {outcome = outcome} {parts = parts} replied = record {
+  askings = Asks replied.heard.asking.awaited outcome ∷ [];
+  slots = old.session.heard ∷ [];
+  parts = parts;
+  film = [];
+  replies = replied.answered.text ∷ [];
+}
+
+abbrev pub takings_piece : (old : Stage) (takings : List ElementStep) (new : Stage) → TakesAll old takings new → Piece
+takings_piece old takings new takes = record {
+  askings = takings_askings old takings new takes;
+  slots = takings_slots old.session.heard takings;
+  parts = takings_parts takings;
+  film = [];
+  replies = takings_replies old takings new takes;
+}
+
+abbrev pub event_piece : SessionState → IoEvent → List SentPart → Outcome → Piece
+event_piece session event due halt = record {
+  askings = Asks (asked_by session event) halt ∷ [];
+  slots = [];
+  parts = due;
+  film = film_bytes due;
+  replies = [];
+}
+
+abbrev pub round_piece : (old : Stage) (round : Round) (new : Stage) → Runs old round new → Piece
+round_piece old round new runs = record {
+  askings = round_askings old round new runs;
+  slots = takings_slots (max old.session.heard (slot_in round.event)) round.takings;
+  parts = round_parts round;
+  film = film_bytes round.due;
+  replies = takings_replies runs.opened round.takings new runs.takes;
+}
+
+abbrev pub course_piece : (old : Stage) (rounds : List Round) (new : Stage) → IsCourseBetween old rounds new → Piece
+course_piece old rounds new follows = record {
+  askings = askings_of old rounds new follows;
+  slots = slots_from old.session.heard rounds;
+  parts = rounds_parts rounds;
+  film = rounds_film rounds;
+  replies = replies_of old rounds new follows;
+}
+
+-- a relation between a session, what is done, and the session after it, which each request and each event satisfies
+pub record IsKeptByCourse (R : SessionState → Piece → SessionState → Type 0) : Type 0 where
+  pub none : (s : SessionState) → R s no_piece s
+  pub joins : (a b c : SessionState) (one two : Piece) → R a one b → R b two c → R a (joined one two) c
+  pub request : (old new : Stage) (message : List ℕ) (outcome : Outcome) (parts : List SentPart)
+      (replied : IsReplied old message outcome parts new) → R old.session (request_piece replied) new.session
+  pub event : (old opened : Stage) (event : IoEvent) (due : List SentPart) (halt : Outcome)
+      → ComesAs old opened event due halt → R old.session (event_piece old.session event due halt) opened.session
+
+module _ {R : SessionState → Piece → SessionState → Type 0} (kept : IsKeptByCourse R) where
+  pub takings_kept : (old new : Stage) (takings : List ElementStep) (takes : TakesAll old takings new)
+      → R old.session (takings_piece old takings new takes) new.session
+  takings_kept old new [] takes =
+      subst (λ (s : Stage). R old.session no_piece s.session) (sym takes) (kept.none old.session)
+  takings_kept old new (Passed n ∷ takings) takes =
+      let rest = takings_piece takes.0 takings new takes.1.1 in
+      subst (λ s. R s (record rest { slots = takings_slots s.heard takings }) new.session)
+      (ap (λ (s : Stage). s.session) takes.1.0.2) (takings_kept takes.0 new takings takes.1.1)
+  takings_kept old new (Answered message outcome parts ∷ takings) takes =
+      let first = request_piece takes.1.0 in
+      let rest = takings_piece takes.0 takings new takes.1.1 in
+      subst (λ h. R old.session (joined first (record rest { slots = takings_slots h takings })) new.session)
+      (ap (λ (part : LastingPart). part.heard) (taken_keeps takes.1.0))
+      (kept.joins old.session takes.0.session new.session first rest
+      (kept.request old takes.0 message outcome parts takes.1.0) (takings_kept takes.0 new takings takes.1.1))
+
+  pub round_kept : (old new : Stage) (round : Round) (runs : Runs old round new)
+      → R old.session (round_piece old round new runs) new.session
+  round_kept old new round runs =
+      let comes = comes_as round.event round.due round.halt runs.comes in
+      let first = event_piece old.session round.event round.due round.halt in
+      let rest = takings_piece runs.opened round.takings new runs.takes in
+      let all = round_piece old round new runs in
+      subst (λ h. R old.session (record all { slots = takings_slots h round.takings }) new.session) (comes_heard comes)
+      (subst (λ bs. R old.session (record (joined first rest) { film = bs }) new.session)
+      (append-nil (film_bytes round.due))
+      (kept.joins old.session runs.opened.session new.session first rest
+      (kept.event old runs.opened round.event round.due round.halt comes)
+      (takings_kept runs.opened new round.takings runs.takes)))
+
+  pub course_kept : (old new : Stage) (rounds : List Round) (follows : IsCourseBetween old rounds new)
+      → R old.session (course_piece old rounds new follows) new.session
+  course_kept old new [] follows =
+      subst (λ (s : Stage). R old.session no_piece s.session) (sym follows) (kept.none old.session)
+  course_kept old new (round ∷ rounds) follows =
+      let first = round_piece old round follows.0 follows.1.0 in
+      let rest = course_piece follows.0 rounds new follows.1.1 in
+      subst (λ h. R old.session (joined first (record rest { slots = slots_from h rounds })) new.session)
+      (round_heard old follows.0 round follows.1.0)
+      (kept.joins old.session follows.0.session new.session first rest (round_kept old follows.0 round follows.1.0)
+      (course_kept follows.0 new rounds follows.1.1))
