@@ -6,8 +6,6 @@ use Rattle.interleave.specs.Elements.{IsFirst}
 use Rattle.interleave.specs.Streams.{AreInputElements}
 use Rattle.interleave.specs.declared.elements.Step.TheVariants.{More}
 use Rattle.interleave.proofs.StreamElements.{TwoCuts, cuts_agree, tells_none}
-use Rattle.mpeg_scan.specs.declared.films.Film.{Film}
-use Rattle.rtp_pack.specs.declared.reports.Identity.{Identity}
 use Rattle.film_frames.specs.Tracks.{framed_bytes}
 use Rattle.rtsp_client.specs.declared.watch_request.Wish.{Wish}
 use Rattle.rtsp_client.specs.declared.watch_request.WatchEnd.{WatchEnd}
@@ -20,22 +18,12 @@ use Rattle.rtsp_client.specs.WatchCourses.{Ends, HasCourse, Round, RunsAll, Watc
 use Rattle.rtsp_client.proofs.UniqueEnd.{Quits, AtFraming, AtMoment, gives-not-on, gives-once, stops-quit}
 use Rattle.connection_laws.specs.LinkDelivery.{heard_bytes}
 use Rattle.connection_laws.specs.WatchEnds.{RefusesNothing}
-use Rattle.connection_laws.proofs.AcceptedMoments.{AcceptsFrames, EndsInDone, HasAccepted, IsFilmStream, IsPlaceIn}
-use Rattle.connection_laws.proofs.AcceptedMoments.{all_cut, moment_accepted, next_in, no_fault, no_third, none_more}
-use Rattle.connection_laws.proofs.AcceptedMoments.{place_in}
+use Rattle.connection_laws.proofs.AcceptedMoments.{HasAccepted, IsPlaceIn, all_cut, moment_accepted, next_in, no_fault}
+use Rattle.connection_laws.proofs.AcceptedMoments.{no_third, none_more, place_in, FilmStream}
 use Rattle.connection_laws.proofs.ClientInput.{Heard, heard_all, heard_more, heard_none, rounds_heard}
 use Rattle.connection_laws.proofs.ElementStreams.{AreAlone}
-use Rattle.connection_laws.proofs.MeterInput.{AreTexts, Stream, all_of}
+use Rattle.connection_laws.proofs.MeterInput.{AreTexts, all_of}
 use Rattle.connection_laws.proofs.WatchCourses.{last_bytes, told_bytes}
-
--- a film's stream, and what a client makes of its frames
-pub record FilmStream : Type 0 where
-  pub film : Film
-  pub identity : Identity
-  pub x : Stream
-  pub is : IsFilmStream film identity x
-  pub accepts : AcceptsFrames
-  pub done : EndsInDone
 
 accepted_of : {bytes : List ℕ} {at : WatchStage} (heard : Heard bytes at) → HasAccepted heard.elements at.history
 accepted_of heard = record { sum = heard.sum; frames = heard.frames; gone = heard.gone }
@@ -48,7 +36,7 @@ quits_done : {bytes : List ℕ} {at : WatchStage} {end : WatchEnd} (wish : Wish)
     → end ≡ Done (watched_in wish at.history)
 quits_done wish s heard place (AtFraming is fault first) = absurd (no_fault fault place first)
 quits_done {at = at} {end = end} wish s heard place (AtMoment moment next given) =
-    elim (moment_accepted wish heard.elements s.accepts s.done s.is (accepted_of heard) (next_in place next)) [
+    elim (moment_accepted wish s heard.elements (accepted_of heard) (next_in place next)) [
       | inl on ↦ absurd (gives-not-on wish at.history end moment given on)
       | inr gives ↦ gives-once wish at.history moment given gives
     ]
@@ -87,17 +75,34 @@ pub record IsReceived (s : FilmStream) (heard : List IoEvent) : Type 0 where
   pub count : ℕ
   pub front : heard_bytes heard ≡ take count (framed_bytes (all_of s.x))
 
-ended : {wish : Wish} {end : WatchEnd} {doings : List IoEvent} {out : List ℕ} (s : FilmStream) (count : ℕ)
-    (mid : WatchStage) (rounds : List Round) → RunsAll (stage [] []) rounds mid
-    → Ends wish mid (length rounds) end doings out
-    → rounds_heard rounds ++ heard_bytes doings ≡ take count (framed_bytes (all_of s.x)) → RefusesNothing end
-ended s count mid rounds runs (inl (inl lost, none, empty)) front = subst RefusesNothing (sym lost.0) tt
-ended s count mid rounds runs (inl (inr spent, none, empty)) front = subst RefusesNothing (sym spent.0) tt
-ended s count mid rounds runs (inr (inl early)) front = subst RefusesNothing (sym early.0) tt
-ended {end = end} s count mid rounds runs (inr (inr (bytes, (sent, (stops, doings_are, few))))) front =
-    let mine : rounds_heard rounds ++ bytes ≡ take count (framed_bytes (all_of s.x)) =
-    ap (λ l. rounds_heard rounds ++ l) (sym (last_bytes bytes sent doings_are)) ∙ front in
-    refuses_none end (λ decided. stopped_done s count decided (record { runs = runs; stops = stops }) mine)
+-- how it ended after these rounds, of which so many bytes came
+module _ {wish : Wish} {end : WatchEnd} {doings : List IoEvent} {out : List ℕ} (s : FilmStream) (count : ℕ)
+    (mid : WatchStage) (rounds : List Round) (runs : RunsAll (stage [] []) rounds mid) where
+  ended : Ends wish mid (length rounds) end doings out
+      → rounds_heard rounds ++ heard_bytes doings ≡ take count (framed_bytes (all_of s.x)) → RefusesNothing end
+  ended (inl (inl lost, none, empty)) front = subst RefusesNothing (sym lost.0) tt
+  ended (inl (inr spent, none, empty)) front = subst RefusesNothing (sym spent.0) tt
+  ended (inr (inl early)) front = subst RefusesNothing (sym early.0) tt
+  ended (inr (inr (bytes, (sent, (stops, doings_are, few))))) front =
+      let mine : rounds_heard rounds ++ bytes ≡ take count (framed_bytes (all_of s.x)) =
+      ap (λ l. rounds_heard rounds ++ l) (sym (last_bytes bytes sent doings_are)) ∙ front in
+      refuses_none end (λ decided. stopped_done s count decided (record { runs = runs; stops = stops }) mine)
+
+  ended_done : IsDecided end → Ends wish mid (length rounds) end doings out
+      → rounds_heard rounds ++ heard_bytes doings ≡ take count (framed_bytes (all_of s.x))
+      → (rounds_heard rounds ++ [] ≡ rounds_heard rounds ++ heard_bytes doings → ⊥)
+      → (watched : Watched) × (end ≡ Done watched)
+  ended_done decided (inl (inl lost, none, empty)) front waits =
+      absurd (subst IsDecided lost.0 decided)
+  ended_done decided (inl (inr spent, none, empty)) front waits =
+      absurd (waits (ap (λ l. rounds_heard rounds ++ heard_bytes l) (sym none)))
+  ended_done decided (inr (inl early)) front waits =
+      absurd (waits (ap (λ l. rounds_heard rounds ++ heard_bytes l) (sym early.2)))
+  ended_done decided
+      (inr (inr (bytes, (sent, (stops, doings_are, few))))) front waits =
+      let mine : rounds_heard rounds ++ bytes ≡ take count (framed_bytes (all_of s.x)) =
+      ap (λ l. rounds_heard rounds ++ l) (sym (last_bytes bytes sent doings_are)) ∙ front in
+      stopped_done s count decided (record { runs = runs; stops = stops }) mine
 
 pub refuses_nothing : {wish : Wish} {end : WatchEnd} {heard : List IoEvent} {out : List ℕ} (s : FilmStream)
     (client : HasCourse wish end (Some []) (Some heard) (Some []) (Some out)) → IsReceived s heard
@@ -144,24 +149,6 @@ not_waiting mid rounds s last others later runs whole =
     let texts : AreTexts (last ∷ others) = subst AreTexts later x.later_are in
     no_third x last others accepted texts.0.moment
 
-ended_done : {wish : Wish} {end : WatchEnd} {doings : List IoEvent} {out : List ℕ} (s : FilmStream) (count : ℕ)
-    (mid : WatchStage) (rounds : List Round) → IsDecided end → RunsAll (stage [] []) rounds mid
-    → Ends wish mid (length rounds) end doings out
-    → rounds_heard rounds ++ heard_bytes doings ≡ take count (framed_bytes (all_of s.x))
-    → (rounds_heard rounds ++ [] ≡ rounds_heard rounds ++ heard_bytes doings → ⊥)
-    → (watched : Watched) × (end ≡ Done watched)
-ended_done s count mid rounds decided runs (inl (inl lost, none, empty)) front waits =
-    absurd (subst IsDecided lost.0 decided)
-ended_done s count mid rounds decided runs (inl (inr spent, none, empty)) front waits =
-    absurd (waits (ap (λ l. rounds_heard rounds ++ heard_bytes l) (sym none)))
-ended_done s count mid rounds decided runs (inr (inl early)) front waits =
-    absurd (waits (ap (λ l. rounds_heard rounds ++ heard_bytes l) (sym early.2)))
-ended_done s count mid rounds decided runs
-    (inr (inr (bytes, (sent, (stops, doings_are, few))))) front waits =
-    let mine : rounds_heard rounds ++ bytes ≡ take count (framed_bytes (all_of s.x)) =
-    ap (λ l. rounds_heard rounds ++ l) (sym (last_bytes bytes sent doings_are)) ∙ front in
-    stopped_done s count decided (record { runs = runs; stops = stops }) mine
-
 -- the reply to TEARDOWN was received, and all before it
 pub record IsReceivedWhole (s : FilmStream) (heard : List IoEvent) : Type 0 where
   pub last : List ℕ
@@ -175,7 +162,7 @@ pub comes_to_done : {wish : Wish} {end : WatchEnd} {heard : List IoEvent} {out :
     → IsDecided end → (watched : Watched) × (end ≡ Done watched)
 comes_to_done s client received decided =
     let told = told_bytes client in
-    ended_done s received.received.count client.mid client.rounds decided client.runs client.ends
+    ended_done s received.received.count client.mid client.rounds client.runs decided client.ends
     (sym told ∙ received.received.front)
     (λ none. not_waiting client.mid client.rounds s received.last received.others received.later client.runs
     (sym (append-nil (rounds_heard client.rounds)) ∙ none ∙ sym told ∙ received.whole))

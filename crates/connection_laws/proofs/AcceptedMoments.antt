@@ -202,11 +202,16 @@ EndsInDone = (film : Film) (identity : Identity) (wish : Wish) (h : History) (me
     → identity.ssrc < 2 ^ 32 → AwaitsFilm film h → frames_of_film film identity ≡ frames_heard h → replies h ≡ 2
     → IsAnswer message 3 200 → Gives wish h (Reply message) (Done (watched_in wish h))
 
--- a film's stream
-pub record IsFilmStream (film : Film) (identity : Identity) (x : Stream) : Type 0 where
+-- a film's stream, and what a client makes of its frames
+pub record FilmStream : Type 0 where
+  pub film : Film
+  pub identity : Identity
+  pub x : Stream
   pub film_in : IsFilmIn film identity x
   pub small : identity.ssrc < 2 ^ 32
   pub readable : IsReadable film x
+  pub accepts : AcceptsFrames
+  pub done : EndsInDone
 
 -- what a client has gone on at
 pub record HasAccepted (elements : List (List ℕ)) (h : History) : Type 0 where
@@ -236,17 +241,17 @@ record IsInFilm (film : Film) (h : History) : Type 0 where
   awaits : AwaitsFilm film h
   two : replies h ≡ 2
 
-in_film : {film : Film} {h : History} (x : Stream) (qs : List (List ℕ)) → IsReadable film x → AreOneBlocks qs
-    → sum_of h ≡ steps (begun_sum x) (events_of_elements qs) → IsInFilm film h
-in_film {film} {h} x qs readable are sum =
-    let same = blocks_same qs (begun_sum x) are in
+in_film : {h : History} (s : FilmStream) (qs : List (List ℕ)) → AreOneBlocks qs
+    → sum_of h ≡ steps (begun_sum s.x) (events_of_elements qs) → IsInFilm s.film h
+in_film {h} s qs are sum =
+    let same = blocks_same qs (begun_sum s.x) are in
     let two : replies h ≡ 2 = ap (λ (s : Sum). s.replies) sum ∙ same.replies in
-    let end : end_ms h ≡ length_ms film =
-    ap (λ (s : Sum). s.end_ms) sum ∙ same.end_ms ∙ ap (λ r. unwrap_or r 0) readable.range in
+    let end : end_ms h ≡ length_ms s.film =
+    ap (λ (s : Sum). s.end_ms) sum ∙ same.end_ms ∙ ap (λ r. unwrap_or r 0) s.readable.range in
     record {
       awaits = record {
         playing = lt-ltb 1 (replies h) (omega (arith, two));
-        end_is = ap (λ e. units_until e (picture_time film.rate)) end ∙ film_counted film;
+        end_is = ap (λ e. units_until e (picture_time s.film.rate)) end ∙ film_counted s.film;
       };
       two = two;
     }
@@ -267,40 +272,6 @@ frames_front qs b rest frame =
     ap frames_of (moments_parts qs (b ∷ rest))
     ∙ (frames_parts (events_of_elements qs) (events_of_elements (b ∷ rest))
     ∙ ap (λ l. frames_of (events_of_elements qs) ++ frames_of (l ++ events_of_elements rest)) frame)
-
--- the next element is a block of the film
-film_moment : {film : Film} {identity : Identity} {x : Stream} {h : History} {moment : ClientEvent} (wish : Wish)
-    (qs : List (List ℕ)) (b : List ℕ) (rest : List (List ℕ)) → AcceptsFrames → IsFilmStream film identity x
-    → HasAccepted (x.first ∷ x.second ∷ qs) h → x.blocks ≡ qs ++ b ∷ rest → element_events b ≡ moment ∷ []
-    → IsAccepted wish h moment
-film_moment {film} {identity} {x} {h} {moment} wish qs b rest accepts is accepted blocks moment_is =
-    let are : AreOneBlocks (qs ++ b ∷ rest) = subst AreOneBlocks blocks x.blocks_are in
-    let inside = in_film x qs is.readable (blocks_front qs (b ∷ rest) are) (accepted.sum ∙ two_moments x qs) in
-    elim (block_at qs b rest are) [
-      | inl frame ↦
-          let frames : frames_of_film film identity ≡ frames_heard h ++ b ∷ frames_of (events_of_elements rest) =
-          sym (stream_frames is.film_in) ∙ ap (λ bs. frames_of (events_of_elements bs)) blocks
-          ∙ frames_front qs b rest frame
-          ∙ ap (λ l. l ++ b ∷ frames_of (events_of_elements rest)) (sym (accepted.frames ∙ two_frames x qs)) in
-          let good : GoesOn h (Frame b) =
-          accepts film identity h b (frames_of (events_of_elements rest)) is.small inside.awaits frames in
-          subst (IsAccepted wish h) (same_moment b moment_is frame) (inl good)
-      | inr report ↦ subst (IsAccepted wish h) (same_moment b moment_is report) (inl tt)
-    ]
-
--- it is the reply after the film
-last_moment : {film : Film} {identity : Identity} {x : Stream} {h : History} {moment : ClientEvent} (wish : Wish)
-    (last : List ℕ) (rest : List (List ℕ)) → EndsInDone → IsFilmStream film identity x
-    → HasAccepted (x.first ∷ x.second ∷ x.blocks) h → x.later ≡ last ∷ rest → element_events last ≡ moment ∷ []
-    → IsAccepted wish h moment
-last_moment {film} {identity} {x} {h} {moment} wish last rest done is accepted later moment_is =
-    let inside = in_film x x.blocks is.readable x.blocks_are (accepted.sum ∙ two_moments x x.blocks) in
-    let frames : frames_of_film film identity ≡ frames_heard h =
-    sym (stream_frames is.film_in) ∙ sym (accepted.frames ∙ two_frames x x.blocks) in
-    let texts : AreTexts (last ∷ rest) = subst AreTexts later x.later_are in
-    let answers : AreAnswers (last ∷ rest) = subst AreAnswers later is.readable.later_are in
-    reply_moment wish last moment_is refl texts.0.moment
-    (inr (done film identity wish h last is.small inside.awaits frames inside.two answers.0))
 
 -- no third reply was accepted
 pub no_third : {h : History} (x : Stream) (y : List ℕ) (ys : List (List ℕ))
@@ -338,52 +309,84 @@ stands_in (b ∷ bs) ls (q ∷ qs) e es is =
       | Past more past after ↦ Past more (ap (λ t. t ∷ qs) (sym first) ∙ ap (λ l. b ∷ l) past) after
     ]
 
--- after the two first replies
-later_moment : {film : Film} {identity : Identity} {x : Stream} {h : History} {moment : ClientEvent} (wish : Wish)
-    (qs : List (List ℕ)) (e : List ℕ) (es : List (List ℕ)) → AcceptsFrames → EndsInDone
-    → IsFilmStream film identity x → HasAccepted (x.first ∷ x.second ∷ qs) h
-    → x.blocks ++ x.later ≡ qs ++ e ∷ es → element_events e ≡ moment ∷ [] → IsAccepted wish h moment
-later_moment {x = x} {h = h} {moment = moment} wish qs e es accepts done is accepted all moment_is =
-    elim (stands_in x.blocks x.later qs e es all) [
-      | Within rest inside ↦ film_moment wish qs e rest accepts is accepted inside moment_is
-      | Past more past after ↦ by_more more past after
-    ]
-  where
-    A : List (List ℕ) → Type 0
-    A = λ l. HasAccepted (x.first ∷ x.second ∷ l) h
+-- ---- each next moment of a film's stream is accepted
 
-    by_more : (more : List (List ℕ)) → qs ≡ x.blocks ++ more → x.later ≡ more ++ e ∷ es → IsAccepted wish h moment
-    by_more [] past after =
-        last_moment wish e es done is (subst A (past ∙ append-nil x.blocks) accepted) after moment_is
-    by_more (y ∷ more) past after =
-        let texts : AreTexts (y ∷ (more ++ e ∷ es)) = subst AreTexts after x.later_are in
-        absurd (no_third x y more (subst A past accepted) texts.0.moment)
+module _ {h : History} {moment : ClientEvent} (wish : Wish) (s : FilmStream) where
+  open s use {film, identity, x}
 
--- each next moment of a film's stream is accepted
-pub moment_accepted : {film : Film} {identity : Identity} {x : Stream} {h : History} {moment : ClientEvent}
-    (wish : Wish) (elements : List (List ℕ)) → AcceptsFrames → EndsInDone → IsFilmStream film identity x
-    → HasAccepted elements h → IsNextIn (all_of x) elements moment → IsAccepted wish h moment
-moment_accepted {x = x} {h = h} {moment = moment} wish [] accepts done is accepted next =
-    let all : x.first ∷ x.second ∷ (x.blocks ++ x.later) ≡ next.element ∷ next.more = next.all_is in
-    let first : next.element ≡ x.first = cc in
-    let none : replies h ≡ 0 = ap (λ (s : Sum). s.replies) accepted.sum in
-    reply_moment wish next.element next.moment_is first x.first_is.moment
-    (inl (good_reply 0 none (omega arith) is.readable.setup_is (setup_fields h x.first none is.readable.session)))
-moment_accepted {x = x} {h = h} {moment = moment} wish (a ∷ []) accepts done is accepted next =
-    let all : x.first ∷ x.second ∷ (x.blocks ++ x.later) ≡ a ∷ next.element ∷ next.more = next.all_is in
-    let first : a ≡ x.first = cc in
-    let second : next.element ≡ x.second = cc in
-    let single : steps no_sum (events_of_elements (a ∷ [])) ≡ steps no_sum (Reply x.first ∷ []) =
-    ap (λ t. steps no_sum (events_of_elements (t ∷ []))) first ∙ ap (λ l. steps no_sum (l ++ [])) x.first_is.moment in
-    let one : replies h ≡ 1 = ap (λ (s : Sum). s.replies) (accepted.sum ∙ single) in
-    reply_moment wish next.element next.moment_is second x.second_is.moment
-    (inl (good_reply 1 one (omega arith) is.readable.played_is
-    (play_fields h x.second one is.readable.range is.readable.start)))
-moment_accepted {x = x} {h = h} {moment = moment} wish (a ∷ b ∷ qs) accepts done is accepted next =
-    let all : x.first ∷ x.second ∷ (x.blocks ++ x.later) ≡ a ∷ b ∷ (qs ++ next.element ∷ next.more) = next.all_is in
-    let first : a ≡ x.first = cc in
-    let second : b ≡ x.second = cc in
-    let rest : x.blocks ++ x.later ≡ qs ++ next.element ∷ next.more = cc in
-    let A : List ℕ → List ℕ → Type 0 = λ s t. HasAccepted (s ∷ t ∷ qs) h in
-    later_moment wish qs next.element next.more accepts done is
-    (subst (A x.first) second (subst (λ s. A s b) first accepted)) rest next.moment_is
+  -- the next element is a block of the film
+  film_moment : (qs : List (List ℕ)) (b : List ℕ) (rest : List (List ℕ)) → HasAccepted (x.first ∷ x.second ∷ qs) h
+      → x.blocks ≡ qs ++ b ∷ rest → element_events b ≡ moment ∷ [] → IsAccepted wish h moment
+  film_moment qs b rest accepted blocks moment_is =
+      let are : AreOneBlocks (qs ++ b ∷ rest) = subst AreOneBlocks blocks x.blocks_are in
+      let inside = in_film s qs (blocks_front qs (b ∷ rest) are) (accepted.sum ∙ two_moments x qs) in
+      elim (block_at qs b rest are) [
+        | inl frame ↦
+            let frames : frames_of_film film identity ≡ frames_heard h ++ b ∷ frames_of (events_of_elements rest) =
+            sym (stream_frames s.film_in) ∙ ap (λ bs. frames_of (events_of_elements bs)) blocks
+            ∙ frames_front qs b rest frame
+            ∙ ap (λ l. l ++ b ∷ frames_of (events_of_elements rest)) (sym (accepted.frames ∙ two_frames x qs)) in
+            let good : GoesOn h (Frame b) =
+            s.accepts film identity h b (frames_of (events_of_elements rest)) s.small inside.awaits frames in
+            subst (IsAccepted wish h) (same_moment b moment_is frame) (inl good)
+        | inr report ↦ subst (IsAccepted wish h) (same_moment b moment_is report) (inl tt)
+      ]
+
+  -- it is the reply after the film
+  last_moment : (last : List ℕ) (rest : List (List ℕ)) → HasAccepted (x.first ∷ x.second ∷ x.blocks) h
+      → x.later ≡ last ∷ rest → element_events last ≡ moment ∷ [] → IsAccepted wish h moment
+  last_moment last rest accepted later moment_is =
+      let inside = in_film s x.blocks x.blocks_are (accepted.sum ∙ two_moments x x.blocks) in
+      let frames : frames_of_film film identity ≡ frames_heard h =
+      sym (stream_frames s.film_in) ∙ sym (accepted.frames ∙ two_frames x x.blocks) in
+      let texts : AreTexts (last ∷ rest) = subst AreTexts later x.later_are in
+      let answers : AreAnswers (last ∷ rest) = subst AreAnswers later s.readable.later_are in
+      reply_moment wish last moment_is refl texts.0.moment
+      (inr (s.done film identity wish h last s.small inside.awaits frames inside.two answers.0))
+
+  -- after the two first replies
+  later_moment : (qs : List (List ℕ)) (e : List ℕ) (es : List (List ℕ)) → HasAccepted (x.first ∷ x.second ∷ qs) h
+      → x.blocks ++ x.later ≡ qs ++ e ∷ es → element_events e ≡ moment ∷ [] → IsAccepted wish h moment
+  later_moment qs e es accepted all moment_is =
+      elim (stands_in x.blocks x.later qs e es all) [
+        | Within rest inside ↦ film_moment qs e rest accepted inside moment_is
+        | Past more past after ↦ by_more more past after
+      ]
+    where
+      A : List (List ℕ) → Type 0
+      A = λ l. HasAccepted (x.first ∷ x.second ∷ l) h
+
+      by_more : (more : List (List ℕ)) → qs ≡ x.blocks ++ more → x.later ≡ more ++ e ∷ es → IsAccepted wish h moment
+      by_more [] past after =
+          last_moment e es (subst A (past ∙ append-nil x.blocks) accepted) after moment_is
+      by_more (y ∷ more) past after =
+          let texts : AreTexts (y ∷ (more ++ e ∷ es)) = subst AreTexts after x.later_are in
+          absurd (no_third x y more (subst A past accepted) texts.0.moment)
+
+  -- each next moment of a film's stream is accepted
+  pub moment_accepted : (elements : List (List ℕ)) → HasAccepted elements h → IsNextIn (all_of x) elements moment
+      → IsAccepted wish h moment
+  moment_accepted [] accepted next =
+      let all : x.first ∷ x.second ∷ (x.blocks ++ x.later) ≡ next.element ∷ next.more = next.all_is in
+      let first : next.element ≡ x.first = cc in
+      let none : replies h ≡ 0 = ap (λ (s : Sum). s.replies) accepted.sum in
+      reply_moment wish next.element next.moment_is first x.first_is.moment
+      (inl (good_reply 0 none (omega arith) s.readable.setup_is (setup_fields h x.first none s.readable.session)))
+  moment_accepted (a ∷ []) accepted next =
+      let all : x.first ∷ x.second ∷ (x.blocks ++ x.later) ≡ a ∷ next.element ∷ next.more = next.all_is in
+      let first : a ≡ x.first = cc in
+      let second : next.element ≡ x.second = cc in
+      let single : steps no_sum (events_of_elements (a ∷ [])) ≡ steps no_sum (Reply x.first ∷ []) =
+      ap (λ t. steps no_sum (events_of_elements (t ∷ []))) first ∙ ap (λ l. steps no_sum (l ++ [])) x.first_is.moment in
+      let one : replies h ≡ 1 = ap (λ (s : Sum). s.replies) (accepted.sum ∙ single) in
+      reply_moment wish next.element next.moment_is second x.second_is.moment
+      (inl (good_reply 1 one (omega arith) s.readable.played_is
+      (play_fields h x.second one s.readable.range s.readable.start)))
+  moment_accepted (a ∷ b ∷ qs) accepted next =
+      let all : x.first ∷ x.second ∷ (x.blocks ++ x.later) ≡ a ∷ b ∷ (qs ++ next.element ∷ next.more) = next.all_is in
+      let first : a ≡ x.first = cc in
+      let second : b ≡ x.second = cc in
+      let rest : x.blocks ++ x.later ≡ qs ++ next.element ∷ next.more = cc in
+      let A : List ℕ → List ℕ → Type 0 = λ s t. HasAccepted (s ∷ t ∷ qs) h in
+      later_moment qs next.element next.more
+      (subst (A x.first) second (subst (λ s. A s b) first accepted)) rest next.moment_is

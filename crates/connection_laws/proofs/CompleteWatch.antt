@@ -49,6 +49,10 @@ watched_whole wish stored watched out is =
     (fed played
     (carried.each its.0 its.1.0 slot (its.1.1.0 ∙ ap (λ e. its.0 ++ e ∷ its.1.0) event) after_begin)) in
     let kept = kept_promise front.count (record {
+      wish = wish;
+      film = stored.film;
+      identity = played.identity;
+      x = stream_of wish stored course played;
       wished = is.wished;
       timed = played.whole.sending.can_play.playback_is.some_picture_units;
       film_is = film_in wish stored course played;

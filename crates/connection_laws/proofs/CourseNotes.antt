@@ -9,33 +9,23 @@ use Rattle.session.specs.declared.states.Awaited.TheVariants.{Nothing, Play, Hal
 use Rattle.session.specs.declared.states.AfterHalt.{AfterHalt}
 use Rattle.session.specs.declared.states.State.{State}
 use Rattle.session.specs.declared.states.State.TheVariants.{Init, Ready, Playing, Stopping}
-use Rattle.session.specs.SlotSteps.{due_state, is_between, kept_of, sent_reply, after_slot, stepped_in}
+use Rattle.session.specs.SlotSteps.{due_state, is_between, kept_of, after_slot, stepped_in}
 use Rattle.session.specs.SessionStates.{SessionState, open_in, OpenBooking, open_of}
 use Rattle.session.specs.SlotTransitions.{IsCarried, after_stop}
 use Rattle.conn.specs.InputSteps.{Outcome, Unasked}
 use Rattle.conn.specs.declared.reports.ConnReport.{ConnReport}
 use Rattle.conn.specs.Agreement.{Activity, HasDone}
 use Rattle.connection_laws.specs.Notes.{StationCall, notes_of_calls, notes_of, station_call}
-use Rattle.connection_laws.proofs.PlayNotes.{Carries, IsKept, carries_as, carries_none, carries_then, halt_turn}
-use Rattle.connection_laws.proofs.PlayNotes.{halted_open, heard_on, no_halt_note, no_note, notes_until, open_note}
-use Rattle.connection_laws.proofs.PlayNotes.{unasked_turn}
+use Rattle.connection_laws.proofs.PlayNotes.{HaveSameNotes, note_part, Carries, IsKept, carries_to, carries_none}
+use Rattle.connection_laws.proofs.PlayNotes.{carries_then, halt_turn, halted_open, heard_on, no_halt_note, no_note}
+use Rattle.connection_laws.proofs.PlayNotes.{notes_until, open_note, unasked_turn}
 use Rattle.connection_laws.proofs.StationAnswers.{FinishesAs, NothingLeft, DoneHalted, ClosesAs, NothingOpen}
 use Rattle.connection_laws.proofs.StationAnswers.{BookingHalted, closes_as}
 use Rattle.connection_laws.proofs.CourseTurns.{IsKeptByDoings, doings_kept, last_rest, all_calls}
 use Rattle.connection_laws.proofs.KeptParts.{slot_keeps}
 
 abbrev CarriesOf : SessionState → List StationCall → SessionState → Type 0
-CarriesOf old turns new = Carries old.plays old.state turns new.plays new.state
-
--- the same notes and the same play under way
-record IsSame (old new : SessionState) : Type 0 where
-  plays : new.plays ≡ old.plays
-  open-same : (later : List StationCall) → open_note new.state later ≡ open_note old.state later
-
-to_same : (old mid new : SessionState) (turns : List StationCall) → IsSame mid new → CarriesOf old turns mid
-    → CarriesOf old turns new
-to_same old mid new turns same on =
-    carries_as refl (λ later. refl) same.plays same.open-same on
+CarriesOf old turns new = Carries (note_part old) turns (note_part new)
 
 -- ---- slots
 stepped_open : (stop : Bool) (slot : ℕ) (state : State) (later : List StationCall)
@@ -59,7 +49,7 @@ settled_open : (state : State) (later : List StationCall) → open_note (after_s
 settled_open Init later = refl
 settled_open _ later = refl
 
-slotted_same : (old : SessionState) (slot : ℕ) → IsSame old (after_slot old slot)
+slotted_same : (old : SessionState) (slot : ℕ) → HaveSameNotes (note_part (after_slot old slot)) (note_part old)
 slotted_same old slot = record {
   plays = slot_keeps {part = λ (s : SessionState). s.plays} (record {
     reply = λ s. refl;
@@ -67,7 +57,7 @@ slotted_same old slot = record {
     done = λ s. refl;
     idle = λ s n. refl;
   }) old slot;
-  open-same = λ later. slot_keeps {part = λ (s : SessionState). open_note s.state later} (record {
+  under_way = λ later. slot_keeps {part = λ (s : SessionState). open_note s.state later} (record {
     reply = λ s. settled_open s.state later;
     due = λ s n. due_open s.waits n s.state later;
     done = λ s. refl;
@@ -84,7 +74,7 @@ finished_turn : {s new : SessionState} {awaited : Awaited} {halt : Outcome} → 
     → s.awaited ≡ awaited → CarriesOf s (station_call s halt ∷ []) new
 finished_turn {s} (NothingLeft is) asks =
     let C : SessionState → Type 0 = λ n. CarriesOf s (station_call s Unasked ∷ []) n in
-    subst C (sym is) (unasked_turn s.plays s.state s)
+    subst C (sym is) (unasked_turn (note_part s) s)
 finished_turn {s} {new} (DoneHalted {keep = keep} {next = next} {placed = placed} halt) asks =
     halt_turn {s = s} (record { keep = keep; placed = placed; new = new; halted = halt }) s
     (kept_halt s.state s.awaited keep next asks) (no_halt_note s.state asks placed)
@@ -120,7 +110,7 @@ shut : {last closed : SessionState} {held : Option OpenBooking} {halt : Outcome}
 shut {last} (NothingOpen is) opens rest =
     let C : SessionState → Type 0 = λ s. IsShut last s Unasked in
     subst C (sym is) (record {
-      on = unasked_turn last.plays last.state last;
+      on = unasked_turn (note_part last) last;
       none = λ later. none_open last.state later opens;
     })
 shut {last} {closed} (BookingHalted {booking = booking} {placed = placed} halted) opens rest = record {
@@ -135,19 +125,19 @@ shut {last} {closed} (BookingHalted {booking = booking} {placed = placed} halted
 -- ---- all notes
 carries_kept : IsKeptByDoings CarriesOf
 carries_kept = record {
-  none = λ s. carries_none s.plays s.state;
+  none = λ s. carries_none (note_part s);
   joins = λ a b c xs ys one two. carries_then one two;
   request = λ old new message outcome heard. heard_on old new message outcome heard;
-  reply = λ s. to_same s s (sent_reply s) []
-      (record { plays = refl; open-same = λ later. settled_open s.state later }) (carries_none s.plays s.state);
-  slot = λ s n. to_same s s (after_slot s n) [] (slotted_same s n) (carries_none s.plays s.state);
+  reply = λ s. carries_to (record { plays = refl; under_way = λ later. settled_open s.state later })
+      (carries_none (note_part s));
+  slot = λ s n. carries_to (slotted_same s n) (carries_none (note_part s));
   finish = λ awaited halt s new finishing asks. finished_turn finishing asks;
-  bytes = λ s. unasked_turn s.plays s.state s;
-  failed = λ old new slot front failed. to_same old.session old.session new.session [] (record {
+  bytes = λ s. unasked_turn (note_part s) s;
+  failed = λ old new slot front failed. carries_to (record {
     plays = failed.plays;
-    open-same = carried_open old.session.state new.session.state failed.carried;
-  }) (carries_none old.session.plays old.session.state);
-  lost = λ s. carries_none s.plays s.state;
+    under_way = carried_open old.session.state new.session.state failed.carried;
+  }) (carries_none (note_part old.session));
+  lost = λ s. carries_none (note_part s);
   close = λ held halt last closed closing opens rest. (shut closing opens rest).on;
 }
 

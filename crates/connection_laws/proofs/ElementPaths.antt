@@ -397,9 +397,10 @@ turns_same {old} {turn} {again} given twice =
     open twice use {films, taken, also, alike}
 
 -- these elements lead from a stage to one at which nothing more can be processed
-pub record PathDone (old : Stage) (xs : List Element) (one : Stage) : Type 0 where
-  pub goes : GoesAll old xs one
-  pub done : IsDrained one
+pub record PathDone (old : Stage) (xs : List Element) : Type 0 where
+  pub last : Stage
+  pub goes : GoesAll old xs last
+  pub done : IsDrained last
 
 -- two paths that go on with the same answers, and that run out of memory alike
 pub record PathsAlike (xs ys : List Element) (ones others : List Outcome) (heard also : List HeardRequest) : Type 0
@@ -428,35 +429,43 @@ overs_same {old} {n = n} {m = m} is also =
     element_once old.input m n (over_element old.input m also.over) (over_element old.input n is.over) in
     also.new_is ∙ ap (λ k. stage old.session (drop k old.input)) size ∙ sym is.new_is
 
-pub ends_same : {one other : Stage} {ones others : List Outcome} {heard also : List HeardRequest} {old : Stage}
-    (xs ys : List Element) → AreFilms old.session.films → PathDone old xs one → PathDone old ys other →
-    PathsAlike xs ys ones others heard also →
-    SameEnds (path_end one (elements_bytes xs) ones heard) (path_end other (elements_bytes ys) others also)
-ends_same {one} {other} [] [] films way other_way alike =
+pub ends_same : {ones others : List Outcome} {heard also : List HeardRequest} {old : Stage} (xs ys : List Element)
+    → AreFilms old.session.films → (way : PathDone old xs) (other_way : PathDone old ys)
+    → PathsAlike xs ys ones others heard also
+    → SameEnds (path_end way.last (elements_bytes xs) ones heard) (path_end other_way.last (elements_bytes ys) others also)
+ends_same [] [] films way other_way alike =
     record { last = other_way.goes ∙ sym way.goes; bytes = refl; answers = alike.answers; memory = alike.memory }
-ends_same {one} {other} {old} [] (y ∷ ys) films way other_way alike =
+ends_same {old} [] (y ∷ ys) films way other_way alike =
     absurd (done_goes old other_way.goes.0 y (subst IsDrained way.goes way.done) other_way.goes.1.0)
-ends_same {one} {other} {old} (x ∷ xs) [] films way other_way alike =
+ends_same {old} (x ∷ xs) [] films way other_way alike =
     absurd (done_goes old way.goes.0 x (subst IsDrained other_way.goes other_way.done) way.goes.1.0)
-ends_same {one} {other} {old} (Over n ∷ xs) (Over m ∷ ys) films way other_way alike =
-    ends_same xs ys (passing_films goes.1.0 films) (record { goes = goes.1.1; done = done })
-    (record { goes = subst (λ s. GoesAll s ys other) (overs_same goes.1.0 too.1.0) too.1.1; done = stops })
+ends_same {old} (Over n ∷ xs) (Over m ∷ ys) films way other_way alike =
+    ends_same xs ys (passing_films goes.1.0 films) (record { last = way.last; goes = goes.1.1; done = done })
+    (record {
+      last = other_way.last;
+      goes = subst (λ s. GoesAll s ys other_way.last) (overs_same goes.1.0 too.1.0) too.1.1;
+      done = stops;
+    })
     (record { answers = alike.answers; memory = alike.memory })
   where
     open way use {goes, done}
     open other_way use {goes as too, done as stops}
 ends_same {old = old} (Over n ∷ xs) (RequestElement turn ∷ ys) films way other_way alike =
     absurd (over_no_request old.input n way.goes.1.0.over other_way.goes.1.0.next.first.0)
-ends_same {one} {other} {old} (RequestElement turn ∷ xs) (Over m ∷ ys) films way other_way alike =
+ends_same {old} (RequestElement turn ∷ xs) (Over m ∷ ys) films way other_way alike =
     absurd (over_no_request old.input m other_way.goes.1.0.over way.goes.1.0.next.first.0)
-ends_same {other = other} {ones} {others} {old = old} (RequestElement turn ∷ xs) (RequestElement again ∷ ys) films way
+ends_same {ones} {others} {old = old} (RequestElement turn ∷ xs) (RequestElement again ∷ ys) films way
     other_way alike =
     let both = turns_same {old = old} {turn = turn} {again = again}
     (record { ones = elements_answers xs ++ ones; others = elements_answers ys ++ others; same = answers_from alike })
     (record { one = goes.0; other = too.0; films = films; taken = goes.1.0; also = too.1.0; alike = alike.memory.0 }) in
     let kept : AreFilms goes.0.session.films = subst AreFilms (sym (taken_films old goes.0 turn goes.1.0)) films in
-    let rest = ends_same xs ys kept (record { goes = goes.1.1; done = done })
-    (record { goes = subst (λ s. GoesAll s ys other) both.0 too.1.1; done = stops })
+    let rest = ends_same xs ys kept (record { last = way.last; goes = goes.1.1; done = done })
+    (record {
+      last = other_way.last;
+      goes = subst (λ s. GoesAll s ys other_way.last) both.0 too.1.1;
+      done = stops;
+    })
     (record { answers = both.2; memory = alike.memory.1 }) in
     record {
       last = rest.last;

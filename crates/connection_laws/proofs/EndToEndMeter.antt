@@ -267,62 +267,60 @@ later_text film place parts same placed rest at =
     let T : List PlacedText → Type 0 = λ l. IsFromTo place (place + length (film_bytes parts)) l in
     let its = subst T at (texts_within place parts) in omega (arith, its.0, same)
 
-fed_by : {wish : Wish} {stored : Stored} {course : Course} (played : HasPlayedWhole wish stored course)
-    (first later : List Round) (j : ℕ) → course.rounds ≡ first ++ later →
-    greatest_slot first ≡ played.play.start + j →
-    IsFed wish stored.film (stream_of wish stored course played) (rounds_bytes first) j
-unfolding stream_of
-fed_by {wish} {stored} {course} played first later j split slot =
-    let begin = first_stage course.films course.settings course.words in
-    let play = played.play in
-    let x = stream_of wish stored course played in
-    let is = film_in wish stored course played in
-    let G : (rs : List Round) → IsCourseBetween begin rs course.last → Type 0 =
-    λ rs f. plays_of (askings_of begin rs course.last f) ≡ play ∷ [] in
-    let H : List Round → Type 0 = λ rs. (f : IsCourseBetween begin rs course.last) × G rs f in
-    let there : H (first ++ later) = subst H split (course.follows, played.plays) in
-    let sent = sent_through course later (record { place = j; slot_is = slot }) there.0 there.1 played.whole.keep in
-    let between = sent_between played.whole is refl sent slot in
-    let one = rounds_parts first in
-    let two = rounds_parts later in
-    let film = length (rounds_film first) in
-    let size : length (film_bytes one) ≡ film = ap (λ (l : List ℕ). length l) sent.parts in
-    let bytes : length (rounds_bytes first) ≡ film + texts_length (placed_texts 0 one) =
-    ap (λ (l : List ℕ). length l) (rounds_sent first)
-    ∙ (parts_length 0 one ∙ ap (λ n. n + texts_length (placed_texts 0 one)) size) in
-    let texts = split_texts course first later split played.texts in
-    let F : ℕ → Type 0 = λ n. IsFromTo 0 n (placed_texts 0 one) in
-    let same : 0 + length (film_bytes one) ≡ film = omega (arith, size) in
-    let within : IsFromTo 0 film (placed_texts 0 one) = subst F same (texts_within 0 one) in
-    let counted = counted_by (record {
-      setup = played.setup;
-      played = played.played;
-      some_setup = played.setup_is.starts.0;
-      some_played = played.played_is.starts.0;
-    }) (placed_texts 0 one) texts within (later_text film (0 + length (film_bytes one)) two same)
-    (record { after = played.after; few = between.few }) in
-    let C : ℕ → Type 0 = λ n. IsCounted (length x.first) (length x.second) film (length (framed_bytes x.blocks)) n in
-    let here = subst C (sym bytes) counted in
-    let P : ℕ → Type 0 = λ n. IsBetween wish (film_sizes stored.film) (picture_time stored.film.rate) j n in
-    record { between = λ much. subst P (sym (here.is much)) between.between }
+module _ {wish : Wish} {stored : Stored} {course : Course} (played : HasPlayedWhole wish stored course) where
+  fed_by : (first later : List Round) (j : ℕ) → course.rounds ≡ first ++ later
+      → greatest_slot first ≡ played.play.start + j → IsFed wish stored.film (stream_of wish stored course played)
+      (rounds_bytes first) j
+  unfolding stream_of
+  fed_by first later j split slot =
+      let begin = first_stage course.films course.settings course.words in
+      let play = played.play in
+      let x = stream_of wish stored course played in
+      let is = film_in wish stored course played in
+      let G : (rs : List Round) → IsCourseBetween begin rs course.last → Type 0 =
+      λ rs f. plays_of (askings_of begin rs course.last f) ≡ play ∷ [] in
+      let H : List Round → Type 0 = λ rs. (f : IsCourseBetween begin rs course.last) × G rs f in
+      let there : H (first ++ later) = subst H split (course.follows, played.plays) in
+      let sent = sent_through course later (record { place = j; slot_is = slot }) there.0 there.1 played.whole.keep in
+      let between = sent_between played.whole is refl sent slot in
+      let one = rounds_parts first in
+      let two = rounds_parts later in
+      let film = length (rounds_film first) in
+      let size : length (film_bytes one) ≡ film = ap (λ (l : List ℕ). length l) sent.parts in
+      let bytes : length (rounds_bytes first) ≡ film + texts_length (placed_texts 0 one) =
+      ap (λ (l : List ℕ). length l) (rounds_sent first)
+      ∙ (parts_length 0 one ∙ ap (λ n. n + texts_length (placed_texts 0 one)) size) in
+      let texts = split_texts course first later split played.texts in
+      let F : ℕ → Type 0 = λ n. IsFromTo 0 n (placed_texts 0 one) in
+      let same : 0 + length (film_bytes one) ≡ film = omega (arith, size) in
+      let within : IsFromTo 0 film (placed_texts 0 one) = subst F same (texts_within 0 one) in
+      let counted = counted_by (record {
+        setup = played.setup;
+        played = played.played;
+        some_setup = played.setup_is.starts.0;
+        some_played = played.played_is.starts.0;
+      }) (placed_texts 0 one) texts within (later_text film (0 + length (film_bytes one)) two same)
+      (record { after = played.after; few = between.few }) in
+      let C : ℕ → Type 0 = λ n. IsCounted (length x.first) (length x.second) film (length (framed_bytes x.blocks)) n in
+      let here = subst C (sym bytes) counted in
+      let P : ℕ → Type 0 = λ n. IsBetween wish (film_sizes stored.film) (picture_time stored.film.rate) j n in
+      record { between = λ much. subst P (sym (here.is much)) between.between }
 
-pub fed : {wish : Wish} {stored : Stored} {course : Course} {bytes : List ℕ} {j : ℕ}
-    (played : HasPlayedWhole wish stored course)
-    → IsWrittenBy (rounds_doings course.rounds) (played.play.start + j) bytes
-    → IsFed wish stored.film (stream_of wish stored course played) bytes j
-fed {wish} {stored} {course} {bytes} {j} played written =
-    let begin = first_stage course.films course.settings course.words in
-    let whole = whole_rounds course.rounds written.front written.rest written.parts written.whole in
-    let E : List Round → Type 0 = λ rs. AreEvents rs in
-    let events =
-    events_front whole.first whole.later
-    (subst E whole.parts (events_are begin course.last course.rounds course.follows)) in
-    let slot : greatest_slot whole.first ≡ played.play.start + j =
-    sym (rounds_latest whole.first) ∙ (ap latest_slot (sym whole.front_is) ∙ written.slot_is) in
-    let are : rounds_bytes whole.first ≡ bytes =
-    sym (written.bytes_are ∙ (ap sent_bytes whole.front_is ∙ rounds_sent_are whole.first events)) in
-    let F : List ℕ → Type 0 = λ b. IsFed wish stored.film (stream_of wish stored course played) b j in
-    subst F are (fed_by played whole.first whole.later j whole.parts slot)
+  pub fed : {bytes : List ℕ} {j : ℕ} → IsWrittenBy (rounds_doings course.rounds) (played.play.start + j) bytes
+      → IsFed wish stored.film (stream_of wish stored course played) bytes j
+  fed {bytes} {j} written =
+      let begin = first_stage course.films course.settings course.words in
+      let whole = whole_rounds course.rounds written.front written.rest written.parts written.whole in
+      let E : List Round → Type 0 = λ rs. AreEvents rs in
+      let events =
+      events_front whole.first whole.later
+      (subst E whole.parts (events_are begin course.last course.rounds course.follows)) in
+      let slot : greatest_slot whole.first ≡ played.play.start + j =
+      sym (rounds_latest whole.first) ∙ (ap latest_slot (sym whole.front_is) ∙ written.slot_is) in
+      let are : rounds_bytes whole.first ≡ bytes =
+      sym (written.bytes_are ∙ (ap sent_bytes whole.front_is ∙ rounds_sent_are whole.first events)) in
+      let F : List ℕ → Type 0 = λ b. IsFed wish stored.film (stream_of wish stored course played) b j in
+      subst F are (fed_by whole.first whole.later j whole.parts slot)
 
 -- ---- all that was sent is a prefix of the stream
 

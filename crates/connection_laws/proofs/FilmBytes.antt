@@ -1,9 +1,9 @@
 -- What a connection writes of films, event by event, is what is due of its plays.
+use Rattle.std.proofs.lemmas.List.{append_assoc, append-nil}
 use Rattle.std.proofs.Common.{◌≡◌, ℕ, ◌^◌, ◌<◌, ◌≤◌, ◌++◌, ◌&&◌, ◌==◌, if◌then◌else◌, Bool, true, false, nat_lt, nat_le}
 use Rattle.std.proofs.Common.{List, [], ◌∷◌, take, refl, ap, sym, ◌∙◌, subst, arith}
 use Rattle.conn.proofs.PlayProgress.{reply_state, reply_heard}
 use Rattle.std.proofs.lemmas.Bool.{eqb-true, ltb-true, true≢false, and_parts}
-use Rattle.std.proofs.lemmas.List.{append-nil}
 use Rattle.vod_base.specs.Links.{IoEvent}
 use Rattle.pacer.specs.PacerStates.{PacerState, is_done}
 use Rattle.plan_cert.specs.PlanSlots.{total_bytes}
@@ -29,7 +29,7 @@ use Rattle.connection_laws.specs.Plays.{StationRequest, Asks, plays_admitted, pl
 use Rattle.connection_laws.specs.Plays.{plays_of}
 use Rattle.connection_laws.proofs.JoinedFilms.{IsFilm, IsOnTime, IsRest, IsSound, film_in, film_over, play_with}
 use Rattle.connection_laws.proofs.Slots.{reply_on, same_on, slot_goes, state_after, waits_after}
-use Rattle.connection_laws.proofs.FilmSteps.{GoesOn, sound_waits, still_rest, then_on, turn_goes}
+use Rattle.connection_laws.proofs.FilmSteps.{GoesOn, sound_waits, still_rest, turn_goes}
 use Rattle.connection_laws.proofs.RequestEffects.{Ends, Going, Idle, IsAfter, Starts, Stays, TurnsAs, sends_in}
 use Rattle.connection_laws.proofs.RequestEffects.{turns_as}
 use Rattle.connection_laws.proofs.StationAnswers.{FinishesAs, NothingLeft, DoneHalted, nothing_left, ComesAs, BytesCame}
@@ -54,11 +54,24 @@ pub stands_by : (old new : SessionState) (made : List StationRequest) (bytes : L
     Stands new
 stands_by old new made bytes step = record { rest = step.rest; sound = step.on.sound }
 
+on_then : (a b c : SessionState) {made more : List StationRequest} {film bytes : List ℕ} → On a b made film
+    → On b c more bytes → On a c (made ++ more) (film ++ bytes)
+on_then a b c {made} {more} {film} {bytes} one two = record {
+  sound = two.sound;
+  later = omega (arith, one.later, two.later);
+  rest = λ askings end tail on is.
+      let there = one.rest (more ++ askings) end (bytes ++ tail) (omega (arith, two.later, on))
+      (two.rest askings end tail on is) in
+      subst (λ all. IsRest (sends_in a.state) all end ((film ++ bytes) ++ tail)) (sym (append_assoc made more askings))
+      (subst (λ bs. IsRest (sends_in a.state) (made ++ (more ++ askings)) end bs) (sym (append_assoc film bytes tail))
+      there);
+}
+
 pub step_then : {a b c : SessionState} {made more : List StationRequest} {film bytes : List ℕ} → Step a b made film
     → Step b c more bytes → Step a c (made ++ more) (film ++ bytes)
-step_then {a} {c} {made} {more} one two = record {
+step_then {a} {b} {c} one two = record {
   rest = two.rest;
-  on = then_on one.on two.on;
+  on = on_then a b c one.on two.on;
 }
 
 pub step_none : (session : SessionState) → Stands session → Step session session [] []
@@ -121,26 +134,6 @@ taken_stands old new (Answered message outcome parts) takes stands =
 pub done_kept : (p : PacerState) → is_done p ≡ true → p.sent ≡ p.keep
 done_kept p done = eqb-true p.sent p.keep (and_parts (nat_lt 0 p.passed) (p.sent == p.keep) done).1
 
--- a play that is done is halted, and keeps what was sent of it
-record DoneHalt (p : PacerState) (asked : Awaited) (number keep : ℕ) (placed : PlacedEntry) : Type 0 where
-  sent : keep ≡ p.sent
-  command : placed.entry.command ≡ HaltCommand number keep
-  asks : asked ≡ Halt keep Done
-
-done_rest : {p : PacerState} {slot : ℕ} {asked : Awaited} {number keep end : ℕ} {placed : PlacedEntry} (askings : List
-    StationRequest)
-    (more : List ℕ) → IsOnTime p slot → DoneHalt p asked number keep placed → slot ≤ end →
-    IsFilm end (plays_of askings) more → IsRest (Going p) (Asks asked (Entered placed) ∷ askings) end more
-done_rest {p} {slot} {asked} {number} {keep} {end} {placed} askings more on halt later is =
-    let kept : kept_with (Entered placed) (kept_in askings (total_bytes p.plan)) ≡ keep =
-    ap (λ c. kept_by c (kept_in askings (total_bytes p.plan))) halt.command in
-    let none : plays_begun asked (Entered placed) askings ≡ [] =
-    ap (λ a. plays_admitted a placed.entry.answer askings) halt.asks in
-    subst (λ k. IsFilm end (play_with p k ∷ (plays_begun asked (Entered placed) askings ++ plays_of askings))
-    (take p.sent (film_in p) ++ more)) (sym kept)
-    (subst (λ ps. IsFilm end (play_with p keep ∷ (ps ++ plays_of askings)) (take p.sent (film_in p) ++ more)) (sym none)
-    (film_over (plays_of askings) more on (sym halt.sent) later is))
-
 -- a session's play is done, and its halt, which keeps what was sent, is asked for
 pub record DonePlay (s : SessionState) (keep : ℕ) : Type 0 where
   pub setup : Setup
@@ -150,6 +143,38 @@ pub record DonePlay (s : SessionState) (keep : ℕ) : Type 0 where
   pub done : is_done play.pacer ≡ true
   pub sent : keep ≡ play.pacer.sent
   pub asks : s.awaited ≡ Halt keep Done
+
+-- a play that is done is halted, and keeps what was sent of it
+pub record DoneHalt (p : PacerState) (asked : Awaited) (placed : PlacedEntry) : Type 0 where
+  pub number : ℕ
+  pub keep : ℕ
+  pub sent : keep ≡ p.sent
+  pub command : placed.entry.command ≡ HaltCommand number keep
+  pub asks : asked ≡ Halt keep Done
+
+-- the halt is the one that the done play asks for
+pub done_halt : {s new : SessionState} {keep : ℕ} {placed : PlacedEntry} (finished : DonePlay s keep)
+    → IsHaltAnswered s keep placed new → DoneHalt finished.play.pacer s.awaited placed
+done_halt {keep = keep} finished halted = record {
+  number = halted.number;
+  keep = keep;
+  sent = finished.sent;
+  command = halted.command;
+  asks = finished.asks;
+}
+
+done_rest : {p : PacerState} {slot : ℕ} {asked : Awaited} {end : ℕ} {placed : PlacedEntry}
+    (askings : List StationRequest) (more : List ℕ) → IsOnTime p slot → DoneHalt p asked placed → slot ≤ end →
+    IsFilm end (plays_of askings) more → IsRest (Going p) (Asks asked (Entered placed) ∷ askings) end more
+done_rest {p} {asked = asked} {end} {placed} askings more on halt later is =
+    let kept : kept_with (Entered placed) (kept_in askings (total_bytes p.plan)) ≡ halt.keep =
+    ap (λ c. kept_by c (kept_in askings (total_bytes p.plan))) halt.command in
+    let none : plays_begun asked (Entered placed) askings ≡ [] =
+    ap (λ a. plays_admitted a placed.entry.answer askings) halt.asks in
+    subst (λ k. IsFilm end (play_with p k ∷ (plays_begun asked (Entered placed) askings ++ plays_of askings))
+    (take p.sent (film_in p) ++ more)) (sym kept)
+    (subst (λ ps. IsFilm end (play_with p halt.keep ∷ (ps ++ plays_of askings)) (take p.sent (film_in p) ++ more)) (sym none)
+    (film_over (plays_of askings) more on (sym halt.sent) later is))
 
 pub halted_idle : {s : SessionState} {keep : ℕ} → DonePlay s keep → sends_in (halted_in s.state s.awaited) ≡ Idle
 halted_idle {s} finished =
@@ -199,8 +224,7 @@ done_step {s} {new} {placed = placed} finished halted =
     let goes : GoesOn (Going p) Idle s.heard s.heard new.waits (Asks s.awaited (Entered placed) ∷ []) [] = record {
       sound = tt;
       later = omega arith;
-      rest = λ askings end more later film. done_rest {placed = placed} askings more on
-          (record { sent = sent; command = halted.command; asks = asks }) later film;
+      rest = λ askings end more later film. done_rest askings more on (done_halt finished halted) later film;
     } in
     record {
       rest = ap (λ (n : SessionState). n.awaited) halted.halts;
@@ -212,7 +236,7 @@ done_step {s} {new} {placed = placed} finished halted =
           (sym heard) goes));
     }
   where
-    open finished use {play, state_is, on, sent, asks}
+    open finished use {play, state_is, on}
 
 -- nothing is asked
 same_step : (s new : SessionState) → Stands s → new ≡ s → Step s new (Asks s.awaited Unasked ∷ []) []
@@ -252,10 +276,10 @@ reply_awaited false s = refl
 pub then_asked : {a b c : SessionState} {asked : Awaited} {outcome : Outcome} {bytes : List ℕ} → On a b [] bytes
     → Step b c (Asks asked outcome ∷ []) []
     → Step a c (Asks asked outcome ∷ []) bytes
-then_asked {a} {c} {asked} {outcome} {bytes} one two = record {
+then_asked {a} {b} {c} {asked} {outcome} {bytes} one two = record {
   rest = two.rest;
   on = subst (λ bs. On a c (Asks asked outcome ∷ []) bs) (append-nil bytes)
-      (then_on one two.on);
+      (on_then a b c one two.on);
 }
 
 pub sent_on : (old : SessionState) (slot : ℕ) → Stands old → is_sending old.state ≡ true → old.heard < slot

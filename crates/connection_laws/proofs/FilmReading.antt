@@ -111,62 +111,62 @@ pub record IsTimed (film : Film) (x : Stream) (h : History) : Type 0 where
   pub time_is : 0 < frames h → time h ≡ picture_time film.rate
   pub units_are : 0 < frames h → units h ≡ units_until (begun_sum x).end_ms (picture_time film.rate)
 
-pub timed : {film : Film} {identity : Identity} {x : Stream} {h : History} (k : ℕ) → IsFilmIn film identity x
-    → HasGoneOn h
-    → sum_of h ≡ steps (begun_sum x) (events_of_elements (take k x.blocks)) → IsTimed film x h
-timed {film} {identity} {x} {h} k is gone sum_is =
-    let t = steps (begun_sum x) (events_of_elements (take k x.blocks)) in
-    let first : first_frame h ≡ t.first = ap (λ (s : Sum). s.first) sum_is in
-    let count : frames h ≡ t.frames = ap (λ (s : Sum). s.frames) sum_is in
-    let end : end_ms h ≡ (begun_sum x).end_ms =
-    ap (λ (s : Sum). s.end_ms) sum_is
-    ∙ (blocks_same (take k x.blocks) (begun_sum x) (blocks_one_take k x.blocks x.blocks_are)).end_ms in
-    let B : List ℕ → Type 0 = λ f. begins_film (drop 20 f) ≡ true in
-    let frame_time : 0 < frames h → time_in (first_frame h) ≡ picture_time film.rate = λ some.
-    ap time_in first ∙ time_by k film.units.items refl is (omega (arith, count, some))
-    (subst B first (first_good h gone some)) in
-    record {
-      time_is = λ some. cond-false (frames h == 0) 0 (time_in (first_frame h))
-          (ne_eqb (frames h) 0 (λ none. omega (arith, some, none))) ∙ frame_time some;
-      units_are = λ some.
-          cond-false (frames h == 0) 0 (units_until (end_ms h) (time_in (first_frame h)))
-          (ne_eqb (frames h) 0 (λ none. omega (arith, some, none)))
-          ∙ (ap (λ e. units_until e (time_in (first_frame h))) end
-          ∙ ap (units_until (begun_sum x).end_ms) (frame_time some));
-    }
-
--- ---- a reading
-
-pub heard_of : {film : Film} {identity : Identity} {x : Stream} {c : ℕ} {at : WatchStage} → IsFilmIn film identity x
-    → HasGoneOn at.history → IsReadingOf x c at
-    → units_until (begun_sum x).end_ms (picture_time film.rate) ≡ length (film_sizes film)
-    → IsFilmHeard (film_sizes film) (picture_time film.rate) at.history (cut_bytes at.rest)
-    × (bytes_received at.history + cut_bytes at.rest ≡ min (film_place x c) (length (framed_bytes x.blocks)))
-heard_of {film} {identity} {x} {c} {at} is gone reading count =
-    let d = film_place x c in
-    let k = count_ended d x.blocks in
-    let t = steps (begun_sum x) (events_of_elements (take k x.blocks)) in
-    let its = come film identity x d is in
-    let all = film_sizes film in
-    let are : sizes at.history ≡ take its.count all = ap (λ (s : Sum). s.sizes) reading.sum ∙ its.sizes_are in
-    let many : length (sizes at.history) ≡ its.count =
-    ap (λ (l : List ℕ). length l) are ∙ length-take-le its.count all its.among in
-    let bytes = ap (λ (s : Sum). s.received) reading.sum
-    ∙ blocks_received (take k x.blocks) (begun_sum x) (blocks_one_take k x.blocks x.blocks_are) refl in
-    let came : bytes_received at.history + cut_bytes at.rest ≡ min d (length (framed_bytes x.blocks)) =
-    omega (arith, bytes, reading.cut) in
-    let its_time = timed k is gone reading.sum in (
+module _ {film : Film} {identity : Identity} {x : Stream} where
+  pub timed : {h : History} (k : ℕ) → IsFilmIn film identity x → HasGoneOn h → sum_of h ≡ steps (begun_sum x)
+      (events_of_elements (take k x.blocks)) → IsTimed film x h
+  timed {h} k is gone sum_is =
+      let t = steps (begun_sum x) (events_of_elements (take k x.blocks)) in
+      let first : first_frame h ≡ t.first = ap (λ (s : Sum). s.first) sum_is in
+      let count : frames h ≡ t.frames = ap (λ (s : Sum). s.frames) sum_is in
+      let end : end_ms h ≡ (begun_sum x).end_ms =
+      ap (λ (s : Sum). s.end_ms) sum_is
+      ∙ (blocks_same (take k x.blocks) (begun_sum x) (blocks_one_take k x.blocks x.blocks_are)).end_ms in
+      let B : List ℕ → Type 0 = λ f. begins_film (drop 20 f) ≡ true in
+      let frame_time : 0 < frames h → time_in (first_frame h) ≡ picture_time film.rate = λ some.
+      ap time_in first ∙ time_by k film.units.items refl is (omega (arith, count, some))
+      (subst B first (first_good h gone some)) in
       record {
-        sizes_are = are ∙ ap (λ n. take n all) (sym many);
-        among = omega (arith, many, its.among);
-        time_is = its_time.time_is;
-        units_are = λ some. its_time.units_are some ∙ count;
-        next = λ fewer.
-            let less : d < sum (take (its.count + 1) all) = its.next (omega (arith, fewer, many)) in
-            omega (arith, came, less, ap (λ n. sum (take (n + 1) all)) many);
-      },
-      came,
-    )
+        time_is = λ some. cond-false (frames h == 0) 0 (time_in (first_frame h))
+            (ne_eqb (frames h) 0 (λ none. omega (arith, some, none))) ∙ frame_time some;
+        units_are = λ some.
+            cond-false (frames h == 0) 0 (units_until (end_ms h) (time_in (first_frame h)))
+            (ne_eqb (frames h) 0 (λ none. omega (arith, some, none)))
+            ∙ (ap (λ e. units_until e (time_in (first_frame h))) end
+            ∙ ap (units_until (begun_sum x).end_ms) (frame_time some));
+      }
+
+  -- ---- a reading
+
+  pub heard_of : {c : ℕ} {at : WatchStage} → IsFilmIn film identity x → HasGoneOn at.history → IsReadingOf x c at
+      → units_until (begun_sum x).end_ms (picture_time film.rate) ≡ length (film_sizes film)
+      → IsFilmHeard (film_sizes film)
+      (picture_time film.rate) at.history (cut_bytes at.rest)
+      × (bytes_received at.history + cut_bytes at.rest ≡ min (film_place x c) (length (framed_bytes x.blocks)))
+  heard_of {c} {at} is gone reading count =
+      let d = film_place x c in
+      let k = count_ended d x.blocks in
+      let t = steps (begun_sum x) (events_of_elements (take k x.blocks)) in
+      let its = come film identity x d is in
+      let all = film_sizes film in
+      let are : sizes at.history ≡ take its.count all = ap (λ (s : Sum). s.sizes) reading.sum ∙ its.sizes_are in
+      let many : length (sizes at.history) ≡ its.count =
+      ap (λ (l : List ℕ). length l) are ∙ length-take-le its.count all its.among in
+      let bytes = ap (λ (s : Sum). s.received) reading.sum
+      ∙ blocks_received (take k x.blocks) (begun_sum x) (blocks_one_take k x.blocks x.blocks_are) refl in
+      let came : bytes_received at.history + cut_bytes at.rest ≡ min d (length (framed_bytes x.blocks)) =
+      omega (arith, bytes, reading.cut) in
+      let its_time = timed k is gone reading.sum in (
+        record {
+          sizes_are = are ∙ ap (λ n. take n all) (sym many);
+          among = omega (arith, many, its.among);
+          time_is = its_time.time_is;
+          units_are = λ some. its_time.units_are some ∙ count;
+          next = λ fewer.
+              let less : d < sum (take (its.count + 1) all) = its.next (omega (arith, fewer, many)) in
+              omega (arith, came, less, ap (λ n. sum (take (n + 1) all)) many);
+        },
+        came,
+      )
 
 -- ---- all of it
 
@@ -189,51 +189,51 @@ pub record IsWholeOf (film : Film) (x : Stream) (h : History) : Type 0 where
   pub sizes_are : sizes h ≡ film_sizes film
   pub count : units_until (begun_sum x).end_ms (picture_time film.rate) ≡ length (film_sizes film)
 
-pub whole_of : {film : Film} {identity : Identity} {x : Stream} {h : History} → IsFilmIn film identity x → HasGoneOn h
-    → sum_of h ≡ steps (begun_sum x) (events_of_elements x.blocks) → is_complete h ≡ true → IsWholeOf film x h
-whole_of {film} {identity} {x} {h} is gone sum_is complete =
-    let all = film_sizes film in
-    let total = length (framed_bytes x.blocks) in
-    let k = count_ended total x.blocks in
-    let front : take k x.blocks ≡ x.blocks =
-    take_all k x.blocks (omega (arith, count_whole x.blocks total (omega arith))) in
-    let its = come film identity x total is in
-    let sum_here : sum_of h ≡ steps (begun_sum x) (events_of_elements (take k x.blocks)) =
-    sum_is ∙ ap (λ l. steps (begun_sum x) (events_of_elements l)) (sym front) in
-    let every : its.count ≡ length all = elim (cases_lt its.count (length all)) [
-      | inl fewer ↦ absurd (omega (arith, its.next fewer, blocks_sum film identity x is, sum_most all (its.count + 1)))
-      | inr more ↦ omega (arith, more, its.among)
-    ] in
-    let are : sizes h ≡ all =
-    ap (λ (s : Sum). s.sizes) sum_here ∙ (its.sizes_are ∙ take_all its.count all (omega (arith, every))) in
-    let some : 0 < frames h =
-    ltb-true 0 (frames h) (and_parts (nat_lt 0 (frames h)) (length (sizes h) == units h) complete).0 in
-    let same : length (sizes h) ≡ units h =
-    eqb-true (length (sizes h)) (units h) (and_parts (nat_lt 0 (frames h)) (length (sizes h) == units h) complete).1 in
-    let its_time = timed k is gone sum_here in
-    record { sizes_are = are; count = sym (its_time.units_are some) ∙ (sym same ∙ ap (λ (l : List ℕ). length l) are) }
+module _ {film : Film} {identity : Identity} {x : Stream} where
+  pub whole_of : {h : History} → IsFilmIn film identity x → HasGoneOn h → sum_of h ≡ steps (begun_sum x)
+      (events_of_elements x.blocks) → is_complete h ≡ true → IsWholeOf film x h
+  whole_of {h} is gone sum_is complete =
+      let all = film_sizes film in
+      let total = length (framed_bytes x.blocks) in
+      let k = count_ended total x.blocks in
+      let front : take k x.blocks ≡ x.blocks =
+      take_all k x.blocks (omega (arith, count_whole x.blocks total (omega arith))) in
+      let its = come film identity x total is in
+      let sum_here : sum_of h ≡ steps (begun_sum x) (events_of_elements (take k x.blocks)) =
+      sum_is ∙ ap (λ l. steps (begun_sum x) (events_of_elements l)) (sym front) in
+      let every : its.count ≡ length all = elim (cases_lt its.count (length all)) [
+        | inl fewer ↦ absurd (omega (arith, its.next fewer, blocks_sum film identity x is, sum_most all (its.count + 1)))
+        | inr more ↦ omega (arith, more, its.among)
+      ] in
+      let are : sizes h ≡ all =
+      ap (λ (s : Sum). s.sizes) sum_here ∙ (its.sizes_are ∙ take_all its.count all (omega (arith, every))) in
+      let some : 0 < frames h =
+      ltb-true 0 (frames h) (and_parts (nat_lt 0 (frames h)) (length (sizes h) == units h) complete).0 in
+      let same : length (sizes h) ≡ units h =
+      eqb-true (length (sizes h)) (units h) (and_parts (nat_lt 0 (frames h)) (length (sizes h) == units h) complete).1 in
+      let its_time = timed k is gone sum_here in
+      record { sizes_are = are; count = sym (its_time.units_are some) ∙ (sym same ∙ ap (λ (l : List ℕ). length l) are) }
 
-pub film_comes_back : {film : Film} {identity : Identity} {x : Stream} {first last : PictureUnit} (h : History)
-    → IsFilmIn film identity x
-    → sum_of h ≡ steps (begun_sum x) (events_of_elements x.blocks) → slice_get film.units.items 0 ≡ Some first
-    → slice_get film.units.items (length film.units.items - 1) ≡ Some last
-    → payloads h ≡ take (last.to - first.from) (drop first.from film.bytes.items)
-film_comes_back {film} {identity} {x} {first} {last} h is sum_is at_first at_last =
-    let run = film_run film identity in
-    let starts = film.slice_starts.items in
-    let items = film.units.items in
-    let bs = blocks_from run 0 0 (pieces_of starts items) in
-    let units : FirstAndLast film 0 (length items) first last = record {
-      order = film-some film.bytes.items film.rate items film.slice_starts.items film.grammar;
-      first_at = at_first;
-      last_at = at_last;
-    } in
-    ap (λ (s : Sum). s.payloads) sum_is
-    ∙ (steps_payloads (begun_sum x) (events_of_elements x.blocks)
-    ∙ (ap (λ l. payloads_of (events_of_elements l)) is.blocks
-    ∙ (payloads-are (events_of_elements bs)
-    ∙ (ap joined (units_told (record { run = run; frames = 0; octets = 0; media = is.media; control = is.control })
-    starts items)
-    ∙ (ap (λ us. joined (frames_among (pieces_of starts us) (blocks_from run 0 0 (pieces_of starts us))))
-    (sym (units_all film))
-    ∙ comes-back identity units)))))
+  pub film_comes_back : {first last : PictureUnit} (h : History) → IsFilmIn film identity x
+      → sum_of h ≡ steps (begun_sum x) (events_of_elements x.blocks) → slice_get film.units.items 0 ≡ Some first
+      → slice_get film.units.items (length film.units.items - 1) ≡ Some last → payloads h ≡ take (last.to - first.from)
+      (drop first.from film.bytes.items)
+  film_comes_back {first} {last} h is sum_is at_first at_last =
+      let run = film_run film identity in
+      let starts = film.slice_starts.items in
+      let items = film.units.items in
+      let bs = blocks_from run 0 0 (pieces_of starts items) in
+      let units : FirstAndLast film 0 (length items) first last = record {
+        order = film-some film.bytes.items film.rate items film.slice_starts.items film.grammar;
+        first_at = at_first;
+        last_at = at_last;
+      } in
+      ap (λ (s : Sum). s.payloads) sum_is
+      ∙ (steps_payloads (begun_sum x) (events_of_elements x.blocks)
+      ∙ (ap (λ l. payloads_of (events_of_elements l)) is.blocks
+      ∙ (payloads-are (events_of_elements bs)
+      ∙ (ap joined (units_told (record { run = run; frames = 0; octets = 0; media = is.media; control = is.control })
+      starts items)
+      ∙ (ap (λ us. joined (frames_among (pieces_of starts us) (blocks_from run 0 0 (pieces_of starts us))))
+      (sym (units_all film))
+      ∙ comes-back identity units)))))

@@ -110,70 +110,70 @@ record IsPlayAnswered (b : Beginning) (old asking new : SessionState) (start : �
   text : new.text ≡ started_text asking.text (start - asking.heard)
   whole : IsMessage new.text
 
-film_answer : {b : Beginning} {old asking new : SessionState} {start : ℕ} → IsPlayAnswered b old asking new start
-    → start ≤ 2 ^ 62 + 1 → IsFilmAnswer b new.text
-film_answer {b} {old} {asking} {new} {start} play few =
-    let stored = asked.stored in
-    let slots = start - asking.heard in
-    let fields =
-    play_fields old.id 0 (length_ms stored.film) asked.authority (string_bytes stored.name) asked.number asked.time in
-    let begun = subst (IsUnbegun b.wish b.films) asked.ready waits.unbegun in
-    let at = subst (λ films. IsFilmAt films asked.setup.film stored) waits.films_are asked.at in
-    let named : string_bytes stored.name ≡ string_bytes b.wish.name = begun.1.film stored at in
-    let G : List ℕ → Type 0 = λ name. IsPrinted name in
-    record {
-      number = asked.setup.film;
-      stored = stored;
-      at = at;
-      name_is = named;
-      answer = play_answer (record {
-        id = old.id;
-        end_ms = length_ms stored.film;
-        authority = asked.authority;
-        name = string_bytes stored.name;
-        number = asked.number;
-        time = asked.time;
-        slots = slots;
-        id_prints = id_printed play.valid;
-        end_fits = end_fits stored.film;
-        authority_prints = authority_prints asked.names.read;
-        name_prints = subst G (sym named) (name_prints (string_bytes b.wish.name) b.wished.name);
-        number_fits = omega (arith, asked.number_fits);
-        time_fits = omega (arith, asked.time_fits);
-        some = omega (arith, play.later);
-        few = omega (arith, few);
-      }) play.whole (play.text ∙ started_reply fields slots asked.text);
-    }
-  where
-    open play use {waits, asked}
+module _ {b : Beginning} {old new : SessionState} where
+  film_answer : {asking : SessionState} {start : ℕ} → IsPlayAnswered b old asking new start → start ≤ 2 ^ 62 + 1
+      → IsFilmAnswer b new.text
+  film_answer {asking} {start} play few =
+      let stored = asked.stored in
+      let slots = start - asking.heard in
+      let fields =
+      play_fields old.id 0 (length_ms stored.film) asked.authority (string_bytes stored.name) asked.number asked.time in
+      let begun = subst (IsUnbegun b.wish b.films) asked.ready waits.unbegun in
+      let at = subst (λ films. IsFilmAt films asked.setup.film stored) waits.films_are asked.at in
+      let named : string_bytes stored.name ≡ string_bytes b.wish.name = begun.1.film stored at in
+      let G : List ℕ → Type 0 = λ name. IsPrinted name in
+      record {
+        number = asked.setup.film;
+        stored = stored;
+        at = at;
+        name_is = named;
+        answer = play_answer (record {
+          id = old.id;
+          end_ms = length_ms stored.film;
+          authority = asked.authority;
+          name = string_bytes stored.name;
+          number = asked.number;
+          time = asked.time;
+          slots = slots;
+          id_prints = id_printed play.valid;
+          end_fits = end_fits stored.film;
+          authority_prints = authority_prints asked.names.read;
+          name_prints = subst G (sym named) (name_prints (string_bytes b.wish.name) b.wished.name);
+          number_fits = omega (arith, asked.number_fits);
+          time_fits = omega (arith, asked.time_fits);
+          some = omega (arith, play.later);
+          few = omega (arith, few);
+        }) play.whole (play.text ∙ started_reply fields slots asked.text);
+      }
+    where
+      open play use {waits, asked}
 
-pub play_begun : {b : Beginning} {old new : SessionState} {message : List ℕ} {outcome : Outcome}
-    → IsWaiting b old → HasValidIds old → (heard : HasHeard old message outcome new)
-    → message ≡ play_text b.wish b.session → (begins : Begins old heard.asking.awaited outcome new)
-    → IsMessage new.text → IsPlayBegun b begins.start old new
-play_begun {b} {old} {new} {outcome = outcome} waits valid heard is begins whole =
-    let asking = heard.asking in
-    let asked = play_asked b old heard.ask asking begins.prepared waits begins.asked_is is heard.hears in
-    let place = begins.placed.place in
-    let admitted = admitted_from begins.answer (answers_as heard.ask (Entered begins.placed)
-    (subst (λ o. IsAskAnswered asking heard.ask o new) begins.outcome_is heard.answered)) in
-    let state : setup_in new.state ≡ Some asked.setup =
-    ap (λ (s : SessionState). setup_in s.state) admitted.new_is
-    ∙ ap₂ (λ s a. setup_in (admitted_in s a place begins.start)) (asked.state ∙ asked.ready) begins.asked_is in
-    let same : IsSameSetup old new = record {
-      names = answered_names asking heard.ask outcome new heard.answered ∙ asked.same;
-      setup = state ∙ sym (ap setup_in asked.ready);
-    } in
-    let play : IsPlayAnswered b old asking new begins.start = record {
-      waits = waits;
-      valid = valid;
-      asked = asked;
-      later = admitted.later;
-      text = ap (λ (s : SessionState). s.text) admitted.new_is;
-      whole = whole;
-    } in
-    record {
-      ready = ap has_session_in asked.ready;
-      own = named_still same (asked_named asked);
-      answer = λ few. film_answer play few;
-    }
+  pub play_begun : {message : List ℕ} {outcome : Outcome} → IsWaiting b old → HasValidIds old
+      → (heard : HasHeard old message outcome new) → message ≡ play_text b.wish b.session
+      → (begins : Begins old heard.asking.awaited outcome new) → IsMessage new.text → IsPlayBegun b begins.start old new
+  play_begun {outcome = outcome} waits valid heard is begins whole =
+      let asking = heard.asking in
+      let asked = play_asked b old heard.ask asking begins.prepared waits begins.asked_is is heard.hears in
+      let place = begins.placed.place in
+      let admitted = admitted_from begins.answer (answers_as heard.ask (Entered begins.placed)
+      (subst (λ o. IsAskAnswered asking heard.ask o new) begins.outcome_is heard.answered)) in
+      let state : setup_in new.state ≡ Some asked.setup =
+      ap (λ (s : SessionState). setup_in s.state) admitted.new_is
+      ∙ ap₂ (λ s a. setup_in (admitted_in s a place begins.start)) (asked.state ∙ asked.ready) begins.asked_is in
+      let same : IsSameSetup old new = record {
+        names = answered_names asking heard.ask outcome new heard.answered ∙ asked.same;
+        setup = state ∙ sym (ap setup_in asked.ready);
+      } in
+      let play : IsPlayAnswered b old asking new begins.start = record {
+        waits = waits;
+        valid = valid;
+        asked = asked;
+        later = admitted.later;
+        text = ap (λ (s : SessionState). s.text) admitted.new_is;
+        whole = whole;
+      } in
+      record {
+        ready = ap has_session_in asked.ready;
+        own = named_still same (asked_named asked);
+        answer = λ few. film_answer play few;
+      }

@@ -1,7 +1,6 @@
 -- What each doing of a connection makes of what is sent of films.
 use Rattle.std.proofs.Common.{◌≡◌, ℕ, ◌+◌, ◌<◌, ◌≤◌, ◌++◌, Bool, true, List, [], ◌∷◌, length, take, refl, ap, sym, ◌∙◌}
 use Rattle.std.proofs.Common.{subst, arith}
-use Rattle.std.proofs.lemmas.List.{append_assoc}
 use Rattle.film_frames.specs.FramedRuns.{run_pieces}
 use Rattle.film_frames.specs.Tracks.{IsBoundary, framed_bytes}
 use Rattle.pacer.specs.Boundaries.{boundary_from}
@@ -29,19 +28,6 @@ pub record GoesOn (old new : Sends) (from to : ℕ) (waits : Bool) (made : List 
     pub later : from ≤ to
     pub rest : (askings : List StationRequest) (end : ℕ) (more : List ℕ) → to ≤ end → IsRest new askings end more
         → IsRest old (made ++ askings) end (bytes ++ more)
-
-pub then_on : {a b c : Sends} {x y z : ℕ} {waits last : Bool} {made more : List StationRequest} {film bytes : List ℕ}
-    → GoesOn a b x y waits made film
-    → GoesOn b c y z last more bytes → GoesOn a c x z last (made ++ more) (film ++ bytes)
-then_on {a} {c} {waits} {last} {made} {more} {film} {bytes} one two = record {
-  sound = two.sound;
-  later = omega (arith, one.later, two.later);
-  rest = λ askings end tail on is.
-      let there : IsRest a (made ++ (more ++ askings)) end (film ++ (bytes ++ tail)) =
-      one.rest (more ++ askings) end (bytes ++ tail) (omega (arith, two.later, on)) (two.rest askings end tail on is) in
-      subst (λ all. IsRest a all end ((film ++ bytes) ++ tail)) (sym (append_assoc made more askings))
-      (subst (λ bs. IsRest a (made ++ (more ++ askings)) end bs) (sym (append_assoc film bytes tail)) there);
-}
 
 -- a request that neither begins nor halts a play
 pub still_rest : {asked : Awaited} {outcome : Outcome} (sends : Sends) (askings : List StationRequest) (end : ℕ)

@@ -102,65 +102,65 @@ pub record IsLed (run : FramedRun) (starts : List ℕ) (unit : PictureUnit) (f :
   pub are : unit_packets starts unit ≡ packet ∷ packets
   pub first_is : first ≡ frame_block run unit packet f
 
-pub first_frame_is : {starts : List ℕ} {unit : PictureUnit} (from : RunFrom) (k : ℕ) (units : List PictureUnit)
-    (s : Sum) → s.frames ≡ 0 →
-    let t : Sum =
-    steps s (events_of_elements
-    (take k (blocks_from from.run from.frames from.octets (pieces_of starts (unit ∷ units))))) in 0 < t.frames →
-    IsLed from.run starts unit from.frames t.first
-first_frame_is {starts} {unit} from k units s none some =
-    let there = packets_there starts unit in
-    let rest = blocks_from run (frames_after f (unit_pieces starts unit))
-    (octets_after o (unit_pieces starts unit)) (pieces_of starts units) in
-    let front = report_if unit.starts_group run unit f o in
-    let frames_rest = frame_blocks run unit (f + 1) there.packets in
-    let all : blocks_from run f o (pieces_of starts (unit ∷ units))
-    ≡ front ++ (frame_block run unit there.packet f ∷ (frames_rest ++ rest)) =
-    more_blocks run f o starts unit units
-    ∙ (ap (λ ps. (front ++ frame_blocks run unit f ps) ++ rest) there.are
-    ∙ append_assoc front (frame_block run unit there.packet f ∷ frames_rest) rest) in
-    let are : AreOneBlocks (frames_rest ++ rest) =
-    blocks_one_append frames_rest rest (frames_one run (f + 1) unit there.packets media)
-    (blocks_one (record {
-      run = run;
-      frames = frames_after f (unit_pieces starts unit);
-      octets = octets_after o (unit_pieces starts unit);
-      media = media;
-      control = control;
-    }) starts units) in
-    let P : List (List ℕ) → Type 0 =
-    λ bs. 0 < (steps s (events_of_elements (take k bs))).frames
-    → (steps s (events_of_elements (take k bs))).first ≡ frame_block run unit there.packet f in
-    record {
-      packet = there.packet;
-      packets = there.packets;
-      are = there.are;
-      first_is = (subst P (sym all) (λ more. lead unit.starts_group from k
-          (record { unit = unit; packet = there.packet; rest = frames_rest ++ rest; are_blocks = are })
-          (record { sum = s; none = none }) more)) some;
-    }
-  where
-    open from use {run, frames as f, octets as o, media, control}
+module _ {starts : List ℕ} {unit : PictureUnit} where
+  pub first_frame_is : (from : RunFrom) (k : ℕ) (units : List PictureUnit) (s : Sum) → s.frames ≡ 0
+      → let t : Sum = steps s
+      (events_of_elements (take k (blocks_from from.run from.frames from.octets (pieces_of starts (unit ∷ units))))) in
+      0 < t.frames
+      → IsLed from.run starts unit from.frames t.first
+  first_frame_is from k units s none some =
+      let there = packets_there starts unit in
+      let rest = blocks_from run (frames_after f (unit_pieces starts unit))
+      (octets_after o (unit_pieces starts unit)) (pieces_of starts units) in
+      let front = report_if unit.starts_group run unit f o in
+      let frames_rest = frame_blocks run unit (f + 1) there.packets in
+      let all : blocks_from run f o (pieces_of starts (unit ∷ units))
+      ≡ front ++ (frame_block run unit there.packet f ∷ (frames_rest ++ rest)) =
+      more_blocks run f o starts unit units
+      ∙ (ap (λ ps. (front ++ frame_blocks run unit f ps) ++ rest) there.are
+      ∙ append_assoc front (frame_block run unit there.packet f ∷ frames_rest) rest) in
+      let are : AreOneBlocks (frames_rest ++ rest) =
+      blocks_one_append frames_rest rest (frames_one run (f + 1) unit there.packets media)
+      (blocks_one (record {
+        run = run;
+        frames = frames_after f (unit_pieces starts unit);
+        octets = octets_after o (unit_pieces starts unit);
+        media = media;
+        control = control;
+      }) starts units) in
+      let P : List (List ℕ) → Type 0 =
+      λ bs. 0 < (steps s (events_of_elements (take k bs))).frames
+      → (steps s (events_of_elements (take k bs))).first ≡ frame_block run unit there.packet f in
+      record {
+        packet = there.packet;
+        packets = there.packets;
+        are = there.are;
+        first_is = (subst P (sym all) (λ more. lead unit.starts_group from k
+            (record { unit = unit; packet = there.packet; rest = frames_rest ++ rest; are_blocks = are })
+            (record { sum = s; none = none }) more)) some;
+      }
+    where
+      open from use {run, frames as f, octets as o, media, control}
 
--- ---- the time of a picture
+  -- ---- the time of a picture
 
--- a first frame that begins a film gives its rate
-pub frame_time_is : {run : FramedRun} {starts : List ℕ} {unit : PictureUnit} {f rate : ℕ} {first : List ℕ}
-    → IsLaid starts unit → IsLed run starts unit f first
-    → BeginsSequence run.film rate unit.from → begins_film (drop 20 first) ≡ true → time_in first ≡ picture_time rate
-frame_time_is {run} {starts} {unit} {first} laid led begins good =
-    let p = led.packet in
-    let its : List ℕ = payload run.film p in
-    let Q : List ℕ → Type 0 = λ b. begins_film (drop 20 b) ≡ true in
-    let all : begins_film its ≡ true = subst Q led.first_is good in
-    let long : 12 ≤ length its =
-    leb-true 12 (length its) (and_parts (nat_le 12 (length its)) _ (and_parts _ _ (and_parts _ _ all).0).0).0 in
-    let count : length its ≡ min (p.to - p.from) (length (drop p.from run.film)) =
-    length-take (p.to - p.from) (drop p.from run.film) in
-    let many : 7 < p.to - p.from = omega (arith, long, count) in
-    let P : List Packet → Type 0 = λ ps. DoCover unit.from ps unit.to in
-    let cover = subst P led.are (packets-cover starts unit laid) in
-    let byte : get_or its 7 0 ≡ get_or run.film (unit.from + 7) 0 =
-    get_or-take (p.to - p.from) (drop p.from run.film) 7 0 many
-    ∙ (get_or-drop p.from run.film 7 0 ∙ ap (λ n. get_or run.film (n + 7) 0) cover.0) in
-    ap time_in led.first_is ∙ ap picture_time (ap (λ n. n % 16) byte ∙ begins.rate_is)
+  -- a first frame that begins a film gives its rate
+  pub frame_time_is : {run : FramedRun} {f rate : ℕ} {first : List ℕ} → IsLaid starts unit
+      → IsLed run starts unit f first → BeginsSequence run.film rate unit.from → begins_film (drop 20 first) ≡ true
+      → time_in first ≡ picture_time rate
+  frame_time_is {run} {first} laid led begins good =
+      let p = led.packet in
+      let its : List ℕ = payload run.film p in
+      let Q : List ℕ → Type 0 = λ b. begins_film (drop 20 b) ≡ true in
+      let all : begins_film its ≡ true = subst Q led.first_is good in
+      let long : 12 ≤ length its =
+      leb-true 12 (length its) (and_parts (nat_le 12 (length its)) _ (and_parts _ _ (and_parts _ _ all).0).0).0 in
+      let count : length its ≡ min (p.to - p.from) (length (drop p.from run.film)) =
+      length-take (p.to - p.from) (drop p.from run.film) in
+      let many : 7 < p.to - p.from = omega (arith, long, count) in
+      let P : List Packet → Type 0 = λ ps. DoCover unit.from ps unit.to in
+      let cover = subst P led.are (packets-cover starts unit laid) in
+      let byte : get_or its 7 0 ≡ get_or run.film (unit.from + 7) 0 =
+      get_or-take (p.to - p.from) (drop p.from run.film) 7 0 many
+      ∙ (get_or-drop p.from run.film 7 0 ∙ ap (λ n. get_or run.film (n + 7) 0) cover.0) in
+      ap time_in led.first_is ∙ ap picture_time (ap (λ n. n % 16) byte ∙ begins.rate_is)

@@ -164,77 +164,81 @@ record EventTaken (cur mid : Stage) (event : IoEvent) : Type 0 where
   goes : GoesAll opened elements mid
 
 -- bytes came
-bytes_split : {base cur mid new : Stage} {bytes : List ℕ} {all : Exchange} (front : FrontTaken base cur)
-    (taken : EventTaken cur mid (HeardBytes bytes)) → Later mid new all
-    → Split base new (joined (front_exchange front) (joined (elements_exchange bytes taken.elements) all))
-bytes_split {base} {cur} {mid} {new} {bytes} {all} front taken later =
-    let ps : List Element = taken.elements in
-    let before : GoesAll (longer base (first ++ bytes)) elements taken.opened =
-    subst (λ s. GoesAll s elements taken.opened)
-    (ap (λ input. stage base.session input) (append_assoc base.input first bytes))
-    (subst (GoesAll (longer (longer base first) bytes) elements) (sym taken.comes.3)
-    (goes_grow (longer base first) cur elements bytes goes)) in
-    let whole : GoesAll (longer base (first ++ bytes)) (elements ++ ps) mid =
-    join_goes (longer base (first ++ bytes)) (record {
-      old = taken.opened;
-      new = mid;
-      elements = ps;
-      leads = taken.goes;
-    }) elements before in
-    subst (Split base new)
-    (ap (λ x. joined x all) (elements_join first bytes elements ps)
-    ∙ joined_assoc (elements_exchange first elements) (elements_exchange bytes ps) all)
-    (later.each base (first ++ bytes) (elements ++ ps) whole)
-  where
-    open front use {bytes as first, elements, goes}
+module _ {base cur mid new : Stage} {all : Exchange} where
+  bytes_split : {bytes : List ℕ} (front : FrontTaken base cur) (taken : EventTaken cur mid (HeardBytes bytes))
+      → Later mid new all
+      → Split base new (joined (front_exchange front) (joined (elements_exchange bytes taken.elements) all))
+  bytes_split {bytes} front taken later =
+      let ps : List Element = taken.elements in
+      let before : GoesAll (longer base (first ++ bytes)) elements taken.opened =
+      subst (λ s. GoesAll s elements taken.opened)
+      (ap (λ input. stage base.session input) (append_assoc base.input first bytes))
+      (subst (GoesAll (longer (longer base first) bytes) elements) (sym taken.comes.3)
+      (goes_grow (longer base first) cur elements bytes goes)) in
+      let whole : GoesAll (longer base (first ++ bytes)) (elements ++ ps) mid =
+      join_goes (longer base (first ++ bytes)) (record {
+        old = taken.opened;
+        new = mid;
+        elements = ps;
+        leads = taken.goes;
+      }) elements before in
+      subst (Split base new)
+      (ap (λ x. joined x all) (elements_join first bytes elements ps)
+      ∙ joined_assoc (elements_exchange first elements) (elements_exchange bytes ps) all)
+      (later.each base (first ++ bytes) (elements ++ ps) whole)
+    where
+      open front use {bytes as first, elements, goes}
 
--- a slot came
-slot_split : {base cur mid new : Stage} {slot : ℕ} {all : Exchange} (front : FrontTaken base cur)
-    (taken : EventTaken cur mid (HeardSlot slot)) → IsDrained cur → Later mid new all
-    → Split base new (joined (front_exchange front) (joined (event_exchange (HeardSlot slot) taken.due taken.halt)
-    (joined (elements_exchange [] taken.elements) all)))
-slot_split {cur = cur} {mid} {slot = slot} front taken done later =
-    let there : GoesAll (longer opened []) taken.elements mid =
-    subst (λ s. GoesAll s taken.elements mid) (ap (λ i. stage opened.session i) (sym (append-nil opened.input)))
-    taken.goes in
-    let rest = later.each opened [] taken.elements there in
-    let leg : Leg = record {
-      slot = slot;
-      due = due;
-      halt = halt;
-      opened = opened;
-      bytes = rest.first;
-      elements = rest.elements;
-      until = rest.until;
-    } in
-    record {
-      first = front.bytes;
-      elements = front.elements;
-      until = cur;
-      legs = leg ∷ rest.legs;
-      goes = front.goes;
-      done = done;
-      legs_are = (
-        record { stepped = taken.comes.1; input = taken.comes.0; goes = rest.goes; done = rest.done },
-        rest.legs_are,
-      );
-      all_is =
-          ap (λ x. joined (front_exchange front) (joined (event_exchange (HeardSlot slot) due halt) x)) rest.all_is;
-    }
-  where
-    open taken use {opened, due, halt}
+  -- a slot came
+  slot_split : {slot : ℕ} (front : FrontTaken base cur) (taken : EventTaken cur mid (HeardSlot slot)) → IsDrained cur
+      → Later mid new all
+      → Split base new
+      (joined (front_exchange front)
+      (joined (event_exchange (HeardSlot slot) taken.due taken.halt)
+      (joined (elements_exchange [] taken.elements) all)))
+  slot_split {slot = slot} front taken done later =
+      let there : GoesAll (longer opened []) taken.elements mid =
+      subst (λ s. GoesAll s taken.elements mid) (ap (λ i. stage opened.session i) (sym (append-nil opened.input)))
+      taken.goes in
+      let rest = later.each opened [] taken.elements there in
+      let leg : Leg = record {
+        slot = slot;
+        due = due;
+        halt = halt;
+        opened = opened;
+        bytes = rest.first;
+        elements = rest.elements;
+        until = rest.until;
+      } in
+      record {
+        first = front.bytes;
+        elements = front.elements;
+        until = cur;
+        legs = leg ∷ rest.legs;
+        goes = front.goes;
+        done = done;
+        legs_are = (
+          record { stepped = taken.comes.1; input = taken.comes.0; goes = rest.goes; done = rest.done },
+          rest.legs_are,
+        );
+        all_is =
+            ap (λ x. joined (front_exchange front) (joined (event_exchange (HeardSlot slot) due halt) x)) rest.all_is;
+      }
+    where
+      open taken use {opened, due, halt}
 
-event_split : {base cur mid new : Stage} {event : IoEvent} {all : Exchange} (front : FrontTaken base cur)
-    (taken : EventTaken cur mid event) → IsDrained cur → Later mid new all
-    → Split base new (joined (front_exchange front) (joined (event_exchange event taken.due taken.halt)
-    (joined (elements_exchange [] taken.elements) all)))
-event_split {base} {new = new} {event = HeardBytes bytes} {all} front taken done later =
-    let S : List SentPart → Outcome → Type 0 = λ ps o. Split base new (joined (front_exchange front)
-    (joined (event_exchange (HeardBytes bytes) ps o) (joined (elements_exchange [] taken.elements) all))) in
-    subst (λ ps. S ps taken.halt) (sym taken.comes.0)
-    (subst (S []) (sym taken.comes.1) (bytes_split front taken later))
-event_split {event = HeardSlot slot} front taken done later = slot_split front taken done later
-event_split front taken done later = absurd taken.comes
+  event_split : {event : IoEvent} (front : FrontTaken base cur) (taken : EventTaken cur mid event) → IsDrained cur
+      → Later mid new all
+      → Split base new
+      (joined (front_exchange front)
+      (joined (event_exchange event taken.due taken.halt) (joined (elements_exchange [] taken.elements) all)))
+  event_split {event = HeardBytes bytes} front taken done later =
+      let S : List SentPart → Outcome → Type 0 = λ ps o. Split base new (joined (front_exchange front)
+      (joined (event_exchange (HeardBytes bytes) ps o) (joined (elements_exchange [] taken.elements) all))) in
+      subst (λ ps. S ps taken.halt) (sym taken.comes.0)
+      (subst (S []) (sym taken.comes.1) (bytes_split front taken later))
+  event_split {event = HeardSlot slot} front taken done later = slot_split front taken done later
+  event_split front taken done later = absurd taken.comes
 
 -- event after event
 abbrev rounds_exchange : (cur : Stage) (rounds : List Round) (new : Stage) → TakesUp cur rounds new → Exchange
@@ -377,8 +381,12 @@ legs_same {one} {other} {xs = x ∷ xs} {ys = y ∷ ys} old films legs too alike
     let kept : AreFilms x.opened.session.films =
     subst AreFilms (sym (ap (λ (n : List Stored × List ℕ). n.0)
     (stepped_names old.session x.slot x.due x.halt x.opened.session leg.stepped))) films in
-    let ends = ends_same x.elements y.elements kept (record { goes = leg.goes; done = leg.done })
-    (record { goes = subst (λ s. GoesAll s y.elements y.until) place again.goes; done = again.done })
+    let ends = ends_same x.elements y.elements kept (record { last = x.until; goes = leg.goes; done = leg.done })
+    (record {
+      last = y.until;
+      goes = subst (λ s. GoesAll s y.elements y.until) place again.goes;
+      done = again.done;
+    })
     (record { answers = step.2; memory = memory }) in
     let there : AreFilms x.until.session.films =
     subst AreFilms (sym (goes_films (longer x.opened x.bytes) x.until x.elements leg.goes)) kept in
@@ -410,8 +418,12 @@ splits_same {base} {other = other} {a} {b} films x y alike =
     (joined (elements_exchange y.first y.elements) (legs_exchange y.legs)) =
     subst (ExchangesAlike (joined (elements_exchange x.first x.elements) (legs_exchange x.legs))) y.all_is
     (subst (λ e. ExchangesAlike e b) x.all_is alike) in
-    let ends = ends_same x.elements y.elements films (record { goes = x.goes; done = x.done })
-    (record { goes = subst (λ bs. GoesAll (longer base bs) y.elements y.until) (sym cut.0) y.goes; done = y.done })
+    let ends = ends_same x.elements y.elements films (record { last = x.until; goes = x.goes; done = x.done })
+    (record {
+      last = y.until;
+      goes = subst (λ bs. GoesAll (longer base bs) y.elements y.until) (sym cut.0) y.goes;
+      done = y.done;
+    })
     (record { answers = both.answers; memory = both.memory }) in
     let there : AreFilms x.until.session.films =
     subst AreFilms (sym (goes_films (longer base x.first) x.until x.elements x.goes)) films in

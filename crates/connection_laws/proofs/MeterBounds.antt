@@ -111,10 +111,19 @@ AreFed wish film x begin bytes rounds =
 
 -- ---- a slot
 
--- a stream's film, and as many units by its time as it has
-pub record FilmCounted (film : Film) (identity : Identity) (x : Stream) : Type 0 where
+-- a stream's film for a wish, as many units by its time as it has, and the first slot of its play
+pub record WatchedStream : Type 0 where
+  pub wish : Wish
+  pub film : Film
+  pub identity : Identity
+  pub x : Stream
+  pub begin : ℕ
   pub film_is : IsFilmIn film identity x
   pub count : units_until (begun_sum x).end_ms (picture_time film.rate) ≡ length (film_sizes film)
+
+-- what came lies between the film's curves at each reading
+abbrev pub IsMet : WatchedStream → History → Type 0
+IsMet s h = IsBetweenAlways s.wish (film_sizes s.film) (picture_time s.film.rate) h
 
 -- what was received by a stage at which nothing more can be processed is a prefix of a stream
 record HeardFront (x : Stream) (bytes : List ℕ) (at : WatchStage) : Type 0 where
@@ -127,13 +136,12 @@ record TwoReplies (at : WatchStage) (begin : ℕ) : Type 0 where
   few : replies at.history ≤ 2
   begins : (1 < replies at.history → first_slot at.history ≡ begin)
 
-slot_met : {wish : Wish} {film : Film} {identity : Identity} {x : Stream} {begin : ℕ} {bytes : List ℕ} {at : WatchStage}
-    (slot : ℕ) → FilmCounted film identity x → HeardFront x bytes at → TwoReplies at begin →
-    (begin ≤ slot → IsFed wish film x bytes (slot - begin)) → is_read at.history slot ≡ true →
-    IsFilmHeard (film_sizes film) (picture_time film.rate) at.history (cut_bytes at.rest)
-    × IsBetween wish (film_sizes film) (picture_time film.rate) (place_in at.history slot)
+slot_met : {bytes : List ℕ} {at : WatchStage} (s : WatchedStream) (slot : ℕ) → HeardFront s.x bytes at →
+    TwoReplies at s.begin → (s.begin ≤ slot → IsFed s.wish s.film s.x bytes (slot - s.begin)) → is_read at.history slot ≡ true →
+    IsFilmHeard (film_sizes s.film) (picture_time s.film.rate) at.history (cut_bytes at.rest)
+    × IsBetween s.wish (film_sizes s.film) (picture_time s.film.rate) (place_in at.history slot)
     (bytes_received at.history + cut_bytes at.rest)
-slot_met {wish} {film} {begin} {at} slot counted front two fed read =
+slot_met {at} s slot front two fed read =
     let h = at.history in
     let playing : 1 < replies h =
     ltb-true 1 (replies h)
@@ -143,13 +151,15 @@ slot_met {wish} {film} {begin} {at} slot counted front two fed read =
     (and_parts (is_playing h) (nat_le (first_slot h) slot && nat_lt (last_slot h) slot) read).1).0 in
     let first : first_slot h ≡ begin = two.begins playing in
     let reading = reading_of front.heard (tells_none at.rest (Ok More) front.idle) front.front_is playing two.few in
-    let its = heard_of counted.film_is front.heard.gone reading counted.count in
+    let its = heard_of film_is front.heard.gone reading count in
     let between = (fed (omega (arith, there, first))).between reading.past in
     let P : ℕ → ℕ → Type 0 = λ place came. IsBetween wish (film_sizes film) (picture_time film.rate) place came in (
       its.0,
       subst (λ n. P n (bytes_received h + cut_bytes at.rest)) (ap (λ n. slot - n) (sym first))
           (subst (λ n. P (slot - begin) n) (sym its.1) between),
     )
+  where
+    open s use {wish, film, begin, film_is, count}
 
 -- ---- all events
 
@@ -158,36 +168,32 @@ record RoundHeard (event : IoEvent) (old : WatchStage) (round : Round) (new : Wa
   event_is : round.event ≡ event
   runs : Runs old round new
 
-always_round : {event : IoEvent} {wish : Wish} {film : Film} {identity : Identity} {x : Stream} {begin : ℕ}
-    {bytes : List ℕ} {old new : WatchStage} {round : Round} → RoundHeard event old round new →
-    FilmCounted film identity x → HeardFront x bytes old → TwoReplies new begin →
-    ((slot : ℕ) → event ≡ HeardSlot slot → begin ≤ slot → IsFed wish film x bytes (slot - begin)) →
-    IsBetweenAlways wish (film_sizes film) (picture_time film.rate) old.history →
-    IsBetweenAlways wish (film_sizes film) (picture_time film.rate) new.history
-always_round {event = HeardBytes more} {wish} {film} {old} {new} {round} round_heard counted front two fed met =
+always_round : {event : IoEvent} {bytes : List ℕ} {old new : WatchStage} {round : Round} (s : WatchedStream)
+    → RoundHeard event old round new → HeardFront s.x bytes old → TwoReplies new s.begin
+    → ((slot : ℕ) → event ≡ HeardSlot slot → s.begin ≤ slot → IsFed s.wish s.film s.x bytes (slot - s.begin))
+    → IsMet s old.history → IsMet s new.history
+always_round {event = HeardBytes more} {old} {new} {round} s round_heard front two fed met =
     let B : IoEvent → Type 0 = λ e. Brings e old.rest round.moments new.rest in
     let brings = subst B round_heard.event_is round_heard.runs.brings in
-    let A : History → Type 0 = λ h. IsBetweenAlways wish (film_sizes film) (picture_time film.rate) h in
-    subst A (sym (round_heard.runs.history_is ∙ ap (history_after old.history) brings.1.1))
-    (always_elements wish (film_sizes film) (picture_time film.rate) old.history brings.0 met)
-always_round {event = HeardSlot slot} {wish} {film} {begin} {old} {new} {round} round_heard counted front two fed met =
+    subst (IsMet s) (sym (round_heard.runs.history_is ∙ ap (history_after old.history) brings.1.1))
+    (always_elements s.wish (film_sizes s.film) (picture_time s.film.rate) old.history brings.0 met)
+always_round {event = HeardSlot slot} {old} {new} {round} s round_heard front two fed met =
     let B : IoEvent → Type 0 = λ e. Brings e old.rest round.moments new.rest in
     let brings = subst B round_heard.event_is round_heard.runs.brings in
-    let A : History → Type 0 = λ h. IsBetweenAlways wish (film_sizes film) (picture_time film.rate) h in
     let history : new.history ≡ Slot slot (cut_bytes old.rest) ∷ old.history =
     round_heard.runs.history_is ∙ ap (history_after old.history) brings.0 in
     let same : replies new.history ≡ replies old.history = ap replies history in
-    let begins_here : 1 < replies old.history → first_slot old.history ≡ begin = λ playing.
+    let begins_here : 1 < replies old.history → first_slot old.history ≡ s.begin = λ playing.
     sym (ap first_slot history) ∙ two.begins (omega (arith, playing, same)) in
-    subst A (sym history) (
+    subst (IsMet s) (sym history) (
       met,
-      λ read. slot_met slot counted front
+      λ read. slot_met s slot front
           (record { few = omega (arith, two.few, same); begins = begins_here }) (fed slot refl) read,
     )
-always_round {event = HeardEnd} {old} {new} {round} round_heard counted front two fed met =
+always_round {event = HeardEnd} {old} {new} {round} s round_heard front two fed met =
     let B : IoEvent → Type 0 =
     λ e. Brings e old.rest round.moments new.rest in absurd (subst B round_heard.event_is round_heard.runs.brings)
-always_round {event = Sent byte} {old} {new} {round} round_heard counted front two fed met =
+always_round {event = Sent byte} {old} {new} {round} s round_heard front two fed met =
     let B : IoEvent → Type 0 =
     λ e. Brings e old.rest round.moments new.rest in absurd (subst B round_heard.event_is round_heard.runs.brings)
 
@@ -203,15 +209,12 @@ pub record RepliesKnown (new : WatchStage) (begin : ℕ) : Type 0 where
   pub few : replies new.history ≤ 2
   pub begins : first_slot new.history ≡ begin
 
-pub always_all : {wish : Wish} {film : Film} {identity : Identity} {x : Stream} {begin : ℕ} {bytes : List ℕ}
-    {old : WatchStage} {rounds : List Round} {new : WatchStage} → HeardThrough x bytes rounds old → RunsAll old rounds new →
-    FilmCounted film identity x → RepliesKnown new begin → AreFed wish film x begin bytes rounds →
-    IsBetweenAlways wish (film_sizes film) (picture_time film.rate) old.history →
-    IsBetweenAlways wish (film_sizes film) (picture_time film.rate) new.history
-always_all {wish} {film} {rounds = []} through all counted known fed met =
-    subst (λ (s : WatchStage). IsBetweenAlways wish (film_sizes film) (picture_time film.rate) s.history) (sym all) met
-always_all {wish} {film} {identity} {x} {begin} {bytes} {old} {rounds = round ∷ rounds} {new} through all counted
-    known fed met =
+pub always_all : {bytes : List ℕ} {old : WatchStage} {rounds : List Round} {new : WatchStage} (s : WatchedStream)
+    → HeardThrough s.x bytes rounds old → RunsAll old rounds new → RepliesKnown new s.begin
+    → AreFed s.wish s.film s.x s.begin bytes rounds → IsMet s old.history → IsMet s new.history
+always_all {rounds = []} s through all known fed met =
+    subst (λ (at : WatchStage). IsMet s at.history) (sym all) met
+always_all {bytes} {old} {rounds = round ∷ rounds} {new} s through all known fed met =
     let mid = all.0 in
     let later = history-later mid new rounds all.1.2 in
     let few_here : replies mid.history ≤ 2 =
@@ -224,7 +227,7 @@ always_all {wish} {film} {identity} {x} {begin} {bytes} {old} {rounds = round �
     subst F (append-nil bytes) (fed [] rounds round slot refl event after_begin) in
     let mine : bytes ≡ take (length bytes) (framed_bytes (all_of x)) =
     front_of bytes (rounds_heard (round ∷ rounds)) (framed_bytes (all_of x)) c front in
-    let now = always_round (record { event_is = refl; runs = all.1.0 }) counted
+    let now = always_round s (record { event_is = refl; runs = all.1.0 })
     (record { heard = heard; idle = idle; front_is = mine }) (record { few = few_here; begins = begins_here })
     fed_here met in
     let next : (bytes ++ bytes_in round.event) ++ rounds_heard rounds ≡ take c (framed_bytes (all_of x)) =
@@ -234,12 +237,12 @@ always_all {wish} {film} {identity} {x} {begin} {bytes} {old} {rounds = round �
     let F : List ℕ → Type 0 = λ b. IsFed wish film x b (slot - begin) in
     subst F (sym (append_assoc bytes (bytes_in round.event) (rounds_heard before)))
     (fed (round ∷ before) after_ r slot (ap (λ l. round ∷ l) split) event after_begin) in
-    always_all {wish = wish} {film = film} {identity = identity} {x = x} {begin = begin}
-    {bytes = bytes ++ bytes_in round.event} {old = mid} {rounds = rounds} (record {
+    always_all {bytes = bytes ++ bytes_in round.event} {old = mid} {rounds = rounds} s (record {
       heard = heard_round bytes old mid round heard all.1.0;
       idle = all.1.1;
       count = c;
       front = next;
-    }) all.1.2 counted known fed_next now
+    }) all.1.2 known fed_next now
   where
     open through use {heard, idle, count as c, front}
+    open s use {wish, film, x, begin}

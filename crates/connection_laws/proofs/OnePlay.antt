@@ -267,30 +267,6 @@ from_takings slot old takings new takes later = record {
   replies = takings_replies old takings new takes ++ later.replies;
 }
 
--- the reply to SETUP, after which there is a session
-setup_reply : {old new : Stage} {message : List ℕ} {outcome : Outcome} {parts : List SentPart} (b : Beginning)
-    → (replied : IsReplied old message outcome parts new) → message ≡ setup_text b.wish
-    → replied.heard.ask ≡ Reply → IsMessage replied.answered.text → HasValidIds old.session
-    → setup_in old.session.state ≡ None → has_session_in new.session.state ≡ true
-    → IsSetupRead replied.answered.text
-setup_reply {old} {new} {outcome = outcome} b replied is reply whole valid fresh ready =
-    let heard = replied.heard in
-    let same : replied.answered ≡ heard.asking =
-    reply_same heard.asking heard.ask outcome replied.answered reply heard.answered in
-    elim (setup_replied b old.session heard.ask heard.asking is heard.hears) [
-      | inl still ↦
-          let none : setup_in new.session.state ≡ None =
-          ap (λ (s : Stage). setup_in s.session.state) replied.new_is
-          ∙ ((replied_setup replied.answered).setup
-          ∙ (ap (λ (s : SessionState). setup_in s.state) same ∙ (ap setup_in still ∙ fresh))) in
-          let has : false ≡ true =
-          sym (has_setup new.session.state ∙ ap (λ (o : Option Setup). is_some o) none) ∙ ready in
-          absurd (let no : ⊥ = cc in no)
-      | inr text ↦
-          setup_read old.session.source.ssrc old.session.id whole (id_printed valid)
-          (ap (λ (s : SessionState). s.text) same ∙ text)
-    ]
-
 -- a request that is processed, and the elements that are processed after it
 record TakenFirst (old new : Stage) : Type 0 where
   mid : Stage
@@ -322,66 +298,92 @@ from_first {old} {new} slot first later =
 abbrev asked_after : {old new : Stage} → TakenFirst old new → Later → List StationRequest
 asked_after {new = new} first later = takings_askings first.mid first.takings new first.takes ++ later.askings
 
--- where all SETUPs were processed, PLAY is processed
-play_first : {b : Beginning} {out : Outlook} {slot : ℕ} {later : Later} {old new : Stage} (first : TakenFirst old new)
-    → Leads b out new.session slot later → IsAhead b out old.session slot [] (from_first slot first later)
-    → IsPlayTaken b out old.session first.message (Asks first.replied.heard.asking.awaited first.outcome)
-    (asked_after first later) × (takings_requests first.takings ++ later.requests ≡ out.last)
-play_first {b} {out} {slot} {later} {old} {new} first leads is =
-    let front = takings_requests takings in
-    let all : message ∷ (front ++ later.requests) ≡ play_text b.wish b.session ∷ out.last = is.requests_are in
-    let at : message ≡ play_text b.wish b.session = cc in
-    let rest : front ++ later.requests ≡ out.last = cc in
-    let nones : AreNoPlays (front ++ later.requests) = subst AreNoPlays (sym rest) out.last_are in
-    let stands = taken_stands old mid (Answered message outcome parts) replied is.waits.stands in
-    let last = leads.none (takes_stands mid new takings takes stands) (no_plays_rest front later.requests nones) in
-    let none = takings_none mid new takings takes later.askings (record {
-      stands = stands;
-      requests = no_plays_front front later.requests nones;
-      none = last;
-    }) in
-    (record { waits = is.waits; message_is = at; none = none; plays = is.plays }, rest)
-  where
-    open first use {mid, message, outcome, parts, replied, takings, takes}
-
-play_walk : {b : Beginning} {out : Outlook} {slot : ℕ} {later : Later} {old new : Stage} (first : TakenFirst old new)
-    → Leads b out new.session slot later → IsAhead b out old.session slot [] (from_first slot first later)
-    → IsPlayedWhole b out old.session slot 0 (from_first slot first later).slots (from_first slot first later).replies
-play_walk {b} {out} {slot} {later} {old} {new} first leads is =
-    let front = takings_requests takings in
-    let play = play_first first leads is in
+-- the reply to SETUP, after which there is a session
+setup_reply : {old new : Stage} (b : Beginning) (first : TakenFirst old new) → first.message ≡ setup_text b.wish
+    → first.replied.heard.ask ≡ Reply → IsMessage first.replied.answered.text → HasValidIds old.session
+    → setup_in old.session.state ≡ None → has_session_in first.mid.session.state ≡ true
+    → IsSetupRead first.replied.answered.text
+setup_reply {old} b first is reply whole valid fresh ready =
     let heard = replied.heard in
-    let turns = turns_as old.session message outcome replied.answered heard is.waits.stands.rest in
-    let slots = takings_slots slot takings ++ later.slots in
-    let whole = replies_whole old.session message heard.ask heard.asking is.named (play_room b play.0.message_is)
-    heard.hears in
-    let turn : PlayTurn b out = record {
-      old = old.session;
-      new = replied.answered;
-      message = message;
-      outcome = outcome;
-      later = asked_after first later;
-      heard = heard;
-      taken = play.0;
-    } in
-    let torn : AreTeardowns b (front ++ later.requests) = subst (AreTeardowns b) (sym play.1) is.teardowns in
-    let cut = teardowns_cut b front later.requests torn in
-    let mine = play_whole turn whole turns in
-    let begun = play_read turn is.named mine turns in
-    let own : IsNamed b mid.session =
-    subst (λ (s : Stage). IsNamed b s.session) (sym replied.new_is)
-    (named_still (replied_setup replied.answered) begun.own) in
-    let next = takings_torn {b = b} mid new takings takes
-    (record { named = answered_named replied is.named; own = own; teardowns = cut.0 }) in
-    let after = whole_later {b = b} later.replies next (λ named still. leads.torn named still cut.1) in
-    record {
-      one = subst (λ h. IsOnePlay b out h 0 (h ∷ slots)) is.heard (play_turn turn slots turns);
-      whole = (mine, after.0);
-      ready = begun.ready;
-      read = λ few. (begun.answer few, after.1);
-    }
+    let same : replied.answered ≡ heard.asking =
+    reply_same heard.asking heard.ask outcome replied.answered reply heard.answered in
+    elim (setup_replied b old.session heard.ask heard.asking is heard.hears) [
+      | inl still ↦
+          let none : setup_in mid.session.state ≡ None =
+          ap (λ (s : Stage). setup_in s.session.state) replied.new_is
+          ∙ ((replied_setup replied.answered).setup
+          ∙ (ap (λ (s : SessionState). setup_in s.state) same ∙ (ap setup_in still ∙ fresh))) in
+          let has : false ≡ true =
+          sym (has_setup mid.session.state ∙ ap (λ (o : Option Setup). is_some o) none) ∙ ready in
+          absurd (let no : ⊥ = cc in no)
+      | inr text ↦
+          setup_read old.session.source.ssrc old.session.id whole (id_printed valid)
+          (ap (λ (s : SessionState). s.text) same ∙ text)
+    ]
   where
-    open first use {mid, message, outcome, replied, takings, takes}
+    open first use {mid, outcome, replied}
+
+-- where all SETUPs were processed, PLAY is processed
+module _ {b : Beginning} {out : Outlook} {slot : ℕ} {later : Later} {old new : Stage} where
+  play_first : (first : TakenFirst old new) → Leads b out new.session slot later
+      → IsAhead b out old.session slot [] (from_first slot first later)
+      → IsPlayTaken b out old.session first.message (Asks first.replied.heard.asking.awaited first.outcome)
+      (asked_after first later) × (takings_requests first.takings ++ later.requests ≡ out.last)
+  play_first first leads is =
+      let front = takings_requests takings in
+      let all : message ∷ (front ++ later.requests) ≡ play_text b.wish b.session ∷ out.last = is.requests_are in
+      let at : message ≡ play_text b.wish b.session = cc in
+      let rest : front ++ later.requests ≡ out.last = cc in
+      let nones : AreNoPlays (front ++ later.requests) = subst AreNoPlays (sym rest) out.last_are in
+      let stands = taken_stands old mid (Answered message outcome parts) replied is.waits.stands in
+      let last = leads.none (takes_stands mid new takings takes stands) (no_plays_rest front later.requests nones) in
+      let none = takings_none mid new takings takes later.askings (record {
+        stands = stands;
+        requests = no_plays_front front later.requests nones;
+        none = last;
+      }) in
+      (record { waits = is.waits; message_is = at; none = none; plays = is.plays }, rest)
+    where
+      open first use {mid, message, outcome, parts, replied, takings, takes}
+
+  play_walk : (first : TakenFirst old new) → Leads b out new.session slot later
+      → IsAhead b out old.session slot [] (from_first slot first later)
+      → IsPlayedWhole b out old.session slot 0 (from_first slot first later).slots (from_first slot first later).replies
+  play_walk first leads is =
+      let front = takings_requests takings in
+      let play = play_first first leads is in
+      let heard = replied.heard in
+      let turns = turns_as old.session message outcome replied.answered heard is.waits.stands.rest in
+      let slots = takings_slots slot takings ++ later.slots in
+      let whole = replies_whole old.session message heard.ask heard.asking is.named (play_room b play.0.message_is)
+      heard.hears in
+      let turn : PlayTurn b out = record {
+        old = old.session;
+        new = replied.answered;
+        message = message;
+        outcome = outcome;
+        later = asked_after first later;
+        heard = heard;
+        taken = play.0;
+      } in
+      let torn : AreTeardowns b (front ++ later.requests) = subst (AreTeardowns b) (sym play.1) is.teardowns in
+      let cut = teardowns_cut b front later.requests torn in
+      let mine = play_whole turn whole turns in
+      let begun = play_read turn is.named mine turns in
+      let own : IsNamed b mid.session =
+      subst (λ (s : Stage). IsNamed b s.session) (sym replied.new_is)
+      (named_still (replied_setup replied.answered) begun.own) in
+      let next = takings_torn {b = b} mid new takings takes
+      (record { named = answered_named replied is.named; own = own; teardowns = cut.0 }) in
+      let after = whole_later {b = b} later.replies next (λ named still. leads.torn named still cut.1) in
+      record {
+        one = subst (λ h. IsOnePlay b out h 0 (h ∷ slots)) is.heard (play_turn turn slots turns);
+        whole = (mine, after.0);
+        ready = begun.ready;
+        read = λ few. (begun.answer few, after.1);
+      }
+    where
+      open first use {mid, message, outcome, replied, takings, takes}
 
 -- SETUP is processed before PLAY
 abbrev IsSetupFirst : Beginning → Outlook → ℕ → Later → {old new : Stage} → TakenFirst old new → Type 0
@@ -389,62 +391,59 @@ IsSetupFirst b out slot later {old} first =
     (one : List ℕ) × IsAhead b out old.session slot (one ∷ []) (from_first slot first later)
 
 -- after SETUP only PLAY is to come
-setup_first : {b : Beginning} {out : Outlook} {slot : ℕ} {old new : Stage} (later : Later) (first : TakenFirst old new)
-    (is : IsSetupFirst b out slot later first)
-    → (first.message ≡ setup_text b.wish)
-    × IsAhead b out first.mid.session slot []
-    (from_takings slot first.mid first.takings new first.takes later)
-setup_first {b} {out} {slot} {new = new} later first is =
-    let more = asked_after first later in
-    let ahead = is.1 in
-    let all : message ∷ (takings_requests takings ++ later.requests)
-    ≡ is.0 ∷ (play_text b.wish b.session ∷ out.last) = ahead.requests_are in
-    let here : message ≡ is.0 = cc in
-    let rest : takings_requests takings ++ later.requests ≡ play_text b.wish b.session ∷ out.last = cc in
-    let at : message ≡ setup_text b.wish = here ∙ ahead.setups.0 in
-    let none = no_play_begins replied ahead.waits.stands (setup_no_play b at) more in (
-      at,
-      record {
-        waits = answered_waits replied at ahead.waits;
-        named = answered_named replied ahead.named;
-        heard = ap (λ (part : LastingPart). part.heard) (taken_keeps replied) ∙ ahead.heard;
-        setups = ahead.setups.1;
-        fresh = tt;
-        requests_are = rest;
-        teardowns = ahead.teardowns;
-        plays = sym (ap (λ l. l ++ plays_of more) none) ∙ ahead.plays;
-      },
-    )
-  where
-    open first use {message, replied, takings}
+module _ {b : Beginning} {out : Outlook} {slot : ℕ} {old new : Stage} where
+  setup_first : (later : Later) (first : TakenFirst old new) (is : IsSetupFirst b out slot later first)
+      → (first.message ≡ setup_text b.wish)
+      × IsAhead b out first.mid.session slot [] (from_takings slot first.mid first.takings new first.takes later)
+  setup_first later first is =
+      let more = asked_after first later in
+      let ahead = is.1 in
+      let all : message ∷ (takings_requests takings ++ later.requests)
+      ≡ is.0 ∷ (play_text b.wish b.session ∷ out.last) = ahead.requests_are in
+      let here : message ≡ is.0 = cc in
+      let rest : takings_requests takings ++ later.requests ≡ play_text b.wish b.session ∷ out.last = cc in
+      let at : message ≡ setup_text b.wish = here ∙ ahead.setups.0 in
+      let none = no_play_begins replied ahead.waits.stands (setup_no_play b at) more in (
+        at,
+        record {
+          waits = answered_waits replied at ahead.waits;
+          named = answered_named replied ahead.named;
+          heard = ap (λ (part : LastingPart). part.heard) (taken_keeps replied) ∙ ahead.heard;
+          setups = ahead.setups.1;
+          fresh = tt;
+          requests_are = rest;
+          teardowns = ahead.teardowns;
+          plays = sym (ap (λ l. l ++ plays_of more) none) ∙ ahead.plays;
+        },
+      )
+    where
+      open first use {message, replied, takings}
 
-setup_walk : {b : Beginning} {out : Outlook} {slot : ℕ} {old new : Stage} (later : Later) (first : TakenFirst old new)
-    (is : IsSetupFirst b out slot later first)
-    → IsPlayedWhole b out first.mid.session slot 0
-    (takings_slots slot first.takings ++ later.slots)
-    (takings_replies first.mid first.takings new first.takes ++ later.replies)
-    → IsPlayedWhole b out old.session slot 1 (from_first slot first later).slots (from_first slot first later).replies
-setup_walk {b} {out} {slot} {old} later first is rec =
-    let ahead = is.1 in
-    let at = (setup_first later first is).0 in
-    let heard = replied.heard in
-    let whole = replies_whole old.session message heard.ask heard.asking ahead.named (setup_room b at) heard.hears in
-    let reply : heard.ask ≡ Reply = (setup_asked {outcome = outcome} {parts = parts} replied at ahead.waits).0 in
-    let mine = reply_whole heard reply whole in
-    let set = setup_reply b replied at reply mine ahead.named ahead.fresh rec.ready in
-    record {
-      one = record {
-        wished = rec.one.wished;
-        alone = rec.one.alone;
-        late = rec.one.late;
-        before = (rec.one.late, rec.one.before);
-      };
-      whole = (mine, rec.whole);
-      ready = tt;
-      read = λ few. (set, rec.read few);
-    }
-  where
-    open first use {message, outcome, parts, replied}
+  setup_walk : (later : Later) (first : TakenFirst old new) (is : IsSetupFirst b out slot later first)
+      → IsPlayedWhole b out first.mid.session slot 0 (takings_slots slot first.takings ++ later.slots)
+      (takings_replies first.mid first.takings new first.takes ++ later.replies)
+      → IsPlayedWhole b out old.session slot 1 (from_first slot first later).slots (from_first slot first later).replies
+  setup_walk later first is rec =
+      let ahead = is.1 in
+      let at = (setup_first later first is).0 in
+      let heard = replied.heard in
+      let whole = replies_whole old.session message heard.ask heard.asking ahead.named (setup_room b at) heard.hears in
+      let reply : heard.ask ≡ Reply = (setup_asked {outcome = outcome} {parts = parts} replied at ahead.waits).0 in
+      let mine = reply_whole heard reply whole in
+      let set = setup_reply b first at reply mine ahead.named ahead.fresh rec.ready in
+      record {
+        one = record {
+          wished = rec.one.wished;
+          alone = rec.one.alone;
+          late = rec.one.late;
+          before = (rec.one.late, rec.one.before);
+        };
+        whole = (mine, rec.whole);
+        ready = tt;
+        read = λ few. (set, rec.read few);
+      }
+    where
+      open first use {message, outcome, parts, replied}
 
 takings_walk : {b : Beginning} {out : Outlook} {slot : ℕ} {later : Later} {ahead : List (List ℕ)} (old new : Stage)
     (takings : List ElementStep) (takes : TakesAll old takings new) → Leads b out new.session slot later

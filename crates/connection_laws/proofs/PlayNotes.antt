@@ -40,14 +40,22 @@ abbrev pub notes_until : List StationCall → List StationCall → List PlayNote
 notes_until [] later = []
 notes_until (turn ∷ turns) later = notes_of_calls turn.asking turn.outcome (turns ++ later) ++ notes_until turns later
 
--- what was noted and what is under way go on through turns
-pub record Carries (plays : List PlayNote) (state : State) (turns : List StationCall) (next : List PlayNote)
-    (after : State) : Type 0 where
-  pub on : (later : List StationCall)
-      → (plays ++ open_note state (turns ++ later)) ++ notes_until turns later ≡ next ++ open_note after later
+-- what is noted, and the state
+pub record NotePart : Type 0 where
+  pub plays : List PlayNote
+  pub state : State
 
-pub carries_none : (plays : List PlayNote) (state : State) → Carries plays state [] plays state
-carries_none plays state = record { on = λ later. append-nil (plays ++ open_note state later) }
+abbrev pub note_part : SessionState → NotePart
+note_part s = record { plays = s.plays; state = s.state }
+
+-- what was noted and what is under way go on through turns
+pub record Carries (old : NotePart) (turns : List StationCall) (new : NotePart) : Type 0 where
+  pub on : (later : List StationCall)
+      → (old.plays ++ open_note old.state (turns ++ later)) ++ notes_until turns later
+      ≡ new.plays ++ open_note new.state later
+
+pub carries_none : (part : NotePart) → Carries part [] part
+carries_none part = record { on = λ later. append-nil (part.plays ++ open_note part.state later) }
 
 until_append : (ts us later : List StationCall) → notes_until (ts ++ us) later ≡ notes_until ts (us ++ later)
     ++ notes_until us later
@@ -58,27 +66,33 @@ until_append (t ∷ ts) us later =
     ∙ sym (append_assoc (notes_of_calls t.asking t.outcome (ts ++ (us ++ later))) (notes_until ts (us ++ later))
     (notes_until us later))
 
-pub carries_then : {p q r : List PlayNote} {a b c : State} {ts us : List StationCall} → Carries p a ts q b
-    → Carries q b us r c → Carries p a (ts ++ us) r c
-carries_then {p} {r} {a} {c} {ts} {us} one two = record {
+pub carries_then : {a b c : NotePart} {ts us : List StationCall} → Carries a ts b → Carries b us c
+    → Carries a (ts ++ us) c
+carries_then {a} {ts} {us} one two = record {
   on = λ later.
-      ap (λ ns. (p ++ open_note a ns) ++ notes_until (ts ++ us) later) (append_assoc ts us later)
-      ∙ ap (λ ns. (p ++ open_note a (ts ++ (us ++ later))) ++ ns) (until_append ts us later)
-      ∙ sym (append_assoc (p ++ open_note a (ts ++ (us ++ later))) (notes_until ts (us ++ later))
+      ap (λ ns. (a.plays ++ open_note a.state ns) ++ notes_until (ts ++ us) later) (append_assoc ts us later)
+      ∙ ap (λ ns. (a.plays ++ open_note a.state (ts ++ (us ++ later))) ++ ns) (until_append ts us later)
+      ∙ sym (append_assoc (a.plays ++ open_note a.state (ts ++ (us ++ later))) (notes_until ts (us ++ later))
       (notes_until us later))
       ∙ ap (λ ns. ns ++ notes_until us later) (one.on (us ++ later)) ∙ two.on later;
 }
 
 -- the same notes, and the same play under way
-pub carries_as : {p q r s : List PlayNote} {a b c d : State} {ts : List StationCall} → p ≡ q
-    → ((later : List StationCall) → open_note a later ≡ open_note b later)
-    → r ≡ s → ((later : List StationCall) → open_note c later ≡ open_note d later) → Carries q b ts s d → Carries p a ts
-    r c
-carries_as {p} {q} {r} {s} {a} {c} {ts} plays state next after on = record {
+pub record HaveSameNotes (a b : NotePart) : Type 0 where
+  pub plays : a.plays ≡ b.plays
+  pub under_way : (later : List StationCall) → open_note a.state later ≡ open_note b.state later
+
+carries_from : {a b c : NotePart} {ts : List StationCall} → HaveSameNotes a b → Carries b ts c → Carries a ts c
+carries_from {a} {b} {ts} same on = record {
   on = λ later.
-      ap (λ ns. (ns ++ open_note a (ts ++ later)) ++ notes_until ts later) plays
-      ∙ ap (λ ns. (q ++ ns) ++ notes_until ts later) (state (ts ++ later)) ∙ on.on later
-      ∙ ap (λ ns. s ++ ns) (sym (after later)) ∙ ap (λ ns. ns ++ open_note c later) (sym next);
+      ap (λ ns. (ns ++ open_note a.state (ts ++ later)) ++ notes_until ts later) same.plays
+      ∙ ap (λ ns. (b.plays ++ ns) ++ notes_until ts later) (same.under_way (ts ++ later)) ∙ on.on later;
+}
+
+pub carries_to : {a b c : NotePart} {ts : List StationCall} → HaveSameNotes c b → Carries a ts b → Carries a ts c
+carries_to {b} {c} same on = record {
+  on = λ later. on.on later ∙ ap (λ ns. b.plays ++ ns) (sym (same.under_way later))
+      ∙ ap (λ ns. ns ++ open_note c.state later) (sym same.plays);
 }
 
 -- a turn that neither begins nor halts a play
@@ -90,19 +104,18 @@ open_kept (Playing setup play) turn later kept =
     ap (λ k. note_of setup play k ∷ []) (kept (kept_later later (total_bytes play.plan)))
 open_kept (Stopping setup stop) turn later kept = refl
 
-still_turn : (plays : List PlayNote) (state : State) (asking : SessionState) (outcome : Outcome)
+still_turn : (part : NotePart) (asking : SessionState) (outcome : Outcome)
     → ((later : List StationCall) → notes_of_calls asking outcome later ≡ [])
-    → ((k : ℕ) → kept_with outcome k ≡ k) → Carries plays state (station_call asking outcome ∷ []) plays state
-still_turn plays state asking outcome none kept = record {
+    → ((k : ℕ) → kept_with outcome k ≡ k) → Carries part (station_call asking outcome ∷ []) part
+still_turn part asking outcome none kept = record {
   on = λ later.
-      ap (λ ns. (plays ++ open_note state (station_call asking outcome ∷ later)) ++ (ns ++ [])) (none later)
-      ∙ append-nil (plays ++ open_note state (station_call asking outcome ∷ later))
-      ∙ ap (λ ns. plays ++ ns) (open_kept state (station_call asking outcome) later kept);
+      ap (λ ns. (part.plays ++ open_note part.state (station_call asking outcome ∷ later)) ++ (ns ++ [])) (none later)
+      ∙ append-nil (part.plays ++ open_note part.state (station_call asking outcome ∷ later))
+      ∙ ap (λ ns. part.plays ++ ns) (open_kept part.state (station_call asking outcome) later kept);
 }
 
-pub unasked_turn : (plays : List PlayNote) (state : State) (asking : SessionState)
-    → Carries plays state (station_call asking Unasked ∷ []) plays state
-unasked_turn plays state asking = still_turn plays state asking Unasked (λ later. refl) (λ k. refl)
+pub unasked_turn : (part : NotePart) (asking : SessionState) → Carries part (station_call asking Unasked ∷ []) part
+unasked_turn part asking = still_turn part asking Unasked (λ later. refl) (λ k. refl)
 
 -- nothing is noted where no play was asked for
 pub no_note : (state : State) (awaited : Awaited) (placed : PlacedEntry) (later : List StationCall)
@@ -144,7 +157,7 @@ pub record HaltEntry (s : SessionState) : Type 0 where
 pub halt_turn : {s : SessionState} (entry : HaltEntry s) (asking : SessionState)
     → IsKept s.state s.awaited entry.keep
     → ((later : List StationCall) → noted_entry asking.state asking.awaited entry.placed later ≡ [])
-    → Carries s.plays s.state (station_call asking (Entered entry.placed) ∷ []) entry.new.plays entry.new.state
+    → Carries (note_part s) (station_call asking (Entered entry.placed) ∷ []) (note_part entry.new)
 halt_turn {s} entry asking kept none =
     let turn = station_call asking (Entered placed) in
     let is : new ≡ after_halt s placed.place = halted.halts in
@@ -166,31 +179,24 @@ halt_turn {s} entry asking kept none =
 
 -- ---- a request
 abbrev CarriesOn : SessionState → SessionState → Outcome → SessionState → Type 0
-CarriesOn old asking outcome new = Carries old.plays old.state (station_call asking outcome ∷ []) new.plays new.state
-
--- what is noted, and the state
-record NotePart : Type 0 where
-  plays : List PlayNote
-  state : State
-
-abbrev note_part : SessionState → NotePart
-note_part s = record { plays = s.plays; state = s.state }
+CarriesOn old asking outcome new = Carries (note_part old) (station_call asking outcome ∷ []) (note_part new)
 
 -- a turn without a play that begins or ends
 stays_on : {asking : SessionState} {outcome : Outcome} (old new : SessionState) → note_part new ≡ note_part old
     → ((later : List StationCall) → notes_of_calls asking outcome later ≡ [])
     → ((k : ℕ) → kept_with outcome k ≡ k) → CarriesOn old asking outcome new
 stays_on {asking} {outcome} old new same none kept =
-    carries_as refl (λ later. refl) (ap (λ (p : NotePart). p.plays) same)
-    (λ later. ap (λ (p : NotePart). open_note p.state later) same)
-    (still_turn old.plays old.state asking outcome none kept)
+    carries_to (record {
+      plays = ap (λ (p : NotePart). p.plays) same;
+      under_way = λ later. ap (λ (p : NotePart). open_note p.state later) same;
+    }) (still_turn (note_part old) asking outcome none kept)
 
 -- the session's own reply
 replied_on : (old asking new : SessionState) → new.plays ≡ old.plays
     → ((later : List StationCall) → open_note new.state later ≡ open_note old.state later)
     → CarriesOn old asking Unasked new
 replied_on old asking new plays state =
-    carries_as refl (λ later. refl) plays state (unasked_turn old.plays old.state asking)
+    carries_to (record { plays = plays; under_way = state }) (unasked_turn (note_part old) asking)
 
 -- a play that begins
 begun_state : {old asking : SessionState} (play : PlayRequest old asking) (place start : ℕ) (later : List StationCall)
@@ -255,8 +261,10 @@ halt_on {old} {asking} {placed} new halt halted =
     let awaited : asking.awaited ≡ Halt keep next = ap (λ (s : SessionState). s.awaited) asking_is in
     let kept : IsKept asking.state asking.awaited keep =
     subst (λ (s : SessionState). IsKept s.state s.awaited keep) (sym asking_is) refl in
-    carries_as (sym (ap (λ (s : SessionState). s.plays) asking_is))
-    (λ later. ap (λ s. open_note s later) playing ∙ sym (ap (λ s. open_note s later) state)) refl (λ later. refl)
+    carries_from (record {
+      plays = sym (ap (λ (s : SessionState). s.plays) asking_is);
+      under_way = λ later. ap (λ s. open_note s later) playing ∙ sym (ap (λ s. open_note s later) state);
+    })
     (halt_turn {s = asking} (record { keep = keep; placed = placed; new = new; halted = halted }) asking kept
     (no_halt_note asking.state awaited placed))
   where
@@ -299,5 +307,5 @@ answered_on {old} {new = new} (OfferAnswer sequence waiting is) =
 
 pub heard_on : (old new : SessionState) (message : List ℕ) (outcome : Outcome) (heard : HasHeard old message outcome
     new)
-    → Carries old.plays old.state (station_call heard.asking outcome ∷ []) new.plays new.state
+    → CarriesOn old heard.asking outcome new
 heard_on old new message outcome heard = answered_on (request_answer heard)

@@ -1,4 +1,7 @@
 -- Each reply of a connection stands at the first boundary from what was due when its request was processed.
+use Rattle.connection_laws.proofs.WaitingReplies.{SlotOn, Fits, GoesTo, IsHeld, Stand, after_slot, at_here, due_far}
+use Rattle.connection_laws.proofs.WaitingReplies.{due_going, due_here, goes_same, held_here, parts_in, slot_at, point}
+use Rattle.connection_laws.proofs.WaitingReplies.{still_held}
 use Rattle.std.proofs.Common.{◌≡◌, ℕ, ◌+◌, ◌-◌, ◌<◌, ◌≤◌, ◌++◌, ◌&&◌, if◌then◌else◌, Bool, true, false, min, List, []}
 use Rattle.std.proofs.Common.{◌∷◌, Option, Some, None, length, refl, ap, sym, ◌∙◌, subst, inl, arith}
 use Rattle.conn.proofs.ReplyPlacement.{boundary_here}
@@ -29,8 +32,6 @@ use Rattle.connection_laws.proofs.TextPlaces.{AreLater, StandAt, from_lower, lat
 use Rattle.connection_laws.proofs.Slots.{ended_at, ending_cases, going_cases, parts_of, state_after, waits_after}
 use Rattle.connection_laws.proofs.RequestEffects.{Begins, Ends, Ending, Going, Halts, Idle, IsStill, Sends, Starts}
 use Rattle.connection_laws.proofs.RequestEffects.{Stays, TurnsAs, pacing_for, sends_in}
-use Rattle.connection_laws.proofs.WaitingReplies.{Fits, GoesTo, IsHeld, Stand, after_slot, at_here, due_far, due_going}
-use Rattle.connection_laws.proofs.WaitingReplies.{due_here, goes_same, held_here, parts_in, slot_at, point, still_held}
 use Rattle.film_streams.specs.declared.setups.Setup.{Setup}
 use Rattle.session.specs.declared.states.Play.{Play as Played}
 
@@ -43,40 +44,41 @@ record LaterCourse : Type 0 where
   slots : List ℕ
   parts : List SentPart
 
-still_stand : {asked : Awaited} {outcome : Outcome} (sends : Sends) (pending : Option ℕ) (later : LaterCourse) →
-    IsStill asked outcome → Stand sends pending later.askings later.end later.slots later.parts →
-    Stand sends pending (Asks asked outcome ∷ later.askings) later.end later.slots later.parts
-still_stand Idle None later still stand =
-    subst (λ ps. AreSentAt end (ps ++ plays_of askings) slots (placed_texts 0 parts)) (sym (still.none askings)) stand
-  where
-    open later use {askings, end, slots, parts}
-still_stand Idle (Some slot) later still stand =
-    subst (λ ps. AreSentAt end (ps ++ plays_of askings) (slot ∷ slots) (placed_texts 0 parts))
-    (sym (still.none askings)) stand
-  where
-    open later use {askings, end, slots, parts}
-still_stand {outcome} (Going p) pending later still stand =
-    subst (λ ps. StandAt p (kept_with outcome (kept_in askings (total_bytes p.plan))) pending
-    (ps ++ plays_of askings) end slots parts) (sym (still.none askings))
-    (subst (λ k. StandAt p k pending (plays_of askings) end slots parts)
-    (sym (still.kept (kept_in askings (total_bytes p.plan)))) stand)
-  where
-    open later use {askings, end, slots, parts}
-still_stand (Ending p) pending later still stand =
-    subst (λ ps. StandAt p p.keep pending (ps ++ plays_of askings) end slots parts) (sym (still.none askings)) stand
-  where
-    open later use {askings, end, slots, parts}
+module _ {asked : Awaited} {outcome : Outcome} where
+  still_stand : (sends : Sends) (pending : Option ℕ) (later : LaterCourse) → IsStill asked outcome
+      → Stand sends pending later.askings later.end later.slots later.parts
+      → Stand sends pending (Asks asked outcome ∷ later.askings) later.end later.slots later.parts
+  still_stand Idle None later still stand =
+      subst (λ ps. AreSentAt end (ps ++ plays_of askings) slots (placed_texts 0 parts)) (sym (still.none askings)) stand
+    where
+      open later use {askings, end, slots, parts}
+  still_stand Idle (Some slot) later still stand =
+      subst (λ ps. AreSentAt end (ps ++ plays_of askings) (slot ∷ slots) (placed_texts 0 parts))
+      (sym (still.none askings)) stand
+    where
+      open later use {askings, end, slots, parts}
+  still_stand (Going p) pending later still stand =
+      subst (λ ps. StandAt p (kept_with outcome (kept_in askings (total_bytes p.plan))) pending
+      (ps ++ plays_of askings) end slots parts) (sym (still.none askings))
+      (subst (λ k. StandAt p k pending (plays_of askings) end slots parts)
+      (sym (still.kept (kept_in askings (total_bytes p.plan)))) stand)
+    where
+      open later use {askings, end, slots, parts}
+  still_stand (Ending p) pending later still stand =
+      subst (λ ps. StandAt p p.keep pending (ps ++ plays_of askings) end slots parts) (sym (still.none askings)) stand
+    where
+      open later use {askings, end, slots, parts}
 
-pub still_fits : {sends : Sends} {heard : ℕ} {pending : Option ℕ} {asked : Awaited} {outcome : Outcome}
-    {askings : List StationRequest} {end : ℕ} {slots : List ℕ} {parts : List SentPart} → IsStill asked outcome
-    → Fits (point sends heard pending) askings end slots parts
-    → Fits (point sends heard pending) (Asks asked outcome ∷ askings) end slots parts
-still_fits {sends} {heard} {pending} {askings} {end} {slots} {parts} still fits = record {
-  from = fits.from;
-  later = subst (λ ps. AreLater heard (ps ++ plays_of askings)) (sym (still.none askings)) fits.later;
-  stand = still_stand sends pending (record { askings = askings; end = end; slots = slots; parts = parts })
-      still fits.stand;
-}
+  pub still_fits : {sends : Sends} {heard : ℕ} {pending : Option ℕ} {askings : List StationRequest} {end : ℕ}
+      {slots : List ℕ} {parts : List SentPart} → IsStill asked outcome
+      → Fits (point sends heard pending) askings end slots parts → Fits (point sends heard pending)
+      (Asks asked outcome ∷ askings) end slots parts
+  still_fits {sends} {heard} {pending} {askings} {end} {slots} {parts} still fits = record {
+    from = fits.from;
+    later = subst (λ ps. AreLater heard (ps ++ plays_of askings)) (sym (still.none askings)) fits.later;
+    stand = still_stand sends pending (record { askings = askings; end = end; slots = slots; parts = parts })
+        still fits.stand;
+  }
 
 -- its reply is in hand
 in_hand : {p : PacerState} {keep slot : ℕ} {plays : List FilmPlay} {end : ℕ} {slots : List ℕ} {parts : List SentPart}
@@ -132,49 +134,50 @@ begun_is old new asked outcome begins askings =
     ∙ ap (λ a. plays_admitted a begins.placed.entry.answer askings) begins.asked_is
     ∙ ap (λ a. plays_admitted (Play begins.prepared) a askings) begins.answer
 
-begin_fits : {old new : SessionState} {asked : Awaited} {outcome : Outcome} {askings : List StationRequest} {end : ℕ}
-    {slots : List ℕ} {parts : List SentPart} (begins : Begins old asked outcome new)
-    → Fits (point (Going (pacing_for begins.prepared begins.start)) old.heard (Some old.heard)) askings end slots parts
-    → Fits (point Idle old.heard None) (Asks asked outcome ∷ askings) end (old.heard ∷ slots) parts
-begin_fits {old} {new} {asked} {outcome} {askings} {end} {slots} {parts} begins fits =
-    let p : PacerState = pacing_for begins.prepared begins.start in
-    let plan : List Segment = begins.prepared.plan in
-    let made = begun_is old new asked outcome begins askings in
-    let play : FilmPlay = play_for begins.prepared begins.start plan (kept_in askings (total_bytes plan)) in
-    let starts : IsBoundary p.pieces (p.before + 0) = subst (IsBoundary p.pieces) (omega arith) begins.pacing.begins in
-    record {
-      from = (omega arith, fits.from);
-      later = subst (λ ps. AreLater old.heard (ps ++ plays_of askings)) (sym made)
-          (record { starts = (begins.later, fits.later.starts); begins = inl (omega arith, starts) });
-      stand = subst (λ ps. AreSentAt end (ps ++ plays_of askings) (old.heard ∷ slots) (placed_texts 0 parts)) (sym made)
-          (begin_stand begins.prepared begins.start (record {
-            askings = askings;
-            end = end;
-            slots = old.heard ∷ slots;
-            parts = parts;
-          }) begins.paced fits.stand.sent);
-    }
+module _ {old new : SessionState} {asked : Awaited} {outcome : Outcome} {askings : List StationRequest} {end : ℕ}
+    {slots : List ℕ} {parts : List SentPart} where
+  begin_fits : (begins : Begins old asked outcome new)
+      → Fits (point (Going (pacing_for begins.prepared begins.start)) old.heard (Some old.heard)) askings end slots
+      parts
+      → Fits (point Idle old.heard None) (Asks asked outcome ∷ askings) end (old.heard ∷ slots) parts
+  begin_fits begins fits =
+      let p : PacerState = pacing_for begins.prepared begins.start in
+      let plan : List Segment = begins.prepared.plan in
+      let made = begun_is old new asked outcome begins askings in
+      let play : FilmPlay = play_for begins.prepared begins.start plan (kept_in askings (total_bytes plan)) in
+      let starts : IsBoundary p.pieces (p.before + 0) = subst (IsBoundary p.pieces) (omega arith) begins.pacing.begins in
+      record {
+        from = (omega arith, fits.from);
+        later = subst (λ ps. AreLater old.heard (ps ++ plays_of askings)) (sym made)
+            (record { starts = (begins.later, fits.later.starts); begins = inl (omega arith, starts) });
+        stand = subst (λ ps. AreSentAt end (ps ++ plays_of askings) (old.heard ∷ slots) (placed_texts 0 parts)) (sym made)
+            (begin_stand begins.prepared begins.start (record {
+              askings = askings;
+              end = end;
+              slots = old.heard ∷ slots;
+              parts = parts;
+            }) begins.paced fits.stand.sent);
+      }
 
-halt_fits : {old new : SessionState} {asked : Awaited} {outcome : Outcome} {askings : List StationRequest} {end : ℕ}
-    {slots : List ℕ} {parts : List SentPart} (halts : Halts old asked outcome new)
-    → Fits (point (Ending (record halts.pacing { keep = next_boundary halts.pacing })) old.heard (Some old.heard))
-    askings end slots parts
-    → Fits (point (Going halts.pacing) old.heard None) (Asks asked outcome ∷ askings) end (old.heard ∷ slots) parts
-halt_fits {old} {new} {asked} {outcome} {askings} {end} {slots} {parts} halts fits =
-    let p : PacerState = halts.pacing in
-    let kept : kept_with outcome (kept_in askings (total_bytes p.plan)) ≡ next_boundary p =
-    ap (λ o. kept_with o (kept_in askings (total_bytes p.plan))) halts.outcome_is
-    ∙ ap (λ c. kept_by c (kept_in askings (total_bytes p.plan))) halts.command in
-    let stand : StandAt p (next_boundary p) None (plays_of askings) end (old.heard ∷ slots) parts =
-    record { holds = fits.stand.holds; sent = fits.stand.sent } in
-    record {
-      from = (omega arith, fits.from);
-      later = subst (λ ps. AreLater old.heard (ps ++ plays_of askings)) (sym (halts.none askings)) fits.later;
-      stand = subst (λ k. StandAt p k None (plays_begun asked outcome askings ++ plays_of askings) end
-          (old.heard ∷ slots) parts) (sym kept)
-          (subst (λ ps. StandAt p (next_boundary p) None (ps ++ plays_of askings) end (old.heard ∷ slots) parts)
-          (sym (halts.none askings)) stand);
-    }
+  halt_fits : (halts : Halts old asked outcome new)
+      → Fits (point (Ending (record halts.pacing { keep = next_boundary halts.pacing })) old.heard (Some old.heard))
+      askings end slots parts
+      → Fits (point (Going halts.pacing) old.heard None) (Asks asked outcome ∷ askings) end (old.heard ∷ slots) parts
+  halt_fits halts fits =
+      let p : PacerState = halts.pacing in
+      let kept : kept_with outcome (kept_in askings (total_bytes p.plan)) ≡ next_boundary p =
+      ap (λ o. kept_with o (kept_in askings (total_bytes p.plan))) halts.outcome_is
+      ∙ ap (λ c. kept_by c (kept_in askings (total_bytes p.plan))) halts.command in
+      let stand : StandAt p (next_boundary p) None (plays_of askings) end (old.heard ∷ slots) parts =
+      record { holds = fits.stand.holds; sent = fits.stand.sent } in
+      record {
+        from = (omega arith, fits.from);
+        later = subst (λ ps. AreLater old.heard (ps ++ plays_of askings)) (sym (halts.none askings)) fits.later;
+        stand = subst (λ k. StandAt p k None (plays_begun asked outcome askings ++ plays_of askings) end
+            (old.heard ∷ slots) parts) (sym kept)
+            (subst (λ ps. StandAt p (next_boundary p) None (ps ++ plays_of askings) end (old.heard ∷ slots) parts)
+            (sym (halts.none askings)) stand);
+      }
 
 pub turn_fits : (old new : SessionState) (asked : Awaited) (outcome : Outcome) → TurnsAs old asked outcome new
     → GoesTo (point (sends_in old.state) old.heard None) (point (sends_in new.state) old.heard (Some old.heard))
@@ -208,59 +211,54 @@ kept_due : (p : PacerState) (heard keep : ℕ) → IsSound (Going p) true heard 
 kept_due p heard keep sound holds =
     let here = due_here p heard sound.0 in due_going p heard keep sound.0.pacing sound.1 (omega (arith, here, holds))
 
-idle_reply : {heard : ℕ} {text : List ℕ} {askings : List StationRequest} {end : ℕ} {slots : List ℕ} {parts : List
-    SentPart}
-    → Fits (point Idle heard None) askings end slots parts
-    → Fits (point Idle heard (Some heard)) askings end slots (Text text ∷ parts)
-idle_reply {heard} {text} {askings} {end} fits =
-    let none : all_due heard (plays_of askings) ≡ 0 = none_due heard (plays_of askings) fits.later.starts in
-    let sent : IsSentAt end (plays_of askings) heard (placed_text 0 text) = record {
-      next = record {
-        boundary = fits.later.begins;
-        after = omega (arith, none);
-        least = λ other boundary from. omega arith;
-      };
-      reached = omega arith;
-    } in
-    record { from = fits.from; later = fits.later; stand = (sent, fits.stand) }
+module _ {heard : ℕ} {askings : List StationRequest} {end : ℕ} {slots : List ℕ} {parts : List SentPart} where
+  idle_reply : {text : List ℕ} → Fits (point Idle heard None) askings end slots parts
+      → Fits (point Idle heard (Some heard)) askings end slots (Text text ∷ parts)
+  idle_reply {text} fits =
+      let none : all_due heard (plays_of askings) ≡ 0 = none_due heard (plays_of askings) fits.later.starts in
+      let sent : IsSentAt end (plays_of askings) heard (placed_text 0 text) = record {
+        next = record {
+          boundary = fits.later.begins;
+          after = omega (arith, none);
+          least = λ other boundary from. omega arith;
+        };
+        reached = omega arith;
+      } in
+      record { from = fits.from; later = fits.later; stand = (sent, fits.stand) }
 
-going_reply : {p : PacerState} {heard : ℕ} {text : List ℕ} {askings : List StationRequest} {end : ℕ} {slots : List ℕ}
-    {parts : List SentPart} → IsSound (Going p) true heard
-    → stands_at_boundary p ≡ true → heard ≤ end → Fits (point (Going p) heard None) askings end slots parts
-    → Fits (point (Going p) heard (Some heard)) askings end slots (Text text ∷ parts)
-going_reply {p} {heard} {text} {askings} {end} sound stands on fits = record {
-  from = fits.from;
-  later = fits.later;
-  stand = text_at
-      (at_here p heard sound.0 stands)
-      (kept_due p heard (kept_in askings (total_bytes p.plan)) sound fits.stand.holds) fits.later.starts
-      (due_far p heard end sound.0 on) fits.stand;
-}
+  going_reply : {p : PacerState} {text : List ℕ} → IsSound (Going p) true heard → stands_at_boundary p ≡ true
+      → heard ≤ end → Fits (point (Going p) heard None) askings end slots parts
+      → Fits (point (Going p) heard (Some heard)) askings end slots (Text text ∷ parts)
+  going_reply {p} {text} sound stands on fits = record {
+    from = fits.from;
+    later = fits.later;
+    stand = text_at
+        (at_here p heard sound.0 stands)
+        (kept_due p heard (kept_in askings (total_bytes p.plan)) sound fits.stand.holds) fits.later.starts
+        (due_far p heard end sound.0 on) fits.stand;
+  }
 
-over_fits : {p : PacerState} {heard : ℕ} {askings : List StationRequest} {end : ℕ} {slots : List ℕ} {parts : List
-    SentPart}
-    → IsOnTime p heard → p.sent ≡ p.keep
-    → heard ≤ end → Fits (point Idle heard None) askings end slots parts
-    → Fits (point (Ending p) heard None) askings end slots parts
-over_fits {p} {end} on ended ends fits = record {
-  from = fits.from;
-  later = fits.later;
-  stand = over_at on ended ends fits.from fits.later fits.stand;
-}
+  over_fits : {p : PacerState} → IsOnTime p heard → p.sent ≡ p.keep → heard ≤ end
+      → Fits (point Idle heard None) askings end slots parts
+      → Fits (point (Ending p) heard None) askings end slots parts
+  over_fits {p} on ended ends fits = record {
+    from = fits.from;
+    later = fits.later;
+    stand = over_at on ended ends fits.from fits.later fits.stand;
+  }
 
-ending_reply : {p : PacerState} {heard : ℕ} {text : List ℕ} {askings : List StationRequest} {end : ℕ} {slots : List ℕ}
-    {parts : List SentPart} → IsSound (Ending p) true heard
-    → stands_at_boundary p ≡ true → heard ≤ end → Fits (point Idle heard None) askings end slots parts
-    → Fits (point (Ending p) heard (Some heard)) askings end slots (Text text ∷ parts)
-ending_reply {p} {heard} {text} {end} sound stands on fits =
-    let ended = ended_at sound.0 sound.2 (boundary_here p sound.0.pacing stands) refl in
-    let over = over_fits sound.0 ended on fits in
-    record {
-      from = fits.from;
-      later = fits.later;
-      stand = text_at
-          (at_here p heard sound.0 stands) refl fits.later.starts (due_far p heard end sound.0 on) over.stand;
-    }
+  ending_reply : {p : PacerState} {text : List ℕ} → IsSound (Ending p) true heard → stands_at_boundary p ≡ true
+      → heard ≤ end → Fits (point Idle heard None) askings end slots parts
+      → Fits (point (Ending p) heard (Some heard)) askings end slots (Text text ∷ parts)
+  ending_reply {p} {text} sound stands on fits =
+      let ended = ended_at sound.0 sound.2 (boundary_here p sound.0.pacing stands) refl in
+      let over = over_fits sound.0 ended on fits in
+      record {
+        from = fits.from;
+        later = fits.later;
+        stand = text_at
+            (at_here p heard sound.0 stands) refl fits.later.starts (due_far p heard end sound.0 on) over.stand;
+      }
 
 -- where a reply goes, and what of it is held up then
 pub record Replying (state : State) (goes : Bool) (heard : ℕ) (text : List ℕ) : Type 0 where
@@ -309,34 +307,33 @@ pub record SlotMoves (state : State) (waits : Bool) (heard slot : ℕ) (text : L
   pub goes_on : GoesTo (point (sends_in state) heard pending)
       (point (sends_in (state_after waits state slot)) slot after) [] [] (parts_of waits state text slot)
 
-going_slot : {p : PacerState} {heard slot : ℕ} {pending : Option ℕ} (waits : Bool) (text : List ℕ)
-    → IsSound (Going p) waits heard → heard < slot
-    → IsHeld pending (Going p) waits heard
-    → GoesTo (point (Going p) heard pending)
-    (point (Going (sent_through slot p)) slot (after_slot (stands_at_boundary (after_step true slot p)) pending))
-    [] [] (parts_in waits (stands_at_boundary (after_step true slot p)) p slot text)
-going_slot {p} {heard} {slot} waits text sound later held = record {
-  later = omega (arith, later);
-  rest = λ askings end more rest on fits. record {
-    from = from_lower heard slot more (omega (arith, later)) fits.from;
-    later = later_lower heard slot (plays_of askings) (omega (arith, later)) fits.later;
-    stand = slot_at waits text (record { on = sound.0; later = later; ends = on; stands = refl }) held
-        (record {
-          due = λ taken less. due_going p taken (kept_in askings (total_bytes p.plan)) sound.0.pacing sound.1 less;
-          later_plays = fits.later;
-        }) fits.stand;
-  };
-}
+module _ {p : PacerState} {heard slot : ℕ} where
+  going_slot : {pending : Option ℕ} (waits : Bool) (text : List ℕ) → IsSound (Going p) waits heard → heard < slot
+      → IsHeld pending (Going p) waits heard → GoesTo (point (Going p) heard pending)
+      (point (Going (sent_through slot p)) slot (after_slot (stands_at_boundary (after_step true slot p)) pending)) []
+      [] (parts_in waits (stands_at_boundary (after_step true slot p)) p slot text)
+  going_slot waits text sound later held = record {
+    later = omega (arith, later);
+    rest = λ askings end more rest on fits. record {
+      from = from_lower heard slot more (omega (arith, later)) fits.from;
+      later = later_lower heard slot (plays_of askings) (omega (arith, later)) fits.later;
+      stand = slot_at waits text (record { on = sound.0; later = later; ends = on; stands = refl }) held
+          (record {
+            due = λ taken less. due_going p taken (kept_in askings (total_bytes p.plan)) sound.0.pacing sound.1 less;
+            later_plays = fits.later;
+          }) fits.stand;
+    };
+  }
 
-going_held : {p : PacerState} {heard slot : ℕ} {between : Bool} (waits : Bool) (pending : Option ℕ) → IsOnTime p heard
-    → heard < slot
-    → stands_at_boundary (after_step true slot p) ≡ between → IsHeld pending (Going p) waits heard
-    → IsHeld (after_slot between pending) (Going (sent_through slot p)) (if waits && between then false else waits) slot
-going_held {p} {slot} {between} true None on later stands held = absurd (true≢false held)
-going_held {p} {slot} {between} false (Some taken) on later stands held = absurd (true≢false (sym held.0))
-going_held {p} {slot} {between = false} true (Some taken) on later stands held =
-    (refl, still_held on.pacing later held.1 stands)
-going_held _ _ on later stands held = refl
+  going_held : {between : Bool} (waits : Bool) (pending : Option ℕ) → IsOnTime p heard → heard < slot
+      → stands_at_boundary (after_step true slot p) ≡ between → IsHeld pending (Going p) waits heard
+      → IsHeld (after_slot between pending) (Going (sent_through slot p))
+      (if waits && between then false else waits) slot
+  going_held {between} true None on later stands held = absurd (true≢false held)
+  going_held {between} false (Some taken) on later stands held = absurd (true≢false (sym held.0))
+  going_held {between = false} true (Some taken) on later stands held =
+      (refl, still_held on.pacing later held.1 stands)
+  going_held _ _ on later stands held = refl
 
 -- the rest of a play that was halted
 abbrev ends_in : Bool → PacerState → Sends
@@ -381,22 +378,23 @@ ended_through p heard slot sound later stands =
     (sent_after p slot on.pacing) in
     omega (arith, least, through.pacing.due)
 
-ending_stand : {p : PacerState} {heard slot : ℕ} {between : Bool} {askings : List StationRequest} {end : ℕ} {more : List
-    ℕ}
-    {rest : List SentPart} {after : Option ℕ}
-    → IsSound (Ending p) true heard → heard < slot → stands_at_boundary (after_step true slot p) ≡ between → slot ≤ end
-    → (between ≡ true → after ≡ None)
-    → Fits (point (ends_in between (sent_through slot p)) slot after) askings end more rest
-    → Fits (point (Ending (sent_through slot p)) slot after) askings end more rest
-ending_stand {p} {slot} {between = false} {end} {more} sound later stands ends none fits = fits
-ending_stand {p} {heard} {slot} {between = true} {askings} {end} {more} {rest} sound later stands ends none fits =
-    subst (λ a. Fits (point (Ending (sent_through slot p)) slot a) askings end more rest) (sym (none refl))
-    (over_fits (through_time p heard slot sound.0 later) (ended_through p heard slot sound later stands) ends
-    (subst (λ a. Fits (point Idle slot a) askings end more rest) (none refl) fits))
-
 after_none : (between : Bool) (pending : Option ℕ) → between ≡ true → after_slot between pending ≡ None
 after_none between None is = refl
 after_none between (Some slot) is = ap (λ b. if b then None else Some slot) is
+
+ending_stand : {p : PacerState} {heard slot : ℕ} {between : Bool} {askings : List StationRequest} {end : ℕ}
+    {more : List ℕ} {rest : List SentPart} (pending : Option ℕ) → IsSound (Ending p) true heard
+    → SlotOn p heard slot end between
+    → Fits (point (ends_in between (sent_through slot p)) slot (after_slot between pending)) askings end more rest
+    → Fits (point (Ending (sent_through slot p)) slot (after_slot between pending)) askings end more rest
+ending_stand {between = false} pending sound slot_on fits = fits
+ending_stand {p} {heard} {slot} {between = true} {askings} {end} {more} {rest} pending sound slot_on fits =
+    let none = after_none true pending refl in
+    subst (λ a. Fits (point (Ending (sent_through slot p)) slot a) askings end more rest) (sym none)
+    (over_fits (through_time p heard slot on later) (ended_through p heard slot sound later stands) ends
+    (subst (λ a. Fits (point Idle slot a) askings end more rest) none fits))
+  where
+    open slot_on use {on, later, ends, stands}
 
 ending_slot : {p : PacerState} {heard slot : ℕ} {pending : Option ℕ} (text : List ℕ) → IsSound (Ending p) true heard
     → heard < slot
@@ -411,11 +409,12 @@ ending_slot {p} {heard} {slot} {pending} text sound later held =
     record {
       later = omega (arith, later);
       rest = λ askings end more rest on fits.
-          let whole = ending_stand sound later refl on (after_none between pending) fits in
+          let slot_on : SlotOn p heard slot end between = record { on = sound.0; later = later; ends = on; stands = refl } in
+          let whole = ending_stand pending sound slot_on fits in
           record {
             from = from_lower heard slot more (omega (arith, later)) fits.from;
             later = later_lower heard slot (plays_of askings) (omega (arith, later)) fits.later;
-            stand = slot_at true text (record { on = sound.0; later = later; ends = on; stands = refl })
+            stand = slot_at true text slot_on
                 (as_going p heard pending held)
                 (record { due = λ taken less. refl; later_plays = fits.later }) whole.stand;
           };

@@ -166,32 +166,31 @@ setup_waits {b} {old} {asking} waits (Settled setup text authority reply is asks
     )
 
 -- SETUP has a reply of the session's own
-pub setup_asked : {b : Beginning} {old new : Stage} {message : List ℕ} {outcome : Outcome} {parts : List SentPart}
-    (takes : Takes old (Answered message outcome parts) new) → message ≡ setup_text b.wish → IsWaiting b old.session
-    → (takes.heard.ask ≡ Reply) × IsWaitingStill b takes.heard.asking
-setup_asked {b} {old} {message = message} takes is waits =
-    let heard = takes.heard in
-    let S : List ℕ → Type 0 = λ m.
-    IsSetupRequest m (film_url b.wish ++ codes "/video") (request_head (setup_parts b.wish)) in
-    setup_waits waits
-    (setup_heard old.session message (film_url b.wish ++ codes "/video") (request_head (setup_parts b.wish))
-    heard.ask heard.asking (subst S (sym is) (setup_is b.wish b.wished b.port)) heard.hears)
+module _ {b : Beginning} {old new : Stage} {message : List ℕ} {outcome : Outcome} {parts : List SentPart} where
+  pub setup_asked : (takes : Takes old (Answered message outcome parts) new) → message ≡ setup_text b.wish
+      → IsWaiting b old.session → (takes.heard.ask ≡ Reply) × IsWaitingStill b takes.heard.asking
+  setup_asked takes is waits =
+      let heard = takes.heard in
+      let S : List ℕ → Type 0 = λ m.
+      IsSetupRequest m (film_url b.wish ++ codes "/video") (request_head (setup_parts b.wish)) in
+      setup_waits waits
+      (setup_heard old.session message (film_url b.wish ++ codes "/video") (request_head (setup_parts b.wish))
+      heard.ask heard.asking (subst S (sym is) (setup_is b.wish b.wished b.port)) heard.hears)
 
--- a SETUP was answered, and PLAY is still to come
-pub answered_waits : {b : Beginning} {old new : Stage} {message : List ℕ} {outcome : Outcome} {parts : List SentPart}
-    → Takes old (Answered message outcome parts) new → message ≡ setup_text b.wish → IsWaiting b old.session
-    → IsWaiting b new.session
-answered_waits {b} {old} {new} {message} {outcome} {parts} takes is waits =
-    let heard = takes.heard in
-    let still = setup_asked {outcome = outcome} {parts = parts} takes is waits in
-    let same = reply_same heard.asking heard.ask outcome takes.answered still.0 heard.answered in
-    let after = replied_waits (can_reply takes.answered) takes.answered
-    (subst (IsWaitingStill b) (sym same) still.1) in
-    let its = subst (λ (s : Stage). IsWaitingStill b s.session) (sym takes.new_is) after in
-    record {
-      stands = taken_stands old new (Answered message outcome parts) takes waits.stands;
-      films_are = its.films_are;
-      settings_are = its.settings_are;
-      source_is = its.source_is;
-      unbegun = its.unbegun;
-    }
+  -- a SETUP was answered, and PLAY is still to come
+  pub answered_waits : Takes old (Answered message outcome parts) new → message ≡ setup_text b.wish
+      → IsWaiting b old.session → IsWaiting b new.session
+  answered_waits takes is waits =
+      let heard = takes.heard in
+      let still = setup_asked takes is waits in
+      let same = reply_same heard.asking heard.ask outcome takes.answered still.0 heard.answered in
+      let after = replied_waits (can_reply takes.answered) takes.answered
+      (subst (IsWaitingStill b) (sym same) still.1) in
+      let its = subst (λ (s : Stage). IsWaitingStill b s.session) (sym takes.new_is) after in
+      record {
+        stands = taken_stands old new (Answered message outcome parts) takes waits.stands;
+        films_are = its.films_are;
+        settings_are = its.settings_are;
+        source_is = its.source_is;
+        unbegun = its.unbegun;
+      }

@@ -1,4 +1,6 @@
 -- What a slot makes of a session and of the reply that is held up.
+use Rattle.connection_laws.proofs.FilmBytes.{DoneHalt, done_halt, DonePlay, IsSlotOver, Stands, done_kept, done_play}
+use Rattle.connection_laws.proofs.FilmBytes.{halted_idle, reply_waits, sent_over, taken_later}
 use Rattle.std.proofs.Common.{◌≡◌, ℕ, ◌+◌, ◌<◌, ◌≤◌, ◌++◌, ◌&&◌, if◌then◌else◌, Bool, true, false, List, [], ◌∷◌}
 use Rattle.std.proofs.Common.{Option, Some, None, refl, ap, sym, ◌∙◌, subst, arith}
 use Rattle.conn.proofs.PlayProgress.{reply_state, reply_heard}
@@ -6,11 +8,9 @@ use Rattle.std.proofs.lemmas.Bool.{true≢false}
 use Rattle.std.proofs.lemmas.List.{append-nil}
 use Rattle.plan_cert.specs.PlanSlots.{total_bytes}
 use Rattle.pacer.specs.PacerStates.{IsPacerState, PacerState}
-use Rattle.admission.specs.declared.entries.Command.TheVariants.{Halt as HaltCommand}
 use Rattle.admission.specs.Makers.{PlacedEntry}
 use Rattle.session.specs.declared.states.Awaited.{Awaited}
-use Rattle.session.specs.declared.states.Awaited.TheVariants.{Nothing, Halt}
-use Rattle.session.specs.declared.states.AfterHalt.TheVariants.{Done}
+use Rattle.session.specs.declared.states.Awaited.TheVariants.{Nothing}
 use Rattle.session.specs.declared.states.State.{State}
 use Rattle.session.specs.declared.states.State.TheVariants.{Init, Ready, Playing, Stopping}
 use Rattle.session.specs.RequestSteps.{is_answered}
@@ -20,8 +20,6 @@ use Rattle.session.specs.SessionStates.{SessionState}
 use Rattle.conn.specs.InputSteps.{Entered, IsHaltAnswered, Outcome, SentPart, due_parts, slot_parts}
 use Rattle.connection_laws.specs.Plays.{StationRequest, Asks, plays_admitted, plays_begun, kept_by, kept_in, kept_with}
 use Rattle.connection_laws.specs.Plays.{plays_of}
-use Rattle.connection_laws.proofs.FilmBytes.{DonePlay, IsSlotOver, Stands, done_kept, done_play, halted_idle}
-use Rattle.connection_laws.proofs.FilmBytes.{reply_waits, sent_over, taken_later}
 use Rattle.connection_laws.proofs.JoinedFilms.{IsOnTime}
 use Rattle.connection_laws.proofs.TextPlaces.{AreLater, StandAt, from_lower, later_lower, over_at}
 use Rattle.connection_laws.proofs.ReplyBoundaries.{slot_moves, still_fits}
@@ -32,26 +30,26 @@ use Rattle.connection_laws.proofs.SessionMoves.{HeldIn, Move, move_then}
 use Rattle.connection_laws.proofs.StationAnswers.{FinishesAs, NothingLeft, DoneHalted, nothing_left}
 
 -- nothing is asked
-pub still_move : {s new : SessionState} {asked : Awaited} {outcome : Outcome} {pending : Option ℕ} → new ≡ s
-    → IsStill asked outcome → HeldIn pending s
-    → Move s new pending (Asks asked outcome ∷ []) [] []
-still_move {s} {new} {asked} {outcome} {pending} same still held =
-    subst (λ n. Move s n pending (Asks asked outcome ∷ []) [] []) (sym same) (record {
-      after = pending;
-      held = held;
-      goes_on = record {
-        later = omega arith;
-        rest = λ askings end more rest on fits. still_fits still fits;
-      };
-    })
+module _ {s new : SessionState} {pending : Option ℕ} where
+  pub still_move : {asked : Awaited} {outcome : Outcome} → new ≡ s → IsStill asked outcome → HeldIn pending s
+      → Move s new pending (Asks asked outcome ∷ []) [] []
+  still_move {asked} {outcome} same still held =
+      subst (λ n. Move s n pending (Asks asked outcome ∷ []) [] []) (sym same) (record {
+        after = pending;
+        held = held;
+        goes_on = record {
+          later = omega arith;
+          rest = λ askings end more rest on fits. still_fits still fits;
+        };
+      })
 
--- nothing is asked
-rest_move : {s new : SessionState} {halt : Outcome} {pending : Option ℕ} → s.awaited ≡ Nothing → HeldIn pending s
-    → FinishesAs s new s.awaited halt → Move s new pending (Asks s.awaited halt ∷ []) [] []
-rest_move {s} {new} {pending = pending} rest held finishing =
-    let none = nothing_left finishing rest in
-    subst (λ o. Move s new pending (Asks s.awaited o ∷ []) [] []) (sym none.1)
-    (still_move none.0 (unasked_still s.awaited) held)
+  -- nothing is asked
+  rest_move : {halt : Outcome} → s.awaited ≡ Nothing → HeldIn pending s → FinishesAs s new s.awaited halt
+      → Move s new pending (Asks s.awaited halt ∷ []) [] []
+  rest_move rest held finishing =
+      let none = nothing_left finishing rest in
+      subst (λ o. Move s new pending (Asks s.awaited o ∷ []) [] []) (sym none.1)
+      (still_move none.0 (unasked_still s.awaited) held)
 
 -- a play that is done: no reply is held up, and it is halted with all that was sent
 done_unheld : {p : PacerState} {pending : Option ℕ} (waits : Bool) (heard : ℕ) → IsPacerState p → p.sent ≡ p.keep
@@ -61,68 +59,65 @@ done_unheld {p} {pending = None} waits heard is done held = refl
 done_unheld {p} {pending = Some slot} waits heard is done held =
     let past = held.1.none (p.before + p.keep) is.ends (omega arith) in absurd (omega (arith, past, done))
 
-done_fits : {p : PacerState} {heard : ℕ} {asked : Awaited} {placed : PlacedEntry} {number keep : ℕ} {askings : List
-    StationRequest}
-    {end : ℕ} {slots : List ℕ} {parts : List SentPart} → IsOnTime p heard → keep ≡ p.sent
-    → placed.entry.command ≡ HaltCommand number keep → asked ≡ Halt keep Done → heard ≤ end
+done_fits : {p : PacerState} {heard : ℕ} {asked : Awaited} {placed : PlacedEntry} {askings : List StationRequest}
+    {end : ℕ} {slots : List ℕ} {parts : List SentPart} → IsOnTime p heard → DoneHalt p asked placed → heard ≤ end
     → Fits (point Idle heard None) askings end slots parts
     → Fits (point (Going p) heard None) (Asks asked (Entered placed) ∷ askings) end slots parts
-done_fits {p} {heard} {asked} {placed} {number} {keep} {askings} {end} {slots} {parts} on sent command asks ends fits =
-    let kept : kept_with (Entered placed) (kept_in askings (total_bytes p.plan)) ≡ keep =
-    ap (λ c. kept_by c (kept_in askings (total_bytes p.plan))) command in
+done_fits {p} {heard} {asked} {placed} {askings} {end} {slots} {parts} on halt ends fits =
+    let kept : kept_with (Entered placed) (kept_in askings (total_bytes p.plan)) ≡ halt.keep =
+    ap (λ c. kept_by c (kept_in askings (total_bytes p.plan))) halt.command in
     let none : plays_begun asked (Entered placed) askings ≡ [] =
-    ap (λ a. plays_admitted a placed.entry.answer askings) asks in
+    ap (λ a. plays_admitted a placed.entry.answer askings) halt.asks in
     record {
       from = fits.from;
       later = subst (λ ps. AreLater heard (ps ++ plays_of askings)) (sym none) fits.later;
       stand = subst (λ k. StandAt p k None (plays_begun asked (Entered placed) askings ++ plays_of askings) end
           slots parts) (sym kept)
-          (subst (λ ps. StandAt p keep None (ps ++ plays_of askings) end slots parts) (sym none)
-          (over_at on (sym sent) ends fits.from fits.later fits.stand));
+          (subst (λ ps. StandAt p halt.keep None (ps ++ plays_of askings) end slots parts) (sym none)
+          (over_at on (sym halt.sent) ends fits.from fits.later fits.stand));
     }
 
-done_move : {s new : SessionState} {placed : PlacedEntry} {keep : ℕ} {pending : Option ℕ} → DonePlay s keep →
-    IsHaltAnswered s keep placed new → HeldIn pending s →
-    Move s new pending (Asks s.awaited (Entered placed) ∷ []) [] []
-done_move {s} {new} {placed} {pending = pending} finished halted held =
-    let p : PacerState = play.pacer in
-    let here : IsHeld pending (Going p) s.waits s.heard =
-    subst (λ st. IsHeld pending (sends_in st) s.waits s.heard) is held in
-    let none : pending ≡ None = done_unheld s.waits s.heard on.pacing (done_kept p done) here in
-    let waits : s.waits ≡ false = subst (λ o. IsHeld o (Going p) s.waits s.heard) none here in
-    let sends : sends_in new.state ≡ Idle =
-    ap (λ (n : SessionState). sends_in n.state) halted.halts ∙ halted_idle finished in
-    let heard : new.heard ≡ s.heard = ap (λ (n : SessionState). n.heard) halted.halts in
-    let later : new.waits ≡ false =
-    ap (λ (n : SessionState). n.waits) halted.halts
-    ∙ ap (λ (a : Awaited). if is_answered (next_of a) then true else s.waits) asks ∙ waits in
-    let goes : GoesTo (point (Going p) s.heard None) (point Idle s.heard None) (Asks s.awaited (Entered placed) ∷ [])
-    [] [] = record {
-      later = omega arith;
-      rest = λ askings end more rest ends fits.
-          done_fits on sent halted.command asks ends fits;
-    } in
-    record {
-      after = None;
-      held = later;
-      goes_on = subst (λ o. GoesTo (point (sends_in s.state) s.heard o) (point (sends_in new.state) new.heard None)
-          (Asks s.awaited (Entered placed) ∷ []) [] []) (sym none)
-          (subst (λ x. GoesTo (point x s.heard None) (point (sends_in new.state) new.heard None)
-          (Asks s.awaited (Entered placed) ∷ []) [] []) (sym (ap sends_in is))
-          (subst (λ x. GoesTo (point (Going p) s.heard None) (point x new.heard None)
-          (Asks s.awaited (Entered placed) ∷ []) [] []) (sym sends)
-          (subst (λ h. GoesTo (point (Going p) s.heard None) (point Idle h None)
-          (Asks s.awaited (Entered placed) ∷ []) [] [])
-          (sym heard) goes)));
-    }
-  where
-    open finished use {play, state_is as is, on, done, sent, asks}
+module _ {s new : SessionState} {pending : Option ℕ} where
+  done_move : {placed : PlacedEntry} {keep : ℕ} → DonePlay s keep → IsHaltAnswered s keep placed new → HeldIn pending s
+      → Move s new pending (Asks s.awaited (Entered placed) ∷ []) [] []
+  done_move {placed} finished halted held =
+      let p : PacerState = play.pacer in
+      let here : IsHeld pending (Going p) s.waits s.heard =
+      subst (λ st. IsHeld pending (sends_in st) s.waits s.heard) is held in
+      let none : pending ≡ None = done_unheld s.waits s.heard on.pacing (done_kept p done) here in
+      let waits : s.waits ≡ false = subst (λ o. IsHeld o (Going p) s.waits s.heard) none here in
+      let sends : sends_in new.state ≡ Idle =
+      ap (λ (n : SessionState). sends_in n.state) halted.halts ∙ halted_idle finished in
+      let heard : new.heard ≡ s.heard = ap (λ (n : SessionState). n.heard) halted.halts in
+      let later : new.waits ≡ false =
+      ap (λ (n : SessionState). n.waits) halted.halts
+      ∙ ap (λ (a : Awaited). if is_answered (next_of a) then true else s.waits) asks ∙ waits in
+      let goes : GoesTo (point (Going p) s.heard None) (point Idle s.heard None) (Asks s.awaited (Entered placed) ∷ [])
+      [] [] = record {
+        later = omega arith;
+        rest = λ askings end more rest ends fits.
+            done_fits on (done_halt finished halted) ends fits;
+      } in
+      record {
+        after = None;
+        held = later;
+        goes_on = subst (λ o. GoesTo (point (sends_in s.state) s.heard o) (point (sends_in new.state) new.heard None)
+            (Asks s.awaited (Entered placed) ∷ []) [] []) (sym none)
+            (subst (λ x. GoesTo (point x s.heard None) (point (sends_in new.state) new.heard None)
+            (Asks s.awaited (Entered placed) ∷ []) [] []) (sym (ap sends_in is))
+            (subst (λ x. GoesTo (point (Going p) s.heard None) (point x new.heard None)
+            (Asks s.awaited (Entered placed) ∷ []) [] []) (sym sends)
+            (subst (λ h. GoesTo (point (Going p) s.heard None) (point Idle h None)
+            (Asks s.awaited (Entered placed) ∷ []) [] [])
+            (sym heard) goes)));
+      }
+    where
+      open finished use {play, state_is as is, on, done, asks}
 
-finished_move : {s new : SessionState} {awaited : Awaited} {halt : Outcome} {pending : Option ℕ} → IsSlotOver s →
-    s.awaited ≡ awaited → HeldIn pending s → FinishesAs s new awaited halt →
-    Move s new pending (Asks s.awaited halt ∷ []) [] []
-finished_move {s} over asks held (NothingLeft is) = still_move is (unasked_still s.awaited) held
-finished_move over asks held (DoneHalted halt) = done_move (done_play over asks) halt held
+  finished_move : {awaited : Awaited} {halt : Outcome} → IsSlotOver s → s.awaited ≡ awaited → HeldIn pending s
+      → FinishesAs s new awaited halt → Move s new pending (Asks s.awaited halt ∷ []) [] []
+  finished_move over asks held (NothingLeft is) = still_move is (unasked_still s.awaited) held
+  finished_move over asks held (DoneHalted halt) = done_move (done_play over asks) halt held
 
 -- a session that stands, with the slot in which a reply is held
 pub record StandingHeld (old : SessionState) (pending : Option ℕ) : Type 0 where
@@ -195,21 +190,22 @@ idle_move old slot pending held none later =
           (idle_later old.heard slot (omega (arith, later))));
     }
 
-slot_cases : {old new : SessionState} {halt : Outcome} {pending : Option ℕ} {taken sending : Bool}
-    (slot : ℕ) → StandingHeld old pending → (taken ≡ true → old.heard < slot) → is_sending old.state ≡ sending →
-    let s : SessionState =
-    if taken then (if sending then after_play (sent_slot old slot) else record old { heard = slot }) else old in
-    FinishesAs s new s.awaited halt →
-    Move old new pending (Asks s.awaited halt ∷ []) [] (if taken && sending then due_parts old slot else [])
-slot_cases {taken = false} slot standing later is finishing =
-    rest_move standing.stands.rest standing.held finishing
-slot_cases {taken = true} {sending = true} slot standing later is finishing =
-    sent_move slot standing is (later refl) finishing
-slot_cases {old} {pending = pending} {taken = true} {sending = false} slot standing later is finishing =
-    let first = idle_move old slot pending standing.held is (later refl) in
-    move_then first (rest_move standing.stands.rest first.held finishing)
+module _ {old new : SessionState} {halt : Outcome} {pending : Option ℕ} where
+  slot_cases : {taken sending : Bool} (slot : ℕ) → StandingHeld old pending → (taken ≡ true → old.heard < slot)
+      → is_sending old.state ≡ sending
+      → let s : SessionState = if taken then
+      (if sending then after_play (sent_slot old slot) else record old { heard = slot }) else old in FinishesAs s new
+      s.awaited halt
+      → Move old new pending (Asks s.awaited halt ∷ []) [] (if taken && sending then due_parts old slot else [])
+  slot_cases {taken = false} slot standing later is finishing =
+      rest_move standing.stands.rest standing.held finishing
+  slot_cases {taken = true} {sending = true} slot standing later is finishing =
+      sent_move slot standing is (later refl) finishing
+  slot_cases {taken = true} {sending = false} slot standing later is finishing =
+      let first = idle_move old slot pending standing.held is (later refl) in
+      move_then first (rest_move standing.stands.rest first.held finishing)
 
-pub slot_move : {old new : SessionState} {halt : Outcome} {pending : Option ℕ} (slot : ℕ) → StandingHeld old pending →
-    FinishesAs (after_slot old slot) new (after_slot old slot).awaited halt →
-    Move old new pending (Asks (after_slot old slot).awaited halt ∷ []) [] (slot_parts old slot)
-slot_move {old} slot standing finishing = slot_cases slot standing (taken_later old slot) refl finishing
+  pub slot_move : (slot : ℕ) → StandingHeld old pending
+      → FinishesAs (after_slot old slot) new (after_slot old slot).awaited halt
+      → Move old new pending (Asks (after_slot old slot).awaited halt ∷ []) [] (slot_parts old slot)
+  slot_move slot standing finishing = slot_cases slot standing (taken_later old slot) refl finishing

@@ -103,31 +103,30 @@ least_here {p} {other} keep plays holds at from (inl own) =
     let least = at.least (p.before + other) own.1 (omega (arith, from)) in omega (arith, least)
 least_here {p} {other} keep plays holds at from (inr past) = omega (arith, holds, past.0)
 
-next_here : {p : PacerState} {due : ℕ} {plays : List FilmPlay} (keep slot : ℕ) → p.sent ≤ keep → IsAtNext p due
-    → due_of slot (play_with p keep) ≡ due
-    → AreAfter slot plays → IsNextIn (play_with p keep ∷ plays) (all_due slot (play_with p keep ∷ plays)) p.sent
-next_here {p} {plays} keep slot holds at is are =
-    let all = due_then p keep slot plays is are in
-    record {
-      boundary = inl (holds, at.boundary);
-      after = omega (arith, all, at.after);
-      least = λ other boundary from. least_here keep plays holds at (omega (arith, all, from)) boundary;
-    }
+module _ {p : PacerState} {due : ℕ} {plays : List FilmPlay} where
+  next_here : (keep slot : ℕ) → p.sent ≤ keep → IsAtNext p due → due_of slot (play_with p keep) ≡ due
+      → AreAfter slot plays → IsNextIn (play_with p keep ∷ plays) (all_due slot (play_with p keep ∷ plays)) p.sent
+  next_here keep slot holds at is are =
+      let all = due_then p keep slot plays is are in
+      record {
+        boundary = inl (holds, at.boundary);
+        after = omega (arith, all, at.after);
+        least = λ other boundary from. least_here keep plays holds at (omega (arith, all, from)) boundary;
+      }
 
-pub text_at : {p : PacerState} {keep slot due : ℕ} {plays : List FilmPlay} {end : ℕ} {slots text : List ℕ}
-    {parts : List SentPart} → IsAtNext p due
-    → due_of slot (play_with p keep) ≡ due → AreAfter slot plays → p.sent ≤ first_slots p.plan (end + 1 - p.start)
-    → StandAt p keep None plays end slots parts → StandAt p keep (Some slot) plays end slots (Text text ∷ parts)
-text_at {p} {keep} {slot} {plays} {end} {text} at is are far stand =
-    let all = due_cons end (play_with p keep) plays in
-    let own : p.sent ≤ due_of end (play_with p keep) = omega (arith, far, stand.holds) in
-    record {
-      holds = stand.holds;
-      sent = (
-        record { next = next_here keep slot stand.holds at is are; reached = omega (arith, all, own) },
-        stand.sent,
-      );
-    }
+  pub text_at : {keep slot : ℕ} {end : ℕ} {slots text : List ℕ} {parts : List SentPart} → IsAtNext p due
+      → due_of slot (play_with p keep) ≡ due → AreAfter slot plays → p.sent ≤ first_slots p.plan (end + 1 - p.start)
+      → StandAt p keep None plays end slots parts → StandAt p keep (Some slot) plays end slots (Text text ∷ parts)
+  text_at {keep} {slot} {end} {text} at is are far stand =
+      let all = due_cons end (play_with p keep) plays in
+      let own : p.sent ≤ due_of end (play_with p keep) = omega (arith, far, stand.holds) in
+      record {
+        holds = stand.holds;
+        sent = (
+          record { next = next_here keep slot stand.holds at is are; reached = omega (arith, all, own) },
+          stand.sent,
+        );
+      }
 
 -- a play that is over from a slot on, before the last slot, with the plays after it, which begin at a boundary
 record PastPlay : Type 0 where
@@ -201,33 +200,32 @@ past_all past at [] (Text text ∷ parts) are sent = absurd sent
 past_all past at (slot ∷ slots) (Text text ∷ parts) are sent =
     (past_sent past at text are.0 sent.0, past_all past at slots parts are.1 sent.1)
 
-stays_due : {p : PacerState} {heard keep : ℕ} (slot : ℕ) → IsOnTime p heard → p.sent ≡ keep → heard ≤ slot
-    → due_of slot (play_with p keep) ≡ keep
-stays_due {p} {heard} slot on sent from =
-    let rise : first_slots p.plan (heard + 1 - p.start) ≤ first_slots p.plan (slot + 1 - p.start) =
-    first-slots-rise p.plan (heard + 1 - p.start) (slot + 1 - p.start) (omega (arith, from)) in
-    let now : p.sent ≡ min (first_slots p.plan (heard + 1 - p.start)) p.keep =
-    on.even ∙ on.pacing.due ∙ ap (λ n. min (first_slots p.plan n) p.keep) on.passed in
-    omega (arith, rise, now, sent)
+module _ {p : PacerState} {heard keep : ℕ} where
+  stays_due : (slot : ℕ) → IsOnTime p heard → p.sent ≡ keep → heard ≤ slot → due_of slot (play_with p keep) ≡ keep
+  stays_due slot on sent from =
+      let rise : first_slots p.plan (heard + 1 - p.start) ≤ first_slots p.plan (slot + 1 - p.start) =
+      first-slots-rise p.plan (heard + 1 - p.start) (slot + 1 - p.start) (omega (arith, from)) in
+      let now : p.sent ≡ min (first_slots p.plan (heard + 1 - p.start)) p.keep =
+      on.even ∙ on.pacing.due ∙ ap (λ n. min (first_slots p.plan n) p.keep) on.passed in
+      omega (arith, rise, now, sent)
 
-pub over_at : {p : PacerState} {heard keep : ℕ} {plays : List FilmPlay} {end : ℕ} {slots : List ℕ}
-    {parts : List SentPart} → IsOnTime p heard → p.sent ≡ keep
-    → heard ≤ end → AreFrom heard slots → AreLater heard plays → AreSentAt end plays slots (placed_texts 0 parts)
-    → StandAt p keep None plays end slots parts
-over_at {p} {heard} {keep} {plays} {end} {slots} {parts} on sent ends are later all =
-    let play : FilmPlay = play_with p keep in
-    let past : PastPlay = record {
-      play = play;
-      plays = plays;
-      from = heard;
-      end = end;
-      ends = ends;
-      over = λ slot from. stays_due slot on sent from;
-      begins = later.begins;
-    } in
-    let shifted : AreSentAt end (play ∷ plays) slots (placed_texts (keep + 0) parts) =
-    past_all past 0 slots parts are all in
-    record {
-      holds = omega (arith, sent);
-      sent = subst (λ n. AreSentAt end (play ∷ plays) slots (placed_texts n parts)) (omega (arith, sent)) shifted;
-    }
+  pub over_at : {plays : List FilmPlay} {end : ℕ} {slots : List ℕ} {parts : List SentPart} → IsOnTime p heard
+      → p.sent ≡ keep → heard ≤ end → AreFrom heard slots → AreLater heard plays
+      → AreSentAt end plays slots (placed_texts 0 parts) → StandAt p keep None plays end slots parts
+  over_at {plays} {end} {slots} {parts} on sent ends are later all =
+      let play : FilmPlay = play_with p keep in
+      let past : PastPlay = record {
+        play = play;
+        plays = plays;
+        from = heard;
+        end = end;
+        ends = ends;
+        over = λ slot from. stays_due slot on sent from;
+        begins = later.begins;
+      } in
+      let shifted : AreSentAt end (play ∷ plays) slots (placed_texts (keep + 0) parts) =
+      past_all past 0 slots parts are all in
+      record {
+        holds = omega (arith, sent);
+        sent = subst (λ n. AreSentAt end (play ∷ plays) slots (placed_texts n parts)) (omega (arith, sent)) shifted;
+      }

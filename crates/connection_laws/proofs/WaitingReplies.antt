@@ -186,46 +186,46 @@ due_most : (p : PacerState) (slot : ℕ) → IsPacerState p → due_by p slot �
 due_most p slot is = omega (arith, is.due)
 
 -- the first boundary from what was due on is reached
-next_reached : {p : PacerState} {taken heard : ℕ} (slot : ℕ) → IsPacerState p → IsHeldUp p taken heard
-    → stands_at_boundary (after_step true slot p) ≡ true
-    → IsAtNext (after_step true slot p) (min (first_slots p.plan (taken + 1 - p.start)) p.keep)
-next_reached {p} {taken} slot is held stands =
-    let q : PacerState = after_step true slot p in
-    let next = boundary-from p.pieces (p.before + p.sent) (inside_of p is) in
-    record {
-      boundary = boundary_here q (stopped_is slot p is) stands;
-      after = omega (arith, held.due, next.after, is.sent);
-      least = λ place boundary from.
-          let past = held.none place boundary from in
-          let least = next.least place boundary (omega (arith, past)) in
-          omega (arith, least, next.after);
-    }
+module _ {p : PacerState} {taken heard : ℕ} where
+  next_reached : (slot : ℕ) → IsPacerState p → IsHeldUp p taken heard
+      → stands_at_boundary (after_step true slot p) ≡ true → IsAtNext (after_step true slot p)
+      (min (first_slots p.plan (taken + 1 - p.start)) p.keep)
+  next_reached slot is held stands =
+      let q : PacerState = after_step true slot p in
+      let next = boundary-from p.pieces (p.before + p.sent) (inside_of p is) in
+      record {
+        boundary = boundary_here q (stopped_is slot p is) stands;
+        after = omega (arith, held.due, next.after, is.sent);
+        least = λ place boundary from.
+            let past = held.none place boundary from in
+            let least = next.least place boundary (omega (arith, past)) in
+            omega (arith, least, next.after);
+      }
 
--- or it isn't
-pub still_held : {p : PacerState} {taken heard slot : ℕ} → IsPacerState p → heard < slot → IsHeldUp p taken heard
-    → stands_at_boundary (after_step true slot p) ≡ false
-    → IsHeldUp (sent_through slot p) taken slot
-still_held {p} {taken} {slot} is later held stands =
-    let q : PacerState = after_step true slot p in
-    let all : step_end true (at_slot slot p) ≡ due_by p slot =
-    ap (λ (r : PacerState). r.sent) (slot_is true false slot p is stands) in
-    let next = boundary-from p.pieces (p.before + p.sent) (inside_of p is) in
-    let nearest : ℕ = boundary_from p.pieces (p.before + p.sent) in
-    record {
-      before = omega (arith, held.before, later);
-      due = omega (arith, held.due, is.sent);
-      none = λ place boundary from.
-          let past = held.none place boundary from in
-          let least : nearest ≤ place = next.least place boundary (omega (arith, past)) in
-          elim (cases_lt (p.before + due_by p slot) place) [
-            | inl less ↦ less
-            | inr more ↦
-                let there : nearest ≡ p.before + q.sent = omega (arith, all, least, more, next.after) in
-                absurd (true≢false
-                (sym (boundary_stands q (stopped_is slot p is)
-                (subst (IsBoundary p.pieces) there next.boundary)) ∙ stands))
-          ];
-    }
+  -- or it isn't
+  pub still_held : {slot : ℕ} → IsPacerState p → heard < slot → IsHeldUp p taken heard
+      → stands_at_boundary (after_step true slot p) ≡ false → IsHeldUp (sent_through slot p) taken slot
+  still_held {slot} is later held stands =
+      let q : PacerState = after_step true slot p in
+      let all : step_end true (at_slot slot p) ≡ due_by p slot =
+      ap (λ (r : PacerState). r.sent) (slot_is true false slot p is stands) in
+      let next = boundary-from p.pieces (p.before + p.sent) (inside_of p is) in
+      let nearest : ℕ = boundary_from p.pieces (p.before + p.sent) in
+      record {
+        before = omega (arith, held.before, later);
+        due = omega (arith, held.due, is.sent);
+        none = λ place boundary from.
+            let past = held.none place boundary from in
+            let least : nearest ≤ place = next.least place boundary (omega (arith, past)) in
+            elim (cases_lt (p.before + due_by p slot) place) [
+              | inl less ↦ less
+              | inr more ↦
+                  let there : nearest ≡ p.before + q.sent = omega (arith, all, least, more, next.after) in
+                  absurd (true≢false
+                  (sym (boundary_stands q (stopped_is slot p is)
+                  (subst (IsBoundary p.pieces) there next.boundary)) ∙ stands))
+            ];
+      }
 
 -- a play on time, a later slot that isn't past the end, and whether it stands at a boundary after it
 pub record SlotOn (p : PacerState) (heard slot end : ℕ) (between : Bool) : Type 0 where
@@ -242,60 +242,58 @@ pub record PlaysDue (p : PacerState) (keep slot : ℕ) (plays : List FilmPlay) :
   pub later_plays : AreLater slot plays
 
 -- the reply goes out between two parts of the film's bytes
-slot_between : {p : PacerState} {keep taken heard slot : ℕ} {plays : List FilmPlay} {end : ℕ} {slots : List ℕ}
-    {parts : List SentPart} (text : List ℕ) → SlotOn p heard slot end true →
-    IsHeld (Some taken) (Going p) true heard → PlaysDue p keep slot plays →
-    StandAt (sent_through slot p) keep None plays end slots parts →
-    StandAt p keep (Some taken) plays end slots (parts_in true true p slot text ++ parts)
-slot_between {p} {keep} {taken} {heard} {slot} {plays} {end} {slots} {parts} text slot_on held plays_due stand =
-    let q : PacerState = after_step true slot p in
-    let is = on.pacing in
-    let most : due_by p slot ≤ p.keep = due_most p slot is in
-    let last : step_end false (at_slot slot q) ≡ due_by p slot =
-    ap (λ (r : PacerState). r.sent) (slot_is true true slot p is stands) in
-    let next = boundary-from p.pieces (p.before + p.sent) (inside_of p is) in
-    let from : p.sent ≤ q.sent = omega (arith, next.after, is.sent) in
-    let to : q.sent ≤ due_by p slot = omega arith in
-    let rest : StandAt q keep None plays end slots
-    (Film (plan_bytes q q.sent (step_end false (at_slot slot q))) ∷ parts) =
-    subst (λ n. StandAt q keep None plays end slots (Film (plan_bytes q q.sent n) ∷ parts)) (sym last)
-    (film_at refl
-    (size_to q (due_by p slot) (stopped_is slot p is) to most) stand) in
-    let at = next_reached slot is held.1 stands in
-    let far : (sent_through slot p).sent ≤ first_slots p.plan (end + 1 - p.start) =
-    due_far (sent_through slot p) slot end (through_time p heard slot on later) ends in
-    let reply = text_at
-    at (plays_due.due taken (omega (arith, at.after, rest.holds)))
-    (later_lower taken slot plays (omega (arith, held.1.before, later)) plays_due.later_plays).starts
-    (omega (arith, to, far)) rest in
-    film_at
-    refl
-    (size_to p q.sent is from (omega (arith, to, most))) reply
-  where
-    open slot_on use {on, later, ends, stands}
+module _ {p : PacerState} {keep heard slot : ℕ} {plays : List FilmPlay} {end : ℕ} {slots : List ℕ}
+    {parts : List SentPart} where
+  slot_between : {taken : ℕ} (text : List ℕ) → SlotOn p heard slot end true → IsHeld (Some taken) (Going p) true heard
+      → PlaysDue p keep slot plays → StandAt (sent_through slot p) keep None plays end slots parts
+      → StandAt p keep (Some taken) plays end slots (parts_in true true p slot text ++ parts)
+  slot_between {taken} text slot_on held plays_due stand =
+      let q : PacerState = after_step true slot p in
+      let is = on.pacing in
+      let most : due_by p slot ≤ p.keep = due_most p slot is in
+      let last : step_end false (at_slot slot q) ≡ due_by p slot =
+      ap (λ (r : PacerState). r.sent) (slot_is true true slot p is stands) in
+      let next = boundary-from p.pieces (p.before + p.sent) (inside_of p is) in
+      let from : p.sent ≤ q.sent = omega (arith, next.after, is.sent) in
+      let to : q.sent ≤ due_by p slot = omega arith in
+      let rest : StandAt q keep None plays end slots
+      (Film (plan_bytes q q.sent (step_end false (at_slot slot q))) ∷ parts) =
+      subst (λ n. StandAt q keep None plays end slots (Film (plan_bytes q q.sent n) ∷ parts)) (sym last)
+      (film_at refl
+      (size_to q (due_by p slot) (stopped_is slot p is) to most) stand) in
+      let at = next_reached slot is held.1 stands in
+      let far : (sent_through slot p).sent ≤ first_slots p.plan (end + 1 - p.start) =
+      due_far (sent_through slot p) slot end (through_time p heard slot on later) ends in
+      let reply = text_at
+      at (plays_due.due taken (omega (arith, at.after, rest.holds)))
+      (later_lower taken slot plays (omega (arith, held.1.before, later)) plays_due.later_plays).starts
+      (omega (arith, to, far)) rest in
+      film_at
+      refl
+      (size_to p q.sent is from (omega (arith, to, most))) reply
+    where
+      open slot_on use {on, later, ends, stands}
 
--- the bytes of a slot, with the reply that waits
-pub slot_at : {p : PacerState} {keep : ℕ} {pending : Option ℕ} {heard slot : ℕ} {between : Bool} {plays : List FilmPlay}
-    {end : ℕ} {slots : List ℕ} {parts : List SentPart} (waits : Bool) (text : List ℕ) → SlotOn p heard slot end between
-    →
-    IsHeld pending (Going p) waits heard → PlaysDue p keep slot plays →
-    StandAt (sent_through slot p) keep (after_slot between pending) plays end slots parts →
-    StandAt p keep pending plays end slots (parts_in waits between p slot text ++ parts)
-slot_at {p} {pending = None} {slot} {between} {end} true text slot_on held plays_due stand = absurd (true≢false held)
-slot_at {p} {pending = None} {slot} {between} {end} false text slot_on held plays_due stand =
-    film_at refl
-    (size_to p (due_by p slot) slot_on.on.pacing (omega (arith, slot_on.on.pacing.sent))
-    (due_most p slot slot_on.on.pacing)) stand
-slot_at {p} {pending = Some taken} {slot} {between} {end} false text slot_on held plays_due stand =
-    absurd (true≢false (sym held.0))
-slot_at {p} {keep} {pending = Some taken} {slot} {between = false} {plays} {end} {slots} {parts} true text
-    slot_on held plays_due stand =
-    let all : step_end true (at_slot slot p) ≡ due_by p slot =
-    ap (λ (r : PacerState). r.sent) (slot_is true false slot p on.pacing stands) in
-    subst (λ to. StandAt p keep (Some taken) plays end slots (Film (plan_bytes p p.sent to) ∷ parts)) (sym all)
-    (film_at refl
-    (size_to p (due_by p slot) on.pacing (omega (arith, on.pacing.sent)) (due_most p slot on.pacing)) stand)
-  where
-    open slot_on use {on, stands}
-slot_at {pending = Some taken} {between = true} true text slot_on held plays_due stand =
-    slot_between text slot_on held plays_due stand
+  -- the bytes of a slot, with the reply that waits
+  pub slot_at : {pending : Option ℕ} {between : Bool} (waits : Bool) (text : List ℕ) → SlotOn p heard slot end between
+      → IsHeld pending (Going p) waits heard → PlaysDue p keep slot plays
+      → StandAt (sent_through slot p) keep (after_slot between pending) plays end slots parts
+      → StandAt p keep pending plays end slots (parts_in waits between p slot text ++ parts)
+  slot_at {pending = None} {between} true text slot_on held plays_due stand = absurd (true≢false held)
+  slot_at {pending = None} {between} false text slot_on held plays_due stand =
+      film_at refl
+      (size_to p (due_by p slot) slot_on.on.pacing (omega (arith, slot_on.on.pacing.sent))
+      (due_most p slot slot_on.on.pacing)) stand
+  slot_at {pending = Some taken} {between} false text slot_on held plays_due stand =
+      absurd (true≢false (sym held.0))
+  slot_at {pending = Some taken} {between = false} true text
+      slot_on held plays_due stand =
+      let all : step_end true (at_slot slot p) ≡ due_by p slot =
+      ap (λ (r : PacerState). r.sent) (slot_is true false slot p on.pacing stands) in
+      subst (λ to. StandAt p keep (Some taken) plays end slots (Film (plan_bytes p p.sent to) ∷ parts)) (sym all)
+      (film_at refl
+      (size_to p (due_by p slot) on.pacing (omega (arith, on.pacing.sent)) (due_most p slot on.pacing)) stand)
+    where
+      open slot_on use {on, stands}
+  slot_at {pending = Some taken} {between = true} true text slot_on held plays_due stand =
+      slot_between text slot_on held plays_due stand

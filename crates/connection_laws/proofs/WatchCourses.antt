@@ -106,17 +106,20 @@ pub record IsPromise (wish : Wish) (film : Film) (watched : Watched) (out : List
       → out ≡ take (last.to - first.from) (drop first.from film.bytes.items)
 
 -- a stream's film for a wish, with some time for its pictures
-pub record WishedStream (wish : Wish) (film : Film) (identity : Identity) (x : Stream) : Type 0 where
+pub record WishedStream : Type 0 where
+  pub wish : Wish
+  pub film : Film
+  pub identity : Identity
+  pub x : Stream
   pub wished : IsWish wish
   pub timed : 0 < picture_time film.rate
   pub film_is : IsFilmIn film identity x
 
-pub kept_promise : {wish : Wish} {film : Film} {identity : Identity} {x : Stream} {watched : Watched}
-    {rounds : List Round} {mid : WatchStage} {bytes out : List ℕ} (c : ℕ) → WishedStream wish film identity x →
-    RunsAll (stage [] []) rounds mid → HasWatchedAll wish watched rounds mid bytes out →
-    rounds_heard rounds ++ bytes ≡ take c (framed_bytes (all_of x)) →
-    AreFed wish film x (first_slot mid.history) [] rounds → IsPromise wish film watched out
-kept_promise {wish} {film} {x} {rounds} {mid} {bytes} {out} c wished_stream runs all front fed =
+pub kept_promise : {watched : Watched} {rounds : List Round} {mid : WatchStage} {bytes out : List ℕ} (c : ℕ)
+    (s : WishedStream) → RunsAll (stage [] []) rounds mid → HasWatchedAll s.wish watched rounds mid bytes out →
+    rounds_heard rounds ++ bytes ≡ take c (framed_bytes (all_of s.x)) →
+    AreFed s.wish s.film s.x (first_slot mid.history) [] rounds → IsPromise s.wish s.film watched out
+kept_promise {rounds} {mid} {bytes} {out} c s runs all front fed =
     let done = all.done in
     let h = done.at.history in
     let sum = done_sum x c done front in
@@ -127,8 +130,16 @@ kept_promise {wish} {film} {x} {rounds} {mid} {bytes} {out} c wished_stream runs
     let mine : rounds_heard rounds ≡ take (length (rounds_heard rounds)) (framed_bytes (all_of x)) =
     front_of (rounds_heard rounds) bytes (framed_bytes (all_of x)) c front in
     let always =
-    always_all (record { heard = heard_none; idle = inl refl; count = length (rounds_heard rounds); front = mine }) runs
-    (record { film_is = is; count = whole.count }) (record { few = few; begins = refl }) fed tt in
+    always_all (record {
+      wish = wish;
+      film = film;
+      identity = identity;
+      x = x;
+      begin = first_slot mid.history;
+      film_is = is;
+      count = whole.count;
+    }) (record { heard = heard_none; idle = inl refl; count = length (rounds_heard rounds); front = mine }) runs
+    (record { few = few; begins = refl }) fed tt in
     let A : History → Type 0 = λ g. IsBetweenAlways wish (film_sizes film) (picture_time film.rate) g in
     let last = subst A (sym all.history)
     (always_elements wish (film_sizes film) (picture_time film.rate) mid.history all.elements always) in
@@ -146,7 +157,7 @@ kept_promise {wish} {film} {x} {rounds} {mid} {bytes} {out} c wished_stream runs
           ∙ (ap payloads (sym done.history_is) ∙ film_comes_back h is sum at_first at_last));
     }
   where
-    open wished_stream use {wished, timed, film_is as is}
+    open s use {wish, film, identity, x, wished, timed, film_is as is}
 
 -- ---- what the link exposed
 

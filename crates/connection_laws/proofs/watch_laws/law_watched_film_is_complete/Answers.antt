@@ -38,7 +38,7 @@ returns-clause-asked c = λ wish stored course watched heard out asked client ca
 
 pub returns-clause-unrefused : goal.returns-clause-unrefused
 returns-clause-unrefused c = λ wish stored course end heard out played small replies client front.
-    watched_unrefused {wish = wish} {stored = stored} {course = course} {end = end} {heard = heard} {out = out}
+    watched_unrefused {wish = wish} {stored = stored} {course = course} {heard = heard} {end = end} {out = out}
     (record {
       played = played;
       small = small;
@@ -60,7 +60,7 @@ returns-clause-done c = λ wish stored course end heard out wished played small 
 
 pub returns-clause-asked_unrefused : goal.returns-clause-asked_unrefused
 returns-clause-asked_unrefused c = λ wish stored course end heard out asked range client front.
-    watched_unrefused {wish = wish} {stored = stored} {course = course} {end = end} {heard = heard} {out = out}
+    watched_unrefused {wish = wish} {stored = stored} {course = course} {heard = heard} {end = end} {out = out}
     (asked_served asked range c.law_whole_film_ends_in_done.ensures.frame c.law_whole_film_ends_in_done.ensures.done)
     client front
 
