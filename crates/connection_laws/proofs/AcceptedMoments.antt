@@ -32,8 +32,7 @@ use Rattle.rtsp_client.specs.WholeFilms.{AwaitsFilm, frames_of_film}
 use Rattle.connection_laws.specs.WatchEnds.{AreAnswers, AreGoodReplies}
 use Rattle.connection_laws.proofs.ClientInput.{no_sum}
 use Rattle.connection_laws.proofs.ElementStreams.{AreAlone, no_element}
-use Rattle.connection_laws.proofs.FilmReading.{IsFilmIn, film_run, units_all}
-use Rattle.connection_laws.proofs.FinishedWatches.{more_reply}
+use Rattle.connection_laws.proofs.FilmReading.{IsFilmIn, film_run, units_all, more_reply}
 use Rattle.connection_laws.proofs.FirstFrames.{HasGoneOn}
 use Rattle.connection_laws.proofs.HistorySums.{AreOneBlocks, Sum, blocks_same, steps, steps_on, sum_of}
 use Rattle.connection_laws.proofs.MeterInput.{AreTexts, Stream, all_of, begun_sum, two_moments}

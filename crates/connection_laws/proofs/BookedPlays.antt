@@ -1,6 +1,7 @@
--- The plays of a course are those that its entries record.
+-- The plays of a course are those that its entries record, and what was sent of its one play by the step of a slot.
 use Rattle.std.specs.Prelude.{⊤}
-use Rattle.std.proofs.Common.{◌≡◌, ℕ, ◌++◌, List, [], ◌∷◌, map, refl, ap, sym, ◌∙◌}
+use Rattle.std.proofs.Common.{◌≡◌, ℕ, ◌++◌, List, [], ◌∷◌, map, refl, ap, sym, ◌∙◌, ◌<◌, ◌≤◌, ◌⊎◌, subst, append_assoc}
+use Rattle.std.proofs.Common.{arith, inl, inr}
 use Rattle.std.proofs.lemmas.List.{map-append}
 use Rattle.vod_base.specs.Links.{IoEvent}
 use Rattle.plan_cert.specs.PlanSlots.{total_bytes}
@@ -10,18 +11,26 @@ use Rattle.admission.specs.Makers.{PlacedEntry}
 use Rattle.admission.specs.declared.entries.Answer.TheVariants.{Admitted}
 use Rattle.station.specs.Ledgers.{play_of}
 use Rattle.session.specs.declared.states.Awaited.{Awaited}
-use Rattle.session.specs.declared.states.Awaited.TheVariants.{Play}
+use Rattle.session.specs.declared.states.Awaited.TheVariants.{Play, Nothing, Halt, Look, Offer}
 use Rattle.session.specs.SessionStates.{SessionState}
 use Rattle.conn.specs.EventSteps.{Round, entries_in, round_outcomes, rounds_outcomes, takings_outcomes}
 use Rattle.conn.specs.InputSteps.{Outcome, Unasked, SentPart, Stage, ElementStep, Passed, Answered, TakesAll, entry_in}
+use Rattle.conn.specs.InputSteps.{Entered}
 use Rattle.connection_laws.specs.Courses.{IsCourseBetween, asked_by, askings_of, first_stage, round_askings}
-use Rattle.connection_laws.specs.Courses.{takings_askings, Course, course_plays}
+use Rattle.connection_laws.specs.Courses.{takings_askings, Course, course_plays, IsCourseSplit}
 use Rattle.connection_laws.specs.Plays.{StationRequest, Asks, plays_admitted, plays_begun, booked_by, booked_plays}
-use Rattle.connection_laws.specs.Plays.{booking_of, kept_among, kept_in, kept_with, plays_of}
-use Rattle.connection_laws.proofs.RequestEffects.{Ends, Starts, Stays, TurnsAs, told_by, turns_as}
+use Rattle.connection_laws.specs.Plays.{booking_of, kept_among, kept_in, kept_with, plays_of, FilmPlay, kept_by}
+use Rattle.connection_laws.proofs.RequestEffects.{Ends, Starts, Stays, TurnsAs, told_by, turns_as, Begins}
 use Rattle.connection_laws.proofs.StationAnswers.{FinishesAs, NothingLeft, DoneHalted, ComesAs, BytesCame, SlotCame}
-use Rattle.connection_laws.proofs.CourseInduction.{Piece}
-use Rattle.connection_laws.proofs.FilmBytes.{IsKeptStanding, standing_course_kept}
+use Rattle.connection_laws.proofs.CourseInduction.{Piece, parts_of, comes_heard}
+use Rattle.connection_laws.proofs.FilmBytes.{IsKeptStanding, standing_course_kept, Stands}
+use Rattle.plan_cert.specs.Plan.{IsPlan}
+use Rattle.film_frames.specs.FramedRuns.{run_pieces}
+use Rattle.admission.specs.declared.entries.Answer.{Answer}
+use Rattle.admission.specs.declared.entries.Command.{Command}
+use Rattle.admission.specs.declared.entries.Command.TheVariants.{Halt as HaltCommand}
+use Rattle.session.specs.declared.states.Prepared.{Prepared}
+use Rattle.connection_laws.proofs.KeptParts.{LastingPart, taken_keeps}
 
 -- the play that begins is the one that the entry records, if any
 abbrev pub IsToldBy : Awaited → Outcome → Type 0
@@ -145,3 +154,244 @@ plays_booked course =
     plays_told (askings_of first course.rounds course.last course.follows)
     (standing_course_kept told_kept first course.last course.rounds course.follows (record { rest = refl; sound = tt }))
     ∙ ap (λ os. booked_plays (entries_in os)) (course_outcomes first course.last course.rounds course.follows)
+
+-- ---- askings in two parts
+
+pub askings_parts : (old new : Stage) (first rest : List Round) (follows : IsCourseBetween old (first ++ rest) new)
+    → let parts : IsCourseSplit old first rest new = parts_of old new first rest follows in
+    askings_of old (first ++ rest) new follows ≡ askings_of old first parts.0 parts.1.0
+    ++ askings_of parts.0 rest new parts.1.1
+askings_parts old new [] rest follows = refl
+askings_parts old new (round ∷ first) rest follows =
+    let made = round_askings old round follows.0 follows.1.0 in
+    let parts = parts_of follows.0 new first rest follows.1.1 in
+    ap (λ l. made ++ l) (askings_parts follows.0 new first rest follows.1.1)
+    ∙ sym (append_assoc made (askings_of follows.0 first parts.0 parts.1.0) (askings_of parts.0 rest new parts.1.1))
+
+-- ---- what is kept, and which plays begin
+
+kept_append : (a b : List StationRequest) (all : ℕ) → kept_in (a ++ b) all ≡ kept_in a (kept_in b all)
+kept_append [] b all = refl
+kept_append (Asks asked outcome ∷ a) b all = ap (kept_with outcome) (kept_append a b all)
+
+-- what is kept is what is kept later, or a number
+abbrev IsKeptSome : (ℕ → ℕ) → Type 0
+IsKeptSome keep = ((later : ℕ) → keep later ≡ later) ⊎ ((n : ℕ) × ((later : ℕ) → keep later ≡ n))
+
+kept_command : (command : Command) → IsKeptSome (kept_by command)
+kept_command (HaltCommand number keep) = inr (keep, λ later. refl)
+kept_command _ = inl (λ later. refl)
+
+kept_outcome : (outcome : Outcome) → IsKeptSome (kept_with outcome)
+kept_outcome (Entered placed) = kept_command placed.entry.command
+kept_outcome _ = inl (λ later. refl)
+
+kept_both : (one two : ℕ → ℕ) → IsKeptSome one → IsKeptSome two → IsKeptSome (λ later. one (two later))
+kept_both one two (inl same) (inl other) = inl (λ later. same (two later) ∙ other later)
+kept_both one two (inl same) (inr (n, is)) = inr (n, λ later. same (two later) ∙ is later)
+kept_both one two (inr (n, is)) other = inr (n, λ later. is (two later))
+
+kept_some : (a : List StationRequest) → IsKeptSome (kept_in a)
+kept_some [] = inl (λ later. refl)
+kept_some (Asks asked outcome ∷ a) = kept_both (kept_with outcome) (kept_in a) (kept_outcome outcome) (kept_some a)
+
+-- where all is kept in the end, all is kept so far
+kept_all : (a : List StationRequest) (rest all : ℕ) → IsKeptSome (kept_in a) → kept_in a rest ≡ all → kept_in a all ≡
+    all
+kept_all a rest all (inl same) is = same all
+kept_all a rest all (inr (n, const)) is = const all ∙ (sym (const rest) ∙ is)
+
+abbrev begun_play : Prepared → ℕ → List StationRequest → FilmPlay
+begun_play prepared start askings = record {
+  start = start;
+  plan = prepared.plan;
+  keep = kept_in askings (total_bytes prepared.plan);
+  before = prepared.run.sent;
+  pieces = run_pieces prepared.frames;
+}
+
+-- an asking begins no play, or one
+data Beginning (asked : Awaited) (outcome : Outcome) : Type 0 where
+  BeginsNone : ((askings : List StationRequest) → plays_begun asked outcome askings ≡ []) → Beginning asked outcome
+  BeginsOne : (prepared : Prepared) (start : ℕ)
+      → ((askings : List StationRequest) → plays_begun asked outcome askings ≡ begun_play prepared start askings ∷ [])
+      → Beginning asked outcome
+
+entered_either : (asked : Awaited) (placed : PlacedEntry) (answer : Answer) → placed.entry.answer ≡ answer
+    → Beginning asked (Entered placed)
+entered_either (Play prepared) placed (Admitted start) is =
+    BeginsOne prepared start (λ askings. ap (λ a. plays_admitted (Play prepared) a askings) is)
+entered_either Nothing placed answer is = BeginsNone (λ askings. refl)
+entered_either (Halt keep next) placed answer is = BeginsNone (λ askings. refl)
+entered_either (Look sequence) placed answer is = BeginsNone (λ askings. refl)
+entered_either (Offer sequence) placed answer is = BeginsNone (λ askings. refl)
+entered_either (Play prepared) placed _ is =
+    BeginsNone (λ askings. ap (λ a. plays_admitted (Play prepared) a askings) is)
+
+either : (asked : Awaited) (outcome : Outcome) → Beginning asked outcome
+either asked (Entered placed) = entered_either asked placed placed.entry.answer refl
+either asked _ = BeginsNone (λ askings. refl)
+
+-- none at all, none so far
+before_by : {asked : Awaited} {outcome : Outcome} (a b : List StationRequest)
+    → (plays_of (a ++ b) ≡ [] → plays_of a ≡ []) → Beginning asked outcome
+    → plays_of (Asks asked outcome ∷ (a ++ b)) ≡ []
+    → plays_of (Asks asked outcome ∷ a) ≡ []
+before_by a b rest (BeginsNone is) none =
+    ap (λ l. l ++ plays_of a) (is a) ∙ rest (sym (ap (λ l. l ++ plays_of (a ++ b)) (is (a ++ b))) ∙ none)
+before_by a b rest (BeginsOne prepared start is) none =
+    let some : begun_play prepared start (a ++ b) ∷ plays_of (a ++ b) ≡ [] =
+    sym (ap (λ l. l ++ plays_of (a ++ b)) (is (a ++ b))) ∙ none in
+    absurd (let no : ⊥ = cc in no)
+
+none_before : (a b : List StationRequest) → plays_of (a ++ b) ≡ [] → plays_of a ≡ []
+none_before [] b none = refl
+none_before (Asks asked outcome ∷ a) b none = before_by a b (none_before a b) (either asked outcome) none
+
+-- one play that is kept entirely: it began already, and is the same, or it begins later
+abbrev pub IsSoFar : List StationRequest → List StationRequest → FilmPlay → Type 0
+IsSoFar a b play = (plays_of a ≡ play ∷ []) ⊎ ((plays_of a ≡ []) × (plays_of b ≡ play ∷ []))
+
+one_by : {asked : Awaited} {outcome : Outcome} {play : FilmPlay} (a b : List StationRequest)
+    → (plays_of (a ++ b) ≡ play ∷ [] → IsSoFar a b play) → Beginning asked outcome
+    → plays_of (Asks asked outcome ∷ (a ++ b)) ≡ play ∷ [] → play.keep ≡ total_bytes play.plan
+    → IsSoFar (Asks asked outcome ∷ a) b play
+one_by {play} a b rest (BeginsNone is) one whole =
+    let P : List FilmPlay → Type 0 = λ l. (l ++ plays_of a ≡ play ∷ [])
+    ⊎ ((l ++ plays_of a ≡ []) × (plays_of b ≡ play ∷ [])) in
+    subst P (sym (is a)) (rest (sym (ap (λ l. l ++ plays_of (a ++ b)) (is (a ++ b))) ∙ one))
+one_by {play} a b rest (BeginsOne prepared start is) one whole =
+    let there : begun_play prepared start (a ++ b) ∷ plays_of (a ++ b) ≡ play ∷ [] =
+    sym (ap (λ l. l ++ plays_of (a ++ b)) (is (a ++ b))) ∙ one in
+    let same : begun_play prepared start (a ++ b) ≡ play = cc in
+    let none : plays_of (a ++ b) ≡ [] = cc in
+    let all : kept_in (a ++ b) (total_bytes prepared.plan) ≡ total_bytes prepared.plan =
+    ap (λ (p : FilmPlay). p.keep) same ∙ (whole ∙ sym (ap (λ (p : FilmPlay). total_bytes p.plan) same)) in
+    let kept : kept_in a (total_bytes prepared.plan) ≡ kept_in (a ++ b) (total_bytes prepared.plan) =
+    kept_all a (kept_in b (total_bytes prepared.plan)) (total_bytes prepared.plan) (kept_some a)
+    (sym (kept_append a b (total_bytes prepared.plan)) ∙ all) ∙ sym all in
+    let mine : begun_play prepared start a ≡ begun_play prepared start (a ++ b) =
+    ap (λ k. record (begun_play prepared start a) { keep = k }) kept in
+    inl (ap (λ l. l ++ plays_of a) (is a)
+    ∙ (ap (λ l. begun_play prepared start a ∷ l) (none_before a b none) ∙ ap (λ p. p ∷ []) (mine ∙ same)))
+
+pub one_so_far : (a b : List StationRequest) (play : FilmPlay) → plays_of (a ++ b) ≡ play ∷ []
+    → play.keep ≡ total_bytes play.plan → IsSoFar a b play
+one_so_far [] b play one whole = inr (refl, one)
+one_so_far (Asks asked outcome ∷ a) b play one whole =
+    one_by a b (λ is. one_so_far a b play is whole) (either asked outcome) one whole
+
+-- ---- a play begins after the slot that was received, with a plan of segments
+
+pub record IsLatePlay (heard : ℕ) (play : FilmPlay) : Type 0 where
+  pub late : heard < play.start
+  pub plan : IsPlan play.plan
+
+abbrev IsLate : ℕ → Awaited → Outcome → Type 0
+IsLate heard asked outcome =
+    (askings : List StationRequest) (play : FilmPlay) (rest : List FilmPlay)
+    → plays_begun asked outcome askings ≡ play ∷ rest → IsLatePlay heard play
+
+abbrev pub AreLate : ℕ → List StationRequest → Type 0
+AreLate heard [] = ⊤
+AreLate heard (Asks asked outcome ∷ askings) = IsLate heard asked outcome × AreLate heard askings
+
+late_append : (heard : ℕ) (a b : List StationRequest) → AreLate heard a → AreLate heard b → AreLate heard (a ++ b)
+late_append heard [] b one two = two
+late_append heard (Asks asked outcome ∷ a) b one two = (one.0, late_append heard a b one.1 two)
+
+late_lower : (low heard : ℕ) (a : List StationRequest) → low ≤ heard → AreLate heard a → AreLate low a
+late_lower low heard [] less are = tt
+late_lower low heard (Asks asked outcome ∷ a) less are = (
+  λ askings play rest is. let its =
+      are.0 askings play rest is in record { late = omega (arith, less, its.late); plan = its.plan },
+  late_lower low heard a less are.1,
+)
+
+late_by : {heard : ℕ} {asked : Awaited} {outcome : Outcome} {play : FilmPlay} {rest : List FilmPlay}
+    (a : List StationRequest)
+    → (plays_of a ≡ play ∷ rest → IsLatePlay heard play) → Beginning asked outcome
+    → AreLate heard (Asks asked outcome ∷ a) → plays_of (Asks asked outcome ∷ a) ≡ play ∷ rest → IsLatePlay heard play
+late_by a next (BeginsNone none) are is =
+    next (sym (ap (λ l. l ++ plays_of a) (none a)) ∙ is)
+late_by {play} {rest} a next (BeginsOne prepared start one) are is =
+    let all : begun_play prepared start a ∷ plays_of a ≡ play ∷ rest = sym (ap (λ l. l ++ plays_of a) (one a)) ∙ is in
+    let same : begun_play prepared start a ≡ play = cc in
+    are.0 a play [] (one a ∙ ap (λ p. p ∷ []) same)
+
+pub late_play : (heard : ℕ) (a : List StationRequest) (play : FilmPlay) (rest : List FilmPlay) → AreLate heard a
+    → plays_of a ≡ play ∷ rest → IsLatePlay heard play
+late_play heard [] play rest are is = absurd (let no : ⊥ = cc in no)
+late_play heard (Asks asked outcome ∷ a) play rest are is =
+    late_by a (λ same. late_play heard a play rest are.1 same) (either asked outcome) are is
+
+-- by what was asked
+none_late : (heard : ℕ) (asked : Awaited) (outcome : Outcome)
+    → ((askings : List StationRequest) → plays_begun asked outcome askings ≡ []) → IsLate heard asked outcome
+none_late heard asked outcome none = λ askings play rest is.
+    let clash : [] ≡ play ∷ rest = sym (none askings) ∙ is in absurd (let no : ⊥ = cc in no)
+
+begins_late : (old new : SessionState) (asked : Awaited) (outcome : Outcome) → Begins old asked outcome new
+    → IsLate old.heard asked outcome
+begins_late old new asked outcome begins = λ askings play rest is.
+    let mine : plays_begun asked outcome askings ≡ begun_play begins.prepared begins.start askings ∷ [] =
+    ap (λ o. plays_begun asked o askings) begins.outcome_is
+    ∙ (ap (λ a. plays_admitted a begins.placed.entry.answer askings) begins.asked_is
+    ∙ ap (λ a. plays_admitted (Play begins.prepared) a askings) begins.answer) in
+    let all : begun_play begins.prepared begins.start askings ∷ [] ≡ play ∷ rest = sym mine ∙ is in
+    let same : begun_play begins.prepared begins.start askings ≡ play = cc in
+    let L : FilmPlay → Type 0 = λ p. IsLatePlay old.heard p in
+    subst L same (record { late = begins.later; plan = subst IsPlan begins.paced begins.pacing.plan })
+
+turn_late : (old new : SessionState) (asked : Awaited) (outcome : Outcome) → TurnsAs old asked outcome new
+    → IsLate old.heard asked outcome
+turn_late old new asked outcome (Stays same after still) = none_late old.heard asked outcome still.none
+turn_late old new asked outcome (Starts after begins) = begins_late old new asked outcome begins
+turn_late old new asked outcome (Ends after halts) = none_late old.heard asked outcome halts.none
+
+-- the halt of a play that is done begins none
+halt_none : {s new : SessionState} {asked : Awaited} {halt : Outcome} → FinishesAs s new asked halt
+    → (askings : List StationRequest) → plays_begun asked halt askings ≡ []
+halt_none (NothingLeft is) = λ askings. refl
+halt_none (DoneHalted halt) = λ askings. refl
+
+pub comes_none : {old opened : Stage} {event : IoEvent} {due : List SentPart} {halt : Outcome}
+    → ComesAs old opened event due halt → (askings : List StationRequest)
+    → plays_begun (asked_by old.session event) halt askings ≡ []
+comes_none (BytesCame is) = λ askings. refl
+comes_none (SlotCame finish) = halt_none finish
+
+-- the slot that was received last stays or rises, and plays begin after it
+record LateAskings (old : SessionState) (made : List StationRequest) (new : SessionState) : Type 0 where
+  later : old.heard ≤ new.heard
+  late : AreLate old.heard made
+
+abbrev LateOn : SessionState → Piece → SessionState → Type 0
+LateOn old piece new = LateAskings old piece.askings new
+
+late_kept : IsKeptStanding LateOn
+late_kept = record {
+  none = λ s. record { later = omega arith; late = tt };
+  joins = λ a b c one two first rest. record {
+    later = omega (arith, first.later, rest.later);
+    late = late_append a.heard one.askings two.askings first.late
+        (late_lower a.heard b.heard two.askings first.later rest.late);
+  };
+  request = λ old new message outcome parts replied stands. record {
+    later = let same = ap (λ (part : LastingPart). part.heard) (taken_keeps replied) in omega (arith, same);
+    late = (
+      turn_late old.session replied.answered replied.heard.asking.awaited outcome
+          (turns_as old.session message outcome replied.answered replied.heard stands.rest),
+      tt,
+    );
+  };
+  event = λ old opened event due halt comes stands. record {
+    later = let heard = comes_heard comes in omega (arith, heard);
+    late = (none_late old.session.heard (asked_by old.session event) halt (comes_none comes), tt);
+  };
+}
+
+pub course_late : (old new : Stage) (rounds : List Round) (follows : IsCourseBetween old rounds new) → Stands
+    old.session
+    → AreLate old.session.heard (askings_of old rounds new follows)
+course_late old new rounds follows stands = (standing_course_kept late_kept old new rounds follows stands).late

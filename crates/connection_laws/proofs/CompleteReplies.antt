@@ -37,13 +37,12 @@ use Rattle.conn.specs.InputSteps.{Answered, Entered, HasHeard, IsReplied, Outcom
 use Rattle.conn.specs.InputSteps.{TakesAll}
 use Rattle.connection_laws.specs.Courses.{IsCourseBetween}
 use Rattle.connection_laws.specs.Replies.{PlacedText, replies_of, takings_replies, text_of}
-use Rattle.connection_laws.proofs.KeptParts.{answered_names, names_in, replied_names}
+use Rattle.connection_laws.proofs.KeptParts.{answered_names, names_in, replied_names, IsSameSetup, halted_setup}
+use Rattle.connection_laws.proofs.KeptParts.{opened_setup, replied_setup}
 use Rattle.connection_laws.proofs.Requests.{rounds_requests, takings_requests}
 use Rattle.connection_laws.proofs.SetupOnly.{Beginning}
-use Rattle.connection_laws.proofs.KeptSetups.{IsSameSetup, halted_setup, opened_setup, replied_setup}
-use Rattle.connection_laws.proofs.PrintedTexts.{IsPrinted, printed_w64}
+use Rattle.connection_laws.proofs.ReplyReadings.{IsPrinted, printed_w64, teardown_read as read_teardown}
 use Rattle.connection_laws.specs.WatchEnds.{AreAnswers}
-use Rattle.connection_laws.proofs.ReplyReadings.{teardown_read as read_teardown}
 use Rattle.connection_laws.proofs.RequestReplies.{IsNamed, named_still, teardown_replied}
 use Rattle.connection_laws.proofs.StationAnswers.{AnswersAs, NoneAsked, PlayAdmitted, PlayRefused, PlayHalted, LookMade}
 use Rattle.connection_laws.proofs.StationAnswers.{answers_as}

@@ -1,22 +1,42 @@
--- One induction over what a connection does, from its first event on.
-use Rattle.std.proofs.Common.{◌≡◌, ℕ, ◌^◌, ◌<◌, ◌≤◌, ◌++◌, ◌&&◌, if◌then◌else◌, Bool, true, false, nat_le, max, List}
-use Rattle.std.proofs.Common.{[], ◌∷◌, refl, ap, sym, ◌∙◌, subst, arith}
+-- Courses joined and parted, and one induction over what a connection does, from its first event on.
+use Rattle.std.proofs.Common.{◌++◌, List, [], ◌∷◌, refl, subst, ◌≡◌, ℕ, ◌^◌, ◌<◌, ◌≤◌, ◌&&◌, if◌then◌else◌, Bool, true}
+use Rattle.std.proofs.Common.{false, nat_le, max, ap, sym, ◌∙◌, arith}
+use Rattle.conn.specs.EventSteps.{Round, Runs, RunsAll}
+use Rattle.conn.specs.InputSteps.{Stage, Answered, ElementStep, IsReplied, Outcome, Passed, SentPart, TakesAll}
+use Rattle.conn.specs.InputSteps.{film_bytes}
+use Rattle.connection_laws.specs.Courses.{IsCourseBetween, IsCourseSplit, asked_by, askings_of, greatest_slot}
+use Rattle.connection_laws.specs.Courses.{round_askings, slot_in, takings_askings}
 use Rattle.std.proofs.lemmas.Bool.{ltb-true, ltb-false}
 use Rattle.std.proofs.lemmas.List.{append-nil}
 use Rattle.vod_base.specs.Links.{IoEvent, HeardSlot}
 use Rattle.session.specs.SlotSteps.{after_play, is_between, is_sending, sent_due, sent_slot, after_slot, stepped_in}
 use Rattle.session.specs.SessionStates.{SessionState}
 use Rattle.conn.specs.Films.{rounds_film, rounds_parts, round_parts, takings_parts}
-use Rattle.conn.specs.EventSteps.{Round, Runs}
-use Rattle.conn.specs.InputSteps.{Answered, ElementStep, IsReplied, Outcome, Passed, SentPart, Stage, TakesAll}
-use Rattle.conn.specs.InputSteps.{film_bytes}
-use Rattle.connection_laws.specs.Courses.{IsCourseBetween, asked_by, askings_of, greatest_slot, round_askings, slot_in}
-use Rattle.connection_laws.specs.Courses.{takings_askings}
 use Rattle.connection_laws.specs.Plays.{StationRequest, Asks}
 use Rattle.connection_laws.specs.Replies.{replies_of, takings_replies}
 use Rattle.connection_laws.specs.ReplyPlaces.{slots_from, takings_slots}
 use Rattle.connection_laws.proofs.StationAnswers.{ComesAs, BytesCame, SlotCame, comes_as}
 use Rattle.connection_laws.proofs.KeptParts.{LastingPart, finish_keeps, reply_keeps, taken_keeps, takes_heard}
+
+-- rounds after each of which all was processed that could be
+pub follows_all : (old new : Stage) (rounds : List Round) → RunsAll old rounds new → IsCourseBetween old rounds new
+follows_all old new [] runs = runs
+follows_all old new (round ∷ rounds) runs = (runs.0, (runs.1.0, follows_all runs.0 new rounds runs.1.2))
+
+-- and one more, up to an element that ends a connection
+pub follows_last : {mid new : Stage} {round : Round} (old : Stage) (rounds : List Round) → RunsAll old rounds mid →
+    Runs mid round new → IsCourseBetween old (rounds ++ round ∷ []) new
+follows_last {new} {round} old [] runs last = (new, (subst (λ s. Runs s round new) runs last, refl))
+follows_last {mid} {new} {round} old (first ∷ rounds) runs last =
+    (runs.0, (runs.1.0, follows_last runs.0 rounds runs.1.2 last))
+
+-- each prefix of a course is one
+abbrev pub parts_of : (old new : Stage) (first rest : List Round) → IsCourseBetween old (first ++ rest) new
+    → IsCourseSplit old first rest new
+parts_of old new [] rest follows = (old, (refl, follows))
+parts_of old new (round ∷ first) rest follows =
+    let parted : IsCourseSplit follows.0 first rest new = parts_of follows.0 new first rest follows.1.1 in
+    (parted.0, ((follows.0, (follows.1.0, parted.1.0)), parted.1.1))
 
 -- ---- the slot that was received last
 

@@ -30,11 +30,9 @@ use Rattle.conn.proofs.CurveBounds.{planned_between}
 use Rattle.connection_laws.specs.Courses.{Course, IsCourseBetween, askings_of, first_stage, greatest_slot, rounds_bytes}
 use Rattle.connection_laws.specs.Plays.{FilmPlay, due_of, film_of, film_written, plays_of}
 use Rattle.connection_laws.specs.Replies.{PlacedText, placed_text, placed_texts, text_of, insert_texts, course_texts}
-use Rattle.connection_laws.proofs.GreatestSlots.{film_written_is}
-use Rattle.connection_laws.proofs.CourseInduction.{course_heard}
-use Rattle.connection_laws.proofs.ReplyOrder.{bytes_woven}
-use Rattle.connection_laws.proofs.TextPlacement.{film_sent, rounds_sent}
-use Rattle.connection_laws.proofs.FilmBytes.{Stands, course_stands}
+use Rattle.connection_laws.proofs.FilmBytes.{film_written_is, Stands, course_stands}
+use Rattle.connection_laws.proofs.CourseInduction.{course_heard, parts_of}
+use Rattle.connection_laws.proofs.ReplyOrder.{bytes_woven, film_sent, rounds_sent}
 use Rattle.rtsp_client.specs.declared.watch_request.Wish.{Wish}
 use Rattle.rtsp_client.specs.MeterGuarantee.{IsBetween}
 use Rattle.connection_laws.specs.LinkDelivery.{IsWrittenBy, latest_slot, sent_bytes}
@@ -43,8 +41,7 @@ use Rattle.connection_laws.proofs.Curves.{curves_same}
 use Rattle.connection_laws.proofs.FilmReading.{IsFilmIn, blocks_sum, film_sizes, run_blocks}
 use Rattle.connection_laws.proofs.MeterInput.{AreTexts, Stream, all_of, text_is}
 use Rattle.connection_laws.proofs.MeterBounds.{IsFed}
-use Rattle.connection_laws.proofs.ServedPlays.{askings_parts, course_late, late_play, one_so_far}
-use Rattle.connection_laws.proofs.CourseJoins.{parts_of}
+use Rattle.connection_laws.proofs.BookedPlays.{askings_parts, course_late, late_play, one_so_far}
 use Rattle.connection_laws.proofs.ElementStreams.{AreAlone, alone_append}
 use Rattle.connection_laws.proofs.UnitSizes.{blocks_one}
 use Rattle.connection_laws.proofs.SentStreams.{AreEvents, IsCounted, IsEvent, IsFromTo, IsFrontOf, all_woven}

@@ -24,10 +24,12 @@ use Rattle.conn.specs.EventSteps.{Round, Runs}
 use Rattle.conn.specs.InputSteps.{Outcome, Unasked, Entered, SentPart, Stage, ElementStep, Passed, Answered}
 use Rattle.conn.specs.InputSteps.{IsHaltAnswered, IsReplied, Takes, TakesAll, after_reply, due_parts, film_bytes}
 use Rattle.conn.specs.InputSteps.{slot_parts}
-use Rattle.connection_laws.specs.Courses.{IsCourseBetween, asked_by, askings_of, takings_askings}
+use Rattle.connection_laws.specs.Courses.{IsCourseBetween, asked_by, askings_of, takings_askings, first_stage}
+use Rattle.connection_laws.specs.Courses.{greatest_slot, Course, course_plays, course_film}
 use Rattle.connection_laws.specs.Plays.{StationRequest, Asks, plays_admitted, plays_begun, kept_by, kept_in, kept_with}
-use Rattle.connection_laws.specs.Plays.{plays_of}
+use Rattle.connection_laws.specs.Plays.{plays_of, AreOver}
 use Rattle.connection_laws.proofs.JoinedFilms.{IsFilm, IsOnTime, IsRest, IsSound, film_in, film_over, play_with}
+use Rattle.connection_laws.proofs.JoinedFilms.{film_is, film_over_all, rest_none}
 use Rattle.connection_laws.proofs.Slots.{reply_on, same_on, slot_goes, state_after, waits_after}
 use Rattle.connection_laws.proofs.FilmSteps.{GoesOn, sound_waits, still_rest, turn_goes}
 use Rattle.connection_laws.proofs.RequestEffects.{Ends, Going, Idle, IsAfter, Starts, Stays, TurnsAs, sends_in}
@@ -36,7 +38,7 @@ use Rattle.connection_laws.proofs.StationAnswers.{FinishesAs, NothingLeft, DoneH
 use Rattle.connection_laws.proofs.StationAnswers.{SlotCame, comes_as}
 use Rattle.session.specs.declared.states.AfterHalt.{AfterHalt}
 use Rattle.connection_laws.proofs.CourseInduction.{IsKeptByCourse, Piece, course_kept, course_piece, event_piece}
-use Rattle.connection_laws.proofs.CourseInduction.{joined, no_piece, request_piece, takings_kept}
+use Rattle.connection_laws.proofs.CourseInduction.{joined, no_piece, request_piece, takings_kept, course_heard}
 
 -- between doings nothing is awaited, and what is sent is on time
 pub record Stands (session : SessionState) : Type 0 where
@@ -450,3 +452,28 @@ module _ {R : SessionState → Piece → SessionState → Type 0} (kept : IsKept
       → Stands old.session → R old.session (course_piece old rounds new follows) new.session
   standing_course_kept old new rounds follows stands =
       (course_kept kept_from_standing old new rounds follows stands).1
+
+-- what a connection wrote of films in its course
+course_is : (course : Course) → IsFilm (greatest_slot course.rounds) (course_plays course) (rounds_film course.rounds)
+course_is course =
+    let first : Stage = first_stage course.films course.settings course.words in
+    let stands : Stands first.session = record { rest = refl; sound = tt } in
+    let made : List StationRequest = askings_of first course.rounds course.last course.follows in
+    let film : List ℕ = rounds_film course.rounds in
+    let new : SessionState = course.last.session in
+    let step = course_step first course.last course.rounds course.follows stands in
+    let all : IsFilm new.heard (plays_of (made ++ [])) (film ++ []) =
+    step.on.rest [] new.heard [] (omega arith) (rest_none (sends_in new.state) new.waits new.heard step.on.sound) in
+    let last : new.heard ≡ greatest_slot course.rounds =
+    course_heard first course.last course.rounds course.follows ∙ omega arith in
+    subst (λ t. IsFilm t (plays_of made) film) last
+    (subst (λ ms. IsFilm new.heard (plays_of ms) film) (append-nil made)
+    (subst (IsFilm new.heard (plays_of (made ++ []))) (append-nil film) all))
+
+pub film_written_is : (course : Course) → rounds_film course.rounds ≡ course_film course
+film_written_is course =
+    film_is (greatest_slot course.rounds) (course_plays course) (rounds_film course.rounds) (course_is course)
+
+pub plays_over : (course : Course) → AreOver (greatest_slot course.rounds) (course_plays course)
+plays_over course =
+    film_over_all (greatest_slot course.rounds) (course_plays course) (rounds_film course.rounds) (course_is course)

@@ -1,9 +1,21 @@
--- What a client reads of an entire film's blocks: the sizes of its units, the time of its pictures,
--- and its bytes.
-use Rattle.std.proofs.Common.{◌≡◌, ℕ, ◌+◌, ◌-◌, ◌<◌, ◌≤◌, ◌==◌, true, nat_lt, min, List, [], ◌∷◌, length, take, drop}
-use Rattle.std.proofs.Common.{map, sum, Some, slice_get, refl, sym, ap, subst, ◌∙◌, arith, inl, inr}
+-- What a client reads of a film, and how its watching is finished.
+use Rattle.std.proofs.Common.{◌≡◌, ℕ, ◌+◌, ◌≤◌, List, [], ◌∷◌, ◌++◌, take, drop, refl, sym, ap, subst, ◌∙◌}
+use Rattle.std.proofs.Common.{append_assoc, arith, inl, inr, ◌⊎◌, ◌-◌, ◌<◌, ◌==◌, true, nat_lt, min, length, map, sum}
+use Rattle.std.proofs.Common.{Some, slice_get}
+use Rattle.std.proofs.lemmas.List.{take-append-drop, length-take-le, take_all}
+use Rattle.film_frames.specs.FramedRuns.{count_ended, FramedRun, blocks_from, run_of, run_pieces}
+use Rattle.film_frames.specs.Tracks.{framed_bytes}
+use Rattle.rtsp_client.specs.declared.watch_request.Wish.{Wish}
+use Rattle.rtsp_client.specs.declared.watch_request.Watched.{Watched}
+use Rattle.rtsp_client.specs.Answers.{events_of_elements, element_events, cut_bytes, payloads_of}
+use Rattle.rtsp_client.specs.ClientHistory.{ClientEvent, Frame, Reply, Report, History, end_ms, first_frame, frames}
+use Rattle.rtsp_client.specs.ClientHistory.{payloads, bytes_received, sizes}
+use Rattle.connection_laws.proofs.ClientInput.{IsDrained, no_sum}
+use Rattle.connection_laws.proofs.MeterInput.{AreTexts, Stream, all_of, begun_sum, two_moments, IsReadingOf, film_place}
+use Rattle.connection_laws.proofs.ElementStreams.{cut_front}
+use Rattle.connection_laws.proofs.HistorySums.{AreOneBlocks, Sum, replies_grow, step, steps, sum_of, blocks_one_take}
+use Rattle.connection_laws.proofs.HistorySums.{blocks_received, blocks_same, steps_payloads}
 use Rattle.std.proofs.lemmas.Bool.{cases_lt, cond-false, eqb-true, ltb-true, ne_eqb, and_parts}
-use Rattle.std.proofs.lemmas.List.{length-take-le, take_all}
 use Rattle.std.proofs.lemmas.List.Sums.{sum_by-take-le}
 use Rattle.mpeg_scan.specs.declared.films.Film.{Film}
 use Rattle.mpeg_scan.specs.declared.units.Unit.{Unit as PictureUnit}
@@ -13,23 +25,119 @@ use Rattle.mpeg_scan.proofs.FirstUnitLemmas.{film-begins, film-some}
 use Rattle.rtp_pack.specs.declared.reports.Identity.{Identity}
 use Rattle.film_frames.specs.Laws.{frames_among, payloads as joined}
 use Rattle.film_frames.specs.Pieces.{pieces_of, wire_size}
-use Rattle.film_frames.specs.FramedRuns.{FramedRun, blocks_from, count_ended, run_of, run_pieces}
-use Rattle.film_frames.specs.Tracks.{framed_bytes}
 use Rattle.film_frames.proofs.PayloadLemmas.{FirstAndLast, comes-back, run-sum}
 use Rattle.film_frames.proofs.FilmPieceLemmas.{laid-film}
-use Rattle.rtsp_client.specs.Answers.{cut_bytes, events_of_elements, payloads_of}
 use Rattle.rtsp_client.specs.WatchCourses.{WatchStage}
 use Rattle.rtsp_client.specs.Films.{begins_film, is_complete, time_in, units, units_until}
 use Rattle.rtsp_client.specs.Meters.{time}
-use Rattle.rtsp_client.specs.ClientHistory.{History, end_ms, first_frame, frames, payloads, bytes_received, sizes}
 use Rattle.rtsp_client.specs.MeterGuarantee.{IsFilmHeard}
 use Rattle.rtsp_client.proofs.OutputPayloads.{payloads-are}
 use Rattle.connection_laws.proofs.PieceCounts.{count_whole}
 use Rattle.connection_laws.proofs.FirstFrames.{HasGoneOn, first_frame_is, first_good, frame_time_is}
-use Rattle.connection_laws.proofs.MeterInput.{IsReadingOf, Stream, begun_sum, film_place}
-use Rattle.connection_laws.proofs.HistorySums.{Sum, blocks_one_take, blocks_received, blocks_same, steps}
-use Rattle.connection_laws.proofs.HistorySums.{steps_payloads, sum_of}
 use Rattle.connection_laws.proofs.UnitSizes.{HasCome, units_come, units_told}
+
+-- a block is no reply
+no_reply : (b x : List ℕ) (m : List ℕ) → (element_events b ≡ Frame b ∷ []) ⊎ (element_events b ≡ Report b ∷ [])
+    → element_events x ≡ Reply m ∷ [] → x ≡ b → ⊥
+no_reply b x m (inl frame) reply same =
+    let clash : Reply m ∷ [] ≡ Frame b ∷ [] = sym reply ∙ (ap element_events same ∙ frame) in cc
+no_reply b x m (inr report) reply same =
+    let clash : Reply m ∷ [] ≡ Report b ∷ [] = sym reply ∙ (ap element_events same ∙ report) in cc
+
+pub more_reply : (y : List ℕ) (ys : List (List ℕ)) (s : Sum) → element_events y ≡ Reply y ∷ []
+    → s.replies + 1 ≤ (steps s (events_of_elements (y ∷ ys))).replies
+more_reply y ys s is =
+    let P : List ClientEvent → Type 0 = λ l. s.replies + 1 ≤ (steps s (l ++ events_of_elements ys)).replies in
+    subst P (sym is) (replies_grow (step (Reply y) s) (events_of_elements ys))
+
+block_reply : (b : List ℕ) (ys : List (List ℕ)) (s : Sum) (n : ℕ) → (element_events b ≡ Frame b ∷ [])
+    ⊎ (element_events b ≡ Report b ∷ [])
+    → (steps s (events_of_elements (b ∷ ys))).replies ≡ s.replies → (t : Sum) × ((steps t (events_of_elements
+    ys)).replies ≡ t.replies)
+block_reply b ys s n (inl frame) same =
+    let P : List ClientEvent → Type 0 =
+    λ l. (steps s (l ++ events_of_elements ys)).replies ≡ s.replies in (step (Frame b) s, subst P frame same)
+block_reply b ys s n (inr report) same =
+    let P : List ClientEvent → Type 0 =
+    λ l. (steps s (l ++ events_of_elements ys)).replies ≡ s.replies in (step (Report b) s, subst P report same)
+
+-- a block of which the only moment is a reply, and the blocks after it
+record ReplyThen (m : List ℕ) : Type 0 where
+  block : List ℕ
+  rest : List (List ℕ)
+  reply : element_events block ≡ Reply m ∷ []
+
+-- blocks none of which is a reply, read on from a sum
+record NoReply (ps : List (List ℕ)) : Type 0 where
+  sum : Sum
+  same : (steps sum (events_of_elements ps)).replies ≡ sum.replies
+
+-- elements before a reply, and none of them a reply, are all the blocks
+all_blocks : {bs ps : List (List ℕ)} {m : List ℕ} (later : List (List ℕ)) (reply_then : ReplyThen m) → NoReply ps →
+    AreOneBlocks bs → AreTexts later → ps ++ reply_then.block ∷ reply_then.rest ≡ bs ++ later → ps ≡ bs
+all_blocks {bs = []} {ps = []} {m} later reply_then silent are texts all = refl
+all_blocks {bs = []} {ps = y ∷ ys} {m} [] reply_then silent are texts all = absurd (let no : ⊥ = cc in no)
+all_blocks {bs = []} {ps = y ∷ ys} {m} (z ∷ zs) reply_then silent are texts all =
+    let first : z ≡ y = cc in
+    let P : List ℕ → Type 0 = λ q. element_events q ≡ Reply q ∷ [] in
+    absurd (omega (arith, silent.same, more_reply y ys silent.sum (subst P first texts.0.moment)))
+all_blocks {bs = b ∷ bs} {ps = []} {m} later reply_then silent are texts all =
+    let first : reply_then.block ≡ b = cc in absurd (no_reply b reply_then.block m are.0.moment reply_then.reply first)
+all_blocks {bs = b ∷ bs} {ps = y ∷ ys} {m} later reply_then silent are texts all =
+    let first : y ≡ b = cc in
+    let rest : ys ++ reply_then.block ∷ reply_then.rest ≡ bs ++ later = cc in
+    let P : List ℕ → Type 0 = λ q. (steps s (events_of_elements (q ∷ ys))).replies ≡ s.replies in
+    let next = block_reply b ys s 0 are.0.moment (subst P first same) in
+    ap (λ q. q ∷ ys) first
+    ∙ ap (λ l. b ∷ l) (all_blocks later reply_then (record { sum = next.0; same = next.1 }) are.1 texts rest)
+  where
+    open silent use {sum as s, same}
+
+-- with the two first replies before them
+all_elements : {ps : List (List ℕ)} {m : List ℕ} (x : Stream) (p : List ℕ) (tail : List (List ℕ))
+    → element_events p ≡ Reply m ∷ []
+    → all_of x ≡ ps ++ p ∷ tail → (steps no_sum (events_of_elements ps)).replies ≡ 2 → ps ≡ x.first ∷ x.second ∷
+    x.blocks
+all_elements {ps = []} {m} x p tail reply all two = absurd (omega (arith, two))
+all_elements {ps = a ∷ []} {m} x p tail reply all two =
+    let first : x.first ≡ a = cc in
+    let P : List ℕ → Type 0 = λ q. element_events q ≡ Reply q ∷ [] in
+    let one : steps no_sum (events_of_elements (a ∷ [])) ≡ steps no_sum (Reply a ∷ []) =
+    ap (λ l. steps no_sum (l ++ [])) (subst P first x.first_is.moment) in
+    absurd (omega (arith, two, ap (λ (s : Sum). s.replies) one))
+all_elements {ps = a ∷ b ∷ ps} {m} x p tail reply all two =
+    let first : x.first ≡ a = cc in
+    let second : x.second ≡ b = cc in
+    let rest : ps ++ p ∷ tail ≡ x.blocks ++ x.later = cc in
+    let P : List ℕ → List ℕ → Type 0 = λ q r. (steps no_sum (events_of_elements (q ∷ r ∷ ps))).replies ≡ 2 in
+    let there : (steps no_sum (events_of_elements (x.first ∷ x.second ∷ ps))).replies ≡ 2 =
+    subst (λ r. P x.first r) (sym second) (subst (λ q. P q b) (sym first) two) in
+    let same : (steps (begun_sum x) (events_of_elements ps)).replies ≡ 2 =
+    sym (ap (λ (s : Sum). s.replies) (two_moments x ps)) ∙ there in
+    ap (λ q. q ∷ b ∷ ps) (sym first) ∙ (ap (λ r. x.first ∷ r ∷ ps) (sym second)
+    ∙ ap (λ l. x.first ∷ x.second ∷ l) (all_blocks x.later (record { block = p; rest = tail; reply = reply })
+    (record { sum = begun_sum x; same = same }) x.blocks_are x.later_are rest))
+
+pub done_sum : {wish : Wish} {watched : Watched} {bytes out : List ℕ} (x : Stream) (c : ℕ)
+    (done : IsDrained wish watched bytes out)
+    → bytes ≡ take c (framed_bytes (all_of x)) → sum_of done.at.history ≡ steps (begun_sum x) (events_of_elements
+    x.blocks)
+done_sum {out} x c done is =
+    let all = all_of x in
+    let k = count_ended c all in
+    let p = take done.length_ done.at.rest in
+    let front = cut_front {ps = all} (record { count = c; alone = x.alone; front_is = is }) done.heard.elements
+    done.heard.cut done.whole in
+    let tail = front.0 ++ drop k all in
+    let whole : all ≡ done.heard.elements ++ p ∷ tail =
+    sym (take-append-drop k all)
+    ∙ (ap (λ l. l ++ drop k all) front.1
+    ∙ (append_assoc (done.heard.elements ++ p ∷ []) front.0 (drop k all)
+    ∙ append_assoc done.heard.elements (p ∷ []) tail)) in
+    let two : (steps no_sum (events_of_elements done.heard.elements)).replies ≡ 2 =
+    sym (ap (λ (s : Sum). s.replies) done.heard.sum) ∙ done.replies_are in
+    let are = all_elements x p tail done.moment whole two in
+    done.heard.sum ∙ (ap (λ l. steps no_sum (events_of_elements l)) are ∙ two_moments x x.blocks)
 
 abbrev pub film_run : Film → Identity → FramedRun
 film_run film identity = run_of film 0 (length film.units.items) identity

@@ -29,13 +29,11 @@ use Rattle.rtsp_text.proofs.ReplyTexts.{front_field, whole_reply}
 use Rattle.rtsp_fields.specs.Urls.{IsRead}
 use Rattle.conn.specs.InputSteps.{HasHeard, IsAskAnswered, Outcome, Entered}
 use Rattle.connection_laws.proofs.CompleteReplies.{admitted_from, id_printed}
-use Rattle.connection_laws.proofs.KeptSetups.{IsSameSetup}
-use Rattle.connection_laws.proofs.PrintedTexts.{IsPrinted}
-use Rattle.connection_laws.proofs.ReplyReadings.{IsPlayAnswer, play_answer}
+use Rattle.connection_laws.proofs.KeptParts.{IsSameSetup, answered_names}
+use Rattle.connection_laws.proofs.ReplyReadings.{IsPrinted, IsPlayAnswer, play_answer}
 use Rattle.connection_laws.proofs.RequestEffects.{Begins}
 use Rattle.connection_laws.proofs.RequestReplies.{IsNamed, named_still, play_asked, asked_named, AsksClientPlay}
 use Rattle.connection_laws.proofs.SetupOnly.{Beginning, IsUnbegun, IsWaiting}
-use Rattle.connection_laws.proofs.KeptParts.{answered_names}
 use Rattle.connection_laws.proofs.StationAnswers.{answers_as}
 
 -- ---- numbers in their ranges

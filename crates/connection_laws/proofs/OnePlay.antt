@@ -28,24 +28,22 @@ use Rattle.connection_laws.specs.ReplyPlaces.{slots_from, takings_slots}
 use Rattle.connection_laws.specs.Plays.{StationRequest, Asks, FilmPlay, kept_in, plays_admitted, plays_begun, plays_of}
 use Rattle.connection_laws.proofs.FilmBytes.{Stands, taken_stands, takes_stands}
 use Rattle.connection_laws.proofs.StationAnswers.{comes_as, answers_as}
-use Rattle.connection_laws.proofs.KeptParts.{LastingPart, taken_keeps}
+use Rattle.connection_laws.proofs.KeptParts.{LastingPart, taken_keeps, opened_setup, replied_setup}
 use Rattle.connection_laws.proofs.CourseInduction.{comes_heard}
-use Rattle.connection_laws.proofs.NoPlays.{AreNoPlays, IsNoPlay, event_none, no_play_begins, no_plays_front}
-use Rattle.connection_laws.proofs.NoPlays.{no_plays_rest, rounds_none, takings_none}
+use Rattle.connection_laws.proofs.SetupOnly.{AreNoPlays, IsNoPlay, event_none, no_play_begins, no_plays_front}
+use Rattle.connection_laws.proofs.SetupOnly.{no_plays_rest, rounds_none, takings_none, Beginning, IsWaiting}
+use Rattle.connection_laws.proofs.SetupOnly.{answered_waits, opened_waits, reply_same, setup_asked}
 use Rattle.session_laws.proofs.PlayInReadyLemmas.{IsPlayHeard, play_heard}
 use Rattle.connection_laws.proofs.Requests.{rounds_requests, takings_requests}
 use Rattle.connection_laws.proofs.ClientSetups.{setup_is}
 use Rattle.session_laws.proofs.SetupLemmas.{IsSetupRequest}
 use Rattle.connection_laws.proofs.RequestEffects.{Begins, Ends, Starts, Stays, TurnsAs, turns_as}
-use Rattle.connection_laws.proofs.SetupOnly.{Beginning, IsWaiting, answered_waits, opened_waits, reply_same}
-use Rattle.connection_laws.proofs.SetupOnly.{setup_asked}
 use Rattle.connection_laws.proofs.CompleteReplies.{AreTeardowns, AreWhole, admitted_from, answered_named, opened_named}
 use Rattle.connection_laws.proofs.CompleteReplies.{id_printed, play_room, reply_whole, rounds_torn, setup_room}
 use Rattle.connection_laws.proofs.CompleteReplies.{takings_torn, teardowns_cut, whole_later}
 use Rattle.connection_laws.specs.Replies.{replies_of, takings_replies}
 use Rattle.connection_laws.proofs.FirstPlays.{IsWished, wished_play}
 use Rattle.connection_laws.proofs.FilmReplies.{IsFilmAnswer, IsPlayBegun as IsPlayBegunAt, play_begun as play_begun_at}
-use Rattle.connection_laws.proofs.KeptSetups.{opened_setup, replied_setup}
 use Rattle.connection_laws.specs.WatchEnds.{AreAnswers}
 use Rattle.connection_laws.proofs.ReplyReadings.{IsSetupRead, setup_read}
 use Rattle.connection_laws.proofs.RequestReplies.{IsNamed, named_still, setup_replied}

@@ -24,9 +24,9 @@ use Rattle.connection_laws.specs.Notes.{StationCall, kept_later, note_for, notes
 use Rattle.connection_laws.specs.Notes.{station_call}
 use Rattle.connection_laws.specs.Plays.{kept_by, kept_with}
 use Rattle.connection_laws.proofs.StationAnswers.{IsAdmitted}
-use Rattle.connection_laws.proofs.RequestAnswers.{RequestAnswer, OwnReply, SetupReply, Admission, Refusal, HaltMade}
-use Rattle.connection_laws.proofs.RequestAnswers.{LookAnswer, JournalFull, OfferAnswer, HaltRequest, LookRequest}
-use Rattle.connection_laws.proofs.RequestAnswers.{PlayRequest, request_answer}
+use Rattle.connection_laws.proofs.RequestEffects.{RequestAnswer, OwnReply, SetupReply, Admission, Refusal, HaltMade}
+use Rattle.connection_laws.proofs.RequestEffects.{LookAnswer, JournalFull, OfferAnswer, HaltRequest, LookRequest}
+use Rattle.connection_laws.proofs.RequestEffects.{PlayRequest, request_answer}
 
 -- the note of a play that is under way, by what comes later
 abbrev pub open_note : State → List StationCall → List PlayNote

@@ -16,7 +16,7 @@ use Rattle.conn.specs.declared.reports.ConnEnd.{ConnEnd}
 use Rattle.conn.specs.declared.reports.ConnReport.{ConnReport}
 use Rattle.connection_laws.specs.Courses.{Course, IsCourseBetween, first_stage}
 use Rattle.connection_laws.specs.ReportCourses.{IsCourseOf, activity_of}
-use Rattle.connection_laws.proofs.CourseJoins.{follows_all, follows_last}
+use Rattle.connection_laws.proofs.CourseInduction.{follows_all, follows_last}
 
 -- rounds up to the end, and where they lead
 record LeadsTo (old : Stage) (rounds : List Round) : Type 0 where

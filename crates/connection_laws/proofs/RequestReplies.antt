@@ -29,9 +29,8 @@ use Rattle.session.specs.SessionStates.{SessionState, has_session_in}
 use Rattle.session_laws.proofs.ClientReplyLemmas.{IsCall, play_answered, setup_answered, teardown_answered}
 use Rattle.connection_laws.specs.WholePlays.{whole_run}
 use Rattle.connection_laws.proofs.ClientSetups.{range_is, settled_by}
-use Rattle.connection_laws.proofs.KeptSetups.{IsSameSetup}
+use Rattle.connection_laws.proofs.KeptParts.{IsSameSetup, names_in}
 use Rattle.connection_laws.proofs.SetupOnly.{Beginning, IsUnbegun, IsWaiting}
-use Rattle.connection_laws.proofs.KeptParts.{names_in}
 use Rattle.connection_laws.proofs.FirstPlays.{planned_whole}
 
 same_names : (old new : SessionState) → new.films ≡ old.films → new.id ≡ old.id → names_in new ≡ names_in old

@@ -1,9 +1,19 @@
--- What a client that wishes for a film asks of a connection is played as it wished.
-use Rattle.std.proofs.Common.{◌≡◌, ℕ, List, [], ◌∷◌, ◌++◌, length, sum, get_or, codes, refl, sym, ap, subst}
-use Rattle.std.proofs.Common.{slice_index, ◌∙◌, arith}
+-- What a client that wishes for a film asks of a connection is played and answered as it wished. The replies to two
+-- requests before a play stand before its film, and those to requests once it was due after it.
+use Rattle.std.proofs.Common.{◌≡◌, ℕ, ◌+◌, ◌<◌, ◌≤◌, List, [], ◌∷◌, drop, ap, ◌∙◌, arith, inl, ◌++◌, length, sum}
+use Rattle.std.proofs.Common.{get_or, codes, refl, sym, subst, slice_index, ◌^◌, map}
+use Rattle.film_frames.specs.Tracks.{IsBoundary, framed_bytes}
+use Rattle.rtsp_replies.specs.Messages.{IsMessage}
+use Rattle.connection_laws.specs.ClientRequests.{IsDueBy, IsAskedFor, AreInRange}
+use Rattle.connection_laws.specs.ReplyPlaces.{AreSentAt, IsBoundaryIn, IsSentAt, IsUnsentAt, slots_from}
+use Rattle.connection_laws.specs.WholePlays.{AreAfter, HasPlayedWhole, IsWholePlay, film_blocks, playback_of, whole_run}
+use Rattle.connection_laws.specs.Plays.{FilmPlay, due_by, due_of}
+use Rattle.connection_laws.specs.Replies.{PlacedText, placed_text, course_replies, course_texts, waiting_reply, text_of}
+use Rattle.connection_laws.proofs.OnePlay.{AreBefore, IsPlayedWhole, Outlook, rounds_walk, setup_no_play, AreRead}
+use Rattle.connection_laws.proofs.CompleteReplies.{AreMessages, AreTeardowns, AreWhole, texts_whole}
+use Rattle.connection_laws.proofs.TextPlaces.{none_due}
 use Rattle.std.proofs.lemmas.List.{append-nil}
 use Rattle.film_frames.specs.declared.stored_films.Stored.{Stored}
-use Rattle.film_frames.specs.Tracks.{framed_bytes}
 use Rattle.film_run.proofs.PlanLemmas.{sending-keeps}
 use Rattle.film_run.specs.Units.{stored_sizes}
 use Rattle.rtp_pack.specs.declared.reports.Identity.{Identity}
@@ -15,27 +25,111 @@ use Rattle.rtsp_text.specs.Requests.{IsRequest}
 use Rattle.rtsp_text.specs.RequestTexts.{request_head}
 use Rattle.rtsp_text.proofs.MessageUniqueness.{request_once}
 use Rattle.conn.specs.EventSteps.{IsPrefixOf}
-use Rattle.connection_laws.specs.ClientRequests.{IsAskedFor}
 use Rattle.connection_laws.specs.Courses.{Course, course_plays, first_stage, greatest_slot}
-use Rattle.connection_laws.specs.ReplyPlaces.{AreSentAt, slots_from}
-use Rattle.connection_laws.specs.WholePlays.{HasPlayedWhole, IsWholePlay, film_blocks, playback_of, whole_run}
-use Rattle.connection_laws.specs.Plays.{FilmPlay}
-use Rattle.connection_laws.specs.Replies.{course_replies, course_texts, waiting_reply}
 use Rattle.connection_laws.specs.Requests.{rounds_input}
-use Rattle.connection_laws.proofs.RequestedInput.{AreFound, joined, requests_front}
+use Rattle.connection_laws.proofs.Requests.{AreFound, joined, requests_front, rounds_requests}
 use Rattle.connection_laws.proofs.FilmReading.{run_total}
-use Rattle.connection_laws.proofs.NoPlays.{AreNoPlays, IsNoPlay, rounds_none}
-use Rattle.connection_laws.proofs.OnePlay.{IsPlayedWhole, Outlook, rounds_walk, setup_no_play}
+use Rattle.connection_laws.proofs.SetupOnly.{AreNoPlays, IsNoPlay, rounds_none, Beginning, IsWaiting}
 use Rattle.connection_laws.proofs.ReplyOrder.{replies_in_order}
-use Rattle.connection_laws.proofs.CompleteReplies.{AreTeardowns, AreWhole, texts_whole}
 use Rattle.film_streams.specs.StreamNumbers.{source_of}
 use Rattle.session_laws.proofs.CompleteReplyLemmas.{begins_named}
 use Rattle.connection_laws.proofs.EndToEndMeter.{rest_all}
 use Rattle.connection_laws.proofs.CourseReplies.{replies_sent}
-use Rattle.connection_laws.proofs.Requests.{rounds_requests}
-use Rattle.connection_laws.proofs.TwoReplies.{AreReplies, two_first}
-use Rattle.connection_laws.proofs.SetupOnly.{Beginning, IsWaiting}
 use Rattle.connection_laws.proofs.FirstPlays.{IsWished}
+use Rattle.film_streams.specs.Films.{length_ms}
+use Rattle.connection_laws.specs.WatchEnds.{AreAnswers, AreGoodReplies}
+use Rattle.connection_laws.proofs.FilmReplies.{IsFilmAnswer}
+use Rattle.connection_laws.proofs.ReplyReadings.{IsPlayAnswer}
+use Rattle.connection_laws.proofs.WatchedFilms.{IsServed}
+use Rattle.connection_laws.proofs.AcceptedMoments.{AcceptsFrames, EndsInDone}
+
+first_boundary : (play : FilmPlay) → play.before ≡ 0 → IsBoundaryIn (play ∷ []) 0
+first_boundary play before =
+    let starts : IsBoundary play.pieces (play.before + 0) = record {
+      number = 0;
+      among = omega arith;
+      place_is = omega (arith, before);
+    } in
+    inl (omega arith, starts)
+
+none_yet : (slot : ℕ) (play : FilmPlay) → slot < play.start → due_by slot (play ∷ []) ≡ 0
+none_yet slot play late = none_due slot (play ∷ []) (late, tt)
+
+-- a reply before the play is sent, at the film's first place
+sent_first : {play : FilmPlay} {now slot : ℕ} {placed : PlacedText} → play.before ≡ 0 → slot < play.start
+    → IsSentAt now (play ∷ []) slot placed → placed ≡ placed_text 0 placed.text
+sent_first {play} {now} {slot} {placed} before late sent =
+    let none = none_yet slot play late in
+    let least : placed.place ≤ 0 = sent.next.least 0 (first_boundary play before) (omega (arith, none)) in
+    let here : placed.place ≡ 0 = omega (arith, least) in
+    ap (λ n. record placed { place = n }) here
+
+never_unsent : {slot : ℕ} (play : FilmPlay) (now : ℕ) → play.before ≡ 0 → slot < play.start
+    → IsUnsentAt now (play ∷ []) slot → ⊥
+never_unsent {slot} play now before late unsent =
+    let none = none_yet slot play late in
+    let below : due_by now (play ∷ []) < 0 = unsent 0 (first_boundary play before) (omega (arith, none)) in
+    omega (arith, below)
+
+-- replies to requests that were processed once the film was due
+record AreOnceDue (play : FilmPlay) (now : ℕ) (slots : List ℕ) (texts : List PlacedText) : Type 0 where
+  due : IsDueBy play slots
+  sent : AreSentAt now (play ∷ []) slots texts
+  messages : AreMessages texts
+
+-- they stand after it
+after_film : {play : FilmPlay} {now total : ℕ} (slots : List ℕ) (texts : List PlacedText) → total ≡ play.keep
+    → AreOnceDue play now slots texts → AreAfter total texts
+after_film slots [] total_is replies = tt
+after_film [] (placed ∷ texts) total_is replies = absurd replies.sent
+after_film {play} {now} {total} (slot ∷ slots) (placed ∷ texts) total_is replies =
+    let after : due_by slot (play ∷ []) ≤ placed.place = replies.sent.0.next.after in
+    let all : due_of slot play ≡ play.keep = replies.due.0 in
+    let rest : AreOnceDue play now slots texts =
+    record { due = replies.due.1; sent = replies.sent.1; messages = replies.messages.1 } in
+    (omega (arith, after, all, total_is), replies.messages.0, after_film slots texts total_is rest)
+
+-- two first replies, and the others after the film
+pub record AreTwoFirst (total : ℕ) (texts : List PlacedText) : Type 0 where
+  pub first : List ℕ
+  pub second : List ℕ
+  pub later : List PlacedText
+  pub texts_are : texts ≡ placed_text 0 first ∷ placed_text 0 second ∷ later
+  pub first_is : IsMessage first
+  pub second_is : IsMessage second
+  pub after : AreAfter total later
+
+-- replies of a course with one play, two of them to requests before it
+pub record AreReplies (play : FilmPlay) (now total : ℕ) (slots : List ℕ) (texts : List PlacedText) : Type 0 where
+  pub begins : play.before ≡ 0
+  pub total_is : total ≡ play.keep
+  pub before : AreBefore 2 play.start slots
+  pub due : IsDueBy play (drop 2 slots)
+  pub sent : AreSentAt now (play ∷ []) slots texts
+  pub messages : AreMessages texts
+
+pub two_first : {play : FilmPlay} {now total : ℕ} (slots : List ℕ) (texts : List PlacedText)
+    → AreReplies play now total slots texts → AreTwoFirst total texts
+two_first [] texts replies = absurd replies.before
+two_first (one ∷ []) texts replies = absurd replies.before.1
+two_first {play} {now} (one ∷ two ∷ slots) [] replies =
+    absurd (never_unsent play now replies.begins replies.before.0 replies.sent.0)
+two_first {play} {now} (one ∷ two ∷ slots) (first ∷ []) replies =
+    absurd (never_unsent play now replies.begins replies.before.1.0 replies.sent.1.0)
+two_first {play} {now} {total} (one ∷ two ∷ slots) (first ∷ second ∷ later) replies =
+    let at_first = sent_first {play = play} replies.begins replies.before.0 replies.sent.0 in
+    let at_second = sent_first {play = play} replies.begins replies.before.1.0 replies.sent.1.0 in
+    let rest : AreOnceDue play now slots later =
+    record { due = replies.due; sent = replies.sent.1.1; messages = replies.messages.1.1 } in
+    record {
+      first = first.text;
+      second = second.text;
+      later = later;
+      texts_are = ap (λ t. t ∷ second ∷ later) at_first ∙ ap (λ t. placed_text 0 first.text ∷ t ∷ later) at_second;
+      first_is = replies.messages.0;
+      second_is = replies.messages.1.0;
+      after = after_film slots later replies.total_is rest;
+    }
 
 abbrev pub beginning_of : {wish : Wish} {stored : Stored} {course : Course} → IsAskedFor wish stored course → Beginning
 beginning_of {wish} {stored} {course} asked = record {
@@ -218,3 +312,53 @@ pub asked_source : {wish : Wish} {stored : Stored} {course : Course} (asked : Is
     → (asked_played asked).0.identity.ssrc ≡ slice_index course.words 2
 unfolding asked_played
 asked_source asked = (one_play asked).one.wished.ssrc
+
+answers_front : (front rest : List (List ℕ)) → AreAnswers (front ++ rest) → AreAnswers front
+answers_front [] rest are = tt
+answers_front (message ∷ front) rest are = (are.0, answers_front front rest are.1)
+
+module _ {wish : Wish} {stored : Stored} {course : Course} where
+  pub good_replies : (asked : IsAskedFor wish stored course) → asked.play.start ≤ 2 ^ 62 + 1
+      → (played : HasPlayedWhole wish stored course)
+      → AreGoodReplies stored.film played.setup played.played (map text_of played.later)
+  good_replies asked few played =
+      let waiting = waiting_reply course.last.session in
+      let b = beginning_of asked in
+      let read : AreRead b 1 (course_replies course) = (one_play asked).read few in
+      let ordered : map text_of (course_texts course) ++ waiting ≡ course_replies course =
+      replies_in_order course in
+      let texts : map text_of (course_texts course) ++ waiting
+      ≡ played.setup ∷ played.played ∷ (map text_of played.later ++ waiting) =
+      ap (λ ts. map text_of ts ++ waiting) played.texts in
+      let R : List (List ℕ) → Type 0 = λ rs. AreRead b 1 rs in
+      let its = subst R (sym ordered ∙ texts) read in
+      let film : IsFilmAnswer b played.played = its.1.0 in
+      let same : film.stored ≡ stored = asked.named film.number film.stored film.at film.name_is in
+      let play = subst (λ (s : Stored). IsPlayAnswer (length_ms s.film) played.played) same film.answer in
+      record {
+        setup_is = its.0.answer;
+        session = its.0.named;
+        played_is = play.answer;
+        range = play.range;
+        start = play.start;
+        later_are = answers_front (map text_of played.later) waiting its.1.1;
+      }
+
+  -- a film that was asked for is served to a client, whose clauses on frames these are
+  pub asked_served : (asked : IsAskedFor wish stored course) → AreInRange course asked.play → AcceptsFrames → EndsInDone
+      → IsServed wish stored course
+  asked_served asked range accepts done =
+      let played = (asked_played asked).0 in
+      record {
+        played = played;
+        small = let small = range.ssrc in omega (arith, small, asked_source asked);
+        replies = good_replies asked range.start played;
+        accepts = accepts;
+        done = done;
+      }
+
+  -- its play is the one that was admitted
+  pub asked_play : (asked : IsAskedFor wish stored course) (range : AreInRange course asked.play)
+      (accepts : AcceptsFrames) (done : EndsInDone) → asked.play ≡ (asked_served asked range accepts done).played.play
+  unfolding asked_served
+  asked_play asked range accepts done = sym (asked_played asked).1

@@ -27,8 +27,7 @@ use Rattle.rtsp_client.proofs.MeterBounds.{quiet-always}
 use Rattle.rtsp_client.proofs.ElementSteps.{after-on}
 use Rattle.rtsp_client.proofs.EventCourses.{history-later}
 use Rattle.connection_laws.specs.LinkDelivery.{heard_bytes}
-use Rattle.connection_laws.proofs.FilmReading.{IsFilmIn, film_comes_back, film_sizes, whole_of}
-use Rattle.connection_laws.proofs.FinishedWatches.{done_sum}
+use Rattle.connection_laws.proofs.FilmReading.{IsFilmIn, film_comes_back, film_sizes, whole_of, done_sum}
 use Rattle.connection_laws.specs.Requests.{bytes_in}
 use Rattle.connection_laws.proofs.ClientInput.{Heard, IsDrained, at_done, heard_all, heard_more, heard_none}
 use Rattle.connection_laws.proofs.ClientInput.{replies_later, rounds_heard}

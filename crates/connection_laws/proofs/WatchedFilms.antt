@@ -1,30 +1,228 @@
--- A client that watches a film which a connection plays to its end refuses nothing, and comes to
--- `Done` once all of it came.
-use Rattle.std.proofs.Common.{◌≡◌, ℕ, ◌+◌, ◌^◌, ◌<◌, List, [], ◌∷◌, length, map, Some, refl, sym, ap, subst, ◌∙◌, arith}
+-- A film that is watched over a link that carries it slot by slot comes back complete. A client that receives a film's
+-- stream refuses none of it, and comes to `Done` once all of it came.
+use Rattle.std.proofs.Common.{ℕ, ◌-◌, List, [], ◌∷◌, ◌++◌, Some, ap, subst, sym, ◌∙◌, ◌≡◌, length, take, Ok, refl, inl}
+use Rattle.std.proofs.Common.{inr, ◌+◌, ◌^◌, ◌<◌, map, arith}
 use Rattle.vod_base.specs.Links.{IoEvent}
 use Rattle.film_frames.specs.declared.stored_films.Stored.{Stored}
 use Rattle.film_frames.specs.Tracks.{framed_bytes}
-use Rattle.conn.specs.EventSteps.{IsPrefixOf, rounds_doings}
-use Rattle.rtsp_client.specs.Outcomes.{IsDecided}
-use Rattle.rtsp_client.specs.Meters.{first_slot}
-use Rattle.rtsp_client.specs.WatchCourses.{HasCourse}
-use Rattle.rtsp_client.specs.declared.watch_request.Wish.{Wish}
-use Rattle.rtsp_client.specs.declared.watch_request.WatchEnd.{WatchEnd}
-use Rattle.rtsp_client.specs.declared.watch_request.WatchEnd.TheVariants.{Done}
-use Rattle.rtsp_client.specs.declared.watch_request.Watched.{Watched}
+use Rattle.conn.specs.EventSteps.{rounds_doings, IsPrefixOf}
+use Rattle.rtsp_client.specs.WatchCourses.{HasCourse, Ends, Round, RunsAll, WatchStage, StopsAt, stage}
+use Rattle.rtsp_client.specs.Meters.{first_slot, watched_in}
 use Rattle.rtsp_client.specs.WatchRequests.{IsWish}
-use Rattle.connection_laws.specs.ClientRequests.{EndsWhole, HasWatchedWhole}
+use Rattle.rtsp_client.specs.declared.watch_request.WatchEnd.TheVariants.{Done, Fault}
+use Rattle.rtsp_client.specs.declared.watch_request.Watched.{Watched}
+use Rattle.rtsp_client.specs.declared.watch_request.Wish.{Wish}
+use Rattle.connection_laws.specs.ClientRequests.{HasWatchedWhole, EndsWhole}
+use Rattle.connection_laws.specs.LinkDelivery.{IsCarried, heard_bytes, sent_bytes, IsDelivered}
 use Rattle.connection_laws.specs.Courses.{Course}
-use Rattle.connection_laws.specs.LinkDelivery.{IsCarried, IsDelivered, heard_bytes, sent_bytes}
-use Rattle.connection_laws.specs.Replies.{PlacedText, text_of}
-use Rattle.connection_laws.specs.WatchEnds.{AreGoodReplies, RefusesNothing}
 use Rattle.connection_laws.specs.WholePlays.{HasPlayedWhole}
-use Rattle.connection_laws.proofs.AcceptedMoments.{FilmStream, AcceptsFrames, EndsInDone}
-use Rattle.connection_laws.proofs.AcceptedFilms.{IsReceived, comes_to_done, refuses_nothing}
-use Rattle.connection_laws.proofs.CompleteWatch.{watched_whole}
-use Rattle.connection_laws.proofs.EndToEndMeter.{all_sent, all_sent_whole, film_in, front_again, stream_of}
+use Rattle.connection_laws.proofs.EndToEndMeter.{all_sent, fed, film_in, front_again, stream_of, all_sent_whole}
 use Rattle.connection_laws.proofs.EndToEndMeter.{stream_replies}
-use Rattle.connection_laws.proofs.MeterInput.{all_of}
+use Rattle.connection_laws.proofs.MeterInput.{all_of, AreTexts}
+use Rattle.connection_laws.proofs.MeterBounds.{AreFed, IsFed}
+use Rattle.connection_laws.proofs.WatchCourses.{kept_promise, told_course, last_bytes, told_bytes}
+use Rattle.std.proofs.lemmas.List.{append-nil}
+use Rattle.interleave.specs.Elements.{IsFirst}
+use Rattle.interleave.specs.Streams.{AreInputElements}
+use Rattle.interleave.specs.declared.elements.Step.TheVariants.{More}
+use Rattle.interleave.proofs.StreamElements.{TwoCuts, cuts_agree, tells_none}
+use Rattle.rtsp_client.specs.declared.watch_request.WatchEnd.{WatchEnd}
+use Rattle.rtsp_client.specs.Answers.{history_after, events_of_elements}
+use Rattle.rtsp_client.specs.Outcomes.{IsDecided}
+use Rattle.rtsp_client.proofs.UniqueEnd.{Quits, AtFraming, AtMoment, gives-not-on, gives-once, stops-quit}
+use Rattle.connection_laws.specs.WatchEnds.{RefusesNothing, AreGoodReplies}
+use Rattle.connection_laws.proofs.AcceptedMoments.{HasAccepted, IsPlaceIn, all_cut, moment_accepted, next_in, no_fault}
+use Rattle.connection_laws.proofs.AcceptedMoments.{no_third, none_more, place_in, FilmStream, AcceptsFrames, EndsInDone}
+use Rattle.connection_laws.proofs.ClientInput.{Heard, heard_all, heard_more, heard_none, rounds_heard}
+use Rattle.connection_laws.proofs.ElementStreams.{AreAlone}
+use Rattle.connection_laws.specs.Replies.{PlacedText, text_of}
+
+-- a client watched to the end what a course played, over a link that carried it slot by slot
+pub record IsWatched (wish : Wish) (stored : Stored) (watched : Watched) (out : List ℕ) : Type 0 where
+  pub course : Course
+  pub heard : List IoEvent
+  pub wished : IsWish wish
+  pub played : HasPlayedWhole wish stored course
+  pub client : HasCourse wish (Done watched) (Some []) (Some heard) (Some []) (Some out)
+  pub carried : IsCarried (rounds_doings course.rounds) heard played.play.start (first_slot client.mid.history)
+
+pub watched_whole : (wish : Wish) (stored : Stored) (watched : Watched) (out : List ℕ)
+    → IsWatched wish stored watched out → HasWatchedWhole wish stored watched out
+watched_whole wish stored watched out is =
+    let course = is.course in
+    let heard = is.heard in
+    let played = is.played in
+    let client = is.client in
+    let carried = is.carried in
+    let x = stream_of wish stored course played in
+    let told = told_course wish watched heard out client in
+    let begin = first_slot client.mid.history in
+    let front = front_again (heard_bytes heard) (sent_bytes (rounds_doings course.rounds))
+    (framed_bytes (all_of x)) carried.front.0 carried.front.1.1
+    (all_sent wish stored course played) in
+    let feeds : AreFed wish stored.film x begin [] client.rounds = λ before later round slot split event after_begin.
+    let its = told.split before later round split in
+    let P : List ℕ → ℕ → Type 0 = λ b n. IsFed wish stored.film x b n in
+    subst (λ b. P b (slot - begin)) its.1.1.1
+    (fed played
+    (carried.each its.0 its.1.0 slot (its.1.1.0 ∙ ap (λ e. its.0 ++ e ∷ its.1.0) event) after_begin)) in
+    let kept = kept_promise front.count (record {
+      wish = wish;
+      film = stored.film;
+      identity = played.identity;
+      x = stream_of wish stored course played;
+      wished = is.wished;
+      timed = played.whole.sending.can_play.playback_is.some_picture_units;
+      film_is = film_in wish stored course played;
+    })
+    client.runs told.all (sym told.heard_is ∙ front.is) feeds in (
+      kept.over_none,
+      kept.under_none,
+      kept.most_fits,
+      λ first at_first last at_last. kept.film_back first last at_first at_last,
+    )
+
+accepted_of : {bytes : List ℕ} {at : WatchStage} (heard : Heard bytes at) → HasAccepted heard.elements at.history
+accepted_of heard = record { sum = heard.sum; frames = heard.frames; gone = heard.gone }
+
+-- ---- how a watching stops
+
+-- where what waits gives the answer, it is `Done`
+quits_done : {bytes : List ℕ} {at : WatchStage} {end : WatchEnd} (wish : Wish) (s : FilmStream) (heard : Heard bytes at)
+    → IsPlaceIn (all_of s.x) heard.elements at.rest → Quits wish at.history at.rest end
+    → end ≡ Done (watched_in wish at.history)
+quits_done wish s heard place (AtFraming is fault first) = absurd (no_fault fault place first)
+quits_done {at = at} {end = end} wish s heard place (AtMoment moment next given) =
+    elim (moment_accepted wish s heard.elements (accepted_of heard) (next_in place next)) [
+      | inl on ↦ absurd (gives-not-on wish at.history end moment given on)
+      | inr gives ↦ gives-once wish at.history moment given gives
+    ]
+
+-- the answer after the last bytes
+record IsStopped (wish : Wish) (rounds : List Round) (mid : WatchStage) (bytes : List ℕ) (end : WatchEnd)
+    (sent out : List ℕ) : Type 0 where
+  runs : RunsAll (stage [] []) rounds mid
+  stops : StopsAt wish (stage mid.history (mid.rest ++ bytes)) end sent out
+
+stopped_done : {wish : Wish} {rounds : List Round} {mid : WatchStage} {bytes : List ℕ} {end : WatchEnd}
+    {sent out : List ℕ} (s : FilmStream) (count : ℕ) → IsDecided end
+    → (stopped : IsStopped wish rounds mid bytes end sent out)
+    → rounds_heard rounds ++ bytes ≡ take count (framed_bytes (all_of s.x))
+    → (watched : Watched) × (end ≡ Done watched)
+stopped_done {wish} {rounds} {mid} {bytes} {end} s count decided stopped front =
+    let stops = stopped.stops in
+    let heard = heard_more bytes stops.elements
+    (heard_all [] (stage [] []) mid rounds heard_none stopped.runs) stops.cut stops.good in
+    let at = stage (history_after mid.history (events_of_elements stops.elements)) stops.mid in
+    let place : IsPlaceIn (all_of s.x) heard.elements at.rest =
+    place_in (all_of s.x) count s.x.alone heard.cut front in
+    (watched_in wish at.history, quits_done wish s heard place (stops-quit decided stops).quits)
+
+-- an answer that is `Done` where the events decide it refuses nothing
+refuses_none : (end : WatchEnd) → (IsDecided end → (watched : Watched) × (end ≡ Done watched))
+    → RefusesNothing end
+refuses_none (Fault fault) decided =
+    let its = decided tt in absurd (let same : Fault fault ≡ Done its.0 = its.1 in let no : ⊥ = cc in no)
+refuses_none _ decided = tt
+
+-- ---- the entire watching
+
+-- what a client received is a prefix of a film's stream
+pub record IsReceived (s : FilmStream) (heard : List IoEvent) : Type 0 where
+  pub count : ℕ
+  pub front : heard_bytes heard ≡ take count (framed_bytes (all_of s.x))
+
+-- how it ended after these rounds, of which so many bytes came
+module _ {wish : Wish} {end : WatchEnd} {doings : List IoEvent} {out : List ℕ} (s : FilmStream) (count : ℕ)
+    (mid : WatchStage) (rounds : List Round) (runs : RunsAll (stage [] []) rounds mid) where
+  ended : Ends wish mid (length rounds) end doings out
+      → rounds_heard rounds ++ heard_bytes doings ≡ take count (framed_bytes (all_of s.x)) → RefusesNothing end
+  ended (inl (inl lost, none, empty)) front = subst RefusesNothing (sym lost.0) tt
+  ended (inl (inr spent, none, empty)) front = subst RefusesNothing (sym spent.0) tt
+  ended (inr (inl early)) front = subst RefusesNothing (sym early.0) tt
+  ended (inr (inr (bytes, (sent, (stops, doings_are, few))))) front =
+      let mine : rounds_heard rounds ++ bytes ≡ take count (framed_bytes (all_of s.x)) =
+      ap (λ l. rounds_heard rounds ++ l) (sym (last_bytes bytes sent doings_are)) ∙ front in
+      refuses_none end (λ decided. stopped_done s count decided (record { runs = runs; stops = stops }) mine)
+
+  ended_done : IsDecided end → Ends wish mid (length rounds) end doings out
+      → rounds_heard rounds ++ heard_bytes doings ≡ take count (framed_bytes (all_of s.x))
+      → (rounds_heard rounds ++ [] ≡ rounds_heard rounds ++ heard_bytes doings → ⊥)
+      → (watched : Watched) × (end ≡ Done watched)
+  ended_done decided (inl (inl lost, none, empty)) front waits =
+      absurd (subst IsDecided lost.0 decided)
+  ended_done decided (inl (inr spent, none, empty)) front waits =
+      absurd (waits (ap (λ l. rounds_heard rounds ++ heard_bytes l) (sym none)))
+  ended_done decided (inr (inl early)) front waits =
+      absurd (waits (ap (λ l. rounds_heard rounds ++ heard_bytes l) (sym early.2)))
+  ended_done decided
+      (inr (inr (bytes, (sent, (stops, doings_are, few))))) front waits =
+      let mine : rounds_heard rounds ++ bytes ≡ take count (framed_bytes (all_of s.x)) =
+      ap (λ l. rounds_heard rounds ++ l) (sym (last_bytes bytes sent doings_are)) ∙ front in
+      stopped_done s count decided (record { runs = runs; stops = stops }) mine
+
+pub refuses_nothing : {wish : Wish} {end : WatchEnd} {heard : List IoEvent} {out : List ℕ} (s : FilmStream)
+    (client : HasCourse wish end (Some []) (Some heard) (Some []) (Some out)) → IsReceived s heard
+    → RefusesNothing end
+refuses_nothing s client received =
+    ended s received.count client.mid client.rounds client.runs client.ends (sym (told_bytes client) ∙ received.front)
+
+-- ---- all of it came
+
+runs_idle : (old new : WatchStage) (rounds : List Round) → IsFirst old.rest (Ok More) → RunsAll old rounds new
+    → IsFirst new.rest (Ok More)
+runs_idle old new [] idle all = subst (λ (s : WatchStage). IsFirst s.rest (Ok More)) (sym all) idle
+runs_idle old new (round ∷ rounds) idle all = runs_idle all.0 new rounds all.1.1 all.1.2
+
+-- where no complete element waits, all elements were received
+whole_stream : {elements : List (List ℕ)} {rest : List ℕ} (all : List (List ℕ)) → AreAlone all
+    → AreInputElements (framed_bytes all) elements rest → IsFirst rest (Ok More) → elements ≡ all
+whole_stream {elements} {rest} all alone cut idle =
+    let cuts : TwoCuts (framed_bytes all) elements all rest [] = record { one = cut; other = all_cut all alone } in
+    elim (cuts_agree cuts) [
+      | inl (more, (is, after)) ↦ no_more more is after
+      | inr (more, (is, after)) ↦
+          is ∙ ap (λ l. all ++ l) (none_more more rest after).0 ∙ append-nil all
+    ]
+  where
+    no_more : (more : List (List ℕ)) → all ≡ elements ++ more → AreInputElements rest more [] → elements ≡ all
+    no_more [] is after = sym (append-nil elements) ∙ sym is
+    no_more (element ∷ more) is after = absurd (tells_none rest (Ok More) idle after.0 after.1.0)
+
+-- a client doesn't wait for more after the last reply
+not_waiting : (mid : WatchStage) (rounds : List Round) (s : FilmStream) (last : List ℕ) (others : List (List ℕ))
+    → s.x.later ≡ last ∷ others → RunsAll (stage [] []) rounds mid
+    → rounds_heard rounds ≡ framed_bytes (all_of s.x) → ⊥
+not_waiting mid rounds s last others later runs whole =
+    let x = s.x in
+    let heard : Heard (rounds_heard rounds) mid = heard_all [] (stage [] []) mid rounds heard_none runs in
+    let idle : IsFirst mid.rest (Ok More) = runs_idle (stage [] []) mid rounds (inl refl) runs in
+    let cut : AreInputElements (framed_bytes (all_of x)) heard.elements mid.rest =
+    subst (λ b. AreInputElements b heard.elements mid.rest) whole heard.cut in
+    let elements = whole_stream (all_of x) x.alone cut idle in
+    let all : heard.elements ≡ x.first ∷ x.second ∷ (x.blocks ++ last ∷ others) =
+    elements ∙ ap (λ l. x.first ∷ x.second ∷ (x.blocks ++ l)) later in
+    let accepted = subst (λ l. HasAccepted l mid.history) all (accepted_of heard) in
+    let texts : AreTexts (last ∷ others) = subst AreTexts later x.later_are in
+    no_third x last others accepted texts.0.moment
+
+-- the reply to TEARDOWN was received, and all before it
+pub record IsReceivedWhole (s : FilmStream) (heard : List IoEvent) : Type 0 where
+  pub last : List ℕ
+  pub others : List (List ℕ)
+  pub later : s.x.later ≡ last ∷ others
+  pub received : IsReceived s heard
+  pub whole : heard_bytes heard ≡ framed_bytes (all_of s.x)
+
+pub comes_to_done : {wish : Wish} {end : WatchEnd} {heard : List IoEvent} {out : List ℕ} (s : FilmStream)
+    (client : HasCourse wish end (Some []) (Some heard) (Some []) (Some out)) → IsReceivedWhole s heard
+    → IsDecided end → (watched : Watched) × (end ≡ Done watched)
+comes_to_done s client received decided =
+    let told = told_bytes client in
+    ended_done s received.received.count client.mid client.rounds client.runs decided client.ends
+    (sym told ∙ received.received.front)
+    (λ none. not_waiting client.mid client.rounds s received.last received.others received.later client.runs
+    (sym (append-nil (rounds_heard client.rounds)) ∙ none ∙ sym told ∙ received.whole))
 
 -- an entire film that a course played, with the clauses on its frames
 pub record IsServed (wish : Wish) (stored : Stored) (course : Course) : Type 0 where

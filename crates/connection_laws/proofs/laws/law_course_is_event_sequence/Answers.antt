@@ -1,4 +1,4 @@
-use Rattle.connection_laws.proofs.CourseJoins.{follows_all, follows_last, parts_of}
+use Rattle.connection_laws.proofs.CourseInduction.{follows_all, follows_last, parts_of}
 use Rattle.connection_laws.proofs.laws.law_course_is_event_sequence.Goals as goal
 
 pub returns-clause-all : goal.returns-clause-all

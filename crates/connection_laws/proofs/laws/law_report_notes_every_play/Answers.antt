@@ -1,6 +1,5 @@
-use Rattle.connection_laws.proofs.CourseNotes.{plays_noted}
+use Rattle.connection_laws.proofs.CourseNotes.{plays_noted, entries_noted}
 use Rattle.connection_laws.proofs.CourseTurns.{turns_told}
-use Rattle.connection_laws.proofs.EntryNotes.{entries_noted}
 use Rattle.connection_laws.proofs.laws.law_report_notes_every_play.Goals as goal
 
 pub returns-clause-notes : goal.returns-clause-notes

@@ -1,6 +1,5 @@
 use Rattle.connection_laws.proofs.AdmittedStarts.{asked_start}
-use Rattle.connection_laws.proofs.AnsweredRequests.{good_replies}
-use Rattle.connection_laws.proofs.RequestedPlays.{asked_played, asked_source}
+use Rattle.connection_laws.proofs.RequestedPlays.{good_replies, asked_played, asked_source}
 use Rattle.connection_laws.proofs.watch_laws.law_client_requests_are_answered.Goals as goal
 
 pub returns-clause-replies : goal.returns-clause-replies

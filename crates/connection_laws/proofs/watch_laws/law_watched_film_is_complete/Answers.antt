@@ -5,10 +5,8 @@ use Rattle.connection_laws.specs.ClientRequests.{AreInRange}
 use Rattle.connection_laws.specs.LinkDelivery.{IsCarried}
 use Rattle.connection_laws.specs.Plays.{FilmPlay}
 use Rattle.connection_laws.proofs.AdmittedStarts.{asked_start}
-use Rattle.connection_laws.proofs.RequestedPlays.{asked_played}
-use Rattle.connection_laws.proofs.CompleteWatch.{watched_whole}
-use Rattle.connection_laws.proofs.AnsweredRequests.{asked_play, asked_served}
-use Rattle.connection_laws.proofs.WatchedFilms.{watched_done, watched_unrefused}
+use Rattle.connection_laws.proofs.RequestedPlays.{asked_played, asked_play, asked_served}
+use Rattle.connection_laws.proofs.WatchedFilms.{watched_whole, watched_done, watched_unrefused}
 use Rattle.connection_laws.proofs.watch_laws.law_watched_film_is_complete.Goals as goal
 
 pub returns-clause-played : goal.returns-clause-played
