@@ -20,10 +20,10 @@ use Rattle.connection_laws.specs.Courses.{IsCourseBetween, asked_by, askings_of,
 use Rattle.connection_laws.specs.Courses.{takings_askings, Course, course_plays, IsCourseSplit}
 use Rattle.connection_laws.specs.Plays.{StationRequest, Asks, plays_admitted, plays_begun, booked_by, booked_plays}
 use Rattle.connection_laws.specs.Plays.{booking_of, kept_among, kept_in, kept_with, plays_of, FilmPlay, kept_by}
-use Rattle.connection_laws.proofs.RequestEffects.{Ends, Starts, Stays, TurnsAs, told_by, turns_as, Begins}
+use Rattle.connection_laws.proofs.RequestEffects.{Ends, Starts, Stays, TurnsAs, told_by, Begins}
 use Rattle.connection_laws.proofs.StationAnswers.{FinishesAs, NothingLeft, DoneHalted, ComesAs, BytesCame, SlotCame}
 use Rattle.connection_laws.proofs.CourseInduction.{Piece, parts_of, comes_heard}
-use Rattle.connection_laws.proofs.FilmBytes.{IsKeptStanding, standing_course_kept, Stands}
+use Rattle.connection_laws.proofs.FilmBytes.{IsKeptStanding, standing_course_kept, Stands, request_turns}
 use Rattle.plan_cert.specs.Plan.{IsPlan}
 use Rattle.film_frames.specs.FramedRuns.{run_pieces}
 use Rattle.admission.specs.declared.entries.Answer.{Answer}
@@ -128,9 +128,9 @@ told_kept : IsKeptStanding ToldOn
 told_kept = record {
   none = λ s. tt;
   joins = λ a b c one two first rest. told_append one.askings two.askings first rest;
-  request = λ old new message outcome parts replied stands. (
-    turn_told old.session replied.answered replied.heard.asking.awaited outcome
-        (turns_as old.session message outcome replied.answered replied.heard stands.rest),
+  request = λ old new request stands. (
+    turn_told old.session request.replied.answered request.replied.heard.asking.awaited request.outcome
+        (request_turns request stands),
     tt,
   );
   event = λ old opened event due halt comes stands. (comes_told comes, tt);
@@ -377,11 +377,11 @@ late_kept = record {
     late = late_append a.heard one.askings two.askings first.late
         (late_lower a.heard b.heard two.askings first.later rest.late);
   };
-  request = λ old new message outcome parts replied stands. record {
-    later = let same = ap (λ (part : LastingPart). part.heard) (taken_keeps replied) in omega (arith, same);
+  request = λ old new request stands. record {
+    later = let same = ap (λ (part : LastingPart). part.heard) (taken_keeps request.replied) in omega (arith, same);
     late = (
-      turn_late old.session replied.answered replied.heard.asking.awaited outcome
-          (turns_as old.session message outcome replied.answered replied.heard stands.rest),
+      turn_late old.session request.replied.answered request.replied.heard.asking.awaited request.outcome
+          (request_turns request stands),
       tt,
     );
   };

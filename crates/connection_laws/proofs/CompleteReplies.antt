@@ -33,8 +33,7 @@ use Rattle.rtsp_replies.specs.Messages.{IsMessage}
 use Rattle.session_laws.proofs.PauseTeardownLemmas.{teardown_ends}
 use Rattle.session_laws.proofs.CompleteReplyLemmas.{keeps_named, replies_whole}
 use Rattle.conn.specs.EventSteps.{Round, Runs}
-use Rattle.conn.specs.InputSteps.{Answered, Entered, HasHeard, IsReplied, Outcome, SentPart, Passed, Stage, ElementStep}
-use Rattle.conn.specs.InputSteps.{TakesAll}
+use Rattle.conn.specs.InputSteps.{Answered, Entered, HasHeard, Outcome, Passed, Stage, ElementStep, TakesAll}
 use Rattle.connection_laws.specs.Courses.{IsCourseBetween}
 use Rattle.connection_laws.specs.Replies.{PlacedText, replies_of, takings_replies, text_of}
 use Rattle.connection_laws.proofs.KeptParts.{answered_names, names_in, replied_names, IsSameSetup, halted_setup}
@@ -46,6 +45,7 @@ use Rattle.connection_laws.specs.WatchEnds.{AreAnswers}
 use Rattle.connection_laws.proofs.RequestReplies.{IsNamed, named_still, teardown_replied}
 use Rattle.connection_laws.proofs.StationAnswers.{AnswersAs, NoneAsked, PlayAdmitted, PlayRefused, PlayHalted, LookMade}
 use Rattle.connection_laws.proofs.StationAnswers.{answers_as}
+use Rattle.connection_laws.proofs.CourseInduction.{AnsweredRequest}
 
 -- ---- the films and the id stay
 
@@ -56,15 +56,16 @@ named_as {old} {new} same named = record {
   id_is = ap (λ (n : List Stored × List ℕ). n.1) same ∙ named.id_is;
 }
 
-pub answered_named : {old new : Stage} {message : List ℕ} {outcome : Outcome} {parts : List SentPart}
-    → IsReplied old message outcome parts new → HasValidIds old.session → HasValidIds new.session
-answered_named {old} {new} {message} {outcome} replied named =
+pub answered_named : {old new : Stage} → AnsweredRequest old new → HasValidIds old.session → HasValidIds new.session
+answered_named {old} request named =
     let heard = replied.heard in
     let asking = keeps_named old.session heard.asking message heard.ask heard.hears named in
     let answered : HasValidIds replied.answered =
     named_as (answered_names heard.asking heard.ask outcome replied.answered heard.answered) asking in
     subst (λ (s : Stage). HasValidIds s.session) (sym replied.new_is)
     (named_as (replied_names replied.answered) answered)
+  where
+    open request use {message, outcome, replied}
 
 pub opened_named : {old new : Stage} {round : Round} (runs : Runs old round new) → HasValidIds old.session
     → HasValidIds runs.opened.session
@@ -269,11 +270,10 @@ id_printed {s} named =
     let P : List ℕ → Type 0 = λ id. IsPrinted id in subst P (sym named.id_is) (printed_w64 named.number)
 
 -- the reply to one TEARDOWN
-torn_reply : {b : Beginning} {old new : Stage} {message : List ℕ} {outcome : Outcome} {parts : List SentPart}
-    → (replied : IsReplied old message outcome parts new) → message ≡ teardown_text b.wish b.session
-    → HasValidIds old.session → IsNamed b old.session
-    → IsAnsweredWhole b new.session (replied.answered.text ∷ [])
-torn_reply {b} {old} {new} {message} {outcome} replied is valid named =
+torn_reply : {b : Beginning} {old new : Stage} (request : AnsweredRequest old new)
+    → request.message ≡ teardown_text b.wish b.session → HasValidIds old.session → IsNamed b old.session
+    → IsAnsweredWhole b new.session (request.replied.answered.text ∷ [])
+torn_reply {b} {old} request is valid named =
     let heard = replied.heard in
     let own = teardown_own {message = message} b old.session heard.asking heard.ask is heard.hears in
     let complete = replies_whole old.session message heard.ask heard.asking valid (teardown_room b is) heard.hears in
@@ -288,11 +288,13 @@ torn_reply {b} {old} {new} {message} {outcome} replied is valid named =
     } in
     let still = named_still (replied_setup replied.answered) (named_still same (named_still told.same named)) in
     record {
-      named = answered_named replied valid;
+      named = answered_named request valid;
       own = subst (λ (s : Stage). IsNamed b s.session) (sym replied.new_is) still;
       whole = (whole, tt);
       answers = (read_teardown old.session.id whole (id_printed valid) text, tt);
     }
+  where
+    open request use {message, outcome, replied}
 
 pub takings_torn : {b : Beginning} (old new : Stage) (takings : List ElementStep) (takes : TakesAll old takings new)
     → AsksTeardowns b old.session (takings_requests takings)
@@ -313,7 +315,12 @@ takings_torn {b} old new (Passed n ∷ takings) takes tears =
       teardowns = tears.teardowns;
     })
 takings_torn {b} old new (Answered message outcome parts ∷ takings) takes tears =
-    let one = torn_reply {b = b} takes.1.0 tears.teardowns.0 tears.named tears.own in
+    let one = torn_reply {b = b} (record {
+      message = message;
+      outcome = outcome;
+      parts = parts;
+      replied = takes.1.0;
+    }) tears.teardowns.0 tears.named tears.own in
     let rest = takings_torn {b = b} takes.0 new takings takes.1.1
     (record { named = one.named; own = one.own; teardowns = tears.teardowns.1 }) in
     record {

@@ -109,14 +109,24 @@ joined a b = record {
   replies = a.replies ++ b.replies;
 }
 
-abbrev pub request_piece : {old new : Stage} {message : List ℕ} {outcome : Outcome} {parts : List SentPart}
-    → IsReplied old message outcome parts new → Piece
-request_piece {old} {outcome = outcome} {parts = parts} replied = record {
-  askings = Asks replied.heard.asking.awaited outcome ∷ [];
+-- a request that was processed, and what came of it
+pub record AnsweredRequest (old new : Stage) : Type 0 where
+  pub message : List ℕ
+  pub outcome : Outcome
+  pub parts : List SentPart
+  pub replied : IsReplied old message outcome parts new
+
+-- what it asked the station
+abbrev pub asking_of : {old new : Stage} → AnsweredRequest old new → StationRequest
+asking_of request = Asks request.replied.heard.asking.awaited request.outcome
+
+abbrev pub request_piece : {old new : Stage} → AnsweredRequest old new → Piece
+request_piece {old} request = record {
+  askings = asking_of request ∷ [];
   slots = old.session.heard ∷ [];
-  parts = parts;
+  parts = request.parts;
   film = [];
-  replies = replied.answered.text ∷ [];
+  replies = request.replied.answered.text ∷ [];
 }
 
 abbrev pub takings_piece : (old : Stage) (takings : List ElementStep) (new : Stage) → TakesAll old takings new → Piece
@@ -159,8 +169,7 @@ course_piece old rounds new follows = record {
 pub record IsKeptByCourse (R : SessionState → Piece → SessionState → Type 0) : Type 0 where
   pub none : (s : SessionState) → R s no_piece s
   pub joins : (a b c : SessionState) (one two : Piece) → R a one b → R b two c → R a (joined one two) c
-  pub request : (old new : Stage) (message : List ℕ) (outcome : Outcome) (parts : List SentPart)
-      (replied : IsReplied old message outcome parts new) → R old.session (request_piece replied) new.session
+  pub request : (old new : Stage) (request : AnsweredRequest old new) → R old.session (request_piece request) new.session
   pub event : (old opened : Stage) (event : IoEvent) (due : List SentPart) (halt : Outcome)
       → ComesAs old opened event due halt → R old.session (event_piece old.session event due halt) opened.session
 
@@ -174,12 +183,14 @@ module _ {R : SessionState → Piece → SessionState → Type 0} (kept : IsKept
       subst (λ s. R s (record rest { slots = takings_slots s.heard takings }) new.session)
       (ap (λ (s : Stage). s.session) takes.1.0.2) (takings_kept takes.0 new takings takes.1.1)
   takings_kept old new (Answered message outcome parts ∷ takings) takes =
-      let first = request_piece takes.1.0 in
+      let request : AnsweredRequest old takes.0 =
+      record { message = message; outcome = outcome; parts = parts; replied = takes.1.0 } in
+      let first = request_piece request in
       let rest = takings_piece takes.0 takings new takes.1.1 in
       subst (λ h. R old.session (joined first (record rest { slots = takings_slots h takings })) new.session)
       (ap (λ (part : LastingPart). part.heard) (taken_keeps takes.1.0))
       (kept.joins old.session takes.0.session new.session first rest
-      (kept.request old takes.0 message outcome parts takes.1.0) (takings_kept takes.0 new takings takes.1.1))
+      (kept.request old takes.0 request) (takings_kept takes.0 new takings takes.1.1))
 
   pub round_kept : (old new : Stage) (round : Round) (runs : Runs old round new)
       → R old.session (round_piece old round new runs) new.session

@@ -7,17 +7,16 @@ use Rattle.session.specs.declared.states.Awaited.{Awaited}
 use Rattle.session.specs.SlotSteps.{can_reply, is_between, sent_reply, after_play, is_sending, next_of, sent_due}
 use Rattle.session.specs.SlotSteps.{sent_slot, after_slot, stepped_in}
 use Rattle.session.specs.SessionStates.{SessionState}
-use Rattle.conn.specs.InputSteps.{IsReplied, Outcome, SentPart, Stage, Text, after_reply, reply_parts, Entered}
-use Rattle.conn.specs.InputSteps.{IsHaltAnswered, due_parts, slot_parts}
+use Rattle.conn.specs.InputSteps.{Outcome, SentPart, Stage, Text, after_reply, reply_parts, Entered, IsHaltAnswered}
+use Rattle.conn.specs.InputSteps.{due_parts, slot_parts}
 use Rattle.connection_laws.specs.Plays.{StationRequest, Asks, plays_admitted, plays_begun, kept_by, kept_in, kept_with}
 use Rattle.connection_laws.specs.Plays.{plays_of, due_by as all_due, due_of}
 use Rattle.connection_laws.proofs.FilmBytes.{Stands, turn_after, turn_step, DoneHalt, done_halt, DonePlay, IsSlotOver}
 use Rattle.connection_laws.proofs.FilmBytes.{done_kept, done_play, halted_idle, reply_waits, sent_over, taken_later}
-use Rattle.connection_laws.proofs.FilmBytes.{course_step, IsKeptStanding, standing_course_kept}
+use Rattle.connection_laws.proofs.FilmBytes.{course_step, IsKeptStanding, standing_course_kept, request_turns}
 use Rattle.connection_laws.proofs.JoinedFilms.{IsSound, IsOnTime, play_with}
 use Rattle.connection_laws.proofs.ReplyBoundaries.{Replying, replying, turn_fits, slot_moves, still_fits}
-use Rattle.connection_laws.proofs.RequestEffects.{Idle, Sends, sends_in, turns_as, Going, IsStill, unasked_still}
-use Rattle.connection_laws.proofs.RequestEffects.{Ending}
+use Rattle.connection_laws.proofs.RequestEffects.{Idle, Sends, sends_in, Going, IsStill, unasked_still, Ending}
 use Rattle.connection_laws.proofs.WaitingReplies.{GoesTo, IsHeld, goes_same, goes_then, point, Fits, IsHeldUp, Stand}
 use Rattle.connection_laws.proofs.WaitingReplies.{due_going, due_here}
 use Rattle.conn.proofs.PlayProgress.{reply_state, reply_heard}
@@ -38,7 +37,7 @@ use Rattle.conn.specs.Films.{rounds_parts}
 use Rattle.connection_laws.specs.Courses.{asked_by, askings_of, first_stage, greatest_slot, Course, course_plays}
 use Rattle.connection_laws.specs.ReplyPlaces.{AreSentAt, IsBoundaryIn, slots_from}
 use Rattle.connection_laws.specs.Replies.{placed_texts, course_texts}
-use Rattle.connection_laws.proofs.CourseInduction.{course_heard, Piece, request_piece}
+use Rattle.connection_laws.proofs.CourseInduction.{course_heard, Piece, request_piece, AnsweredRequest, asking_of}
 
 -- what a doing makes of a session, of the reply that is held up, and of what is sent
 pub record Move (old new : SessionState) (pending : Option ℕ) (made : List StationRequest) (slots : List ℕ)
@@ -90,14 +89,12 @@ reply_move s waits sound =
     (if goes then Text s.text ∷ [] else [])) can
     (reply_as s (is_between s.state) waits (replying s.state (is_between s.state) s.heard s.text sound refl))
 
-pub answered_move : {old new : Stage} {message : List ℕ} {outcome : Outcome} {parts : List SentPart}
-    (replied : IsReplied old message outcome parts new)
-    → Stands old.session
-    → Move old.session new.session None (Asks replied.heard.asking.awaited outcome ∷ []) (old.session.heard ∷ []) parts
-answered_move {old} {new} {message} {outcome} replied stands =
+answered_move : {old new : Stage} (request : AnsweredRequest old new) → Stands old.session
+    → Move old.session new.session None (asking_of request ∷ []) (old.session.heard ∷ []) request.parts
+answered_move {old} {new} request stands =
     let asked : Awaited = replied.heard.asking.awaited in
     let s : SessionState = replied.answered in
-    let turns = turns_as old.session message outcome s replied.heard stands.rest in
+    let turns = request_turns request stands in
     let after = turn_after old.session s asked outcome turns in
     let step = turn_step old.session s asked outcome stands turns in
     let sound : IsSound (sends_in s.state) true s.heard =
@@ -118,6 +115,8 @@ answered_move {old} {new} {message} {outcome} replied stands =
     (sym replied.parts_are)
     (subst (λ (n : Stage). Move old.session n.session None (Asks asked outcome ∷ []) (old.session.heard ∷ [])
     (reply_parts s)) (sym replied.new_is) all)
+  where
+    open request use {outcome, replied}
 
 -- nothing is asked
 module _ {s new : SessionState} {pending : Option ℕ} where
@@ -316,11 +315,12 @@ moves_kept = record {
   none = λ s pending held. move_none s pending held;
   joins = λ a b c one two first rest pending held.
       let mid = first pending held in move_then mid (rest mid.after mid.held);
-  request = λ old new message outcome parts replied stands pending held.
-      let piece = request_piece replied in
-      subst (λ o. Move old.session new.session o piece.askings piece.slots parts)
+  request = λ old new request stands pending held.
+      let piece = request_piece request in
+      let replied = request.replied in
+      subst (λ o. Move old.session new.session o piece.askings piece.slots piece.parts)
       (sym (unheld pending (sends_in old.session.state) old.session.waits old.session.heard held replied.next.replied))
-      (answered_move replied stands);
+      (answered_move request stands);
   event = λ old opened event due halt comes stands pending held.
       comes_move comes (record { stands = stands; held = held });
 }

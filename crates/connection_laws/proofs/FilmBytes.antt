@@ -22,8 +22,7 @@ use Rattle.session.specs.SessionStates.{SessionState}
 use Rattle.conn.specs.Films.{rounds_film}
 use Rattle.conn.specs.EventSteps.{Round, Runs}
 use Rattle.conn.specs.InputSteps.{Outcome, Unasked, Entered, SentPart, Stage, ElementStep, Passed, Answered}
-use Rattle.conn.specs.InputSteps.{IsHaltAnswered, IsReplied, Takes, TakesAll, after_reply, due_parts, film_bytes}
-use Rattle.conn.specs.InputSteps.{slot_parts}
+use Rattle.conn.specs.InputSteps.{IsHaltAnswered, Takes, TakesAll, after_reply, due_parts, film_bytes, slot_parts}
 use Rattle.connection_laws.specs.Courses.{IsCourseBetween, asked_by, askings_of, takings_askings, first_stage}
 use Rattle.connection_laws.specs.Courses.{greatest_slot, Course, course_plays, course_film}
 use Rattle.connection_laws.specs.Plays.{StationRequest, Asks, plays_admitted, plays_begun, kept_by, kept_in, kept_with}
@@ -39,6 +38,7 @@ use Rattle.connection_laws.proofs.StationAnswers.{SlotCame, comes_as}
 use Rattle.session.specs.declared.states.AfterHalt.{AfterHalt}
 use Rattle.connection_laws.proofs.CourseInduction.{IsKeptByCourse, Piece, course_kept, course_piece, event_piece}
 use Rattle.connection_laws.proofs.CourseInduction.{joined, no_piece, request_piece, takings_kept, course_heard}
+use Rattle.connection_laws.proofs.CourseInduction.{AnsweredRequest, asking_of}
 
 -- between doings nothing is awaited, and what is sent is on time
 pub record Stands (session : SessionState) : Type 0 where
@@ -111,24 +111,34 @@ reply_is false s between stands = step_none s stands
 reply_step : (s : SessionState) → Stands s → Step s (after_reply s) [] []
 reply_step s stands = reply_is (can_reply s) s (λ can. (and_parts s.waits (is_between s.state) can).1) stands
 
-answered_step : {old new : Stage} {message : List ℕ} {outcome : Outcome} {parts : List SentPart}
-    (replied : IsReplied old message outcome parts new)
-    → Stands old.session → Step old.session new.session (Asks replied.heard.asking.awaited outcome ∷ []) []
-answered_step {old} {new} {message} {outcome} replied stands =
+pub request_turns : {old new : Stage} (request : AnsweredRequest old new) → Stands old.session
+    → TurnsAs old.session request.replied.heard.asking.awaited request.outcome request.replied.answered
+request_turns {old} request stands =
+    turns_as old.session request.message request.outcome request.replied.answered request.replied.heard stands.rest
+
+answered_step : {old new : Stage} (request : AnsweredRequest old new) → Stands old.session
+    → Step old.session new.session (asking_of request ∷ []) []
+answered_step {old} request stands =
     let asked : Awaited = replied.heard.asking.awaited in
-    let turns = turns_as old.session message outcome replied.answered replied.heard stands.rest in
+    let turns = request_turns request stands in
     let one : Step old.session replied.answered (Asks asked outcome ∷ []) [] =
     turn_step old.session replied.answered asked outcome stands turns in
     let two : Step replied.answered (after_reply replied.answered) [] [] =
     reply_step replied.answered (stands_by old.session replied.answered (Asks asked outcome ∷ []) [] one) in
     subst (λ (s : Stage). Step old.session s.session (Asks asked outcome ∷ []) []) (sym replied.new_is)
     (step_then one two)
+  where
+    open request use {outcome, replied}
+
+pub request_stands : {old new : Stage} → AnsweredRequest old new → Stands old.session → Stands new.session
+request_stands {old} {new} request stands =
+    stands_by old.session new.session (asking_of request ∷ []) [] (answered_step request stands)
 
 pub taken_stands : (old new : Stage) (taking : ElementStep) → Takes old taking new → Stands old.session → Stands
     new.session
 taken_stands old new (Passed n) takes stands = subst Stands (sym (ap (λ (s : Stage). s.session) takes.2)) stands
 taken_stands old new (Answered message outcome parts) takes stands =
-    stands_by old.session new.session (Asks takes.heard.asking.awaited outcome ∷ []) [] (answered_step takes stands)
+    request_stands (record { message = message; outcome = outcome; parts = parts; replied = takes }) stands
 
 -- ---- slots
 
@@ -380,7 +390,7 @@ steps_kept = record {
   none = λ s stands. step_none s stands;
   joins = λ a b c one two first rest stands.
       let step = first stands in step_then step (rest (stands_by a b one.askings one.film step));
-  request = λ old new message outcome parts replied stands. answered_step replied stands;
+  request = λ old new request stands. answered_step request stands;
   event = λ old opened event due halt comes stands. comes_step comes stands;
 }
 
@@ -423,9 +433,8 @@ course_stands old new rounds follows stands =
 pub record IsKeptStanding (R : SessionState → Piece → SessionState → Type 0) : Type 0 where
   pub none : (s : SessionState) → R s no_piece s
   pub joins : (a b c : SessionState) (one two : Piece) → R a one b → R b two c → R a (joined one two) c
-  pub request : (old new : Stage) (message : List ℕ) (outcome : Outcome) (parts : List SentPart)
-      (replied : IsReplied old message outcome parts new) → Stands old.session
-      → R old.session (request_piece replied) new.session
+  pub request : (old new : Stage) (request : AnsweredRequest old new) → Stands old.session
+      → R old.session (request_piece request) new.session
   pub event : (old opened : Stage) (event : IoEvent) (due : List SentPart) (halt : Outcome)
       → ComesAs old opened event due halt → Stands old.session
       → R old.session (event_piece old.session event due halt) opened.session
@@ -440,10 +449,7 @@ module _ {R : SessionState → Piece → SessionState → Type 0} (kept : IsKept
     joins = λ a b c one two first rest stands.
         let mid = first stands in
         let last = rest mid.0 in (last.0, kept.joins a b c one two mid.1 last.1);
-    request = λ old new message outcome parts replied stands. (
-      taken_stands old new (Answered message outcome parts) replied stands,
-      kept.request old new message outcome parts replied stands,
-    );
+    request = λ old new request stands. (request_stands request stands, kept.request old new request stands);
     event = λ old opened event due halt comes stands.
         (comes_stands comes stands, kept.event old opened event due halt comes stands);
   }

@@ -21,15 +21,15 @@ use Rattle.session_laws.specs.CompleteReplies.{HasValidIds, RepliesAreComplete}
 use Rattle.rtsp_replies.specs.Messages.{IsMessage}
 use Rattle.session_laws.proofs.CompleteReplyLemmas.{replies_whole}
 use Rattle.conn.specs.EventSteps.{Round}
-use Rattle.conn.specs.InputSteps.{Answered, HasHeard, IsAskAnswered, IsReplied, Outcome, Passed, SentPart, Stage}
-use Rattle.conn.specs.InputSteps.{ElementStep, TakesAll, Entered}
+use Rattle.conn.specs.InputSteps.{Answered, HasHeard, IsAskAnswered, Outcome, Passed, SentPart, Stage, ElementStep}
+use Rattle.conn.specs.InputSteps.{TakesAll, Entered}
 use Rattle.connection_laws.specs.Courses.{IsCourseBetween, askings_of, slot_in, takings_askings}
 use Rattle.connection_laws.specs.ReplyPlaces.{slots_from, takings_slots}
 use Rattle.connection_laws.specs.Plays.{StationRequest, Asks, FilmPlay, kept_in, plays_admitted, plays_begun, plays_of}
 use Rattle.connection_laws.proofs.FilmBytes.{Stands, taken_stands, takes_stands}
 use Rattle.connection_laws.proofs.StationAnswers.{comes_as, answers_as}
 use Rattle.connection_laws.proofs.KeptParts.{LastingPart, taken_keeps, opened_setup, replied_setup}
-use Rattle.connection_laws.proofs.CourseInduction.{comes_heard}
+use Rattle.connection_laws.proofs.CourseInduction.{comes_heard, AnsweredRequest}
 use Rattle.connection_laws.proofs.SetupOnly.{AreNoPlays, IsNoPlay, event_none, no_play_begins, no_plays_front}
 use Rattle.connection_laws.proofs.SetupOnly.{no_plays_rest, rounds_none, takings_none, Beginning, IsWaiting}
 use Rattle.connection_laws.proofs.SetupOnly.{answered_waits, opened_waits, reply_same, setup_asked}
@@ -268,10 +268,7 @@ from_takings slot old takings new takes later = record {
 -- a request that is processed, and the elements that are processed after it
 record TakenFirst (old new : Stage) : Type 0 where
   mid : Stage
-  message : List ℕ
-  outcome : Outcome
-  parts : List SentPart
-  replied : IsReplied old message outcome parts mid
+  request : AnsweredRequest old mid
   takings : List ElementStep
   takes : TakesAll mid takings new
 
@@ -279,28 +276,25 @@ abbrev taken_first : {old new : Stage} (message : List ℕ) (outcome : Outcome) 
     (takings : List ElementStep) → TakesAll old (Answered message outcome parts ∷ takings) new → TakenFirst old new
 taken_first message outcome parts takings takes = record {
   mid = takes.0;
-  message = message;
-  outcome = outcome;
-  parts = parts;
-  replied = takes.1.0;
+  request = record { message = message; outcome = outcome; parts = parts; replied = takes.1.0 };
   takings = takings;
   takes = takes.1.1;
 }
 
 abbrev from_first : {old new : Stage} → ℕ → TakenFirst old new → Later → Later
 from_first {old} {new} slot first later =
-    from_takings slot old (Answered first.message first.outcome first.parts ∷ first.takings) new
-    (first.mid, (first.replied, first.takes)) later
+    from_takings slot old (Answered first.request.message first.request.outcome first.request.parts ∷ first.takings) new
+    (first.mid, (first.request.replied, first.takes)) later
 
 -- what is asked of the station after the request
 abbrev asked_after : {old new : Stage} → TakenFirst old new → Later → List StationRequest
 asked_after {new = new} first later = takings_askings first.mid first.takings new first.takes ++ later.askings
 
 -- the reply to SETUP, after which there is a session
-setup_reply : {old new : Stage} (b : Beginning) (first : TakenFirst old new) → first.message ≡ setup_text b.wish
-    → first.replied.heard.ask ≡ Reply → IsMessage first.replied.answered.text → HasValidIds old.session
+setup_reply : {old new : Stage} (b : Beginning) (first : TakenFirst old new) → first.request.message ≡ setup_text b.wish
+    → first.request.replied.heard.ask ≡ Reply → IsMessage first.request.replied.answered.text → HasValidIds old.session
     → setup_in old.session.state ≡ None → has_session_in first.mid.session.state ≡ true
-    → IsSetupRead first.replied.answered.text
+    → IsSetupRead first.request.replied.answered.text
 setup_reply {old} b first is reply whole valid fresh ready =
     let heard = replied.heard in
     let same : replied.answered ≡ heard.asking =
@@ -319,13 +313,14 @@ setup_reply {old} b first is reply whole valid fresh ready =
           (ap (λ (s : SessionState). s.text) same ∙ text)
     ]
   where
-    open first use {mid, outcome, replied}
+    open first use {mid, request}
+    open request use {outcome, replied}
 
 -- where all SETUPs were processed, PLAY is processed
 module _ {b : Beginning} {out : Outlook} {slot : ℕ} {later : Later} {old new : Stage} where
   play_first : (first : TakenFirst old new) → Leads b out new.session slot later
       → IsAhead b out old.session slot [] (from_first slot first later)
-      → IsPlayTaken b out old.session first.message (Asks first.replied.heard.asking.awaited first.outcome)
+      → IsPlayTaken b out old.session first.request.message (Asks first.request.replied.heard.asking.awaited first.request.outcome)
       (asked_after first later) × (takings_requests first.takings ++ later.requests ≡ out.last)
   play_first first leads is =
       let front = takings_requests takings in
@@ -342,7 +337,8 @@ module _ {b : Beginning} {out : Outlook} {slot : ℕ} {later : Later} {old new :
       }) in
       (record { waits = is.waits; message_is = at; none = none; plays = is.plays }, rest)
     where
-      open first use {mid, message, outcome, parts, replied, takings, takes}
+      open first use {mid, request, takings, takes}
+      open request use {message, outcome, parts, replied}
 
   play_walk : (first : TakenFirst old new) → Leads b out new.session slot later
       → IsAhead b out old.session slot [] (from_first slot first later)
@@ -372,7 +368,7 @@ module _ {b : Beginning} {out : Outlook} {slot : ℕ} {later : Later} {old new :
       subst (λ (s : Stage). IsNamed b s.session) (sym replied.new_is)
       (named_still (replied_setup replied.answered) begun.own) in
       let next = takings_torn {b = b} mid new takings takes
-      (record { named = answered_named replied is.named; own = own; teardowns = cut.0 }) in
+      (record { named = answered_named request is.named; own = own; teardowns = cut.0 }) in
       let after = whole_later {b = b} later.replies next (λ named still. leads.torn named still cut.1) in
       record {
         one = subst (λ h. IsOnePlay b out h 0 (h ∷ slots)) is.heard (play_turn turn slots turns);
@@ -381,7 +377,8 @@ module _ {b : Beginning} {out : Outlook} {slot : ℕ} {later : Later} {old new :
         read = λ few. (begun.answer few, after.1);
       }
     where
-      open first use {mid, message, outcome, replied, takings, takes}
+      open first use {mid, request, takings, takes}
+      open request use {message, outcome, replied}
 
 -- SETUP is processed before PLAY
 abbrev IsSetupFirst : Beginning → Outlook → ℕ → Later → {old new : Stage} → TakenFirst old new → Type 0
@@ -391,7 +388,7 @@ IsSetupFirst b out slot later {old} first =
 -- after SETUP only PLAY is to come
 module _ {b : Beginning} {out : Outlook} {slot : ℕ} {old new : Stage} where
   setup_first : (later : Later) (first : TakenFirst old new) (is : IsSetupFirst b out slot later first)
-      → (first.message ≡ setup_text b.wish)
+      → (first.request.message ≡ setup_text b.wish)
       × IsAhead b out first.mid.session slot [] (from_takings slot first.mid first.takings new first.takes later)
   setup_first later first is =
       let more = asked_after first later in
@@ -401,11 +398,11 @@ module _ {b : Beginning} {out : Outlook} {slot : ℕ} {old new : Stage} where
       let here : message ≡ is.0 = cc in
       let rest : takings_requests takings ++ later.requests ≡ play_text b.wish b.session ∷ out.last = cc in
       let at : message ≡ setup_text b.wish = here ∙ ahead.setups.0 in
-      let none = no_play_begins replied ahead.waits.stands (setup_no_play b at) more in (
+      let none = no_play_begins request ahead.waits.stands (setup_no_play b at) more in (
         at,
         record {
           waits = answered_waits replied at ahead.waits;
-          named = answered_named replied ahead.named;
+          named = answered_named request ahead.named;
           heard = ap (λ (part : LastingPart). part.heard) (taken_keeps replied) ∙ ahead.heard;
           setups = ahead.setups.1;
           fresh = tt;
@@ -415,7 +412,8 @@ module _ {b : Beginning} {out : Outlook} {slot : ℕ} {old new : Stage} where
         },
       )
     where
-      open first use {message, replied, takings}
+      open first use {request, takings}
+      open request use {message, replied}
 
   setup_walk : (later : Later) (first : TakenFirst old new) (is : IsSetupFirst b out slot later first)
       → IsPlayedWhole b out first.mid.session slot 0 (takings_slots slot first.takings ++ later.slots)
@@ -441,7 +439,8 @@ module _ {b : Beginning} {out : Outlook} {slot : ℕ} {old new : Stage} where
         read = λ few. (set, rec.read few);
       }
     where
-      open first use {message, outcome, parts, replied}
+      open first use {request}
+      open request use {message, outcome, parts, replied}
 
 takings_walk : {b : Beginning} {out : Outlook} {slot : ℕ} {later : Later} {ahead : List (List ℕ)} (old new : Stage)
     (takings : List ElementStep) (takes : TakesAll old takings new) → Leads b out new.session slot later

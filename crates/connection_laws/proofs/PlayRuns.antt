@@ -40,8 +40,7 @@ use Rattle.session.specs.SlotSteps.{is_sending, is_done_in, is_taken, sent_due, 
 use Rattle.session.specs.SlotTransitions.{after_stop}
 use Rattle.session_laws.proofs.RunLemmas.{IsLeftBy, IsNextRun, RunsAs, Replies, SetsUp, AsksPlay, Stops, AsksLook}
 use Rattle.session_laws.proofs.RunLemmas.{AsksOffer, one_film, run_goes_on, runs_as}
-use Rattle.conn.specs.InputSteps.{IsReplied, Outcome, Unasked, Entered, WasFull, Offered, SentPart, Stage}
-use Rattle.conn.specs.InputSteps.{IsHaltAnswered}
+use Rattle.conn.specs.InputSteps.{Outcome, Unasked, Entered, WasFull, Offered, SentPart, Stage, IsHaltAnswered}
 use Rattle.connection_laws.specs.Courses.{Course, asked_by, askings_of, course_plays, first_stage}
 use Rattle.connection_laws.specs.Plays.{FilmPlay, StationRequest, Asks, kept_by, kept_in, kept_with, plays_admitted}
 use Rattle.connection_laws.specs.Plays.{plays_begun, plays_of}
@@ -51,7 +50,7 @@ use Rattle.connection_laws.proofs.StationAnswers.{AnswersAs, NoneAsked, PlayAdmi
 use Rattle.connection_laws.proofs.StationAnswers.{LookMade, LookFull, OfferMade, answers_as, FinishesAs, NothingLeft}
 use Rattle.connection_laws.proofs.StationAnswers.{DoneHalted, ComesAs, BytesCame, SlotCame}
 use Rattle.connection_laws.proofs.KeptParts.{reply_keeps, slot_keeps}
-use Rattle.connection_laws.proofs.CourseInduction.{Piece}
+use Rattle.connection_laws.proofs.CourseInduction.{Piece, AnsweredRequest, asking_of}
 
 -- what the runs of a session go by, and what of a reply matters to them
 record Stream : Type 0 where
@@ -620,10 +619,9 @@ module _ (words : List ℕ) where
 
   -- ---- elements and events
 
-  answered_leads : (old new : Stage) (message : List ℕ) (outcome : Outcome) (parts : List SentPart)
-      (replied : IsReplied old message outcome parts new) → Stands old.session
-      → Leads old.session new.session (Asks replied.heard.asking.awaited outcome ∷ [])
-  answered_leads old new message outcome parts replied stands =
+  answered_leads : {old new : Stage} (request : AnsweredRequest old new) → Stands old.session
+      → Leads old.session new.session (asking_of request ∷ [])
+  answered_leads {old} request stands =
       let heard = replied.heard in
       let made : List StationRequest = Asks heard.asking.awaited outcome ∷ [] in
       let one : Leads old.session replied.answered made =
@@ -634,6 +632,8 @@ module _ (words : List ℕ) where
       (leads_then one (moves
       (reply_keeps (λ (s : SessionState). s.looks_left) (λ s. refl) (can_reply replied.answered) replied.answered)
       (reply_moves (can_reply replied.answered) replied.answered)))
+    where
+      open request use {message, outcome, replied}
 
   abbrev LeadsOn : SessionState → Piece → SessionState → Type 0
   LeadsOn old piece new = Leads old new piece.askings
@@ -642,8 +642,7 @@ module _ (words : List ℕ) where
   leads_kept = record {
     none = λ s. moves refl (moves_none s);
     joins = λ a b c one two first rest. leads_then first rest;
-    request = λ old new message outcome parts replied stands. answered_leads old new message outcome parts replied
-        stands;
+    request = λ old new request stands. answered_leads request stands;
     event = λ old opened event due halt comes stands. comes_leads stands comes;
   }
 

@@ -10,7 +10,7 @@ use Rattle.conn.specs.Films.{round_parts, rounds_film, rounds_parts, takings_par
 use Rattle.conn.specs.EventSteps.{Round, takings_bytes}
 use Rattle.connection_laws.specs.Courses.{rounds_bytes, IsCourseBetween, first_stage, Course, course_film}
 use Rattle.conn.specs.InputSteps.{Answered, Film, SentPart, Passed, Stage, ElementStep, Text, film_bytes, part_bytes}
-use Rattle.conn.specs.InputSteps.{parts_bytes, IsReplied, Outcome, due_parts, slot_parts}
+use Rattle.conn.specs.InputSteps.{parts_bytes, Outcome, due_parts, slot_parts}
 use Rattle.connection_laws.specs.Replies.{PlacedText, placed_texts, insert_texts, text_of, waiting_reply, course_texts}
 use Rattle.connection_laws.specs.Replies.{course_replies}
 use Rattle.vod_base.specs.Links.{IoEvent}
@@ -22,10 +22,9 @@ use Rattle.session.specs.SlotSteps.{can_reply, after_play, is_between, is_done_i
 use Rattle.session.specs.SlotSteps.{sent_due, sent_in, sent_reply, sent_slot, after_slot, step_bytes, stepped_in}
 use Rattle.session.specs.SessionStates.{SessionState}
 use Rattle.connection_laws.proofs.FilmBytes.{Stands, turn_after, reply_awaited, IsKeptStanding, standing_course_kept}
-use Rattle.connection_laws.proofs.FilmBytes.{film_written_is}
-use Rattle.connection_laws.proofs.RequestEffects.{turns_as}
+use Rattle.connection_laws.proofs.FilmBytes.{film_written_is, request_turns}
 use Rattle.connection_laws.proofs.StationAnswers.{FinishesAs, NothingLeft, DoneHalted, ComesAs, BytesCame, SlotCame}
-use Rattle.connection_laws.proofs.CourseInduction.{Piece}
+use Rattle.connection_laws.proofs.CourseInduction.{Piece, AnsweredRequest}
 
 -- the first text stands at or after a place
 abbrev IsFrom : ℕ → List PlacedText → Type 0
@@ -151,18 +150,18 @@ reply_cases : (goes : Bool) (s : SessionState) → s.waits ≡ true
 reply_cases true s waits = refl
 reply_cases false s waits = ap (λ w. if w then s.text ∷ [] else []) waits
 
-answered_replies : {old new : Stage} {message : List ℕ} {outcome : Outcome} {parts : List SentPart}
-    (replied : IsReplied old message outcome parts new)
-    → Stands old.session → Replies old.session (texts_in parts) (replied.answered.text ∷ []) new.session
-answered_replies {old} {new} {message} {outcome} {parts} replied stands =
-    let after = turn_after old.session replied.answered replied.heard.asking.awaited outcome
-    (turns_as old.session message outcome replied.answered replied.heard stands.rest) in
+answered_replies : {old new : Stage} (request : AnsweredRequest old new) → Stands old.session
+    → Replies old.session (texts_in request.parts) (request.replied.answered.text ∷ []) new.session
+answered_replies {old} request stands =
+    let after = turn_after old.session replied.answered replied.heard.asking.awaited outcome (request_turns request stands) in
     ap (λ (s : Stage). texts_in parts ++ waiting_reply s.session) replied.new_is
     ∙ ap (λ ps. texts_in ps
     ++ waiting_reply (if can_reply replied.answered then sent_reply replied.answered else replied.answered))
     replied.parts_are
     ∙ reply_cases (can_reply replied.answered) replied.answered after.waits
     ∙ ap (λ ts. ts ++ replied.answered.text ∷ []) (sym (waits_none old.session replied.next.replied))
+  where
+    open request use {outcome, parts, replied}
 
 -- a play that is done is halted without a reply
 finished_waiting : {s new : SessionState} {awaited : Awaited} {halt : Outcome} → FinishesAs s new awaited halt
@@ -235,7 +234,7 @@ replies_kept = record {
         messages = two.replies;
         replied = rest;
       }) (texts_in one.parts) one.replies first);
-  request = λ old new message outcome parts replied stands. answered_replies replied stands;
+  request = λ old new request stands. answered_replies request stands;
   event = λ old opened event due halt comes stands. comes_replies comes stands;
 }
 

@@ -8,15 +8,16 @@ use Rattle.session.specs.RefusalOrder.{IsReadAs}
 use Rattle.session.specs.SessionStates.{SessionState}
 use Rattle.rtsp_text.specs.declared.requests.Request.{Request}
 use Rattle.conn.specs.EventSteps.{Round, Runs}
-use Rattle.conn.specs.InputSteps.{Answered, IsReplied, Outcome, SentPart, Passed, Stage, ElementStep, TakesAll, Entered}
+use Rattle.conn.specs.InputSteps.{Answered, Outcome, SentPart, Passed, Stage, ElementStep, TakesAll, Entered}
 use Rattle.conn.specs.InputSteps.{IsAskAnswered, Offered, Takes, Unasked, WasFull}
 use Rattle.connection_laws.specs.Courses.{IsCourseBetween, asked_by, askings_of, takings_askings}
 use Rattle.connection_laws.specs.Plays.{StationRequest, plays_begun, plays_of}
-use Rattle.connection_laws.proofs.FilmBytes.{Stands, opened_stands, taken_stands, takes_stands}
+use Rattle.connection_laws.proofs.FilmBytes.{Stands, opened_stands, taken_stands, takes_stands, request_turns}
+use Rattle.connection_laws.proofs.FilmBytes.{request_stands}
 use Rattle.session_laws.proofs.PlayInReadyLemmas.{play_heard}
 use Rattle.connection_laws.proofs.Requests.{rounds_requests, takings_requests}
 use Rattle.connection_laws.proofs.BookedPlays.{comes_none}
-use Rattle.connection_laws.proofs.RequestEffects.{Begins, Ends, Starts, Stays, TurnsAs, turns_as}
+use Rattle.connection_laws.proofs.RequestEffects.{Begins, Ends, Starts, Stays, TurnsAs}
 use Rattle.connection_laws.proofs.StationAnswers.{comes_as, nothing_left, ComesAs, BytesCame, SlotCame}
 use Rattle.std.proofs.lemmas.Bool.{true≢false}
 use Rattle.vod_base.specs.Links.{IoEvent}
@@ -38,6 +39,7 @@ use Rattle.session.specs.SlotSteps.{after_play, can_reply, is_sending, is_taken,
 use Rattle.session.specs.SlotTransitions.{after_stop}
 use Rattle.connection_laws.proofs.ClientSetups.{IsSettled, settled_by, setup_is}
 use Rattle.session_laws.proofs.SetupLemmas.{IsSetupRequest, SetupHeard, Refused, Settled, setup_heard}
+use Rattle.connection_laws.proofs.CourseInduction.{AnsweredRequest}
 
 abbrev pub IsNoPlay : List ℕ → Type 0
 IsNoPlay message = (request : Request) → IsReadAs message request → request.method.now ≢ codes "PLAY"
@@ -58,17 +60,19 @@ turn_none asked outcome never (Stays same after still) = still.none
 turn_none asked outcome never (Starts after begins) = absurd (never begins)
 turn_none asked outcome never (Ends after halts) = halts.none
 
-pub no_play_begins : {old : Stage} {message : List ℕ} {outcome : Outcome} {parts : List SentPart} {new : Stage}
-    (replied : IsReplied old message outcome parts new) → Stands old.session → IsNoPlay message
-    → (askings : List StationRequest) → plays_begun replied.heard.asking.awaited outcome askings ≡ []
-no_play_begins {old} {message} {outcome} replied stands none =
+pub no_play_begins : {old new : Stage} (request : AnsweredRequest old new) → Stands old.session
+    → IsNoPlay request.message → (askings : List StationRequest)
+    → plays_begun request.replied.heard.asking.awaited request.outcome askings ≡ []
+no_play_begins {old} request stands none =
     let heard = replied.heard in
     turn_none {old = old.session} {new = replied.answered} heard.asking.awaited outcome
     (λ begins.
     let its = play_heard old.session message heard.ask heard.asking begins.prepared stands.rest begins.asked_is
     heard.hears in
     none its.request its.is_request its.method)
-    (turns_as old.session message outcome replied.answered heard stands.rest)
+    (request_turns request stands)
+  where
+    open request use {message, outcome, replied}
 
 -- neither what is processed asks for a play, nor does one begin after it
 pub record HasNoPlays (old : Stage) (takings : List ElementStep) (more : List StationRequest) : Type 0 where
@@ -88,10 +92,12 @@ takings_none old new (Passed n ∷ takings) takes more has =
     })
 takings_none old new (Answered message outcome parts ∷ takings) takes more has =
     let later = takings_askings takes.0 takings new takes.1.1 ++ more in
-    let begun = no_play_begins takes.1.0 has.stands has.requests.0 later in
+    let request : AnsweredRequest old takes.0 =
+    record { message = message; outcome = outcome; parts = parts; replied = takes.1.0 } in
+    let begun = no_play_begins request has.stands has.requests.0 later in
     ap (λ l. l ++ plays_of later) begun
     ∙ takings_none takes.0 new takings takes.1.1 more (record {
-      stands = taken_stands old takes.0 (Answered message outcome parts) takes.1.0 has.stands;
+      stands = request_stands request has.stands;
       requests = has.requests.1;
       none = has.none;
     })
