@@ -167,9 +167,7 @@ play_fields h message one range start =
     cond-false (replies h == 0) (is_some (setup_session message)) _
     (ne_eqb (replies h) 0 (λ none. omega (arith, none, one)))
     ∙ cond-true (replies h == 1) (is_some (play_range message) && is_some (play_start message)) true
-    (eq-eqb (replies h) 1 one)
-    ∙ ap (λ r. is_some r && is_some (play_start message)) range
-    ∙ start
+    (eq-eqb (replies h) 1 one) ∙ ap (λ r. is_some r && is_some (play_start message)) range ∙ start
 
 -- the moment of an element, by what the element is
 same_moment : {moment other : ClientEvent} (element : List ℕ) → element_events element ≡ moment ∷ []
@@ -225,8 +223,7 @@ stream_frames {film} {identity} {x} is =
     let starts = film.slice_starts.items in
     ap (λ bs. frames_of (events_of_elements bs)) is.blocks
     ∙ (units_told (record { run = run; frames = 0; octets = 0; media = is.media; control = is.control })
-    starts film.units.items
-    ∙ ap (λ us. frames_among (pieces_of starts us) (blocks_from run 0 0 (pieces_of starts us)))
+    starts film.units.items ∙ ap (λ us. frames_among (pieces_of starts us) (blocks_from run 0 0 (pieces_of starts us)))
     (sym (units_all film)))
 
 -- after the two first replies

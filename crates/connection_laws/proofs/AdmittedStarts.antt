@@ -68,8 +68,7 @@ entries_rest : (P : PlacedEntry → Type 0) (xs ys : List Outcome) → InEntries
 entries_rest P [] ys are = are
 entries_rest P (x ∷ xs) ys are = entries_rest P xs ys are.1
 
-all_entries : (P : PlacedEntry → Type 0) (outcomes : List Outcome) → InEntries P outcomes
-    → All P (entries_in outcomes)
+all_entries : (P : PlacedEntry → Type 0) (outcomes : List Outcome) → InEntries P outcomes → All P (entries_in outcomes)
 all_entries P [] are = All-nil P
 all_entries P (Entered placed ∷ outcomes) are =
     All-cons P placed (entries_in outcomes) are.0 (all_entries P outcomes are.1)

@@ -67,8 +67,7 @@ pub record IsMaker (run : FramedRun) (unit : PictureUnit) (make : Packet → Par
       → frames_among (make p ∷ ps) (b ∷ bs) ≡ b ∷ frames_among ps bs
 
 frames_made : {run : FramedRun} {unit : PictureUnit} {make : Packet → Part} (f o : ℕ) (packets : List Packet)
-    → IsMaker run unit make
-    → blocks_from run f o (map make packets) ≡ frame_blocks run unit f packets
+    → IsMaker run unit make → blocks_from run f o (map make packets) ≡ frame_blocks run unit f packets
 frames_made f o [] is = refl
 frames_made {run} {unit} {make} f o (p ∷ packets) is =
     ap (λ b. b ∷ blocks_from run (f + count_of (make p)) (o + octets_of (make p)) (map make packets)) (is.bytes p f o)
@@ -108,10 +107,8 @@ unit_made run f o starts unit =
 -- ---- the frames among them
 
 frames_among_made : {run : FramedRun} {unit : PictureUnit} {make : Packet → Part} (f : ℕ) (packets : List Packet)
-    (ps : List Part) (bs : List (List ℕ))
-    → IsMaker run unit make
-    → frames_among (map make packets ++ ps) (frame_blocks run unit f packets ++ bs)
-    ≡ frame_blocks run unit f packets ++ frames_among ps bs
+    (ps : List Part) (bs : List (List ℕ)) → IsMaker run unit make → frames_among (map make packets ++ ps)
+    (frame_blocks run unit f packets ++ bs) ≡ frame_blocks run unit f packets ++ frames_among ps bs
 frames_among_made f [] ps bs is = refl
 frames_among_made {run} {unit} {make} f (p ∷ packets) ps bs is =
     is.among p (map make packets ++ ps) (frame_block run unit p f) (frame_blocks run unit (f + 1) packets ++ bs)
@@ -134,12 +131,10 @@ pub record AfterUnit : Type 0 where
   pub blocks : List (List ℕ)
 
 among_report : {run : FramedRun} {unit : PictureUnit} {make : Packet → Part} (starts : Bool)
-    (uncounted : UncountedReport)
-    (from : PacketsFrom) (rest : AfterUnit) → IsMaker run unit make →
-    frames_among ((cond starts (uncounted.report ∷ []) [] ++ map make from.packets) ++ rest.parts)
+    (uncounted : UncountedReport) (from : PacketsFrom) (rest : AfterUnit) → IsMaker run unit make
+    → frames_among ((cond starts (uncounted.report ∷ []) [] ++ map make from.packets) ++ rest.parts)
     ((report_if starts run unit from.frames from.octets ++ frame_blocks run unit from.frames from.packets)
-    ++ rest.blocks)
-    ≡ frame_blocks run unit from.frames from.packets ++ frames_among rest.parts rest.blocks
+    ++ rest.blocks) ≡ frame_blocks run unit from.frames from.packets ++ frames_among rest.parts rest.blocks
 among_report false uncounted from rest is = frames_among_made from.frames from.packets rest.parts rest.blocks is
 among_report {run} {unit} {make} true uncounted from rest is =
     uncounted.none (map make packets ++ rest.parts) (report_block run unit f o)
@@ -150,8 +145,7 @@ among_report {run} {unit} {make} true uncounted from rest is =
 
 pub unit_among : (run : FramedRun) (f o : ℕ) (starts : List ℕ) (unit : PictureUnit) (rest : AfterUnit) →
     frames_among (unit_pieces starts unit ++ rest.parts) (unit_blocks run starts unit f o ++ rest.blocks)
-    ≡ frame_blocks run unit f
-    (unit_packets starts unit) ++ frames_among rest.parts rest.blocks
+    ≡ frame_blocks run unit f (unit_packets starts unit) ++ frames_among rest.parts rest.blocks
 unit_among run f o starts unit rest =
     among_report {run = run} {unit = unit} {make = _} unit.starts_group (record { report = _; none = λ qs b cs. refl })
     (record { frames = f; octets = o; packets = unit_packets starts unit }) rest

@@ -235,8 +235,7 @@ either asked _ = BeginsNone (λ askings. refl)
 -- none at all, none so far
 before_by : {asked : Awaited} {outcome : Outcome} (a b : List StationRequest)
     → (plays_of (a ++ b) ≡ [] → plays_of a ≡ []) → Beginning asked outcome
-    → plays_of (Asks asked outcome ∷ (a ++ b)) ≡ []
-    → plays_of (Asks asked outcome ∷ a) ≡ []
+    → plays_of (Asks asked outcome ∷ (a ++ b)) ≡ [] → plays_of (Asks asked outcome ∷ a) ≡ []
 before_by a b rest (BeginsNone is) none =
     ap (λ l. l ++ plays_of a) (is a) ∙ rest (sym (ap (λ l. l ++ plays_of (a ++ b)) (is (a ++ b))) ∙ none)
 before_by a b rest (BeginsOne prepared start is) none =
@@ -309,8 +308,7 @@ late_lower low heard (Asks asked outcome ∷ a) less are = (
 )
 
 late_by : {heard : ℕ} {asked : Awaited} {outcome : Outcome} {play : FilmPlay} {rest : List FilmPlay}
-    (a : List StationRequest)
-    → (plays_of a ≡ play ∷ rest → IsLatePlay heard play) → Beginning asked outcome
+    (a : List StationRequest) → (plays_of a ≡ play ∷ rest → IsLatePlay heard play) → Beginning asked outcome
     → AreLate heard (Asks asked outcome ∷ a) → plays_of (Asks asked outcome ∷ a) ≡ play ∷ rest → IsLatePlay heard play
 late_by a next (BeginsNone none) are is =
     next (sym (ap (λ l. l ++ plays_of a) (none a)) ∙ is)
@@ -391,7 +389,6 @@ late_kept = record {
   };
 }
 
-pub course_late : (old new : Stage) (rounds : List Round) (follows : IsCourseBetween old rounds new) → Stands
-    old.session
-    → AreLate old.session.heard (askings_of old rounds new follows)
+pub course_late : (old new : Stage) (rounds : List Round) (follows : IsCourseBetween old rounds new)
+    → Stands old.session → AreLate old.session.heard (askings_of old rounds new follows)
 course_late old new rounds follows stands = (standing_course_kept late_kept old new rounds follows stands).late

@@ -159,8 +159,7 @@ complete_then n complete two awaited =
 
 -- the done stage, with its moments
 pub at_done : {wish : Wish} {watched : Watched} {bytes out : List ℕ} {at : WatchStage} {moment : ClientEvent}
-    (moments : List ClientEvent)
-    → Heard bytes at → IsNext at.rest moment → Gives wish at.history moment (Done watched)
+    (moments : List ClientEvent) → Heard bytes at → IsNext at.rest moment → Gives wish at.history moment (Done watched)
     → at.history ≡ history_after [] moments → out ≡ payloads_of moments
     → ((done : IsDrained wish watched bytes out) × (done.at ≡ at))
 at_done {out} {at} {moment = Reply message} moments heard next (inl bad) history is = absurd (let no : ⊥ = cc in no)

@@ -95,8 +95,7 @@ url_parts : (wish : Wish) (tail : List ℕ)
 url_parts wish tail =
     append_assoc (codes "rtsp://127.0.0.1:") (decimal wish.port ++ (codes "/" ++ string_bytes wish.name)) tail
     ∙ ap (λ l. codes "rtsp://127.0.0.1:" ++ l)
-    (append_assoc (decimal wish.port) (codes "/" ++ string_bytes wish.name) tail)
-    ∙ ap (λ l. codes "rtsp://" ++ l)
+    (append_assoc (decimal wish.port) (codes "/" ++ string_bytes wish.name) tail) ∙ ap (λ l. codes "rtsp://" ++ l)
     (sym (append_assoc (codes "127.0.0.1:") (decimal wish.port) (47 ∷ (string_bytes wish.name ++ tail))))
 
 pub url_name : {authority name : List ℕ} (wish : Wish) (tail : List ℕ) → IsWish wish → wish.port < 2 ^ 16 → IsTail tail
@@ -182,8 +181,7 @@ name_at {films} {authority} {number} wish is port names film at =
     ∙ (names.film.name_is ∙ url_name wish (codes "/video") is port (inr (inr (inl refl))) names.read)
 
 pub settled_by : {films : List Stored} {settings : Settings} {setup : Setup} {authority : List ℕ} (wish : Wish)
-    → IsWish wish → wish.port < 2 ^ 16
-    → AsksForSetup settings (request_head (setup_parts wish)) setup.film setup
+    → IsWish wish → wish.port < 2 ^ 16 → AsksForSetup settings (request_head (setup_parts wish)) setup.film setup
     → Names films (film_url wish ++ codes "/video") authority setup.film → IsSettled wish films setup
 settled_by {films} {settings} {setup} wish is port asks names =
     let values = (setup-asked wish is port).values in

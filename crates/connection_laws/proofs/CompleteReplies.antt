@@ -81,28 +81,23 @@ IsOwnReply _ = ⊥
 
 -- the session's own reply is the one that it made, and what SETUP settled stays
 record OwnReply (asking new : SessionState) (ask : Ask) : Type 0 where
-  complete : RepliesAreComplete ask asking → IsMessage asking.text
+  whole : RepliesAreComplete ask asking → IsMessage new.text
   text : new.text ≡ asking.text
   setup : setup_in new.state ≡ setup_in asking.state
 
 own_reply : {asking new : SessionState} {ask : Ask} {outcome : Outcome} → AnswersAs asking new ask outcome
     → IsOwnReply ask → OwnReply asking new ask
 own_reply (NoneAsked is) own = record {
-  complete = λ whole. whole;
+  whole = λ whole. subst IsMessage (sym (ap (λ (s : SessionState). s.text) is)) whole;
   text = ap (λ (s : SessionState). s.text) is;
   setup = ap (λ (s : SessionState). setup_in s.state) is;
 }
 own_reply {asking} (PlayHalted halt) own = record {
-  complete = λ whole. whole;
+  whole = λ whole. subst IsMessage (sym (ap (λ (s : SessionState). s.text) halt.halts)) whole;
   text = ap (λ (s : SessionState). s.text) halt.halts;
   setup = ap (λ (s : SessionState). setup_in s.state) halt.halts ∙ halted_setup asking.state asking.awaited;
 }
 own_reply _ own = absurd own
-
-own_whole : {asking new : SessionState} {ask : Ask} {outcome : Outcome} → AnswersAs asking new ask outcome
-    → IsOwnReply ask → RepliesAreComplete ask asking → IsMessage new.text
-own_whole answers own whole =
-    let its = own_reply answers own in subst IsMessage (sym its.text) (its.complete whole)
 
 -- the session after a play was admitted, whose reply is complete if each one that it can have is
 pub record IsAdmittedFrom (asking : SessionState) (ask : Ask) (place start : ℕ) (new : SessionState) : Type 0 where
@@ -134,10 +129,9 @@ admitted_from {start} is (LookMade look) =
     absurd (let no : ⊥ = cc in no)
 
 pub reply_whole : {old new : SessionState} {message : List ℕ} {outcome : Outcome} (heard : HasHeard old message outcome
-    new)
-    → heard.ask ≡ AskReply → RepliesAreComplete heard.ask heard.asking → IsMessage new.text
+    new) → heard.ask ≡ AskReply → RepliesAreComplete heard.ask heard.asking → IsMessage new.text
 reply_whole {outcome = outcome} heard is whole =
-    own_whole (answers_as heard.ask outcome heard.answered) (subst IsOwnReply (sym is) tt) whole
+    (own_reply (answers_as heard.ask outcome heard.answered) (subst IsOwnReply (sym is) tt)).whole whole
 
 -- ---- TEARDOWN
 
@@ -145,26 +139,25 @@ own_halt : (stage : SessionStage) (ask : Ask) → HaltsPlay stage ask → IsOwnR
 own_halt PlayingStage ask is = subst IsOwnReply (sym is.1) tt
 own_halt _ ask is = subst IsOwnReply (sym is) tt
 
-teardown_read : (b : Beginning) (old new : SessionState) {message : List ℕ} {ask : Ask}
-    → message ≡ teardown_text b.wish b.session → Hears old message ask new
-    → (ask ≡ AskReply) ⊎ IsTeardown message
-teardown_read b old new is (inl fault) = inl fault.refused.0
-teardown_read b old new {message = message} is (inr whole) =
-    let asked = teardown-asked b.wish b.session b.wished b.port b.session_is in
-    let R : List ℕ → Type 0 = λ m.
-    IsRequest m (codes "TEARDOWN") (film_url b.wish) 3 (request_head (teardown_parts b.wish b.session)) [] in
-    let same = request_once whole.is_request (subst R (sym is) asked.read) in
-    inr (record { request = whole.request; is_request = whole.is_request; method_is = same.method_is })
+module _ (b : Beginning) (old new : SessionState) {message : List ℕ} where
+  teardown_read : {ask : Ask} → message ≡ teardown_text b.wish b.session → Hears old message ask new
+      → (ask ≡ AskReply) ⊎ IsTeardown message
+  teardown_read is (inl fault) = inl fault.refused.0
+  teardown_read is (inr whole) =
+      let asked = teardown-asked b.wish b.session b.wished b.port b.session_is in
+      let R : List ℕ → Type 0 = λ m.
+      IsRequest m (codes "TEARDOWN") (film_url b.wish) 3 (request_head (teardown_parts b.wish b.session)) [] in
+      let same = request_once whole.is_request (subst R (sym is) asked.read) in
+      inr (record { request = whole.request; is_request = whole.is_request; method_is = same.method_is })
 
-teardown_own : {message : List ℕ} (b : Beginning) (old new : SessionState) (ask : Ask)
-    → message ≡ teardown_text b.wish b.session → Hears old message ask new → IsOwnReply ask
-teardown_own {message} b old new ask is hears = elim (teardown_read b old new is hears) [
-  | inl reply ↦ subst IsOwnReply (sym reply) tt
-  | inr teardown ↦ elim (teardown_ends old new message ask teardown hears) [
-    | inl declined ↦ subst IsOwnReply (sym declined.command) tt
-    | inr torn ↦ own_halt (stage_of old.state) ask torn.halts
+  teardown_own : (ask : Ask) → message ≡ teardown_text b.wish b.session → Hears old message ask new → IsOwnReply ask
+  teardown_own ask is hears = elim (teardown_read is hears) [
+    | inl reply ↦ subst IsOwnReply (sym reply) tt
+    | inr teardown ↦ elim (teardown_ends old new message ask teardown hears) [
+      | inl declined ↦ subst IsOwnReply (sym declined.command) tt
+      | inr torn ↦ own_halt (stage_of old.state) ask torn.halts
+    ]
   ]
-]
 
 -- ---- the requests leave room for what replies repeat of them
 
@@ -275,11 +268,11 @@ torn_reply : {b : Beginning} {old new : Stage} (request : AnsweredRequest old ne
     → IsAnsweredWhole b new.session (request.replied.answered.text ∷ [])
 torn_reply {b} {old} request is valid named =
     let heard = replied.heard in
-    let own = teardown_own {message = message} b old.session heard.asking heard.ask is heard.hears in
+    let own = teardown_own b old.session heard.asking {message = message} heard.ask is heard.hears in
     let complete = replies_whole old.session message heard.ask heard.asking valid (teardown_room b is) heard.hears in
-    let whole = own_whole (answers_as heard.ask outcome heard.answered) own complete in
     let told = teardown_replied b old.session heard.ask heard.asking named is heard.hears in
     let its = own_reply (answers_as heard.ask outcome heard.answered) own in
+    let whole = its.whole complete in
     let text : replied.answered.text ≡ session_text 3 old.session.id =
     its.text ∙ told.text in
     let same : IsSameSetup heard.asking replied.answered = record {
@@ -336,8 +329,7 @@ answers_join (message ∷ front) rest are more = (are.0, answers_join front rest
 
 -- what is processed and what comes later
 pub whole_later : {b : Beginning} {session : SessionState} {replies : List (List ℕ)} (later : List (List ℕ))
-    → IsAnsweredWhole b session replies
-    → (HasValidIds session → IsNamed b session → AreWhole later × AreAnswers later)
+    → IsAnsweredWhole b session replies → (HasValidIds session → IsNamed b session → AreWhole later × AreAnswers later)
     → AreWhole (replies ++ later) × AreAnswers (replies ++ later)
 whole_later {replies = replies} later first rest =
     let its = rest first.named first.own in

@@ -24,11 +24,16 @@ follows_all old new [] runs = runs
 follows_all old new (round ∷ rounds) runs = (runs.0, (runs.1.0, follows_all runs.0 new rounds runs.1.2))
 
 -- and one more, up to an element that ends a connection
-pub follows_last : {mid new : Stage} {round : Round} (old : Stage) (rounds : List Round) → RunsAll old rounds mid →
-    Runs mid round new → IsCourseBetween old (rounds ++ round ∷ []) new
-follows_last {new} {round} old [] runs last = (new, (subst (λ s. Runs s round new) runs last, refl))
-follows_last {mid} {new} {round} old (first ∷ rounds) runs last =
-    (runs.0, (runs.1.0, follows_last runs.0 rounds runs.1.2 last))
+module _ {mid new : Stage} {round : Round} where
+  pub follows_more : (old : Stage) (rounds : List Round) → IsCourseBetween old rounds mid → Runs mid round new
+      → IsCourseBetween old (rounds ++ round ∷ []) new
+  follows_more old [] follows runs = (new, (subst (λ s. Runs s round new) follows runs, refl))
+  follows_more old (first ∷ rounds) follows runs =
+      (follows.0, (follows.1.0, follows_more follows.0 rounds follows.1.1 runs))
+
+  pub follows_last : (old : Stage) (rounds : List Round) → RunsAll old rounds mid → Runs mid round new
+      → IsCourseBetween old (rounds ++ round ∷ []) new
+  follows_last old rounds all = follows_more old rounds (follows_all old mid rounds all)
 
 -- each prefix of a course is one
 abbrev pub parts_of : (old new : Stage) (first rest : List Round) → IsCourseBetween old (first ++ rest) new
@@ -45,11 +50,10 @@ sent_heard old slot =
     reply_keeps (λ (s : SessionState). s.heard) (λ s. refl)
     (old.waits && is_between (stepped_in true slot old.state)) (sent_due old slot)
 
-slot_cases : {later : Bool} (old : SessionState) (slot : ℕ) (small sending : Bool)
-    → (later ≡ true → old.heard < slot) → (later ≡ false → slot ≤ old.heard)
-    → (if later && small then (if sending then after_play (sent_slot old slot) else record old
-    { heard = slot }) else old).heard
-    ≡ max old.heard (if small then slot else 0)
+slot_cases : {later : Bool} (old : SessionState) (slot : ℕ) (small sending : Bool) → (later ≡ true → old.heard < slot)
+    → (later ≡ false → slot ≤ old.heard)
+    → (if later && small then (if sending then after_play (sent_slot old slot) else record old { heard = slot }) else
+    old).heard ≡ max old.heard (if small then slot else 0)
 slot_cases {later = true} old slot true true after before = let h : old.heard < slot =
     after refl in sent_heard old slot ∙ omega (arith, h)
 slot_cases {later = true} old slot true false after before = let h : old.heard < slot = after refl in omega (arith, h)

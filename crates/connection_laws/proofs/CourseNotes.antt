@@ -228,8 +228,7 @@ unasked_noted asking later = refl
 
 -- an entry that a session makes without asking for a play, and that admits none
 other_noted : (asking : SessionState) (placed : PlacedEntry) → ((prepared : Prepared) → asking.awaited ≡ Play prepared →
-    ⊥)
-    → play_admitted placed.entry.command placed.entry.answer ≡ None → IsNoted asking (Entered placed)
+    ⊥) → play_admitted placed.entry.command placed.entry.answer ≡ None → IsNoted asking (Entered placed)
 other_noted asking placed other none later =
     ap (map noted_play) (no_note asking.state asking.awaited placed later.turns other)
     ∙ sym (ap (λ p. map (placed_play placed.place) (booked_by p later.made)) none)
@@ -262,8 +261,7 @@ note_is setup run place (Some booked) later =
 play_noted : {old asking : SessionState} (play : PlayRequest old asking) (placed : PlacedEntry)
     → placed.entry.command ≡ play_of asking.heard play.prepared.plan → IsNoted asking (Entered placed)
 play_noted {asking = asking} play placed command = λ later.
-    ap (map noted_play) (begun_note play placed later.turns command)
-    ∙ note_is play.setup play.prepared.run placed.place
+    ap (map noted_play) (begun_note play placed later.turns command) ∙ note_is play.setup play.prepared.run placed.place
     (play_admitted (play_of asking.heard play.prepared.plan) placed.entry.answer) later
     ∙ sym (ap (λ c. map (placed_play placed.place) (booked_by (play_admitted c placed.entry.answer) later.made))
     command)

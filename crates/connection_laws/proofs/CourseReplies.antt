@@ -55,8 +55,7 @@ move_none s pending held =
     record { after = pending; held = held; goes_on = goes_same (point (sends_in s.state) s.heard pending) }
 
 pub move_then : {a b c : SessionState} {pending : Option ℕ} {made asked : List StationRequest} {slots taken : List ℕ}
-    {parts sent : List SentPart}
-    → (one : Move a b pending made slots parts) → Move b c one.after asked taken sent
+    {parts sent : List SentPart} → (one : Move a b pending made slots parts) → Move b c one.after asked taken sent
     → Move a c pending (made ++ asked) (slots ++ taken) (parts ++ sent)
 move_then {a} {c} {made} {taken} one two = record {
   after = two.after;
@@ -142,8 +141,7 @@ module _ {s new : SessionState} {pending : Option ℕ} where
 
 -- a play that is done: no reply is held up, and it is halted with all that was sent
 done_unheld : {p : PacerState} {pending : Option ℕ} (waits : Bool) (heard : ℕ) → IsPacerState p → p.sent ≡ p.keep
-    → IsHeld pending (Going p) waits heard
-    → pending ≡ None
+    → IsHeld pending (Going p) waits heard → pending ≡ None
 done_unheld {p} {pending = None} waits heard is done held = refl
 done_unheld {p} {pending = Some slot} waits heard is done held =
     let past = held.1.none (p.before + p.keep) is.ends (omega arith) in absurd (omega (arith, past, done))
@@ -197,8 +195,7 @@ module _ {s new : SessionState} {pending : Option ℕ} where
             (subst (λ x. GoesTo (point (Going p) s.heard None) (point x new.heard None)
             (Asks s.awaited (Entered placed) ∷ []) [] []) (sym sends)
             (subst (λ h. GoesTo (point (Going p) s.heard None) (point Idle h None)
-            (Asks s.awaited (Entered placed) ∷ []) [] [])
-            (sym heard) goes)));
+            (Asks s.awaited (Entered placed) ∷ []) [] []) (sym heard) goes)));
       }
     where
       open finished use {play, state_is as is, on, done, asks}
@@ -213,41 +210,9 @@ pub record StandingHeld (old : SessionState) (pending : Option ℕ) : Type 0 whe
   pub stands : Stands old
   pub held : HeldIn pending old
 
-sent_move : {old new : SessionState} {halt : Outcome} {pending : Option ℕ} (slot : ℕ) → StandingHeld old pending →
-    is_sending old.state ≡ true → old.heard < slot →
-    FinishesAs (after_play (sent_slot old slot)) new (after_play (sent_slot old slot)).awaited halt →
-    Move old new pending (Asks (after_play (sent_slot old slot)).awaited halt ∷ []) [] (due_parts old slot)
-sent_move {old} {new} {halt} {pending} slot standing sending later finishing =
-    let s : SessionState = after_play (sent_slot old slot) in
-    let goes : Bool = old.waits && is_between (stepped_in true slot old.state) in
-    let due : SessionState = sent_due old slot in
-    let state : s.state ≡ state_after old.waits old.state slot = reply_state goes due in
-    let heard : s.heard ≡ slot = reply_heard goes due in
-    let waits : s.waits ≡ waits_after old.waits old.state slot = reply_waits goes due in
-    let slots = slot_moves sending standing.stands.sound later standing.held in
-    let there : HeldIn slots.after s =
-    subst (λ st. IsHeld slots.after (sends_in st) s.waits s.heard) (sym state)
-    (subst (λ w. IsHeld slots.after (sends_in (state_after old.waits old.state slot)) w s.heard) (sym waits)
-    (subst (λ h. IsHeld slots.after (sends_in (state_after old.waits old.state slot))
-    (waits_after old.waits old.state slot) h) (sym heard) slots.held)) in
-    let first : Move old s pending [] [] (due_parts old slot) = record {
-      after = slots.after;
-      held = there;
-      goes_on = subst (λ st. GoesTo (point (sends_in old.state) old.heard pending)
-          (point (sends_in st) s.heard slots.after) [] [] (due_parts old slot)) (sym state)
-          (subst (λ h. GoesTo (point (sends_in old.state) old.heard pending)
-          (point (sends_in (state_after old.waits old.state slot)) h slots.after) [] []
-          (due_parts old slot)) (sym heard)
-          slots.goes_on);
-    } in
-    let second = finished_move (sent_over old slot standing.stands sending later) refl there finishing in
-    subst (λ ps. Move old new pending (Asks s.awaited halt ∷ []) [] ps) (append-nil (due_parts old slot))
-    (move_then first second)
-
 -- nothing is being sent
 idle_none : (state : State) (pending : Option ℕ) (waits : Bool) (heard : ℕ) → is_sending state ≡ false
-    → IsHeld pending (sends_in state) waits heard
-    → (pending ≡ None) × (sends_in state ≡ Idle)
+    → IsHeld pending (sends_in state) waits heard → (pending ≡ None) × (sends_in state ≡ Idle)
 idle_none Init (Some slot) waits heard none held = absurd held
 idle_none (Ready setup paused) (Some slot) waits heard none held = absurd held
 idle_none (Playing setup play) pending waits heard none held = absurd (true≢false none)
@@ -265,8 +230,7 @@ idle_later from to less = record {
 }
 
 idle_move : (old : SessionState) (slot : ℕ) (pending : Option ℕ) → HeldIn pending old → is_sending old.state ≡ false
-    → old.heard < slot
-    → Move old (record old { heard = slot }) pending [] [] []
+    → old.heard < slot → Move old (record old { heard = slot }) pending [] [] []
 idle_move old slot pending held none later =
     let idle = idle_none old.state pending old.waits old.heard none held in
     let waits : old.waits ≡ false = subst (λ o. IsHeld o (sends_in old.state) old.waits old.heard) idle.0 held in
@@ -280,9 +244,37 @@ idle_move old slot pending held none later =
     }
 
 module _ {old new : SessionState} {halt : Outcome} {pending : Option ℕ} where
+  sent_move : (slot : ℕ) → StandingHeld old pending → is_sending old.state ≡ true → old.heard < slot
+      → FinishesAs (after_play (sent_slot old slot)) new (after_play (sent_slot old slot)).awaited halt
+      → Move old new pending (Asks (after_play (sent_slot old slot)).awaited halt ∷ []) [] (due_parts old slot)
+  sent_move slot standing sending later finishing =
+      let s : SessionState = after_play (sent_slot old slot) in
+      let goes : Bool = old.waits && is_between (stepped_in true slot old.state) in
+      let due : SessionState = sent_due old slot in
+      let state : s.state ≡ state_after old.waits old.state slot = reply_state goes due in
+      let heard : s.heard ≡ slot = reply_heard goes due in
+      let waits : s.waits ≡ waits_after old.waits old.state slot = reply_waits goes due in
+      let slots = slot_moves sending standing.stands.sound later standing.held in
+      let there : HeldIn slots.after s =
+      subst (λ st. IsHeld slots.after (sends_in st) s.waits s.heard) (sym state)
+      (subst (λ w. IsHeld slots.after (sends_in (state_after old.waits old.state slot)) w s.heard) (sym waits)
+      (subst (λ h. IsHeld slots.after (sends_in (state_after old.waits old.state slot))
+      (waits_after old.waits old.state slot) h) (sym heard) slots.held)) in
+      let first : Move old s pending [] [] (due_parts old slot) = record {
+        after = slots.after;
+        held = there;
+        goes_on = subst (λ st. GoesTo (point (sends_in old.state) old.heard pending)
+            (point (sends_in st) s.heard slots.after) [] [] (due_parts old slot)) (sym state)
+            (subst (λ h. GoesTo (point (sends_in old.state) old.heard pending)
+            (point (sends_in (state_after old.waits old.state slot)) h slots.after) [] []
+            (due_parts old slot)) (sym heard) slots.goes_on);
+      } in
+      let second = finished_move (sent_over old slot standing.stands sending later) refl there finishing in
+      subst (λ ps. Move old new pending (Asks s.awaited halt ∷ []) [] ps) (append-nil (due_parts old slot))
+      (move_then first second)
+
   slot_cases : {taken sending : Bool} (slot : ℕ) → StandingHeld old pending → (taken ≡ true → old.heard < slot)
-      → is_sending old.state ≡ sending
-      → let s : SessionState = if taken then
+      → is_sending old.state ≡ sending → let s : SessionState = if taken then
       (if sending then after_play (sent_slot old slot) else record old { heard = slot }) else old in FinishesAs s new
       s.awaited halt
       → Move old new pending (Asks s.awaited halt ∷ []) [] (if taken && sending then due_parts old slot else [])
@@ -336,18 +328,17 @@ unsent_last : {p : PacerState} {keep slot heard place : ℕ} → IsOnTime p hear
     PlayDue p keep slot heard → IsBoundaryIn (play_with p keep ∷ []) place →
     all_due slot (play_with p keep ∷ []) ≤ place → all_due heard (play_with p keep ∷ []) < place
 unsent_last {p} {keep} {slot} {heard} {place} on same held due_are (inl own) due =
-    let first = due_then p keep slot [] due_are.then_due tt in
-    let last = due_then p keep heard [] due_are.now_due tt in
-    let past = held.none (p.before + place) own.1 (omega (arith, first, due)) in
-    omega (arith, past, last)
+    let first = due_then p keep slot [] tt in
+    let last = due_then p keep heard [] tt in
+    let past = held.none (p.before + place) own.1 (omega (arith, first, due_are.then_due, due)) in
+    omega (arith, past, last, due_are.now_due)
 unsent_last {p} {keep} {slot} {heard} {place} on same held due_are (inr over) due =
-    let last = due_then p keep heard [] due_are.now_due tt in
+    let last = due_then p keep heard [] tt in
     let past = held.none (p.before + p.keep) on.pacing.ends (omega arith) in
-    omega (arith, past, last, over.0, same)
+    omega (arith, past, last, due_are.now_due, over.0, same)
 
 end_stand : (sends : Sends) (waits : Bool) (heard : ℕ) (pending : Option ℕ) → IsSound sends waits heard
-    → IsHeld pending sends waits heard
-    → Stand sends pending [] heard [] []
+    → IsHeld pending sends waits heard → Stand sends pending [] heard [] []
 end_stand Idle waits heard None sound held = tt
 end_stand Idle waits heard (Some slot) sound held = absurd held
 end_stand (Going p) waits heard None sound held =
@@ -374,8 +365,7 @@ end_stand (Ending p) waits heard (Some slot) sound held =
     record {
       holds = omega (arith, sound.0.pacing.sent, sound.0.pacing.due);
       sent = (
-        λ place boundary due. unsent_last sound.0 refl held.1 (record { then_due = refl; now_due = here })
-            boundary due,
+        λ place boundary due. unsent_last sound.0 refl held.1 (record { then_due = refl; now_due = here }) boundary due,
         tt,
       );
     }

@@ -269,8 +269,7 @@ ending_late old new count (InSlot slot front) end ends =
 ending_late old new count (InReply round message outcome front) end ends =
     let e = ends.1 in
     let failed = e.fails in
-    ap (λ (s : Stage). s.session.late) failed.new_is
-    ∙ heard_late failed.heard ∙ round_late old e.mid round e.runs
+    ap (λ (s : Stage). s.session.late) failed.new_is ∙ heard_late failed.heard ∙ round_late old e.mid round e.runs
 ending_late old new count _ end ends = ap (λ (s : Stage). s.session.late) ends.1 ∙ omega arith
 
 closed_late : (held : Option OpenBooking) (last closed : SessionState) (halt : Outcome) → IsClosed held last halt closed

@@ -29,39 +29,38 @@ pub record WishedTiming (wish : Wish) (timing : Timing) : Type 0 where
   pub units : timing.slot_units ≡ wish.slot_units
   pub delay : timing.delay ≡ wish.startup
 
-used_range : {wish : Wish} {timing : Timing} (slot : ℕ) (sizes : List ℕ) (n : ℕ) → WishedTiming wish timing →
-    n ≤ length sizes →
-    used_before wish timing.picture_units slot 0 (take n sizes)
-    ≡ sum_by (λ k. cond (nat_lt (due_slot timing k) slot) (get_or sizes k 0) 0) (range_with_len 0 n)
-used_range slot sizes zero timed few = refl
-used_range {wish} {timing} slot sizes (suc n) timed few =
-    let time = timing.picture_units in
-    let f : ℕ → ℕ = λ k. cond (nat_lt (due_slot timing k) slot) (get_or sizes k 0) 0 in
-    let next : suc n ≡ n + 1 = omega arith in
-    let more : take (suc n) sizes ≡ take n sizes ++ get_or sizes n 0 ∷ [] =
-    ap (λ m. take m sizes) next ∙ take_more sizes n 0 (omega (arith, few)) in
-    let rest = used_range slot sizes n timed (omega (arith, few)) in
-    let front = used_snoc wish time slot 0 (take n sizes) (get_or sizes n 0) in
-    let place : 0 + length (take n sizes) ≡ n = omega (arith, length-take-le n sizes (omega (arith, few))) in
-    let used : use_slot wish time (0 + length (take n sizes)) ≡ due_slot timing n =
-    ap (use_slot wish time) place ∙ (ap (λ u. n * time / u + wish.startup) (sym timed.units) ∙ ap
-    (λ d. n * time / timing.slot_units + d) (sym timed.delay)) in
-    let last = ap (λ u. cond (nat_lt u slot) (get_or sizes n 0) 0) used in
-    let sums = sum_by-range_more f n in
-    let range = ap (λ m. sum_by f (range_with_len 0 m)) next in
-    omega (arith, ap (used_before wish time slot 0) more, front, rest, last, sums, range)
+module _ {wish : Wish} {timing : Timing} where
+  used_range : (slot : ℕ) (sizes : List ℕ) (n : ℕ) → WishedTiming wish timing → n ≤ length sizes
+      → used_before wish timing.picture_units slot 0 (take n sizes)
+      ≡ sum_by (λ k. cond (nat_lt (due_slot timing k) slot) (get_or sizes k 0) 0) (range_with_len 0 n)
+  used_range slot sizes zero timed few = refl
+  used_range slot sizes (suc n) timed few =
+      let time = timing.picture_units in
+      let f : ℕ → ℕ = λ k. cond (nat_lt (due_slot timing k) slot) (get_or sizes k 0) 0 in
+      let next : suc n ≡ n + 1 = omega arith in
+      let more : take (suc n) sizes ≡ take n sizes ++ get_or sizes n 0 ∷ [] =
+      ap (λ m. take m sizes) next ∙ take_more sizes n 0 (omega (arith, few)) in
+      let rest = used_range slot sizes n timed (omega (arith, few)) in
+      let front = used_snoc wish time slot 0 (take n sizes) (get_or sizes n 0) in
+      let place : 0 + length (take n sizes) ≡ n = omega (arith, length-take-le n sizes (omega (arith, few))) in
+      let used : use_slot wish time (0 + length (take n sizes)) ≡ due_slot timing n =
+      ap (use_slot wish time) place ∙ (ap (λ u. n * time / u + wish.startup) (sym timed.units) ∙ ap
+      (λ d. n * time / timing.slot_units + d) (sym timed.delay)) in
+      let last = ap (λ u. cond (nat_lt u slot) (get_or sizes n 0) 0) used in
+      let sums = sum_by-range_more f n in
+      let range = ap (λ m. sum_by f (range_with_len 0 m)) next in
+      omega (arith, ap (used_before wish time slot 0) more, front, rest, last, sums, range)
 
-used_same : {wish : Wish} {timing : Timing} (slot : ℕ) (sizes : List ℕ) → WishedTiming wish timing →
-    timing.played ≡ 0 → used_before wish timing.picture_units slot 0 sizes ≡ wire_used sizes timing slot
-used_same {wish} {timing} slot sizes timed none =
-    let all = used_range slot sizes (length sizes) timed (omega arith) in
-    omega (
-      arith,
-      ap (used_before wish timing.picture_units slot 0)
-          (take_all (length sizes) sizes (omega arith)),
-      all,
-      none,
-    )
+  used_same : (slot : ℕ) (sizes : List ℕ) → WishedTiming wish timing → timing.played ≡ 0
+      → used_before wish timing.picture_units slot 0 sizes ≡ wire_used sizes timing slot
+  used_same slot sizes timed none =
+      let all = used_range slot sizes (length sizes) timed (omega arith) in
+      omega (
+        arith,
+        ap (used_before wish timing.picture_units slot 0) (take_all (length sizes) sizes (omega arith)),
+        all,
+        none,
+      )
 
 -- between the curves of a plan is between those of the meter
 pub curves_same : {wish : Wish} {sizes : List ℕ} {slot came : ℕ} {timing : Timing} → WishedTiming wish timing →

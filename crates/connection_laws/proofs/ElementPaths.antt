@@ -64,8 +64,7 @@ over_grows input more n (AnEnd one some end) =
     AnEnd one (omega (arith, length-append input more, some)) (rw (get_or_append_left input more 0 0 some) end)
 over_grows input more n (ABlock starts four size inside) =
     ABlock (StartsBlock-append input more starts) (omega (arith, length-append input more, four))
-    (rw (block_length-append input more four) size)
-    (omega (arith, length-append input more, inside))
+    (rw (block_length-append input more four) size) (omega (arith, length-append input more, inside))
 
 over_no_request : (input : List ℕ) (n : ℕ) → IsOver input n → StartsMessage input → ⊥
 over_no_request input n (AnEnd one some end) starts = both_ways (is_line_end (get_or input 0 0)) starts.1 end
@@ -146,8 +145,7 @@ abbrev pub longer : Stage → List ℕ → Stage
 longer old more = stage old.session (old.input ++ more)
 
 shorter : {new : Stage} (old : Stage) (session : SessionState) (more : List ℕ) (n : ℕ) → n ≤ length old.input
-    → new ≡ stage session (drop n old.input)
-    → longer new more ≡ stage session (drop n (old.input ++ more))
+    → new ≡ stage session (drop n old.input) → longer new more ≡ stage session (drop n (old.input ++ more))
 shorter {new} old session more n inside is =
     ap (λ s. longer s more) is ∙ ap (λ input. stage session input) (sym (drop-append-le n old.input more inside))
 
@@ -193,33 +191,31 @@ pub record Path (old new : Stage) (bytes : List ℕ) (answers : List Outcome) (h
 path_none : (s : Stage) → Path s s [] [] []
 path_none s = record { elements = []; goes = refl; bytes_are = refl; answers_are = refl; hearings_are = refl }
 
-path_over : {a b c : Stage} {n : ℕ} {bytes : List ℕ} {answers : List Outcome} {hearings : List HeardRequest}
-    → IsPassing a n b
-    → Path b c bytes answers hearings → Path a c bytes answers hearings
-path_over {a} {b} {c} {n} {answers} passing path = record {
-  elements = Over n ∷ path.elements;
-  goes = (b, (passing, path.goes));
-  bytes_are = path.bytes_are;
-  answers_are = path.answers_are;
-  hearings_are = path.hearings_are;
-}
+module _ {a b c : Stage} where
+  path_over : {n : ℕ} {bytes : List ℕ} {answers : List Outcome} {hearings : List HeardRequest} → IsPassing a n b
+      → Path b c bytes answers hearings → Path a c bytes answers hearings
+  path_over {n} {answers} passing path = record {
+    elements = Over n ∷ path.elements;
+    goes = (b, (passing, path.goes));
+    bytes_are = path.bytes_are;
+    answers_are = path.answers_are;
+    hearings_are = path.hearings_are;
+  }
 
-path_then : {a b c : Stage} {first second : List ℕ} {one two : List Outcome} {heard later : List HeardRequest}
-    → Path a b first one heard
-    → Path b c second two later → Path a c (first ++ second) (one ++ two) (heard ++ later)
-path_then {a} {b} {c} {first} {second} {one} {heard} {later} path after = record {
-  elements = path.elements ++ after.elements;
-  goes = join_goes a (record { old = b; new = c; elements = after.elements; leads = after.goes })
-      path.elements path.goes;
-  bytes_are = join_bytes path.elements after.elements ∙ ap (λ bs. bs ++ elements_bytes after.elements) path.bytes_are
-      ∙ ap (λ bs. first ++ bs) after.bytes_are;
-  answers_are = join_answers path.elements after.elements
-      ∙ ap (λ os. os ++ elements_answers after.elements) path.answers_are
-      ∙ ap (λ os. one ++ os) after.answers_are;
-  hearings_are = join_hearings path.elements after.elements
-      ∙ ap (λ hs. hs ++ elements_hearings after.elements) path.hearings_are
-      ∙ ap (λ hs. heard ++ hs) after.hearings_are;
-}
+  path_then : {first second : List ℕ} {one two : List Outcome} {heard later : List HeardRequest}
+      → Path a b first one heard → Path b c second two later → Path a c (first ++ second) (one ++ two) (heard ++ later)
+  path_then {first} {second} {one} {heard} {later} path after = record {
+    elements = path.elements ++ after.elements;
+    goes = join_goes a (record { old = b; new = c; elements = after.elements; leads = after.goes })
+        path.elements path.goes;
+    bytes_are = join_bytes path.elements after.elements ∙ ap (λ bs. bs ++ elements_bytes after.elements) path.bytes_are
+        ∙ ap (λ bs. first ++ bs) after.bytes_are;
+    answers_are = join_answers path.elements after.elements
+        ∙ ap (λ os. os ++ elements_answers after.elements) path.answers_are ∙ ap (λ os. one ++ os) after.answers_are;
+    hearings_are = join_hearings path.elements after.elements
+        ∙ ap (λ hs. hs ++ elements_hearings after.elements) path.hearings_are
+        ∙ ap (λ hs. heard ++ hs) after.hearings_are;
+  }
 
 ends_over : (session : SessionState) (input : List ℕ) (n : ℕ) → session.torn ≡ false → n ≤ length input
     → ((k : ℕ) → k < n → is_line_end (get_or input k 0) ≡ true)
@@ -227,21 +223,18 @@ ends_over : (session : SessionState) (input : List ℕ) (n : ℕ) → session.to
 ends_over session input zero torn inside ends = path_none (stage session input)
 ends_over session [] (suc n) torn inside ends = let bad : ⊥ = omega (arith, inside) in absurd bad
 ends_over session (c ∷ cs) (suc n) torn inside ends =
-    path_over
-    (record { over = AnEnd refl (omega arith) (ends 0 (omega arith)); torn = torn; new_is = refl })
+    path_over (record { over = AnEnd refl (omega arith) (ends 0 (omega arith)); torn = torn; new_is = refl })
     (ends_over session cs n torn (omega (arith, inside)) (λ k below. ends (suc k) (omega (arith, below))))
 
 passed_over : (session : SessionState) (input : List ℕ) (n : ℕ) → IsPassed input n → session.torn ≡ false
     → Path (stage session input) (stage session (drop n input)) [] [] []
 passed_over session input n (inl skip) torn = ends_over session input n torn skip.1.within skip.1.line_ends
 passed_over session input n (inr block) torn =
-    path_over
-    (record { over = ABlock block.1.0 block.1.1 block.1.3 block.1.4; torn = torn; new_is = refl })
+    path_over (record { over = ABlock block.1.0 block.1.1 block.1.3 block.1.4; torn = torn; new_is = refl })
     (path_none (stage session (drop n input)))
 
 path_taken : (old new : Stage) (message : List ℕ) (outcome : Outcome) (parts : List SentPart)
-    (replied : IsReplied old message outcome parts new)
-    → Path old new (parts_bytes parts) (answer_in outcome)
+    (replied : IsReplied old message outcome parts new) → Path old new (parts_bytes parts) (answer_in outcome)
     (hearing old.session message replied.heard.ask replied.heard.asking ∷ [])
 path_taken old new message outcome parts replied = record {
   elements = RequestElement (record {
@@ -281,8 +274,7 @@ path_of old new (Passed n ∷ takings) takes =
     over (path_of takes.0 new takings takes.1.1)
 path_of old new (Answered message outcome parts ∷ takings) takes =
     let replied = takes.1.0 in
-    path_then
-    (path_taken old takes.0 message outcome parts replied) (path_of takes.0 new takings takes.1.1)
+    path_then (path_taken old takes.0 message outcome parts replied) (path_of takes.0 new takings takes.1.1)
 
 -- ---- where nothing more can be processed
 
@@ -323,8 +315,7 @@ done_goes old new element (inr stopped) goes = stopped_done old new element stop
 
 taken_films : (old new : Stage) (turn : StationCall) → IsTaken old turn new → new.session.films ≡ old.session.films
 taken_films old new turn taken =
-    ap (λ (s : Stage). s.session.films) taken.new_is
-    ∙ ap (λ (n : List Stored × List ℕ). n.0)
+    ap (λ (s : Stage). s.session.films) taken.new_is ∙ ap (λ (n : List Stored × List ℕ). n.0)
     (replied_names turn.answered ∙ answered_names turn.asking turn.ask turn.outcome turn.answered taken.answered)
     ∙ (hears_ground old.session turn.asking turn.message turn.ask taken.hears).films
 
@@ -387,8 +378,7 @@ turns_same {old} {turn} {again} given twice =
     subst (λ a. IsAskAnswered turn.asking a again.outcome again.answered) heard.0
     (subst (λ s. IsAskAnswered s again.ask again.outcome again.answered) heard.1 also.answered) in
     let both = answers_same turn.asking turn.ask given (taken.answered, answered) in (
-      also.new_is
-          ∙ stage_is (ap after_reply both.0) (ap (λ (m : List ℕ). drop (length m) old.input) message)
+      also.new_is ∙ stage_is (ap after_reply both.0) (ap (λ (m : List ℕ). drop (length m) old.input) message)
           ∙ sym taken.new_is,
       ap (λ s. parts_bytes (reply_parts s)) both.0,
       both.1,
@@ -445,8 +435,7 @@ ends_same {old} (Over n ∷ xs) (Over m ∷ ys) films way other_way alike =
       last = other_way.last;
       goes = subst (λ s. GoesAll s ys other_way.last) (overs_same goes.1.0 too.1.0) too.1.1;
       done = stops;
-    })
-    (record { answers = alike.answers; memory = alike.memory })
+    }) (record { answers = alike.answers; memory = alike.memory })
   where
     open way use {goes, done}
     open other_way use {goes as too, done as stops}
@@ -465,8 +454,7 @@ ends_same {ones} {others} {old = old} (RequestElement turn ∷ xs) (RequestEleme
       last = other_way.last;
       goes = subst (λ s. GoesAll s ys other_way.last) both.0 too.1.1;
       done = stops;
-    })
-    (record { answers = both.2; memory = alike.memory.1 }) in
+    }) (record { answers = both.2; memory = alike.memory.1 }) in
     record {
       last = rest.last;
       bytes = ap (λ bs. bs ++ elements_bytes ys) both.1

@@ -126,8 +126,7 @@ record LastSlot (play : FilmPlay) (first : List Round) : Type 0 where
 sent_through : {first : List Round} {play : FilmPlay} (course : Course) (later : List Round) → LastSlot play first →
     (follows : IsCourseBetween (first_stage course.films course.settings course.words) (first ++ later) course.last) →
     plays_of (askings_of (first_stage course.films course.settings course.words) (first ++ later) course.last
-    follows) ≡ play ∷ [] →
-    play.keep ≡ total_bytes play.plan → IsSentThrough play first
+    follows) ≡ play ∷ [] → play.keep ≡ total_bytes play.plan → IsSentThrough play first
 sent_through {first} {play} course later last follows one whole =
     let begin = first_stage course.films course.settings course.words in
     let stands = first_stands course in
@@ -160,8 +159,7 @@ one_written : (slot : ℕ) (play : FilmPlay) → film_written slot (play ∷ [])
 one_written slot play = ap (λ n. take n (film_of play)) (omega arith)
 
 film_blocks_are : (wish : Wish) (stored : Stored) (identity : Identity) (play : FilmPlay)
-    → IsWholePlay wish stored identity play
-    → film_of play ≡ framed_bytes (film_blocks stored identity)
+    → IsWholePlay wish stored identity play → film_of play ≡ framed_bytes (film_blocks stored identity)
 film_blocks_are wish stored identity play whole =
     ap (λ n. drop n (framed_bytes play.pieces)) whole.before ∙ ap framed_bytes whole.pieces
 
@@ -170,14 +168,6 @@ pub rest_all : (stored : Stored) → rest_sizes (stored_sizes stored) (whole_run
 rest_all stored =
     take_all (length stored.film.units.items - 0) (film_sizes stored.film)
     (omega (arith, length-map stored.film.units.items (λ u. wire_size stored.film.slice_starts.items u)))
-
-whole_bytes : {wish : Wish} {stored : Stored} {identity : Identity} {play : FilmPlay} {x : Stream}
-    → IsWholePlay wish stored identity play
-    → IsFilmIn stored.film identity x → total_bytes play.plan ≡ length (framed_bytes x.blocks)
-whole_bytes {wish} {stored} {identity} {play} {x} whole is =
-    let keeps = sending-keeps (stored_sizes stored) (playback_of wish stored) (whole_run stored) play.plan
-    whole.sending in
-    omega (arith, keeps.bytes, ap sum (rest_all stored), blocks_sum stored.film identity x is)
 
 slots_most : (play : FilmPlay) (n : ℕ) → IsPlan play.plan → first_slots play.plan n ≤ total_bytes play.plan
 slots_most play n is =
@@ -188,37 +178,42 @@ pub record IsSentBetween (wish : Wish) (film : Film) (total place count : ℕ) :
   pub few : count ≤ total
   pub between : IsBetween wish (film_sizes film) (picture_time film.rate) place count
 
-sent_between : {wish : Wish} {stored : Stored} {identity : Identity} {play : FilmPlay} {x : Stream}
-    {rounds : List Round} {j : ℕ}
-    → IsWholePlay wish stored identity play → IsFilmIn stored.film identity x
-    → x.blocks ≡ film_blocks stored identity → IsSentThrough play rounds
-    → greatest_slot rounds ≡ play.start + j
-    → IsSentBetween wish stored.film (length (framed_bytes x.blocks)) j (length (rounds_film rounds))
-sent_between {wish} {stored} {identity} {play} {x} {rounds} {j} whole is blocks sent slot =
-    let g = greatest_slot rounds in
-    let n = first_slots play.plan (j + 1) in
-    let total = length (framed_bytes x.blocks) in
-    let film : rounds_film rounds ≡ take (due_of g play) (framed_bytes x.blocks) =
-    sent.film ∙ (one_written g play
-    ∙ ap (take (due_of g play)) (film_blocks_are wish stored identity play whole ∙ ap framed_bytes (sym blocks))) in
-    let at : g + 1 - play.start ≡ j + 1 = omega (arith, slot) in
-    let due : first_slots play.plan (g + 1 - play.start) ≡ n = ap (first_slots play.plan) at in
-    let bytes = whole_bytes whole is in
-    let most = slots_most play (j + 1) sent.plan in
-    let size : length (rounds_film rounds) ≡ n =
-    ap (λ (l : List ℕ). length l) film
-    ∙ (length-take (due_of g play) (framed_bytes x.blocks) ∙ omega (arith, due, whole.keep, most, bytes)) in
-    let run = whole_run stored in
-    let playback = playback_of wish stored in
-    let curves = planned_between sent.plan whole.sending refl in
-    let came : 0 + n ≡ length (rounds_film rounds) = omega (arith, size) in
-    let P : List ℕ → Type 0 = λ sizes. IsBetween wish sizes (picture_time stored.film.rate) j (0 + n) in
-    let Q : ℕ → Type 0 = λ m. IsBetween wish (film_sizes stored.film) (picture_time stored.film.rate) j m in
-    record {
-      few = omega (arith, size, most, bytes);
-      between = subst Q came (subst P (rest_all stored)
-          (curves_same (record { units = refl; delay = refl }) refl refl curves.above curves.below));
-    }
+module _ {wish : Wish} {stored : Stored} {identity : Identity} {play : FilmPlay} {x : Stream} where
+  whole_bytes : IsWholePlay wish stored identity play → IsFilmIn stored.film identity x
+      → total_bytes play.plan ≡ length (framed_bytes x.blocks)
+  whole_bytes whole is =
+      let keeps = sending-keeps (stored_sizes stored) (playback_of wish stored) (whole_run stored) play.plan
+      whole.sending in
+      omega (arith, keeps.bytes, ap sum (rest_all stored), blocks_sum stored.film identity x is)
+
+  sent_between : {rounds : List Round} {j : ℕ} → IsWholePlay wish stored identity play → IsFilmIn stored.film identity x
+      → x.blocks ≡ film_blocks stored identity → IsSentThrough play rounds → greatest_slot rounds ≡ play.start + j
+      → IsSentBetween wish stored.film (length (framed_bytes x.blocks)) j (length (rounds_film rounds))
+  sent_between {rounds} {j} whole is blocks sent slot =
+      let g = greatest_slot rounds in
+      let n = first_slots play.plan (j + 1) in
+      let total = length (framed_bytes x.blocks) in
+      let film : rounds_film rounds ≡ take (due_of g play) (framed_bytes x.blocks) =
+      sent.film ∙ (one_written g play
+      ∙ ap (take (due_of g play)) (film_blocks_are wish stored identity play whole ∙ ap framed_bytes (sym blocks))) in
+      let at : g + 1 - play.start ≡ j + 1 = omega (arith, slot) in
+      let due : first_slots play.plan (g + 1 - play.start) ≡ n = ap (first_slots play.plan) at in
+      let bytes = whole_bytes whole is in
+      let most = slots_most play (j + 1) sent.plan in
+      let size : length (rounds_film rounds) ≡ n =
+      ap (λ (l : List ℕ). length l) film
+      ∙ (length-take (due_of g play) (framed_bytes x.blocks) ∙ omega (arith, due, whole.keep, most, bytes)) in
+      let run = whole_run stored in
+      let playback = playback_of wish stored in
+      let curves = planned_between sent.plan whole.sending refl in
+      let came : 0 + n ≡ length (rounds_film rounds) = omega (arith, size) in
+      let P : List ℕ → Type 0 = λ sizes. IsBetween wish sizes (picture_time stored.film.rate) j (0 + n) in
+      let Q : ℕ → Type 0 = λ m. IsBetween wish (film_sizes stored.film) (picture_time stored.film.rate) j m in
+      record {
+        few = omega (arith, size, most, bytes);
+        between = subst Q came (subst P (rest_all stored)
+            (curves_same (record { units = refl; delay = refl }) refl refl curves.above curves.below));
+      }
 
 -- ---- what the client is fed
 
@@ -338,8 +333,7 @@ all_sent wish stored course played =
     ∙ ap (take (due_of g play)) (film_blocks_are wish stored played.identity play played.whole)) in
     let woven_is = bytes_woven course in
     let size : length (film_bytes parts) ≡ length film =
-    ap (λ (l : List ℕ). length l) (film_sent begin course.last course.rounds course.follows
-    ∙ film_written_is course) in
+    ap (λ (l : List ℕ). length l) (film_sent begin course.last course.rounds course.follows ∙ film_written_is course) in
     let T : List PlacedText → Type 0 = λ l. IsFromTo 0 (0 + length (film_bytes parts)) l in
     let all_within = subst T played.texts (texts_within 0 parts) in
     let F : ℕ → Type 0 = λ n. IsFromTo 0 n played.later in

@@ -19,9 +19,10 @@ use Rattle.session.specs.SessionStates.{SessionState, awaited_answer, awaited_an
 use Rattle.conn.specs.EventSteps.{EndsInReply, HasFailedInSlot, IsPrefixOf, Round, Runs, round_bytes, takings_bytes}
 use Rattle.conn.specs.InputSteps.{Answered, Entered, Film, IsFinished, Outcome, Stage, ElementStep, TakesAll, Text}
 use Rattle.conn.specs.InputSteps.{Unasked, after_reply, due_parts, parts_bytes, reply_parts, slot_parts, stage}
-use Rattle.connection_laws.specs.Courses.{Course, IsCourseBetween, first_stage, rounds_bytes}
+use Rattle.connection_laws.specs.Courses.{Course, first_stage, rounds_bytes}
 use Rattle.connection_laws.specs.Failures.{IsCutShort}
 use Rattle.connection_laws.proofs.FilmBytes.{Stands, reply_awaited, course_stands}
+use Rattle.connection_laws.proofs.CourseInduction.{follows_more}
 
 -- ---- prefixes
 front_of : (xs ys : List ℕ) → IsPrefixOf xs (xs ++ ys)
@@ -40,12 +41,6 @@ bytes_append (x ∷ xs) ys =
     ∙ sym (append_assoc (round_bytes x) (rounds_bytes xs) (rounds_bytes ys))
 
 -- ---- one event more
-follows_more : {mid new : Stage} {round : Round} (old : Stage) (rounds : List Round) → IsCourseBetween old rounds mid
-    → Runs mid round new → IsCourseBetween old (rounds ++ round ∷ []) new
-follows_more {new} {round} old [] follows runs = (new, (subst (λ s. Runs s round new) follows runs, refl))
-follows_more {mid} {new} {round} old (first ∷ rounds) follows runs =
-    (follows.0, (follows.1.0, follows_more {mid = mid} {new = new} {round = round} follows.0 rounds follows.1.1 runs))
-
 cut_short : (course : Course) (round : Round) (new : Stage) (sent : List ℕ) → Runs course.last round new
     → IsPrefixOf sent (round_bytes round)
     → IsCutShort course round.event round.takings (rounds_bytes course.rounds ++ sent)
@@ -119,8 +114,7 @@ finish_slotted old slot false sending rest = finish_none old rest
 
 between_bytes : (old : SessionState) (slot : ℕ) (between : Bool)
     → parts_bytes (if between then Text old.text ∷ Film (step_bytes false slot (stepped_in true slot old.state))
-    ∷ [] else [])
-    ≡ (if between then old.text ++ step_bytes false slot (stepped_in true slot old.state) else [])
+    ∷ [] else []) ≡ (if between then old.text ++ step_bytes false slot (stepped_in true slot old.state) else [])
 between_bytes old slot true =
     ap (λ bs. old.text ++ bs) (append-nil (step_bytes false slot (stepped_in true slot old.state)))
 between_bytes old slot false = refl
@@ -161,15 +155,13 @@ failed_slot course slot front new failed =
     let bytes : round_bytes round ≡ due_bytes old.session.waits old.session.state old.session.text slot =
     append-nil (parts_bytes (slot_parts old.session slot))
     ∙ ap parts_bytes (cond-true (is_taken old.session slot && is_sending old.session.state)
-    (due_parts old.session slot) [] both)
-    ∙ due_as old.session slot old.session.waits in
+    (due_parts old.session slot) [] both) ∙ due_as old.session slot old.session.waits in
     let F : List ℕ → Type 0 = λ bs. IsPrefixOf front bs in
     cut_short course round opened front runs (subst F (sym bytes) failed.front_is)
 
 -- ---- a reply
 takes_more : {new : Stage} (old mid : Stage) (takings : List ElementStep) (taking : ElementStep)
-    → TakesAll old takings mid → TakesAll mid (taking ∷ []) new
-    → TakesAll old (takings ++ taking ∷ []) new
+    → TakesAll old takings mid → TakesAll mid (taking ∷ []) new → TakesAll old (takings ++ taking ∷ []) new
 takes_more {new} old mid [] taking takes more =
     let T : Stage → Type 0 = λ s. TakesAll s (taking ∷ []) new in
     subst T takes more

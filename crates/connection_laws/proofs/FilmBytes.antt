@@ -23,8 +23,8 @@ use Rattle.conn.specs.Films.{rounds_film}
 use Rattle.conn.specs.EventSteps.{Round, Runs}
 use Rattle.conn.specs.InputSteps.{Outcome, Unasked, Entered, SentPart, Stage, ElementStep, Passed, Answered}
 use Rattle.conn.specs.InputSteps.{IsHaltAnswered, Takes, TakesAll, after_reply, due_parts, film_bytes, slot_parts}
-use Rattle.connection_laws.specs.Courses.{IsCourseBetween, asked_by, askings_of, takings_askings, first_stage}
-use Rattle.connection_laws.specs.Courses.{greatest_slot, Course, course_plays, course_film}
+use Rattle.connection_laws.specs.Courses.{IsCourseBetween, asked_by, askings_of, first_stage, greatest_slot, Course}
+use Rattle.connection_laws.specs.Courses.{course_plays, course_film}
 use Rattle.connection_laws.specs.Plays.{StationRequest, Asks, plays_admitted, plays_begun, kept_by, kept_in, kept_with}
 use Rattle.connection_laws.specs.Plays.{plays_of, AreOver}
 use Rattle.connection_laws.proofs.JoinedFilms.{IsFilm, IsOnTime, IsRest, IsSound, film_in, film_over, play_with}
@@ -52,9 +52,9 @@ pub record Step (old new : SessionState) (made : List StationRequest) (bytes : L
   pub rest : new.awaited ≡ Nothing
   pub on : On old new made bytes
 
-pub stands_by : (old new : SessionState) (made : List StationRequest) (bytes : List ℕ) → Step old new made bytes →
-    Stands new
-stands_by old new made bytes step = record { rest = step.rest; sound = step.on.sound }
+pub stands_by : {old new : SessionState} {made : List StationRequest} {bytes : List ℕ} → Step old new made bytes
+    → Stands new
+stands_by step = record { rest = step.rest; sound = step.on.sound }
 
 on_then : (a b c : SessionState) {made more : List StationRequest} {film bytes : List ℕ} → On a b made film
     → On b c more bytes → On a c (made ++ more) (film ++ bytes)
@@ -124,7 +124,7 @@ answered_step {old} request stands =
     let one : Step old.session replied.answered (Asks asked outcome ∷ []) [] =
     turn_step old.session replied.answered asked outcome stands turns in
     let two : Step replied.answered (after_reply replied.answered) [] [] =
-    reply_step replied.answered (stands_by old.session replied.answered (Asks asked outcome ∷ []) [] one) in
+    reply_step replied.answered (stands_by one) in
     subst (λ (s : Stage). Step old.session s.session (Asks asked outcome ∷ []) []) (sym replied.new_is)
     (step_then one two)
   where
@@ -132,10 +132,10 @@ answered_step {old} request stands =
 
 pub request_stands : {old new : Stage} → AnsweredRequest old new → Stands old.session → Stands new.session
 request_stands {old} {new} request stands =
-    stands_by old.session new.session (asking_of request ∷ []) [] (answered_step request stands)
+    stands_by (answered_step request stands)
 
-pub taken_stands : (old new : Stage) (taking : ElementStep) → Takes old taking new → Stands old.session → Stands
-    new.session
+pub taken_stands : (old new : Stage) (taking : ElementStep) → Takes old taking new → Stands old.session
+    → Stands new.session
 taken_stands old new (Passed n) takes stands = subst Stands (sym (ap (λ (s : Stage). s.session) takes.2)) stands
 taken_stands old new (Answered message outcome parts) takes stands =
     request_stands (record { message = message; outcome = outcome; parts = parts; replied = takes }) stands
@@ -194,8 +194,7 @@ halted_idle {s} finished =
     ∙ ap (λ (a : Awaited). sends_in (halted_in (Playing finished.setup finished.play) a)) finished.asks
 
 halt_if : {awaited : Awaited} {keep sent : ℕ} {next : AfterHalt} (done : Bool) → awaited ≡ Halt keep next
-    → awaited ≡ (if done then Halt sent Done else Nothing)
-    → (done ≡ true) × (keep ≡ sent) × (awaited ≡ Halt keep Done)
+    → awaited ≡ (if done then Halt sent Done else Nothing) → (done ≡ true) × (keep ≡ sent) × (awaited ≡ Halt keep Done)
 halt_if {keep = keep} {sent} {next} true asks is =
     let same : Halt keep next ≡ Halt sent Done = sym asks ∙ is in
     let size : keep ≡ sent = cc in (refl, size, is ∙ ap (λ n. Halt n Done) (sym size))
@@ -286,12 +285,10 @@ reply_awaited false s = refl
 
 -- bytes of a film were sent, and then what the session asks was answered
 pub then_asked : {a b c : SessionState} {asked : Awaited} {outcome : Outcome} {bytes : List ℕ} → On a b [] bytes
-    → Step b c (Asks asked outcome ∷ []) []
-    → Step a c (Asks asked outcome ∷ []) bytes
+    → Step b c (Asks asked outcome ∷ []) [] → Step a c (Asks asked outcome ∷ []) bytes
 then_asked {a} {b} {c} {asked} {outcome} {bytes} one two = record {
   rest = two.rest;
-  on = subst (λ bs. On a c (Asks asked outcome ∷ []) bs) (append-nil bytes)
-      (on_then a b c one two.on);
+  on = subst (λ bs. On a c (Asks asked outcome ∷ []) bs) (append-nil bytes) (on_then a b c one two.on);
 }
 
 pub sent_on : (old : SessionState) (slot : ℕ) → Stands old → is_sending old.state ≡ true → old.heard < slot
@@ -322,9 +319,8 @@ sent_over old slot stands sending later =
           (reply_awaited goes (sent_due old slot) ∙ stands.rest);
     }
 
-sent_step : {old new : SessionState} {halt : Outcome} (slot : ℕ) → Stands old
-    → is_sending old.state ≡ true → old.heard < slot
-    → FinishesAs (after_play (sent_slot old slot)) new (after_play (sent_slot old slot)).awaited halt
+sent_step : {old new : SessionState} {halt : Outcome} (slot : ℕ) → Stands old → is_sending old.state ≡ true
+    → old.heard < slot → FinishesAs (after_play (sent_slot old slot)) new (after_play (sent_slot old slot)).awaited halt
     → Step old new (Asks (after_play (sent_slot old slot)).awaited halt ∷ []) (film_bytes (due_parts old slot))
 sent_step {old} slot stands sending later finishing =
     then_asked (sent_on old slot stands sending later)
@@ -346,9 +342,7 @@ idle_on old slot stands none later = record {
 }
 
 slot_cases : {old : SessionState} {halt : Outcome} {new : SessionState} {taken sending : Bool} (slot : ℕ) → Stands old
-    → (taken ≡ true → old.heard < slot)
-    → is_sending old.state ≡ sending
-    → let s : SessionState =
+    → (taken ≡ true → old.heard < slot) → is_sending old.state ≡ sending → let s : SessionState =
     if taken then (if sending then after_play (sent_slot old slot) else record old { heard = slot }) else old in
     FinishesAs s new s.awaited halt
     → Step old new (Asks s.awaited halt ∷ []) (film_bytes (if taken && sending then due_parts old slot else []))
@@ -389,7 +383,7 @@ steps_kept : IsKeptByCourse StepsOn
 steps_kept = record {
   none = λ s stands. step_none s stands;
   joins = λ a b c one two first rest stands.
-      let step = first stands in step_then step (rest (stands_by a b one.askings one.film step));
+      let step = first stands in step_then step (rest (stands_by step));
   request = λ old new request stands. answered_step request stands;
   event = λ old opened event due halt comes stands. comes_step comes stands;
 }
@@ -400,21 +394,15 @@ course_step = course_kept steps_kept
 
 -- ---- so a session stands between doings
 
-pub comes_stands : {old opened : Stage} {event : IoEvent} {due : List SentPart} {halt : Outcome}
-    → ComesAs old opened event due halt → Stands old.session → Stands opened.session
-comes_stands {old} {opened} {event} {due} {halt} comes stands =
-    stands_by old.session opened.session (Asks (asked_by old.session event) halt ∷ []) (film_bytes due)
-    (comes_step comes stands)
-
 pub opened_stands : (old new : Stage) (round : Round) (runs : Runs old round new) → Stands old.session
     → Stands runs.opened.session
-opened_stands old new round runs = comes_stands (comes_as round.event round.due round.halt runs.comes)
+opened_stands old new round runs stands =
+    stands_by (comes_step (comes_as round.event round.due round.halt runs.comes) stands)
 
 pub takes_stands : (old new : Stage) (takings : List ElementStep) → TakesAll old takings new → Stands old.session
     → Stands new.session
 takes_stands old new takings takes stands =
-    stands_by old.session new.session (takings_askings old takings new takes) []
-    (takings_kept steps_kept old new takings takes stands)
+    stands_by (takings_kept steps_kept old new takings takes stands)
 
 pub round_stands : (old new : Stage) (round : Round) → Runs old round new → Stands old.session → Stands new.session
 round_stands old new round runs stands =
@@ -423,8 +411,7 @@ round_stands old new round runs stands =
 pub course_stands : (old new : Stage) (rounds : List Round) → IsCourseBetween old rounds new → Stands old.session
     → Stands new.session
 course_stands old new rounds follows stands =
-    stands_by old.session new.session (askings_of old rounds new follows) (rounds_film rounds)
-    (course_step old new rounds follows stands)
+    stands_by (course_step old new rounds follows stands)
 
 -- ---- one induction from a session that stands
 
@@ -451,7 +438,7 @@ module _ {R : SessionState → Piece → SessionState → Type 0} (kept : IsKept
         let last = rest mid.0 in (last.0, kept.joins a b c one two mid.1 last.1);
     request = λ old new request stands. (request_stands request stands, kept.request old new request stands);
     event = λ old opened event due halt comes stands.
-        (comes_stands comes stands, kept.event old opened event due halt comes stands);
+        (stands_by (comes_step comes stands), kept.event old opened event due halt comes stands);
   }
 
   pub standing_course_kept : (old new : Stage) (rounds : List Round) (follows : IsCourseBetween old rounds new)

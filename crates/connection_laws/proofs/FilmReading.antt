@@ -95,9 +95,8 @@ all_blocks {bs = b ∷ bs} {ps = y ∷ ys} {m} later reply_then silent are texts
 
 -- with the two first replies before them
 all_elements : {ps : List (List ℕ)} {m : List ℕ} (x : Stream) (p : List ℕ) (tail : List (List ℕ))
-    → element_events p ≡ Reply m ∷ []
-    → all_of x ≡ ps ++ p ∷ tail → (steps no_sum (events_of_elements ps)).replies ≡ 2 → ps ≡ x.first ∷ x.second ∷
-    x.blocks
+    → element_events p ≡ Reply m ∷ [] → all_of x ≡ ps ++ p ∷ tail → (steps no_sum (events_of_elements ps)).replies ≡ 2
+    → ps ≡ x.first ∷ x.second ∷ x.blocks
 all_elements {ps = []} {m} x p tail reply all two = absurd (omega (arith, two))
 all_elements {ps = a ∷ []} {m} x p tail reply all two =
     let first : x.first ≡ a = cc in
@@ -119,9 +118,8 @@ all_elements {ps = a ∷ b ∷ ps} {m} x p tail reply all two =
     (record { sum = begun_sum x; same = same }) x.blocks_are x.later_are rest))
 
 pub done_sum : {wish : Wish} {watched : Watched} {bytes out : List ℕ} (x : Stream) (c : ℕ)
-    (done : IsDrained wish watched bytes out)
-    → bytes ≡ take c (framed_bytes (all_of x)) → sum_of done.at.history ≡ steps (begun_sum x) (events_of_elements
-    x.blocks)
+    (done : IsDrained wish watched bytes out) → bytes ≡ take c (framed_bytes (all_of x))
+    → sum_of done.at.history ≡ steps (begun_sum x) (events_of_elements x.blocks)
 done_sum {out} x c done is =
     let all = all_of x in
     let k = count_ended c all in
@@ -155,8 +153,7 @@ pub record IsFilmIn (film : Film) (identity : Identity) (x : Stream) : Type 0 wh
 pub units_all : (film : Film) → take (length film.units.items - 0) (drop 0 film.units.items) ≡ film.units.items
 units_all film = take_all (length film.units.items - 0) film.units.items (omega arith)
 
-pub run_blocks : (film : Film) (identity : Identity)
-    → run_pieces (film_run film identity)
+pub run_blocks : (film : Film) (identity : Identity) → run_pieces (film_run film identity)
     ≡ blocks_from (film_run film identity) 0 0 (pieces_of film.slice_starts.items film.units.items)
 run_blocks film identity =
     ap (λ us. blocks_from (film_run film identity) 0 0 (pieces_of film.slice_starts.items us)) (units_all film)
@@ -176,8 +173,7 @@ come film identity x d is =
       octets = 0;
       media = is.media;
       control = is.control;
-    }) film.slice_starts.items film.units.items (laid-film film)
-    (record { on = refl; none = refl; outside = refl }))
+    }) film.slice_starts.items film.units.items (laid-film film) (record { on = refl; none = refl; outside = refl }))
 
 -- ---- the time of a picture
 
@@ -204,8 +200,7 @@ time_by {film} {identity} {x} k (unit ∷ items) items_are is =
     let P : List (List ℕ) → Type 0 = λ bs. 0 < (steps (begun_sum x) (events_of_elements (take k bs))).frames
     → begins_film (drop 20 (steps (begun_sum x) (events_of_elements (take k bs))).first) ≡ true
     → time_in (steps (begun_sum x) (events_of_elements (take k bs))).first ≡ picture_time film.rate in
-    subst P blocks (λ some good.
-    frame_time_is laid.0.1
+    subst P blocks (λ some good. frame_time_is laid.0.1
     (first_frame_is {starts = starts} {unit = unit} (record {
       run = run;
       frames = 0;
@@ -247,8 +242,7 @@ module _ {film : Film} {identity : Identity} {x : Stream} where
 
   pub heard_of : {c : ℕ} {at : WatchStage} → IsFilmIn film identity x → HasGoneOn at.history → IsReadingOf x c at
       → units_until (begun_sum x).end_ms (picture_time film.rate) ≡ length (film_sizes film)
-      → IsFilmHeard (film_sizes film)
-      (picture_time film.rate) at.history (cut_bytes at.rest)
+      → IsFilmHeard (film_sizes film) (picture_time film.rate) at.history (cut_bytes at.rest)
       × (bytes_received at.history + cut_bytes at.rest ≡ min (film_place x c) (length (framed_bytes x.blocks)))
   heard_of {c} {at} is gone reading count =
       let d = film_place x c in
@@ -343,5 +337,4 @@ module _ {film : Film} {identity : Identity} {x : Stream} where
       ∙ (ap joined (units_told (record { run = run; frames = 0; octets = 0; media = is.media; control = is.control })
       starts items)
       ∙ (ap (λ us. joined (frames_among (pieces_of starts us) (blocks_from run 0 0 (pieces_of starts us))))
-      (sym (units_all film))
-      ∙ comes-back identity units)))))
+      (sym (units_all film)) ∙ comes-back identity units)))))

@@ -38,8 +38,7 @@ still_rest Idle askings end more still is =
 still_rest {outcome} (Going p) askings end more still is =
     subst (λ ps. IsFilm end
     (play_with p (kept_with outcome (kept_in askings (total_bytes p.plan))) ∷ (ps ++ plays_of askings))
-    (take p.sent (film_in p) ++ more))
-    (sym (still.none askings))
+    (take p.sent (film_in p) ++ more)) (sym (still.none askings))
     (subst (λ k. IsFilm end (play_with p k ∷ plays_of askings) (take p.sent (film_in p) ++ more))
     (sym (still.kept (kept_in askings (total_bytes p.plan)))) is)
 still_rest (Ending p) askings end more still is =
@@ -78,8 +77,7 @@ begin_sound {p} {slot} whole_play pacing later =
 begin_film : {plan : List Segment} {more : List ℕ} (prepared : Prepared) (start : ℕ) (askings : List StationRequest)
     (end : ℕ) → prepared.paced ≡ plan
     → IsFilm end (play_with (pacing_for prepared start) (kept_in askings (total_bytes prepared.paced))
-    ∷ plays_of askings) more
-    → IsFilm end
+    ∷ plays_of askings) more → IsFilm end
     (record {
       start = start;
       plan = plan;

@@ -106,8 +106,7 @@ module _ {starts : List ℕ} {unit : PictureUnit} where
   pub first_frame_is : (from : RunFrom) (k : ℕ) (units : List PictureUnit) (s : Sum) → s.frames ≡ 0
       → let t : Sum = steps s
       (events_of_elements (take k (blocks_from from.run from.frames from.octets (pieces_of starts (unit ∷ units))))) in
-      0 < t.frames
-      → IsLed from.run starts unit from.frames t.first
+      0 < t.frames → IsLed from.run starts unit from.frames t.first
   first_frame_is from k units s none some =
       let there = packets_there starts unit in
       let rest = blocks_from run (frames_after f (unit_pieces starts unit))

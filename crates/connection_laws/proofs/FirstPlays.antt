@@ -127,32 +127,33 @@ record IsPlannedFor (b : Beginning) (settings : Settings) (stored : Stored) (set
   run_is : planned.run ≡ whole_run stored
   sending : IsSending (stored_sizes stored) (session_playback stored.film settings setup) planned.run planned.plan
 
-sending_for : {b : Beginning} {settings : Settings} {stored : Stored} {setup : Setup} {planned : Planned}
-    → IsPlannedFor b settings stored setup planned
-    → IsSending (stored_sizes stored) (playback_of b.wish stored) (whole_run stored) planned.plan
-sending_for {b} {settings} {stored} {setup} {planned} is =
-    let S : Playback → Run → Type 0 = λ p r. IsSending (stored_sizes stored) p r planned.plan in
-    let playback = playback_same (session_playback stored.film settings setup) (playback_of b.wish stored) refl
-    is.slot_units is.settled.buffer is.settled.delay in
-    subst (S (playback_of b.wish stored)) is.run_is (subst (λ p. S p planned.run) playback is.sending)
+module _ {b : Beginning} where
+  sending_for : {settings : Settings} {stored : Stored} {setup : Setup} {planned : Planned}
+      → IsPlannedFor b settings stored setup planned → IsSending (stored_sizes stored) (playback_of b.wish stored)
+      (whole_run stored) planned.plan
+  sending_for {settings} {stored} {setup} {planned} is =
+      let S : Playback → Run → Type 0 = λ p r. IsSending (stored_sizes stored) p r planned.plan in
+      let playback = playback_same (session_playback stored.film settings setup) (playback_of b.wish stored) refl
+      is.slot_units is.settled.buffer is.settled.delay in
+      subst (S (playback_of b.wish stored)) is.run_is (subst (λ p. S p planned.run) playback is.sending)
 
-heard_planned : {b : Beginning} {old : SessionState} {message : List ℕ} {prepared : Prepared} → IsWaiting b old
-    → message ≡ play_text b.wish b.session → (heard : IsPlayHeard old message prepared)
-    → IsPlannedFor b old.settings heard.stored heard.setup heard.planned
-heard_planned {b} {old} waits is heard =
-    let begun = subst (IsUnbegun b.wish b.films) heard.ready waits.unbegun in
-    let asked = play-asked b.wish b.session b.wished b.port b.session_is in
-    let R : List ℕ → Type 0 = λ m.
-    IsRequest m (codes "PLAY") (film_url b.wish) 2 (request_head (play_parts b.wish b.session)) [] in
-    let same = request_once heard.is_request (subst R (sym is) asked.read) in
-    let range : header_value heard.request.head.now (codes "Range") ≡ Some (codes "npt=0-") =
-    ap (λ h. header_value h (codes "Range")) same.head_is ∙ range_is b.wish b.session b.wished b.port b.session_is in
-    record {
-      settled = begun.1;
-      slot_units = ap (λ (s : Settings). s.slot_units) waits.settings_are ∙ b.slot_units;
-      run_is = planned_whole heard.planned_is begun.0 range;
-      sending = record { can_play = heard.planned_is.can_play; plan_is = heard.planned_is.plan_is };
-    }
+  heard_planned : {old : SessionState} {message : List ℕ} {prepared : Prepared} → IsWaiting b old
+      → message ≡ play_text b.wish b.session → (heard : IsPlayHeard old message prepared)
+      → IsPlannedFor b old.settings heard.stored heard.setup heard.planned
+  heard_planned {old} waits is heard =
+      let begun = subst (IsUnbegun b.wish b.films) heard.ready waits.unbegun in
+      let asked = play-asked b.wish b.session b.wished b.port b.session_is in
+      let R : List ℕ → Type 0 = λ m.
+      IsRequest m (codes "PLAY") (film_url b.wish) 2 (request_head (play_parts b.wish b.session)) [] in
+      let same = request_once heard.is_request (subst R (sym is) asked.read) in
+      let range : header_value heard.request.head.now (codes "Range") ≡ Some (codes "npt=0-") =
+      ap (λ h. header_value h (codes "Range")) same.head_is ∙ range_is b.wish b.session b.wished b.port b.session_is in
+      record {
+        settled = begun.1;
+        slot_units = ap (λ (s : Settings). s.slot_units) waits.settings_are ∙ b.slot_units;
+        run_is = planned_whole heard.planned_is begun.0 range;
+        sending = record { can_play = heard.planned_is.can_play; plan_is = heard.planned_is.plan_is };
+      }
 
 pub wished_play : {b : Beginning} {old : SessionState} {message : List ℕ} {prepared : Prepared} {play : FilmPlay}
     → IsWaiting b old → message ≡ play_text b.wish b.session → IsPlayHeard old message prepared
@@ -176,8 +177,7 @@ wished_play {b} {old} {prepared = prepared} {play} waits is heard plan before pi
       ssrc = ap (λ (s : StreamSource). s.ssrc) waits.source_is;
       pieces = pieces ∙ (ap (λ (p : Prepared). run_pieces p.frames) heard.prepared_is
           ∙ ap (λ (r : Run). run_pieces (run_of stored.film r.first_unit r.end_unit identity)) its.run_is);
-      before = before
-          ∙ (ap (λ (p : Prepared). p.run.sent) heard.prepared_is ∙ ap (λ (r : Run). r.sent) its.run_is);
+      before = before ∙ (ap (λ (p : Prepared). p.run.sent) heard.prepared_is ∙ ap (λ (r : Run). r.sent) its.run_is);
       sending = subst (IsSending (stored_sizes stored) (playback_of b.wish stored) (whole_run stored)) (sym plan_is)
           (sending_for its);
     }

@@ -155,8 +155,7 @@ some_frames n some = ne_eqb n 0 (λ none. omega (arith, some, none))
 
 first_one : (b : List ℕ) (ms : List ClientEvent) (s : Sum)
     → (element_events b ≡ Frame b ∷ []) ⊎ (element_events b ≡ Report b ∷ []) → 0 < s.frames
-    → ((t : Sum) → 0 < t.frames → (steps t ms).first ≡ t.first)
-    → (steps s (element_events b ++ ms)).first ≡ s.first
+    → ((t : Sum) → 0 < t.frames → (steps t ms).first ≡ t.first) → (steps s (element_events b ++ ms)).first ≡ s.first
 first_one b ms s (inl frame) some rest =
     let P : List ClientEvent → Type 0 = λ l. (steps s (l ++ ms)).first ≡ s.first in
     subst P (sym frame) (rest (step (Frame b) s) (omega arith)

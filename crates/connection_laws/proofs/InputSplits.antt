@@ -191,8 +191,7 @@ module _ {base cur mid new : Stage} {all : Exchange} where
 
   -- a slot came
   slot_split : {slot : ℕ} (front : FrontTaken base cur) (taken : EventTaken cur mid (HeardSlot slot)) → IsDrained cur
-      → Later mid new all
-      → Split base new
+      → Later mid new all → Split base new
       (joined (front_exchange front)
       (joined (event_exchange (HeardSlot slot) taken.due taken.halt)
       (joined (elements_exchange [] taken.elements) all)))
@@ -228,8 +227,7 @@ module _ {base cur mid new : Stage} {all : Exchange} where
       open taken use {opened, due, halt}
 
   event_split : {event : IoEvent} (front : FrontTaken base cur) (taken : EventTaken cur mid event) → IsDrained cur
-      → Later mid new all
-      → Split base new
+      → Later mid new all → Split base new
       (joined (front_exchange front)
       (joined (event_exchange event taken.due taken.halt) (joined (elements_exchange [] taken.elements) all)))
   event_split {event = HeardBytes bytes} front taken done later =
@@ -262,8 +260,7 @@ round_exchange {cur} new round rounds takes path =
     (joined (elements_exchange [] path.elements) rest)) (rounds_exchange cur (round ∷ rounds) new takes) refl
     (ap (λ bs. parts_bytes round.due ++ (bs ++ rest.bytes)) path.bytes_are
     ∙ sym (append_assoc (parts_bytes round.due) (takings_bytes round.takings) rest.bytes))
-    (ap (λ os. answer_in round.halt ++ (os ++ rest.answers)) path.answers_are
-    ∙ ap (λ os. answer_in round.halt ++ os)
+    (ap (λ os. answer_in round.halt ++ (os ++ rest.answers)) path.answers_are ∙ ap (λ os. answer_in round.halt ++ os)
     (sym (answers_append (takings_outcomes round.takings) (rounds_outcomes rounds))))
     (ap (λ hs. hs ++ rest.hearings) path.hearings_are)
 
@@ -332,8 +329,7 @@ no_bytes [] = refl
 no_bytes (leg ∷ legs) = refl
 
 heard_split : (xs ys : List ℕ) (one other : List Leg) → bytes_heard xs ++ legs_heard one ≡ bytes_heard ys
-    ++ legs_heard other
-    → (xs ≡ ys) × (legs_heard one ≡ legs_heard other)
+    ++ legs_heard other → (xs ≡ ys) × (legs_heard one ≡ legs_heard other)
 heard_split [] [] one other same = (refl, same)
 heard_split [] (y ∷ ys) one other same = absurd (true≢false (sym (ap is_bytes same) ∙ no_bytes one))
 heard_split (x ∷ xs) [] one other same = absurd (true≢false (ap is_bytes same ∙ no_bytes other))
@@ -386,8 +382,7 @@ legs_same {one} {other} {xs = x ∷ xs} {ys = y ∷ ys} old films legs too alike
       last = y.until;
       goes = subst (λ s. GoesAll s y.elements y.until) place again.goes;
       done = again.done;
-    })
-    (record { answers = step.2; memory = memory }) in
+    }) (record { answers = step.2; memory = memory }) in
     let there : AreFilms x.until.session.films =
     subst AreFilms (sym (goes_films (longer x.opened x.bytes) x.until x.elements leg.goes)) kept in
     let rest = legs_same {xs = xs} x.until there legs.1 (subst (λ s. LegsAll s ys other) ends.last too.1)
@@ -423,8 +418,7 @@ splits_same {base} {other = other} {a} {b} films x y alike =
       last = y.until;
       goes = subst (λ bs. GoesAll (longer base bs) y.elements y.until) (sym cut.0) y.goes;
       done = y.done;
-    })
-    (record { answers = both.answers; memory = both.memory }) in
+    }) (record { answers = both.answers; memory = both.memory }) in
     let there : AreFilms x.until.session.films =
     subst AreFilms (sym (goes_films (longer base x.first) x.until x.elements x.goes)) films in
     let rest = legs_same {xs = x.legs} x.until there x.legs_are
@@ -439,16 +433,14 @@ splits_same {base} {other = other} {a} {b} films x y alike =
 abbrev first_of : Beginning → Stage
 first_of beginning = first_stage beginning.films beginning.settings beginning.words
 
-whole_split : (beginning : Beginning) (cutting : InputSplit beginning)
-    → Split (first_of beginning) cutting.last
+whole_split : (beginning : Beginning) (cutting : InputSplit beginning) → Split (first_of beginning) cutting.last
     (rounds_exchange (first_of beginning) cutting.rounds cutting.last cutting.takes)
 whole_split beginning cutting =
     (rounds_split (first_of beginning) cutting.last cutting.rounds cutting.takes
     (inl (record { torn = refl; waits = inl (inl refl) }))).each (first_of beginning) [] [] refl
 
 pub two_cuttings : (beginning : Beginning) (one other : InputSplit beginning) → AreFilms beginning.films
-    → HaveSameInput beginning one other
-    → HaveSameOutput beginning one other
+    → HaveSameInput beginning one other → HaveSameOutput beginning one other
 two_cuttings beginning one other films cuts =
     let same = splits_same films (whole_split beginning one) (whole_split beginning other)
     (record { heard = cuts.heard; answers = cuts.answers; memory = cuts.memory }) in

@@ -41,8 +41,7 @@ pub film_is : (slot : ℕ) (plays : List FilmPlay) (bytes : List ℕ) → IsFilm
 film_is slot [] bytes is = is
 film_is slot (play ∷ []) bytes is =
     is.1.0 ∙ ap (λ r. take (due_of slot play) (film_of play) ++ r) is.1.1
-    ∙ append-nil (take (due_of slot play) (film_of play))
-    ∙ ap (λ n. take n (film_of play)) (omega arith)
+    ∙ append-nil (take (due_of slot play) (film_of play)) ∙ ap (λ n. take n (film_of play)) (omega arith)
 film_is slot (play ∷ next ∷ plays) bytes is =
     let due : due_of slot play ≡ play.keep = is.1.2.0 in
     let front : List ℕ = take play.keep (film_of play) in

@@ -85,8 +85,7 @@ pub taken_keeps : {old new : Stage} {message : List ℕ} {outcome : Outcome} {pa
     → IsReplied old message outcome parts new → lasting_part new.session ≡ lasting_part old.session
 taken_keeps replied =
     ap (λ (s : Stage). lasting_part s.session) replied.new_is
-    ∙ reply_keeps lasting_part (λ s. refl) (can_reply replied.answered) replied.answered
-    ∙ request_keeps replied.heard
+    ∙ reply_keeps lasting_part (λ s. refl) (can_reply replied.answered) replied.answered ∙ request_keeps replied.heard
 
 pub takes_keep : (old new : Stage) (takings : List ElementStep) → TakesAll old takings new
     → lasting_part new.session ≡ lasting_part old.session
@@ -119,24 +118,22 @@ pub record IsKeptInSlots {A : Type 0} (part : SessionState → A) : Type 0 where
   pub done : (s : SessionState) → part (after_play s) ≡ part s
   pub idle : (s : SessionState) (slot : ℕ) → part (record s { heard = slot }) ≡ part s
 
-sent_keeps : {A : Type 0} {part : SessionState → A} → IsKeptInSlots part → (old : SessionState) (slot : ℕ)
-    → part (after_play (sent_slot old slot)) ≡ part old
-sent_keeps {part = part} kept old slot =
-    kept.done (sent_slot old slot)
-    ∙ reply_keeps part kept.reply (old.waits && is_between (stepped_in true slot old.state)) (sent_due old slot)
-    ∙ kept.due old slot
+module _ {A : Type 0} {part : SessionState → A} where
+  sent_keeps : IsKeptInSlots part → (old : SessionState) (slot : ℕ) → part (after_play (sent_slot old slot)) ≡ part old
+  sent_keeps kept old slot =
+      kept.done (sent_slot old slot)
+      ∙ reply_keeps part kept.reply (old.waits && is_between (stepped_in true slot old.state)) (sent_due old slot)
+      ∙ kept.due old slot
 
-slot_cases : {A : Type 0} {part : SessionState → A} → IsKeptInSlots part → (old : SessionState) (slot : ℕ)
-    (taken sending : Bool)
-    → part (if taken then (if sending then after_play (sent_slot old slot) else record old { heard = slot }) else old)
-    ≡ part old
-slot_cases kept old slot true true = sent_keeps kept old slot
-slot_cases kept old slot true false = kept.idle old slot
-slot_cases kept old slot false sending = refl
+  slot_cases : IsKeptInSlots part → (old : SessionState) (slot : ℕ) (taken sending : Bool)
+      → part (if taken then (if sending then after_play (sent_slot old slot) else record old { heard = slot }) else old)
+      ≡ part old
+  slot_cases kept old slot true true = sent_keeps kept old slot
+  slot_cases kept old slot true false = kept.idle old slot
+  slot_cases kept old slot false sending = refl
 
-pub slot_keeps : {A : Type 0} {part : SessionState → A} → IsKeptInSlots part → (old : SessionState) (slot : ℕ)
-    → part (after_slot old slot) ≡ part old
-slot_keeps kept old slot = slot_cases kept old slot (is_taken old slot) (is_sending old.state)
+  pub slot_keeps : IsKeptInSlots part → (old : SessionState) (slot : ℕ) → part (after_slot old slot) ≡ part old
+  slot_keeps kept old slot = slot_cases kept old slot (is_taken old slot) (is_sending old.state)
 
 -- ---- the films and the id stay
 
@@ -168,8 +165,7 @@ pub stepped_names : (old : SessionState) (slot : ℕ) (due : List SentPart) (hal
     → HasStepped old slot due halt new → names_in new ≡ names_in old
 stepped_names old slot due halt new is =
     finished_as_before names_in (λ s place. refl) (awaited_answer (after_slot old slot)) (after_slot old slot) halt new
-    is.finished
-    ∙ slot_names old slot
+    is.finished ∙ slot_names old slot
 
 -- ---- states
 

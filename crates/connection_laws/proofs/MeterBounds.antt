@@ -75,8 +75,7 @@ always_more film h (Report b ∷ ms) none met = always_more film (Report b ∷ h
 always_more film h (Slot t cut ∷ ms) none met = absurd none
 
 pub always_elements : (wish : Wish) (all : List ℕ) (time : ℕ) (h : History) (ps : List (List ℕ))
-    → IsBetweenAlways wish all time h
-    → IsBetweenAlways wish all time (history_after h (events_of_elements ps))
+    → IsBetweenAlways wish all time h → IsBetweenAlways wish all time (history_after h (events_of_elements ps))
 always_elements wish all time h ps met =
     always_more (record { wish = wish; sizes = all; time = time }) h (events_of_elements ps) (no_slot_in ps) met
 

@@ -145,73 +145,74 @@ record HasTwoReplies (x : Stream) (c : ℕ) (at : WatchStage) : Type 0 where
   few : replies at.history ≤ 2
 
 -- before the film's end
-reading_inside : {x : Stream} {c : ℕ} {at : WatchStage} → HasTwoReplies x c at
-    → film_place x c < length (framed_bytes x.blocks) → IsReadingOf x c at
-reading_inside {x} {c} {at} two inside =
-    let d = film_place x c in
-    let bs = x.blocks in
-    let s = begun_sum x in
-    let within = count_within bs x.later d inside in
-    let k = count_ended d bs in
-    let its = rest_within bs x.later d inside in record {
-      past = two.past;
-      sum = two.sum ∙ (ap (λ n. steps s (events_of_elements (take n (bs ++ x.later)))) within.0
-          ∙ ap (λ l. steps s (events_of_elements l)) (take-append-le k bs x.later (omega (arith, within.1))));
-      cut =
-          let bytes = count_bytes bs d (omega (arith, inside)) in
-          let cut : cut_bytes at.rest ≡ length (rest_at d bs) = ap cut_bytes (two.rest ∙ its)
-          ∙ blocks_cut bs d x.blocks_are in
-          omega (arith, bytes, cut, inside);
-    }
+module _ {at : WatchStage} where
+  reading_inside : {x : Stream} {c : ℕ} → HasTwoReplies x c at → film_place x c < length (framed_bytes x.blocks)
+      → IsReadingOf x c at
+  reading_inside {x} {c} two inside =
+      let d = film_place x c in
+      let bs = x.blocks in
+      let s = begun_sum x in
+      let within = count_within bs x.later d inside in
+      let k = count_ended d bs in
+      let its = rest_within bs x.later d inside in record {
+        past = two.past;
+        sum = two.sum ∙ (ap (λ n. steps s (events_of_elements (take n (bs ++ x.later)))) within.0
+            ∙ ap (λ l. steps s (events_of_elements l)) (take-append-le k bs x.later (omega (arith, within.1))));
+        cut =
+            let bytes = count_bytes bs d (omega (arith, inside)) in
+            let cut : cut_bytes at.rest ≡ length (rest_at d bs) = ap cut_bytes (two.rest ∙ its)
+            ∙ blocks_cut bs d x.blocks_are in
+            omega (arith, bytes, cut, inside);
+      }
 
--- past it
-reading_past : {x : Stream} {c : ℕ} {at : WatchStage} → HasTwoReplies x c at
-    → length (framed_bytes x.blocks) ≤ film_place x c → IsReadingOf x c at
-reading_past {x} {c} {at} two after =
-    let d = film_place x c in
-    let bs = x.blocks in
-    let total = length (framed_bytes bs) in
-    let s = begun_sum x in
-    let k = count_ended (d - total) x.later in
-    let many : count_ended d (bs ++ x.later) ≡ length bs + k = count_past bs x.later d after in
-    let t = steps s (events_of_elements bs) in
-    let all : sum_of at.history ≡ steps t (events_of_elements (take k x.later)) =
-    two.sum ∙ (ap (λ n. steps s (events_of_elements (take n (bs ++ x.later)))) many
-    ∙ (ap (λ l. steps s (events_of_elements l)) (take-append-add bs x.later k)
-    ∙ (ap (steps s) (moments_parts bs (take k x.later))
-    ∙ steps_on s (events_of_elements bs) (events_of_elements (take k x.later))))) in
-    let same = (blocks_same bs s x.blocks_are).replies in
-    let counted = texts_count x.later k t x.later_are (count_most x.later (d - total)) in
-    let none : k ≡ 0 = omega (arith, ap (λ (z : Sum). z.replies) all, counted, same, two.few) in
-    let whole : count_ended d bs ≡ length bs = count_whole bs d after in
-    let front : take (count_ended d bs) bs ≡ bs = take_all (count_ended d bs) bs (omega (arith, whole)) in record {
-      past = two.past;
-      sum = all ∙ (ap (λ n. steps t (events_of_elements (take n x.later))) none
-          ∙ ap (λ l. steps s (events_of_elements l)) (sym front));
-      cut =
-          let cut : cut_bytes at.rest ≡ 0 =
-          ap cut_bytes (two.rest ∙ rest_past bs x.later d after) ∙ texts_cut x.later (d - total) x.later_are in
-          omega (arith, cut, ap (λ l. length (framed_bytes l)) front, after);
-    }
+  -- past it
+  reading_past : {x : Stream} {c : ℕ} → HasTwoReplies x c at → length (framed_bytes x.blocks) ≤ film_place x c
+      → IsReadingOf x c at
+  reading_past {x} {c} two after =
+      let d = film_place x c in
+      let bs = x.blocks in
+      let total = length (framed_bytes bs) in
+      let s = begun_sum x in
+      let k = count_ended (d - total) x.later in
+      let many : count_ended d (bs ++ x.later) ≡ length bs + k = count_past bs x.later d after in
+      let t = steps s (events_of_elements bs) in
+      let all : sum_of at.history ≡ steps t (events_of_elements (take k x.later)) =
+      two.sum ∙ (ap (λ n. steps s (events_of_elements (take n (bs ++ x.later)))) many
+      ∙ (ap (λ l. steps s (events_of_elements l)) (take-append-add bs x.later k)
+      ∙ (ap (steps s) (moments_parts bs (take k x.later))
+      ∙ steps_on s (events_of_elements bs) (events_of_elements (take k x.later))))) in
+      let same = (blocks_same bs s x.blocks_are).replies in
+      let counted = texts_count x.later k t x.later_are (count_most x.later (d - total)) in
+      let none : k ≡ 0 = omega (arith, ap (λ (z : Sum). z.replies) all, counted, same, two.few) in
+      let whole : count_ended d bs ≡ length bs = count_whole bs d after in
+      let front : take (count_ended d bs) bs ≡ bs = take_all (count_ended d bs) bs (omega (arith, whole)) in record {
+        past = two.past;
+        sum = all ∙ (ap (λ n. steps t (events_of_elements (take n x.later))) none
+            ∙ ap (λ l. steps s (events_of_elements l)) (sym front));
+        cut =
+            let cut : cut_bytes at.rest ≡ 0 =
+            ap cut_bytes (two.rest ∙ rest_past bs x.later d after) ∙ texts_cut x.later (d - total) x.later_are in
+            omega (arith, cut, ap (λ l. length (framed_bytes l)) front, after);
+      }
 
-reading_film : {x : Stream} {c : ℕ} {at : WatchStage} → HasTwoReplies x c at → IsReadingOf x c at
-reading_film {x} {c} two = elim (cases_lt (film_place x c) (length (framed_bytes x.blocks))) [
-  | inl inside ↦ reading_inside two inside
-  | inr after ↦ reading_past two after
-]
+  reading_film : {x : Stream} {c : ℕ} → HasTwoReplies x c at → IsReadingOf x c at
+  reading_film {x} {c} two = elim (cases_lt (film_place x c) (length (framed_bytes x.blocks))) [
+    | inl inside ↦ reading_inside two inside
+    | inr after ↦ reading_past two after
+  ]
 
--- the elements of what was received, as a sum
-reading_sum : {bytes : List ℕ} {at : WatchStage} (x : Stream) (c : ℕ) → Heard bytes at
-    → ((n : ℕ) → IsElementLength at.rest n → ⊥) → bytes ≡ take c (framed_bytes (all_of x))
-    → (sum_of at.history ≡ steps no_sum (events_of_elements (take (count_ended c (all_of x)) (all_of x))))
-    × (at.rest ≡ rest_at c (all_of x))
-reading_sum {bytes} {at} x c heard none is =
-    let all = all_of x in
-    let P : List ℕ → Type 0 = λ b. IsStream b (take (count_ended c all) all) (rest_at c all) in
-    let streams : TwoStreams bytes heard.elements (take (count_ended c all) all) at.rest (rest_at c all) =
-    record { one = (heard.cut, none); other = subst P (sym is) (cut_at all c x.alone) } in
-    let once = stream_once streams in
-    (heard.sum ∙ ap (λ l. steps no_sum (events_of_elements l)) once.0, once.1)
+  -- the elements of what was received, as a sum
+  reading_sum : {bytes : List ℕ} (x : Stream) (c : ℕ) → Heard bytes at → ((n : ℕ) → IsElementLength at.rest n → ⊥)
+      → bytes ≡ take c (framed_bytes (all_of x))
+      → (sum_of at.history ≡ steps no_sum (events_of_elements (take (count_ended c (all_of x)) (all_of x))))
+      × (at.rest ≡ rest_at c (all_of x))
+  reading_sum {bytes} x c heard none is =
+      let all = all_of x in
+      let P : List ℕ → Type 0 = λ b. IsStream b (take (count_ended c all) all) (rest_at c all) in
+      let streams : TwoStreams bytes heard.elements (take (count_ended c all) all) at.rest (rest_at c all) =
+      record { one = (heard.cut, none); other = subst P (sym is) (cut_at all c x.alone) } in
+      let once = stream_once streams in
+      (heard.sum ∙ ap (λ l. steps no_sum (events_of_elements l)) once.0, once.1)
 
 pub reading_of : {x : Stream} {bytes : List ℕ} {c : ℕ} {at : WatchStage} → Heard bytes at
     → ((n : ℕ) → IsElementLength at.rest n → ⊥)
@@ -244,7 +245,7 @@ reading_of {x} {bytes} {c} {at} heard none is playing few =
                 let k = count_ended (film_place x c) (x.blocks ++ x.later) in
                 let two : take (count_ended c all) all ≡ x.first ∷ x.second ∷ take k (x.blocks ++ x.later) =
                 ap (λ n. take n all) (one ∙ ap suc (count_more x.second (x.blocks ++ x.later) c1 more)) in
-                reading_film {x = x} {c = c} {at = at} (record {
+                reading_film {x = x} {c = c} (record {
                   past = omega (arith, long, more);
                   sum = whole.0 ∙ (ap (λ l. steps no_sum (events_of_elements l)) two
                       ∙ two_moments x (take k (x.blocks ++ x.later)));

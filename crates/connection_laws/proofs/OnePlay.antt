@@ -159,9 +159,8 @@ record IsPlayTaken (b : Beginning) (out : Outlook) (old : SessionState) (message
   plays : plays_of (asking ∷ later) ≡ out.play ∷ out.others
 
 -- the play that begins at PLAY
-abbrev play_begun : {old : SessionState} {asked : Awaited} {outcome : Outcome} {new : SessionState} → List
-    StationRequest
-    → Begins old asked outcome new → FilmPlay
+abbrev play_begun : {old : SessionState} {asked : Awaited} {outcome : Outcome} {new : SessionState}
+    → List StationRequest → Begins old asked outcome new → FilmPlay
 play_begun later begins = record {
   start = begins.start;
   plan = begins.prepared.plan;
@@ -205,8 +204,7 @@ begun_same {out = out} turn begins =
 -- a play begins at PLAY
 begun_play : {b : Beginning} {out : Outlook} (turn : PlayTurn b out) (slots : List ℕ)
     (begins : Begins turn.old turn.heard.asking.awaited turn.outcome turn.new)
-    → IsPlayHeard turn.old turn.message begins.prepared
-    → IsOnePlay b out turn.old.heard 0 (turn.old.heard ∷ slots)
+    → IsPlayHeard turn.old turn.message begins.prepared → IsOnePlay b out turn.old.heard 0 (turn.old.heard ∷ slots)
 begun_play {b} {out} turn slots begins hears =
     let begun = begun_same turn begins in
     let same = begun.same in
@@ -486,8 +484,7 @@ in_rounds slot old rounds new follows = record {
 pub rounds_walk : {b : Beginning} {out : Outlook} {slot : ℕ} (old new : Stage) (rounds : List Round)
     (follows : IsCourseBetween old rounds new) (ahead : List (List ℕ))
     → IsAhead b out old.session slot ahead (in_rounds slot old rounds new follows)
-    → IsPlayedWhole b out old.session slot (length ahead) (slots_from slot rounds)
-    (replies_of old rounds new follows)
+    → IsPlayedWhole b out old.session slot (length ahead) (slots_from slot rounds) (replies_of old rounds new follows)
 rounds_walk {b} {out} {slot} old new [] follows ahead is =
     absurd (ahead_some ahead (play_text b.wish b.session) out.last is.requests_are)
 rounds_walk {b} {out} {slot} old new (round ∷ rounds) follows ahead is =

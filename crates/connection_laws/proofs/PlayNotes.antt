@@ -50,8 +50,7 @@ note_part s = record { plays = s.plays; state = s.state }
 
 -- what was noted and what is under way go on through turns
 pub record Carries (old : NotePart) (turns : List StationCall) (new : NotePart) : Type 0 where
-  pub on : (later : List StationCall)
-      → (old.plays ++ open_note old.state (turns ++ later)) ++ notes_until turns later
+  pub on : (later : List StationCall) → (old.plays ++ open_note old.state (turns ++ later)) ++ notes_until turns later
       ≡ new.plays ++ open_note new.state later
 
 pub carries_none : (part : NotePart) → Carries part [] part
@@ -73,8 +72,7 @@ carries_then {a} {ts} {us} one two = record {
       ap (λ ns. (a.plays ++ open_note a.state ns) ++ notes_until (ts ++ us) later) (append_assoc ts us later)
       ∙ ap (λ ns. (a.plays ++ open_note a.state (ts ++ (us ++ later))) ++ ns) (until_append ts us later)
       ∙ sym (append_assoc (a.plays ++ open_note a.state (ts ++ (us ++ later))) (notes_until ts (us ++ later))
-      (notes_until us later))
-      ∙ ap (λ ns. ns ++ notes_until us later) (one.on (us ++ later)) ∙ two.on later;
+      (notes_until us later)) ∙ ap (λ ns. ns ++ notes_until us later) (one.on (us ++ later)) ∙ two.on later;
 }
 
 -- the same notes, and the same play under way
@@ -119,8 +117,7 @@ unasked_turn part asking = still_turn part asking Unasked (λ later. refl) (λ k
 
 -- nothing is noted where no play was asked for
 pub no_note : (state : State) (awaited : Awaited) (placed : PlacedEntry) (later : List StationCall)
-    → ((prepared : Prepared) → awaited ≡ Play prepared → ⊥)
-    → noted_entry state awaited placed later ≡ []
+    → ((prepared : Prepared) → awaited ≡ Play prepared → ⊥) → noted_entry state awaited placed later ≡ []
 no_note (Ready setup paused) (Play prepared) placed later other = absurd (other prepared refl)
 no_note _ _ placed later other = refl
 
@@ -154,8 +151,7 @@ pub record HaltEntry (s : SessionState) : Type 0 where
   pub new : SessionState
   pub halted : IsHaltAnswered s keep placed new
 
-pub halt_turn : {s : SessionState} (entry : HaltEntry s) (asking : SessionState)
-    → IsKept s.state s.awaited entry.keep
+pub halt_turn : {s : SessionState} (entry : HaltEntry s) (asking : SessionState) → IsKept s.state s.awaited entry.keep
     → ((later : List StationCall) → noted_entry asking.state asking.awaited entry.placed later ≡ [])
     → Carries (note_part s) (station_call asking (Entered entry.placed) ∷ []) (note_part entry.new)
 halt_turn {s} entry asking kept none =
@@ -166,8 +162,7 @@ halt_turn {s} entry asking kept none =
     record {
       on = λ later.
           ap (λ ns. (s.plays ++ open_note s.state (turn ∷ later)) ++ (ns ++ [])) (none later)
-          ∙ append-nil (s.plays ++ open_note s.state (turn ∷ later))
-          ∙ ap (λ ns. s.plays ++ ns)
+          ∙ append-nil (s.plays ++ open_note s.state (turn ∷ later)) ∙ ap (λ ns. s.plays ++ ns)
           (halted_as s.state s.awaited turn later kept (λ k. ap (λ c. kept_by c k) halted.command))
           ∙ sym (append-nil (s.plays ++ halted_notes s.state s.awaited))
           ∙ ap (λ ns. (s.plays ++ halted_notes s.state s.awaited) ++ ns)
@@ -209,8 +204,7 @@ begun_state play place start later =
 
 pub begun_note : {old asking : SessionState} (play : PlayRequest old asking) (placed : PlacedEntry)
     (later : List StationCall) → placed.entry.command ≡ play_of asking.heard play.prepared.plan
-    → notes_of_calls asking (Entered placed) later
-    ≡ noted_for play.setup play.prepared.run placed.place
+    → notes_of_calls asking (Entered placed) later ≡ noted_for play.setup play.prepared.run placed.place
     (play_admitted (play_of asking.heard play.prepared.plan) placed.entry.answer) later
 begun_note {old} {asking} play placed later command =
     ap (λ (s : SessionState). noted_entry s.state s.awaited placed later) waiting.asking_is
@@ -240,8 +234,7 @@ play_on {old} {asking} {placed} new play is =
           ∙ ap (λ ns. ns ++ (notes_of_calls asking (Entered placed) later ++ [])) (append-nil old.plays)
           ∙ ap (λ ns. old.plays ++ ns) (append-nil (notes_of_calls asking (Entered placed) later) ∙ noted later)
           ∙ ap (λ ns. old.plays ++ ns) (sym (ap (λ s. open_note s later) state
-          ∙ begun_state play placed.place is.start later))
-          ∙ ap (λ ns. ns ++ open_note new.state later) (sym plays);
+          ∙ begun_state play placed.place is.start later)) ∙ ap (λ ns. ns ++ open_note new.state later) (sym plays);
     }
   where
     open play use {setup, prepared, ready, waiting}
@@ -287,8 +280,7 @@ answered_on {old} {asking} {new} (OwnReply text tearing is same) =
     (λ later. ap (λ (s : SessionState). open_note s.state later) (same ∙ is))
 answered_on {old} {asking} {new} (SetupReply text setup init is same) =
     replied_on old asking new (ap (λ (s : SessionState). s.plays) (same ∙ is))
-    (λ later. ap (λ (s : SessionState). open_note s.state later) (same ∙ is)
-    ∙ sym (ap (λ s. open_note s later) init))
+    (λ later. ap (λ (s : SessionState). open_note s.state later) (same ∙ is) ∙ sym (ap (λ s. open_note s later) init))
 answered_on {new = new} (Admission play is) = play_on new play is
 answered_on {old} {asking} {new} (Refusal {placed = p} play is) =
     stays_on old new (ap note_part is.new_is ∙ ap note_part play.waiting.asking_is)
@@ -305,7 +297,6 @@ answered_on {old} {new = new} (JournalFull awaited waiting is) =
 answered_on {old} {new = new} (OfferAnswer sequence waiting is) =
     stays_on old new (ap note_part is ∙ ap note_part waiting.asking_is) (λ later. refl) (λ k. refl)
 
-pub heard_on : (old new : SessionState) (message : List ℕ) (outcome : Outcome) (heard : HasHeard old message outcome
-    new)
-    → CarriesOn old heard.asking outcome new
+pub heard_on : (old new : SessionState) (message : List ℕ) (outcome : Outcome)
+    (heard : HasHeard old message outcome new) → CarriesOn old heard.asking outcome new
 heard_on old new message outcome heard = answered_on (request_answer heard)

@@ -159,8 +159,7 @@ time_read ms small =
       second_is = omega arith;
       third_is = omega arith;
     } in
-    ap time_in (seconds_is ms)
-    ∙ point_read {n = ms / 1000} {digits = digits}
+    ap time_in (seconds_is ms) ∙ point_read {n = ms / 1000} {digits = digits}
     (record { seconds = decimal (ms / 1000); seconds_are = refl; small = omega (arith, small) })
     ∙ ap Some (let e : ms / 1000 * 1000 + (ms / 100 % 10 * 100 + ms / 10 % 10 * 10 + ms % 10) ≡ ms = omega arith in e)
 
@@ -174,8 +173,7 @@ range_read ms small = time_read ms small
 abbrev play_named : List ℕ → List ℕ → List ℕ → ℕ → List Field
 play_named id range info slots =
     record { name = codes "Session"; value = id } ∷ record { name = codes "Range"; value = range }
-    ∷ record { name = codes "RTP-Info"; value = info }
-    ∷ record { name = codes "x-Start"; value = decimal slots } ∷ []
+    ∷ record { name = codes "RTP-Info"; value = info } ∷ record { name = codes "x-Start"; value = decimal slots } ∷ []
 
 named_session : (id range info : List ℕ) (sequence slots : ℕ)
     → value_named (codes "Session") (all_fields (Some sequence) (play_named id range info slots)) ≡ Some id
@@ -214,8 +212,7 @@ pub record PlayNumbers : Type 0 where
   pub some : 1 ≤ slots
   pub few : slots ≤ 2 ^ 62 + 1
 
-named_read : {message id : List ℕ} (info : List ℕ) (numbers : PlayNumbers) →
-    IsMessageLength message (length message) →
+named_read : {message id : List ℕ} (info : List ℕ) (numbers : PlayNumbers) → IsMessageLength message (length message) →
     All IsPlain (all_fields (Some numbers.sequence)
     (play_named id (codes "npt=0.000-" ++ seconds_text numbers.end_ms) info numbers.slots)) →
     message ≡ reply_text 200 (Some numbers.sequence)
@@ -253,8 +250,7 @@ named_read {message} {id} info numbers size plain is =
 zero_text : seconds_text 0 ≡ codes "0.000"
 zero_text = seconds_is 0 ∙ ap (λ d. d ++ 46 ∷ 48 ∷ 48 ∷ 48 ∷ []) (decimal_digit 0 (omega arith))
 
-range_text : (end_ms : ℕ)
-    → joined_parts (codes "npt=" ∷ seconds_text 0 ∷ codes "-" ∷ seconds_text end_ms ∷ [])
+range_text : (end_ms : ℕ) → joined_parts (codes "npt=" ∷ seconds_text 0 ∷ codes "-" ∷ seconds_text end_ms ∷ [])
     ≡ codes "npt=0.000-" ++ seconds_text end_ms
 range_text end_ms =
     ap (λ z. codes "npt=" ++ (z ++ (codes "-" ++ (seconds_text end_ms ++ [])))) zero_text
@@ -268,8 +264,7 @@ pub record StreamInfo : Type 0 where
   pub time : ℕ
 
 pub play_read : {message id : List ℕ} (stream_info : StreamInfo) (numbers : PlayNumbers) →
-    IsMessageLength message (length message) →
-    message ≡ play_text numbers.sequence
+    IsMessageLength message (length message) → message ≡ play_text numbers.sequence
     (play_fields id 0 numbers.end_ms stream_info.authority stream_info.name stream_info.number
     stream_info.time) numbers.slots →
     All IsPlain (all_fields (Some numbers.sequence)

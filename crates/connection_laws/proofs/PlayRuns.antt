@@ -166,8 +166,7 @@ module _ (words : List ℕ) where
   leads_then {a} {made} {more} one two = record {
     on = λ later follows. subst (Follows a) (sym (append_assoc made more later))
         (one.on (more ++ later) (two.on later follows));
-    looks = two.looks ∙ ap (λ n. n - looks_in more) one.looks
-        ∙ minus_both a.looks_left (looks_in made) (looks_in more)
+    looks = two.looks ∙ ap (λ n. n - looks_in more) one.looks ∙ minus_both a.looks_left (looks_in made) (looks_in more)
         ∙ ap (λ n. a.looks_left - n) (sym (looks_append made more));
   }
 
@@ -256,66 +255,60 @@ module _ (words : List ℕ) where
 
   -- ---- halts
 
-  counted_done : (films : List Stored) (source : StreamSource) (counts : Counts) (setup : Setup) (run : Run) (keep : ℕ)
-      (last : Option RunPlace)
-      → IsUnderWay (record { films = films; source = source; counts = counts }) setup run (run.sent + keep) last
-      → IsFresh words (record {
-        films = films;
-        source = source;
-        counts = counts_done source counts setup run keep (slice_get films setup.film);
+  counted_done : (stream : Stream) (setup : Setup) (run : Run) (keep : ℕ) (last : Option RunPlace)
+      → IsUnderWay stream setup run (run.sent + keep) last
+      → IsFresh words (record stream {
+        counts = counts_done stream.source stream.counts setup run keep (slice_get stream.films setup.film);
       }) setup last
-  counted_done films source counts setup run keep last way =
-      let done : Option Stored → Stream = λ found. record {
-        films = films;
-        source = source;
-        counts = counts_done source counts setup run keep found;
+  counted_done stream setup run keep last way =
+      let done : Option Stored → Stream = λ found. record stream {
+        counts = counts_done stream.source stream.counts setup run keep found;
       } in
       subst (λ found. IsFresh words (done found) setup last) (sym way.at)
       (subst (λ l. IsFresh words (done (Some way.stored)) setup l) (sym way.place)
-      (record { before = counts; identity = refl; counts = refl }))
-
-  halt_state : (s : SessionState) (setup : Setup) (play : Played) (keep place : ℕ) (next : AfterHalt)
-      (kept : ℕ → ℕ) (last : Option RunPlace) → IsLeftBy play.run keep next
-      → IsUnderWay (stream_of s) setup play.run (play.run.sent + keep) last
-      → IsLast (after_halt (record s { state = Playing setup play; awaited = Halt keep next }) place) kept last
-  halt_state s setup play keep place Done kept last left way = inr (counted_done s.films s.source s.counts setup play.run keep last way)
-  halt_state s setup play keep place (Paused run) kept last left way = (
-    refl,
-    inr (record {
-      stored = way.stored;
-      at = way.at;
-      place = way.place
-          ∙ ap (λ first. Some (run_place (run_of way.stored.film first play.run.end_unit
-          (identity_of s.source setup s.counts)) (play.run.sent + keep))) (sym left.first)
-          ∙ ap (λ end. Some (run_place (run_of way.stored.film run.first_unit end
-          (identity_of s.source setup s.counts)) (play.run.sent + keep))) (sym left.end)
-          ∙ ap (λ sent. Some (run_place (sending_of way.stored.film s.source setup s.counts run) sent)) (sym left.sent);
-    }),
-  )
-  halt_state s setup play keep place Torn kept last left way = (refl, inl refl)
+      (record { before = stream.counts; identity = refl; counts = refl }))
 
   abbrev Halts : SessionState → ℕ → PlacedEntry → SessionState → Type 0
   Halts s keep placed new = IsHaltAnswered s keep placed new → Leads s new (Asks s.awaited (Entered placed) ∷ [])
 
-  halts : (s : SessionState) (setup : Setup) (play : Played) (keep : ℕ) (next : AfterHalt) (placed : PlacedEntry)
-      (new : SessionState) → IsLeftBy play.run keep next
-      → Halts (record s { state = Playing setup play; awaited = Halt keep next }) keep placed new
-  halts s setup play keep next placed new left halted =
-      let asking : SessionState = record s { state = Playing setup play; awaited = Halt keep next } in
-      subst (λ n. Leads asking n (Asks (Halt keep next) (Entered placed) ∷ [])) (sym halted.halts) (record {
-        on = λ later follows last is. follows last (halt_state s setup play keep placed.place next (kept_in later) last
-            left (subst (λ c. IsUnderWay (stream_of s) setup play.run
-            (play.run.sent + kept_by c (kept_in later (total_bytes play.plan))) last) halted.command is));
-        looks = sym (minus_none s.looks_left);
-      })
+  -- a play of a session is halted
+  module _ (s : SessionState) (setup : Setup) (play : Played) (keep : ℕ) where
+    halt_state : (place : ℕ) (next : AfterHalt) (kept : ℕ → ℕ) (last : Option RunPlace) → IsLeftBy play.run keep next
+        → IsUnderWay (stream_of s) setup play.run (play.run.sent + keep) last
+        → IsLast (after_halt (record s { state = Playing setup play; awaited = Halt keep next }) place) kept last
+    halt_state place Done kept last left way = inr (counted_done (stream_of s) setup play.run keep last way)
+    halt_state place (Paused run) kept last left way = (
+      refl,
+      inr (record {
+        stored = way.stored;
+        at = way.at;
+        place = way.place
+            ∙ ap (λ first. Some (run_place (run_of way.stored.film first play.run.end_unit
+            (identity_of s.source setup s.counts)) (play.run.sent + keep))) (sym left.first)
+            ∙ ap (λ end. Some (run_place (run_of way.stored.film run.first_unit end
+            (identity_of s.source setup s.counts)) (play.run.sent + keep))) (sym left.end)
+            ∙ ap (λ sent. Some (run_place (sending_of way.stored.film s.source setup s.counts run) sent)) (sym left.sent);
+      }),
+    )
+    halt_state place Torn kept last left way = (refl, inl refl)
 
-  halts_in : (s : SessionState) (setup : Setup) (play : Played) (keep : ℕ) (next : AfterHalt) (placed : PlacedEntry)
-      (new : SessionState) → s.state ≡ Playing setup play → s.awaited ≡ Halt keep next → IsLeftBy play.run keep next
-      → Halts s keep placed new
-  halts_in s setup play keep next placed new state awaited left =
-      subst (λ a. Halts (record s { awaited = a }) keep placed new) (sym awaited)
-      (subst (λ st. Halts (record s { state = st; awaited = Halt keep next }) keep placed new) (sym state)
-      (halts s setup play keep next placed new left))
+    halts : (next : AfterHalt) (placed : PlacedEntry) (new : SessionState) → IsLeftBy play.run keep next
+        → Halts (record s { state = Playing setup play; awaited = Halt keep next }) keep placed new
+    halts next placed new left halted =
+        let asking : SessionState = record s { state = Playing setup play; awaited = Halt keep next } in
+        subst (λ n. Leads asking n (Asks (Halt keep next) (Entered placed) ∷ [])) (sym halted.halts) (record {
+          on = λ later follows last is. follows last (halt_state placed.place next (kept_in later) last
+              left (subst (λ c. IsUnderWay (stream_of s) setup play.run
+              (play.run.sent + kept_by c (kept_in later (total_bytes play.plan))) last) halted.command is));
+          looks = sym (minus_none s.looks_left);
+        })
+
+    halts_in : (next : AfterHalt) (placed : PlacedEntry) (new : SessionState) → s.state ≡ Playing setup play → s.awaited ≡ Halt keep next → IsLeftBy play.run keep next
+        → Halts s keep placed new
+    halts_in next placed new state awaited left =
+        subst (λ a. Halts (record s { awaited = a }) keep placed new) (sym awaited)
+        (subst (λ st. Halts (record s { state = st; awaited = Halt keep next }) keep placed new) (sym state)
+        (halts next placed new left))
 
   -- a slot asks for nothing, or halts a play that is done
   record IsDone (state : State) (awaited : Awaited) : Type 0 where

@@ -76,8 +76,7 @@ logs_unasked old new same =
 logs_entry : {answer : Answer} (old new : SessionState) (placed : PlacedEntry) → placed.entry.answer ≡ answer
     → log_of new ≡ with_receipt old (EntryReceipt placed.place answer) → Logs old new (Entered placed ∷ [])
 logs_entry old new placed is noted = record {
-  receipts = ap (λ (l : Log). l.receipts) noted
-      ∙ ap (λ a. old.receipts ++ EntryReceipt placed.place a ∷ []) (sym is);
+  receipts = ap (λ (l : Log). l.receipts) noted ∙ ap (λ a. old.receipts ++ EntryReceipt placed.place a ∷ []) (sym is);
   offers = ap (λ (l : Log). l.offers) noted ∙ sym (append-nil old.offers);
 }
 
@@ -163,8 +162,7 @@ module _ {films : List Stored} {settings : Settings} {words : List ℕ} {doings 
     (done : HasDone films settings words doings report) where
   logs_all : Logs (first_stage films settings words).session done.closed (doings_outcomes doings)
   logs_all =
-      subst (Logs (first_stage films settings words).session done.closed) (turns_told done)
-      (doings_kept done logs_kept)
+      subst (Logs (first_stage films settings words).session done.closed) (turns_told done) (doings_kept done logs_kept)
 
   pub receipts_told : report.receipts.items ≡ receipts_in (doings_outcomes doings)
   receipts_told = done.report_is.receipts ∙ logs_all.receipts

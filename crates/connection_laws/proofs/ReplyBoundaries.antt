@@ -91,9 +91,8 @@ in_hand_of : (sends : Sends) (slot : ℕ) (later : LaterCourse) →
 in_hand_of Idle slot later stand = stand
 in_hand_of _ slot later stand = in_hand stand
 
-taken_fits : {sends : Sends} {heard : ℕ} {askings : List StationRequest} {end : ℕ} {slots : List ℕ} {parts : List
-    SentPart}
-    → Fits (point sends heard (Some heard)) askings end slots parts
+taken_fits : {sends : Sends} {heard : ℕ} {askings : List StationRequest} {end : ℕ} {slots : List ℕ}
+    {parts : List SentPart} → Fits (point sends heard (Some heard)) askings end slots parts
     → Fits (point sends heard None) askings end (heard ∷ slots) parts
 taken_fits {sends} {heard} {askings} {end} {slots} {parts} fits = record {
   from = (omega arith, fits.from);
@@ -113,20 +112,17 @@ play_for prepared start plan keep = record {
 begin_stand : {plan : List Segment} (prepared : Prepared) (start : ℕ) (later : LaterCourse) → prepared.paced ≡ plan →
     AreSentAt later.end (play_for prepared start prepared.paced
     (kept_in later.askings (total_bytes prepared.paced)) ∷ plays_of
-    later.askings) later.slots (placed_texts 0 later.parts) →
-    AreSentAt later.end
+    later.askings) later.slots (placed_texts 0 later.parts) → AreSentAt later.end
     (play_for prepared start plan (kept_in later.askings (total_bytes plan)) ∷ plays_of later.askings) later.slots
     (placed_texts 0 later.parts)
 begin_stand prepared start later same sent =
-    subst (λ pl. AreSentAt end
-    (play_for prepared start pl (kept_in askings (total_bytes pl)) ∷ plays_of askings) slots
+    subst (λ pl. AreSentAt end (play_for prepared start pl (kept_in askings (total_bytes pl)) ∷ plays_of askings) slots
     (placed_texts 0 parts)) same sent
   where
     open later use {askings, end, slots, parts}
 
 begun_is : (old new : SessionState) (asked : Awaited) (outcome : Outcome) (begins : Begins old asked outcome new)
-    (askings : List StationRequest)
-    → plays_begun asked outcome askings
+    (askings : List StationRequest) → plays_begun asked outcome askings
     ≡ play_for begins.prepared begins.start begins.prepared.plan
     (kept_in askings (total_bytes begins.prepared.plan)) ∷ []
 begun_is old new asked outcome begins askings =
@@ -138,8 +134,7 @@ module _ {old new : SessionState} {asked : Awaited} {outcome : Outcome} {askings
     {slots : List ℕ} {parts : List SentPart} where
   begin_fits : (begins : Begins old asked outcome new)
       → Fits (point (Going (pacing_for begins.prepared begins.start)) old.heard (Some old.heard)) askings end slots
-      parts
-      → Fits (point Idle old.heard None) (Asks asked outcome ∷ askings) end (old.heard ∷ slots) parts
+      parts → Fits (point Idle old.heard None) (Asks asked outcome ∷ askings) end (old.heard ∷ slots) parts
   begin_fits begins fits =
       let p : PacerState = pacing_for begins.prepared begins.start in
       let plan : List Segment = begins.prepared.plan in
@@ -232,8 +227,7 @@ module _ {heard : ℕ} {askings : List StationRequest} {end : ℕ} {slots : List
   going_reply {p} {text} sound stands on fits = record {
     from = fits.from;
     later = fits.later;
-    stand = text_at
-        (at_here p heard sound.0 stands)
+    stand = text_at (at_here p heard sound.0 stands)
         (kept_due p heard (kept_in askings (total_bytes p.plan)) sound fits.stand.holds) fits.later.starts
         (due_far p heard end sound.0 on) fits.stand;
   }
@@ -269,8 +263,7 @@ pub record Replying (state : State) (goes : Bool) (heard : ℕ) (text : List ℕ
       (if goes then Text text ∷ [] else [])
 
 pub replying : (state : State) (goes : Bool) (heard : ℕ) (text : List ℕ) → IsSound (sends_in state) true heard
-    → is_between state ≡ goes
-    → Replying state goes heard text
+    → is_between state ≡ goes → Replying state goes heard text
 replying (Playing setup play) true heard text sound is = record {
   after = None;
   held = refl;
@@ -367,8 +360,7 @@ ends_same false slot p is stands = ap Ending (slot_is true false slot p is stand
 
 -- it ends at the boundary that it reaches
 ended_through : (p : PacerState) (heard slot : ℕ) → IsSound (Ending p) true heard → heard < slot
-    → stands_at_boundary (after_step true slot p) ≡ true
-    → (sent_through slot p).sent ≡ (sent_through slot p).keep
+    → stands_at_boundary (after_step true slot p) ≡ true → (sent_through slot p).sent ≡ (sent_through slot p).keep
 ended_through p heard slot sound later stands =
     let on : IsOnTime p heard = sound.0 in
     let through : IsOnTime (sent_through slot p) slot = through_time p heard slot on later in
@@ -382,90 +374,81 @@ after_none : (between : Bool) (pending : Option ℕ) → between ≡ true → af
 after_none between None is = refl
 after_none between (Some slot) is = ap (λ b. if b then None else Some slot) is
 
-ending_stand : {p : PacerState} {heard slot : ℕ} {between : Bool} {askings : List StationRequest} {end : ℕ}
-    {more : List ℕ} {rest : List SentPart} (pending : Option ℕ) → IsSound (Ending p) true heard
-    → SlotOn p heard slot end between
-    → Fits (point (ends_in between (sent_through slot p)) slot (after_slot between pending)) askings end more rest
-    → Fits (point (Ending (sent_through slot p)) slot (after_slot between pending)) askings end more rest
-ending_stand {between = false} pending sound slot_on fits = fits
-ending_stand {p} {heard} {slot} {between = true} {askings} {end} {more} {rest} pending sound slot_on fits =
-    let none = after_none true pending refl in
-    subst (λ a. Fits (point (Ending (sent_through slot p)) slot a) askings end more rest) (sym none)
-    (over_fits (through_time p heard slot on later) (ended_through p heard slot sound later stands) ends
-    (subst (λ a. Fits (point Idle slot a) askings end more rest) none fits))
-  where
-    open slot_on use {on, later, ends, stands}
+module _ {p : PacerState} {heard slot : ℕ} where
+  ending_stand : {between : Bool} {askings : List StationRequest} {end : ℕ} {more : List ℕ} {rest : List SentPart}
+      (pending : Option ℕ) → IsSound (Ending p) true heard → SlotOn p heard slot end between
+      → Fits (point (ends_in between (sent_through slot p)) slot (after_slot between pending)) askings end more rest
+      → Fits (point (Ending (sent_through slot p)) slot (after_slot between pending)) askings end more rest
+  ending_stand {between = false} pending sound slot_on fits = fits
+  ending_stand {between = true} {askings} {end} {more} {rest} pending sound slot_on fits =
+      let none = after_none true pending refl in
+      subst (λ a. Fits (point (Ending (sent_through slot p)) slot a) askings end more rest) (sym none)
+      (over_fits (through_time p heard slot on later) (ended_through p heard slot sound later stands) ends
+      (subst (λ a. Fits (point Idle slot a) askings end more rest) none fits))
+    where
+      open slot_on use {on, later, ends, stands}
 
-ending_slot : {p : PacerState} {heard slot : ℕ} {pending : Option ℕ} (text : List ℕ) → IsSound (Ending p) true heard
-    → heard < slot
-    → IsHeld pending (Ending p) true heard
-    → GoesTo (point (Ending p) heard pending)
-    (point (ends_in (stands_at_boundary (after_step true slot p)) (sent_through slot p)) slot
-    (after_slot (stands_at_boundary (after_step true slot p)) pending)) [] []
-    (parts_in true (stands_at_boundary (after_step true slot p)) p slot text)
-ending_slot {p} {heard} {slot} {pending} text sound later held =
-    let between : Bool = stands_at_boundary (after_step true slot p) in
-    let after : Option ℕ = after_slot between pending in
-    record {
-      later = omega (arith, later);
-      rest = λ askings end more rest on fits.
-          let slot_on : SlotOn p heard slot end between = record { on = sound.0; later = later; ends = on; stands = refl } in
-          let whole = ending_stand pending sound slot_on fits in
-          record {
-            from = from_lower heard slot more (omega (arith, later)) fits.from;
-            later = later_lower heard slot (plays_of askings) (omega (arith, later)) fits.later;
-            stand = slot_at true text slot_on
-                (as_going p heard pending held)
-                (record { due = λ taken less. refl; later_plays = fits.later }) whole.stand;
-          };
-    }
+  ending_slot : {pending : Option ℕ} (text : List ℕ) → IsSound (Ending p) true heard → heard < slot
+      → IsHeld pending (Ending p) true heard → GoesTo (point (Ending p) heard pending)
+      (point (ends_in (stands_at_boundary (after_step true slot p)) (sent_through slot p)) slot
+      (after_slot (stands_at_boundary (after_step true slot p)) pending)) [] []
+      (parts_in true (stands_at_boundary (after_step true slot p)) p slot text)
+  ending_slot {pending} text sound later held =
+      let between : Bool = stands_at_boundary (after_step true slot p) in
+      let after : Option ℕ = after_slot between pending in
+      record {
+        later = omega (arith, later);
+        rest = λ askings end more rest on fits.
+            let slot_on : SlotOn p heard slot end between = record { on = sound.0; later = later; ends = on; stands = refl } in
+            let whole = ending_stand pending sound slot_on fits in
+            record {
+              from = from_lower heard slot more (omega (arith, later)) fits.from;
+              later = later_lower heard slot (plays_of askings) (omega (arith, later)) fits.later;
+              stand = slot_at true text slot_on (as_going p heard pending held)
+                  (record { due = λ taken less. refl; later_plays = fits.later }) whole.stand;
+            };
+      }
 
 -- a session that plays
-going_moves : {heard slot : ℕ} {text : List ℕ} {pending : Option ℕ} (waits : Bool) (setup : Setup) (play : Played)
-    → IsSound (Going play.pacer) waits heard → heard < slot → IsHeld pending (Going play.pacer) waits heard
-    → SlotMoves (Playing setup play) waits heard slot text pending
-going_moves {heard} {slot} {text} {pending} waits setup play sound later held =
-    let p : PacerState = play.pacer in
-    let one : PacerState = after_step true slot p in
-    let between : Bool = stands_at_boundary one in
-    let sends : sends_in (state_after waits (Playing setup play) slot) ≡ Going (sent_through slot p) =
-    going_cases waits between (record {
-      setup = setup;
-      play = play;
-      both = after_step false slot one;
-      front = one;
-      plain = after_step false slot p;
-    }) ∙ ap Going (slot_is waits between slot p sound.0.pacing refl) in
-    record {
-      after = after_slot between pending;
-      held = subst (λ s. IsHeld (after_slot between pending) s (waits_after waits (Playing setup play) slot)
-          slot) (sym sends)
-          (going_held waits pending sound.0 later refl held);
-      goes_on = subst (λ s. GoesTo (point (Going p) heard pending) (point s slot (after_slot between pending)) [] []
-          (parts_of waits (Playing setup play) text slot)) (sym sends)
-          (going_slot waits text sound later held);
-    }
+module _ {heard slot : ℕ} {text : List ℕ} {pending : Option ℕ} where
+  going_moves : (waits : Bool) (setup : Setup) (play : Played) → IsSound (Going play.pacer) waits heard → heard < slot
+      → IsHeld pending (Going play.pacer) waits heard → SlotMoves (Playing setup play) waits heard slot text pending
+  going_moves waits setup play sound later held =
+      let p : PacerState = play.pacer in
+      let one : PacerState = after_step true slot p in
+      let between : Bool = stands_at_boundary one in
+      let sends : sends_in (state_after waits (Playing setup play) slot) ≡ Going (sent_through slot p) =
+      going_cases waits between (record {
+        setup = setup;
+        play = play;
+        both = after_step false slot one;
+        front = one;
+        plain = after_step false slot p;
+      }) ∙ ap Going (slot_is waits between slot p sound.0.pacing refl) in
+      record {
+        after = after_slot between pending;
+        held = subst (λ s. IsHeld (after_slot between pending) s (waits_after waits (Playing setup play) slot)
+            slot) (sym sends) (going_held waits pending sound.0 later refl held);
+        goes_on = subst (λ s. GoesTo (point (Going p) heard pending) (point s slot (after_slot between pending)) [] []
+            (parts_of waits (Playing setup play) text slot)) (sym sends) (going_slot waits text sound later held);
+      }
 
-pub slot_moves : {state : State} {waits : Bool} {heard slot : ℕ} {text : List ℕ} {pending : Option ℕ}
-    → is_sending state ≡ true
-    → IsSound (sends_in state) waits heard → heard < slot → IsHeld pending (sends_in state) waits heard
-    → SlotMoves state waits heard slot text pending
-slot_moves {state = Playing setup play} {waits} sending sound later held = going_moves waits setup play sound later held
-slot_moves {state = Stopping setup stop} {waits = false} {slot} {text} sending sound later held =
-    absurd (true≢false (sym sound.1))
-slot_moves {state = Stopping setup stop} {waits = true} {heard} {slot} {text} {pending} sending sound later held =
-    let p : PacerState = stop.pacer in
-    let one : PacerState = after_step true slot p in
-    let between : Bool = stands_at_boundary one in
-    let sends : sends_in (state_after true (Stopping setup stop) slot) ≡ ends_in between (sent_through slot p) =
-    ending_cases between setup stop (after_step false slot one) one ∙ ends_same between slot p sound.0.pacing refl in
-    record {
-      after = after_slot between pending;
-      held = subst (λ s. IsHeld (after_slot between pending) s (waits_after true (Stopping setup stop) slot)
-          slot) (sym sends)
-          (ending_held pending sound.0 later refl held);
-      goes_on = subst (λ s. GoesTo (point (Ending p) heard pending) (point s slot (after_slot between pending)) [] []
-          (parts_of true (Stopping setup stop) text slot)) (sym sends)
-          (ending_slot text sound later held);
-    }
-slot_moves sending sound later held = absurd (true≢false (sym sending))
+  pub slot_moves : {state : State} {waits : Bool} → is_sending state ≡ true → IsSound (sends_in state) waits heard
+      → heard < slot → IsHeld pending (sends_in state) waits heard → SlotMoves state waits heard slot text pending
+  slot_moves {state = Playing setup play} {waits} sending sound later held = going_moves waits setup play sound later held
+  slot_moves {state = Stopping setup stop} {waits = false} sending sound later held =
+      absurd (true≢false (sym sound.1))
+  slot_moves {state = Stopping setup stop} {waits = true} sending sound later held =
+      let p : PacerState = stop.pacer in
+      let one : PacerState = after_step true slot p in
+      let between : Bool = stands_at_boundary one in
+      let sends : sends_in (state_after true (Stopping setup stop) slot) ≡ ends_in between (sent_through slot p) =
+      ending_cases between setup stop (after_step false slot one) one ∙ ends_same between slot p sound.0.pacing refl in
+      record {
+        after = after_slot between pending;
+        held = subst (λ s. IsHeld (after_slot between pending) s (waits_after true (Stopping setup stop) slot)
+            slot) (sym sends) (ending_held pending sound.0 later refl held);
+        goes_on = subst (λ s. GoesTo (point (Ending p) heard pending) (point s slot (after_slot between pending)) [] []
+            (parts_of true (Stopping setup stop) text slot)) (sym sends) (ending_slot text sound later held);
+      }
+  slot_moves sending sound later held = absurd (true≢false (sym sending))

@@ -157,8 +157,7 @@ answered_replies {old} request stands =
     ap (λ (s : Stage). texts_in parts ++ waiting_reply s.session) replied.new_is
     ∙ ap (λ ps. texts_in ps
     ++ waiting_reply (if can_reply replied.answered then sent_reply replied.answered else replied.answered))
-    replied.parts_are
-    ∙ reply_cases (can_reply replied.answered) replied.answered after.waits
+    replied.parts_are ∙ reply_cases (can_reply replied.answered) replied.answered after.waits
     ∙ ap (λ ts. ts ++ replied.answered.text ∷ []) (sym (waits_none old.session replied.next.replied))
   where
     open request use {outcome, parts, replied}
@@ -188,8 +187,7 @@ slot_texts false between text one after plain = refl
 slot_texts true true text one after plain = refl
 slot_texts true false text one after plain = refl
 
-slot_cases : (old : SessionState) (slot : ℕ) (taken sending : Bool) → old.awaited ≡ Nothing
-    → let s : SessionState =
+slot_cases : (old : SessionState) (slot : ℕ) (taken sending : Bool) → old.awaited ≡ Nothing → let s : SessionState =
     if taken then (if sending then after_play (sent_slot old slot) else record old { heard = slot }) else old in
     (texts_in (if taken && sending then due_parts old slot else []) ++ waiting_reply s ≡ waiting_reply old)
     × (next_of s.awaited ≡ Done)

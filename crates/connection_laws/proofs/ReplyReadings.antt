@@ -52,8 +52,7 @@ bare_printed text prints =
     ap (λ l. reverse (without_leading_blanks (reverse l))) (no_leading text prints)
     ∙ (ap reverse (no_leading (reverse text) (all-reverse is_url_byte text prints)) ∙ reverse-reverse text)
 
-pub plain_field : {value : List ℕ} (name : List ℕ) → is_token name ≡ true → IsPrinted value
-    → IsPlain (field name value)
+pub plain_field : {value : List ℕ} (name : List ℕ) → is_token name ≡ true → IsPrinted value → IsPlain (field name value)
 plain_field {value} name token prints =
     record { name_is = token; one_line = one_line-url value prints; bare = bare_printed value prints }
 
@@ -152,8 +151,7 @@ one_more : {value : List ℕ} (name : List ℕ) (fields : List Field) → IsPlai
 one_more {value} name fields plain rest = All-cons IsPlain (field name value) fields plain rest
 
 read_reply : {message : List ℕ} (number : ℕ) (fields : List Field) → number < 2 ^ 64 → IsMessage message
-    → All IsPlain fields → message ≡ reply_text 200 (Some number) fields []
-    → IsReplyRead message number fields
+    → All IsPlain fields → message ≡ reply_text 200 (Some number) fields [] → IsReplyRead message number fields
 unfolding reply_text
 read_reply {message} number fields small whole plain is =
     let head = reply_front 200 (Some number) fields ++ codes "\r\n" in

@@ -240,23 +240,22 @@ abbrev play_part : SessionState → PlayPart
 play_part s = record { state = s.state; heard = s.heard; awaited = s.awaited; waits = s.waits }
 
 -- a session whose request was answered, and whose state is as it was
-answered_after : {new old asking : SessionState} {awaited : Awaited} → IsAsking old asking awaited
-    → play_part new ≡ record { state = asking.state; heard = asking.heard; awaited = Nothing; waits = true }
-    → IsAfter old new
-answered_after waiting is = record {
-  heard = ap (λ (p : PlayPart). p.heard) is ∙ ap (λ (s : SessionState). s.heard) waiting.asking_is;
-  awaited = ap (λ (p : PlayPart). p.awaited) is;
-  waits = ap (λ (p : PlayPart). p.waits) is;
-}
+module _ {old asking : SessionState} {awaited : Awaited} where
+  answered_after : {new : SessionState} → IsAsking old asking awaited
+      → play_part new ≡ record { state = asking.state; heard = asking.heard; awaited = Nothing; waits = true }
+      → IsAfter old new
+  answered_after waiting is = record {
+    heard = ap (λ (p : PlayPart). p.heard) is ∙ ap (λ (s : SessionState). s.heard) waiting.asking_is;
+    awaited = ap (λ (p : PlayPart). p.awaited) is;
+    waits = ap (λ (p : PlayPart). p.waits) is;
+  }
 
-answered_turn : {old asking : SessionState} {awaited : Awaited} {outcome : Outcome} (new : SessionState)
-    → IsAsking old asking awaited
-    → play_part new ≡ record { state = asking.state; heard = asking.heard; awaited = Nothing; waits = true }
-    → IsStill asking.awaited outcome → TurnsAs old asking.awaited outcome new
-answered_turn new waiting is still =
-    Stays
-    (ap (λ (p : PlayPart). sends_in p.state) is ∙ ap (λ (s : SessionState). sends_in s.state) waiting.asking_is)
-    (answered_after {new = new} waiting is) still
+  answered_turn : {outcome : Outcome} (new : SessionState) → IsAsking old asking awaited
+      → play_part new ≡ record { state = asking.state; heard = asking.heard; awaited = Nothing; waits = true }
+      → IsStill asking.awaited outcome → TurnsAs old asking.awaited outcome new
+  answered_turn new waiting is still =
+      Stays (ap (λ (p : PlayPart). sends_in p.state) is ∙ ap (λ (s : SessionState). sends_in s.state) waiting.asking_is)
+      (answered_after {new = new} waiting is) still
 
 -- a reply of the session's own
 reply_turn : {old new : SessionState} (state : State) (asking : SessionState) → sends_in state ≡ sends_in old.state
@@ -329,8 +328,7 @@ begins_turn {old} {asking} {new} {placed} play is =
       later = subst (λ h. h < is.start) heard is.later;
       small = is.small;
       paced = (play_in play placed.place is.start plays).1;
-      sends = ap (λ (s : SessionState). sends_in s.state) is.new_is
-          ∙ admitted_sends play placed.place is.start;
+      sends = ap (λ (s : SessionState). sends_in s.state) is.new_is ∙ admitted_sends play placed.place is.start;
       pacing = (play_in play placed.place is.start plays).0;
     })
   where
@@ -346,8 +344,7 @@ told_if : (b waits : Bool) → b ≡ true → (if b then true else waits) ≡ tr
 told_if true waits is = refl
 told_if false waits is = absurd (let no : ⊥ = cc in no)
 
-halt_state : {old asking : SessionState} (halt : HaltRequest old asking)
-    → halted_in asking.state asking.awaited
+halt_state : {old asking : SessionState} (halt : HaltRequest old asking) → halted_in asking.state asking.awaited
     ≡ state_once_halted halt.setup (record halt.play { pacer = record halt.play.pacer { keep = halt.keep } }) halt.next
 halt_state halt = ap (λ (s : SessionState). halted_in s.state s.awaited) halt.asking_is
 
@@ -360,8 +357,7 @@ ends_turn {old} {asking} {new} {placed} halt halted =
     Ends (record {
       heard = ap (λ (s : SessionState). s.heard) is ∙ ap (λ (s : SessionState). s.heard) asking_is;
       awaited = ap (λ (s : SessionState). s.awaited) is;
-      waits = ap (λ (s : SessionState). s.waits) is
-          ∙ told_if (is_answered (next_of asking.awaited)) asking.waits
+      waits = ap (λ (s : SessionState). s.waits) is ∙ told_if (is_answered (next_of asking.awaited)) asking.waits
           (ap (λ (a : Awaited). is_answered (next_of a)) awaited ∙ told);
     }) (record {
       pacing = play.pacer;
@@ -372,8 +368,7 @@ ends_turn {old} {asking} {new} {placed} halt halted =
       command = halted.command ∙ ap (λ k. HaltCommand halted.number k) keep_is;
       answer = halted.answer;
       none = λ later. ap (λ a. plays_admitted a placed.entry.answer later) awaited;
-      sends = ap (λ (s : SessionState). sends_in s.state) is
-          ∙ ap sends_in (halt_state halt)
+      sends = ap (λ (s : SessionState). sends_in s.state) is ∙ ap sends_in (halt_state halt)
           ∙ stopped_sends setup stopped next told ∙ ap (λ k. Ending (record play.pacer { keep = k })) keep_is;
     })
   where
@@ -392,8 +387,7 @@ turn_of {new = new} (Refusal play is) rest =
     (refused_still (ap (λ (s : SessionState). s.awaited) play.waiting.asking_is) is)
 turn_of (HaltMade halt is) rest = ends_turn halt is
 turn_of {new = new} (LookAnswer look is) rest =
-    answered_turn new look.waiting (ap play_part is.new_is)
-    (looked_still look is)
+    answered_turn new look.waiting (ap play_part is.new_is) (looked_still look is)
 turn_of {new = new} (JournalFull awaited waiting is) rest =
     answered_turn new waiting (ap play_part is)
     (record { none = λ later. refl; kept = λ later. refl; untold = λ made. refl })
@@ -403,6 +397,5 @@ turn_of {new = new} (OfferAnswer sequence waiting is) rest =
 
 -- a request was received and answered
 pub turns_as : (old : SessionState) (message : List ℕ) (outcome : Outcome) (new : SessionState)
-    (heard : HasHeard old message outcome new)
-    → old.awaited ≡ Nothing → TurnsAs old heard.asking.awaited outcome new
+    (heard : HasHeard old message outcome new) → old.awaited ≡ Nothing → TurnsAs old heard.asking.awaited outcome new
 turns_as old message outcome new heard rest = turn_of (request_answer heard) rest

@@ -42,22 +42,6 @@ same_names old new films id = ap₂ (λ (f : List Stored) (i : List ℕ). (f, i)
 abbrev pub AnswersSetup : SessionState → SessionState → Type 0
 AnswersSetup old new = (new.state ≡ old.state) ⊎ (new.text ≡ setup_reply 1 0 1 old.source.ssrc old.id)
 
-pub setup_replied : {message : List ℕ} (b : Beginning) (old : SessionState) (ask : Ask) (new : SessionState)
-    → message ≡ setup_text b.wish → Hears old message ask new → AnswersSetup old new
-setup_replied {message} b old ask new is hears =
-    let asked = setup-asked b.wish b.wished b.port in
-    let url = film_url b.wish ++ codes "/video" in
-    let head = request_head (setup_parts b.wish) in
-    let R : List ℕ → Type 0 = λ m. IsRequest m (codes "SETUP") url 1 head [] in
-    let call : IsCall message (codes "SETUP") url 1 head = record { body = []; read = subst R (sym is) asked.read } in
-    elim (setup_answered old message url 1 head ask new call hears) [
-      | inl same ↦ inl same
-      | inr told ↦
-          let settled = settled_by b.wish b.wished b.port told.asks told.names in
-          inr (told.text ∙ (ap (λ n. setup_reply 1 n told.setup.control old.source.ssrc old.id) settled.media
-          ∙ ap (λ n. setup_reply 1 0 n old.source.ssrc old.id) settled.control))
-    ]
-
 -- ---- PLAY
 
 -- a session that a client's PLAY and TEARDOWN name, with the film of their URL
@@ -127,45 +111,6 @@ whole_front stored run front is =
     ap (λ (r : Run). milliseconds_at stored.film r.from_unit) is ∙ omega arith in
     ap₂ front first (ap (λ (r : Run). milliseconds_at stored.film r.end_unit) is)
 
-pub play_asked : {message : List ℕ} (b : Beginning) (old : SessionState) (ask : Ask) (new : SessionState)
-    (prepared : Prepared) → IsWaiting b old → new.awaited ≡ Play prepared → message ≡ play_text b.wish b.session
-    → Hears old message ask new → AsksClientPlay b old new
-play_asked {message} b old ask new prepared waits asks is hears =
-    let asked = play-asked b.wish b.session b.wished b.port b.session_is in
-    let head = request_head (play_parts b.wish b.session) in
-    let R : List ℕ → Type 0 = λ m. IsRequest m (codes "PLAY") (film_url b.wish) 2 head [] in
-    let told = play_answered old message (film_url b.wish) 2 head ask new prepared
-    (record { body = []; read = subst R (sym is) asked.read }) waits.stands.rest asks hears in
-    let stored = told.stored in
-    let setup = told.setup in
-    let begun = subst (IsUnbegun b.wish b.films) told.ready waits.unbegun in
-    let run : told.planned.run ≡ whole_run stored =
-    planned_whole told.planned_is begun.0 (range_is b.wish b.session b.wished b.port b.session_is) in
-    let number = first_number old stored setup told.planned in
-    let time = timestamp_at stored.film old.source told.planned.run.from_unit in
-    let F : ℕ → ℕ → List ℕ = λ from to.
-    reply_front 200 (Some 2) (play_fields old.id from to told.authority (string_bytes stored.name) number time) in
-    let S : Option (List ℕ) → Type 0 = λ v. IsOwnSession (has_session_in old.state) old.id v ⊥ in
-    let own = subst S (play_session b) told.session in
-    record {
-      setup = setup;
-      paused = told.paused;
-      ready = told.ready;
-      stored = stored;
-      at = told.at;
-      authority = told.authority;
-      names = told.names;
-      number = number;
-      time = time;
-      number_fits = omega arith;
-      time_fits = omega arith;
-      text = told.text ∙ whole_front stored told.planned.run F run;
-      state = told.state;
-      heard = told.heard;
-      same = same_names old new told.films told.id;
-      own = own.1;
-    }
-
 -- ---- TEARDOWN
 
 -- it is answered with the session, and what SETUP settled stays
@@ -197,22 +142,76 @@ has_one : {setup : Setup} (state : State) → setup_in state ≡ Some setup → 
 has_one Init is = absurd (let no : ⊥ = cc in no)
 has_one _ is = refl
 
-pub teardown_replied : {message : List ℕ} (b : Beginning) (old : SessionState) (ask : Ask) (new : SessionState)
-    → IsNamed b old → message ≡ teardown_text b.wish b.session → Hears old message ask new → AnswersTeardown old new
-teardown_replied {message} b old ask new named is hears =
-    let asked = teardown-asked b.wish b.session b.wished b.port b.session_is in
-    let head = request_head (teardown_parts b.wish b.session) in
-    let its = teardown_head b in
-    let R : List ℕ → Type 0 = λ m. IsRequest m (codes "TEARDOWN") (film_url b.wish) 3 head [] in
-    let call : IsCall message (codes "TEARDOWN") (film_url b.wish) 3 head =
-    record { body = []; read = subst R (sym is) asked.read } in
-    let S : Option (List ℕ) → Type 0 = λ v. IsOwnSession (has_session_in old.state) old.id v ⊥ in
-    let told = teardown_answered old message (film_url b.wish) 3 head ask new call (record {
-      free = ap (λ v. first_of v (header_value head (codes "Proxy-Require"))) its.require ∙ its.proxy;
-      session = subst S (sym its.session) (has_one old.state named.setup_is, named.own);
-      authority = named.authority;
-      setup = named.setup;
-      setup_is = named.setup_is;
-      names = named.names;
-    }) hears in
-    record { text = told.text; same = record { names = same_names old new told.films told.id; setup = told.setup } }
+module _ {message : List ℕ} (b : Beginning) (old : SessionState) (ask : Ask) (new : SessionState) where
+  pub setup_replied : message ≡ setup_text b.wish → Hears old message ask new → AnswersSetup old new
+  setup_replied is hears =
+      let asked = setup-asked b.wish b.wished b.port in
+      let url = film_url b.wish ++ codes "/video" in
+      let head = request_head (setup_parts b.wish) in
+      let R : List ℕ → Type 0 = λ m. IsRequest m (codes "SETUP") url 1 head [] in
+      let call : IsCall message (codes "SETUP") url 1 head = record { body = []; read = subst R (sym is) asked.read } in
+      elim (setup_answered old message url 1 head ask new call hears) [
+        | inl same ↦ inl same
+        | inr told ↦
+            let settled = settled_by b.wish b.wished b.port told.asks told.names in
+            inr (told.text ∙ (ap (λ n. setup_reply 1 n told.setup.control old.source.ssrc old.id) settled.media
+            ∙ ap (λ n. setup_reply 1 0 n old.source.ssrc old.id) settled.control))
+      ]
+
+  pub play_asked : (prepared : Prepared) → IsWaiting b old → new.awaited ≡ Play prepared
+      → message ≡ play_text b.wish b.session → Hears old message ask new → AsksClientPlay b old new
+  play_asked prepared waits asks is hears =
+      let asked = play-asked b.wish b.session b.wished b.port b.session_is in
+      let head = request_head (play_parts b.wish b.session) in
+      let R : List ℕ → Type 0 = λ m. IsRequest m (codes "PLAY") (film_url b.wish) 2 head [] in
+      let told = play_answered old message (film_url b.wish) 2 head ask new prepared
+      (record { body = []; read = subst R (sym is) asked.read }) waits.stands.rest asks hears in
+      let stored = told.stored in
+      let setup = told.setup in
+      let begun = subst (IsUnbegun b.wish b.films) told.ready waits.unbegun in
+      let run : told.planned.run ≡ whole_run stored =
+      planned_whole told.planned_is begun.0 (range_is b.wish b.session b.wished b.port b.session_is) in
+      let number = first_number old stored setup told.planned in
+      let time = timestamp_at stored.film old.source told.planned.run.from_unit in
+      let F : ℕ → ℕ → List ℕ = λ from to.
+      reply_front 200 (Some 2) (play_fields old.id from to told.authority (string_bytes stored.name) number time) in
+      let S : Option (List ℕ) → Type 0 = λ v. IsOwnSession (has_session_in old.state) old.id v ⊥ in
+      let own = subst S (play_session b) told.session in
+      record {
+        setup = setup;
+        paused = told.paused;
+        ready = told.ready;
+        stored = stored;
+        at = told.at;
+        authority = told.authority;
+        names = told.names;
+        number = number;
+        time = time;
+        number_fits = omega arith;
+        time_fits = omega arith;
+        text = told.text ∙ whole_front stored told.planned.run F run;
+        state = told.state;
+        heard = told.heard;
+        same = same_names old new told.films told.id;
+        own = own.1;
+      }
+
+  pub teardown_replied : IsNamed b old → message ≡ teardown_text b.wish b.session → Hears old message ask new
+      → AnswersTeardown old new
+  teardown_replied named is hears =
+      let asked = teardown-asked b.wish b.session b.wished b.port b.session_is in
+      let head = request_head (teardown_parts b.wish b.session) in
+      let its = teardown_head b in
+      let R : List ℕ → Type 0 = λ m. IsRequest m (codes "TEARDOWN") (film_url b.wish) 3 head [] in
+      let call : IsCall message (codes "TEARDOWN") (film_url b.wish) 3 head =
+      record { body = []; read = subst R (sym is) asked.read } in
+      let S : Option (List ℕ) → Type 0 = λ v. IsOwnSession (has_session_in old.state) old.id v ⊥ in
+      let told = teardown_answered old message (film_url b.wish) 3 head ask new call (record {
+        free = ap (λ v. first_of v (header_value head (codes "Proxy-Require"))) its.require ∙ its.proxy;
+        session = subst S (sym its.session) (has_one old.state named.setup_is, named.own);
+        authority = named.authority;
+        setup = named.setup;
+        setup_is = named.setup_is;
+        names = named.names;
+      }) hears in
+      record { text = told.text; same = record { names = same_names old new told.films told.id; setup = told.setup } }

@@ -260,8 +260,7 @@ whole_play {wish} {stored} {course} asked wished =
     })
 
 whole_total : {wish : Wish} {stored : Stored} {identity : Identity} {play : FilmPlay}
-    → IsWholePlay wish stored identity play
-    → length (framed_bytes (film_blocks stored identity)) ≡ play.keep
+    → IsWholePlay wish stored identity play → length (framed_bytes (film_blocks stored identity)) ≡ play.keep
 whole_total {wish} {stored} {identity} {play} whole =
     let keeps = sending-keeps (stored_sizes stored) (playback_of wish stored) (whole_run stored) play.plan
     whole.sending in

@@ -94,8 +94,7 @@ goes_cut old new (RequestElement turn ∷ elements) goes =
         after = ap (λ (s : Stage). s.input) taken.new_is;
       }) rest.cut;
       requests = ap (λ b. if b then requests_in rest.elements else take n old.input ∷ requests_in rest.elements)
-          (starts_request old.input n taken.next.first.0 some)
-          ∙ ap (λ rs. take n old.input ∷ rs) rest.requests
+          (starts_request old.input n taken.next.first.0 some) ∙ ap (λ rs. take n old.input ∷ rs) rest.requests
           ∙ ap (λ m. m ∷ map message_of (elements_hearings elements)) (sym taken.next.message_is);
     }
 
@@ -111,9 +110,8 @@ cut_then : (input : List ℕ) (ps : List (List ℕ)) (later : LaterCut) → AreI
 cut_then input [] later cut = subst (λ w. AreInputElements w later.elements later.rest) (sym cut) later.cut
 cut_then input (p ∷ ps) later cut = (cut.0, (cut.1.0, cut.1.1, cut_then (drop cut.0 input) ps later cut.1.2))
 
-comes_input : (old opened : Stage) (event : IoEvent) (due : List SentPart) (halt : Outcome) → Comes old event due halt
-    opened
-    → opened.input ≡ old.input ++ bytes_in event
+comes_input : (old opened : Stage) (event : IoEvent) (due : List SentPart) (halt : Outcome)
+    → Comes old event due halt opened → opened.input ≡ old.input ++ bytes_in event
 comes_input old opened (HeardBytes bytes) due halt comes = ap (λ (s : Stage). s.input) comes.3
 comes_input old opened (HeardSlot slot) due halt comes = comes.0 ∙ sym (append-nil old.input)
 comes_input old opened _ due halt comes = absurd comes
@@ -221,8 +219,7 @@ IsRest stage = ((n : ℕ) → IsElementLength stage.input n → ⊥) ⊎ (Awaits
 
 idle_rest : (stage : Stage)
     → (IsFirst stage.input (Ok More)
-    ⊎ ((n : ℕ) × (IsFirst stage.input (Ok (Request n)) × (stage.session.waits ≡ true))))
-    → IsRest stage
+    ⊎ ((n : ℕ) × (IsFirst stage.input (Ok (Request n)) × (stage.session.waits ≡ true)))) → IsRest stage
 idle_rest stage (inl more) = inl (tells_none stage.input (Ok More) more)
 idle_rest stage (inr request) = inr (inl (record { length = request.0; first = request.1.0; waits = request.1.1 }))
 

@@ -51,8 +51,7 @@ pub texts_within : (place : ℕ) (parts : List SentPart) → IsFromTo place (pla
     (placed_texts place parts)
 texts_within place [] = tt
 texts_within place (Film bytes ∷ parts) =
-    from_to_wider
-    (placed_texts (place + length bytes) parts) (omega arith)
+    from_to_wider (placed_texts (place + length bytes) parts) (omega arith)
     (omega (arith, length-append bytes (film_bytes parts))) (texts_within (place + length bytes) parts)
 texts_within place (Text text ∷ parts) = (omega arith, (omega arith, texts_within place parts))
 
@@ -60,8 +59,7 @@ pub texts_parts : (place : ℕ) (xs ys : List SentPart)
     → placed_texts place (xs ++ ys) ≡ placed_texts place xs ++ placed_texts (place + length (film_bytes xs)) ys
 texts_parts place [] ys = ap (λ n. placed_texts n ys) (let e : place ≡ place + 0 = omega arith in e)
 texts_parts place (Film bytes ∷ xs) ys =
-    texts_parts (place + length bytes) xs ys
-    ∙ ap (λ n. placed_texts (place + length bytes) xs ++ placed_texts n ys)
+    texts_parts (place + length bytes) xs ys ∙ ap (λ n. placed_texts (place + length bytes) xs ++ placed_texts n ys)
     (let e : place + length bytes + length (film_bytes xs) ≡ place + length (bytes ++ film_bytes xs) =
     omega (arith, length-append bytes (film_bytes xs)) in e)
 texts_parts place (Text text ∷ xs) ys = ap (λ l. placed_text place text ∷ l) (texts_parts place xs ys)
@@ -83,13 +81,11 @@ pub record LaterTexts (film total : ℕ) (later : List PlacedText) : Type 0 wher
   pub after : AreAfter total later
   pub few : film ≤ total
 
-pub counted_by : {later rest : List PlacedText} {film total : ℕ} (texts_first : FirstTexts)
-    (front : List PlacedText) →
-    front ++ rest ≡ placed_text 0 texts_first.setup ∷ placed_text 0 texts_first.played ∷ later →
-    IsFromTo 0 film front →
-    ((placed : PlacedText) (texts : List PlacedText) → rest ≡ placed ∷ texts → film ≤ placed.place) →
-    LaterTexts film total later →
-    IsCounted (length texts_first.setup) (length texts_first.played) film total (film + texts_length front)
+pub counted_by : {later rest : List PlacedText} {film total : ℕ} (texts_first : FirstTexts) (front : List PlacedText)
+    → front ++ rest ≡ placed_text 0 texts_first.setup ∷ placed_text 0 texts_first.played ∷ later → IsFromTo 0 film front
+    → ((placed : PlacedText) (texts : List PlacedText) → rest ≡ placed ∷ texts → film ≤ placed.place)
+    → LaterTexts film total later → IsCounted (length texts_first.setup)
+    (length texts_first.played) film total (film + texts_length front)
 counted_by {later} {film} texts_first [] all within next later_texts =
     let none : film ≤ 0 = next (placed_text 0 texts_first.setup) (placed_text 0 texts_first.played ∷ later) all in
     record { is = λ much. absurd (omega (arith, much, none, texts_first.some_setup)) }

@@ -69,8 +69,7 @@ no_play_begins {old} request stands none =
     (λ begins.
     let its = play_heard old.session message heard.ask heard.asking begins.prepared stands.rest begins.asked_is
     heard.hears in
-    none its.request its.is_request its.method)
-    (request_turns request stands)
+    none its.request its.is_request its.method) (request_turns request stands)
   where
     open request use {message, outcome, replied}
 
@@ -80,9 +79,9 @@ pub record HasNoPlays (old : Stage) (takings : List ElementStep) (more : List St
   pub requests : AreNoPlays (takings_requests takings)
   pub none : plays_of more ≡ []
 
-pub takings_none : (old new : Stage) (takings : List ElementStep) (takes : TakesAll old takings new) (more : List
-    StationRequest)
-    → HasNoPlays old takings more → plays_of (takings_askings old takings new takes ++ more) ≡ []
+pub takings_none : (old new : Stage) (takings : List ElementStep) (takes : TakesAll old takings new)
+    (more : List StationRequest) → HasNoPlays old takings more
+    → plays_of (takings_askings old takings new takes ++ more) ≡ []
 takings_none old new [] takes more has = has.none
 takings_none old new (Passed n ∷ takings) takes more has =
     takings_none takes.0 new takings takes.1.1 more (record {
@@ -110,9 +109,8 @@ pub event_none : {old new : Stage} {round : Round} (runs : Runs old round new) (
     → plays_begun (asked_by old.session round.event) round.halt askings ≡ []
 event_none {round} runs askings = comes_none (comes_as round.event round.due round.halt runs.comes) askings
 
-pub rounds_none : (old new : Stage) (rounds : List Round) (follows : IsCourseBetween old rounds new) → Stands
-    old.session
-    → AreNoPlays (rounds_requests rounds) → plays_of (askings_of old rounds new follows) ≡ []
+pub rounds_none : (old new : Stage) (rounds : List Round) (follows : IsCourseBetween old rounds new)
+    → Stands old.session → AreNoPlays (rounds_requests rounds) → plays_of (askings_of old rounds new follows) ≡ []
 rounds_none old new [] follows stands are = refl
 rounds_none old new (round ∷ rounds) follows stands are =
     let runs = follows.1.0 in
@@ -176,8 +174,7 @@ unsent_part s = record {
   awaited = s.awaited;
 }
 
-heard_on : (old : SessionState) (slot : ℕ) (taken sending : Bool) → sending ≡ false
-    → unsent_part
+heard_on : (old : SessionState) (slot : ℕ) (taken sending : Bool) → sending ≡ false → unsent_part
     (if taken then (if sending then after_play (sent_slot old slot) else record old { heard = slot }) else old)
     ≡ unsent_part old
 heard_on old slot true true is = absurd (true≢false is)

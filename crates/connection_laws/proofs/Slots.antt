@@ -52,9 +52,8 @@ replied_on (Stopping setup stop) waits slot sound between =
 replied_on _ waits slot sound between = same_on Idle false slot tt
 
 pub reply_on : (goes : Bool) (state : State) (waits : Bool) (slot : ℕ) → IsSound (sends_in state) waits slot
-    → (goes ≡ true → is_between state ≡ true)
-    → GoesOn (sends_in state) (sends_in (if goes then after_stop state else state)) slot slot
-    (if goes then false else waits) [] []
+    → (goes ≡ true → is_between state ≡ true) → GoesOn (sends_in state)
+    (sends_in (if goes then after_stop state else state)) slot slot (if goes then false else waits) [] []
 reply_on false state waits slot sound between = same_on (sends_in state) waits slot sound
 reply_on true state waits slot sound between = replied_on state waits slot sound (between refl)
 
@@ -81,24 +80,21 @@ parts_of waits state text slot =
 -- the film's bytes of a pacing in a slot
 film_of : (waits : Bool) (p : PacerState) (text : List ℕ) (slot : ℕ) → IsPacerState p →
     film_bytes (if waits then Film (plan_bytes p p.sent (step_end true (at_slot slot p)))
-    ∷ (if stands_at_boundary (after_step true slot p)
-    then Text text
+    ∷ (if stands_at_boundary (after_step true slot p) then Text text
     ∷ Film (plan_bytes (after_step true slot p) (after_step true slot p).sent
     (step_end false (at_slot slot (after_step true slot p)))) ∷ [] else [])
     else Film (plan_bytes p p.sent (step_end false (at_slot slot p))) ∷ []) ≡ plan_bytes p p.sent (due_by p slot)
 film_of waits p text slot is =
     let q : PacerState = after_step true slot p in
     film_cases waits (stands_at_boundary q) (plan_bytes p p.sent (step_end true (at_slot slot p)))
-    (plan_bytes q q.sent (step_end false (at_slot slot q)))
-    (plan_bytes p p.sent (step_end false (at_slot slot p))) text
+    (plan_bytes q q.sent (step_end false (at_slot slot q))) (plan_bytes p p.sent (step_end false (at_slot slot p))) text
     ∙ slot_bytes waits (stands_at_boundary q) slot p is refl
 
 abbrev pub going_with : Setup → Played → PacerState → State
 going_with setup play p = Playing setup (record play { pacer = p })
 
 pub going_cases : (waits between : Bool) (pacings : SlotPacings) →
-    sends_in (if waits && between
-    then after_stop
+    sends_in (if waits && between then after_stop
     (if waits then (if between then going_with pacings.setup pacings.play pacings.both else going_with pacings.setup
     pacings.play pacings.front) else going_with pacings.setup pacings.play pacings.plain)
     else (if waits
@@ -172,8 +168,7 @@ ending_either : {between : Bool} {p : PacerState} {heard slot : ℕ} → IsSound
 ending_either {between = true} {p} {heard} {slot} sound later stands = ending_over p heard slot sound later stands
 ending_either {between = false} {p} {heard} {slot} sound later stands =
     subst (λ q. GoesOn (Ending p) (Ending q) heard slot true [] (plan_bytes p p.sent (due_by p slot)))
-    (sym (slot_is true false slot p sound.0.pacing stands))
-    (ending_on p heard slot sound later)
+    (sym (slot_is true false slot p sound.0.pacing stands)) (ending_on p heard slot sound later)
 
 -- what is sent goes on by a slot that is processed
 abbrev pub SlotGoes : State → Bool → ℕ → ℕ → List ℕ → Type 0
@@ -182,8 +177,7 @@ SlotGoes state waits heard slot text =
     [] (film_bytes (parts_of waits state text slot))
 
 pub slot_goes : {heard slot : ℕ} (state : State) (waits : Bool) (text : List ℕ) → is_sending state ≡ true
-    → IsSound (sends_in state) waits heard → heard < slot
-    → SlotGoes state waits heard slot text
+    → IsSound (sends_in state) waits heard → heard < slot → SlotGoes state waits heard slot text
 slot_goes {heard} {slot} (Playing setup play) waits text sending sound later =
     let p : PacerState = play.pacer in
     let one : PacerState = after_step true slot p in
@@ -194,14 +188,12 @@ slot_goes {heard} {slot} (Playing setup play) waits text sending sound later =
       both = after_step false slot one;
       front = one;
       plain = after_step false slot p;
-    })
-    ∙ ap Going (slot_is waits (stands_at_boundary one) slot p sound.0.pacing refl) in
+    }) ∙ ap Going (slot_is waits (stands_at_boundary one) slot p sound.0.pacing refl) in
     let last : Bool = waits_after waits (Playing setup play) slot in
     subst (λ s. GoesOn (Going p) s heard slot last []
     (film_bytes (parts_of waits (Playing setup play) text slot))) (sym sends)
     (subst (GoesOn (Going p) (Going (sent_through slot p)) heard slot last [])
-    (sym (film_of waits p text slot sound.0.pacing))
-    (going_on p heard slot last sound later))
+    (sym (film_of waits p text slot sound.0.pacing)) (going_on p heard slot last sound later))
 slot_goes {slot} (Stopping setup stop) false text sending sound later = absurd (true≢false (sym sound.1))
 slot_goes {heard} {slot} (Stopping setup stop) true text sending sound later =
     let p : PacerState = stop.pacer in
@@ -210,6 +202,5 @@ slot_goes {heard} {slot} (Stopping setup stop) true text sending sound later =
     subst (λ s. GoesOn (Ending p) s heard slot last [] (film_bytes (parts_of true (Stopping setup stop) text slot)))
     (sym (ending_cases (stands_at_boundary one) setup stop (after_step false slot one) one))
     (subst (GoesOn (Ending p) (if stands_at_boundary one then Idle else Ending one) heard slot last [])
-    (sym (film_of true p text slot sound.0.pacing))
-    (ending_either sound later refl))
+    (sym (film_of true p text slot sound.0.pacing)) (ending_either sound later refl))
 slot_goes _ waits text sending sound later = absurd (true≢false (sym sending))

@@ -101,40 +101,40 @@ answer_leaves asking (LookMade {placed = p} look) = entry_leaves asking p look.a
 answer_leaves asking (LookFull is) = is
 answer_leaves asking (OfferMade is) = is
 
-play_as : {asking new : SessionState} {plan : List Segment} {placed : PlacedEntry} (answer : Answer)
-    → placed.entry.answer ≡ answer → placed.entry.command ≡ play_of asking.heard plan
-    → IsPlayAnswered asking placed answer new → AnswersAs asking new (AskPlay plan) (Entered placed)
-play_as (Admitted start) is command answered = PlayAdmitted (record {
-  start = start;
-  answer = is;
-  command = command;
-  later = answered.0;
-  new_is = answered.1;
-  playing = answered.2;
-  small = answered.3;
-})
-play_as (Overflow slot booked asked) is command answered = PlayRefused (record {
-  slot = slot;
-  booked = booked;
-  asked = asked;
-  answer = is;
-  command = command;
-  new_is = answered;
-})
-play_as _ is command answered = absurd answered
+module _ {asking new : SessionState} {placed : PlacedEntry} where
+  play_as : {plan : List Segment} (answer : Answer) → placed.entry.answer ≡ answer
+      → placed.entry.command ≡ play_of asking.heard plan → IsPlayAnswered asking placed answer new
+      → AnswersAs asking new (AskPlay plan) (Entered placed)
+  play_as (Admitted start) is command answered = PlayAdmitted (record {
+    start = start;
+    answer = is;
+    command = command;
+    later = answered.0;
+    new_is = answered.1;
+    playing = answered.2;
+    small = answered.3;
+  })
+  play_as (Overflow slot booked asked) is command answered = PlayRefused (record {
+    slot = slot;
+    booked = booked;
+    asked = asked;
+    answer = is;
+    command = command;
+    new_is = answered;
+  })
+  play_as _ is command answered = absurd answered
 
-look_as : {asking new : SessionState} {slot : ℕ} {placed : PlacedEntry} (answer : Answer)
-    → placed.entry.answer ≡ answer → placed.entry.command ≡ look_at slot
-    → IsLookAnswered asking placed answer new → AnswersAs asking new (AskLook slot) (Entered placed)
-look_as (Looked now at booked) is command answered = LookMade (record {
-  now = now;
-  at = at;
-  booked = booked;
-  answer = is;
-  command = command;
-  new_is = answered;
-})
-look_as _ is command answered = absurd answered
+  look_as : {slot : ℕ} (answer : Answer) → placed.entry.answer ≡ answer → placed.entry.command ≡ look_at slot
+      → IsLookAnswered asking placed answer new → AnswersAs asking new (AskLook slot) (Entered placed)
+  look_as (Looked now at booked) is command answered = LookMade (record {
+    now = now;
+    at = at;
+    booked = booked;
+    answer = is;
+    command = command;
+    new_is = answered;
+  })
+  look_as _ is command answered = absurd answered
 
 -- a halt's entry
 pub data HaltsAs (old new : SessionState) (keep : ℕ) : Outcome → Type 0 where

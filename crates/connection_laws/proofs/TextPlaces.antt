@@ -69,11 +69,9 @@ pub record StandAt (p : PacerState) (keep : ℕ) (pending : Option ℕ) (plays :
   pub sent : AreSentAt end (play_with p keep ∷ plays) (with_pending pending slots) (placed_texts p.sent parts)
 
 -- bytes of the film
-pub film_at : {p q : PacerState} {keep : ℕ} {pending : Option ℕ} {plays : List FilmPlay} {end : ℕ} {slots bytes : List
-    ℕ}
-    {parts : List SentPart}
-    → play_with q keep ≡ play_with p keep → p.sent + length bytes ≡ q.sent
-    → StandAt q keep pending plays end slots parts
+pub film_at : {p q : PacerState} {keep : ℕ} {pending : Option ℕ} {plays : List FilmPlay} {end : ℕ}
+    {slots bytes : List ℕ} {parts : List SentPart} → play_with q keep ≡ play_with p keep
+    → p.sent + length bytes ≡ q.sent → StandAt q keep pending plays end slots parts
     → StandAt p keep pending plays end slots (Film bytes ∷ parts)
 film_at {p} {q} {keep} {pending} {plays} {end} {slots} {parts} same size stand = record {
   holds = omega (arith, size, stand.holds);
@@ -89,16 +87,14 @@ pub record IsAtNext (p : PacerState) (due : ℕ) : Type 0 where
   pub after : due ≤ p.sent
   pub least : (place : ℕ) → IsBoundary p.pieces place → p.before + due ≤ place → p.before + p.sent ≤ place
 
-pub due_then : {due : ℕ} (p : PacerState) (keep slot : ℕ) (plays : List FilmPlay)
-    → due_of slot (play_with p keep) ≡ due → AreAfter slot plays
-    → all_due slot (play_with p keep ∷ plays) ≡ due
-due_then p keep slot plays is are =
+pub due_then : (p : PacerState) (keep slot : ℕ) (plays : List FilmPlay) → AreAfter slot plays
+    → all_due slot (play_with p keep ∷ plays) ≡ due_of slot (play_with p keep)
+due_then p keep slot plays are =
     let none : all_due slot plays ≡ 0 = none_due slot plays are in
-    due_cons slot (play_with p keep) plays ∙ omega (arith, is, none)
+    due_cons slot (play_with p keep) plays ∙ omega (arith, none)
 
 least_here : {p : PacerState} {due other : ℕ} (keep : ℕ) (plays : List FilmPlay) → p.sent ≤ keep → IsAtNext p due
-    → due ≤ other
-    → IsBoundaryIn (play_with p keep ∷ plays) other → p.sent ≤ other
+    → due ≤ other → IsBoundaryIn (play_with p keep ∷ plays) other → p.sent ≤ other
 least_here {p} {other} keep plays holds at from (inl own) =
     let least = at.least (p.before + other) own.1 (omega (arith, from)) in omega (arith, least)
 least_here {p} {other} keep plays holds at from (inr past) = omega (arith, holds, past.0)
@@ -107,11 +103,11 @@ module _ {p : PacerState} {due : ℕ} {plays : List FilmPlay} where
   next_here : (keep slot : ℕ) → p.sent ≤ keep → IsAtNext p due → due_of slot (play_with p keep) ≡ due
       → AreAfter slot plays → IsNextIn (play_with p keep ∷ plays) (all_due slot (play_with p keep ∷ plays)) p.sent
   next_here keep slot holds at is are =
-      let all = due_then p keep slot plays is are in
+      let all = due_then p keep slot plays are in
       record {
         boundary = inl (holds, at.boundary);
-        after = omega (arith, all, at.after);
-        least = λ other boundary from. least_here keep plays holds at (omega (arith, all, from)) boundary;
+        after = omega (arith, all, is, at.after);
+        least = λ other boundary from. least_here keep plays holds at (omega (arith, all, is, from)) boundary;
       }
 
   pub text_at : {keep slot : ℕ} {end : ℕ} {slots text : List ℕ} {parts : List SentPart} → IsAtNext p due
@@ -146,29 +142,30 @@ past_due : (past : PastPlay) (slot : ℕ) → past.from ≤ slot
 past_due past slot later =
     let own = past.over slot later in due_cons slot past.play past.plays ∙ omega (arith, own)
 
-past_unsent : {slot place : ℕ} (past : PastPlay) → past.from ≤ slot → IsUnsentAt past.end past.plays slot
-    → all_due slot (all_of past) ≤ place → IsBoundaryIn (all_of past) place → all_due past.end (all_of past) < place
-past_unsent {slot} past later none due (inl own) =
-    let first = past_due past slot later in
-    let nothing : all_due slot past.plays ≤ 0 = omega (arith, first, due, own.0) in
-    let bad = none 0 past.begins nothing in
-    absurd (omega (arith, bad))
-past_unsent {slot} {place} past later none due (inr other) =
-    let first = past_due past slot later in
-    let last = past_due past past.end past.ends in
-    let less = none (place - past.play.keep) other.1 (omega (arith, first, due, other.0)) in
-    omega (arith, last, less)
+module _ {slot : ℕ} (past : PastPlay) where
+  past_unsent : {place : ℕ} → past.from ≤ slot → IsUnsentAt past.end past.plays slot
+      → all_due slot (all_of past) ≤ place → IsBoundaryIn (all_of past) place → all_due past.end (all_of past) < place
+  past_unsent later none due (inl own) =
+      let first = past_due past slot later in
+      let nothing : all_due slot past.plays ≤ 0 = omega (arith, first, due, own.0) in
+      let bad = none 0 past.begins nothing in
+      absurd (omega (arith, bad))
+  past_unsent {place} later none due (inr other) =
+      let first = past_due past slot later in
+      let last = past_due past past.end past.ends in
+      let less = none (place - past.play.keep) other.1 (omega (arith, first, due, other.0)) in
+      omega (arith, last, less)
 
-past_least : {slot at other : ℕ} (past : PastPlay) → past.from ≤ slot → IsNextIn past.plays (all_due slot past.plays) at
-    → all_due slot (all_of past) ≤ other → IsBoundaryIn (all_of past) other → past.play.keep + at ≤ other
-past_least {slot} past later next due (inl own) =
-    let first = past_due past slot later in
-    let here = next.least 0 past.begins (omega (arith, first, due, own.0)) in
-    omega (arith, here, first, due)
-past_least {slot} {other = other} past later next due (inr beyond) =
-    let first = past_due past slot later in
-    let least = next.least (other - past.play.keep) beyond.1 (omega (arith, first, due, beyond.0)) in
-    omega (arith, least, beyond.0)
+  past_least : {at other : ℕ} → past.from ≤ slot → IsNextIn past.plays (all_due slot past.plays) at
+      → all_due slot (all_of past) ≤ other → IsBoundaryIn (all_of past) other → past.play.keep + at ≤ other
+  past_least later next due (inl own) =
+      let first = past_due past slot later in
+      let here = next.least 0 past.begins (omega (arith, first, due, own.0)) in
+      omega (arith, here, first, due)
+  past_least {other = other} later next due (inr beyond) =
+      let first = past_due past slot later in
+      let least = next.least (other - past.play.keep) beyond.1 (omega (arith, first, due, beyond.0)) in
+      omega (arith, least, beyond.0)
 
 past_sent : {slot : ℕ} (past : PastPlay) (at : ℕ) (text : List ℕ) → past.from ≤ slot
     → IsSentAt past.end past.plays slot (placed_text at text)

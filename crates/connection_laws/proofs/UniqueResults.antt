@@ -97,8 +97,7 @@ outcomes_same {one} {other} false alike is also = (
 
 -- two answers after which a session is known are the same, and so is the session
 results_same : {one other : Outcome} {new again : SessionState} (old : SessionState) (asked : Bool)
-    (alike : AnswersAlike one other)
-    → IsAsked asked one × IsAsked asked other
+    (alike : AnswersAlike one other) → IsAsked asked one × IsAsked asked other
     → (new ≡ after_outcome old one) × (again ≡ after_outcome old other)
     → (again ≡ new) × AreSameAnswers alike.ones alike.others
 results_same old asked alike are leave =

@@ -163,8 +163,7 @@ pub record AtUnit (s : Sum) : Type 0 where
   pub outside : s.inside ≡ false
 
 whole_unit : {s : Sum} (starts : Bool) (from : RunFrom) (marked_unit : MarkedUnit) → 0 < length marked_unit.packets
-    → AtUnit s
-    → IsUnitDone s (length (framed_bytes (marked_blocks starts from marked_unit)))
+    → AtUnit s → IsUnitDone s (length (framed_bytes (marked_blocks starts from marked_unit)))
     (steps s (events_of_elements (marked_blocks starts from marked_unit)))
 whole_unit {s} false from marked_unit some between =
     let done = whole_frames (record { run = run; frames = f; unit = unit; media = media }) packets marked some in
@@ -241,8 +240,7 @@ unit_marked starts unit laid =
     last-marked starts unit (unit_packets starts unit) (packets-are starts unit laid) (packets-cover starts unit laid)
 
 unit_size : {starts : List ℕ} {unit : PictureUnit} (run : FramedRun) (f o : ℕ) → IsLaid starts unit
-    → unit.to ≤ length run.film
-    → length (framed_bytes (unit_blocks run starts unit f o)) ≡ wire_size starts unit
+    → unit.to ≤ length run.film → length (framed_bytes (unit_blocks run starts unit f o)) ≡ wire_size starts unit
 unit_size {starts} {unit} run f o laid short =
     let pieces = unit_pieces starts unit in
     let sound = unit-sound run.film starts unit laid short in
@@ -257,10 +255,9 @@ one_more n = omega arith
 
 -- the blocks of one unit more
 pub more_blocks : (run : FramedRun) (f o : ℕ) (starts : List ℕ) (unit : PictureUnit) (units : List PictureUnit)
-    → blocks_from run f o (pieces_of starts (unit ∷ units))
-    ≡ unit_blocks run starts unit f o
-    ++ blocks_from run (frames_after f (unit_pieces starts unit)) (octets_after o (unit_pieces starts unit))
-    (pieces_of starts units)
+    → blocks_from run f o (pieces_of starts (unit ∷ units)) ≡ unit_blocks run starts unit f o
+    ++ blocks_from run (frames_after f (unit_pieces starts unit))
+    (octets_after o (unit_pieces starts unit)) (pieces_of starts units)
 more_blocks run f o starts unit units =
     let first = unit_pieces starts unit in
     let rest = pieces_of starts units in
@@ -277,8 +274,7 @@ blocks_one from starts (unit ∷ units) =
     let o2 = octets_after o (unit_pieces starts unit) in
     subst AreOneBlocks (sym (more_blocks run f o starts unit units))
     (blocks_one_append (unit_blocks run starts unit f o) (blocks_from run f2 o2 (pieces_of starts units))
-    (unit_one from starts unit)
-    (blocks_one (record from { frames = f2; octets = o2 }) starts units))
+    (unit_one from starts unit) (blocks_one (record from { frames = f2; octets = o2 }) starts units))
   where
     open from use {run, frames as f, octets as o}
 
@@ -314,72 +310,71 @@ abbrev HaveCome : List ℕ → ℕ → Sum → List (List ℕ) → Type 0
 HaveCome sizes c s blocks = HasCome sizes c s (steps s (events_of_elements (take (count_ended c blocks) blocks)))
 
 -- not all bytes of the first unit have come
-come_within : {c : ℕ} {s : Sum} (first : FirstUnit s) (ys : List (List ℕ)) (sizes : List ℕ) → c < first_size first
-    → HaveCome (first_size first ∷ sizes) c s (first_blocks first ++ ys)
-come_within {c} {s} first ys sizes less =
-    let xs = first_blocks first in
-    let w = first_size first in
-    let within = count_within xs ys c (omega (arith, less, first_sized first)) in
-    let k = count_ended c xs in
-    let R : ℕ → Type 0 = λ n. HasCome (w ∷ sizes) c s (steps s (events_of_elements (take n (xs ++ ys)))) in
-    let S : List (List ℕ) → Type 0 = λ bs. HasCome (w ∷ sizes) c s (steps s (events_of_elements bs)) in
-    subst R (sym within.0) (subst S (sym (take-append-le k xs ys (omega (arith, within.1))))
-    (record {
-      count = 0;
-      sizes_are = part_unit first.unit.starts_group first.from k (first_marked first) s within.1
-          ∙ sym (append-nil s.sizes);
-      among = omega arith;
-      next = λ l. omega (arith, less, sum_by-cons (λ (y : ℕ). y) w (take 0 sizes));
-    }))
+module _ {s : Sum} where
+  come_within : {c : ℕ} (first : FirstUnit s) (ys : List (List ℕ)) (sizes : List ℕ) → c < first_size first
+      → HaveCome (first_size first ∷ sizes) c s (first_blocks first ++ ys)
+  come_within {c} first ys sizes less =
+      let xs = first_blocks first in
+      let w = first_size first in
+      let within = count_within xs ys c (omega (arith, less, first_sized first)) in
+      let k = count_ended c xs in
+      let R : ℕ → Type 0 = λ n. HasCome (w ∷ sizes) c s (steps s (events_of_elements (take n (xs ++ ys)))) in
+      let S : List (List ℕ) → Type 0 = λ bs. HasCome (w ∷ sizes) c s (steps s (events_of_elements bs)) in
+      subst R (sym within.0) (subst S (sym (take-append-le k xs ys (omega (arith, within.1))))
+      (record {
+        count = 0;
+        sizes_are = part_unit first.unit.starts_group first.from k (first_marked first) s within.1
+            ∙ sym (append-nil s.sizes);
+        among = omega arith;
+        next = λ l. omega (arith, less, sum_by-cons (λ (y : ℕ). y) w (take 0 sizes));
+      }))
 
--- a sum after the first unit, and what comes later
-first_done : {s : Sum} (first : FirstUnit s)
-    → IsUnitDone s (length (framed_bytes (first_blocks first))) (steps s (events_of_elements (first_blocks first)))
-first_done {s} first =
-    whole_unit {s = s} first.unit.starts_group first.from (first_marked first)
-    (packets_some first.unit (first_portion first.unit.from first.unit.head_end) (unit_lengths first.starts first.unit))
-    first.between
+  -- a sum after the first unit, and what comes later
+  first_done : (first : FirstUnit s) → IsUnitDone s (length (framed_bytes (first_blocks first)))
+      (steps s (events_of_elements (first_blocks first)))
+  first_done first =
+      whole_unit {s = s} first.unit.starts_group first.from (first_marked first)
+      (packets_some first.unit (first_portion first.unit.from first.unit.head_end) (unit_lengths first.starts first.unit))
+      first.between
 
-come_past : {c : ℕ} {s : Sum} (first : FirstUnit s) (ys : List (List ℕ)) (sizes : List ℕ) → first_size first ≤ c
-    → ((t : Sum) → AtUnit t → HaveCome sizes (c - length (framed_bytes (first_blocks first))) t ys)
-    → HaveCome (first_size first ∷ sizes) c s (first_blocks first ++ ys)
-come_past {c} {s} first ys sizes more later =
-    let xs = first_blocks first in
-    let w = first_size first in
-    let size = first_sized first in
-    let d = c - length (framed_bytes xs) in
-    let k = count_ended d ys in
-    let past : count_ended c (xs ++ ys) ≡ length xs + k = count_past xs ys c (omega (arith, more, size)) in
-    let t = steps s (events_of_elements xs) in
-    let done = first_done first in
-    let same = blocks_same xs s (unit_one first.from first.starts first.unit) in
-    let still : plays t ≡ true = ap (λ n. nat_lt 1 n) same.replies ∙ first.between.on in
-    let come = later t (record { on = still; none = done.pending; outside = done.inside }) in
-    let u = steps t (events_of_elements (take k ys)) in
-    let all : steps s (events_of_elements (xs ++ take k ys)) ≡ u =
-    ap (steps s) (moments_parts xs (take k ys)) ∙ steps_on s (events_of_elements xs) (events_of_elements (take k ys)) in
-    let R : ℕ → Type 0 = λ n. HasCome (w ∷ sizes) c s (steps s (events_of_elements (take n (xs ++ ys)))) in
-    let S : List (List ℕ) → Type 0 = λ bs. HasCome (w ∷ sizes) c s (steps s (events_of_elements bs)) in
-    let T : Sum → Type 0 = λ v. HasCome (w ∷ sizes) c s v in
-    subst R (sym past) (subst S (sym (take-append-add xs ys k)) (subst T (sym all) (record {
-      count = suc come.count;
-      sizes_are = come.sizes_are
-          ∙ (ap (λ l. l ++ take come.count sizes) (done.sizes ∙ ap (λ n. s.sizes ++ n ∷ []) size)
-          ∙ append_assoc s.sizes (w ∷ []) (take come.count sizes));
-      among = omega (arith, come.among);
-      next = λ l.
-          let further : d < sum (take (come.count + 1) sizes) = come.next (omega (arith, l)) in
-          let same_count = ap (λ n. sum (take n (w ∷ sizes))) (one_more come.count) in
-          omega (arith, further, same_count, sum_by-cons (λ (y : ℕ). y) w (take (come.count + 1) sizes), size, more);
-    })))
+  come_past : {c : ℕ} (first : FirstUnit s) (ys : List (List ℕ)) (sizes : List ℕ) → first_size first ≤ c
+      → ((t : Sum) → AtUnit t → HaveCome sizes (c - length (framed_bytes (first_blocks first))) t ys)
+      → HaveCome (first_size first ∷ sizes) c s (first_blocks first ++ ys)
+  come_past {c} first ys sizes more later =
+      let xs = first_blocks first in
+      let w = first_size first in
+      let size = first_sized first in
+      let d = c - length (framed_bytes xs) in
+      let k = count_ended d ys in
+      let past : count_ended c (xs ++ ys) ≡ length xs + k = count_past xs ys c (omega (arith, more, size)) in
+      let t = steps s (events_of_elements xs) in
+      let done = first_done first in
+      let same = blocks_same xs s (unit_one first.from first.starts first.unit) in
+      let still : plays t ≡ true = ap (λ n. nat_lt 1 n) same.replies ∙ first.between.on in
+      let come = later t (record { on = still; none = done.pending; outside = done.inside }) in
+      let u = steps t (events_of_elements (take k ys)) in
+      let all : steps s (events_of_elements (xs ++ take k ys)) ≡ u =
+      ap (steps s) (moments_parts xs (take k ys)) ∙ steps_on s (events_of_elements xs) (events_of_elements (take k ys)) in
+      let R : ℕ → Type 0 = λ n. HasCome (w ∷ sizes) c s (steps s (events_of_elements (take n (xs ++ ys)))) in
+      let S : List (List ℕ) → Type 0 = λ bs. HasCome (w ∷ sizes) c s (steps s (events_of_elements bs)) in
+      let T : Sum → Type 0 = λ v. HasCome (w ∷ sizes) c s v in
+      subst R (sym past) (subst S (sym (take-append-add xs ys k)) (subst T (sym all) (record {
+        count = suc come.count;
+        sizes_are = come.sizes_are
+            ∙ (ap (λ l. l ++ take come.count sizes) (done.sizes ∙ ap (λ n. s.sizes ++ n ∷ []) size)
+            ∙ append_assoc s.sizes (w ∷ []) (take come.count sizes));
+        among = omega (arith, come.among);
+        next = λ l.
+            let further : d < sum (take (come.count + 1) sizes) = come.next (omega (arith, l)) in
+            let same_count = ap (λ n. sum (take n (w ∷ sizes))) (one_more come.count) in
+            omega (arith, further, same_count, sum_by-cons (λ (y : ℕ). y) w (take (come.count + 1) sizes), size, more);
+      })))
 
 -- the sizes of the units that are complete
 pub units_come : {c : ℕ} {s : Sum} (from : RunFrom) (starts : List ℕ) (units : List PictureUnit)
-    → AreLaid (length from.run.film) starts units → AtUnit s
-    → HasCome (map (λ u. wire_size starts u) units) c s
+    → AreLaid (length from.run.film) starts units → AtUnit s → HasCome (map (λ u. wire_size starts u) units) c s
     (steps s (events_of_elements (take (count_ended c (blocks_from from.run from.frames from.octets (pieces_of starts
-    units)))
-    (blocks_from from.run from.frames from.octets (pieces_of starts units)))))
+    units))) (blocks_from from.run from.frames from.octets (pieces_of starts units)))))
 units_come {c} {s} from starts [] laid between =
     record {
       count = 0;
@@ -422,8 +417,7 @@ frames_told : (run : FramedRun) (f : ℕ) (unit : PictureUnit) (packets : List P
 frames_told run f unit [] media = refl
 frames_told run f unit (p ∷ packets) media =
     ap (λ l. frames_of (l ++ events_of_elements (frame_blocks run unit (f + 1) packets))) (frame_moment run f unit p
-    media)
-    ∙ ap (λ l. frame_block run unit p f ∷ l) (frames_told run (f + 1) unit packets media)
+    media) ∙ ap (λ l. frame_block run unit p f ∷ l) (frames_told run (f + 1) unit packets media)
 
 unit_told : (starts : Bool) (from : RunFrom) (unit : PictureUnit) (packets : List Packet) →
     frames_of (events_of_elements
@@ -438,8 +432,7 @@ unit_told true from unit packets =
 
 pub units_told : (from : RunFrom) (starts : List ℕ) (units : List PictureUnit) →
     frames_of (events_of_elements (blocks_from from.run from.frames from.octets (pieces_of starts units))) ≡
-    frames_among
-    (pieces_of starts units) (blocks_from from.run from.frames from.octets (pieces_of starts units))
+    frames_among (pieces_of starts units) (blocks_from from.run from.frames from.octets (pieces_of starts units))
 units_told from starts [] = refl
 units_told from starts (unit ∷ units) =
     let f2 = frames_after f (unit_pieces starts unit) in

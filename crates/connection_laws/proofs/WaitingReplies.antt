@@ -121,8 +121,7 @@ boundary_stands p is boundary =
 
 -- where what was sent doesn't end at a boundary, a reply is held up
 past_here : {p : PacerState} {heard place : ℕ} → IsOnTime p heard → stands_at_boundary p ≡ false → IsBoundary p.pieces
-    place
-    → p.before + min (first_slots p.plan (heard + 1 - p.start)) p.keep ≤ place → p.before + p.sent < place
+    place → p.before + min (first_slots p.plan (heard + 1 - p.start)) p.keep ≤ place → p.before + p.sent < place
 past_here {p} {heard} {place} on stands boundary from =
     let here = due_here p heard on in
     elim (cases_lt (p.before + p.sent) place) [
@@ -172,8 +171,7 @@ size_to p to is from most =
 abbrev pub parts_in : Bool → Bool → PacerState → ℕ → List ℕ → List SentPart
 parts_in waits between p slot text =
     if waits then Film (plan_bytes p p.sent (step_end true (at_slot slot p)))
-    ∷ (if between
-    then Text text
+    ∷ (if between then Text text
     ∷ Film (plan_bytes (after_step true slot p) (after_step true slot p).sent
     (step_end false (at_slot slot (after_step true slot p)))) ∷ [] else [])
     else Film (plan_bytes p p.sent (step_end false (at_slot slot p))) ∷ []
@@ -237,8 +235,7 @@ pub record SlotOn (p : PacerState) (heard slot end : ℕ) (between : Bool) : Typ
 -- what is due of a play up to a slot, and plays that come later
 pub record PlaysDue (p : PacerState) (keep slot : ℕ) (plays : List FilmPlay) : Type 0 where
   pub due : ((taken : ℕ) → min (first_slots p.plan (taken + 1 - p.start)) p.keep ≤ keep
-      → due_of taken (play_with p keep) ≡ min
-      (first_slots p.plan (taken + 1 - p.start)) p.keep)
+      → due_of taken (play_with p keep) ≡ min (first_slots p.plan (taken + 1 - p.start)) p.keep)
   pub later_plays : AreLater slot plays
 
 -- the reply goes out between two parts of the film's bytes
@@ -259,8 +256,7 @@ module _ {p : PacerState} {keep heard slot : ℕ} {plays : List FilmPlay} {end :
       let rest : StandAt q keep None plays end slots
       (Film (plan_bytes q q.sent (step_end false (at_slot slot q))) ∷ parts) =
       subst (λ n. StandAt q keep None plays end slots (Film (plan_bytes q q.sent n) ∷ parts)) (sym last)
-      (film_at refl
-      (size_to q (due_by p slot) (stopped_is slot p is) to most) stand) in
+      (film_at refl (size_to q (due_by p slot) (stopped_is slot p is) to most) stand) in
       let at = next_reached slot is held.1 stands in
       let far : (sent_through slot p).sent ≤ first_slots p.plan (end + 1 - p.start) =
       due_far (sent_through slot p) slot end (through_time p heard slot on later) ends in
@@ -269,8 +265,7 @@ module _ {p : PacerState} {keep heard slot : ℕ} {plays : List FilmPlay} {end :
       (later_lower taken slot plays (omega (arith, held.1.before, later)) plays_due.later_plays).starts
       (omega (arith, to, far)) rest in
       film_at
-      refl
-      (size_to p q.sent is from (omega (arith, to, most))) reply
+      refl (size_to p q.sent is from (omega (arith, to, most))) reply
     where
       open slot_on use {on, later, ends, stands}
 

@@ -58,8 +58,7 @@ IsEnd wish watched mid doings out = (bytes : List ℕ) × ((sent : List ℕ)
     × (doings ≡ HeardBytes bytes ∷ sends sent)))
 
 end_of : {wish : Wish} {watched : Watched} {count : ℕ} {doings : List IoEvent} {out : List ℕ} (mid : WatchStage)
-    → Ends wish mid count (Done watched) doings out
-    → IsEnd wish watched mid doings out
+    → Ends wish mid count (Done watched) doings out → IsEnd wish watched mid doings out
 end_of {out} mid (inl (inl fault, none, empty)) = absurd (let no : ⊥ = cc in no)
 end_of {out} mid (inl (inr spent, none, empty)) = absurd (let no : ⊥ = cc in no)
 end_of {out} mid (inr (inl early)) = absurd (let no : ⊥ = cc in no)
@@ -72,11 +71,10 @@ pub record HasWatchedAll (wish : Wish) (watched : Watched) (rounds : List Round)
   pub elements : List (List ℕ)
   pub history : done.at.history ≡ history_after mid.history (events_of_elements elements)
 
-all_watched : {wish : Wish} {watched : Watched} {rounds : List Round} {mid : WatchStage}
-    {last sent bytes out : List ℕ} → RunsAll (stage [] []) rounds mid
+all_watched : {wish : Wish} {watched : Watched} {rounds : List Round} {mid : WatchStage} {last sent bytes out : List ℕ}
+    → RunsAll (stage [] []) rounds mid
     → (stops : StopsAt wish (stage mid.history (mid.rest ++ bytes)) (Done watched) sent last)
-    → out ≡ payloads_of (events_of_rounds rounds) ++ last
-    → HasWatchedAll wish watched rounds mid bytes out
+    → out ≡ payloads_of (events_of_rounds rounds) ++ last → HasWatchedAll wish watched rounds mid bytes out
 all_watched {wish} {watched} {rounds} {mid} {last} {bytes} {out} runs stops out_is =
     let moments = events_of_rounds rounds in
     let at = stage (history_after mid.history (events_of_elements stops.elements)) stops.mid in
@@ -151,8 +149,7 @@ kept_promise {rounds} {mid} {bytes} {out} c s runs all front fed =
       under_none = ap (λ (w : Watched). w.under) done.watched_is ∙ quiet.under_none;
       most_fits = omega (arith, ap (λ (w : Watched). w.most) done.watched_is, quiet.most_fits);
       film_back = λ first last_ at_first at_last. done.out_is
-          ∙ (sym (ap (λ (s : Sum). s.payloads) (sum_after [] done.moments)
-          ∙ steps_payloads (sum_of []) done.moments)
+          ∙ (sym (ap (λ (s : Sum). s.payloads) (sum_after [] done.moments) ∙ steps_payloads (sum_of []) done.moments)
           ∙ (ap payloads (sym done.history_is) ∙ film_comes_back h is sum at_first at_last));
     }
   where
@@ -180,8 +177,7 @@ heard_rounds wish h [] = refl
 heard_rounds wish h (round ∷ rounds) =
     let sent = sends (requests_after wish h round.moments) in
     let rest = rounds_doings wish (history_after h round.moments) rounds in
-    heard_one round.event (sent ++ rest)
-    ∙ ap (λ l. bytes_in round.event ++ l)
+    heard_one round.event (sent ++ rest) ∙ ap (λ l. bytes_in round.event ++ l)
     (heard_append sent rest
     ∙ (ap (λ l. l ++ heard_bytes rest) (heard_sends (requests_after wish h round.moments))
     ∙ heard_rounds wish (history_after h round.moments) rounds))

@@ -58,14 +58,12 @@ watched_whole wish stored watched out is =
     let told = told_course wish watched heard out client in
     let begin = first_slot client.mid.history in
     let front = front_again (heard_bytes heard) (sent_bytes (rounds_doings course.rounds))
-    (framed_bytes (all_of x)) carried.front.0 carried.front.1.1
-    (all_sent wish stored course played) in
+    (framed_bytes (all_of x)) carried.front.0 carried.front.1.1 (all_sent wish stored course played) in
     let feeds : AreFed wish stored.film x begin [] client.rounds = λ before later round slot split event after_begin.
     let its = told.split before later round split in
     let P : List ℕ → ℕ → Type 0 = λ b n. IsFed wish stored.film x b n in
     subst (λ b. P b (slot - begin)) its.1.1.1
-    (fed played
-    (carried.each its.0 its.1.0 slot (its.1.1.0 ∙ ap (λ e. its.0 ++ e ∷ its.1.0) event) after_begin)) in
+    (fed played (carried.each its.0 its.1.0 slot (its.1.1.0 ∙ ap (λ e. its.0 ++ e ∷ its.1.0) event) after_begin)) in
     let kept = kept_promise front.count (record {
       wish = wish;
       film = stored.film;
@@ -107,8 +105,7 @@ record IsStopped (wish : Wish) (rounds : List Round) (mid : WatchStage) (bytes :
 stopped_done : {wish : Wish} {rounds : List Round} {mid : WatchStage} {bytes : List ℕ} {end : WatchEnd}
     {sent out : List ℕ} (s : FilmStream) (count : ℕ) → IsDecided end
     → (stopped : IsStopped wish rounds mid bytes end sent out)
-    → rounds_heard rounds ++ bytes ≡ take count (framed_bytes (all_of s.x))
-    → (watched : Watched) × (end ≡ Done watched)
+    → rounds_heard rounds ++ bytes ≡ take count (framed_bytes (all_of s.x)) → (watched : Watched) × (end ≡ Done watched)
 stopped_done {wish} {rounds} {mid} {bytes} {end} s count decided stopped front =
     let stops = stopped.stops in
     let heard = heard_more bytes stops.elements
@@ -119,8 +116,7 @@ stopped_done {wish} {rounds} {mid} {bytes} {end} s count decided stopped front =
     (watched_in wish at.history, quits_done wish s heard place (stops-quit decided stops).quits)
 
 -- an answer that is `Done` where the events decide it refuses nothing
-refuses_none : (end : WatchEnd) → (IsDecided end → (watched : Watched) × (end ≡ Done watched))
-    → RefusesNothing end
+refuses_none : (end : WatchEnd) → (IsDecided end → (watched : Watched) × (end ≡ Done watched)) → RefusesNothing end
 refuses_none (Fault fault) decided =
     let its = decided tt in absurd (let same : Fault fault ≡ Done its.0 = its.1 in let no : ⊥ = cc in no)
 refuses_none _ decided = tt
@@ -155,17 +151,10 @@ module _ {wish : Wish} {end : WatchEnd} {doings : List IoEvent} {out : List ℕ}
       absurd (waits (ap (λ l. rounds_heard rounds ++ heard_bytes l) (sym none)))
   ended_done decided (inr (inl early)) front waits =
       absurd (waits (ap (λ l. rounds_heard rounds ++ heard_bytes l) (sym early.2)))
-  ended_done decided
-      (inr (inr (bytes, (sent, (stops, doings_are, few))))) front waits =
+  ended_done decided (inr (inr (bytes, (sent, (stops, doings_are, few))))) front waits =
       let mine : rounds_heard rounds ++ bytes ≡ take count (framed_bytes (all_of s.x)) =
       ap (λ l. rounds_heard rounds ++ l) (sym (last_bytes bytes sent doings_are)) ∙ front in
       stopped_done s count decided (record { runs = runs; stops = stops }) mine
-
-pub refuses_nothing : {wish : Wish} {end : WatchEnd} {heard : List IoEvent} {out : List ℕ} (s : FilmStream)
-    (client : HasCourse wish end (Some []) (Some heard) (Some []) (Some out)) → IsReceived s heard
-    → RefusesNothing end
-refuses_nothing s client received =
-    ended s received.count client.mid client.rounds client.runs client.ends (sym (told_bytes client) ∙ received.front)
 
 -- ---- all of it came
 
@@ -191,8 +180,7 @@ whole_stream {elements} {rest} all alone cut idle =
 
 -- a client doesn't wait for more after the last reply
 not_waiting : (mid : WatchStage) (rounds : List Round) (s : FilmStream) (last : List ℕ) (others : List (List ℕ))
-    → s.x.later ≡ last ∷ others → RunsAll (stage [] []) rounds mid
-    → rounds_heard rounds ≡ framed_bytes (all_of s.x) → ⊥
+    → s.x.later ≡ last ∷ others → RunsAll (stage [] []) rounds mid → rounds_heard rounds ≡ framed_bytes (all_of s.x) → ⊥
 not_waiting mid rounds s last others later runs whole =
     let x = s.x in
     let heard : Heard (rounds_heard rounds) mid = heard_all [] (stage [] []) mid rounds heard_none runs in
@@ -214,15 +202,19 @@ pub record IsReceivedWhole (s : FilmStream) (heard : List IoEvent) : Type 0 wher
   pub received : IsReceived s heard
   pub whole : heard_bytes heard ≡ framed_bytes (all_of s.x)
 
-pub comes_to_done : {wish : Wish} {end : WatchEnd} {heard : List IoEvent} {out : List ℕ} (s : FilmStream)
-    (client : HasCourse wish end (Some []) (Some heard) (Some []) (Some out)) → IsReceivedWhole s heard
-    → IsDecided end → (watched : Watched) × (end ≡ Done watched)
-comes_to_done s client received decided =
-    let told = told_bytes client in
-    ended_done s received.received.count client.mid client.rounds client.runs decided client.ends
-    (sym told ∙ received.received.front)
-    (λ none. not_waiting client.mid client.rounds s received.last received.others received.later client.runs
-    (sym (append-nil (rounds_heard client.rounds)) ∙ none ∙ sym told ∙ received.whole))
+module _ {wish : Wish} {end : WatchEnd} {heard : List IoEvent} {out : List ℕ} (s : FilmStream)
+    (client : HasCourse wish end (Some []) (Some heard) (Some []) (Some out)) where
+  pub refuses_nothing : IsReceived s heard → RefusesNothing end
+  refuses_nothing received =
+      ended s received.count client.mid client.rounds client.runs client.ends (sym (told_bytes client) ∙ received.front)
+
+  pub comes_to_done : IsReceivedWhole s heard → IsDecided end → (watched : Watched) × (end ≡ Done watched)
+  comes_to_done received decided =
+      let told = told_bytes client in
+      ended_done s received.received.count client.mid client.rounds client.runs decided client.ends
+      (sym told ∙ received.received.front)
+      (λ none. not_waiting client.mid client.rounds s received.last received.others received.later client.runs
+      (sym (append-nil (rounds_heard client.rounds)) ∙ none ∙ sym told ∙ received.whole))
 
 -- an entire film that a course played, with the clauses on its frames
 pub record IsServed (wish : Wish) (stored : Stored) (course : Course) : Type 0 where
@@ -305,8 +297,7 @@ module _ {wish : Wish} {stored : Stored} {course : Course} {end : WatchEnd} {hea
       → EndsWhole wish stored end out
   watched_done wished is client delivered decided carried =
       let done = comes_done is client delivered decided carried.front in
-      let W : WatchEnd → Type 0 = λ e.
-      (its : HasCourse wish e (Some []) (Some heard) (Some []) (Some out))
+      let W : WatchEnd → Type 0 = λ e. (its : HasCourse wish e (Some []) (Some heard) (Some []) (Some out))
       → IsCarried (rounds_doings course.rounds) heard is.played.play.start (first_slot its.mid.history)
       → HasWatchedWhole wish stored done.0 out in
       let whole : W (Done done.0) = λ its there.
