@@ -62,8 +62,7 @@ answered_named {old} request named =
     let asking = keeps_named old.session heard.asking message heard.ask heard.hears named in
     let answered : HasValidIds replied.answered =
     named_as (answered_names heard.asking heard.ask outcome replied.answered heard.answered) asking in
-    subst (λ (s : Stage). HasValidIds s.session) (sym replied.new_is)
-    (named_as (replied_names replied.answered) answered)
+    rw replied.new_is (named_as (replied_names replied.answered) answered)
   where
     open request use {message, outcome, replied}
 

@@ -28,7 +28,7 @@ use Rattle.session.specs.declared.states.Awaited.TheVariants.{Nothing}
 use Rattle.session.specs.declared.states.State.{State}
 use Rattle.session.specs.declared.states.State.TheVariants.{Init, Ready, Playing, Stopping}
 use Rattle.session.specs.RequestSteps.{is_answered}
-use Rattle.connection_laws.proofs.TextPlaces.{AreLater, StandAt, from_lower, later_lower, over_at, due_then}
+use Rattle.connection_laws.proofs.TextPlaces.{AreLater, from_lower, later_lower, over_at, due_then}
 use Rattle.connection_laws.proofs.Slots.{state_after, waits_after}
 use Rattle.connection_laws.proofs.StationAnswers.{FinishesAs, NothingLeft, DoneHalted, nothing_left, ComesAs, BytesCame}
 use Rattle.connection_laws.proofs.StationAnswers.{SlotCame}
@@ -101,19 +101,14 @@ answered_move {old} {new} request stands =
     let reply = reply_move s after.waits sound in
     let first : GoesTo (point (sends_in old.session.state) old.session.heard None)
     (point (sends_in s.state) s.heard (Some s.heard)) (Asks asked outcome ∷ []) (old.session.heard ∷ []) [] =
-    subst (λ h. GoesTo (point (sends_in old.session.state) old.session.heard None)
-    (point (sends_in s.state) h (Some h)) (Asks asked outcome ∷ []) (old.session.heard ∷ []) [])
-    (sym after.heard) (turn_fits old.session s asked outcome turns) in
+    rw after.heard (turn_fits old.session s asked outcome turns) in
     let all : Move old.session (after_reply s) None (Asks asked outcome ∷ []) (old.session.heard ∷ [])
     (reply_parts s) = record {
       after = reply.after;
       held = reply.held;
       goes_on = goes_then first reply.goes_on;
     } in
-    subst (λ ps. Move old.session new.session None (Asks asked outcome ∷ []) (old.session.heard ∷ []) ps)
-    (sym replied.parts_are)
-    (subst (λ (n : Stage). Move old.session n.session None (Asks asked outcome ∷ []) (old.session.heard ∷ [])
-    (reply_parts s)) (sym replied.new_is) all)
+    rw (replied.parts_are, replied.new_is) all
   where
     open request use {outcome, replied}
 
@@ -122,7 +117,7 @@ module _ {s new : SessionState} {pending : Option ℕ} where
   pub still_move : {asked : Awaited} {outcome : Outcome} → new ≡ s → IsStill asked outcome → HeldIn pending s
       → Move s new pending (Asks asked outcome ∷ []) [] []
   still_move {asked} {outcome} same still held =
-      subst (λ n. Move s n pending (Asks asked outcome ∷ []) [] []) (sym same) (record {
+      rw same (record {
         after = pending;
         held = held;
         goes_on = record {
@@ -136,8 +131,7 @@ module _ {s new : SessionState} {pending : Option ℕ} where
       → Move s new pending (Asks s.awaited halt ∷ []) [] []
   rest_move rest held finishing =
       let none = nothing_left finishing rest in
-      subst (λ o. Move s new pending (Asks s.awaited o ∷ []) [] []) (sym none.1)
-      (still_move none.0 (unasked_still s.awaited) held)
+      rw none.1 (still_move none.0 (unasked_still s.awaited) held)
 
 -- a play that is done: no reply is held up, and it is halted with all that was sent
 done_unheld : {p : PacerState} {pending : Option ℕ} (waits : Bool) (heard : ℕ) → IsPacerState p → p.sent ≡ p.keep
@@ -158,10 +152,7 @@ done_fits {p} {heard} {asked} {placed} {askings} {end} {slots} {parts} on halt e
     record {
       from = fits.from;
       later = subst (λ ps. AreLater heard (ps ++ plays_of askings)) (sym none) fits.later;
-      stand = subst (λ k. StandAt p k None (plays_begun asked (Entered placed) askings ++ plays_of askings) end
-          slots parts) (sym kept)
-          (subst (λ ps. StandAt p halt.keep None (ps ++ plays_of askings) end slots parts) (sym none)
-          (over_at on (sym halt.sent) ends fits.from fits.later fits.stand));
+      stand = rw (kept, none) (over_at on (sym halt.sent) ends fits.from fits.later fits.stand);
     }
 
 module _ {s new : SessionState} {pending : Option ℕ} where
@@ -188,14 +179,7 @@ module _ {s new : SessionState} {pending : Option ℕ} where
       record {
         after = None;
         held = later;
-        goes_on = subst (λ o. GoesTo (point (sends_in s.state) s.heard o) (point (sends_in new.state) new.heard None)
-            (Asks s.awaited (Entered placed) ∷ []) [] []) (sym none)
-            (subst (λ x. GoesTo (point x s.heard None) (point (sends_in new.state) new.heard None)
-            (Asks s.awaited (Entered placed) ∷ []) [] []) (sym (ap sends_in is))
-            (subst (λ x. GoesTo (point (Going p) s.heard None) (point x new.heard None)
-            (Asks s.awaited (Entered placed) ∷ []) [] []) (sym sends)
-            (subst (λ h. GoesTo (point (Going p) s.heard None) (point Idle h None)
-            (Asks s.awaited (Entered placed) ∷ []) [] []) (sym heard) goes)));
+        goes_on = rw (none, ap sends_in is, sends, heard) goes;
       }
     where
       open finished use {play, state_is as is, on, done, asks}
@@ -237,10 +221,7 @@ idle_move old slot pending held none later =
     record {
       after = None;
       held = waits;
-      goes_on = subst (λ o. GoesTo (point (sends_in old.state) old.heard o) (point (sends_in old.state) slot None) []
-          [] []) (sym idle.0)
-          (subst (λ s. GoesTo (point s old.heard None) (point s slot None) [] [] []) (sym idle.1)
-          (idle_later old.heard slot (omega (arith, later))));
+      goes_on = rw (idle.0, idle.1) (idle_later old.heard slot (omega (arith, later)));
     }
 
 module _ {old new : SessionState} {halt : Outcome} {pending : Option ℕ} where
@@ -254,20 +235,13 @@ module _ {old new : SessionState} {halt : Outcome} {pending : Option ℕ} where
       let state : s.state ≡ state_after old.waits old.state slot = reply_state goes due in
       let heard : s.heard ≡ slot = reply_heard goes due in
       let waits : s.waits ≡ waits_after old.waits old.state slot = reply_waits goes due in
-      let slots = slot_moves sending standing.stands.sound later standing.held in
+      let slots = slot_moves {text = old.text} sending standing.stands.sound later standing.held in
       let there : HeldIn slots.after s =
-      subst (λ st. IsHeld slots.after (sends_in st) s.waits s.heard) (sym state)
-      (subst (λ w. IsHeld slots.after (sends_in (state_after old.waits old.state slot)) w s.heard) (sym waits)
-      (subst (λ h. IsHeld slots.after (sends_in (state_after old.waits old.state slot))
-      (waits_after old.waits old.state slot) h) (sym heard) slots.held)) in
+      rw (state, waits, heard) slots.held in
       let first : Move old s pending [] [] (due_parts old slot) = record {
         after = slots.after;
         held = there;
-        goes_on = subst (λ st. GoesTo (point (sends_in old.state) old.heard pending)
-            (point (sends_in st) s.heard slots.after) [] [] (due_parts old slot)) (sym state)
-            (subst (λ h. GoesTo (point (sends_in old.state) old.heard pending)
-            (point (sends_in (state_after old.waits old.state slot)) h slots.after) [] []
-            (due_parts old slot)) (sym heard) slots.goes_on);
+        goes_on = rw (state, heard) slots.goes_on;
       } in
       let second = finished_move (sent_over old slot standing.stands sending later) refl there finishing in
       subst (λ ps. Move old new pending (Asks s.awaited halt ∷ []) [] ps) (append-nil (due_parts old slot))
@@ -310,9 +284,7 @@ moves_kept = record {
   request = λ old new request stands pending held.
       let piece = request_piece request in
       let replied = request.replied in
-      subst (λ o. Move old.session new.session o piece.askings piece.slots piece.parts)
-      (sym (unheld pending (sends_in old.session.state) old.session.waits old.session.heard held replied.next.replied))
-      (answered_move request stands);
+      rw ((unheld pending (sends_in old.session.state) old.session.waits old.session.heard held replied.next.replied)) (answered_move request stands);
   event = λ old opened event due halt comes stands pending held.
       comes_move comes (record { stands = stands; held = held });
 }

@@ -62,8 +62,7 @@ module _ {R : SessionState → List StationCall → SessionState → Type 0} (ke
       → ComesAs old opened event due halt
       → R old.session (station_call (asking_at old.session event) halt ∷ []) opened.session
   came {old} (BytesCame is) =
-      subst (λ (s : Stage). R old.session (station_call old.session Unasked ∷ []) s.session) (sym is)
-      (kept.bytes old.session)
+      rw is (kept.bytes old.session)
   came {old} {opened} (SlotCame {slot = slot} {halt = halt} finish) =
       let s : SessionState = after_slot old.session slot in
       kept.joins old.session s opened.session [] (station_call s halt ∷ []) (kept.slot old.session slot)

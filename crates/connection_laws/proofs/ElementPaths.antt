@@ -132,8 +132,7 @@ pub join_answers : (xs ys : List Element) → elements_answers (xs ++ ys) ≡ el
 join_answers [] ys = refl
 join_answers (Over n ∷ xs) ys = join_answers xs ys
 join_answers (RequestElement turn ∷ xs) ys =
-    ap (λ os. answer_in turn.outcome ++ os) (join_answers xs ys)
-    ∙ sym (append_assoc (answer_in turn.outcome) (elements_answers xs) (elements_answers ys))
+    rw (join_answers xs ys, append_assoc (answer_in turn.outcome) (elements_answers xs) (elements_answers ys))
 
 pub join_hearings : (xs ys : List Element) → elements_hearings (xs ++ ys) ≡ elements_hearings xs ++ elements_hearings ys
 join_hearings [] ys = refl

@@ -36,9 +36,7 @@ front_after xs front ys is = (
 
 bytes_append : (xs ys : List Round) → rounds_bytes (xs ++ ys) ≡ rounds_bytes xs ++ rounds_bytes ys
 bytes_append [] ys = refl
-bytes_append (x ∷ xs) ys =
-    ap (λ bs. round_bytes x ++ bs) (bytes_append xs ys)
-    ∙ sym (append_assoc (round_bytes x) (rounds_bytes xs) (rounds_bytes ys))
+bytes_append (x ∷ xs) ys = rw (bytes_append xs ys, append_assoc (round_bytes x) (rounds_bytes xs) (rounds_bytes ys))
 
 -- ---- one event more
 cut_short : (course : Course) (round : Round) (new : Stage) (sent : List ℕ) → Runs course.last round new

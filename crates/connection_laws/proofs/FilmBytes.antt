@@ -1,7 +1,7 @@
 -- What a connection writes of films, event by event, is what is due of its plays.
 use Rattle.std.proofs.lemmas.List.{append_assoc, append-nil}
 use Rattle.std.proofs.Common.{◌≡◌, ℕ, ◌^◌, ◌<◌, ◌≤◌, ◌++◌, ◌&&◌, ◌==◌, if◌then◌else◌, Bool, true, false, nat_lt, nat_le}
-use Rattle.std.proofs.Common.{List, [], ◌∷◌, take, refl, ap, sym, ◌∙◌, subst, arith}
+use Rattle.std.proofs.Common.{List, [], ◌∷◌, refl, ap, sym, ◌∙◌, subst, arith}
 use Rattle.conn.proofs.PlayProgress.{reply_state, reply_heard}
 use Rattle.std.proofs.lemmas.Bool.{eqb-true, ltb-true, true≢false, and_parts}
 use Rattle.vod_base.specs.Links.{IoEvent}
@@ -27,8 +27,8 @@ use Rattle.connection_laws.specs.Courses.{IsCourseBetween, asked_by, askings_of,
 use Rattle.connection_laws.specs.Courses.{course_plays, course_film}
 use Rattle.connection_laws.specs.Plays.{StationRequest, Asks, plays_admitted, plays_begun, kept_by, kept_in, kept_with}
 use Rattle.connection_laws.specs.Plays.{plays_of, AreOver}
-use Rattle.connection_laws.proofs.JoinedFilms.{IsFilm, IsOnTime, IsRest, IsSound, film_in, film_over, play_with}
-use Rattle.connection_laws.proofs.JoinedFilms.{film_is, film_over_all, rest_none}
+use Rattle.connection_laws.proofs.JoinedFilms.{IsFilm, IsOnTime, IsRest, IsSound, film_over, film_is, film_over_all}
+use Rattle.connection_laws.proofs.JoinedFilms.{rest_none}
 use Rattle.connection_laws.proofs.Slots.{reply_on, same_on, slot_goes, state_after, waits_after}
 use Rattle.connection_laws.proofs.FilmSteps.{GoesOn, sound_waits, still_rest, turn_goes}
 use Rattle.connection_laws.proofs.RequestEffects.{Ends, Going, Idle, IsAfter, Starts, Stays, TurnsAs, sends_in}
@@ -64,9 +64,7 @@ on_then a b c {made} {more} {film} {bytes} one two = record {
   rest = λ askings end tail on is.
       let there = one.rest (more ++ askings) end (bytes ++ tail) (omega (arith, two.later, on))
       (two.rest askings end tail on is) in
-      subst (λ all. IsRest (sends_in a.state) all end ((film ++ bytes) ++ tail)) (sym (append_assoc made more askings))
-      (subst (λ bs. IsRest (sends_in a.state) (made ++ (more ++ askings)) end bs) (sym (append_assoc film bytes tail))
-      there);
+      rw (append_assoc made more askings, append_assoc film bytes tail) there;
 }
 
 pub step_then : {a b c : SessionState} {made more : List StationRequest} {film bytes : List ℕ} → Step a b made film
@@ -96,10 +94,7 @@ turn_step old new asked outcome stands turns =
     (sound_waits (sends_in old.state) old.waits true old.heard stands.sound refl) turns in
     record {
       rest = after.awaited;
-      on = subst (λ h. GoesOn (sends_in old.state) (sends_in new.state) old.heard h new.waits
-          (Asks asked outcome ∷ []) []) (sym after.heard)
-          (subst (λ w. GoesOn (sends_in old.state) (sends_in new.state) old.heard old.heard w
-          (Asks asked outcome ∷ []) []) (sym after.waits) on);
+      on = rw (after.heard, after.waits) on;
     }
 
 reply_is : (goes : Bool) (s : SessionState) → (goes ≡ true → is_between s.state ≡ true) → Stands s
@@ -125,8 +120,7 @@ answered_step {old} request stands =
     turn_step old.session replied.answered asked outcome stands turns in
     let two : Step replied.answered (after_reply replied.answered) [] [] =
     reply_step replied.answered (stands_by one) in
-    subst (λ (s : Stage). Step old.session s.session (Asks asked outcome ∷ []) []) (sym replied.new_is)
-    (step_then one two)
+    rw replied.new_is (step_then one two)
   where
     open request use {outcome, replied}
 
@@ -183,10 +177,7 @@ done_rest {p} {asked = asked} {end} {placed} askings more on halt later is =
     ap (λ c. kept_by c (kept_in askings (total_bytes p.plan))) halt.command in
     let none : plays_begun asked (Entered placed) askings ≡ [] =
     ap (λ a. plays_admitted a placed.entry.answer askings) halt.asks in
-    subst (λ k. IsFilm end (play_with p k ∷ (plays_begun asked (Entered placed) askings ++ plays_of askings))
-    (take p.sent (film_in p) ++ more)) (sym kept)
-    (subst (λ ps. IsFilm end (play_with p halt.keep ∷ (ps ++ plays_of askings)) (take p.sent (film_in p) ++ more)) (sym none)
-    (film_over (plays_of askings) more on (sym halt.sent) later is))
+    rw (kept, none) (film_over (plays_of askings) more on (sym halt.sent) later is)
 
 pub halted_idle : {s : SessionState} {keep : ℕ} → DonePlay s keep → sends_in (halted_in s.state s.awaited) ≡ Idle
 halted_idle {s} finished =
@@ -239,19 +230,14 @@ done_step {s} {new} {placed = placed} finished halted =
     } in
     record {
       rest = ap (λ (n : SessionState). n.awaited) halted.halts;
-      on = subst (λ x. GoesOn x (sends_in new.state) s.heard new.heard new.waits
-          (Asks s.awaited (Entered placed) ∷ []) []) (sym (ap sends_in state_is))
-          (subst (λ x. GoesOn (Going p) x s.heard new.heard new.waits (Asks s.awaited (Entered placed) ∷ [])
-          []) (sym sends)
-          (subst (λ h. GoesOn (Going p) Idle s.heard h new.waits (Asks s.awaited (Entered placed) ∷ []) [])
-          (sym heard) goes));
+      on = rw (ap sends_in state_is, sends, heard) goes;
     }
   where
     open finished use {play, state_is, on}
 
 -- nothing is asked
 same_step : (s new : SessionState) → Stands s → new ≡ s → Step s new (Asks s.awaited Unasked ∷ []) []
-same_step s new stands same = subst (λ n. Step s n (Asks s.awaited Unasked ∷ []) []) (sym same) (record {
+same_step s new stands same = rw same (record {
   rest = stands.rest;
   on = record {
     sound = stands.sound;
@@ -300,13 +286,7 @@ sent_on old slot stands sending later =
     let state : s.state ≡ state_after old.waits old.state slot = reply_state goes due in
     let heard : s.heard ≡ slot = reply_heard goes due in
     let waits : s.waits ≡ waits_after old.waits old.state slot = reply_waits goes due in
-    subst (λ st. GoesOn (sends_in old.state) (sends_in st) old.heard s.heard s.waits []
-    (film_bytes (due_parts old slot))) (sym state)
-    (subst (λ h. GoesOn (sends_in old.state) (sends_in (state_after old.waits old.state slot)) old.heard h
-    s.waits [] (film_bytes (due_parts old slot))) (sym heard)
-    (subst (λ w. GoesOn (sends_in old.state) (sends_in (state_after old.waits old.state slot)) old.heard slot w
-    [] (film_bytes (due_parts old slot))) (sym waits)
-    (slot_goes old.state old.waits old.text sending stands.sound later)))
+    rw (state, heard, waits) (slot_goes old.state old.waits old.text sending stands.sound later)
 
 -- a slot's end, once what is due was sent
 pub sent_over : (old : SessionState) (slot : ℕ) → Stands old → is_sending old.state ≡ true → old.heard < slot
@@ -370,8 +350,7 @@ comes_step : {old opened : Stage} {event : IoEvent} {due : List SentPart} {halt 
     → ComesAs old opened event due halt → Stands old.session
     → Step old.session opened.session (Asks (asked_by old.session event) halt ∷ []) (film_bytes due)
 comes_step {old} (BytesCame is) stands =
-    subst (λ (s : Stage). Step old.session s.session (Asks Nothing Unasked ∷ []) []) (sym is)
-    (subst (λ a. Step old.session old.session (Asks a Unasked ∷ []) []) stands.rest
+    rw is (subst (λ a. Step old.session old.session (Asks a Unasked ∷ []) []) stands.rest
     (same_step old.session old.session stands refl))
 comes_step {old} (SlotCame {slot = slot} finish) stands = slot_step old.session slot stands finish
 

@@ -1,6 +1,6 @@
 -- What each doing of a connection makes of what is sent of films.
-use Rattle.std.proofs.Common.{◌≡◌, ℕ, ◌+◌, ◌<◌, ◌≤◌, ◌++◌, Bool, true, List, [], ◌∷◌, length, take, refl, ap, sym, ◌∙◌}
-use Rattle.std.proofs.Common.{subst, arith}
+use Rattle.std.proofs.Common.{◌≡◌, ℕ, ◌+◌, ◌<◌, ◌≤◌, ◌++◌, Bool, true, List, [], ◌∷◌, length, refl, ap, sym, ◌∙◌, subst}
+use Rattle.std.proofs.Common.{arith}
 use Rattle.film_frames.specs.FramedRuns.{run_pieces}
 use Rattle.film_frames.specs.Tracks.{IsBoundary, framed_bytes}
 use Rattle.pacer.specs.Boundaries.{boundary_from}
@@ -17,7 +17,7 @@ use Rattle.conn.specs.InputSteps.{Outcome}
 use Rattle.pacer.proofs.SlotStepLemmas.{most-slots}
 use Rattle.connection_laws.specs.Plays.{StationRequest, Asks, plays_admitted, plays_begun, kept_by, kept_in, kept_with}
 use Rattle.connection_laws.specs.Plays.{plays_of}
-use Rattle.connection_laws.proofs.JoinedFilms.{IsFilm, IsRest, IsSound, film_in, play_with}
+use Rattle.connection_laws.proofs.JoinedFilms.{IsFilm, IsRest, IsSound, play_with}
 use Rattle.connection_laws.proofs.RequestEffects.{Begins, Ends, Ending, Going, Halts, Idle, IsStill, Sends, Starts}
 use Rattle.connection_laws.proofs.RequestEffects.{Stays, TurnsAs, pacing_for, sends_in}
 
@@ -34,16 +34,11 @@ pub still_rest : {asked : Awaited} {outcome : Outcome} (sends : Sends) (askings 
     (more : List ℕ) → IsStill asked outcome
     → IsRest sends askings end more → IsRest sends (Asks asked outcome ∷ askings) end more
 still_rest Idle askings end more still is =
-    subst (λ ps. IsFilm end (ps ++ plays_of askings) more) (sym (still.none askings)) is
+    rw (still.none askings) is
 still_rest {outcome} (Going p) askings end more still is =
-    subst (λ ps. IsFilm end
-    (play_with p (kept_with outcome (kept_in askings (total_bytes p.plan))) ∷ (ps ++ plays_of askings))
-    (take p.sent (film_in p) ++ more)) (sym (still.none askings))
-    (subst (λ k. IsFilm end (play_with p k ∷ plays_of askings) (take p.sent (film_in p) ++ more))
-    (sym (still.kept (kept_in askings (total_bytes p.plan)))) is)
+    rw (still.none askings, still.kept (kept_in askings (total_bytes p.plan))) is
 still_rest (Ending p) askings end more still is =
-    subst (λ ps. IsFilm end (play_with p p.keep ∷ (ps ++ plays_of askings)) (take p.sent (film_in p) ++ more))
-    (sym (still.none askings)) is
+    rw (still.none askings) is
 
 pub sound_waits : (sends : Sends) (old new : Bool) (slot : ℕ) → IsSound sends old slot → (new ≡ true)
     → IsSound sends new slot
@@ -106,8 +101,7 @@ begin_rest {new} {asked} {outcome} {more} begins askings end is =
     ap (λ o. plays_begun asked o askings) begins.outcome_is
     ∙ ap (λ a. plays_admitted a begins.placed.entry.answer askings) begins.asked_is
     ∙ ap (λ a. plays_admitted (Play begins.prepared) a askings) begins.answer in
-    subst (λ ps. IsFilm end (ps ++ plays_of askings) more) (sym made)
-    (begin_film begins.prepared begins.start askings end begins.paced is)
+    rw made (begin_film begins.prepared begins.start askings end begins.paced is)
 
 -- a play is halted at the next boundary
 halted_pacing : (p : PacerState) (slot : ℕ) → IsSound (Going p) true slot
@@ -149,10 +143,7 @@ halt_rest {new} {asked} {outcome} halts askings end more is =
     let kept : kept_with outcome (kept_in askings (total_bytes p.plan)) ≡ next_boundary p =
     ap (λ o. kept_with o (kept_in askings (total_bytes p.plan))) halts.outcome_is
     ∙ ap (λ c. kept_by c (kept_in askings (total_bytes p.plan))) halts.command in
-    subst (λ k. IsFilm end (play_with p k ∷ (plays_begun asked outcome askings ++ plays_of askings))
-    (take p.sent (film_in p) ++ more)) (sym kept)
-    (subst (λ ps. IsFilm end (play_with p (next_boundary p) ∷ (ps ++ plays_of askings))
-    (take p.sent (film_in p) ++ more)) (sym (halts.none askings)) is)
+    rw (kept, halts.none askings) is
 
 -- a request and its answer
 pub turn_goes : (old new : SessionState) (asked : Awaited) (outcome : Outcome)
@@ -178,17 +169,14 @@ turn_goes old new asked outcome sound (Starts after begins) =
       sound = subst (λ s. IsSound s true old.heard) (sym begins.sends) sounds;
       later = omega arith;
       rest = λ askings end more on is.
-          subst (λ s. IsRest s (Asks asked outcome ∷ askings) end more) (sym begins.idle)
-          (begin_rest begins askings end (subst (λ s. IsRest s askings end more) begins.sends is));
+          rw begins.idle (begin_rest begins askings end (subst (λ s. IsRest s askings end more) begins.sends is));
     }
 turn_goes old new asked outcome sound (Ends after halts) =
     let p : PacerState = halts.pacing in
     let stops : PacerState = record p { keep = next_boundary p } in
     record {
-      sound = subst (λ s. IsSound s true old.heard) (sym halts.sends)
-          (halted_pacing p old.heard (subst (λ s. IsSound s true old.heard) halts.going sound));
+      sound = rw halts.sends (halted_pacing p old.heard (subst (λ s. IsSound s true old.heard) halts.going sound));
       later = omega arith;
       rest = λ askings end more on is.
-          subst (λ s. IsRest s (Asks asked outcome ∷ askings) end more) (sym halts.going)
-          (halt_rest halts askings end more (subst (λ s. IsRest s askings end more) halts.sends is));
+          rw halts.going (halt_rest halts askings end more (subst (λ s. IsRest s askings end more) halts.sends is));
     }

@@ -125,9 +125,7 @@ elements_join xs ys one two =
 
 answers_append : (xs ys : List Outcome) → answers_in (xs ++ ys) ≡ answers_in xs ++ answers_in ys
 answers_append [] ys = refl
-answers_append (x ∷ xs) ys =
-    ap (λ os. answer_in x ++ os) (answers_append xs ys)
-    ∙ sym (append_assoc (answer_in x) (answers_in xs) (answers_in ys))
+answers_append (x ∷ xs) ys = rw (answers_append xs ys, append_assoc (answer_in x) (answers_in xs) (answers_in ys))
 
 -- a course from a place on: the bytes that came before the next slot, and then slot after slot
 record Split (base new : Stage) (all : Exchange) : Type 0 where
@@ -233,8 +231,7 @@ module _ {base cur mid new : Stage} {all : Exchange} where
   event_split {event = HeardBytes bytes} front taken done later =
       let S : List SentPart → Outcome → Type 0 = λ ps o. Split base new (joined (front_exchange front)
       (joined (event_exchange (HeardBytes bytes) ps o) (joined (elements_exchange [] taken.elements) all))) in
-      subst (λ ps. S ps taken.halt) (sym taken.comes.0)
-      (subst (S []) (sym taken.comes.1) (bytes_split front taken later))
+      rw taken.comes.0 (subst (S []) (sym taken.comes.1) (bytes_split front taken later))
   event_split {event = HeardSlot slot} front taken done later = slot_split front taken done later
   event_split front taken done later = absurd taken.comes
 

@@ -363,8 +363,7 @@ module _ {b : Beginning} {out : Outlook} {slot : ℕ} {later : Later} {old new :
       let mine = play_whole turn whole turns in
       let begun = play_read turn is.named mine turns in
       let own : IsNamed b mid.session =
-      subst (λ (s : Stage). IsNamed b s.session) (sym replied.new_is)
-      (named_still (replied_setup replied.answered) begun.own) in
+      rw replied.new_is (named_still (replied_setup replied.answered) begun.own) in
       let next = takings_torn {b = b} mid new takings takes
       (record { named = answered_named request is.named; own = own; teardowns = cut.0 }) in
       let after = whole_later {b = b} later.replies next (λ named still. leads.torn named still cut.1) in

@@ -40,7 +40,7 @@ use Rattle.session.specs.SlotSteps.{is_sending, is_done_in, is_taken, sent_due, 
 use Rattle.session.specs.SlotTransitions.{after_stop}
 use Rattle.session_laws.proofs.RunLemmas.{IsLeftBy, IsNextRun, RunsAs, Replies, SetsUp, AsksPlay, Stops, AsksLook}
 use Rattle.session_laws.proofs.RunLemmas.{AsksOffer, one_film, run_goes_on, runs_as}
-use Rattle.conn.specs.InputSteps.{Outcome, Unasked, Entered, WasFull, Offered, SentPart, Stage, IsHaltAnswered}
+use Rattle.conn.specs.InputSteps.{Outcome, Unasked, Entered, SentPart, Stage, IsHaltAnswered}
 use Rattle.connection_laws.specs.Courses.{Course, asked_by, askings_of, course_plays, first_stage}
 use Rattle.connection_laws.specs.Plays.{FilmPlay, StationRequest, Asks, kept_by, kept_in, kept_with, plays_admitted}
 use Rattle.connection_laws.specs.Plays.{plays_begun, plays_of}
@@ -194,8 +194,7 @@ module _ (words : List ℕ) where
   still : {old new : SessionState} {asked : Awaited} {outcome : Outcome} → IsQuiet asked outcome
       → new.looks_left ≡ old.looks_left - look_in asked → Moves old new → Leads old new (Asks asked outcome ∷ [])
   still {old} {asked} {outcome} stays looks move = record {
-    on = λ later follows last is. subst (λ plays. AreRunsInOrder words last (plays ++ plays_of later))
-        (sym (stays.none later)) (follows last (move (kept_in later) last
+    on = λ later follows last is. rw (stays.none later) (follows last (move (kept_in later) last
         (same_kept (standing old (λ k. kept_with outcome (kept_in later k)) last) (kept_in later) old.state
         (λ k. stays.kept (kept_in later k)) is)));
     looks = looks ∙ ap (λ n. old.looks_left - n) (sym (plus_none (look_in asked)));
@@ -264,9 +263,7 @@ module _ (words : List ℕ) where
       let done : Option Stored → Stream = λ found. record stream {
         counts = counts_done stream.source stream.counts setup run keep found;
       } in
-      subst (λ found. IsFresh words (done found) setup last) (sym way.at)
-      (subst (λ l. IsFresh words (done (Some way.stored)) setup l) (sym way.place)
-      (record { before = stream.counts; identity = refl; counts = refl }))
+      rw (way.at, way.place) (record { before = stream.counts; identity = refl; counts = refl })
 
   abbrev Halts : SessionState → ℕ → PlacedEntry → SessionState → Type 0
   Halts s keep placed new = IsHaltAnswered s keep placed new → Leads s new (Asks s.awaited (Entered placed) ∷ [])
@@ -296,7 +293,7 @@ module _ (words : List ℕ) where
         → Halts (record s { state = Playing setup play; awaited = Halt keep next }) keep placed new
     halts next placed new left halted =
         let asking : SessionState = record s { state = Playing setup play; awaited = Halt keep next } in
-        subst (λ n. Leads asking n (Asks (Halt keep next) (Entered placed) ∷ [])) (sym halted.halts) (record {
+        rw halted.halts (record {
           on = λ later follows last is. follows last (halt_state placed.place next (kept_in later) last
               left (subst (λ c. IsUnderWay (stream_of s) setup play.run
               (play.run.sent + kept_by c (kept_in later (total_bytes play.plan))) last) halted.command is));
@@ -306,9 +303,7 @@ module _ (words : List ℕ) where
     halts_in : (next : AfterHalt) (placed : PlacedEntry) (new : SessionState) → s.state ≡ Playing setup play → s.awaited ≡ Halt keep next → IsLeftBy play.run keep next
         → Halts s keep placed new
     halts_in next placed new state awaited left =
-        subst (λ a. Halts (record s { awaited = a }) keep placed new) (sym awaited)
-        (subst (λ st. Halts (record s { state = st; awaited = Halt keep next }) keep placed new) (sym state)
-        (halts next placed new left))
+        rw (awaited, state) (halts next placed new left)
 
   -- a slot asks for nothing, or halts a play that is done
   record IsDone (state : State) (awaited : Awaited) : Type 0 where
@@ -343,8 +338,7 @@ module _ (words : List ℕ) where
   finishes : {awaited : Awaited} {halt : Outcome} (s new : SessionState) → AsksIn s.state s.awaited
       → s.awaited ≡ awaited → FinishesAs s new awaited halt → Leads s new (Asks s.awaited halt ∷ [])
   finishes s new asks is (NothingLeft same) =
-      subst (λ n. Leads s n (Asks s.awaited Unasked ∷ [])) (sym same)
-      (still (unasked_quiet s.awaited) (none_asked s.looks_left s.awaited is) (moves_none s))
+      rw same (still (unasked_quiet s.awaited) (none_asked s.looks_left s.awaited is) (moves_none s))
   finishes s new (inl rest) is (DoneHalted {keep = keep} {next = next} halted) =
       let no : Nothing ≡ Halt keep next = sym rest ∙ is in absurd (let clash : ⊥ = cc in clash)
   finishes s new (inr done) is (DoneHalted {keep = keep} {next = next} {placed = placed} halted) =
@@ -357,8 +351,7 @@ module _ (words : List ℕ) where
       → ComesAs old opened event parts halt
       → Leads old.session opened.session (Asks (asked_by old.session event) halt ∷ [])
   comes_leads {old} stands (BytesCame is) =
-      subst (λ (t : Stage). Leads old.session t.session (Asks Nothing Unasked ∷ [])) (sym is)
-      (still (unasked_quiet Nothing) (sym (minus_none old.session.looks_left)) (moves_none old.session))
+      rw is (still (unasked_quiet Nothing) (sym (minus_none old.session.looks_left)) (moves_none old.session))
   comes_leads {old} {opened} stands (SlotCame {slot = slot} finish) =
       let s : SessionState = after_slot old.session slot in
       leads_then (moves (slot_looks old.session slot)
@@ -390,24 +383,20 @@ module _ (words : List ℕ) where
     replies : {outcome : Outcome} (asking new : SessionState) → asking.awaited ≡ Nothing
         → asking.looks_left ≡ old.looks_left → Moves old asking → Answers outcome new AskReply asking
     replies asking new rest looks move (NoneAsked answered) =
-        subst (λ n. Leads old n (Asks asking.awaited Unasked ∷ [])) (sym answered)
-        (still (unasked_quiet asking.awaited) (looks ∙ none_asked old.looks_left asking.awaited rest) move)
+        rw answered (still (unasked_quiet asking.awaited) (looks ∙ none_asked old.looks_left asking.awaited rest) move)
 
     looks_at : {outcome : Outcome} (sequence slot : ℕ) (new : SessionState)
         → Answers outcome new (AskLook slot) (record old { looks_left = old.looks_left - 1; awaited = Look sequence })
     looks_at sequence slot new (LookMade {placed = placed} is) =
-        subst (λ n. Leads old n (Asks (Look sequence) (Entered placed) ∷ [])) (sym is.new_is)
-        (still (record { none = λ later. refl; kept = λ k. ap (λ c. kept_by c k) is.command }) refl
+        rw is.new_is (still (record { none = λ later. refl; kept = λ k. ap (λ c. kept_by c k) is.command }) refl
         (waiting old.tearing))
     looks_at sequence slot new (LookFull {more = more} {entries = entries} {live = live} is) =
-        subst (λ n. Leads old n (Asks (Look sequence) (WasFull more entries live) ∷ [])) (sym is)
-        (still (record { none = λ later. refl; kept = λ k. refl }) refl (waiting old.tearing))
+        rw is (still (record { none = λ later. refl; kept = λ k. refl }) refl (waiting old.tearing))
 
     offers_of : {outcome : Outcome} (plan : List Segment) (offers : Offers) (sequence : ℕ) (new : SessionState)
         → Answers outcome new (AskOffer plan offers) (record old { awaited = Offer sequence })
     offers_of plan offers sequence new (OfferMade {at_slot = at_slot} {note = note} is) =
-        subst (λ n. Leads old n (Asks (Offer sequence) (Offered at_slot note) ∷ [])) (sym is)
-        (still (record { none = λ later. refl; kept = λ k. refl }) (sym (minus_none old.looks_left))
+        rw is (still (record { none = λ later. refl; kept = λ k. refl }) (sym (minus_none old.looks_left))
         (waiting old.tearing))
 
     -- ---- a play
@@ -443,13 +432,11 @@ module _ (words : List ℕ) where
         → IsFresh words (stream_of old) setup last → Next stored setup last old.counts run
     new_next stored setup None run sent fresh play before = (
       before ∙ sent,
-      subst (λ s. IsFirstRun words (identity_of s setup old.counts)) (sym fresh.1)
-          (subst (λ c. IsFirstRun words (identity_of (source_of words) setup c)) (sym fresh.0) (first_identity setup)),
+      rw (fresh.1, fresh.0) (first_identity setup),
     )
     new_next stored setup (Some last) run sent fresh play before = inr (
       before ∙ sent,
-      subst (λ c. IsLaterRun last (identity_of old.source setup c)) (sym fresh.counts)
-          (later_identity last old.source setup fresh.before fresh.identity),
+      rw fresh.counts (later_identity last old.source setup fresh.before fresh.identity),
     )
 
     rest_next : (stored : Stored) (setup : Setup) (paused : Option Run) (last : Option RunPlace) (run : Run)
@@ -462,9 +449,7 @@ module _ (words : List ℕ) where
         let place : last ≡ Some (run_place sending paused.sent) =
         one_film old.films setup.film rest.stored (λ s. last ≡ Some (run_place
         (sending_of s.film old.source setup old.counts paused) paused.sent)) rest.at rest.place stored at in
-        subst (λ l. SendsNext words l (sending_of stored.film old.source setup
-        (counts_after old.counts sending paused.sent) run) play) (sym place)
-        (inr (before ∙ sent, later_identity (run_place sending paused.sent) old.source setup old.counts refl))
+        rw place (inr (before ∙ sent, later_identity (run_place sending paused.sent) old.source setup old.counts refl))
 
     resumed_next : (stored : Stored) (setup : Setup) (last : Option RunPlace) (run : Run)
         → IsFilmAt old.films setup.film stored → IsUnderWay (stream_of old) setup run run.sent last
@@ -480,11 +465,10 @@ module _ (words : List ℕ) where
         (counts : Counts) → IsFilmAt old.films setup.film stored → IsAtRest words paused (stream_of old) setup last
         → IsNextRun old stored setup paused run counts → Next stored setup last counts run
     next_run stored setup paused last run counts at rest (inl resumed) =
-        subst (λ c. Next stored setup last c run) (sym resumed.counts_are) (resumed_next stored setup last run at
+        rw resumed.counts_are (resumed_next stored setup last run at
         (subst (λ p. IsAtRest words p (stream_of old) setup last) resumed.paused_is rest))
     next_run stored setup paused last run counts at rest (inr begun) =
-        subst (λ c. Next stored setup last c run) (sym begun.counts_are)
-        (rest_next stored setup paused last run at begun.none_sent rest)
+        rw begun.counts_are (rest_next stored setup paused last run at begun.none_sent rest)
 
     abbrev asking_for : Prepared → List ℕ → SessionState
     asking_for prepared text = record old { awaited = Play prepared; text = text }
@@ -544,14 +528,12 @@ module _ (words : List ℕ) where
           → Answers outcome new (AskPlay plan) (asking_for asked text)
       plays new (PlayAdmitted {placed = placed} is) = admitted new placed is.start is.answer is.new_is
       plays new (PlayRefused {placed = placed} is) =
-          subst (λ n. Leads old n (Asks (Play asked) (Entered placed) ∷ [])) (sym is.new_is)
-          (still (record {
+          rw is.new_is (still (record {
             none = λ later. ap (λ a. plays_admitted (Play asked) a later) is.answer;
             kept = λ k. ap (λ c. kept_by c k) is.command;
           }) (sym (minus_none old.looks_left)) (waiting old.tearing))
       plays new (PlayFull {more = more} {entries = entries} {live = live} is) =
-          subst (λ n. Leads old n (Asks (Play asked) (WasFull more entries live) ∷ [])) (sym is)
-          (still (record { none = λ later. refl; kept = λ k. refl }) (sym (minus_none old.looks_left))
+          rw is (still (record { none = λ later. refl; kept = λ k. refl }) (sym (minus_none old.looks_left))
           (waiting old.tearing))
 
     -- ---- by what a message comes to
@@ -561,10 +543,7 @@ module _ (words : List ℕ) where
     set_up new setup init state stream kept last was =
         let first : (last ≡ None) × (old.counts ≡ nothing_sent) × (old.source ≡ source_of words) =
         subst (λ st. IsLastIn words st (stream_of old) (flags_of old) kept last) init was in
-        subst (λ st. IsLastIn words st (stream_of new) (flags_of new) kept last) (sym state)
-        (subst (λ s. IsLastIn words (Ready setup None) s (flags_of new) kept last) (sym stream)
-        (subst (λ l. IsLastIn words (Ready setup None) (stream_of old) (flags_of new) kept l) (sym first.0)
-        (inr (first.1, first.2))))
+        rw (state, stream, first.0) (inr (first.1, first.2))
 
     -- a halt keeps what was sent up to a boundary
     halt_asked : {outcome : Outcome} (setup : Setup) (play : Played) (keep : ℕ) (next : AfterHalt) (text : List ℕ)
@@ -589,8 +568,7 @@ module _ (words : List ℕ) where
     to : (outcome : Outcome) (new : SessionState) {ask command : Ask} {asking is : SessionState} → ask ≡ command
         → asking ≡ is → Answers outcome new command is → Answers outcome new ask asking
     to outcome new {ask} {command} {asking} {is} ask_is asking_is answers =
-        subst (λ a. Answers outcome new a asking) (sym ask_is)
-        (subst (λ s. Answers outcome new command s) (sym asking_is) answers)
+        rw (ask_is, asking_is) answers
 
     message_leads : (ask : Ask) (asking new : SessionState) (outcome : Outcome) → old.awaited ≡ Nothing
         → RunsAs old ask asking → Answers outcome new ask asking
@@ -621,8 +599,7 @@ module _ (words : List ℕ) where
       message_leads old.session replied.next.replied replied.next.torn heard.ask heard.asking replied.answered outcome
       stands.rest (runs_as old.session message heard.ask heard.asking stands.rest heard.hears)
       (answers_as heard.ask outcome heard.answered) in
-      subst (λ (t : Stage). Leads old.session t.session made) (sym replied.new_is)
-      (leads_then one (moves
+      rw replied.new_is (leads_then one (moves
       (reply_keeps (λ (s : SessionState). s.looks_left) (λ s. refl) (can_reply replied.answered) replied.answered)
       (reply_moves (can_reply replied.answered) replied.answered)))
     where

@@ -32,14 +32,11 @@ record Logs (old new : SessionState) (outcomes : List Outcome) : Type 0 where
 
 receipts_append : (xs ys : List Outcome) → receipts_in (xs ++ ys) ≡ receipts_in xs ++ receipts_in ys
 receipts_append [] ys = refl
-receipts_append (x ∷ xs) ys =
-    ap (λ rs. receipt_in x ++ rs) (receipts_append xs ys)
-    ∙ sym (append_assoc (receipt_in x) (receipts_in xs) (receipts_in ys))
+receipts_append (x ∷ xs) ys = rw (receipts_append xs ys, append_assoc (receipt_in x) (receipts_in xs) (receipts_in ys))
 
 offers_append : (xs ys : List Outcome) → offers_in (xs ++ ys) ≡ offers_in xs ++ offers_in ys
 offers_append [] ys = refl
-offers_append (x ∷ xs) ys =
-    ap (λ os. offer_in x ++ os) (offers_append xs ys) ∙ sym (append_assoc (offer_in x) (offers_in xs) (offers_in ys))
+offers_append (x ∷ xs) ys = rw (offers_append xs ys, append_assoc (offer_in x) (offers_in xs) (offers_in ys))
 
 logs_then : {a b c : SessionState} {xs ys : List Outcome} → Logs a b xs → Logs b c ys → Logs a c (xs ++ ys)
 logs_then {a} {c} {xs} {ys} one two = record {

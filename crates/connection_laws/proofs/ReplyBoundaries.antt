@@ -53,15 +53,11 @@ module _ {asked : Awaited} {outcome : Outcome} where
     where
       open later use {askings, end, slots, parts}
   still_stand Idle (Some slot) later still stand =
-      subst (λ ps. AreSentAt end (ps ++ plays_of askings) (slot ∷ slots) (placed_texts 0 parts))
-      (sym (still.none askings)) stand
+      rw (still.none askings) stand
     where
       open later use {askings, end, slots, parts}
   still_stand (Going p) pending later still stand =
-      subst (λ ps. StandAt p (kept_with outcome (kept_in askings (total_bytes p.plan))) pending
-      (ps ++ plays_of askings) end slots parts) (sym (still.none askings))
-      (subst (λ k. StandAt p k pending (plays_of askings) end slots parts)
-      (sym (still.kept (kept_in askings (total_bytes p.plan)))) stand)
+      rw (still.none askings, still.kept (kept_in askings (total_bytes p.plan))) stand
     where
       open later use {askings, end, slots, parts}
   still_stand (Ending p) pending later still stand =
@@ -75,7 +71,7 @@ module _ {asked : Awaited} {outcome : Outcome} where
       (Asks asked outcome ∷ askings) end slots parts
   still_fits {sends} {heard} {pending} {askings} {end} {slots} {parts} still fits = record {
     from = fits.from;
-    later = subst (λ ps. AreLater heard (ps ++ plays_of askings)) (sym (still.none askings)) fits.later;
+    later = rw (still.none askings) fits.later;
     stand = still_stand sends pending (record { askings = askings; end = end; slots = slots; parts = parts })
         still fits.stand;
   }
@@ -143,15 +139,13 @@ module _ {old new : SessionState} {asked : Awaited} {outcome : Outcome} {askings
       let starts : IsBoundary p.pieces (p.before + 0) = subst (IsBoundary p.pieces) (omega arith) begins.pacing.begins in
       record {
         from = (omega arith, fits.from);
-        later = subst (λ ps. AreLater old.heard (ps ++ plays_of askings)) (sym made)
-            (record { starts = (begins.later, fits.later.starts); begins = inl (omega arith, starts) });
-        stand = subst (λ ps. AreSentAt end (ps ++ plays_of askings) (old.heard ∷ slots) (placed_texts 0 parts)) (sym made)
-            (begin_stand begins.prepared begins.start (record {
-              askings = askings;
-              end = end;
-              slots = old.heard ∷ slots;
-              parts = parts;
-            }) begins.paced fits.stand.sent);
+        later = rw made (record { starts = (begins.later, fits.later.starts); begins = inl (omega arith, starts) });
+        stand = rw made (begin_stand begins.prepared begins.start (record {
+          askings = askings;
+          end = end;
+          slots = old.heard ∷ slots;
+          parts = parts;
+        }) begins.paced fits.stand.sent);
       }
 
   halt_fits : (halts : Halts old asked outcome new)
@@ -168,10 +162,7 @@ module _ {old new : SessionState} {asked : Awaited} {outcome : Outcome} {askings
       record {
         from = (omega arith, fits.from);
         later = subst (λ ps. AreLater old.heard (ps ++ plays_of askings)) (sym (halts.none askings)) fits.later;
-        stand = subst (λ k. StandAt p k None (plays_begun asked outcome askings ++ plays_of askings) end
-            (old.heard ∷ slots) parts) (sym kept)
-            (subst (λ ps. StandAt p (next_boundary p) None (ps ++ plays_of askings) end (old.heard ∷ slots) parts)
-            (sym (halts.none askings)) stand);
+        stand = rw (kept, (halts.none askings)) stand;
       }
 
 pub turn_fits : (old new : SessionState) (asked : Awaited) (outcome : Outcome) → TurnsAs old asked outcome new
@@ -186,17 +177,13 @@ turn_fits old new asked outcome (Stays same after still) = record {
 turn_fits old new asked outcome (Starts after begins) = record {
   later = omega arith;
   rest = λ askings end more rest on fits.
-      subst (λ s. Fits (point s old.heard None) (Asks asked outcome ∷ askings) end (old.heard ∷ more) rest)
-      (sym begins.idle)
-      (begin_fits begins (subst (λ s. Fits (point s old.heard (Some old.heard)) askings end more rest)
+      rw begins.idle (begin_fits begins (subst (λ s. Fits (point s old.heard (Some old.heard)) askings end more rest)
       begins.sends fits));
 }
 turn_fits old new asked outcome (Ends after halts) = record {
   later = omega arith;
   rest = λ askings end more rest on fits.
-      subst (λ s. Fits (point s old.heard None) (Asks asked outcome ∷ askings) end (old.heard ∷ more) rest)
-      (sym halts.going)
-      (halt_fits halts (subst (λ s. Fits (point s old.heard (Some old.heard)) askings end more rest) halts.sends fits));
+      rw halts.going (halt_fits halts (subst (λ s. Fits (point s old.heard (Some old.heard)) askings end more rest) halts.sends fits));
 }
 
 -- ---- a reply goes out at once, or is held up
@@ -382,8 +369,7 @@ module _ {p : PacerState} {heard slot : ℕ} where
   ending_stand {between = false} pending sound slot_on fits = fits
   ending_stand {between = true} {askings} {end} {more} {rest} pending sound slot_on fits =
       let none = after_none true pending refl in
-      subst (λ a. Fits (point (Ending (sent_through slot p)) slot a) askings end more rest) (sym none)
-      (over_fits (through_time p heard slot on later) (ended_through p heard slot sound later stands) ends
+      rw none (over_fits (through_time p heard slot on later) (ended_through p heard slot sound later stands) ends
       (subst (λ a. Fits (point Idle slot a) askings end more rest) none fits))
     where
       open slot_on use {on, later, ends, stands}
@@ -427,10 +413,8 @@ module _ {heard slot : ℕ} {text : List ℕ} {pending : Option ℕ} where
       }) ∙ ap Going (slot_is waits between slot p sound.0.pacing refl) in
       record {
         after = after_slot between pending;
-        held = subst (λ s. IsHeld (after_slot between pending) s (waits_after waits (Playing setup play) slot)
-            slot) (sym sends) (going_held waits pending sound.0 later refl held);
-        goes_on = subst (λ s. GoesTo (point (Going p) heard pending) (point s slot (after_slot between pending)) [] []
-            (parts_of waits (Playing setup play) text slot)) (sym sends) (going_slot waits text sound later held);
+        held = rw sends (going_held waits pending sound.0 later refl held);
+        goes_on = rw sends (going_slot waits text sound later held);
       }
 
   pub slot_moves : {state : State} {waits : Bool} → is_sending state ≡ true → IsSound (sends_in state) waits heard
@@ -446,9 +430,7 @@ module _ {heard slot : ℕ} {text : List ℕ} {pending : Option ℕ} where
       ending_cases between setup stop (after_step false slot one) one ∙ ends_same between slot p sound.0.pacing refl in
       record {
         after = after_slot between pending;
-        held = subst (λ s. IsHeld (after_slot between pending) s (waits_after true (Stopping setup stop) slot)
-            slot) (sym sends) (ending_held pending sound.0 later refl held);
-        goes_on = subst (λ s. GoesTo (point (Ending p) heard pending) (point s slot (after_slot between pending)) [] []
-            (parts_of true (Stopping setup stop) text slot)) (sym sends) (ending_slot text sound later held);
+        held = rw sends (ending_held pending sound.0 later refl held);
+        goes_on = rw sends (ending_slot text sound later held);
       }
   slot_moves sending sound later held = absurd (true≢false (sym sending))

@@ -3,7 +3,7 @@
 use Rattle.std.specs.Prelude.{⊤}
 use Rattle.conn.proofs.ReplyPlacement.{film_bytes-append, takings_film}
 use Rattle.std.proofs.Common.{◌≡◌, ℕ, ◌+◌, ◌-◌, ◌≤◌, ◌++◌, List, [], ◌∷◌, length, take, drop, refl, ap, sym, ◌∙◌, arith}
-use Rattle.std.proofs.Common.{◌&&◌, if◌then◌else◌, Bool, true, false, map, subst}
+use Rattle.std.proofs.Common.{◌&&◌, if◌then◌else◌, Bool, true, false, map}
 use Rattle.std.proofs.lemmas.List.{append-nil, append_assoc}
 use Rattle.std.proofs.Math.Seq.{drop-append-add, take-append-add}
 use Rattle.conn.specs.Films.{round_parts, rounds_film, rounds_parts, takings_parts}
@@ -84,8 +84,7 @@ film_sent old new (round ∷ rounds) follows =
 parts_bytes_append : (xs ys : List SentPart) → parts_bytes (xs ++ ys) ≡ parts_bytes xs ++ parts_bytes ys
 parts_bytes_append [] ys = refl
 parts_bytes_append (x ∷ xs) ys =
-    ap (λ bs. part_bytes x ++ bs) (parts_bytes_append xs ys)
-    ∙ sym (append_assoc (part_bytes x) (parts_bytes xs) (parts_bytes ys))
+    rw (parts_bytes_append xs ys, append_assoc (part_bytes x) (parts_bytes xs) (parts_bytes ys))
 
 takings_sent : (takings : List ElementStep) → takings_bytes takings ≡ parts_bytes (takings_parts takings)
 takings_sent [] = refl
@@ -224,8 +223,7 @@ replies_kept : IsKeptStanding RepliesOn
 replies_kept = record {
   none = λ s. waiting_same s s refl;
   joins = λ a b c one two first rest.
-      subst (λ ts. Replies a ts (one.replies ++ two.replies) c) (sym (texts_append one.parts two.parts))
-      (replies_then a (record {
+      rw (texts_append one.parts two.parts) (replies_then a (record {
         old = b;
         new = c;
         texts = texts_in two.parts;

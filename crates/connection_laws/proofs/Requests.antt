@@ -170,8 +170,7 @@ pub follows_cut : {new : Stage} {messages : List (List ℕ)} (old : Stage) (roun
     CutsAll (heard_cut.heard ++ rounds_input rounds) new (messages ++ rounds_requests rounds)
 follows_cut {new} {messages} old [] follows heard_cut = record {
   elements = elements;
-  cut = subst (λ w. AreInputElements w elements new.input) (sym (append-nil heard))
-      (subst (AreInputElements heard elements) (ap (λ (s : Stage). s.input) (sym follows)) cut);
+  cut = rw (append-nil heard) (subst (AreInputElements heard elements) (ap (λ (s : Stage). s.input) (sym follows)) cut);
   requests = requests ∙ sym (append-nil messages);
 }
   where

@@ -117,8 +117,7 @@ counted_by {later} {rest} {total} texts_first (a ∷ b ∷ c ∷ texts) all with
 
 pub framed_append : (xs ys : List (List ℕ)) → framed_bytes (xs ++ ys) ≡ framed_bytes xs ++ framed_bytes ys
 framed_append [] ys = refl
-framed_append (x ∷ xs) ys = ap (λ l. x ++ l) (framed_append xs ys)
-    ∙ sym (append_assoc x (framed_bytes xs) (framed_bytes ys))
+framed_append (x ∷ xs) ys = rw (framed_append xs ys, append_assoc x (framed_bytes xs) (framed_bytes ys))
 
 woven_texts : (from : ℕ) (film : List ℕ) (texts : List PlacedText) → film ≡ []
     → insert_texts from film texts ≡ framed_bytes (map text_of texts)

@@ -167,8 +167,7 @@ ending_either : {between : Bool} {p : PacerState} {heard slot : ℕ} → IsSound
     (if between then false else true) [] (plan_bytes p p.sent (due_by p slot))
 ending_either {between = true} {p} {heard} {slot} sound later stands = ending_over p heard slot sound later stands
 ending_either {between = false} {p} {heard} {slot} sound later stands =
-    subst (λ q. GoesOn (Ending p) (Ending q) heard slot true [] (plan_bytes p p.sent (due_by p slot)))
-    (sym (slot_is true false slot p sound.0.pacing stands)) (ending_on p heard slot sound later)
+    rw (slot_is true false slot p sound.0.pacing stands) (ending_on p heard slot sound later)
 
 -- what is sent goes on by a slot that is processed
 abbrev pub SlotGoes : State → Bool → ℕ → ℕ → List ℕ → Type 0
@@ -190,17 +189,13 @@ slot_goes {heard} {slot} (Playing setup play) waits text sending sound later =
       plain = after_step false slot p;
     }) ∙ ap Going (slot_is waits (stands_at_boundary one) slot p sound.0.pacing refl) in
     let last : Bool = waits_after waits (Playing setup play) slot in
-    subst (λ s. GoesOn (Going p) s heard slot last []
-    (film_bytes (parts_of waits (Playing setup play) text slot))) (sym sends)
-    (subst (GoesOn (Going p) (Going (sent_through slot p)) heard slot last [])
+    rw sends (subst (GoesOn (Going p) (Going (sent_through slot p)) heard slot last [])
     (sym (film_of waits p text slot sound.0.pacing)) (going_on p heard slot last sound later))
 slot_goes {slot} (Stopping setup stop) false text sending sound later = absurd (true≢false (sym sound.1))
 slot_goes {heard} {slot} (Stopping setup stop) true text sending sound later =
     let p : PacerState = stop.pacer in
     let one : PacerState = after_step true slot p in
     let last : Bool = waits_after true (Stopping setup stop) slot in
-    subst (λ s. GoesOn (Ending p) s heard slot last [] (film_bytes (parts_of true (Stopping setup stop) text slot)))
-    (sym (ending_cases (stands_at_boundary one) setup stop (after_step false slot one) one))
-    (subst (GoesOn (Ending p) (if stands_at_boundary one then Idle else Ending one) heard slot last [])
+    rw ((ending_cases (stands_at_boundary one) setup stop (after_step false slot one) one)) (subst (GoesOn (Ending p) (if stands_at_boundary one then Idle else Ending one) heard slot last [])
     (sym (film_of true p text slot sound.0.pacing)) (ending_either sound later refl))
 slot_goes _ waits text sending sound later = absurd (true≢false (sym sending))

@@ -1,6 +1,6 @@
 -- What the station can answer, case by case: to what a session asks after a request, in a slot, and
 -- as its connection ends.
-use Rattle.std.proofs.Common.{◌≡◌, ℕ, ◌^◌, ◌<◌, ◌++◌, List, [], Option, Some, None, refl, ap, sym, subst, ◌∙◌}
+use Rattle.std.proofs.Common.{◌≡◌, ℕ, ◌^◌, ◌<◌, ◌++◌, List, [], Option, Some, None, refl, ap, sym, ◌∙◌}
 use Rattle.vod_base.specs.Links.{IoEvent, HeardBytes, HeardSlot}
 use Rattle.admission.specs.declared.entries.Answer.{Answer}
 use Rattle.admission.specs.declared.entries.Answer.TheVariants.{Admitted, Halted, Looked, Overflow}
@@ -213,9 +213,7 @@ pub data ComesAs (old opened : Stage) : IoEvent → List SentPart → Outcome �
 pub comes_as : {old opened : Stage} (event : IoEvent) (due : List SentPart) (halt : Outcome)
     → Comes old event due halt opened → ComesAs old opened event due halt
 comes_as {old} {opened} (HeardBytes bytes) due halt comes =
-    subst (λ ps. ComesAs old opened (HeardBytes bytes) ps halt) (sym comes.0)
-    (subst (λ h. ComesAs old opened (HeardBytes bytes) [] h) (sym comes.1) (BytesCame comes.3))
+    rw (comes.0, comes.1) (BytesCame comes.3)
 comes_as {old} {opened} (HeardSlot slot) due halt comes =
-    subst (λ ps. ComesAs old opened (HeardSlot slot) ps halt) (sym comes.1.parts_are)
-    (SlotCame (finishes_as (after_slot old.session slot).awaited halt comes.1.finished))
+    rw comes.1.parts_are (SlotCame (finishes_as (after_slot old.session slot).awaited halt comes.1.finished))
 comes_as _ due halt comes = absurd comes

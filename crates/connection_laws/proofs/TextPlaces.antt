@@ -1,7 +1,7 @@
 -- Where texts stand among the bytes of a play, and of the plays after it.
 use Rattle.std.specs.Prelude.{⊤}
-use Rattle.std.proofs.Common.{◌≡◌, ℕ, ◌+◌, ◌-◌, ◌<◌, ◌≤◌, min, List, [], ◌∷◌, Option, Some, None, length, refl, ap, sym}
-use Rattle.std.proofs.Common.{◌∙◌, subst, inl, inr, arith}
+use Rattle.std.proofs.Common.{◌≡◌, ℕ, ◌+◌, ◌-◌, ◌<◌, ◌≤◌, min, List, [], ◌∷◌, Option, Some, None, length, refl, ap, ◌∙◌}
+use Rattle.std.proofs.Common.{subst, inl, inr, arith}
 use Rattle.std.proofs.lemmas.List.Sums.{sum_by-cons}
 use Rattle.film_frames.specs.Tracks.{IsBoundary}
 use Rattle.pacer.specs.PacerStates.{PacerState, first_slots}
@@ -75,9 +75,7 @@ pub film_at : {p q : PacerState} {keep : ℕ} {pending : Option ℕ} {plays : Li
     → StandAt p keep pending plays end slots (Film bytes ∷ parts)
 film_at {p} {q} {keep} {pending} {plays} {end} {slots} {parts} same size stand = record {
   holds = omega (arith, size, stand.holds);
-  sent = subst (λ n. AreSentAt end (play_with p keep ∷ plays) (with_pending pending slots)
-      (placed_texts n parts)) (sym size)
-      (subst (λ play. AreSentAt end (play ∷ plays) (with_pending pending slots) (placed_texts q.sent parts))
+  sent = rw size (subst (λ play. AreSentAt end (play ∷ plays) (with_pending pending slots) (placed_texts q.sent parts))
       same stand.sent);
 }
 

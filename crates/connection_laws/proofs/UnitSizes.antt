@@ -37,8 +37,7 @@ pub moments_parts : (xs ys : List (List ℕ)) → events_of_elements (xs ++ ys) 
     events_of_elements ys
 moments_parts [] ys = refl
 moments_parts (x ∷ xs) ys =
-    ap (λ ms. element_events x ++ ms) (moments_parts xs ys)
-    ∙ sym (append_assoc (element_events x) (events_of_elements xs) (events_of_elements ys))
+    rw (moments_parts xs ys, append_assoc (element_events x) (events_of_elements xs) (events_of_elements ys))
 
 -- ---- the frames of a unit
 

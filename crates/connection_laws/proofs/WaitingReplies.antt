@@ -58,12 +58,7 @@ goes_then {a} {b} {c} {made} {asked} {slots} {taken} {parts} {sent} one two = re
   rest = λ askings end more rest on fits.
       let there = one.rest (asked ++ askings) end (taken ++ more) (sent ++ rest) (omega (arith, two.later, on))
       (two.rest askings end more rest on fits) in
-      subst (λ all. Fits a all end ((slots ++ taken) ++ more) ((parts ++ sent) ++ rest))
-      (sym (append_assoc made asked askings))
-      (subst (λ ss. Fits a (made ++ (asked ++ askings)) end ss ((parts ++ sent) ++ rest))
-      (sym (append_assoc slots taken more))
-      (subst (λ ps. Fits a (made ++ (asked ++ askings)) end (slots ++ (taken ++ more)) ps)
-      (sym (append_assoc parts sent rest)) there));
+      rw (append_assoc made asked askings, append_assoc slots taken more, append_assoc parts sent rest) there;
 }
 
 pub goes_same : (at : Point) → GoesTo at at [] [] []
@@ -255,8 +250,7 @@ module _ {p : PacerState} {keep heard slot : ℕ} {plays : List FilmPlay} {end :
       let to : q.sent ≤ due_by p slot = omega arith in
       let rest : StandAt q keep None plays end slots
       (Film (plan_bytes q q.sent (step_end false (at_slot slot q))) ∷ parts) =
-      subst (λ n. StandAt q keep None plays end slots (Film (plan_bytes q q.sent n) ∷ parts)) (sym last)
-      (film_at refl (size_to q (due_by p slot) (stopped_is slot p is) to most) stand) in
+      rw last (film_at refl (size_to q (due_by p slot) (stopped_is slot p is) to most) stand) in
       let at = next_reached slot is held.1 stands in
       let far : (sent_through slot p).sent ≤ first_slots p.plan (end + 1 - p.start) =
       due_far (sent_through slot p) slot end (through_time p heard slot on later) ends in
@@ -285,8 +279,7 @@ module _ {p : PacerState} {keep heard slot : ℕ} {plays : List FilmPlay} {end :
       slot_on held plays_due stand =
       let all : step_end true (at_slot slot p) ≡ due_by p slot =
       ap (λ (r : PacerState). r.sent) (slot_is true false slot p on.pacing stands) in
-      subst (λ to. StandAt p keep (Some taken) plays end slots (Film (plan_bytes p p.sent to) ∷ parts)) (sym all)
-      (film_at refl
+      rw all (film_at refl
       (size_to p (due_by p slot) on.pacing (omega (arith, on.pacing.sent)) (due_most p slot on.pacing)) stand)
     where
       open slot_on use {on, stands}

@@ -159,8 +159,7 @@ kept_promise {rounds} {mid} {bytes} {out} c s runs all front fed =
 
 heard_append : (a b : List IoEvent) → heard_bytes (a ++ b) ≡ heard_bytes a ++ heard_bytes b
 heard_append [] b = refl
-heard_append (HeardBytes bytes ∷ a) b =
-    ap (λ l. bytes ++ l) (heard_append a b) ∙ sym (append_assoc bytes (heard_bytes a) (heard_bytes b))
+heard_append (HeardBytes bytes ∷ a) b = rw (heard_append a b, append_assoc bytes (heard_bytes a) (heard_bytes b))
 heard_append (_ ∷ a) b = heard_append a b
 
 heard_sends : (bytes : List ℕ) → heard_bytes (sends bytes) ≡ []
