@@ -76,8 +76,7 @@ module _ {R : SessionState → List StationCall → SessionState → Type 0} (ke
   taken old new [] takes = still old new takes
   taken old new (Passed n ∷ takings) takes =
       let same : takes.0.session ≡ old.session = ap (λ (s : Stage). s.session) takes.1.0.2 in
-      subst (λ s. R s (taken_calls takes.0 takings new takes.1.1) new.session) same
-      (taken takes.0 new takings takes.1.1)
+      rw (← same) (taken takes.0 new takings takes.1.1)
   taken old new (Answered message outcome parts ∷ takings) takes =
       let replied = takes.1.0 in
       let s : SessionState = replied.answered in

@@ -374,8 +374,7 @@ turns_same {old} {turn} {again} given twice =
       alike = alike;
     }) in
     let answered : IsAskAnswered turn.asking turn.ask again.outcome again.answered =
-    subst (λ a. IsAskAnswered turn.asking a again.outcome again.answered) heard.0
-    (subst (λ s. IsAskAnswered s again.ask again.outcome again.answered) heard.1 also.answered) in
+    rw (← heard.0) (subst (λ s. IsAskAnswered s again.ask again.outcome again.answered) heard.1 also.answered) in
     let both = answers_same turn.asking turn.ask given (taken.answered, answered) in (
       also.new_is ∙ stage_is (ap after_reply both.0) (ap (λ (m : List ℕ). drop (length m) old.input) message)
           ∙ sym taken.new_is,
@@ -403,10 +402,7 @@ answers_from : {turn again : StationCall} {xs ys : List Element} {ones others : 
     → AreSameAnswers (answer_in turn.outcome ++ (elements_answers xs ++ ones))
     (answer_in again.outcome ++ (elements_answers ys ++ others))
 answers_from {turn} {again} {xs} {ys} {ones} {others} alike =
-    subst (λ os. AreSameAnswers os (answer_in again.outcome ++ (elements_answers ys ++ others)))
-    (append_assoc (answer_in turn.outcome) (elements_answers xs) ones)
-    (subst (λ os. AreSameAnswers ((answer_in turn.outcome ++ elements_answers xs) ++ ones) os)
-    (append_assoc (answer_in again.outcome) (elements_answers ys) others) alike.answers)
+    rw (← (append_assoc (answer_in turn.outcome) (elements_answers xs) ones)) (rw (← (append_assoc (answer_in again.outcome) (elements_answers ys) others)) alike.answers)
 
 passing_films : {old new : Stage} {n : ℕ} → IsPassing old n new → AreFilms old.session.films
     → AreFilms new.session.films

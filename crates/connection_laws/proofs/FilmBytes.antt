@@ -350,8 +350,7 @@ comes_step : {old opened : Stage} {event : IoEvent} {due : List SentPart} {halt 
     → ComesAs old opened event due halt → Stands old.session
     → Step old.session opened.session (Asks (asked_by old.session event) halt ∷ []) (film_bytes due)
 comes_step {old} (BytesCame is) stands =
-    rw is (subst (λ a. Step old.session old.session (Asks a Unasked ∷ []) []) stands.rest
-    (same_step old.session old.session stands refl))
+    rw is (rw (← stands.rest) (same_step old.session old.session stands refl))
 comes_step {old} (SlotCame {slot = slot} finish) stands = slot_step old.session slot stands finish
 
 -- what a connection writes of films as it goes on

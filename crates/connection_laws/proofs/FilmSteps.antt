@@ -81,15 +81,7 @@ begin_film : {plan : List Segment} {more : List ℕ} (prepared : Prepared) (star
       pieces = run_pieces prepared.frames;
     } ∷ plays_of askings) more
 begin_film {plan} {more} prepared start askings end same is =
-    subst (λ pl. IsFilm end
-    (record {
-      start = start;
-      plan = pl;
-      keep = kept_in askings (total_bytes pl);
-      before = prepared.run.sent;
-      pieces = run_pieces prepared.frames;
-    } ∷ plays_of askings) more)
-    same is
+    rw (← same) is
 
 begin_rest : {old new : SessionState} {asked : Awaited} {outcome : Outcome} {more : List ℕ}
     (begins : Begins old asked outcome new) (askings : List StationRequest) (end : ℕ)

@@ -169,9 +169,7 @@ module _ {base cur mid new : Stage} {all : Exchange} where
   bytes_split {bytes} front taken later =
       let ps : List Element = taken.elements in
       let before : GoesAll (longer base (first ++ bytes)) elements taken.opened =
-      subst (λ s. GoesAll s elements taken.opened)
-      (ap (λ input. stage base.session input) (append_assoc base.input first bytes))
-      (subst (GoesAll (longer (longer base first) bytes) elements) (sym taken.comes.3)
+      rw (← (ap (λ input. stage base.session input) (append_assoc base.input first bytes))) (subst (GoesAll (longer (longer base first) bytes) elements) (sym taken.comes.3)
       (goes_grow (longer base first) cur elements bytes goes)) in
       let whole : GoesAll (longer base (first ++ bytes)) (elements ++ ps) mid =
       join_goes (longer base (first ++ bytes)) (record {
@@ -195,8 +193,7 @@ module _ {base cur mid new : Stage} {all : Exchange} where
       (joined (elements_exchange [] taken.elements) all)))
   slot_split {slot = slot} front taken done later =
       let there : GoesAll (longer opened []) taken.elements mid =
-      subst (λ s. GoesAll s taken.elements mid) (ap (λ i. stage opened.session i) (sym (append-nil opened.input)))
-      taken.goes in
+      rw (← (ap (λ i. stage opened.session i) (sym (append-nil opened.input)))) taken.goes in
       let rest = later.each opened [] taken.elements there in
       let leg : Leg = record {
         slot = slot;

@@ -154,8 +154,7 @@ slot_met {at} s slot front two fed read =
     let between = (fed (omega (arith, there, first))).between reading.past in
     let P : ℕ → ℕ → Type 0 = λ place came. IsBetween wish (film_sizes film) (picture_time film.rate) place came in (
       its.0,
-      subst (λ n. P n (bytes_received h + cut_bytes at.rest)) (ap (λ n. slot - n) (sym first))
-          (subst (λ n. P (slot - begin) n) (sym its.1) between),
+      rw (← (ap (λ n. slot - n) (sym first))) (subst (λ n. P (slot - begin) n) (sym its.1) between),
     )
   where
     open s use {wish, film, begin, film_is, count}

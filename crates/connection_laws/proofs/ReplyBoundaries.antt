@@ -112,8 +112,7 @@ begin_stand : {plan : List Segment} (prepared : Prepared) (start : ℕ) (later :
     (play_for prepared start plan (kept_in later.askings (total_bytes plan)) ∷ plays_of later.askings) later.slots
     (placed_texts 0 later.parts)
 begin_stand prepared start later same sent =
-    subst (λ pl. AreSentAt end (play_for prepared start pl (kept_in askings (total_bytes pl)) ∷ plays_of askings) slots
-    (placed_texts 0 parts)) same sent
+    rw (← same) sent
   where
     open later use {askings, end, slots, parts}
 
@@ -177,8 +176,7 @@ turn_fits old new asked outcome (Stays same after still) = record {
 turn_fits old new asked outcome (Starts after begins) = record {
   later = omega arith;
   rest = λ askings end more rest on fits.
-      rw begins.idle (begin_fits begins (subst (λ s. Fits (point s old.heard (Some old.heard)) askings end more rest)
-      begins.sends fits));
+      rw begins.idle (begin_fits begins (rw (← begins.sends) fits));
 }
 turn_fits old new asked outcome (Ends after halts) = record {
   later = omega arith;

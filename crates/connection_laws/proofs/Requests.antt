@@ -205,8 +205,7 @@ follows_cut {new} {messages} old (round ∷ rounds) follows heard_cut =
     }) in
     record {
       elements = rest.elements;
-      cut = subst (λ w. AreInputElements w rest.elements new.input) (append_assoc heard bytes (rounds_input rounds))
-          rest.cut;
+      cut = rw (← (append_assoc heard bytes (rounds_input rounds))) rest.cut;
       requests = rest.requests ∙ append_assoc messages more (rounds_requests rounds);
     }
   where

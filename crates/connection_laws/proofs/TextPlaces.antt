@@ -75,8 +75,7 @@ pub film_at : {p q : PacerState} {keep : ℕ} {pending : Option ℕ} {plays : Li
     → StandAt p keep pending plays end slots (Film bytes ∷ parts)
 film_at {p} {q} {keep} {pending} {plays} {end} {slots} {parts} same size stand = record {
   holds = omega (arith, size, stand.holds);
-  sent = rw size (subst (λ play. AreSentAt end (play ∷ plays) (with_pending pending slots) (placed_texts q.sent parts))
-      same stand.sent);
+  sent = rw size (rw (← same) stand.sent);
 }
 
 -- a reply at the first boundary from what was due on
@@ -189,8 +188,7 @@ past_all past at (slot ∷ slots) [] are sent =
 past_all past at slots (Film bytes ∷ parts) are sent =
     let n : ℕ = length bytes in
     let same : past.play.keep + (at + n) ≡ past.play.keep + at + n = omega arith in
-    subst (λ m. AreSentAt past.end (all_of past) slots (placed_texts m parts)) same
-    (past_all past (at + n) slots parts are sent)
+    rw (← same) (past_all past (at + n) slots parts are sent)
 past_all past at [] (Text text ∷ parts) are sent = absurd sent
 past_all past at (slot ∷ slots) (Text text ∷ parts) are sent =
     (past_sent past at text are.0 sent.0, past_all past at slots parts are.1 sent.1)
