@@ -141,9 +141,11 @@ impl<'a> Connection<'a> {
         link: &mut K,
         slot: u64,
     ) -> Result<(), LinkFault>
+        // needs: a seat of this station; the session rests, and no call of the link has failed
         requires seat { seat.old.id ≡ station.now.id }
         requires quiet { IsQuiet seat.old.mine self.old }
         requires lost { self.old.session.lost ≡ false }
+        // answers: the slot was taken as a whole, or a send failed; the seat holds what is open
         ensures kept { KeepsReservations seat.old seat.new self.old self.new }
         ensures passed { OnOk result (HasTakenSlot
             (observed self.old (K.told link.old) seat.old)
@@ -151,8 +153,10 @@ impl<'a> Connection<'a> {
         ensures broken { OnErr result (HasFailedSend
             (observed self.old (K.told link.old) seat.old)
             (observed self.new (K.told link.new) seat.new) slot) }
+        // leaves: the input, and the link without a failure if it answers Ok
         ensures input { self.new.input ≡ self.old.input }
         ensures lost { OnOk result (self.new.session.lost ≡ false) }
+        // fails: only where the link counted a fault
         ensures count { K.faults link.old ≤ K.faults link.new }
         ensures fault { OnErr result (HasRisen (K.faults link.old) (K.faults link.new)) }
     {
@@ -172,13 +176,16 @@ impl<'a> Connection<'a> {
         seat: &mut Seat,
         link: &mut K,
     ) -> Option<ConnEnd>
+        // needs: a seat of this station; the session rests, and no call of the link has failed
         requires seat { seat.old.id ≡ station.now.id }
         requires quiet { IsQuiet seat.old.mine self.old }
         requires lost { self.old.session.lost ≡ false }
+        // answers: each complete element was processed, up to one that has to wait or that ends
         ensures kept { KeepsReservations seat.old seat.new self.old self.new }
         ensures up { HasProcessedInput result
             (observed self.old (K.told link.old) seat.old)
             (observed self.new (K.told link.new) seat.new) }
+        // leaves: the rest of the input; a link fault is the end only where the link counted one
         ensures cut { CutsOn self.old.input self.new.input }
         ensures taken { IsProcessed result self.new }
         ensures counted { HasCounted result (K.faults link.old) (K.faults link.new) }
@@ -202,13 +209,16 @@ impl<'a> Connection<'a> {
         seat: &mut Seat,
         link: &mut K,
     ) -> InputProgress
+        // needs: a seat of this station; the session rests, and no call of the link has failed
         requires seat { seat.old.id ≡ station.now.id }
         requires quiet { IsQuiet seat.old.mine self.old }
         requires lost { self.old.session.lost ≡ false }
+        // answers: the first element was processed, has to wait, or ends the connection
         ensures kept { KeepsReservations seat.old seat.new self.old self.new }
         ensures takes { TakesNext result
             (observed self.old (K.told link.old) seat.old)
             (observed self.new (K.told link.new) seat.new) }
+        // leaves: the rest of the input; a link fault is the end only where the link counted one
         ensures cut { CutsOn self.old.input self.new.input }
         ensures taken { IsTaken result (list_length self.old.input) self.new }
         ensures counted { HasCounted (end_in result) (K.faults link.old) (K.faults link.new) }
@@ -247,15 +257,18 @@ impl<'a> Connection<'a> {
         link: &mut K,
         length: usize,
     ) -> InputProgress
+        // needs: as for any element, and this request first in the input
         requires seat { seat.old.id ≡ station.now.id }
         requires quiet { IsQuiet seat.old.mine self.old }
         requires torn { self.old.session.torn ≡ false }
         requires lost { self.old.session.lost ≡ false }
         requires first { IsFirst self.old.input (Ok (Request length)) }
+        // answers: the request was processed, has to wait, or ends the connection
         ensures kept { KeepsReservations seat.old seat.new self.old self.new }
         ensures takes { TakesNext result
             (observed self.old (K.told link.old) seat.old)
             (observed self.new (K.told link.new) seat.new) }
+        // leaves: the rest of the input; a link fault is the end only where the link counted one
         ensures cut { CutsOn self.old.input self.new.input }
         ensures taken { IsTaken result (list_length self.old.input) self.new }
         ensures counted { HasCounted (end_in result) (K.faults link.old) (K.faults link.new) }
@@ -275,6 +288,8 @@ impl<'a> Connection<'a> {
     /// Hands the first request that waits, which has this length, to the session, and asks the
     /// station what the session asks for.
     fn answer_request<R: Wait>(&mut self, rt: &R, station: &Station, seat: &mut Seat, length: usize)
+        // needs: a seat of this station; a session that rests and has no reply that waits;
+        // a complete message first in the input
         requires seat { seat.old.id ≡ station.now.id }
         requires quiet { IsQuiet seat.old.mine self.old }
         requires waits { self.old.session.waits ≡ false }
@@ -282,9 +297,11 @@ impl<'a> Connection<'a> {
         requires whole { IsMessageLength self.old.input length }
         requires within { length ≤ list_length self.old.input }
         requires lost { self.old.session.lost ≡ false }
+        // answers: the session and the station did what the request asks for
         ensures kept { KeepsReservations seat.old seat.new self.old self.new }
         ensures heard { HasAsked self.old.session (take length self.old.input) self.new.session
             seat.old seat.new }
+        // leaves: the input behind the request, and the link as it was
         ensures input { self.new.input ≡ drop length self.old.input }
         ensures lost { self.new.session.lost ≡ self.old.session.lost }
     {
@@ -302,13 +319,17 @@ impl<'a> Connection<'a> {
 
     /// Asks the station for a play.
     fn play<R: Wait>(&mut self, rt: &R, station: &Station, seat: &mut Seat, plan: Plan)
+        // needs: a seat of this station that holds what is open;
+        // a session that asks for a play, and none is open
         requires seat { seat.old.id ≡ station.now.id }
         requires held { IsHeld seat.old.mine self.old.booking (open_of self.old.session) }
         requires asked { awaited_answer self.old.session ≡ PlayAnswer plan }
         requires closed { open_of self.old.session ≡ None }
+        // answers: the session has the answer of the station
         ensures kept { KeepsReservations seat.old seat.new self.old self.new }
         ensures answered { HasAnswered self.old.session (Ask.Play plan) self.new.session
             seat.old seat.new }
+        // leaves: the input as it was
         ensures input { self.new.input ≡ self.old.input }
         ensures lost { self.new.session.lost ≡ self.old.session.lost }
     {
@@ -325,21 +346,25 @@ impl<'a> Connection<'a> {
 
     /// Halts the open booking. So many bytes stay booked.
     fn halt<R: Wait>(&mut self, rt: &R, station: &Station, seat: &mut Seat, keep: u64)
+        // needs: a seat of this station that holds what is open;
+        // a session that asks for a halt of the open play that keeps as much
         requires seat { seat.old.id ≡ station.now.id }
         requires held { IsHeld seat.old.mine self.old.booking (open_of self.old.session) }
         requires asked { IsHalt (awaited_answer self.old.session) (open_of self.old.session) }
         requires keep { CanKeep (open_of self.old.session) keep }
+        // answers: the session has the answer of the station
         ensures kept { KeepsReservations seat.old seat.new self.old self.new }
         ensures answered { HasAnswered self.old.session (Ask.Halt keep) self.new.session
             seat.old seat.new }
+        // leaves: the input as it was; no play is open any more
         ensures input { self.new.input ≡ self.old.input }
         ensures open { open_of self.new.session ≡ None }
         ensures booking { self.new.booking ≡ None }
         ensures lost { self.new.session.lost ≡ self.old.session.lost }
     {
         seat.holds();
-        // Moved out: the station takes it, so that no play is halted twice. There is one: the session
-        // asks for a halt only while a play is open.
+        // Moved out: the station takes it, so that no play is halted twice. There is one, since the
+        // session asks for a halt only while a play is open.
         if let Some(booking) = mem::replace(&mut self.booking, None) {
             let place = station.halt(rt, seat, booking, keep);
             self.session.halted(place);
@@ -349,13 +374,17 @@ impl<'a> Connection<'a> {
     /// Looks at a slot.
     #[tactic(auto, using(crate::proofs::ReservationSteps::held_at_look))]
     fn look<R: Wait>(&mut self, rt: &R, station: &Station, seat: &mut Seat, slot: u64)
+        // needs: a seat of this station that holds what is open;
+        // a session that asks for a look at this slot
         requires seat { seat.old.id ≡ station.now.id }
         requires held { IsHeld seat.old.mine self.old.booking (open_of self.old.session) }
         requires asked { awaited_answer self.old.session ≡ LookAnswer }
         requires slot { slot ≡ self.old.session.heard }
+        // answers: the session has the answer of the station
         ensures kept { KeepsReservations seat.old seat.new self.old self.new }
         ensures answered { HasAnswered self.old.session (Ask.Look slot) self.new.session
             seat.old seat.new }
+        // leaves: the input as it was
         ensures input { self.new.input ≡ self.old.input }
         ensures lost { self.new.session.lost ≡ self.old.session.lost }
     {
@@ -379,12 +408,16 @@ impl<'a> Connection<'a> {
         plan: Plan,
         mut offers: Offers,
     )
+        // needs: a seat of this station that holds what is open;
+        // a session that asks for an offer
         requires seat { seat.old.id ≡ station.now.id }
         requires held { IsHeld seat.old.mine self.old.booking (open_of self.old.session) }
         requires asked { awaited_answer self.old.session ≡ OfferAnswer }
+        // answers: the session has the answer of the station
         ensures kept { KeepsReservations seat.old seat.new self.old self.new }
         ensures answered { HasAnswered self.old.session (Ask.Offer plan offers) self.new.session
             seat.old seat.new }
+        // leaves: the input as it was
         ensures input { self.new.input ≡ self.old.input }
         ensures lost { self.new.session.lost ≡ self.old.session.lost }
     {
@@ -414,9 +447,11 @@ impl<'a> Connection<'a> {
 
     /// What a closed connection leaves for its report.
     pub(crate) fn notes(self) -> Notes
+        // needs: a session that was closed: it awaits nothing, and has nothing open
         requires rest { AwaitsNoAnswer self.session }
         requires open { open_of self.session ≡ None }
         requires booking { self.booking ≡ None }
+        // answers: what the session noted
         ensures receipts { result.receipts.items ≡ self.entry.session.receipts }
         ensures plays { result.plays.items ≡ self.entry.session.plays }
         ensures late { result.late ≡ self.entry.session.late }

@@ -91,13 +91,16 @@ fn hear_all<R: Wait, K: Link>(
     link: &mut K,
     connection: &mut Connection<'_>,
 ) -> ConnEnd
+    // needs: a seat of this station, and a connection before its first event
     requires seat { seat.old.id ≡ station.now.id }
     requires quiet { IsQuiet seat.old.mine connection.old }
     requires torn { connection.old.session.torn ≡ false }
     requires waiting { IsWaiting connection.old }
     requires lost { connection.old.session.lost ≡ false }
+    // answers: how it ended; the seat still holds what is open
     ensures kept { KeepsReservations seat.old seat.new connection.old connection.new }
     ensures counted { HasCounted (Some result) (K.faults link.old) (K.faults link.new) }
+    // leaves: what the course of its events says
     ensures course { HasCourse result (observed connection.old (K.told link.old) seat.old)
         (observed connection.new (K.told link.new) seat.new) }
 {

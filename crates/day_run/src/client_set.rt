@@ -45,11 +45,14 @@ pub(crate) fn step_clients(clients: &mut [Client<'_>], slot: u64) -> u64
 
 /// Halts the plays that are done, or all that are open.
 pub(crate) fn halt_plays(book: &mut Book, clients: &mut [Client<'_>], which: HaltedPlays)
+    // needs: clients whose open plays are those of the book
     requires few { length clients.old ≤ 256 }
     requires sound { AreOnBook book.old.entries clients.old }
+    // leaves: clients and book that still agree; no play that is done
     ensures sound { AreOnBook book.new.entries clients.new }
     ensures kept { IsSameBook book.old book.new }
     ensures undone { AreUndone (length clients.new) clients.new }
+    // answers: a halt in the journal for each play that was halted, in the order of the clients
     ensures timed { (slot : ℕ) → AreTimed slot clients.old → AreTimed slot clients.new }
     ensures entries { (slot : ℕ) → AreTimed slot clients.old → book.new.entries
         ≡ book.old.entries ++ halt_entries (halt_for which slot) 0 (map state_of clients.old) }

@@ -241,12 +241,15 @@ fn send(pacer: &mut Pacer<Sending<'_>>, slot: u64) -> u64
 /// A play as it is paused, and how it is to be halted. A pause is done at once where all that it
 /// keeps was sent.
 fn pause_play<'r>(play: ClientPlay<'r>) -> (Halt, Client<'r>)
+    // needs: a play that goes on
     requires playing { IsPlaying play }
     requires undone { is_done play.pacer ≡ false }
+    // answers: the halt of this play, and a client that is paused or about to be
     ensures number { result.0.number ≡ play.entry.number }
     ensures keep { result.0.keep ≤ play.entry.pacer.keep }
     ensures going { IsGoing result.1 }
     ensures quiet { IsQuiet result.1 }
+    // answers: what a pause leaves after the slot that the play was last stepped in
     ensures pause { (heard : ℕ) → play.entry.pacer.passed ≡ heard + 1 - play.entry.pacer.start →
         IsPause (play_of play.entry) heard result.0.keep (state_of result.1) }
     ensures timed { (heard : ℕ) → play.entry.pacer.passed ≡ heard + 1 - play.entry.pacer.start →

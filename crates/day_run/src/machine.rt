@@ -194,14 +194,17 @@ impl<'r> DayMachine<'r> {
         kept: Plan,
         paced: Plan,
     ) -> LineAnswer
+        // needs: a plan of what the client asks for, once each for book, note and sender
         requires machine { IsDayMachine self.old }
         requires rest { IsRest rest }
         requires plan { IsPlanFor rest plan }
         requires kept { kept ≡ plan }
         requires paced { paced ≡ plan }
+        // leaves: a machine that keeps its invariant, at the same slot
         ensures machine { IsDayMachine self.new }
         ensures kept { IsKept self.old self.new }
         ensures heard { self.new.heard ≡ self.old.heard }
+        // answers: as the book does
         ensures planned { IsPlanned (link_on self.old) client (rest_of rest.entry)
             (day_state_of self.old) (day_state_of self.new) (reply_text self.new.book.entries
             result) }

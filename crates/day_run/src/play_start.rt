@@ -74,9 +74,11 @@ pub(crate) fn begin_play<'r>(
     paced: Plan,
     start: u64,
 ) -> ClientPlay<'r>
+    // needs: what the client asks, and its plan twice
     requires rest { IsRest rest }
     requires plan { IsPlanFor rest plan }
     requires paced { paced ≡ plan }
+    // answers: a play that goes on, of which nothing was sent
     ensures playing { IsPlaying result }
     ensures undone { is_done result.pacer ≡ false }
     ensures number { result.number ≡ number }

@@ -198,13 +198,16 @@ fn run_lines(
     lines: &[Line],
     text: &mut Vec<u8>,
 ) -> Result<(), NoMemory>
+    // needs: a machine before its first slot, lines that may stand so, an empty text
     requires machine { IsDayMachine machine.old }
     requires begun { machine.old.heard ≡ 0 }
     requires lines { AreLines (length machine.old.media.now) lines.now }
     requires morning { day_state_of machine.old ≡ first_moment }
     requires empty { text.old.items ≡ [] }
+    // leaves: a machine that keeps its invariant
     ensures machine { OnOk result (IsDayMachine machine.new) }
     ensures kept { OnOk result (IsKept machine.old machine.new) }
+    // answers: the text that these lines print
     ensures run { OnOk result
         (HasRun (link_on machine.old) lines.now text.new.items (day_state_of machine.new)) }
     ensures clients { OnOk result (AreClients lines.now) }

@@ -97,6 +97,7 @@ impl ScriptBuilder {
 
     /// Takes in a line that may stand there.
     fn add(&mut self, line: Line) -> Result<(), NoMemory>
+        // needs: lines that are sound so far, and a line that may stand behind them
         requires lines { AreLines (length self.old.roster.named.items) self.old.lines.items }
         requires clients { AreClients self.old.lines.items }
         requires client { IsClient line }
@@ -104,6 +105,7 @@ impl ScriptBuilder {
             (length self.old.roster.named.items) line }
         requires slot { self.old.slot ≡ slot_after (latest_slot self.old.lines.items) line }
         requires roster { IsRoster self.old.roster }
+        // leaves: the lines with this one at their end
         ensures reading { OnOk result (reading_of self.new ≡ with_line (reading_of self.old) line) }
         ensures draft { OnOk result (IsDraft self.new) }
     {
@@ -140,19 +142,23 @@ impl ScriptBuilder {
     /// The line that these words say; None where it may not stand there. Its name and its slot are
     /// noted.
     fn line_of(&mut self, words: &[&[u8]], message: Message) -> Result<Option<Line>, NoMemory>
+        // needs: a sound draft, and words that were read as this message
         requires draft { IsDraft self.old }
         requires range { IsInRange message }
+        // answers: the line where it may stand there, else None
         ensures line { IfOk result (λ found. IfSome found
             (λ line. with_message (reading_of self.old) (texts_at words.now) message
             ≡ Some (with_line (reading_of self.new) line))) }
         ensures none { IfOk result (λ found.
             IfNone found (with_message (reading_of self.old) (texts_at words.now) message ≡ None)) }
+        // answers: a line that goes on from those before it
         ensures stands { IfOk result (λ found. IfSome found
             (λ line. StandsAfter (latest_slot self.old.lines.items)
             (length self.new.roster.named.items) line)) }
         ensures client { IfOk result (λ found. IfSome found IsClient) }
         ensures slot { IfOk result (λ found. IfSome found
             (λ line. self.new.slot ≡ slot_after (latest_slot self.old.lines.items) line)) }
+        // leaves: the lines as they were; names may have been added
         ensures longer { OnOk result
             (length self.old.roster.named.items ≤ length self.new.roster.named.items) }
         ensures roster { OnOk result (IsRoster self.new.roster) }

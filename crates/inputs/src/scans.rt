@@ -86,14 +86,17 @@ fn feed_film<'a, L: Library, F: Found>(
     scanner: &mut Scanner,
     found: &mut F,
 ) -> Result<(), CliError<'a>>
+    // needs: a chunk with room, a file that was found, a scanner before its first byte
     requires some { 0 < length chunk.old }
     requires short { file.size ≤ 2 ^ 40 }
     requires opened { WasOpened (L.files library.old) file.name.now file.size None }
     requires scanned { HasScanned (F.heard found.old)
         (L.files library.old) file.name.now file.size 0 scanner.old }
     requires ready { IsSliceReady (F.ready_at found.old) scanner.old }
+    // leaves: the library, which was only read, and a visitor that knows where it is
     ensures library { IsReadOnly L.files L.faults library.old library.new }
     ensures ready { IsSliceReady (F.ready_at found.new) scanner.new }
+    // answers: the file was scanned to its end, or why not
     ensures scanned { OnOk result (HasScannedAll (F.heard found.new)
         (L.files library.old) file.entry.name.now file.entry.size scanner.new) }
     ensures error { IfErr result (IsScanError file.entry.name.now (L.files library.old)

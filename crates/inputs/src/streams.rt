@@ -88,12 +88,15 @@ pub(crate) fn scan_stream<'a, L: Library, F: Found>(
     chunk: &mut [u8],
     found: &mut F,
 ) -> Result<Ending, CliError<'a>>
+    // needs: a chunk with room, a file that was found with a stream from there, a new visitor
     requires some { 0 < length chunk.old }
     requires short { file.size ≤ 2 ^ 40 }
     requires opened { WasOpened (L.files library.old) file.name.now file.size (Some from) }
     requires within { from ≤ file.size }
     requires fresh { F.heard found.old [] }
+    // leaves: the library, which was only read
     ensures library { IsReadOnly L.files L.faults library.old library.new }
+    // answers: the video of the stream was scanned, or why not
     ensures film { IfOk result (λ ending.
         HasScannedFilm (F.heard found.new) (L.files library.old) file.entry.name.now ending.bytes
         ending.rate) }
@@ -144,14 +147,18 @@ fn unwrap_part<F: Found>(
     scanner: &mut Scanner,
     found: &mut F,
 ) -> Result<usize, StreamError>
+    // needs: bytes, and a scanner that was fed no more than the unwrapper
     requires some { 0 < length chunk.now }
     requires room { unwrapper.old.fed + length chunk.now ≤ 2 ^ 40 }
     requires few { bytes_fed scanner.old ≤ unwrapper.old.fed }
     requires ready { IsSliceReady (F.ready_at found.old) scanner.old }
+    // answers: how many bytes were taken, at least one
     ensures taken { IfOk result (λ taken. (0 < taken) × (taken ≤ length chunk.now)) }
     ensures count { IfOk result (λ taken. unwrapper.new.fed ≡ unwrapper.old.fed + taken) }
     ensures few { IfOk result (λ taken. bytes_fed scanner.new ≤ unwrapper.old.fed + taken) }
+    // leaves: a visitor that knows where it is
     ensures ready { IsSliceReady (F.ready_at found.new) scanner.new }
+    // answers: these bytes were unwrapped behind whatever came before, or why not
     ensures next { (seen : List ℕ) → HasUnwrapped (F.heard found.old) unwrapper.old scanner.old seen
         → IfOk result (λ taken. HasUnwrapped (F.heard found.new) unwrapper.new scanner.new
         (seen ++ take taken chunk.now)) }
@@ -171,12 +178,16 @@ fn unwrap_chunk<F: Found>(
     scanner: &mut Scanner,
     found: &mut F,
 ) -> Result<(), StreamError>
+    // needs: a scanner that was fed no more than the unwrapper
     requires room { unwrapper.old.fed + length chunk.now ≤ 2 ^ 40 }
     requires few { bytes_fed scanner.old ≤ unwrapper.old.fed }
     requires ready { IsSliceReady (F.ready_at found.old) scanner.old }
+    // answers: all bytes of the chunk were taken
     ensures count { OnOk result (unwrapper.new.fed ≡ unwrapper.old.fed + length chunk.now) }
     ensures few { OnOk result (bytes_fed scanner.new ≤ unwrapper.new.fed) }
+    // leaves: a visitor that knows where it is
     ensures ready { IsSliceReady (F.ready_at found.new) scanner.new }
+    // answers: this chunk was unwrapped behind whatever came before, or why not
     ensures next { (seen : List ℕ) → HasUnwrapped (F.heard found.old) unwrapper.old scanner.old seen
         → OnOk result (HasUnwrapped (F.heard found.new) unwrapper.new scanner.new
         (seen ++ chunk.now)) }
@@ -202,6 +213,8 @@ fn feed_stream<'a, L: Library, F: Found>(
     scanner: &mut Scanner,
     found: &mut F,
 ) -> Result<(), CliError<'a>>
+    // needs: a chunk with room, a file that was found with a stream from there, and both parsers
+    // before its first byte
     requires some { 0 < length chunk.old }
     requires short { file.size ≤ 2 ^ 40 }
     requires opened { WasOpened (L.files library.old) file.name.now file.size (Some from) }
@@ -210,8 +223,10 @@ fn feed_stream<'a, L: Library, F: Found>(
         (L.files library.old) file.name.now file.size from from unwrapper.old scanner.old }
     requires few { bytes_fed scanner.old ≤ unwrapper.old.fed }
     requires ready { IsSliceReady (F.ready_at found.old) scanner.old }
+    // leaves: the library, which was only read, and a visitor that knows where it is
     ensures library { IsReadOnly L.files L.faults library.old library.new }
     ensures ready { IsSliceReady (F.ready_at found.new) scanner.new }
+    // answers: the stream was read to its end, or why not
     ensures streamed { OnOk result (HasStreamedAll (F.heard found.new)
         (L.files library.old) file.entry.name.now file.entry.size from unwrapper.new
         scanner.new) }

@@ -135,17 +135,21 @@ impl Progress {
         value: u8,
         found: &mut F,
     ) -> Result<(), ScanRefused>
+        // needs: room for the code, and a visitor that awaits what may come
         requires room { HasRoomWith self.old.latest self.old.tally place }
         requires within { place ≤ MAX_FILM_BYTES }
         requires ready { AwaitsSlice (F.ready_at found.old) (tally_now self.old) }
+        // answers: the code is allowed here, and what ends at it was reported
         ensures taken { OnOk result ((judgement self.old place value ≡ None)
             × (self.new ≡ scan_with_code self.old place value)) }
         ensures heard { OnOk result ((calls : List Call) → F.heard found.old calls
             → F.heard found.new (calls ++ calls_at (tally_now self.old) place value)) }
+        // answers: else the fault of the code; then nothing was reported
         ensures fault { (f : FilmFault) → result ≡ Err (ScanRefused.Fault f) →
             judgement self.old place value ≡ Some f }
         ensures unheard { (f : FilmFault) → result ≡ Err (ScanRefused.Fault f) →
             found.new ≡ found.old }
+        // leaves: the number of bytes, and a visitor that awaits what may come
         ensures fed { self.new.fed ≡ self.old.fed }
         ensures ready { OnOk result
             (AwaitsSliceAfter (F.ready_at found.new) (tally_now self.old) place value) }
@@ -163,19 +167,23 @@ impl Progress {
 
     /// Takes a byte.
     fn take_byte<F: Found>(&mut self, byte: u8, found: &mut F) -> Result<(), ScanRefused>
+        // needs: room for a byte, and a visitor that awaits what may come
         requires short { self.old.fed < MAX_FILM_BYTES }
         requires room { IsAhead self.old }
         requires ready { AwaitsSlice (F.ready_at found.old) (tally_now self.old) }
+        // answers: the byte was read behind those before it, and what ends at it was reported
         ensures kept { OnOk result ((r : List ℕ) → HasReadBytes self.old r →
             HasReadBytes self.new (byte ∷ r)) }
         ensures heard { OnOk result ((r : List ℕ) (calls : List Call) → HasReadBytes self.old r →
             F.heard found.old (calls ++ calls_of (codes_of r))
             → F.heard found.new (calls ++ calls_of (codes_of (byte ∷ r)))) }
+        // answers: else the first fault of these bytes; then nothing was reported
         ensures fault { (f : FilmFault) → result ≡ Err (ScanRefused.Fault f) → (r : List ℕ) →
             HasReadBytes self.old r
             → first_fault (codes_of (byte ∷ r)) ≡ Some f }
         ensures unheard { (f : FilmFault) → result ≡ Err (ScanRefused.Fault f) →
             found.new ≡ found.old }
+        // leaves: one byte more, and room as before
         ensures fed { self.new.fed ≡ self.old.fed + 1 }
         ensures room { OnOk result
             (IsAhead self.new) }

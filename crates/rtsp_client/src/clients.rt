@@ -380,13 +380,17 @@ impl Client {
         length: usize,
         link: &mut K,
     ) -> Result<(), WatchEnd>
+        // needs: a good reply to SETUP first in the input
         requires first { replies_in self.old ≡ 0 }
         requires message { IsFirst self.old.input (Ok (Request length)) }
         requires good { IsAwaited self.old (take length self.old.input) 200 }
+        // leaves: the input, and what was received
         ensures input { self.new.input ≡ self.old.input }
         ensures few { self.new.watching.received ≡ self.old.watching.received }
+        // fails: only where the link counted a fault
         ensures count { K.faults link.old ≤ K.faults link.new }
         ensures cause { EndsWithCause result (K.faults link.old) (K.faults link.new) 0 0 }
+        // answers: what the course of the client says at this reply
         ensures passed { PassesReply wish.now length result
             (stand self.old (K.told link.old)) (stand self.new (K.told link.new)) }
         ensures ended { EndsAtReply wish.now length result
@@ -404,11 +408,14 @@ impl Client {
 
     /// Processes the reply to PLAY, which is the first element that waits.
     fn take_play(&mut self, wish: &Wish, length: usize) -> Result<(), WatchEnd>
+        // needs: a good reply to PLAY first in the input
         requires second { replies_in self.old ≡ 1 }
         requires message { IsFirst self.old.input (Ok (Request length)) }
         requires good { IsAwaited self.old (take length self.old.input) 200 }
+        // leaves: the input, and what was received
         ensures input { self.new.input ≡ self.old.input }
         ensures few { self.new.watching.received ≡ self.old.watching.received }
+        // answers: what the course of the client says at this reply
         ensures cause { EndsWithCause result 0 0 0 0 }
         ensures passed { (told : Option (List IoEvent)) → PassesReply wish.now length result
             (stand self.old told) (stand self.new told) }

@@ -51,12 +51,15 @@ fn hear_all<K: Link, O: Sink>(
     link: &mut K,
     out: &mut O,
 ) -> WatchEnd
+    // needs: a client that has sent SETUP and received nothing
     requires wish { IsWish wish.now }
     requires new { client.old.watching ≡ new_state }
     requires empty { client.old.input ≡ [] }
     requires session { client.old.session ≡ None }
+    // fails: only where the link or the output counted a fault
     ensures count { K.faults link.old ≤ K.faults link.new }
     ensures count_out { O.faults out.old ≤ O.faults out.new }
+    // answers: what the course of the client says
     ensures watched { (told : Option (List IoEvent)) →
         K.told link.old ≡ told_more told (sends (setup_text wish.now)) →
         HasWatched wish.now result told (K.told link.new) (O.written out.old) (O.written out.new) }

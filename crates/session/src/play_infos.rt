@@ -18,12 +18,16 @@ pub(crate) fn info_of<'m>(
     prepared: &Prepared<'_>,
     authority: &'m [u8],
 ) -> PlayInfo<'m>
+    // needs: pictures of a film
     requires from { prepared.now.run.from_unit ≤ MAX_FILM_PICTURES }
     requires end { prepared.now.run.end_unit ≤ MAX_FILM_PICTURES }
+    // answers: the times of its first and last picture
     ensures first { result.first_ms ≡ milliseconds_at stored.now.film prepared.now.run.from_unit }
     ensures end { result.end_ms ≡ milliseconds_at stored.now.film prepared.now.run.end_unit }
+    // answers: the URL of the stream
     ensures authority { result.authority.now ≡ authority.now }
     ensures name { result.name.now ≡ string_bytes stored.now.name }
+    // answers: the number and the time of the next frame (RFC 2326 section 12.33)
     ensures number { let sent = counts_after prepared.now.counts prepared.now.frames
         prepared.now.run.sent in
         result.sequence ≡ (identity_of source setup.now sent).sequence }

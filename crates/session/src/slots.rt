@@ -150,14 +150,17 @@ fn step<K: Link>(
     link: &mut K,
 ) -> Result<u64, LinkFault>
     requires { IsPacingIn state.old }
+    // fails: only where the link counted a fault; then a prefix was sent, and what is due is known
     ensures count { K.faults link.old ≤ K.faults link.new }
     ensures fault { OnErr result (HasRisen (K.faults link.old) (K.faults link.new)) }
     ensures front { OnErr result
         (IsSentPrefix (K.told link.old) (K.told link.new) (step_bytes stop slot state.old)) }
     ensures due { OnErr result (open_in state.new ≡ open_in (stepped_in stop slot state.old)) }
+    // leaves: the same play; what is left is stopped only at a boundary
     ensures carried { IsCarried state.old state.new }
     ensures left { IfOk result (IsLeft state.new) }
     ensures whole { OnOk result (stop ≡ false → IsEven state.new) }
+    // answers: all bytes that are due
     ensures exact { OnOk result (state.new ≡ stepped_in stop slot state.old) }
     ensures between { IfOk result (λ left. 0 < left → stop ≡ true → is_between state.new ≡ true) }
     ensures told { OnOk result
@@ -191,17 +194,21 @@ fn send_due<K: Link>(
     slot: u64,
     link: &mut K,
 ) -> Result<bool, LinkFault>
+    // needs: a play whose bytes are being sent
     requires pacing { IsPacingIn state.old }
     requires sending { is_sending state.old ≡ true }
+    // fails: only where the link counted a fault; then a prefix was sent, and what is due is known
     ensures count { K.faults link.old ≤ K.faults link.new }
     ensures fault { OnErr result (HasRisen (K.faults link.old) (K.faults link.new)) }
     ensures front { OnErr result
         (IsSentPrefix (K.told link.old)
         (K.told link.new) (due_bytes waits state.old reply.now slot)) }
     ensures due { OnErr result (open_in state.new ≡ open_in (due_state waits state.old slot)) }
+    // leaves: the same play, with all sent that is due
     ensures carried { IsCarried state.old state.new }
     ensures even { OnOk result (IsEven state.new) }
     ensures exact { OnOk result (state.new ≡ due_state waits state.old slot) }
+    // answers: whether the reply went out, at a boundary, and which bytes
     ensures sent { IfOk result (λ sent. sent ≡
         (waits && is_between (stepped_in true slot state.old))) }
     ensures told { OnOk result
@@ -231,18 +238,22 @@ fn send_both<K: Link>(
     slot: u64,
     link: &mut K,
 ) -> Result<(), LinkFault>
+    // needs: a play whose bytes are being sent, at a boundary
     requires pacing { IsPacingIn state.old }
     requires sending { is_sending state.old ≡ true }
     requires raised { open_in (stepped_in false slot state.old) ≡ open_in state.old }
+    // fails: only where the link counted a fault; then a prefix was sent, and what is due is known
     ensures count { K.faults link.old ≤ K.faults link.new }
     ensures fault { OnErr result (HasRisen (K.faults link.old) (K.faults link.new)) }
     ensures front { OnErr result
         (IsSentPrefix (K.told link.old) (K.told link.new)
         (reply.now ++ step_bytes false slot state.old)) }
     ensures due { OnErr result (open_in state.new ≡ open_in (stepped_in false slot state.old)) }
+    // leaves: the same play, with all sent that is due
     ensures carried { IsCarried state.old state.new }
     ensures even { OnOk result (IsEven state.new) }
     ensures exact { OnOk result (state.new ≡ stepped_in false slot state.old) }
+    // answers: the reply, and then those bytes
     ensures told { OnOk result
         (K.told link.new ≡ told_more (K.told link.old)
         (sends (reply.now ++ step_bytes false slot state.old))) }

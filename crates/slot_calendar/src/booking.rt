@@ -117,12 +117,14 @@ fn sent_through(segment: Segment, count: u64) -> u64
 
 /// Adds a segment that begins at slot `from`.
 fn book_segment(ring: &mut Ring, from: u64, segment: Segment)
+    // needs: a segment from now on, within the ring, for which every slot has room
     requires plan { IsPlan (segment ∷ []) }
     requires small { from ≤ 2 ^ 63 }
     requires from_now { ring.old.first ≤ from }
     requires within { from + segment.slots ≤ ring.old.first + ring_slots }
     requires fits { (t : ℕ) → ring.old.first ≤ t →
         total_of ring.old t + asked_at (segment ∷ []) from t ≤ MAX_CAPACITY }
+    // leaves: each slot from now on with what the segment adds to it
     ensures now { ring.new.first ≡ ring.old.first }
     ensures stale { ring.new.stale ≡ ring.old.stale }
     ensures totals { (t : ℕ) → ring.old.first ≤ t →

@@ -58,10 +58,12 @@ impl<B: Kept> Turn<B> {
     /// Puts the value back, counts the entry that its list has more, passes the lock to the next
     /// ticket and rings its bell.
     pub(crate) fn end(self, shared: &SharedTable<B>, wakers: &Wakers) -> Place<B>
+        // needs: the lock of this table, and a list with at most one entry more, of its own
         requires sized { IsSized shared.now.table_id }
         requires here { self.pass.id ≡ shared.now.table_id }
         requires list { MayLeave self.pass.seen self.pass.number (B.entries self.value) }
         requires terms { B.terms self.value ≡ self.pass.terms }
+        // answers: a place that rests, and has seen the list as it was put back
         ensures free { IsFree result.me }
         ensures here { result.table_id ≡ self.pass.id }
         ensures view { IsViewOf self.pass.number self.pass.splits result.me.0 }
