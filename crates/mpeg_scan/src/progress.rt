@@ -97,7 +97,9 @@ impl Progress {
         }
     }
 
-    /// Judges a code, and adds the latest code to the tally of those before it.
+    /// Judges a code, and adds the latest code to the tally of those before it. Inlined, since for
+    /// most codes little of it is done.
+    #[inline(always)]
     #[tactic(auto, unfolding(crate::specs::CodeSteps::code_judgement))]
     fn judge(&mut self, place: u64, value: u8) -> Result<(), FilmFault>
         requires room { HasRoomWith self.old.latest self.old.tally place }
@@ -117,6 +119,21 @@ impl Progress {
                 return Ok(());
             }
         }
+        self.judge_other(place, value)
+    }
+
+    /// The same for any code.
+    #[tactic(auto, unfolding(crate::specs::CodeSteps::code_judgement))]
+    fn judge_other(&mut self, place: u64, value: u8) -> Result<(), FilmFault>
+        requires room { HasRoomWith self.old.latest self.old.tally place }
+        requires within { place ≤ MAX_FILM_BYTES }
+        ensures judged { MatchResult result
+            (λ _. (judgement self.old place value ≡ None)
+            × (self.new.tally ≡ tally_now self.old))
+            (λ f. judgement self.old place value ≡ Some f) }
+        ensures fed { self.new.fed ≡ self.old.fed }
+        ensures prefix { self.new.prefix ≡ self.old.prefix }
+    {
         // Only the next code shows whether the header before it is complete.
         if let Some(fault) = self.header_fault(place) {
             return Err(fault);
