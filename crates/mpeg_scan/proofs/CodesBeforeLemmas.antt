@@ -3,7 +3,7 @@
 use Rattle.std.proofs.Common.{ℕ, Bool, true, false, cond, eqb, ltb, leb, ◌&&◌, ◌||◌, ◌+◌, ◌<◌, ◌≤◌}
 use Rattle.std.proofs.Common.{◌≡◌, ◌⊎◌, List, [], ◌∷◌, Option, Some, None, sym, ◌∙◌, ap, refl}
 use Rattle.std.proofs.Common.{subst, inl, inr, arith}
-use Rattle.std.proofs.lemmas.Bool.{cases_lt, eqb-true, eq-eqb, ltb-true, lt-ltb, leb-true, le-leb}
+use Rattle.std.proofs.lemmas.Bool.{cases_Bool, cases_lt, eqb-true, eq-eqb, ltb-true, lt-ltb, leb-true, le-leb}
 use Rattle.std.proofs.lemmas.Bool.{and_parts, and_from, false≢true, true≢false}
 use Rattle.mpeg_scan.specs.declared.codes.Code.{Code}
 use Rattle.mpeg_scan.specs.declared.tallies.Header.{Header}
@@ -16,96 +16,94 @@ use Rattle.mpeg_scan.specs.StandardUnits.{StandsThere}
 use Rattle.mpeg_scan.proofs.PartTilingLemmas.{slice-apart}
 use Rattle.mpeg_scan.proofs.CodeSpacingLemmas.{Spaced, all-below}
 
--- these are the codes that stand before a place
+-- these are the codes that stand before a place, the latest first
 pub record Knows (Has : ℕ → ℕ → Type 0) (past : List Code) (at : ℕ) : Type 0 where
   pub there : (place value : ℕ) → HasCode place value past → Has place value
   pub below : (place value : ℕ) → HasCode place value past → place < at
   pub back : (place value : ℕ) → Has place value → place < at → HasCode place value past
+  pub spaced : Spaced past
+
+-- the same where there is one: the latest code, and those before it
+pub record CodesBefore (Has : ℕ → ℕ → Type 0) : Type 0 where
+  pub latest : Code
+  pub past : List Code
+  pub at : ℕ
+  pub knows : Knows Has (latest ∷ past) at
+
+abbrev pub known : {Has : ℕ → ℕ → Type 0} {c : Code} {past : List Code} {at : ℕ} → Knows Has (c ∷ past) at
+    → CodesBefore Has
+known {c} {past} {at} k = record { latest = c; past = past; at = at; knows = k }
 
 older-back : (c : Code) (past : List Code) (place value : ℕ) → place < c.place →
     HasCode place value (c ∷ past) → HasCode place value past
 older-back c past place value before (inl new) = absurd (omega (arith, new.0, before))
 older-back c past place value before (inr old) = old
 
-pub older : (Has : ℕ → ℕ → Type 0) (c : Code) (past : List Code) (at : ℕ) →
-    Knows Has (c ∷ past) at → Spaced (c ∷ past) → Knows Has past c.place
-older Has c past at k spaced = record {
-  there = λ place value has. k.there place value (inr has);
-  below = all-below past spaced.1 spaced.0;
+pub has-new : {Has : ℕ → ℕ → Type 0} (s : CodesBefore Has) → Has s.latest.place s.latest.value
+has-new s = s.knows.there s.latest.place s.latest.value (inl (refl, refl))
+
+pub new-below : {Has : ℕ → ℕ → Type 0} (s : CodesBefore Has) → s.latest.place < s.at
+new-below s = s.knows.below s.latest.place s.latest.value (inl (refl, refl))
+
+pub older : {Has : ℕ → ℕ → Type 0} (s : CodesBefore Has) → Knows Has s.past s.latest.place
+older s = record {
+  there = λ place value has. s.knows.there place value (inr has);
+  below = all-below s.past s.knows.spaced.1 s.knows.spaced.0;
   back = λ place value has before.
-      older-back c past place value before
-      (k.back place value has (omega (arith, before, k.below c.place c.value (inl (refl, refl)))));
+      older-back s.latest s.past place value before
+      (s.knows.back place value has (omega (arith, before, new-below s)));
+  spaced = s.knows.spaced.1;
 }
 
-pub has-new : (Has : ℕ → ℕ → Type 0) (c : Code) (past : List Code) (at : ℕ) →
-    Knows Has (c ∷ past) at → Has c.place c.value
-has-new Has c past at k = k.there c.place c.value (inl (refl, refl))
-
-pub new-below : (Has : ℕ → ℕ → Type 0) (c : Code) (past : List Code) (at : ℕ) →
-    Knows Has (c ∷ past) at → c.place < at
-new-below Has c past at k = k.below c.place c.value (inl (refl, refl))
-
 -- a code before the place is the latest, or stands before that
-pub data Where (Has : ℕ → ℕ → Type 0) (c : Code) (place value : ℕ) : Type 0 where
-  here : c.place ≡ place → c.value ≡ value → Where Has c place value
-  earlier : place < c.place → Where Has c place value
+pub data Where (c : Code) (place value : ℕ) : Type 0 where
+  here : c.place ≡ place → c.value ≡ value → Where c place value
+  earlier : place < c.place → Where c place value
 
-where-by : {Has : ℕ → ℕ → Type 0} {c : Code} {place value : ℕ} (past : List Code) →
-    Spaced (c ∷ past) → HasCode place value (c ∷ past) → Where Has c place value
-where-by {Has} {c} {place} past spaced (inl new) = here new.0 new.1
-where-by {Has} {c} {place} {value} past spaced (inr old) =
-    earlier (all-below past spaced.1 spaced.0 place value old)
+where-by : {c : Code} {place value : ℕ} (past : List Code) → Spaced (c ∷ past) → HasCode place value (c ∷ past)
+    → Where c place value
+where-by past spaced (inl new) = here new.0 new.1
+where-by {place} {value} past spaced (inr old) = earlier (all-below past spaced.1 spaced.0 place value old)
 
-pub where-is : {Has : ℕ → ℕ → Type 0} {c : Code} {past : List Code} {at : ℕ} →
-    Knows Has (c ∷ past) at → Spaced (c ∷ past) → {place value : ℕ} → Has place value → place < at →
-    Where Has c place value
-where-is {Has} {c} {past} {at} k spaced {place} {value} has before =
-    where-by past spaced (k.back place value has before)
+pub where-is : {Has : ℕ → ℕ → Type 0} (s : CodesBefore Has) {place value : ℕ} → Has place value → place < s.at
+    → Where s.latest place value
+where-is s {place} {value} has before = where-by s.past s.knows.spaced (s.knows.back place value has before)
 
 -- none before the latest code, and that one isn't such: none
-pub none-with : {Has : ℕ → ℕ → Type 0} {c : Code} {past : List Code} {at from : ℕ} {OfValue : ℕ → Type 0} →
-    Knows Has (c ∷ past) at → Spaced (c ∷ past) → (OfValue c.value → ⊥) →
-    NoneIn Has from c.place OfValue → NoneIn Has from at OfValue
-none-with {Has} {c} {at} {from} {OfValue} k spaced other none place value has after before is =
-    elim (where-is k spaced has before) [
+pub none-with : {Has : ℕ → ℕ → Type 0} {from : ℕ} {OfValue : ℕ → Type 0} (s : CodesBefore Has)
+    → (OfValue s.latest.value → ⊥) → NoneIn Has from s.latest.place OfValue → NoneIn Has from s.at OfValue
+none-with {OfValue} s other none place value has after before is =
+    elim (where-is s has before) [
       | here e m ↦ other (subst OfValue (sym m) is)
       | earlier below ↦ none place value has after below is
     ]
 
 -- the same from the latest code on
-none-from : {Has : ℕ → ℕ → Type 0} {c : Code} {past : List Code} {at : ℕ} (OfValue : ℕ → Type 0) →
-    Knows Has (c ∷ past) at → Spaced (c ∷ past) → (OfValue c.value → ⊥) → NoneIn Has c.place at OfValue
-none-from {Has} {c} {at} OfValue k spaced other =
-    none-with k spaced other (λ place value has after before is.
-    absurd (omega (arith, after, before)))
+none-from : {Has : ℕ → ℕ → Type 0} (OfValue : ℕ → Type 0) (s : CodesBefore Has)
+    → (OfValue s.latest.value → ⊥) → NoneIn Has s.latest.place s.at OfValue
+none-from OfValue s other =
+    none-with s other (λ place value has after before is. absurd (omega (arith, after, before)))
 
-pub none-after : {Has : ℕ → ℕ → Type 0} {c : Code} {past : List Code} {at : ℕ} (OfValue : ℕ → Type 0)
-    → Knows Has (c ∷ past) at → Spaced (c ∷ past) → NoneIn Has (c.place + 1) at OfValue
-none-after {Has} {c} {at} OfValue k spaced place value has after before is =
-    elim (where-is k spaced has before) [
+pub none-after : {Has : ℕ → ℕ → Type 0} (OfValue : ℕ → Type 0) (s : CodesBefore Has)
+    → NoneIn Has (s.latest.place + 1) s.at OfValue
+none-after OfValue s place value has after before is =
+    elim (where-is s has before) [
       | here e m ↦ absurd (omega (arith, e, after))
       | earlier below ↦ absurd (omega (arith, below, after))
     ]
 
 -- ---- the latest code
 
-pub latest-new : (Has : ℕ → ℕ → Type 0) (c : Code) (past : List Code) (at : ℕ) →
-    Knows Has (c ∷ past) at → Spaced (c ∷ past) → IsLatest Has c.place c.value at
-latest-new Has c past at k spaced = record {
-  code = has-new Has c past at k;
-  before = new-below Has c past at k;
-  last = none-after AnyValue k spaced;
-}
+pub latest-new : {Has : ℕ → ℕ → Type 0} (s : CodesBefore Has) → IsLatest Has s.latest.place s.latest.value s.at
+latest-new s = record { code = has-new s; before = new-below s; last = none-after AnyValue s }
 
-pub latest-is : {Has : ℕ → ℕ → Type 0} {c : Code} {past : List Code} {at place value : ℕ} →
-    Knows Has (c ∷ past) at → Spaced (c ∷ past) → IsLatest Has place value at → (c.place ≡ place)
-    × (c.value ≡ value)
-latest-is {Has} {c} {past} {at} {place} k spaced l =
-    elim (where-is k spaced l.code l.before) [
+pub latest-is : {Has : ℕ → ℕ → Type 0} (s : CodesBefore Has) {place value : ℕ} → IsLatest Has place value s.at
+    → (s.latest.place ≡ place) × (s.latest.value ≡ value)
+latest-is s l =
+    elim (where-is s l.code l.before) [
       | here e m ↦ (e, m)
       | earlier below ↦ absurd
-          (l.last c.place c.value (has-new Has c past at k) (omega (arith, below))
-          (new-below Has c past at k) tt)
+          (l.last s.latest.place s.latest.value (has-new s) (omega (arith, below)) (new-below s) tt)
     ]
 
 -- ---- values
@@ -140,9 +138,6 @@ no-slice value e is = false≢true (sym e ∙ value-slice value is)
 pub no-head : (value : ℕ) → is_head value ≡ false → IsHeadValue value → ⊥
 no-head value e is = false≢true (sym e ∙ value-head value is)
 
-head-no-slice : (value : ℕ) → is_head value ≡ true → IsSliceValue value → ⊥
-head-no-slice value e is = true≢false (sym e ∙ slice-apart value (value-slice value is))
-
 -- ---- a slice, after which no head stands
 
 pub record HasSlice (Has : ℕ → ℕ → Type 0) (at : ℕ) : Type 0 where
@@ -151,119 +146,74 @@ pub record HasSlice (Has : ℕ → ℕ → Type 0) (at : ℕ) : Type 0 where
   pub before : place < at
   pub none : NoneIn Has place at IsHeadValue
 
-slice-by : {h s : Bool} {Has : ℕ → ℕ → Type 0} {c : Code} {past : List Code} {at n : ℕ} →
-    is_head c.value ≡ h → is_slice c.value ≡ s → Knows Has (c ∷ past) at → Spaced (c ∷ past)
-    → (0 < n → HasSlice Has c.place) → 0 < cond h 0 (cond s (n + 1) n) → HasSlice Has at
-slice-by {h = true} {s} {Has} {c} {at} head slice k spaced before some = absurd (omega (arith, some))
-slice-by {h = false} {s = true} {Has} {c} {past} {at} head slice k spaced before some = record {
-  place = c.place;
-  code = (c.value, (has-new Has c past at k, slice-value c.value slice));
-  before = new-below Has c past at k;
-  none = none-from IsHeadValue k spaced (no-head c.value head);
-}
-slice-by {h = false} {s = false} {Has} {c} {past} {at} head slice k spaced before some =
-    let it = before some in record {
-      place = it.place;
-      code = it.code;
-      before = omega (arith, it.before, new-below Has c past at k);
-      none = none-with k spaced (no-head c.value head) it.none;
-    }
+slices-some : (h s : Bool) (n : ℕ) → 0 < cond h 0 (cond s (n + 1) n) → (h ≡ false) × ((s ≡ true) ⊎ (0 < n))
+slices-some true s n some = absurd (omega (arith, some))
+slices-some false true n some = (refl, inl refl)
+slices-some false false n some = (refl, inr some)
 
-pub slice-there : (Has : ℕ → ℕ → Type 0) (past : List Code) (at : ℕ) → Knows Has past at →
-    Spaced past → 0 < slice_count past → HasSlice Has at
-slice-there Has [] at k spaced some = absurd (omega (arith, some))
-slice-there Has (c ∷ past) at k spaced some =
-    slice-by {n = slice_count past} refl refl k spaced
-    (slice-there Has past c.place (older Has c past at k spaced) spaced.1) some
+pub slice-there : {Has : ℕ → ℕ → Type 0} {past : List Code} {at : ℕ} → Knows Has past at → 0 < slice_count past
+    → HasSlice Has at
+slice-there {past = []} k some = absurd (omega (arith, some))
+slice-there {past = c ∷ past} k some =
+    let s = known k in
+    let is = slices-some (is_head c.value) (is_slice c.value) (slice_count past) some in
+    elim is.1 [
+      | inl slice ↦ record {
+        place = c.place;
+        code = (c.value, (has-new s, slice-value c.value slice));
+        before = new-below s;
+        none = none-from IsHeadValue s (no-head c.value is.0);
+      }
+      | inr older_some ↦ (let it = slice-there (older s) older_some in record {
+        place = it.place;
+        code = it.code;
+        before = omega (arith, it.before, new-below s);
+        none = none-with s (no-head c.value is.0) it.none;
+      })
+    ]
 
 -- ---- the latest unit's head
 
-not-open-by : {Has : ℕ → ℕ → Type 0} {unit at : ℕ} → (s : HasSlice Has at) → s.place < unit →
-    unit < at → BeginsUnit Has unit → ⊥
-not-open-by {Has} {at} s far below (inl first) =
-    absurd (omega (arith, far, first.1 s.place s.code.0 s.code.1.0))
-not-open-by {Has} {unit} {at} s far below (inr it) =
-    s.none unit it.0.0 it.0.1.0 (omega (arith, far)) below it.0.1.1
-
-pub not-open : (Has : ℕ → ℕ → Type 0) (unit at : ℕ) → HasSlice Has at → IsOpenHead Has unit at → ⊥
-not-open Has unit at s o = elim (cases_lt s.place unit) [
-  | inl far ↦ not-open-by s far o.before o.begins
+pub not-open : {Has : ℕ → ℕ → Type 0} {unit at : ℕ} → HasSlice Has at → IsOpenHead Has unit at → ⊥
+not-open {unit} s o = elim (cases_lt s.place unit) [
+  | inl far ↦ elim o.begins [
+    | inl first ↦ absurd (omega (arith, far, first.1 s.place s.code.0 s.code.1.0))
+    | inr it ↦ s.none unit it.0.0 it.0.1.0 (omega (arith, far)) o.before it.0.1.1
+  ]
   | inr near ↦ o.no_slice s.place s.code.0 s.code.1.0 near s.before s.code.1.1
 ]
-
--- no slice stands before an open head, after the head before it
-not-between : {Has : ℕ → ℕ → Type 0} {u v s : ℕ} → u < v → s < u → NoneIn Has s v IsHeadValue →
-    StandsThere Has s IsSliceValue → BeginsUnit Has u → ⊥
-not-between {Has} {s} less far none slice (inl first) =
-    absurd (omega (arith, far, first.1 s slice.0 slice.1.0))
-not-between {Has} {u} {s} less far none slice (inr it) =
-    none u it.0.0 it.0.1.0 (omega (arith, far)) less it.0.1.1
 
 begins-stands : (Has : ℕ → ℕ → Type 0) (u : ℕ) → BeginsUnit Has u → StandsThere Has u AnyValue
 begins-stands Has u (inl first) = first.0
 begins-stands Has u (inr it) = (it.0.0, (it.0.1.0, tt))
 
-not-after : {Has : ℕ → ℕ → Type 0} {u v at : ℕ} → u < v → v < at → IsOpenHead Has u at →
-    BeginsUnit Has v → ⊥
-not-after {Has} {u} {at} less below o (inl first) =
-    let has = begins-stands Has u o.begins in omega (arith, less, first.1 u has.0 has.1.0)
-not-after {Has} {u} {at} less below o (inr it) =
-    let s = it.1.0 in
-    let slice = it.1.1.0.0 in elim (cases_lt s u) [
-      | inl far ↦ not-between less far it.1.1.1 slice o.begins
-      | inr near ↦ o.no_slice s slice.0 slice.1.0 near (omega (arith, it.1.1.0.1, below)) slice.1.1
-    ]
-
-pub one-head : (Has : ℕ → ℕ → Type 0) (u v at : ℕ) → IsOpenHead Has u at → IsOpenHead Has v at →
-    u ≡ v
-one-head Has u v at one other = elim (cases_lt u v) [
-  | inl less ↦ absurd (not-after less other.before one other.begins)
-  | inr more ↦ elim (cases_lt v u) [
-    | inl less ↦ absurd (not-after less one.before other one.begins)
-    | inr same ↦ omega (arith, more, same)
+-- no unit begins after an open head
+heads-order : {Has : ℕ → ℕ → Type 0} {u v at : ℕ} → IsOpenHead Has u at → IsOpenHead Has v at → v ≤ u
+heads-order {Has} {u} {v} one other = elim (cases_lt u v) [
+  | inl less ↦ elim other.begins [
+    | inl first ↦
+        absurd (let has = begins-stands Has u one.begins in omega (arith, less, first.1 u has.0 has.1.0))
+    | inr it ↦
+        absurd (not-open {unit = u} {at = v}
+        (record { place = it.1.0; code = it.1.1.0.0; before = it.1.1.0.1; none = it.1.1.1 })
+        (record {
+          begins = one.begins;
+          before = less;
+          no_slice = λ place value has after before is.
+              one.no_slice place value has after (omega (arith, before, other.before)) is;
+        }))
   ]
+  | inr more ↦ more
 ]
+
+pub one-head : {Has : ℕ → ℕ → Type 0} {u v at : ℕ} → IsOpenHead Has u at → IsOpenHead Has v at → u ≡ v
+one-head one other = omega (arith, heads-order one other, heads-order other one)
 
 none-left : (h s : Bool) (n : ℕ) → cond h 0 (cond s (n + 1) n) ≡ 0 → h ≡ false → (s ≡ false)
     × (n ≡ 0)
 none-left true s n e is = absurd (true≢false is)
 none-left false true n e is = absurd (omega (arith, e))
 none-left false false n e is = (refl, e)
-
--- a code that isn't a slice leaves a head open
-open-with : {Has : ℕ → ℕ → Type 0} {c : Code} {past : List Code} {at unit : ℕ} →
-    Knows Has (c ∷ past) at → Spaced (c ∷ past) → (IsSliceValue c.value → ⊥) →
-    IsOpenHead Has unit c.place → IsOpenHead Has unit at
-open-with {Has} {c} {past} {at} k spaced other o = record {
-  begins = o.begins;
-  before = omega (arith, o.before, new-below Has c past at k);
-  no_slice = none-with k spaced other o.no_slice;
-}
-
-not-slice-by : {h s : Bool} {value : ℕ} (n : ℕ) → is_head value ≡ h → is_slice value ≡ s →
-    cond h 0 (cond s (n + 1) n) ≡ 0 → IsSliceValue value → ⊥
-not-slice-by {h = true} {s} {value} n head slice e = head-no-slice value head
-not-slice-by {h = false} {s} {value} n head slice e = no-slice value (slice ∙ (none-left false s n e refl).0)
-
--- a code that begins a unit
-open-new : {Has : ℕ → ℕ → Type 0} {c : Code} {past : List Code} {at : ℕ} → Knows Has (c ∷ past) at →
-    Spaced (c ∷ past) → (IsSliceValue c.value → ⊥) → BeginsUnit Has c.place →
-    IsOpenHead Has c.place at
-open-new {Has} {c} {past} {at} k spaced other begins = record {
-  begins = begins;
-  before = new-below Has c past at k;
-  no_slice = none-from IsSliceValue k spaced other;
-}
-
--- the first code
-firsts : (Has : ℕ → ℕ → Type 0) (c : Code) (at : ℕ) → Knows Has (c ∷ []) at →
-    IsFirstCode Has c.place
-firsts Has c at k place value has = elim (cases_lt place c.place) [
-  | inl before ↦ absurd
-      (older-back c [] place value before
-      (k.back place value has (omega (arith, before, new-below Has c [] at k))))
-  | inr after ↦ after
-]
 
 left-zero : (h s : Bool) (n : ℕ) → cond h 0 (cond s (n + 1) n) ≡ 0 → (h && ltb 0 n) ≡ false → n ≡ 0
 left-zero true s n e b = elim (cases_lt 0 n) [
@@ -272,34 +222,55 @@ left-zero true s n e b = elim (cases_lt 0 n) [
 ]
 left-zero false s n e b = (none-left false s n e refl).1
 
-open-by : {b : Bool} {Has : ℕ → ℕ → Type 0} {c : Code} {past : List Code} {at unit : ℕ} →
-    (is_head c.value && ltb 0 (slice_count past)) ≡ b → Knows Has (c ∷ past) at → Spaced (c ∷ past) →
-    slice_count (c ∷ past) ≡ 0
-    → (slice_count past ≡ 0 → IsOpenHead Has unit c.place) → IsOpenHead Has (cond b c.place unit) at
-open-by {b = true} {Has} {c} {past} {at} e k spaced none before =
-    let parts = and_parts (is_head c.value) (ltb 0 (slice_count past)) e in
-    let s = slice-there Has past c.place (older Has c past at k spaced) spaced.1
-    (ltb-true 0 (slice_count past) parts.1) in
-    open-new k spaced (head-no-slice c.value parts.0)
-    (inr (
-      (c.value, (has-new Has c past at k, head-value c.value parts.0)),
-      (s.place, ((s.code, s.before), s.none)),
-    ))
-open-by {b = false} {Has} {c} {past} {at} e k spaced none before =
-    open-with k spaced
-    (not-slice-by (slice_count past) refl refl none)
-    (before (left-zero (is_head c.value) (is_slice c.value) (slice_count past) none e))
+not-slice : (value n : ℕ) → cond (is_head value) 0 (cond (is_slice value) (n + 1) n) ≡ 0 → IsSliceValue value → ⊥
+not-slice value n e is =
+    let slice = value-slice value is in
+    false≢true (sym (none-left (is_head value) (is_slice value) n e (slice-apart value slice)).0 ∙ slice)
 
-pub open-head : {Has : ℕ → ℕ → Type 0} {c : Code} {past : List Code} {at : ℕ} →
-    Knows Has (c ∷ past) at → Spaced (c ∷ past) → slice_count (c ∷ past) ≡ 0 →
-    IsOpenHead Has (latest_unit (c ∷ past)) at
-open-head {Has} {c} {past = []} {at} k spaced none =
-    open-new k spaced
-    (not-slice-by 0 refl refl none)
-    (inl ((c.value, (has-new Has c [] at k, tt)), firsts Has c at k))
-open-head {Has} {c} {past = d ∷ past} {at} k spaced none =
-    open-by refl k spaced none
-    (λ zero_is. open-head (older Has c (d ∷ past) at k spaced) spaced.1 zero_is)
+-- a code that isn't a slice leaves a head open
+open-with : {Has : ℕ → ℕ → Type 0} {unit : ℕ} (s : CodesBefore Has) → (IsSliceValue s.latest.value → ⊥)
+    → IsOpenHead Has unit s.latest.place → IsOpenHead Has unit s.at
+open-with s other o = record {
+  begins = o.begins;
+  before = omega (arith, o.before, new-below s);
+  no_slice = none-with s other o.no_slice;
+}
+
+-- a code that begins a unit
+open-new : {Has : ℕ → ℕ → Type 0} (s : CodesBefore Has) → (IsSliceValue s.latest.value → ⊥)
+    → BeginsUnit Has s.latest.place → IsOpenHead Has s.latest.place s.at
+open-new s other begins = record {
+  begins = begins;
+  before = new-below s;
+  no_slice = none-from IsSliceValue s other;
+}
+
+-- the first code
+firsts : {Has : ℕ → ℕ → Type 0} {c : Code} {at : ℕ} → Knows Has (c ∷ []) at → IsFirstCode Has c.place
+firsts {c} k place value has = elim (cases_lt place c.place) [
+  | inl before ↦ absurd
+      (older-back c [] place value before (k.back place value has (omega (arith, before, new-below (known k)))))
+  | inr after ↦ after
+]
+
+pub open-head : {Has : ℕ → ℕ → Type 0} {c : Code} {past : List Code} {at : ℕ} → Knows Has (c ∷ past) at
+    → slice_count (c ∷ past) ≡ 0 → IsOpenHead Has (latest_unit (c ∷ past)) at
+open-head {c} {past = []} k none =
+    open-new (known k) (not-slice c.value 0 none) (inl ((c.value, (has-new (known k), tt)), firsts k))
+open-head {Has} {c} {past = d ∷ past} {at} k none =
+    let s = known k in
+    let n = slice_count (d ∷ past) in
+    let Open = λ (b : Bool). IsOpenHead Has (cond b c.place (latest_unit (d ∷ past))) at in
+    elim (cases_Bool (is_head c.value && ltb 0 n)) [
+      | inl e ↦
+          (let parts = and_parts (is_head c.value) (ltb 0 n) e in
+          let slice = slice-there (older s) (ltb-true 0 n parts.1) in
+          subst Open (sym e) (open-new s (not-slice c.value n none)
+          (inr ((c.value, (has-new s, head-value c.value parts.0)), (slice.place, ((slice.code, slice.before), slice.none))))))
+      | inr e ↦
+          subst Open (sym e) (open-with s (not-slice c.value n none)
+          (open-head (older s) (left-zero (is_head c.value) (is_slice c.value) n none e)))
+    ]
 
 -- ---- the picture in the latest unit's head
 
@@ -307,77 +278,74 @@ abbrev pub PictureThere : (ℕ → ℕ → Type 0) → ℕ → ℕ → Option He
 PictureThere Has unit at None = NoneIn Has unit at IsPicture
 PictureThere Has unit at (Some h) = IsItsPicture Has unit h.place at
 
-picture-with : {Has : ℕ → ℕ → Type 0} {c : Code} {past : List Code} {at : ℕ} (unit : ℕ) (o : Option Header) →
-    Knows Has (c ∷ past) at → Spaced (c ∷ past) → (c.value ≡ 0 → ⊥) →
-    PictureThere Has unit c.place o → PictureThere Has unit at o
-picture-with {Has} {c} {at} unit None k spaced other none =
-    none-with k spaced other none
-picture-with {Has} {c} {past} {at} unit (Some h) k spaced other p = record {
+picture-with : {Has : ℕ → ℕ → Type 0} (unit : ℕ) (s : CodesBefore Has) (o : Option Header)
+    → (s.latest.value ≡ 0 → ⊥) → PictureThere Has unit s.latest.place o → PictureThere Has unit s.at o
+picture-with unit s None other none = none-with s other none
+picture-with unit s (Some h) other p = record {
   code = p.code;
   after = p.after;
-  before = omega (arith, p.before, new-below Has c past at k);
-  last = none-with k spaced other p.last;
+  before = omega (arith, p.before, new-below s);
+  last = none-with s other p.last;
 }
 
-picture-by : {z b : Bool} {Has : ℕ → ℕ → Type 0} {c : Code} {past : List Code} {at unit : ℕ}
-    (o : Option Header) → eqb c.value 0 ≡ z →
-    Knows Has (c ∷ past) at → Spaced (c ∷ past)
-    → (b ≡ false → PictureThere Has unit c.place o) → (b ≡ false → unit ≤ c.place) →
-    PictureThere Has (cond b c.place unit) at (cond z (Some (header_of c)) (cond b None o))
-picture-by {z = true} {b = true} {Has} {c} {past} {at} o is k spaced before low = record {
-  code = subst (λ m. Has c.place m) (eqb-true c.value 0 is) (has-new Has c past at k);
-  after = omega arith;
-  before = new-below Has c past at k;
-  last = none-after IsPicture k spaced;
+picture-here : {Has : ℕ → ℕ → Type 0} {unit : ℕ} (s : CodesBefore Has) → eqb s.latest.value 0 ≡ true
+    → unit ≤ s.latest.place → IsItsPicture Has unit s.latest.place s.at
+picture-here {Has} s is low = record {
+  code = subst (λ m. Has s.latest.place m) (eqb-true s.latest.value 0 is) (has-new s);
+  after = low;
+  before = new-below s;
+  last = none-after IsPicture s;
 }
-picture-by {z = true} {b = false} {Has} {c} {past} {at} o is k spaced before low = record {
-  code = subst (λ m. Has c.place m) (eqb-true c.value 0 is) (has-new Has c past at k);
-  after = low refl;
-  before = new-below Has c past at k;
-  last = none-after IsPicture k spaced;
-}
-picture-by {z = false} {b = true} {Has} {c} {at} o is k spaced before low =
-    none-from IsPicture k spaced (λ e. false≢true (sym is ∙ eq-eqb c.value 0 e))
-picture-by {z = false} {b = false} {Has} {c} {at} {unit} o is k spaced before low =
-    picture-with unit o k spaced (λ e.
-    false≢true (sym is ∙ eq-eqb c.value 0 e)) (before refl)
+
+-- the picture of a unit that begins with the latest code, or has begun before it
+picture-by : {Has : ℕ → ℕ → Type 0} (unit : ℕ) (s : CodesBefore Has) (b : Bool) (o : Option Header)
+    → (b ≡ false → PictureThere Has unit s.latest.place o × (unit ≤ s.latest.place))
+    → PictureThere Has (cond b s.latest.place unit) s.at
+    (cond (eqb s.latest.value 0) (Some (header_of s.latest)) (cond b None o))
+picture-by {Has} unit s b o before =
+    let There = λ (z : Bool). PictureThere Has (cond b s.latest.place unit) s.at
+    (cond z (Some (header_of s.latest)) (cond b None o)) in
+    elim (cases_Bool (eqb s.latest.value 0)) [
+      | inl is ↦ subst There (sym is) (picture-here s is (low b (λ e. (before e).1)))
+      | inr is ↦ subst There (sym is) (old b before (λ e. false≢true (sym is ∙ eq-eqb s.latest.value 0 e)))
+    ]
+  where
+    low : (b : Bool) → (b ≡ false → unit ≤ s.latest.place) → cond b s.latest.place unit ≤ s.latest.place
+    low true begun = omega arith
+    low false begun = begun refl
+
+    old : (b : Bool) → (b ≡ false → PictureThere Has unit s.latest.place o × (unit ≤ s.latest.place))
+        → (s.latest.value ≡ 0 → ⊥) → PictureThere Has (cond b s.latest.place unit) s.at (cond b None o)
+    old true begun other = none-from IsPicture s other
+    old false begun other = picture-with unit s o other (begun refl).0
 
 unit-below-by : (b : Bool) (m n at : ℕ) → m < at → n < at → cond b m n < at
 unit-below-by true m n at one other = one
 unit-below-by false m n at one other = other
 
-unit-below : (Has : ℕ → ℕ → Type 0) (c : Code) (past : List Code) (at : ℕ) →
-    Knows Has (c ∷ past) at → Spaced (c ∷ past) → latest_unit (c ∷ past) < at
-unit-below Has c [] at k spaced = new-below Has c [] at k
-unit-below Has c (d ∷ past) at k spaced =
-    let below = new-below Has c (d ∷ past) at k in
+unit-below : {Has : ℕ → ℕ → Type 0} {c : Code} {past : List Code} {at : ℕ} → Knows Has (c ∷ past) at
+    → latest_unit (c ∷ past) < at
+unit-below {past = []} k = new-below (known k)
+unit-below {c} {past = d ∷ past} {at} k =
+    let below = new-below (known k) in
     unit-below-by (begins_unit c (d ∷ past)) c.place (latest_unit (d ∷ past)) at below
-    (omega (
-      arith,
-      below,
-      unit-below Has d past c.place
-          (older Has c (d ∷ past) at k spaced) spaced.1,
-    ))
+    (omega (arith, below, unit-below (older (known k))))
 
-pub picture-there : (Has : ℕ → ℕ → Type 0) (c : Code) (past : List Code) (at : ℕ) →
-    Knows Has (c ∷ past) at → Spaced (c ∷ past) →
-    PictureThere Has (latest_unit (c ∷ past)) at (latest_picture (c ∷ past))
-picture-there Has c [] at k spaced =
-    picture-by {z = eqb c.value 0} {b = true} {Has = Has} {c = c} {past = []} {at = at}
-    {unit = 0} None refl k spaced (λ e. absurd (true≢false e)) (λ e. absurd (true≢false e))
-picture-there Has c (d ∷ past) at k spaced =
-    let k' = older Has c (d ∷ past) at k spaced in
-    picture-by
-    (latest_picture (d ∷ past)) refl k spaced
-    (λ _. picture-there Has d past c.place k' spaced.1) (λ _.
-    omega (arith, unit-below Has d past c.place k' spaced.1))
+pub picture-there : {Has : ℕ → ℕ → Type 0} {c : Code} {past : List Code} {at : ℕ} → Knows Has (c ∷ past) at
+    → PictureThere Has (latest_unit (c ∷ past)) at (latest_picture (c ∷ past))
+picture-there {past = []} k = picture-by 0 (known k) true None (λ e. absurd (true≢false e))
+picture-there {c} {past = d ∷ past} k =
+    let before = older (known k) in
+    picture-by (latest_unit (d ∷ past)) (known k) (begins_unit c (d ∷ past)) (latest_picture (d ∷ past))
+    (λ _. (picture-there before, omega (arith, unit-below before)))
 
-pub one-picture : {Has : ℕ → ℕ → Type 0} {unit p q at : ℕ} → IsItsPicture Has unit p at →
-    IsItsPicture Has unit q at → p ≡ q
-one-picture {Has} {p} {q} {at} one other = elim (cases_lt p q) [
-  | inl less ↦ absurd (one.last q 0 other.code (omega (arith, less)) other.before refl)
-  | inr more ↦ elim (cases_lt q p) [
-    | inl less ↦ absurd (other.last p 0 one.code (omega (arith, less)) one.before refl)
+-- a head has one latest picture
+pub one-picture : {Has : ℕ → ℕ → Type 0} {unit at : ℕ} (p q : (place : ℕ) × IsItsPicture Has unit place at)
+    → p.0 ≡ q.0
+one-picture p q = elim (cases_lt p.0 q.0) [
+  | inl less ↦ absurd (p.1.last q.0 0 q.1.code (omega (arith, less)) q.1.before refl)
+  | inr more ↦ elim (cases_lt q.0 p.0) [
+    | inl less ↦ absurd (q.1.last p.0 0 p.1.code (omega (arith, less)) p.1.before refl)
     | inr same ↦ omega (arith, more, same)
   ]
 ]

@@ -73,6 +73,11 @@ pub only-second : (P Q : FilmFault → Type 0) (b : Option FilmFault) → ((f : 
     → Decides (Otherwise P Q) b
 only-second P Q b never other = both P Q None b (none-of P never) (λ _. other)
 
+pub by-test : {P : FilmFault → Type 0} {a o : Option FilmFault} (b : Bool) → (b ≡ true → Decides P a)
+    → (b ≡ false → Decides P o) → Decides P (cond b a o)
+by-test true one other = one refl
+by-test false one other = other refl
+
 pub decide-if : (P : FilmFault → Type 0) (b : Bool) (o : Option FilmFault) →
     (b ≡ true → Decides P o)
     → (b ≡ false → (f : FilmFault) → P f → ⊥) → Decides P (cond b o None)

@@ -28,7 +28,7 @@ use Rattle.mpeg_scan.proofs.LatestUnitLemmas.{Below, Firsts, Latest, Member, Ope
 use Rattle.mpeg_scan.proofs.LatestUnitLemmas.{member-has, step-open}
 use Rattle.mpeg_scan.proofs.CodeValueLemmas.{values-of}
 use Rattle.mpeg_scan.proofs.CodesBeforeLemmas.{Knows}
-use Rattle.mpeg_scan.proofs.CodeCountLemmas.{all-slices, counts-same, few-slices, own-slices}
+use Rattle.mpeg_scan.proofs.CodeCountLemmas.{all-slices, few-slices, own-slices, unit-same}
 
 -- ---- the latest unit, code by code
 
@@ -209,119 +209,42 @@ close : (past : List Code) (to : ℕ) → OpenOf past → Spaced past → 0 < sl
     → ((place value : ℕ) → HasCode place value past → place < to) → Closed past (unit_at (tally_of past) to)
 close past to open_ spaced some below =
     let k : Knows (Has past) past to =
-    record { there = λ place value has. has; below = below; back = λ place value has before. has } in
+    record {
+      there = λ place value has. has;
+      below = below;
+      back = λ place value has before. has;
+      spaced = spaced;
+    } in
     let count : film_slice_count past ≡ film_slice_count past - slice_count past + slice_count past =
     omega (arith, few-slices past) in
     let header : HasHeader (unit_at (tally_of past) to) (unwrap_or (latest_picture past) no_header) =
     record { temporal = refl; kind = refl; vectors = refl } in
     close-by open_ some header below
-    (own-slices k spaced (λ place value has after before is. open_.sliced some place value has after is)
+    (own-slices k (λ place value has after before is. open_.sliced some place value has after is)
     (λ from none place slice far before. own-first open_ some below none slice far))
-    (subst (λ n. Counts (Has past) IsSliceValue 0 to n) count (all-slices (Has past) past to k spaced))
+    (subst (λ n. Counts (Has past) IsSliceValue 0 to n) count (all-slices k))
 
 -- ---- it stays so as codes come
 
-none-grows : {from to : ℕ} {OfValue : ℕ → Type 0} (c : Code) (past : List Code) → to ≤ c.place
-    → NoneIn (Has past) from to OfValue → NoneIn (Has (c ∷ past)) from to OfValue
-none-grows {from} c past far none place value (inl new) after before is = omega (arith, new.0, far, before)
-none-grows {from} c past far none place value (inr old) after before is = none place value old after before is
-
-stands-grows : (c : Code) (past : List Code) (from to value : ℕ) → StandsIn (Has past) from to value
-    → StandsIn (Has (c ∷ past)) from to value
-stands-grows c past from to value it =
-    record { place = it.place; code = inr it.code; after = it.after; before = it.before }
-
-shrinks-by : {from to value place : ℕ} (c : Code) (past : List Code) → to ≤ c.place
-    → HasCode place value (c ∷ past) → from ≤ place → place < to → StandsIn (Has past) from to value
-shrinks-by {from} {place} c past far (inl new) after before = absurd (omega (arith, new.0, far, before))
-shrinks-by {from} {place} c past far (inr old) after before =
-    record { place = place; code = old; after = after; before = before }
-
-stands-shrinks : {from to value : ℕ} (c : Code) (past : List Code) → to ≤ c.place
-    → StandsIn (Has (c ∷ past)) from to value → StandsIn (Has past) from to value
-stands-shrinks {from} c past far it = shrinks-by c past far it.code it.after it.before
-
--- the only picture between these places
-abbrev IsOnlyIn : List Code → ℕ → ℕ → ℕ → Type 0
-IsOnlyIn past from to its = (other : ℕ) → HasCode other 0 past → from ≤ other → other < to → other ≡ its
-
-only-grows : {its : ℕ} (c : Code) (past : List Code) (from to : ℕ) → to ≤ c.place → IsOnlyIn past from to its
-    → IsOnlyIn (c ∷ past) from to its
-only-grows c past from to far only other (inl new) after before = absurd (omega (arith, new.0, far, before))
-only-grows c past from to far only other (inr old) after before = only other old after before
-
-firsts-grow : (c : Code) (past : List Code) (from : ℕ) → from ≤ c.place → IsFirstCode (Has past) from
-    → IsFirstCode (Has (c ∷ past)) from
-firsts-grow c past from far firsts place value (inl new) = omega (arith, new.0, far)
-firsts-grow c past from far firsts place value (inr old) = firsts place value old
-
-group-grows : (c : Code) (past : List Code) (from to : ℕ) → from ≤ c.place
-    → IsFirstCode (Has past) from ⊎ StandsIn (Has past) from to 0xb8
-    → IsFirstCode (Has (c ∷ past)) from ⊎ StandsIn (Has (c ∷ past)) from to 0xb8
-group-grows c past from to far (inl firsts) = inl (firsts-grow c past from far firsts)
-group-grows c past from to far (inr it) = inr (stands-grows c past from to 0xb8 it)
-
-group-shrinks : (c : Code) (past : List Code) (from to : ℕ) → to ≤ c.place
-    → IsFirstCode (Has (c ∷ past)) from ⊎ StandsIn (Has (c ∷ past)) from to 0xb8
-    → IsFirstCode (Has past) from ⊎ StandsIn (Has past) from to 0xb8
-group-shrinks c past from to far (inl firsts) = inl (λ place value has. firsts place value (inr has))
-group-shrinks c past from to far (inr it) = inr (stands-shrinks c past far it)
-
-counts-back : {place value : ℕ} (c : Code) (past : List Code) (to : ℕ) → to ≤ c.place → place < to
+more-has : {place value to : ℕ} (c : Code) (past : List Code) → to ≤ c.place → place < to
     → HasCode place value (c ∷ past) → HasCode place value past
-counts-back {place} c past to far before (inl new) = absurd (omega (arith, new.0, far, before))
-counts-back {place} c past to far before (inr old) = old
-
-counts-grow : {from to count : ℕ} (c : Code) (past : List Code) → to ≤ c.place
-    → Counts (Has past) IsSliceValue from to count → Counts (Has (c ∷ past)) IsSliceValue from to count
-counts-grow {from} {to} c past far =
-    counts-same (λ place value before has. inr has) (λ place value before has. counts-back c past to far before has)
-
-picture-grows : (c : Code) (past : List Code) (unit : PictureUnit) → unit.head_end ≤ c.place
-    → HasPicture (Has past) (CodeFields past) unit → HasPicture (Has (c ∷ past)) (CodeFields (c ∷ past)) unit
-picture-grows c past unit far p = record {
-  place = p.place;
-  code = inr p.code;
-  after = p.after;
-  before = p.before;
-  only = only-grows c past unit.from unit.head_end far p.only;
-  last = none-grows c past far p.last;
-  fields = record {
-    code = p.fields.code;
-    member = inr p.fields.member;
-    zero_is = p.fields.zero_is;
-    place_is = p.fields.place_is;
-    temporal = p.fields.temporal;
-    kind = p.fields.kind;
-    vectors = p.fields.vectors;
-  };
-}
+more-has c past far before (inl new) = absurd (omega (arith, new.0, far, before))
+more-has c past far before (inr old) = old
 
 closed-grows : (c : Code) (past : List Code) (unit : PictureUnit) → unit.to ≤ c.place → Closed past unit
     → Closed (c ∷ past) unit
 closed-grows c past unit far closed =
-    let u = closed.unit_is in
-    let head_far : unit.head_end ≤ c.place = omega (arith, far, closed.rest_some) in
-    let from_far : unit.from ≤ c.place = omega (arith, head_far, closed.head_some) in
     record {
-      unit_is = record {
-        begins = (u.begins.0, (inr u.begins.1.0, u.begins.1.1));
-        head = none-grows c past head_far u.head;
-        head_ends = (u.head_ends.0, (inr u.head_ends.1.0, u.head_ends.1.1));
-        rest = u.rest;
-        own = counts-grow c past far u.own;
-        all = counts-grow c past far u.all;
-        slices = none-grows c past far u.slices;
-        picture = picture-grows c past unit head_far u.picture;
-        sequence = (
-          λ e. stands-grows c past unit.from unit.head_end 0xb3 (u.sequence.0 e),
-          λ it. u.sequence.1 (stands-shrinks c past head_far it),
-        );
-        group = (
-          λ e. group-grows c past unit.from unit.head_end from_far (u.group.0 e),
-          λ it. u.group.1 (group-shrinks c past unit.from unit.head_end head_far it),
-        );
-      };
+      unit_is = unit-same (λ place value before. (λ has. inr has, λ has. more-has c past far before has))
+          (λ place f. record {
+            code = f.code;
+            member = inr f.member;
+            zero_is = f.zero_is;
+            place_is = f.place_is;
+            temporal = f.temporal;
+            kind = f.kind;
+            vectors = f.vectors;
+          }) closed.unit_is;
       head_some = closed.head_some;
       rest_some = closed.rest_some;
     }

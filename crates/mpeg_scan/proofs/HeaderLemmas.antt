@@ -20,11 +20,11 @@ use Rattle.mpeg_scan.proofs.FilmBoundLemmas.{older-judged}
 use Rattle.mpeg_scan.proofs.FirstUnitLemmas.{AreJudged, first_in, first_in-has, first_in-value}
 use Rattle.mpeg_scan.proofs.FirstUnitLemmas.{first_in-rate, first_in-header, first-least}
 use Rattle.mpeg_scan.proofs.ScanStepLemmas.{accepted-older}
-use Rattle.mpeg_scan.proofs.HeaderByteLemmas.{Same, HeaderIs, HeadersAre, header-byte}
-use Rattle.mpeg_scan.proofs.CodeSpacingLemmas.{Spaced}
-use Rattle.mpeg_scan.proofs.DecisionLemmas.{Decides, both-cond, decide, neither, none-of, only-first}
+use Rattle.mpeg_scan.proofs.HeaderByteLemmas.{Same, HeadersAre, header-byte}
+use Rattle.mpeg_scan.proofs.DecisionLemmas.{Decides, both-cond, by-test, decide, neither, none-of, only-first}
 use Rattle.mpeg_scan.proofs.DecisionLemmas.{only-second}
-use Rattle.mpeg_scan.proofs.CodesBeforeLemmas.{Knows, latest-is, latest-new, older}
+use Rattle.mpeg_scan.specs.CodePlaces.{IsCodeAt}
+use Rattle.mpeg_scan.proofs.CodesBeforeLemmas.{CodesBefore, Knows, known, latest-is, latest-new, older}
 
 -- the header bytes of a code are those after it, as far as a place
 abbrev pub Fits : List ℕ → ℕ → Code → Type 0
@@ -46,26 +46,32 @@ type-fits bytes to c fits far =
 
 -- ---- the film's first rate
 
-pub record FirstRate (Has : ℕ → ℕ → Type 0) (bytes : List ℕ) (place : ℕ) (rate : Option ℕ) : Type 0 where
+-- the words on the codes of bytes and on these bytes
+abbrev BadRateAt : List ℕ → ℕ → FilmFault → Type 0
+BadRateAt bytes at = IsBadRate (IsCodeAt bytes) bytes at
+
+abbrev BadTypeAt : List ℕ → ℕ → FilmFault → Type 0
+BadTypeAt bytes at = IsBadType (IsCodeAt bytes) bytes at
+
+abbrev ShortAt : List ℕ → ℕ → FilmFault → Type 0
+ShortAt bytes at = IsShortHeader (IsCodeAt bytes) bytes at
+
+pub record FirstRate (bytes : List ℕ) (place : ℕ) (rate : Option ℕ) : Type 0 where
   pub first : ℕ
-  pub code : Has first 0xb3
-  pub none : NoneIn Has 0 first IsSequence
+  pub code : IsCodeAt bytes first 0xb3
+  pub none : NoneIn (IsCodeAt bytes) 0 first IsSequence
   pub before : first < place
   pub is : rate ≡ Some (picture_rate bytes first)
 
 -- what is known of it at a place: there is no sequence header before, or it is the first one's
-pub data RateIs (Has : ℕ → ℕ → Type 0) (bytes : List ℕ) (place : ℕ) (rate : Option ℕ) : Type 0 where
-  no_rate : rate ≡ None → NoneIn Has 0 place IsSequence → RateIs Has bytes place rate
-  its_rate : FirstRate Has bytes place rate → RateIs Has bytes place rate
+pub data RateIs (bytes : List ℕ) (place : ℕ) (rate : Option ℕ) : Type 0 where
+  no_rate : rate ≡ None → NoneIn (IsCodeAt bytes) 0 place IsSequence → RateIs bytes place rate
+  its_rate : FirstRate bytes place rate → RateIs bytes place rate
 
-first-sequence : {Has : ℕ → ℕ → Type 0} {p q : ℕ} → Has p 0xb3 → NoneIn Has 0 p IsSequence →
-    Has q 0xb3 → NoneIn Has 0 q IsSequence → p ≡ q
-first-sequence {Has} {p} {q} one none other never = elim (cases_lt p q) [
-  | inl less ↦ absurd (never p 0xb3 one (omega arith) less refl)
-  | inr more ↦ elim (cases_lt q p) [
-    | inl less ↦ absurd (none q 0xb3 other (omega arith) less refl)
-    | inr same ↦ omega (arith, more, same)
-  ]
+first-sequence : {Has : ℕ → ℕ → Type 0} {p q : ℕ} → NoneIn Has 0 p IsSequence → Has q 0xb3 → p ≤ q
+first-sequence {p} {q} none other = elim (cases_lt q p) [
+  | inl less ↦ absurd (none q 0xb3 other (omega arith) less refl)
+  | inr more ↦ more
 ]
 
 -- ---- a rate
@@ -80,9 +86,8 @@ rate-whole a b d (inl is) = or_left a (b || d) is
 rate-whole a b d (inr (inl is)) = or_right a (b || d) (or_left b d is)
 rate-whole a b d (inr (inr is)) = or_right a (b || d) (or_right b d is)
 
-other-rate : {Has : ℕ → ℕ → Type 0} {bytes : List ℕ} {place : ℕ} {rate : Option ℕ} →
-    RateIs Has bytes place rate → differs rate (picture_rate bytes place) ≡ true →
-    IsOtherRate Has bytes place
+other-rate : {bytes : List ℕ} {place : ℕ} {rate : Option ℕ} → RateIs bytes place rate
+    → differs rate (picture_rate bytes place) ≡ true → IsOtherRate (IsCodeAt bytes) bytes place
 other-rate {bytes} {place} (no_rate none never) other =
     absurd (false≢true (ap (λ (o : Option ℕ). differs o (picture_rate bytes place)) (sym none) ∙ other))
 other-rate {bytes} {place} (its_rate r) other = record {
@@ -95,101 +100,79 @@ other-rate {bytes} {place} (its_rate r) other = record {
       (not-true (eqb (picture_rate bytes place) (picture_rate bytes r.first)) same);
 }
 
-rate-other : (Has : ℕ → ℕ → Type 0) (bytes : List ℕ) (place : ℕ) (rate : Option ℕ) →
-    RateIs Has bytes place rate → IsOtherRate Has bytes place →
-    differs rate (picture_rate bytes place) ≡ true
-rate-other Has bytes place rate (no_rate none never) o =
-    absurd (never o.first 0xb3 o.code (omega arith) o.before refl)
-rate-other Has bytes place rate (its_rate r) o =
+rate-other : {bytes : List ℕ} {place : ℕ} {rate : Option ℕ} → RateIs bytes place rate
+    → IsOtherRate (IsCodeAt bytes) bytes place → differs rate (picture_rate bytes place) ≡ true
+rate-other (no_rate none never) o = absurd (never o.first 0xb3 o.code (omega arith) o.before refl)
+rate-other {bytes} {place} (its_rate r) o =
     let its = picture_rate bytes place in
-    let same = first-sequence r.code r.none o.code o.none in
+    let low : r.first ≤ o.first = first-sequence {Has = IsCodeAt bytes} r.none o.code in
+    let high : o.first ≤ r.first = first-sequence {Has = IsCodeAt bytes} o.none r.code in
+    let same : r.first ≡ o.first = omega (arith, low, high) in
     ap (λ (v : Option ℕ). differs v its) r.is
     ∙ not_from_false (eqb its (picture_rate bytes r.first))
     (ne_eqb its (picture_rate bytes r.first) (λ e. o.other (e ∙ ap (picture_rate bytes) same)))
 
-bad-rate : {Has : ℕ → ℕ → Type 0} {bytes : List ℕ} {place : ℕ} {rate : Option ℕ} {its : ℕ} →
-    its ≡ picture_rate bytes place → RateIs Has bytes place rate → (eqb its 0 ≡ true)
-    ⊎ ((ltb 8 its ≡ true) ⊎ (differs rate its ≡ true))
-    → (picture_rate bytes place ≡ 0)
-    ⊎ ((8 < picture_rate bytes place) ⊎ IsOtherRate Has bytes place)
-bad-rate {its} is known (inl none) = inl (sym is ∙ eqb-true its 0 none)
-bad-rate {its} is known (inr (inl many)) = inr (inl (subst (λ n. 8 < n) is (ltb-true 8 its many)))
-bad-rate {rate} is known (inr (inr other)) =
-    inr (inr (other-rate known (ap (λ n. differs rate n) (sym is) ∙ other)))
-
-rate-bad : {Has : ℕ → ℕ → Type 0} {bytes : List ℕ} {place : ℕ} {rate : Option ℕ} {its : ℕ} →
-    its ≡ picture_rate bytes place → RateIs Has bytes place rate
-    → (picture_rate bytes place ≡ 0)
-    ⊎ ((8 < picture_rate bytes place) ⊎ IsOtherRate Has bytes place)
-    → (eqb its 0 ≡ true) ⊎ ((ltb 8 its ≡ true) ⊎ (differs rate its ≡ true))
-rate-bad {its} is known (inl none) = inl (eq-eqb its 0 (is ∙ none))
-rate-bad {its} is known (inr (inl many)) =
-    inr (inl (lt-ltb 8 its (subst (λ n. 8 < n) (sym is) many)))
-rate-bad {Has} {bytes} {place} {rate} is known (inr (inr o)) =
-    inr (inr (ap (λ n. differs rate n) is ∙ rate-other Has bytes place rate known o))
-
 -- a rate that the standard doesn't allow, or another than the film's first one
-abbrev IsBadAt : (ℕ → ℕ → Type 0) → List ℕ → ℕ → Type 0
-IsBadAt Has bytes place =
-    (picture_rate bytes place ≡ 0) ⊎ ((8 < picture_rate bytes place) ⊎ IsOtherRate Has bytes place)
+abbrev IsBadAt : List ℕ → ℕ → Type 0
+IsBadAt bytes place =
+    (picture_rate bytes place ≡ 0)
+    ⊎ ((8 < picture_rate bytes place) ⊎ IsOtherRate (IsCodeAt bytes) bytes place)
 
 -- the test of a sequence header's rate
-abbrev is_bad_rate : Option ℕ → Code → Bool
-is_bad_rate rate c = eqb (rate_code c) 0 || (ltb 8 (rate_code c) || differs rate (rate_code c))
+abbrev is_bad_rate : Option ℕ → ℕ → Bool
+is_bad_rate rate its = eqb its 0 || (ltb 8 its || differs rate its)
 
-rate-tested : {Has : ℕ → ℕ → Type 0} {bytes : List ℕ} {rate : Option ℕ} (c : Code) →
-    rate_code c ≡ picture_rate bytes c.place → RateIs Has bytes c.place rate →
-    (is_bad_rate rate c ≡ true) ↔ IsBadAt Has bytes c.place
-rate-tested {rate} c its known = (
-  λ t. bad-rate its known
-      (rate-parts (eqb (rate_code c) 0) (ltb 8 (rate_code c)) (differs rate (rate_code c)) t),
-  λ bad. rate-whole (eqb (rate_code c) 0) (ltb 8 (rate_code c)) (differs rate (rate_code c))
-      (rate-bad its known bad),
-)
+bad-rate : {bytes : List ℕ} {place : ℕ} {rate : Option ℕ} → RateIs bytes place rate
+    → (eqb (picture_rate bytes place) 0 ≡ true)
+    ⊎ ((ltb 8 (picture_rate bytes place) ≡ true) ⊎ (differs rate (picture_rate bytes place) ≡ true))
+    → IsBadAt bytes place
+bad-rate {bytes} {place} known (inl none) = inl (eqb-true (picture_rate bytes place) 0 none)
+bad-rate {bytes} {place} known (inr (inl many)) = inr (inl (ltb-true 8 (picture_rate bytes place) many))
+bad-rate known (inr (inr other)) = inr (inr (other-rate known other))
+
+rate-bad : {bytes : List ℕ} {place : ℕ} {rate : Option ℕ} → RateIs bytes place rate → IsBadAt bytes place
+    → (eqb (picture_rate bytes place) 0 ≡ true)
+    ⊎ ((ltb 8 (picture_rate bytes place) ≡ true) ⊎ (differs rate (picture_rate bytes place) ≡ true))
+rate-bad {bytes} {place} known (inl none) = inl (eq-eqb (picture_rate bytes place) 0 none)
+rate-bad {bytes} {place} known (inr (inl many)) = inr (inl (lt-ltb 8 (picture_rate bytes place) many))
+rate-bad known (inr (inr o)) = inr (inr (rate-other known o))
+
+rate-tested : {bytes : List ℕ} {place : ℕ} {rate : Option ℕ} → RateIs bytes place rate
+    → (is_bad_rate rate (picture_rate bytes place) ≡ true) ↔ IsBadAt bytes place
+rate-tested {bytes} {place} {rate} known =
+    let its = picture_rate bytes place in (
+      λ t. bad-rate known (rate-parts (eqb its 0) (ltb 8 its) (differs rate its) t),
+      λ bad. rate-whole (eqb its 0) (ltb 8 its) (differs rate its) (rate-bad known bad),
+    )
 
 -- ---- a header
 
--- the header of the code c, with the next code, or the film's end, at a place
-pub record Header (Has : ℕ → ℕ →
-    Type 0) (bytes : List ℕ) (c : Code) (past : List Code) (at : ℕ) (rate : Option ℕ) : Type 0 where
-  pub knows : Knows Has (c ∷ past) at
-  pub spaced : Spaced (c ∷ past)
-  pub fits : Fits bytes at c
-  pub rate_is : RateIs Has bytes c.place rate
+-- the header of the latest code before a place, where the next code stands, or the film ends
+pub record Header (bytes : List ℕ) : Type 0 where
+  pub codes : CodesBefore (IsCodeAt bytes)
+  pub rate : Option ℕ
+  pub fits : Fits bytes codes.at codes.latest
+  pub rate_is : RateIs bytes codes.latest.place rate
 
-value-is : {Has : ℕ → ℕ → Type 0} {bytes : List ℕ} {c : Code} {past : List Code} {at : ℕ} {rate : Option ℕ}
-    {place value : ℕ} →
-    Header Has bytes c past at rate → IsLatest Has place value at → (c.place ≡ place)
-    × (c.value ≡ value)
-value-is {Has} {c} {at} {place} h l =
-    latest-is h.knows h.spaced l
+latest-value : {bytes : List ℕ} (h : Header bytes) {value : ℕ} → h.codes.latest.value ≡ value
+    → IsLatest (IsCodeAt bytes) h.codes.latest.place value h.codes.at
+latest-value {bytes} h is =
+    subst (λ k. IsLatest (IsCodeAt bytes) h.codes.latest.place k h.codes.at) is (latest-new h.codes)
 
-latest-value : {Has : ℕ → ℕ → Type 0} {bytes : List ℕ} {c : Code} {past : List Code} {at : ℕ} {rate : Option ℕ}
-    {value : ℕ} →
-    Header Has bytes c past at rate → c.value ≡ value → IsLatest Has c.place value at
-latest-value {Has} {c} {past} {at} h is =
-    subst (λ k. IsLatest Has c.place k at) is (latest-new Has c past at h.knows h.spaced)
+no-rate : {bytes : List ℕ} (h : Header bytes) → (h.codes.latest.value ≡ 0xb3 → ⊥) → (f : FilmFault)
+    → BadRateAt bytes h.codes.at f → ⊥
+no-rate h other f p = other (latest-is h.codes p.latest).1
 
-no-rate : {Has : ℕ → ℕ → Type 0} {bytes : List ℕ} {c : Code} {past : List Code} {at : ℕ} {rate : Option ℕ} →
-    Header Has bytes c past at rate → (c.value ≡ 0xb3 → ⊥) → (f : FilmFault) →
-    IsBadRate Has bytes at f → ⊥
-no-rate {Has} {c} {at} h other f p =
-    other (value-is h p.latest).1
-
-no-type : {Has : ℕ → ℕ → Type 0} {bytes : List ℕ} {c : Code} {past : List Code} {at : ℕ} {rate : Option ℕ} →
-    Header Has bytes c past at rate → (c.value ≡ 0 → ⊥) → (f : FilmFault) →
-    IsBadType Has bytes at f → ⊥
-no-type {Has} {c} {at} h other f p =
-    other (value-is h p.latest).1
+no-type : {bytes : List ℕ} (h : Header bytes) → (h.codes.latest.value ≡ 0 → ⊥) → (f : FilmFault)
+    → BadTypeAt bytes h.codes.at f → ⊥
+no-type h other f p = other (latest-is h.codes p.latest).1
 
 -- the fewest bytes of a header
-short-new : {Has : ℕ → ℕ → Type 0} {bytes : List ℕ} {c : Code} {past : List Code} {at : ℕ} {rate : Option ℕ}
-    {value : ℕ} →
-    Header Has bytes c past at rate → c.value ≡ value → IsHeadValue value →
-    at < c.place + header_bytes bytes c.place value →
-    IsShortHeader Has bytes at (ShortHeader c.place)
-short-new {Has} {c} {at} {value} h is head short = record {
-  place = c.place;
+short-new : {bytes : List ℕ} (h : Header bytes) {value : ℕ} → h.codes.latest.value ≡ value → IsHeadValue value
+    → h.codes.at < h.codes.latest.place + header_bytes bytes h.codes.latest.place value
+    → ShortAt bytes h.codes.at (ShortHeader h.codes.latest.place)
+short-new h {value} is head short = record {
+  place = h.codes.latest.place;
   value = value;
   latest = latest-value h is;
   head = head;
@@ -197,89 +180,64 @@ short-new {Has} {c} {at} {value} h is head short = record {
   is = refl;
 }
 
-record ShortHere (bytes : List ℕ) (c : Code) (at : ℕ) (f : FilmFault) : Type 0 where
-  short : at < c.place + header_bytes bytes c.place c.value
-  is : f ≡ ShortHeader c.place
+short-here : {bytes : List ℕ} (h : Header bytes) {value : ℕ} → h.codes.latest.value ≡ value → (f : FilmFault)
+    → ShortAt bytes h.codes.at f
+    → (h.codes.at < h.codes.latest.place + header_bytes bytes h.codes.latest.place value)
+    × (f ≡ ShortHeader h.codes.latest.place)
+short-here {bytes} h is f p =
+    let same = latest-is h.codes p.latest in
+    let at = h.codes.at in
+    let place = h.codes.latest.place in (
+      subst (λ k. at < place + header_bytes bytes place k) (sym same.1 ∙ is)
+          (subst (λ v. at < v + header_bytes bytes v p.value) (sym same.0) p.short),
+      p.is ∙ ap ShortHeader (sym same.0),
+    )
 
-short-here : {Has : ℕ → ℕ → Type 0} {bytes : List ℕ} {c : Code} {past : List Code} {at : ℕ} {rate : Option ℕ} →
-    Header Has bytes c past at rate → (f : FilmFault) → IsShortHeader Has bytes at f →
-    ShortHere bytes c at f
-short-here {Has} {bytes} {c} {at} h f p =
-    let same = value-is h p.latest in record {
-      short = subst (λ k.
-          at < c.place
-          + header_bytes bytes c.place k) (sym same.1) (subst (λ v.
-          at < v + header_bytes bytes v p.value) (sym same.0) p.short);
-      is = p.is ∙ ap ShortHeader (sym same.0);
-    }
+abbrev Refused : List ℕ → ℕ → Option FilmFault → Type 0
+Refused bytes at o = Decides (HeaderRefusal (IsCodeAt bytes) bytes at) o
 
-short-at : {bytes : List ℕ} {c : Code} {at value : ℕ} {f : FilmFault} → c.value ≡ value →
-    ShortHere bytes c at f → at < c.place + header_bytes bytes c.place value
-short-at {bytes} {c} {at} is s =
-    subst (λ k. at < c.place + header_bytes bytes c.place k) is s.short
-
-abbrev Refused : (ℕ → ℕ → Type 0) → List ℕ → ℕ → Option FilmFault → Type 0
-Refused Has bytes at o = Decides (HeaderRefusal Has bytes at) o
-
-sequence-decides : {Has : ℕ → ℕ → Type 0} {bytes : List ℕ} {c : Code} {past : List Code} {at : ℕ} {rate : Option ℕ} →
-    Header Has bytes c past at rate → c.value ≡ 0xb3
-    → Refused Has bytes at
-    (cond (ltb (at - c.place) 12) (Some (ShortHeader c.place)) (rate_fault rate c))
-sequence-decides {Has} {bytes} {c} {past} {at} {rate} h is =
-    let short = short-here h in
-    both-cond {P = IsShortHeader Has bytes at} {Q = Otherwise (IsBadRate Has bytes at) (IsBadType Has bytes at)}
-    {b = ltb (at - c.place) 12} {h = ShortHeader c.place} {o = rate_fault rate c}
-    (λ e. short-new {Has = Has} {bytes = bytes} {c = c} {past = past} {at = at} {rate = rate} {value = 0xb3} h is
-    (inr (inl refl))
-    (omega (arith, ltb-true (at - c.place) 12 e)))
-    (λ g p. (
-      lt-ltb (at - c.place) 12 (omega (
-        arith,
-        short-at {bytes = bytes} {c = c} {at = at} {value = 0xb3} {f = g} is
-            (short g p),
-      )),
-      (short g p).is,
-    ))
+sequence-decides : {bytes : List ℕ} (h : Header bytes) → h.codes.latest.value ≡ 0xb3
+    → Refused bytes h.codes.at
+    (cond (ltb (h.codes.at - h.codes.latest.place) 12) (Some (ShortHeader h.codes.latest.place))
+    (rate_fault h.rate h.codes.latest))
+sequence-decides {bytes} h is =
+    let at = h.codes.at in
+    let c = h.codes.latest in
+    both-cond {P = ShortAt bytes at} {Q = Otherwise (BadRateAt bytes at) (BadTypeAt bytes at)}
+    {b = ltb (at - c.place) 12} {h = ShortHeader c.place} {o = rate_fault h.rate c}
+    (λ e. short-new h is (inr (inl refl)) (omega (arith, ltb-true (at - c.place) 12 e)))
+    (λ g p. let short = short-here h is g p in (lt-ltb (at - c.place) 12 (omega (arith, short.0)), short.1))
     (λ e. let far : c.place + 12 ≤ at = omega (arith, ltb-false (at - c.place) 12 e) in
     let its = rate-fits bytes at c h.fits (omega (arith, far)) in
-    let tested = rate-tested c its h.rate_is in
-    only-first (IsBadRate Has bytes at) (IsBadType Has bytes at) (rate_fault rate c)
-    (decide (IsBadRate Has bytes at) (is_bad_rate rate c) (BadRate c.place (rate_code c))
+    let tested = rate-tested h.rate_is in
+    only-first (BadRateAt bytes at) (BadTypeAt bytes at) (rate_fault h.rate c)
+    (decide (BadRateAt bytes at) (is_bad_rate h.rate (rate_code c)) (BadRate c.place (rate_code c))
     (λ t. record {
       place = c.place;
       latest = latest-value h is;
-      bad = tested.0 t;
+      bad = tested.0 (subst (λ n. is_bad_rate h.rate n ≡ true) its t);
       is = ap (BadRate c.place) its;
     })
-    (λ g p. let same = value-is h p.latest in (
-      tested.1 (subst (λ v. IsBadAt Has bytes v) (sym same.0) p.bad),
+    (λ g p. let same = latest-is h.codes p.latest in (
+      subst (λ n. is_bad_rate h.rate n ≡ true) (sym its)
+          (tested.1 (subst (λ v. IsBadAt bytes v) (sym same.0) p.bad)),
       p.is ∙ ap (λ v. BadRate v (picture_rate bytes v)) (sym same.0) ∙ ap (BadRate c.place) (sym its),
     )))
     (no-type h (λ e. absurd (omega (arith, e, is)))))
 
-group-decides : {Has : ℕ → ℕ → Type 0} {bytes : List ℕ} {c : Code} {past : List Code} {at : ℕ} {rate : Option ℕ} →
-    Header Has bytes c past at rate → c.value ≡ 0xb8
-    → Refused Has bytes at (cond (ltb (at - c.place) 8) (Some (ShortHeader c.place)) None)
-group-decides {Has} {bytes} {c} {past} {at} {rate} h is =
-    let short = short-here h in
-    both-cond {P = IsShortHeader Has bytes at} {Q = Otherwise (IsBadRate Has bytes at) (IsBadType Has bytes at)}
+group-decides : {bytes : List ℕ} (h : Header bytes) → h.codes.latest.value ≡ 0xb8
+    → Refused bytes h.codes.at
+    (cond (ltb (h.codes.at - h.codes.latest.place) 8) (Some (ShortHeader h.codes.latest.place)) None)
+group-decides {bytes} h is =
+    let at = h.codes.at in
+    let c = h.codes.latest in
+    both-cond {P = ShortAt bytes at} {Q = Otherwise (BadRateAt bytes at) (BadTypeAt bytes at)}
     {b = ltb (at - c.place) 8} {h = ShortHeader c.place} {o = None}
-    (λ e. short-new {Has = Has} {bytes = bytes} {c = c} {past = past} {at = at} {rate = rate} {value = 0xb8} h is
-    (inr (inr refl))
-    (omega (arith, ltb-true (at - c.place) 8 e)))
-    (λ g p. (
-      lt-ltb (at - c.place) 8 (omega (
-        arith,
-        short-at {bytes = bytes} {c = c} {at = at} {value = 0xb8} {f = g} is
-            (short g p),
-      )),
-      (short g p).is,
-    ))
-    (λ _. none-of (Otherwise (IsBadRate Has bytes at) (IsBadType Has bytes at))
-    (neither (IsBadRate Has bytes at) (IsBadType Has bytes at)
-    (no-rate h (λ e.
-    absurd (omega (arith, e, is)))) (no-type h (λ e.
-    absurd (omega (arith, e, is))))))
+    (λ e. short-new h is (inr (inr refl)) (omega (arith, ltb-true (at - c.place) 8 e)))
+    (λ g p. let short = short-here h is g p in (lt-ltb (at - c.place) 8 (omega (arith, short.0)), short.1))
+    (λ _. none-of (Otherwise (BadRateAt bytes at) (BadTypeAt bytes at))
+    (neither (BadRateAt bytes at) (BadTypeAt bytes at)
+    (no-rate h (λ e. absurd (omega (arith, e, is)))) (no-type h (λ e. absurd (omega (arith, e, is))))))
 
 type-good : (t : ℕ) → (leb 1 t && leb t 4) ≡ false → (t ≡ 0) ⊎ (4 < t)
 type-good t e = elim (cases_lt 4 t) [
@@ -346,31 +304,28 @@ less-room : (b : Bool) (place at : ℕ) → at < place + cond b 9 8 → at - pla
 less-room true place at e = omega (arith, e)
 less-room false place at e = omega (arith, e)
 
-picture-decides : {Has : ℕ → ℕ → Type 0} {bytes : List ℕ} {c : Code} {past : List Code} {at : ℕ} {rate : Option ℕ} →
-    Header Has bytes c past at rate → c.value ≡ 0 → Refused Has bytes at (picture_fault c at)
-picture-decides {Has} {bytes} {c} {at} h is =
-    let short = short-here h in
+picture-decides : {bytes : List ℕ} (h : Header bytes) → h.codes.latest.value ≡ 0
+    → Refused bytes h.codes.at (picture_fault h.codes.latest h.codes.at)
+picture-decides {bytes} h is =
+    let at = h.codes.at in
+    let c = h.codes.latest in
     let d = at - c.place in
     let t = type_of c in
     let its = picture_coding_type bytes c.place in
-    let Rate = IsBadRate Has bytes at in
-    let Kind = IsBadType Has bytes at in
+    let Kind = BadTypeAt bytes at in
     let never = no-rate h (λ e. absurd (omega (arith, e, is))) in
     let same = λ (more : 8 ≤ at - c.place). type-fits bytes at c h.fits (omega (arith, more)) in
     let twice = λ (more : 8 ≤ at - c.place). ap has_vectors (same more) in
-    let test = ltb d 8 || (has_vectors t && ltb d 9) in
     let good = leb 1 t && leb t 4 in
     both-cond
     (λ e. short-new h is (inl refl)
     (room (has_vectors its) c.place at (fewer (has_vectors t) (has_vectors its) d twice e)))
-    (λ g p. (
-      few (has_vectors t) (has_vectors its) d twice
-          (less-room (has_vectors its) c.place at (short-at is (short g p))),
-      (short g p).is,
+    (λ g p. let short = short-here h is g p in (
+      few (has_vectors t) (has_vectors its) d twice (less-room (has_vectors its) c.place at short.0),
+      short.1,
     ))
-    (λ e. let far : 8 ≤ at - c.place = ltb-false d 8 (or_parts (ltb d 8) (has_vectors t
-    && ltb d 9) e).0 in
-    only-second Rate Kind (cond good None (Some (BadType c.place))) never
+    (λ e. let far : 8 ≤ at - c.place = ltb-false d 8 (or_parts (ltb d 8) (has_vectors t && ltb d 9) e).0 in
+    only-second (BadRateAt bytes at) Kind (cond good None (Some (BadType c.place))) never
     (subst (λ (o : Option FilmFault). Decides Kind o) (flip good (BadType c.place))
     (decide Kind (not good) (BadType c.place)
     (λ n. record {
@@ -379,7 +334,7 @@ picture-decides {Has} {bytes} {c} {at} h is =
       bad = subst (λ v. (v ≡ 0) ⊎ (4 < v)) (same far) (type-good t (not-true good n));
       is = refl;
     })
-    (λ g p. let here = value-is h p.latest in (
+    (λ g p. let here = latest-is h.codes p.latest in (
       not_from_false good (type-bad good t refl (subst (λ v. (v ≡ 0)
           ⊎ (4 < v)) (sym (same far)) (subst (λ v. (picture_coding_type bytes v ≡ 0)
           ⊎ (4 < picture_coding_type bytes v)) (sym here.0) p.bad))),
@@ -388,93 +343,90 @@ picture-decides {Has} {bytes} {c} {at} h is =
 
 -- ---- any header
 
-other-decides : {Has : ℕ → ℕ → Type 0} {bytes : List ℕ} {c : Code} {past : List Code} {at : ℕ} {rate : Option ℕ} →
-    Header Has bytes c past at rate → (IsHeadValue c.value → ⊥) → (f : FilmFault) →
-    HeaderRefusal Has bytes at f → ⊥
-other-decides {Has} {bytes} {c} {at} h other =
-    neither (IsShortHeader Has bytes at)
-    (Otherwise (IsBadRate Has bytes at) (IsBadType Has bytes at))
-    (λ f p. other (subst IsHeadValue
-    (sym (value-is h p.latest).1) p.head))
-    (neither (IsBadRate Has bytes at) (IsBadType Has bytes at)
-    (no-rate h (λ e.
-    other (inr (inl e)))) (no-type h (λ e. other (inl e))))
+other-decides : {bytes : List ℕ} (h : Header bytes) → (IsHeadValue h.codes.latest.value → ⊥) → (f : FilmFault)
+    → HeaderRefusal (IsCodeAt bytes) bytes h.codes.at f → ⊥
+other-decides {bytes} h other =
+    let at = h.codes.at in
+    neither (ShortAt bytes at) (Otherwise (BadRateAt bytes at) (BadTypeAt bytes at))
+    (λ f p. other (subst IsHeadValue (sym (latest-is h.codes p.latest).1) p.head))
+    (neither (BadRateAt bytes at) (BadTypeAt bytes at)
+    (no-rate h (λ e. other (inr (inl e)))) (no-type h (λ e. other (inl e))))
 
-values-decide : {three eight zero_is : Bool} {Has : ℕ → ℕ → Type 0} {bytes : List ℕ} {c : Code} {past : List Code}
-    {at : ℕ} {rate : Option ℕ} → eqb c.value 0xb3 ≡ three →
-    eqb c.value 0xb8 ≡ eight → eqb c.value 0 ≡ zero_is → Header Has bytes c past at rate
-    → Refused Has bytes at
-    (cond three (cond (ltb (at - c.place) 12) (Some (ShortHeader c.place)) (rate_fault rate c))
-    (cond eight (cond (ltb (at - c.place) 8) (Some (ShortHeader c.place)) None)
-    (cond zero_is (picture_fault c at) None)))
-values-decide {three = true} {c} a b z h =
-    sequence-decides h (eqb-true c.value 0xb3 a)
-values-decide {three = false} {eight = true} {c} a b z h =
-    group-decides h (eqb-true c.value 0xb8 b)
-values-decide {three = false} {eight = false} {zero_is = true} {Has} {c} {at} a b z h =
-    picture-decides h (eqb-true c.value 0 z)
-values-decide {three = false} {eight = false} {zero_is = false} {Has} {bytes} {c} {at} a b z h =
-    none-of (HeaderRefusal Has bytes at)
-    (other-decides h (no-value c.value a b z))
-
-pub header-decides : {Has : ℕ → ℕ → Type 0} {bytes : List ℕ} {c : Code} {past : List Code} {at : ℕ} {rate : Option ℕ} →
-    Header Has bytes c past at rate → Refused Has bytes at (header_fault rate c at)
-header-decides {Has} {c} {at} h =
-    values-decide
-    refl refl refl h
+header-decides : {bytes : List ℕ} (h : Header bytes)
+    → Refused bytes h.codes.at (header_fault h.rate h.codes.latest h.codes.at)
+header-decides {bytes} h =
+    let value = h.codes.latest.value in
+    by-test (eqb value 0xb3) (λ a. sequence-decides h (eqb-true value 0xb3 a))
+    (λ a. by-test (eqb value 0xb8) (λ b. group-decides h (eqb-true value 0xb8 b))
+    (λ b. by-test (eqb value 0) (λ z. picture-decides h (eqb-true value 0 z))
+    (λ z. none-of (HeaderRefusal (IsCodeAt bytes) bytes h.codes.at) (other-decides h (no-value value a b z)))))
 
 -- ---- the header before a place
 
-header-fits : {bytes r : List ℕ} {stop to : ℕ} {c : Code} → Same bytes r → HeaderIs r stop c →
-    to ≤ stop → Fits bytes to c
-header-fits same header far k small below =
-    header-byte k same small (omega (arith, below, far)) header
+-- the codes before a place, and the bytes that they stand in
+pub record Film (bytes : List ℕ) (past : List Code) (at : ℕ) : Type 0 where
+  pub read : List ℕ
+  pub stop : ℕ
+  pub same : Same bytes read
+  pub knows : Knows (IsCodeAt bytes) past at
+  pub headers : HeadersAre read stop past
+  pub far : at ≤ stop
 
-rate-known : {Has : ℕ → ℕ → Type 0} {bytes r : List ℕ} {past : List Code} {at : ℕ} → Same bytes r →
-    Knows Has past at → Spaced past → HeadersAre r (at + 4) past → first_fault past ≡ None →
-    latest_fault past at ≡ None → RateIs Has bytes at (first_rate past)
-rate-known {Has} {r} {past = []} {at} same k spaced headers accepted judged =
-    no_rate refl (λ place value has after before is. absurd (k.back place value has before))
-rate-known {Has} {bytes} {r} {past = c ∷ past} {at} same k spaced headers accepted judged =
+pub film-older : {bytes : List ℕ} {c : Code} {past : List Code} {at : ℕ} → Film bytes (c ∷ past) at
+    → Film bytes past c.place
+film-older {c} film = record {
+  read = film.read;
+  stop = c.place + 4;
+  same = film.same;
+  knows = older (known film.knows);
+  headers = film.headers.1;
+  far = omega arith;
+}
+
+header-fits : {bytes : List ℕ} {c : Code} {past : List Code} {at : ℕ} → Film bytes (c ∷ past) at → Fits bytes at c
+header-fits film k small below = header-byte k film.same small (omega (arith, below, film.far)) film.headers.0
+
+rate-known : {bytes : List ℕ} {past : List Code} {at : ℕ} → Film bytes past at → first_fault past ≡ None
+    → latest_fault past at ≡ None → RateIs bytes at (first_rate past)
+rate-known {past = []} film accepted judged =
+    no_rate refl (λ place value has after before is. absurd (film.knows.back place value has before))
+rate-known {bytes} {past = c ∷ past} {at} film accepted judged =
     let first = first_in c past in
     let has = first_in-has c past in
-    let are : AreJudged r c past at (at + 4) =
-    record { accepted = accepted; judged = judged; far = omega arith; headers = headers } in
+    let k = film.knows in
+    let are : AreJudged film.read c past at film.stop =
+    record { accepted = accepted; judged = judged; far = film.far; headers = film.headers } in
     let header = first_in-header are in
     its_rate (record {
       first = first.place;
-      code = subst (λ m.
-          Has first.place m) (first_in-value c past accepted) (k.there first.place first.value has);
+      code = subst (λ m. IsCodeAt bytes first.place m) (first_in-value c past accepted)
+          (k.there first.place first.value has);
       none = λ place value code after before is.
           omega (
             arith,
             before,
-            first-least c past place value spaced
+            first-least c past place value k.spaced
                 (k.back place value code (omega (arith, before, k.below first.place first.value has))),
           );
       before = k.below first.place first.value has;
       is = first_in-rate c past accepted ∙ ap Some (rate-fits bytes header.stop first
-          (header-fits same header.is (omega arith))
-          (omega (arith, header.long)));
+          (λ k small below. header-byte k film.same small below header.is) (omega (arith, header.long)));
     })
 
-pub latest-decides : {Has : ℕ → ℕ → Type 0} {bytes r : List ℕ} {past : List Code} {at stop : ℕ} →
-    Same bytes r → Knows Has past at → Spaced past → HeadersAre r stop past → at ≤ stop →
-    first_fault past ≡ None → Decides (HeaderRefusal Has bytes at) (latest_fault past at)
-latest-decides {Has} {bytes} {r} {past = []} {at} {stop} same k spaced headers far accepted =
-    none-of (HeaderRefusal Has bytes at)
-    (neither (IsShortHeader Has bytes at)
-    (Otherwise (IsBadRate Has bytes at) (IsBadType Has bytes at))
-    (λ f p. k.back p.place p.value p.latest.code p.latest.before)
-    (neither (IsBadRate Has bytes at) (IsBadType Has bytes at) (λ f p.
-    k.back p.place 0xb3 p.latest.code p.latest.before) (λ f p.
-    k.back p.place 0 p.latest.code p.latest.before)))
-latest-decides {Has} {r} {past = c ∷ past} {at} {stop} same k spaced headers far accepted =
+pub latest-decides : {bytes : List ℕ} {past : List Code} {at : ℕ} → Film bytes past at → first_fault past ≡ None
+    → Refused bytes at (latest_fault past at)
+latest-decides {bytes} {past = []} {at} film accepted =
+    let back = film.knows.back in
+    none-of (HeaderRefusal (IsCodeAt bytes) bytes at)
+    (neither (ShortAt bytes at) (Otherwise (BadRateAt bytes at) (BadTypeAt bytes at))
+    (λ f p. back p.place p.value p.latest.code p.latest.before)
+    (neither (BadRateAt bytes at) (BadTypeAt bytes at)
+    (λ f p. back p.place 0xb3 p.latest.code p.latest.before)
+    (λ f p. back p.place 0 p.latest.code p.latest.before)))
+latest-decides {past = c ∷ past} film accepted =
     header-decides (record {
-      knows = k;
-      spaced = spaced;
-      fits = header-fits same headers.0 far;
-      rate_is = rate-known same
-          (older Has c past at k spaced) spaced.1 headers.1 (accepted-older c past accepted)
-          (older-judged c past accepted);
+      codes = known film.knows;
+      rate = first_rate past;
+      fits = header-fits film;
+      rate_is = rate-known (film-older film) (accepted-older c past accepted) (older-judged c past accepted);
     })

@@ -1,5 +1,5 @@
 -- Each refusal comes exactly where the standard's words say.
-use Rattle.std.proofs.Common.{ℕ, Bool, true, false, cond, eqb, ltb, leb, not, ◌&&◌, ◌+◌, ◌-◌, ◌<◌}
+use Rattle.std.proofs.Common.{ℕ, Bool, true, false, cond, eqb, ltb, leb, not, ◌&&◌, ◌-◌}
 use Rattle.std.proofs.Common.{◌≤◌, ◌≡◌, List, [], ◌∷◌, Option, Some, None, sym, ◌∙◌, ap, refl}
 use Rattle.std.proofs.Common.{subst, inl, inr, arith}
 use Rattle.std.specs.Prelude.{option_map}
@@ -18,30 +18,27 @@ use Rattle.mpeg_scan.specs.CodeFacts.{picture_count, slice_count, tally_of, late
 use Rattle.mpeg_scan.specs.FilmFaults.{code_fault, count_fault, fault_at, first_fault}
 use Rattle.mpeg_scan.specs.FilmFaults.{first_slice_fault, head_fault, value_fault, latest_fault}
 use Rattle.mpeg_scan.specs.FilmFaults.{left_without_slices, first_refusal, second_fault}
-use Rattle.mpeg_scan.specs.CodePlaces.{HasCode}
-use Rattle.mpeg_scan.specs.StandardRefusals.{BeginsUnit, CodeRefusal, CountRefusal, HasPictures}
+use Rattle.mpeg_scan.specs.CodePlaces.{HasCode, IsCodeAt}
+use Rattle.mpeg_scan.specs.StandardRefusals.{CodeRefusal, CountRefusal, HasPictures}
 use Rattle.mpeg_scan.specs.StandardRefusals.{HeaderRefusal, IsExtension, IsItsPicture, IsLongFilm}
 use Rattle.mpeg_scan.specs.StandardRefusals.{IsLongGroup, IsLongHead, IsOpenHead, IsSystemCode, ValueRefusal}
 use Rattle.mpeg_scan.specs.StandardRefusals.{LacksPicture, LacksSequence, LacksSlices, Otherwise}
 use Rattle.mpeg_scan.specs.StandardRefusals.{SecondRefusal, SliceRefusal}
 use Rattle.mpeg_scan.specs.StandardUnits.{IsFirstCode, IsHeadValue, IsSliceValue, StandsThere}
 use Rattle.mpeg_scan.proofs.ScanStepLemmas.{positive}
-use Rattle.mpeg_scan.proofs.HeaderByteLemmas.{Same, HeadersAre}
-use Rattle.mpeg_scan.proofs.CodeSpacingLemmas.{Spaced}
 use Rattle.std.proofs.lemmas.Option.{same_Some}
 use Rattle.mpeg_scan.proofs.DecisionLemmas.{Decides, both, both-cond, decide, decide-if, decide-with}
 use Rattle.mpeg_scan.proofs.DecisionLemmas.{neither, no-more, none-of, only-second}
 use Rattle.mpeg_scan.proofs.CodesBeforeLemmas.{Knows, PictureThere, head-value, no-head, no-slice}
 use Rattle.mpeg_scan.proofs.CodesBeforeLemmas.{not-open, one-head, one-picture, open-head, picture-there}
-use Rattle.mpeg_scan.proofs.CodesBeforeLemmas.{slice-value, slice-there, has-new, new-below}
+use Rattle.mpeg_scan.proofs.CodesBeforeLemmas.{slice-value, slice-there, has-new, known, new-below, older}
 use Rattle.mpeg_scan.proofs.CodeCountLemmas.{codes-from, codes-since, group-tests, most-since}
 use Rattle.mpeg_scan.proofs.CodeCountLemmas.{picture-tests, since-all, since-group}
-use Rattle.mpeg_scan.proofs.HeaderLemmas.{latest-decides}
+use Rattle.mpeg_scan.proofs.HeaderLemmas.{Film, film-older, latest-decides}
 
 -- a code of a value stands at a place, and the codes before it are these
 pub record AtCode (Has : ℕ → ℕ → Type 0) (past : List Code) (at value : ℕ) : Type 0 where
   pub knows : Knows Has past at
-  pub spaced : Spaced past
   pub code : Has at value
   pub one : (other : ℕ) → Has at other → other ≡ value
 
@@ -51,20 +48,19 @@ no-codes : (past : List Code) (a : Bool) → (not (not (is_none_yet past)) && a)
 no-codes [] a e = refl
 no-codes (d ∷ past) a e = absurd (false≢true e)
 
-first-of-none : (Has : ℕ → ℕ → Type 0) (past : List Code) (at : ℕ) → Knows Has past at → past ≡ [] →
-    IsFirstCode Has at
-first-of-none Has past at k none place value has = elim (cases_lt place at) [
+first-of-none : {Has : ℕ → ℕ → Type 0} {past : List Code} {at : ℕ} → Knows Has past at → past ≡ []
+    → IsFirstCode Has at
+first-of-none {at} k none place value has = elim (cases_lt place at) [
   | inl before ↦ absurd
       (subst (λ (l : List Code). HasCode place value l) none (k.back place value has before))
   | inr after ↦ after
 ]
 
-none-of-first : (Has : ℕ → ℕ → Type 0) (past : List Code) (at : ℕ) → Knows Has past at →
-    IsFirstCode Has at → is_none_yet past ≡ true
-none-of-first Has [] at k first = refl
-none-of-first Has (d ∷ past) at k first =
-    absurd (omega
-    (arith, first d.place d.value (has-new Has d past at k), new-below Has d past at k))
+none-of-first : {Has : ℕ → ℕ → Type 0} {past : List Code} {at : ℕ} → Knows Has past at → IsFirstCode Has at
+    → is_none_yet past ≡ true
+none-of-first {past = []} k first = refl
+none-of-first {past = d ∷ past} k first =
+    absurd (omega (arith, first d.place d.value (has-new (known k)), new-below (known k)))
 
 twice : (b : Bool) → b ≡ true → not (not b) ≡ true
 twice true e = refl
@@ -88,7 +84,7 @@ value-decides Has past at value c =
     (λ _. decide Lacks (first && not three) NoSequence
     (λ e. (
       (
-        first-of-none Has past at c.knows (no-codes past (not three) e),
+        first-of-none c.knows (no-codes past (not three) e),
         λ has.
             eqb-false value 0xb3 (not-true three (and_parts first (not three) e).1)
             (sym (c.one 0xb3 has)),
@@ -97,7 +93,7 @@ value-decides Has past at value c =
     ))
     (λ g p. (
       and_from first (not three)
-          (twice (is_none_yet past) (none-of-first Has past at c.knows p.0.0))
+          (twice (is_none_yet past) (none-of-first c.knows p.0.0))
           (not_from_false three (ne_eqb value 0xb3 (λ is.
           p.0.1 (subst (λ k. Has at k) is c.code)))),
       p.1,
@@ -105,51 +101,36 @@ value-decides Has past at value c =
 
 -- ---- a head's picture
 
--- the latest unit has no slice
-slices-left : {Has : ℕ → ℕ → Type 0} {past : List Code} {at unit : ℕ} → Knows Has past at →
-    Spaced past → eqb (slice_count past) 0 ≡ false → IsOpenHead Has unit at → ⊥
-slices-left {Has} {past} {at} {unit} k spaced some o =
-    not-open Has unit at (slice-there Has past at k spaced (positive (slice_count past) some)) o
-
 -- the picture of an open head decides
-pub picture-slices : (Has : ℕ → ℕ → Type 0) (at unit : ℕ) (o : Option Header) →
-    IsOpenHead Has unit at → PictureThere Has unit at o →
-    Decides (LacksSlices Has at) (option_map left_without_slices o)
-picture-slices Has at unit None head none = none-of (LacksSlices Has at)
-    (λ f p. none p.place 0 p.picture.code (subst (λ u.
-    u ≤ p.place)
-    (one-head Has p.unit unit at p.open_head head) p.picture.after) p.picture.before refl)
-picture-slices Has at unit (Some h) head picture = λ f. (
+pub picture-slices : {Has : ℕ → ℕ → Type 0} {at unit : ℕ} (o : Option Header) → IsOpenHead Has unit at
+    → PictureThere Has unit at o → Decides (LacksSlices Has at) (option_map left_without_slices o)
+picture-slices {Has} {at} None head none = none-of (LacksSlices Has at)
+    (λ f p. none p.place 0 p.picture.code (subst (λ u. u ≤ p.place) (one-head p.open_head head) p.picture.after)
+    p.picture.before refl)
+picture-slices {Has} {at} (Some h) head picture = λ f. (
   λ e. record {
-    unit = unit;
+    unit = _;
     place = h.place;
     open_head = head;
     picture = picture;
     is = sym (same_Some (PictureWithoutSlices h.place) f e);
   },
-  λ p. let same = one-head Has p.unit unit at p.open_head head in
-      let its = one-picture (subst (λ u.
-      IsItsPicture Has u p.place at) same p.picture) picture in
+  λ p. let same = one-head p.open_head head in
+      let its = one-picture (p.place, subst (λ u. IsItsPicture Has u p.place at) same p.picture) (h.place, picture) in
       ap (λ (v : ℕ). Some (PictureWithoutSlices v)) (sym its) ∙ ap Some (sym p.is),
 )
 
-begins-by : (Has : ℕ → ℕ → Type 0) (at unit : ℕ) → Knows Has [] at → unit < at →
-    BeginsUnit Has unit → ⊥
-begins-by Has at unit k before (inl first) = k.back unit first.0.0 first.0.1.0 before
-begins-by Has at unit k before (inr it) = k.back unit it.0.0 it.0.1.0 before
+pub begins-after : {Has : ℕ → ℕ → Type 0} {at unit : ℕ} → Knows Has [] at → IsOpenHead Has unit at → ⊥
+begins-after {unit} k o = elim o.begins [
+  | inl first ↦ k.back unit first.0.0 first.0.1.0 o.before
+  | inr it ↦ k.back unit it.0.0 it.0.1.0 o.before
+]
 
-pub begins-after : (Has : ℕ → ℕ → Type 0) (at unit : ℕ) → Knows Has [] at →
-    IsOpenHead Has unit at → ⊥
-begins-after Has at unit k o = begins-by Has at unit k o.before o.begins
-
-slices-decide : (Has : ℕ → ℕ → Type 0) (past : List Code) (at : ℕ) → Knows Has past at →
-    Spaced past → slice_count past ≡ 0 →
-    Decides (LacksSlices Has at) (option_map left_without_slices (latest_picture past))
-slices-decide Has [] at k spaced none =
-    none-of (LacksSlices Has at) (λ f p. begins-after Has at p.unit k p.open_head)
-slices-decide Has (d ∷ past) at k spaced none =
-    picture-slices Has at (latest_unit (d ∷ past)) (latest_picture (d ∷ past))
-    (open-head k spaced none) (picture-there Has d past at k spaced)
+slices-decide : {Has : ℕ → ℕ → Type 0} {past : List Code} {at : ℕ} → Knows Has past at → slice_count past ≡ 0
+    → Decides (LacksSlices Has at) (option_map left_without_slices (latest_picture past))
+slices-decide {Has} {past = []} {at} k none = none-of (LacksSlices Has at) (λ f p. begins-after k p.open_head)
+slices-decide {past = d ∷ past} k none =
+    picture-slices (latest_picture (d ∷ past)) (open-head k none) (picture-there k)
 
 second-decides : (Has : ℕ → ℕ → Type 0) (past : List Code) (at value : ℕ) → AtCode Has past at value →
     Decides (SecondRefusal Has at) (second_fault (tally_of past) value)
@@ -159,10 +140,10 @@ second-decides Has past at value c =
     (λ e. let parts = and_parts (is_head value) (eqb (slice_count past) 0) e in
     decide-with (StandsThere Has at IsHeadValue) (LacksSlices Has at)
     (option_map left_without_slices (latest_picture past)) (value, (c.code, head-value value parts.0))
-    (slices-decide Has past at c.knows c.spaced (eqb-true (slice_count past) 0 parts.1)))
+    (slices-decide c.knows (eqb-true (slice_count past) 0 parts.1)))
     (λ e f p. elim (and_cases (is_head value) (eqb (slice_count past) 0) e) [
       | inl other ↦ no-head value other (subst IsHeadValue (c.one p.0.0 p.0.1.0) p.0.1.1)
-      | inr some ↦ slices-left c.knows c.spaced some p.1.open_head
+      | inr some ↦ not-open (slice-there c.knows (positive (slice_count past) some)) p.1.open_head
     ])
 
 -- ---- a unit's first slice
@@ -178,7 +159,7 @@ bare-decides {Has} {unit} {at} head none = λ f. (
     is = sym (same_Some (HeadWithoutPicture unit) f e);
   }),
   λ either. elim either [
-    | inl p ↦ ap (λ u. Some (HeadWithoutPicture u)) (one-head Has unit p.unit at head p.open_head)
+    | inl p ↦ ap (λ u. Some (HeadWithoutPicture u)) (one-head head p.open_head)
         ∙ ap Some (sym p.is)
     | inr q ↦ absurd (q.0 (HeadWithoutPicture unit) (record {
       unit = unit;
@@ -198,7 +179,7 @@ long-decides {Has} {unit} {at} h head picture =
     only-second (LacksPicture Has at) (IsLongHead Has at)
     (cond (ltb MAX_UNIT_HEAD_BYTES (at - unit)) (Some (HeadTooLong unit)) None)
     (λ f p. p.none h.place 0 picture.code
-    (subst (λ u. u ≤ h.place) (one-head Has unit p.unit at head p.open_head) picture.after) picture.before refl)
+    (subst (λ u. u ≤ h.place) (one-head head p.open_head) picture.after) picture.before refl)
     (decide (IsLongHead Has at) (ltb MAX_UNIT_HEAD_BYTES (at - unit)) (HeadTooLong unit)
     (λ e. record {
       unit = unit;
@@ -206,19 +187,14 @@ long-decides {Has} {unit} {at} h head picture =
       long = omega (arith, ltb-true MAX_UNIT_HEAD_BYTES (at - unit) e);
       is = refl;
     })
-    (λ g p. let same = one-head Has p.unit unit at p.open_head head in
+    (λ g p. let same = one-head p.open_head head in
     (lt-ltb MAX_UNIT_HEAD_BYTES (at - unit) (omega (arith, same, p.long)), p.is ∙ ap HeadTooLong same)))
 
-head-decides : {Has : ℕ → ℕ → Type 0} {t_unit at : ℕ} (past : List Code) (o : Option Header) →
-    latest_unit past ≡ t_unit → IsOpenHead Has t_unit at → PictureThere Has t_unit at o
-    → Decides (Otherwise (LacksPicture Has at) (IsLongHead Has at))
-    (head_fault (tally_of past) at o)
-head-decides {Has} {at} past None is head none =
-    subst (λ u. Decides (Otherwise (LacksPicture Has at) (IsLongHead Has at))
-    (Some (HeadWithoutPicture u))) (sym is) (bare-decides head none)
-head-decides {Has} {at} past (Some h) is head picture =
-    subst (λ u. Decides (Otherwise (LacksPicture Has at) (IsLongHead Has at))
-    (cond (ltb MAX_UNIT_HEAD_BYTES (at - u)) (Some (HeadTooLong u)) None)) (sym is) (long-decides h head picture)
+head-decides : {Has : ℕ → ℕ → Type 0} {at : ℕ} (past : List Code) (o : Option Header)
+    → IsOpenHead Has (latest_unit past) at → PictureThere Has (latest_unit past) at o
+    → Decides (Otherwise (LacksPicture Has at) (IsLongHead Has at)) (head_fault (tally_of past) at o)
+head-decides past None head none = bare-decides head none
+head-decides past (Some h) head picture = long-decides h head picture
 
 lacks-none : (Has : ℕ → ℕ → Type 0) (at : ℕ) → ((unit : ℕ) → IsOpenHead Has unit at → ⊥) →
     (f : FilmFault) → Otherwise (LacksPicture Has at) (IsLongHead Has at) f → ⊥
@@ -226,33 +202,29 @@ lacks-none Has at never =
     neither (LacksPicture Has at) (IsLongHead Has at) (λ f p. never p.unit p.open_head) (λ f p.
     never p.unit p.open_head)
 
-not-both : {Has : ℕ → ℕ → Type 0} {at value : ℕ} → AtCode Has [] at value →
-    value_fault (tally_of []) at value ≡ None → is_slice value ≡ true → IsFirstCode Has at → ⊥
-not-both {Has} {at} {value} c none slice first =
+not-first : {Has : ℕ → ℕ → Type 0} {at value : ℕ} → AtCode Has [] at value
+    → value_fault (tally_of []) at value ≡ None → is_slice value ≡ true → ⊥
+not-first {Has} {at} {value} c none slice =
     let is = slice-value value slice in
-    no-more (ValueRefusal Has at) (value_fault (tally_of []) at value)
-    (value-decides Has [] at value c) none NoSequence
+    no-more (ValueRefusal Has at) (value_fault (tally_of []) at value) (value-decides Has [] at value c) none NoSequence
     (inr (
       (λ g p. let other = c.one p.0.0 p.0.1.0 in omega (arith, is.1, other, p.0.1.1)),
       inr (
         (λ g p. let other = c.one 0xb5 p.0 in omega (arith, is.1, other)),
-        ((first, λ has. (let other = c.one 0xb3 has in omega (arith, is.1, other))), refl),
+        (
+          (first-of-none c.knows refl, λ has. (let other = c.one 0xb3 has in omega (arith, is.1, other))),
+          refl,
+        ),
       ),
     ))
-
-three-first : (Has : ℕ → ℕ → Type 0) (at value : ℕ) → AtCode Has [] at value →
-    value_fault (tally_of []) at value ≡ None → is_slice value ≡ true → ⊥
-three-first Has at value c none slice =
-    let first : IsFirstCode Has at = first-of-none Has [] at c.knows refl in
-    not-both c none slice first
 
 slice-decides : (Has : ℕ → ℕ → Type 0) (past : List Code) (at value : ℕ) → AtCode Has past at value →
     value_fault (tally_of past) at value ≡ None →
     Decides (SliceRefusal Has at) (first_slice_fault (tally_of past) at value)
 slice-decides Has [] at value c none =
     decide-if (SliceRefusal Has at) (is_slice value && eqb 0 0) (head_fault (tally_of []) at None)
-    (λ e. absurd (three-first Has at value c none (and_parts (is_slice value) (eqb 0 0) e).0))
-    (λ e f p. lacks-none Has at (λ unit o. begins-after Has at unit c.knows o) f p.1)
+    (λ e. absurd (not-first c none (and_parts (is_slice value) (eqb 0 0) e).0))
+    (λ e f p. lacks-none Has at (λ unit o. begins-after c.knows o) f p.1)
 slice-decides Has (d ∷ past) at value c none =
     let all : List Code = d ∷ past in
     let o = latest_picture all in
@@ -262,70 +234,51 @@ slice-decides Has (d ∷ past) at value c none =
     decide-with (StandsThere Has at IsSliceValue)
     (Otherwise (LacksPicture Has at) (IsLongHead Has at)) (head_fault (tally_of all) at o)
     (value, (c.code, slice-value value parts.0))
-    (head-decides all o refl
-    (open-head c.knows c.spaced (eqb-true (slice_count all) 0 parts.1))
-    (picture-there Has d past at c.knows c.spaced)))
+    (head-decides all o (open-head c.knows (eqb-true (slice_count all) 0 parts.1)) (picture-there c.knows)))
     (λ e f p. elim (and_cases (is_slice value) (eqb (slice_count all) 0) e) [
       | inl other ↦ no-slice value other (subst IsSliceValue (c.one p.0.0 p.0.1.0) p.0.1.1)
       | inr some ↦ lacks-none Has at (λ unit o.
-          slices-left c.knows c.spaced some o) f p.1
+          not-open (slice-there c.knows (positive (slice_count all) some)) o) f p.1
     ])
 
 -- ---- the number of pictures
 
-group-test : (Has : ℕ → ℕ → Type 0) (past : List Code) (at : ℕ) → Knows Has past at → Spaced past →
-    leb 1024 (picture_count past - before_group_of past) ≡ true → IsLongGroup Has at (GroupTooLong at)
-group-test Has past at k spaced e =
-    let it = codes-since group-tests k spaced in record {
-      from = it.from;
-      pictures = (
-        it.places,
-        (
-          it.are,
-          omega (
-            arith,
-            it.long,
-            since-group past,
-            leb-true 1024
-                (picture_count past - before_group_of past) e,
-          ),
-        ),
-      );
-      none = λ place value has after before is.
-          it.none place value has after before (eq-eqb value 0xb8 is);
+group-test : {Has : ℕ → ℕ → Type 0} {past : List Code} {at : ℕ} → Knows Has past at
+    → leb 1024 (picture_count past - before_group_of past) ≡ true → IsLongGroup Has at (GroupTooLong at)
+group-test {past} k e =
+    let it = codes-since group-tests k in
+    let many = leb-true 1024 (picture_count past - before_group_of past) e in
+    record {
+      from = it.codes.from;
+      pictures = (it.codes.places, (it.codes.are, omega (arith, it.long, since-group past, many)));
+      none = λ place value has after before is. it.codes.none place value has after before (eq-eqb value 0xb8 is);
       is = refl;
     }
 
-test-group : {Has : ℕ → ℕ → Type 0} {past : List Code} {at : ℕ} {f : FilmFault} →
-    Knows Has past at → Spaced past → IsLongGroup Has at f →
-    leb 1024 (picture_count past - before_group_of past) ≡ true
-test-group {Has} {past} {at} k spaced p =
-    let most = most-since p.pictures.0
-    group-tests k spaced p.pictures.1.0
-    (λ place value has after before is.
-    p.none place value has after before (eqb-true value 0xb8 is)) in
+test-group : {Has : ℕ → ℕ → Type 0} {past : List Code} {at : ℕ} {f : FilmFault} → Knows Has past at
+    → IsLongGroup Has at f → leb 1024 (picture_count past - before_group_of past) ≡ true
+test-group {past} k p =
+    let most = most-since group-tests p.pictures.0 k p.pictures.1.0
+    (λ place value has after before is. p.none place value has after before (eqb-true value 0xb8 is)) in
     le-leb 1024 (picture_count past - before_group_of past)
     (omega (arith, most, since-group past, p.pictures.1.1))
 
-film-test : (Has : ℕ → ℕ → Type 0) (past : List Code) (at : ℕ) → Knows Has past at → Spaced past →
-    leb 4194304 (picture_count past) ≡ true → HasPictures Has 0 at 4194304
-film-test Has past at k spaced e =
-    let it = codes-since picture-tests k spaced in (
-      it.places,
+film-test : {Has : ℕ → ℕ → Type 0} {past : List Code} {at : ℕ} → Knows Has past at
+    → leb 4194304 (picture_count past) ≡ true → HasPictures Has 0 at 4194304
+film-test {past} k e =
+    let it = codes-since picture-tests k in
+    let many = leb-true 4194304 (picture_count past) e in (
+      it.codes.places,
       (
-        codes-from it.places (λ place has far before.
-            omega arith) it.are,
-        omega
-            (arith, it.long, since-all past, leb-true 4194304 (picture_count past) e),
+        codes-from it.codes (λ place has far before. omega arith),
+        omega (arith, it.long, since-all past, many),
       ),
     )
 
-test-film : (Has : ℕ → ℕ → Type 0) (past : List Code) (at : ℕ) → Knows Has past at → Spaced past →
-    HasPictures Has 0 at 4194304 → leb 4194304 (picture_count past) ≡ true
-test-film Has past at k spaced p =
-    let most = most-since p.0
-    picture-tests k spaced p.1.0
-    (λ place value has after before is. false≢true is) in
+test-film : {Has : ℕ → ℕ → Type 0} {past : List Code} {at : ℕ} → Knows Has past at → HasPictures Has 0 at 4194304
+    → leb 4194304 (picture_count past) ≡ true
+test-film {past} k p =
+    let most = most-since picture-tests p.0 k p.1.0 (λ place value has after before is. false≢true is) in
     le-leb 4194304 (picture_count past) (omega (arith, most, since-all past, p.1.1))
 
 count-decides : (Has : ℕ → ℕ → Type 0) (past : List Code) (at value : ℕ) → AtCode Has past at value →
@@ -338,35 +291,47 @@ count-decides Has past at value c =
     (λ e. decide-with (Has at 0) (Otherwise (IsLongGroup Has at) (IsLongFilm Has at)) o (subst (λ k.
     Has at k) (eqb-true value 0 e) c.code)
     (both-cond
-    (λ t. group-test Has past at c.knows c.spaced t)
-    (λ g p. (test-group c.knows c.spaced p, p.is))
+    (λ t. group-test c.knows t)
+    (λ g p. (test-group c.knows p, p.is))
     (λ _. decide (IsLongFilm Has at) many TooLong (λ t.
-    (film-test Has past at c.knows c.spaced t, refl)) (λ g p.
-    (test-film Has past at c.knows c.spaced p.0, p.1)))))
+    (film-test c.knows t, refl)) (λ g p.
+    (test-film c.knows p.0, p.1)))))
     (λ e f p. eqb-false value 0 e (sym (c.one 0 p.0)))
 
 -- ---- a code
 
-pub code-decides : {Has : ℕ → ℕ → Type 0} {bytes r : List ℕ} {past : List Code} {at value : ℕ} →
-    Same bytes r → AtCode Has past at value → HeadersAre r (at + 4) past → first_fault past ≡ None →
-    Decides (CodeRefusal Has bytes at) (fault_at past at value)
+-- bytes have one value at a place
+one-value : (bytes : List ℕ) (place value other : ℕ) → IsCodeAt bytes place value → IsCodeAt bytes place other
+    → other ≡ value
+one-value bytes place value other one two = sym two.fourth ∙ one.fourth
+
+pub code-decides : {bytes : List ℕ} {c : Code} {past : List Code} {end : ℕ} → Film bytes (c ∷ past) end
+    → first_fault past ≡ None → Decides (CodeRefusal (IsCodeAt bytes) bytes c.place) (fault_at past c.place c.value)
 unfolding fault_at
-code-decides {Has} {bytes} {past} {at} {value} same c headers accepted =
+code-decides {bytes} {c} {past} film accepted =
+    let Has = IsCodeAt bytes in
+    let at = c.place in
+    let value = c.value in
     let t = tally_of past in
+    let code = has-new (known film.knows) in
+    let at_code : AtCode Has past at value = record {
+      knows = older (known film.knows);
+      code = code;
+      one = λ other has. one-value bytes at value other code has;
+    } in
     both (HeaderRefusal Has bytes at)
     (Otherwise (ValueRefusal Has at)
     (Otherwise (SecondRefusal Has at) (Otherwise (SliceRefusal Has at) (CountRefusal Has at))))
-    (latest_fault past at) (code_fault t at value)
-    (latest-decides same c.knows c.spaced headers (omega arith) accepted)
+    (latest_fault past at) (code_fault t at value) (latest-decides (film-older film) accepted)
     (λ _. both (ValueRefusal Has at)
     (Otherwise (SecondRefusal Has at) (Otherwise (SliceRefusal Has at) (CountRefusal Has at)))
     (value_fault t at value)
     (first_refusal (second_fault t value)
     (first_refusal (first_slice_fault t at value) (count_fault t at value)))
-    (value-decides Has past at value c)
+    (value-decides Has past at value at_code)
     (λ none. both (SecondRefusal Has at) (Otherwise (SliceRefusal Has at) (CountRefusal Has at))
     (second_fault t value) (first_refusal (first_slice_fault t at value) (count_fault t at value))
-    (second-decides Has past at value c)
+    (second-decides Has past at value at_code)
     (λ _. both (SliceRefusal Has at) (CountRefusal Has at) (first_slice_fault t at value)
-    (count_fault t at value) (slice-decides Has past at value c none) (λ _.
-    count-decides Has past at value c))))
+    (count_fault t at value) (slice-decides Has past at value at_code none)
+    (λ _. count-decides Has past at value at_code))))

@@ -16,7 +16,7 @@ use Rattle.mpeg_scan.specs.FilmFaults.{end_fault, first_fault, header_fault, las
 use Rattle.mpeg_scan.specs.FilmFaults.{rate_fault}
 use Rattle.mpeg_scan.specs.Films.{IsFilm}
 use Rattle.mpeg_scan.specs.CodePlaces.{HasCode, IsCodeAt}
-use Rattle.mpeg_scan.specs.StandardUnits.{HasFields, IsFirstCode, IsUnitOf, NoneIn, StandsIn}
+use Rattle.mpeg_scan.specs.StandardUnits.{HasFields, IsUnitOf}
 use Rattle.mpeg_scan.specs.StandardUnits.{type_number, vector_fields}
 use Rattle.mpeg_scan.proofs.ScanStepLemmas.{otherwise-first, otherwise-second}
 use Rattle.mpeg_scan.proofs.ScanStepLemmas.{none-cond, some-cond-none}
@@ -27,8 +27,8 @@ use Rattle.mpeg_scan.proofs.FirstUnitLemmas.{AreJudged, older-are_judged}
 use Rattle.mpeg_scan.proofs.CodePlaceLemmas.{at-bytes, codes-stand}
 use Rattle.mpeg_scan.proofs.HeaderByteLemmas.{Same, HeaderIs, HeadersAre, codes-headers, header-byte}
 use Rattle.mpeg_scan.proofs.LatestUnitLemmas.{Member}
-use Rattle.mpeg_scan.proofs.CodeCountLemmas.{counts-same}
-use Rattle.mpeg_scan.proofs.EndedUnitLemmas.{AllClosed, Closed, CodeFields, Has, all-at, whole-closed}
+use Rattle.mpeg_scan.proofs.CodeCountLemmas.{unit-same}
+use Rattle.mpeg_scan.proofs.EndedUnitLemmas.{AllClosed, Closed, CodeFields, all-at, whole-closed}
 
 -- a code's header bytes, and how many they are at least
 record CodeHeader (r : List ℕ) (c : Code) : Type 0 where
@@ -174,72 +174,12 @@ fields-fit {place} bytes f header =
     }
 
 -- a unit over these codes is one over the bytes
-none-bytes : {bytes : List ℕ} {from to : ℕ} {OfValue : ℕ → Type 0} (past : List Code)
-    → ((place value : ℕ) → HasCode place value past ↔ IsCodeAt bytes place value)
-    → NoneIn (Has past) from to OfValue → NoneIn (IsCodeAt bytes) from to OfValue
-none-bytes {from} past both none place value has after before is =
-    none place value ((both place value).1 has) after before is
-
-stands-bytes : {bytes : List ℕ} {from to k : ℕ} (past : List Code)
-    → ((place value : ℕ) → HasCode place value past ↔ IsCodeAt bytes place value) → StandsIn (Has past) from to k
-    → StandsIn (IsCodeAt bytes) from to k
-stands-bytes {from} {k} past both it =
-    record { place = it.place; code = (both it.place k).0 it.code; after = it.after; before = it.before }
-
-stands-codes : {bytes : List ℕ} {from to k : ℕ} (past : List Code)
-    → ((place value : ℕ) → HasCode place value past ↔ IsCodeAt bytes place value)
-    → StandsIn (IsCodeAt bytes) from to k → StandsIn (Has past) from to k
-stands-codes {from} {k} past both it =
-    record { place = it.place; code = (both it.place k).1 it.code; after = it.after; before = it.before }
-
-group-bytes : (bytes : List ℕ) (past : List Code) (from to : ℕ)
-    → ((place value : ℕ) → HasCode place value past ↔ IsCodeAt bytes place value)
-    → IsFirstCode (Has past) from ⊎ StandsIn (Has past) from to 0xb8
-    → IsFirstCode (IsCodeAt bytes) from ⊎ StandsIn (IsCodeAt bytes) from to 0xb8
-group-bytes bytes past from to both (inl firsts) =
-    inl (λ place value has. firsts place value ((both place value).1 has))
-group-bytes bytes past from to both (inr it) = inr (stands-bytes past both it)
-
-group-codes : (bytes : List ℕ) (past : List Code) (from to : ℕ)
-    → ((place value : ℕ) → HasCode place value past ↔ IsCodeAt bytes place value)
-    → IsFirstCode (IsCodeAt bytes) from ⊎ StandsIn (IsCodeAt bytes) from to 0xb8
-    → IsFirstCode (Has past) from ⊎ StandsIn (Has past) from to 0xb8
-group-codes bytes past from to both (inl firsts) =
-    inl (λ place value has. firsts place value ((both place value).0 has))
-group-codes bytes past from to both (inr it) = inr (stands-codes past both it)
-
 unit-bytes : (bytes : List ℕ) (past : List Code) (unit : PictureUnit)
     → ((place value : ℕ) → HasCode place value past ↔ IsCodeAt bytes place value)
     → AreHeaders (read_after [] bytes) past → Closed past unit → IsUnitOf bytes unit
 unit-bytes bytes past unit both headers closed =
-    let u = closed.unit_is in
-    let p = u.picture in
-    let f = p.fields in
-    record {
-      begins = (u.begins.0, ((both unit.from u.begins.0).0 u.begins.1.0, u.begins.1.1));
-      head = none-bytes past both u.head;
-      head_ends = (u.head_ends.0, ((both unit.head_end u.head_ends.0).0 u.head_ends.1.0, u.head_ends.1.1));
-      rest = u.rest;
-      own = counts-same (λ place value before has. (both place value).0 has)
-          (λ place value before has. (both place value).1 has) u.own;
-      all = counts-same (λ place value before has. (both place value).0 has)
-          (λ place value before has. (both place value).1 has) u.all;
-      slices = none-bytes past both u.slices;
-      picture = record {
-        place = p.place;
-        code = (both p.place 0).0 p.code;
-        after = p.after;
-        before = p.before;
-        only = λ other has after before. p.only other ((both other 0).1 has) after before;
-        last = none-bytes past both p.last;
-        fields = fields-fit bytes f (headers f.code f.member);
-      };
-      sequence = (λ e. stands-bytes past both (u.sequence.0 e), λ it. u.sequence.1 (stands-codes past both it));
-      group = (
-        λ e. group-bytes bytes past unit.from unit.head_end both (u.group.0 e),
-        λ it. u.group.1 (group-codes bytes past unit.from unit.head_end both it),
-      );
-    }
+    unit-same (λ place value before. both place value) (λ place f. fields-fit bytes f (headers f.code f.member))
+    closed.unit_is
 
 whole-headers : (r : List ℕ) (past : List Code) (n : ℕ) → first_fault past ≡ None → end_fault past n ≡ None
     → HeadersAre r n past → AreHeaders r past
