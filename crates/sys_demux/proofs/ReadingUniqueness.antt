@@ -9,9 +9,9 @@ use Rattle.sys_demux.specs.PacketContents.{video_in}
 use Rattle.sys_demux.specs.StreamItems.{Item, with_prefix, item_bytes, zeros_of, choose, is_chosen}
 use Rattle.sys_demux.specs.StreamItems.{chosen_next, chosen_after, IsItem, AreItems, video_of, bytes_of}
 use Rattle.sys_demux.specs.StreamItems.Item.{Pack, Packet}
-use Rattle.sys_demux.specs.SystemStreams.{IsEnd, IsTruncatedItem, IsFault, IsSystem, IsBadStream}
+use Rattle.sys_demux.specs.SystemStreams.{IsEnd, IsEndCode, IsTruncatedItem, IsFault, IsSystem, IsBadStream}
 use Rattle.sys_demux.specs.SystemStreams.{IsBadByte, IsBadPacket, IsBadValue, IsNotPack}
-use Rattle.sys_demux.specs.ParserStates.{IsShown}
+use Rattle.sys_demux.specs.ParserStates.{Beginning, IsShown}
 use Rattle.sys_demux.specs.declared.faults.SystemFault.{SystemFault}
 use Rattle.sys_demux.specs.declared.faults.SystemFault.TheVariants.{NotPack, BadCode, BadPacket}
 use Rattle.sys_demux.specs.declared.faults.SystemFault.TheVariants.{Truncated}
@@ -107,9 +107,30 @@ bad_no_prefix {byte} (suc n) (suc m) l s e bad =
     bad_no_prefix n m l s (tail_same 0 0 (replicate n 0 ++ byte ∷ l) (with_prefix m s) e)
     (record { some = bad.some; early = λ one. omega (arith, bad.early one) })
 
+-- bytes 00 and a prefix stand first
+record HasPrefix (t : List ℕ) : Type 0 where
+  zeros : ℕ
+  rest : List ℕ
+  is : t ≡ with_prefix zeros rest
+
 -- a byte other than 00 after bytes 00 isn't where a prefix can have it
-byte_no_prefix : {start place : ℕ} {t : List ℕ} (m : ℕ) (s : List ℕ) → IsBadByte start t place → t ≡ with_prefix m s → ⊥
-byte_no_prefix m s f e = bad_no_prefix f.count m f.rest s (sym f.is ∙ e) (record { some = f.some; early = f.early })
+byte_no_prefix : {start place : ℕ} {t : List ℕ} → IsBadByte start t place → HasPrefix t → ⊥
+byte_no_prefix f p =
+    bad_no_prefix f.count p.zeros f.rest p.rest (sym f.is ∙ p.is) (record { some = f.some; early = f.early })
+
+-- a start code of this value is the first
+record HasValue (t : List ℕ) (value : ℕ) : Type 0 where
+  zeros : ℕ
+  rest : List ℕ
+  is : t ≡ with_prefix zeros (value ∷ rest)
+
+prefix_of : {t : List ℕ} {value : ℕ} → HasValue t value → HasPrefix t
+prefix_of {value} v = record { zeros = v.zeros; rest = value ∷ v.rest; is = v.is }
+
+value_once : {t : List ℕ} {k j : ℕ} (a : HasValue t k) (b : HasValue t j) → (a.zeros ≡ b.zeros) × (k ≡ j)
+value_once {k} {j} a b =
+    let same = prefix_once a.zeros b.zeros (k ∷ a.rest) (j ∷ b.rest) (sym a.is ∙ b.is) in
+    (same.zeros, head_same k j a.rest b.rest same.rest)
 
 -- bytes 00 and another byte
 zeros_no_bad : (n m byte : ℕ) (l : List ℕ) → replicate n 0 ≡ replicate m 0 ++ byte ∷ l → byte ≢ 0 → ⊥
@@ -132,6 +153,10 @@ bad_once {n = suc n} {m = suc m} {a} {b} r s e x y =
 abbrev rest_of : Item → List ℕ
 rest_of (Pack _ rest) = 186 ∷ rest
 rest_of (Packet _ value high low content) = value ∷ high ∷ low ∷ content
+
+abbrev value_of : Item → ℕ
+value_of (Pack _ rest) = 186
+value_of (Packet _ value high low content) = value
 
 item_prefixed : (a : Item) → item_bytes a ≡ with_prefix (zeros_of a) (rest_of a)
 item_prefixed (Pack _ rest) = refl
@@ -177,39 +202,55 @@ rests_once {a = Packet n k h l r} {b = Packet m k' h' l' s} {x} {y} chosen p q z
       rest = same.1;
     }
 
-pub item_once : {a b : Item} {x y : List ℕ} (chosen : Option ℕ) → IsItem chosen a → IsItem chosen b
-    → item_bytes a ++ x ≡ item_bytes b ++ y → IsSameItem a b x y
-item_once {a} {b} {x} {y} chosen p q e =
-    let both : with_prefix (zeros_of a) (rest_of a ++ x) ≡ with_prefix (zeros_of b) (rest_of b ++ y) =
-    sym (ap (λ (l : List ℕ). l ++ x) (item_prefixed a) ∙ prefixed_more (zeros_of a) (rest_of a) x) ∙ e
-    ∙ ap (λ (l : List ℕ). l ++ y) (item_prefixed b) ∙ prefixed_more (zeros_of b) (rest_of b) y in
-    let same = prefix_once (zeros_of a) (zeros_of b) (rest_of a ++ x) (rest_of b ++ y) both in
-    rests_once chosen p q same.zeros same.rest
+-- an item stands first
+pub record StandsFirst (chosen : Option ℕ) (t : List ℕ) : Type 0 where
+  pub item : Item
+  pub rest : List ℕ
+  pub is_item : IsItem chosen item
+  pub is : item_bytes item ++ rest ≡ t
 
--- an item, from its prefix
-from_prefix : {t : List ℕ} {m : ℕ} {s : List ℕ} (a : Item) (x : List ℕ) → item_bytes a ++ x ≡ t
-    → t ≡ with_prefix m s → AreSamePrefix (zeros_of a) m (rest_of a ++ x) s
-from_prefix {m} {s} a x e is =
-    prefix_once (zeros_of a) m (rest_of a ++ x) s
-    (sym (ap (λ (l : List ℕ). l ++ x) (item_prefixed a) ∙ prefixed_more (zeros_of a) (rest_of a) x) ∙ e ∙ is)
+as_prefixed : {chosen : Option ℕ} {t : List ℕ} (a : StandsFirst chosen t)
+    → t ≡ with_prefix (zeros_of a.item) (rest_of a.item ++ a.rest)
+as_prefixed a =
+    sym a.is ∙ ap (λ (l : List ℕ). l ++ a.rest) (item_prefixed a.item)
+    ∙ prefixed_more (zeros_of a.item) (rest_of a.item) a.rest
 
-as_prefixed : (a : Item) (x t : List ℕ) → item_bytes a ++ x ≡ t → t ≡ with_prefix (zeros_of a) (rest_of a ++ x)
-as_prefixed a x t e = sym e ∙ ap (λ (l : List ℕ). l ++ x) (item_prefixed a) ∙ prefixed_more (zeros_of a) (rest_of a) x
+pub item_once : {chosen : Option ℕ} {t : List ℕ} (a b : StandsFirst chosen t)
+    → IsSameItem a.item b.item a.rest b.rest
+item_once {chosen} a b =
+    let same = prefix_once (zeros_of a.item) (zeros_of b.item) (rest_of a.item ++ a.rest) (rest_of b.item ++ b.rest)
+    (sym (as_prefixed a) ∙ as_prefixed b) in
+    rests_once chosen a.is_item b.is_item same.zeros same.rest
+
+-- it goes on so after its prefix
+from_value : {chosen : Option ℕ} {t : List ℕ} {value : ℕ} (a : StandsFirst chosen t) (v : HasValue t value)
+    → rest_of a.item ++ a.rest ≡ value ∷ v.rest
+from_value {value} a v =
+    (prefix_once (zeros_of a.item) v.zeros (rest_of a.item ++ a.rest) (value ∷ v.rest) (sym (as_prefixed a) ∙ v.is)).rest
 
 -- an item's start code value is BA or above
-value_of_item : {s : List ℕ} {value : ℕ} (chosen : Option ℕ) (a : Item) (x : List ℕ) → IsItem chosen a
-    → rest_of a ++ x ≡ value ∷ s → 186 ≤ value
-value_of_item {s} {value} chosen (Pack n r) x p e = omega (arith, head_same 186 value (r ++ x) s e)
-value_of_item {s} {value} chosen (Packet n k h l r) x p e =
-    omega (arith, p.value_is, head_same k value (h ∷ l ∷ (r ++ x)) s e)
+item_value : (chosen : Option ℕ) (a : Item) → IsItem chosen a → HasValue (item_bytes a) (value_of a) × (186 ≤ value_of a)
+item_value chosen (Pack n r) p = (record { zeros = n; rest = r; is = refl }, omega arith)
+item_value chosen (Packet n k h l r) p =
+    (record { zeros = n; rest = h ∷ l ∷ r; is = refl }, omega (arith, p.value_is))
+
+first_value : {chosen : Option ℕ} {t : List ℕ} {value : ℕ} → StandsFirst chosen t → HasValue t value → 186 ≤ value
+first_value {chosen} {t} a v =
+    let its = item_value chosen a.item a.is_item in
+    let front : HasValue t (value_of a.item) = record {
+      zeros = its.0.zeros;
+      rest = its.0.rest ++ a.rest;
+      is = sym a.is ∙ ap (λ (l : List ℕ). l ++ a.rest) its.0.is
+          ∙ prefixed_more its.0.zeros (value_of a.item ∷ its.0.rest) a.rest;
+    } in
+    omega (arith, its.1, (value_once front v).1)
 
 -- no item stands where the stream ends
-pub item_no_end : {t : List ℕ} (chosen : Option ℕ) (a : Item) (x : List ℕ) → IsItem chosen a → item_bytes a ++ x ≡ t
-    → IsEnd t → ⊥
-item_no_end {t} chosen a x p e (inl z) =
-    zeros_no_prefix z.count (zeros_of a) (rest_of a ++ x) (sym z.are ∙ as_prefixed a x t e)
-item_no_end chosen a x p e (inr c) =
-    let value = value_of_item chosen a x p (from_prefix a x e c.is).rest in omega (arith, value)
+pub item_no_end : {chosen : Option ℕ} {t : List ℕ} → StandsFirst chosen t → IsEnd t → ⊥
+item_no_end a (inl z) =
+    zeros_no_prefix z.count (zeros_of a.item) (rest_of a.item ++ a.rest) (sym z.are ∙ as_prefixed a)
+item_no_end a (inr c) =
+    omega (arith, first_value a (record { zeros = c.zeros; rest = c.rest; is = c.is }))
 
 -- nor where a fault does
 mark_other : {rest : List ℕ} {mark : ℕ} (chosen : Option ℕ) (a : Item) (x : List ℕ) → IsItem chosen a
@@ -252,31 +293,49 @@ content_bad {chosen} (Packet n k h l r) x f p e =
   where
     open f use {value, high, low, front, rest, chosen_is, within, none}
 
+abbrev pack_value : {start place : ℕ} {t : List ℕ} → IsNotPack start t place → HasValue t 186
+pack_value f = record { zeros = f.zeros; rest = f.mark ∷ f.rest; is = f.is }
+
+abbrev low_value : {start place : ℕ} {t : List ℕ} (f : IsBadValue start t place) → HasValue t f.value
+low_value f = record { zeros = f.zeros; rest = f.rest; is = f.is }
+
+abbrev packet_value : {chosen : Option ℕ} {start place : ℕ} {t : List ℕ} (f : IsBadPacket chosen start t place)
+    → HasValue t f.value
+packet_value f = record { zeros = f.zeros; rest = f.high ∷ f.low ∷ (f.front ++ f.rest); is = f.is }
+
+abbrev end_value : {t : List ℕ} → IsEndCode t → HasValue t 185
+end_value c = record { zeros = c.zeros; rest = c.rest; is = c.is }
+
+-- a truncated item with the bytes that it lacks
+abbrev pub cut_stands : {chosen : Option ℕ} {start place : ℕ} {t : List ℕ} (f : IsTruncatedItem chosen start t place)
+    → StandsFirst chosen (t ++ f.lacking)
+cut_stands f =
+    record { item = f.item; rest = []; is_item = f.is_item; is = append-nil (item_bytes f.item) ∙ f.is }
+
 -- what no item stands before
 Stops : Option ℕ → List ℕ → Type 0
-Stops chosen t = (a : Item) (x : List ℕ) → IsItem chosen a → item_bytes a ++ x ≡ t → ⊥
+Stops chosen t = StandsFirst chosen t → ⊥
 
 fault_stops : (chosen : Option ℕ) (start : ℕ) (t : List ℕ) (fault : SystemFault) → IsFault chosen start t fault
     → Stops chosen t
 unfolding Stops
-fault_stops chosen start t (NotPack place) f = λ a x p e. mark_other chosen a x p (from_prefix a x e f.is).rest f.other
-fault_stops chosen start t (BadCode place) (inl f) =
-    λ a x p e. byte_no_prefix (zeros_of a) (rest_of a ++ x) f (as_prefixed a x t e)
-fault_stops chosen start t (BadCode place) (inr f) = λ a x p e.
-    let value = value_of_item chosen a x p (from_prefix a x e f.is).rest in omega (arith, value, f.low)
-fault_stops chosen start t (BadPacket place) f = λ a x p e. content_bad a x f p (from_prefix a x e f.is).rest
-fault_stops chosen start t (Truncated place) f = λ a x p e.
-    let same = item_once chosen p f.is_item
-    (sym (append_assoc (item_bytes a) x f.lacking) ∙ ap (λ (l : List ℕ). l ++ f.lacking) e ∙ sym f.is
-    ∙ sym (append-nil (item_bytes f.item))) in
-    omega (arith, ap length same.rest, length-append x f.lacking, f.some)
-
--- where the stream ends or a fault stands
-values_once : {t : List ℕ} {z w k j : ℕ} (r s : List ℕ) → t ≡ with_prefix z (k ∷ r) → t ≡ with_prefix w (j ∷ s)
-    → (z ≡ w) × (k ≡ j)
-values_once {z} {w} {k} {j} r s a b =
-    let same = prefix_once z w (k ∷ r) (j ∷ s) (sym a ∙ b) in
-    (same.zeros, head_same k j r s same.rest)
+fault_stops chosen start t (NotPack place) f =
+    λ a. mark_other chosen a.item a.rest a.is_item (from_value a (pack_value f)) f.other
+fault_stops chosen start t (BadCode place) (inl f) = λ a.
+    byte_no_prefix f
+    (record { zeros = zeros_of a.item; rest = rest_of a.item ++ a.rest; is = as_prefixed a })
+fault_stops chosen start t (BadCode place) (inr f) =
+    λ a. omega (arith, first_value a (low_value f), f.low)
+fault_stops chosen start t (BadPacket place) f =
+    λ a. content_bad a.item a.rest f a.is_item (from_value a (packet_value f))
+fault_stops chosen start t (Truncated place) f = λ a.
+    let same = item_once {chosen = chosen} {t = t ++ f.lacking} (record {
+      item = a.item;
+      rest = a.rest ++ f.lacking;
+      is_item = a.is_item;
+      is = sym (append_assoc (item_bytes a.item) a.rest f.lacking) ∙ ap (λ (l : List ℕ). l ++ f.lacking) a.is;
+    }) (cut_stands f) in
+    omega (arith, ap length same.rest, length-append a.rest f.lacking, f.some)
 
 -- the first bytes of an item, with its complete start code prefix
 front_prefixed : (t l r : List ℕ) (z : ℕ) → t ++ l ≡ with_prefix z r → z + 3 ≤ length t
@@ -302,171 +361,164 @@ unfolding Stops
 cut_shows_none {chosen} {start} {t} {place} fault cut shown f =
     fault_stops chosen start (t ++ cut.lacking) fault
     (fault_stays {chosen = chosen} {start = start} {tail = t} {fault = fault} cut.lacking
-    (record { shown = shown; fault_is = f }))
-    cut.item [] cut.is_item (append-nil (item_bytes cut.item) ∙ cut.is)
+    (record { shown = shown; fault_is = f })) (cut_stands cut)
 
 -- an end is no fault
 pub end_no_fault : (chosen : Option ℕ) (start : ℕ) (t : List ℕ) (fault : SystemFault) → IsEnd t
     → IsFault chosen start t fault → ⊥
 end_no_fault chosen start t (NotPack place) (inl z) f =
     zeros_no_prefix z.count f.zeros (186 ∷ f.mark ∷ f.rest) (sym z.are ∙ f.is)
-end_no_fault chosen start t (NotPack place) (inr c) f = let bad =
-    (values_once c.rest (f.mark ∷ f.rest) c.is f.is).1 in omega (arith, bad)
+end_no_fault chosen start t (NotPack place) (inr c) f = omega (arith, (value_once (end_value c) (pack_value f)).1)
 end_no_fault chosen start t (BadCode place) (inl z) (inl f) =
     zeros_no_bad z.count f.count f.byte f.rest (sym z.are ∙ f.is) f.some
 end_no_fault chosen start t (BadCode place) (inl z) (inr f) =
     zeros_no_prefix z.count f.zeros (f.value ∷ f.rest) (sym z.are ∙ f.is)
-end_no_fault chosen start t (BadCode place) (inr c) (inl f) = byte_no_prefix c.zeros (185 ∷ c.rest) f c.is
-end_no_fault chosen start t (BadCode place) (inr c) (inr f) = let bad =
-    (values_once c.rest f.rest c.is f.is).1 in omega (arith, bad, f.low)
+end_no_fault chosen start t (BadCode place) (inr c) (inl f) = byte_no_prefix f (prefix_of (end_value c))
+end_no_fault chosen start t (BadCode place) (inr c) (inr f) =
+    omega (arith, (value_once (end_value c) (low_value f)).1, f.low)
 end_no_fault chosen start t (BadPacket place) (inl z) f =
     zeros_no_prefix z.count f.zeros (f.value ∷ f.high ∷ f.low ∷ (f.front ++ f.rest)) (sym z.are ∙ f.is)
 end_no_fault chosen start t (BadPacket place) (inr c) f =
-    let bad = (values_once c.rest (f.high ∷ f.low ∷ (f.front ++ f.rest)) c.is f.is).1 in omega (arith, bad, f.value_is)
+    omega (arith, (value_once (end_value c) (packet_value f)).1, f.value_is)
 end_no_fault chosen start t (Truncated place) (inl z) f =
     zeros_no_prefix z.count (zeros_of f.item) (drop (zeros_of f.item + 3) t)
     (sym z.are ∙ cut_prefixed chosen start t place f)
 end_no_fault chosen start t (Truncated place) (inr c) f =
-    item_no_end chosen f.item [] f.is_item (append-nil (item_bytes f.item) ∙ f.is)
-    (inr (record {
+    item_no_end (cut_stands f) (inr (record {
       zeros = c.zeros;
       rest = c.rest ++ f.lacking;
       is = ap (λ (l : List ℕ). l ++ f.lacking) c.is ∙ prefixed_more c.zeros (185 ∷ c.rest) f.lacking;
     }))
 
 -- one fault stands there
-places_same : {place place' n m : ℕ} (start : ℕ) → place ≡ start + n → place' ≡ start + m → n ≡ m → place ≡ place'
-places_same {place} {m} start a b e = omega (arith, a, b, e)
-
--- a start code of this value is the first
-record HasValue (t : List ℕ) (value : ℕ) : Type 0 where
-  zeros : ℕ
-  rest : List ℕ
-  is : t ≡ with_prefix zeros (value ∷ rest)
-
-value_once : {t : List ℕ} {k j : ℕ} → HasValue t k → HasValue t j → k ≡ j
-value_once a b = (values_once a.rest b.rest a.is b.is).1
-
-pack_value : {start place : ℕ} {t : List ℕ} → IsNotPack start t place → HasValue t 186
-pack_value f = record { zeros = f.zeros; rest = f.mark ∷ f.rest; is = f.is }
-
-packet_value : {chosen : Option ℕ} {start place : ℕ} {t : List ℕ} (f : IsBadPacket chosen start t place)
-    → HasValue t f.value
-packet_value f = record { zeros = f.zeros; rest = f.high ∷ f.low ∷ (f.front ++ f.rest); is = f.is }
 
 -- where no item can stand, one byte or value is the first that shows it
 code_once : {start p q : ℕ} {t : List ℕ} → IsBadByte start t p ⊎ IsBadValue start t p
     → IsBadByte start t q ⊎ IsBadValue start t q → p ≡ q
-code_once {start} (inl f) (inl g) =
-    places_same start f.place_is g.place_is (bad_once f.rest g.rest (sym f.is ∙ g.is) f.some g.some)
-code_once (inl f) (inr g) = absurd (byte_no_prefix g.zeros (g.value ∷ g.rest) f g.is)
-code_once (inr f) (inl g) = absurd (byte_no_prefix f.zeros (f.value ∷ f.rest) g f.is)
-code_once {start} (inr f) (inr g) =
-    places_same start f.place_is g.place_is (values_once f.rest g.rest f.is g.is).0
+code_once (inl f) (inl g) =
+    omega (arith, f.place_is, g.place_is, bad_once f.rest g.rest (sym f.is ∙ g.is) f.some g.some)
+code_once (inl f) (inr g) = absurd (byte_no_prefix f (prefix_of (low_value g)))
+code_once (inr f) (inl g) = absurd (byte_no_prefix g (prefix_of (low_value f)))
+code_once (inr f) (inr g) = omega (arith, f.place_is, g.place_is, (value_once (low_value f) (low_value g)).0)
 
 -- there a start code, if one is the first, has a value below an item's
 code_low : {start place value : ℕ} {t : List ℕ} → IsBadByte start t place ⊎ IsBadValue start t place
     → HasValue t value → value < 185
-code_low {value} (inl f) has = absurd (byte_no_prefix has.zeros (value ∷ has.rest) f has.is)
-code_low (inr f) has =
-    omega (arith, value_once has (record { zeros = f.zeros; rest = f.rest; is = f.is }), f.low)
+code_low (inl f) has = absurd (byte_no_prefix f (prefix_of has))
+code_low (inr f) has = omega (arith, (value_once has (low_value f)).1, f.low)
 
-fault_once : {one other : SystemFault} (chosen : Option ℕ) (start : ℕ) (t : List ℕ) → IsFault chosen start t one
-    → IsFault chosen start t other → one ≡ other
-fault_once {one = NotPack p} {other = NotPack q} chosen start t f g =
-    ap NotPack (places_same start f.place_is g.place_is (values_once (f.mark ∷ f.rest) (g.mark ∷ g.rest) f.is g.is).0)
-fault_once {one = NotPack p} {other = BadCode q} chosen start t f g =
+fault_once : {one other : SystemFault} (at : Beginning) (t : List ℕ) → IsFault at.chosen at.start t one
+    → IsFault at.chosen at.start t other → one ≡ other
+fault_once {one = NotPack p} {other = NotPack q} at t f g =
+    ap NotPack (omega (arith, f.place_is, g.place_is, (value_once (pack_value f) (pack_value g)).0))
+fault_once {one = NotPack p} {other = BadCode q} at t f g =
     absurd (omega (arith, code_low g (pack_value f)))
-fault_once {one = NotPack p} {other = BadPacket q} chosen start t f g =
-    absurd (omega (arith, value_once (pack_value f) (packet_value g), g.value_is))
-fault_once {one = NotPack p} {other = Truncated q} chosen start t f g = absurd (cut_shows_none (NotPack p) g tt f)
-fault_once {one = BadCode p} {other = NotPack q} chosen start t f g =
+fault_once {one = NotPack p} {other = BadPacket q} at t f g =
+    absurd (omega (arith, (value_once (pack_value f) (packet_value g)).1, g.value_is))
+fault_once {one = NotPack p} {other = Truncated q} at t f g = absurd (cut_shows_none (NotPack p) g tt f)
+fault_once {one = BadCode p} {other = NotPack q} at t f g =
     absurd (omega (arith, code_low f (pack_value g)))
-fault_once {one = BadCode p} {other = BadCode q} chosen start t f g = ap BadCode (code_once f g)
-fault_once {one = BadCode p} {other = BadPacket q} chosen start t f g =
+fault_once {one = BadCode p} {other = BadCode q} at t f g = ap BadCode (code_once f g)
+fault_once {one = BadCode p} {other = BadPacket q} at t f g =
     absurd (omega (arith, code_low f (packet_value g), g.value_is))
-fault_once {one = BadCode p} {other = Truncated q} chosen start t f g = absurd (cut_shows_none (BadCode p) g tt f)
-fault_once {one = BadPacket p} {other = NotPack q} chosen start t f g =
-    absurd (omega (arith, value_once (pack_value g) (packet_value f), f.value_is))
-fault_once {one = BadPacket p} {other = BadCode q} chosen start t f g =
+fault_once {one = BadCode p} {other = Truncated q} at t f g = absurd (cut_shows_none (BadCode p) g tt f)
+fault_once {one = BadPacket p} {other = NotPack q} at t f g =
+    absurd (omega (arith, (value_once (pack_value g) (packet_value f)).1, f.value_is))
+fault_once {one = BadPacket p} {other = BadCode q} at t f g =
     absurd (omega (arith, code_low g (packet_value f), f.value_is))
-fault_once {one = BadPacket p} {other = BadPacket q} chosen start t f g =
-    ap BadPacket (places_same start f.place_is g.place_is
-    (values_once (f.high ∷ f.low ∷ (f.front ++ f.rest)) (g.high ∷ g.low ∷ (g.front ++ g.rest)) f.is g.is).0)
-fault_once {one = BadPacket p} {other = Truncated q} chosen start t f g = absurd (cut_shows_none (BadPacket p) g tt f)
-fault_once {one = Truncated p} {other = NotPack q} chosen start t f g = absurd (cut_shows_none (NotPack q) f tt g)
-fault_once {one = Truncated p} {other = BadCode q} chosen start t f g = absurd (cut_shows_none (BadCode q) f tt g)
-fault_once {one = Truncated p} {other = BadPacket q} chosen start t f g = absurd (cut_shows_none (BadPacket q) f tt g)
-fault_once {one = Truncated p} {other = Truncated q} chosen start t f g =
-    ap Truncated (places_same start f.place_is g.place_is
-    (prefix_once (zeros_of f.item) (zeros_of g.item) (drop (zeros_of f.item + 3) t)
-    (drop (zeros_of g.item + 3) t) (sym (cut_prefixed chosen start t p f) ∙ cut_prefixed chosen start t q g)).zeros)
+fault_once {one = BadPacket p} {other = BadPacket q} at t f g =
+    ap BadPacket (omega (arith, f.place_is, g.place_is, (value_once (packet_value f) (packet_value g)).0))
+fault_once {one = BadPacket p} {other = Truncated q} at t f g = absurd (cut_shows_none (BadPacket p) g tt f)
+fault_once {one = Truncated p} {other = NotPack q} at t f g = absurd (cut_shows_none (NotPack q) f tt g)
+fault_once {one = Truncated p} {other = BadCode q} at t f g = absurd (cut_shows_none (BadCode q) f tt g)
+fault_once {one = Truncated p} {other = BadPacket q} at t f g = absurd (cut_shows_none (BadPacket q) f tt g)
+fault_once {one = Truncated p} {other = Truncated q} at t f g =
+    ap Truncated (let same =
+    (prefix_once (zeros_of f.item) (zeros_of g.item) (drop (zeros_of f.item + 3) t) (drop (zeros_of g.item + 3) t)
+    (sym (cut_prefixed at.chosen at.start t p f) ∙ cut_prefixed at.chosen at.start t q g)).zeros in
+    omega (arith, f.place_is, g.place_is, same))
 
 -- nothing stands before an end
 end_stops : (chosen : Option ℕ) (t : List ℕ) → IsEnd t → Stops chosen t
 unfolding Stops
-end_stops chosen t end = λ a x p e. item_no_end chosen a x p e end
+end_stops chosen t end = λ a. item_no_end a end
 
--- one list of items
-record AreSame (items items' : List Item) (t t' : List ℕ) : Type 0 where
-  items_are : items ≡ items'
-  tail_is : t ≡ t'
-
--- items, and what no item stands before
-record AreRead (chosen : Option ℕ) (items : List Item) (t : List ℕ) : Type 0 where
+-- bytes are items, and a tail that no item stands before
+record AreRead (chosen : Option ℕ) (items : List Item) (bytes : List ℕ) : Type 0 where
+  tail : List ℕ
   are : AreItems chosen items
-  stops : Stops (chosen_after chosen items) t
+  stops : Stops (chosen_after chosen items) tail
+  is : bytes ≡ bytes_of items ++ tail
 
-items_once : {chosen : Option ℕ} {items items' : List Item} {t t' : List ℕ} → AreRead chosen items t →
-    AreRead chosen items' t' → bytes_of items ++ t ≡ bytes_of items' ++ t' →
-    AreSame items items' t t'
+-- the first of them stands first
+abbrev first_item : {chosen : Option ℕ} {x : Item} {xs : List Item} {bytes : List ℕ} → AreRead chosen (x ∷ xs) bytes
+    → StandsFirst chosen bytes
+first_item {x} {xs} read = record {
+  item = x;
+  rest = bytes_of xs ++ read.tail;
+  is_item = read.are.0;
+  is = sym (append_assoc (item_bytes x) (bytes_of xs) read.tail) ∙ sym read.is;
+}
+
+items_once : {chosen : Option ℕ} {items items' : List Item} {bytes : List ℕ} (one : AreRead chosen items bytes)
+    (other : AreRead chosen items' bytes) → (items ≡ items') × (one.tail ≡ other.tail)
 unfolding Stops
-items_once {items = []} {items' = []} one other e = record { items_are = refl; tail_is = e }
-items_once {items = []} {items' = y ∷ ys} {t'} one other e =
-    absurd (one.stops y (bytes_of ys ++ t') other.are.0 (sym (append_assoc (item_bytes y) (bytes_of ys) t') ∙ sym e))
-items_once {items = x ∷ xs} {items' = []} {t} one other e =
-    absurd (other.stops x (bytes_of xs ++ t) one.are.0 (sym (append_assoc (item_bytes x) (bytes_of xs) t) ∙ e))
-items_once {chosen} {items = x ∷ xs} {items' = y ∷ ys} {t} {t'} one other e =
-    let same = item_once chosen one.are.0 other.are.0
-    (sym (append_assoc (item_bytes x) (bytes_of xs) t) ∙ e ∙ append_assoc (item_bytes y) (bytes_of ys) t') in
+items_once {items = []} {items' = []} one other = (refl, sym one.is ∙ other.is)
+items_once {chosen} {items = []} {items' = y ∷ ys} one other =
+    absurd (one.stops (subst (StandsFirst chosen) one.is (first_item other)))
+items_once {chosen} {items = x ∷ xs} {items' = []} one other =
+    absurd (other.stops (subst (StandsFirst chosen) other.is (first_item one)))
+items_once {chosen} {items = x ∷ xs} {items' = y ∷ ys} one other =
+    let same = item_once (first_item one) (first_item other) in
     let next : chosen_next chosen y ≡ chosen_next chosen x = ap (chosen_next chosen) (sym same.item) in
-    let later : AreRead (chosen_next chosen y) ys t' = record { are = other.are.1; stops = other.stops } in
-    let more = items_once {chosen = chosen_next chosen x} {items = xs} {items' = ys} {t = t} {t' = t'}
-    (record { are = one.are.1; stops = one.stops }) (subst (λ c. AreRead c ys t') next later) same.rest in
-    record { items_are = ap (λ z. z ∷ xs) same.item ∙ ap (λ zs. y ∷ zs) more.items_are; tail_is = more.tail_is }
+    let rest = bytes_of xs ++ one.tail in
+    let later : AreRead (chosen_next chosen y) ys rest =
+    record { tail = other.tail; are = other.are.1; stops = other.stops; is = same.rest } in
+    let more = items_once {chosen = chosen_next chosen x} {items = xs} {items' = ys} {bytes = rest}
+    (record { tail = one.tail; are = one.are.1; stops = one.stops; is = refl })
+    (record {
+      tail = other.tail;
+      are = subst (λ c. AreItems c ys) next later.are;
+      stops = subst (λ c. Stops (chosen_after c ys) other.tail) next later.stops;
+      is = same.rest;
+    }) in
+    (ap (λ z. z ∷ xs) same.item ∙ ap (λ zs. y ∷ zs) more.0, more.1)
 
-system_read : {bytes video : List ℕ} (s : IsSystem bytes video) → AreRead None s.items s.tail
-system_read s = record { are = s.are; stops = end_stops (chosen_after None s.items) s.tail s.end }
+abbrev system_read : {bytes video : List ℕ} (s : IsSystem bytes video) → AreRead None s.items bytes
+system_read s = record {
+  tail = s.tail;
+  are = s.are;
+  stops = end_stops (chosen_after None s.items) s.tail s.end;
+  is = s.bytes_are;
+}
 
-refused_read : {bytes : List ℕ} {fault : SystemFault} (s : IsBadStream bytes fault) → AreRead None s.items s.tail
+abbrev refused_read : {bytes : List ℕ} {fault : SystemFault} (s : IsBadStream bytes fault) → AreRead None s.items bytes
 refused_read {fault} s = record {
+  tail = s.tail;
   are = s.are;
   stops = fault_stops (chosen_after None s.items) (length (bytes_of s.items)) s.tail fault s.fault_is;
+  is = s.bytes_are;
 }
 
 -- a stream has one list of items
 pub system_once : (bytes one other : List ℕ) (a : IsSystem bytes one) (b : IsSystem bytes other)
     → (a.items ≡ b.items) × (a.tail ≡ b.tail)
-system_once bytes one other a b =
-    let same = items_once (system_read a) (system_read b) (sym a.bytes_are ∙ b.bytes_are) in
-    (same.items_are, same.tail_is)
+system_once bytes one other a b = items_once (system_read a) (system_read b)
 
 pub video_once : (bytes one other : List ℕ) → IsSystem bytes one → IsSystem bytes other → one ≡ other
 video_once bytes one other a b =
-    let same = items_once (system_read a) (system_read b) (sym a.bytes_are ∙ b.bytes_are) in
-    a.video_is ∙ ap (video_of None) same.items_are ∙ sym b.video_is
+    a.video_is ∙ ap (video_of None) (system_once bytes one other a b).0 ∙ sym b.video_is
 
 pub not_both : (bytes video : List ℕ) (fault : SystemFault) → IsSystem bytes video → IsBadStream bytes fault → ⊥
 not_both bytes video fault a b =
-    let same = items_once (system_read a) (refused_read b) (sym a.bytes_are ∙ b.bytes_are) in
-    end_no_fault (chosen_after None b.items) (length (bytes_of b.items)) b.tail fault
-    (subst IsEnd same.tail_is a.end) b.fault_is
+    let same = items_once (system_read a) (refused_read b) in
+    end_no_fault (chosen_after None b.items) (length (bytes_of b.items)) b.tail fault (subst IsEnd same.1 a.end) b.fault_is
 
 pub refused_once : (bytes : List ℕ) (one other : SystemFault) → IsBadStream bytes one → IsBadStream bytes other
     → one ≡ other
 refused_once bytes one other a b =
-    let same = items_once (refused_read a) (refused_read b) (sym a.bytes_are ∙ b.bytes_are) in
-    fault_once (chosen_after None b.items) (length (bytes_of b.items)) b.tail
-    (subst (λ (zs : List Item). IsFault (chosen_after None zs) (length (bytes_of zs)) b.tail one) same.items_are
-    (subst (λ (l : List ℕ). IsFault (chosen_after None a.items) (length (bytes_of a.items)) l one) same.tail_is
+    let same = items_once (refused_read a) (refused_read b) in
+    fault_once (record { chosen = chosen_after None b.items; start = length (bytes_of b.items) }) b.tail
+    (subst (λ (zs : List Item). IsFault (chosen_after None zs) (length (bytes_of zs)) b.tail one) same.0
+    (subst (λ (l : List ℕ). IsFault (chosen_after None a.items) (length (bytes_of a.items)) l one) same.1
     a.fault_is)) b.fault_is
