@@ -18,72 +18,30 @@ use Rattle.sys_demux.specs.declared.faults.SystemFault.TheVariants.{Truncated}
 use Rattle.sys_demux.proofs.ItemPartLemmas.{prefixed_more, length_prefixed}
 use Rattle.sys_demux.proofs.FedBytesLemmas.{fault_stays}
 
--- heads and tails of lists
-head_same : (a b : ℕ) (x y : List ℕ) → a ∷ x ≡ b ∷ y → a ≡ b
-head_same a b x y e = cc
-
-tail_same : (a b : ℕ) (x y : List ℕ) → a ∷ x ≡ b ∷ y → x ≡ y
-tail_same a b x y e = cc
-
-one_zero : (x y : List ℕ) → 1 ∷ x ≡ 0 ∷ y → ⊥
-one_zero x y e = omega (arith, head_same 1 0 x y e)
-
-zero_one : (x y : List ℕ) → 0 ∷ x ≡ 1 ∷ y → ⊥
-zero_one x y e = omega (arith, head_same 0 1 x y e)
-
 -- bytes 00 and a prefix have one length
 record AreSamePrefix (n m : ℕ) (r s : List ℕ) : Type 0 where
   zeros : n ≡ m
   rest : r ≡ s
 
 prefix_once : (n m : ℕ) (r s : List ℕ) → with_prefix n r ≡ with_prefix m s → AreSamePrefix n m r s
-prefix_once zero zero r s e = record {
-  zeros = refl;
-  rest = tail_same 1 1 r s (tail_same 0 0 (1 ∷ r) (1 ∷ s) (tail_same 0 0 (0 ∷ 1 ∷ r) (0 ∷ 1 ∷ s) e));
-}
-prefix_once zero (suc zero) r s e =
-    absurd (one_zero r (1 ∷ s) (tail_same 0 0 (1 ∷ r) (0 ∷ 1 ∷ s) (tail_same 0 0 (0 ∷ 1 ∷ r) (0 ∷ 0 ∷ 1 ∷ s) e)))
-prefix_once zero (suc (suc m)) r s e =
-    absurd (first_zero m r s (tail_same 0 0 (1 ∷ r) (with_prefix m s)
-    (tail_same 0 0 (0 ∷ 1 ∷ r) (0 ∷ with_prefix m s) e)))
-  where
-    first_zero : (m : ℕ) (r s : List ℕ) → 1 ∷ r ≡ with_prefix m s → ⊥
-    first_zero zero r s e = one_zero r (0 ∷ 1 ∷ s) e
-    first_zero (suc m) r s e = one_zero r (with_prefix m s) e
-prefix_once (suc zero) zero r s e =
-    absurd (zero_one (1 ∷ r) s (tail_same 0 0 (0 ∷ 1 ∷ r) (1 ∷ s) (tail_same 0 0 (0 ∷ 0 ∷ 1 ∷ r) (0 ∷ 1 ∷ s) e)))
-prefix_once (suc (suc n)) zero r s e =
-    absurd (first_one n r s (tail_same 0 0 (with_prefix n r) (1 ∷ s)
-    (tail_same 0 0 (0 ∷ with_prefix n r) (0 ∷ 1 ∷ s) e)))
-  where
-    first_one : (n : ℕ) (r s : List ℕ) → with_prefix n r ≡ 1 ∷ s → ⊥
-    first_one zero r s e = zero_one (0 ∷ 1 ∷ r) s e
-    first_one (suc n) r s e = zero_one (with_prefix n r) s e
+prefix_once zero zero r s e = record { zeros = refl; rest = cc }
+prefix_once zero (suc zero) r s e = cc
+prefix_once zero (suc (suc zero)) r s e = cc
+prefix_once zero (suc (suc (suc m))) r s e = cc
+prefix_once (suc zero) zero r s e = cc
+prefix_once (suc (suc zero)) zero r s e = cc
+prefix_once (suc (suc (suc n))) zero r s e = cc
 prefix_once (suc n) (suc m) r s e =
-    let more = prefix_once n m r s (tail_same 0 0 (with_prefix n r) (with_prefix m s) e) in
-    record { zeros = omega (arith, more.zeros); rest = more.rest }
+    let more = prefix_once n m r s cc in record { zeros = ap suc more.zeros; rest = more.rest }
 
 -- bytes 00 alone have no prefix
 zeros_no_prefix : (n m : ℕ) (s : List ℕ) → replicate n 0 ≡ with_prefix m s → ⊥
-zeros_no_prefix zero zero s e = let bad : 0 ≡ length (with_prefix 0 s) = ap length e in omega (arith, bad)
-zeros_no_prefix (suc zero) zero s e = let bad : 1 ≡ length (with_prefix 0 s) = ap length e in omega (arith, bad)
-zeros_no_prefix (suc (suc zero)) zero s e = let bad : 2 ≡ length (with_prefix 0 s) = ap length e in omega (arith, bad)
-zeros_no_prefix (suc (suc (suc n))) zero s e =
-    zero_one (replicate n 0) s (tail_same 0 0 (0 ∷ replicate n 0) (1 ∷ s)
-    (tail_same 0 0 (0 ∷ 0 ∷ replicate n 0) (0 ∷ 1 ∷ s) e))
-zeros_no_prefix zero (suc m) s e = let bad : 0 ≡ length (0 ∷ with_prefix m s) = ap length e in omega (arith, bad)
-zeros_no_prefix (suc n) (suc m) s e = zeros_no_prefix n m s (tail_same 0 0 (replicate n 0) (with_prefix m s) e)
-
--- bytes 00 at the beginning are at most the zeros before a start code and its own two
-zeros_front : (n m : ℕ) (l s : List ℕ) → replicate n 0 ++ l ≡ with_prefix m s → n ≤ m + 2
-zeros_front zero m l s e = omega arith
-zeros_front (suc zero) m l s e = omega arith
-zeros_front (suc (suc zero)) m l s e = omega arith
-zeros_front (suc (suc (suc n))) zero l s e =
-    absurd (zero_one (replicate n 0 ++ l) s
-    (tail_same 0 0 (0 ∷ (replicate n 0 ++ l)) (1 ∷ s) (tail_same 0 0 (0 ∷ 0 ∷ (replicate n 0 ++ l)) (0 ∷ 1 ∷ s) e)))
-zeros_front (suc (suc (suc n))) (suc m) l s e =
-    omega (arith, zeros_front (suc (suc n)) m l s (tail_same 0 0 (0 ∷ 0 ∷ (replicate n 0 ++ l)) (with_prefix m s) e))
+zeros_no_prefix zero zero s e = cc
+zeros_no_prefix (suc zero) zero s e = cc
+zeros_no_prefix (suc (suc zero)) zero s e = cc
+zeros_no_prefix (suc (suc (suc n))) zero s e = cc
+zeros_no_prefix zero (suc m) s e = cc
+zeros_no_prefix (suc n) (suc m) s e = zeros_no_prefix n m s cc
 
 -- a byte that no bytes 00 and prefix have after so many bytes 00
 record IsOutside (count byte : ℕ) : Type 0 where
@@ -91,21 +49,13 @@ record IsOutside (count byte : ℕ) : Type 0 where
   early : byte ≡ 1 → count < 2
 
 bad_no_prefix : {byte : ℕ} (n m : ℕ) (l s : List ℕ) → replicate n 0 ++ byte ∷ l ≡ with_prefix m s → IsOutside n byte → ⊥
-bad_no_prefix {byte} zero zero l s e bad = bad.some (head_same byte 0 l (0 ∷ 1 ∷ s) e)
-bad_no_prefix {byte} zero (suc m) l s e bad = bad.some (head_same byte 0 l (with_prefix m s) e)
-bad_no_prefix {byte} (suc zero) zero l s e bad =
-    bad.some (head_same byte 0 l (1 ∷ s) (tail_same 0 0 (byte ∷ l) (0 ∷ 1 ∷ s) e))
-bad_no_prefix {byte} (suc (suc zero)) zero l s e bad =
-    let one : byte ≡ 1 =
-    head_same byte 1 l s (tail_same 0 0 (byte ∷ l) (1 ∷ s) (tail_same 0 0 (0 ∷ byte ∷ l) (0 ∷ 1 ∷ s) e)) in
-    omega (arith, bad.early one)
-bad_no_prefix {byte} (suc (suc (suc n))) zero l s e bad =
-    zero_one (replicate n 0 ++ byte ∷ l) s
-    (tail_same 0 0 (0 ∷ (replicate n 0 ++ byte ∷ l)) (1 ∷ s)
-    (tail_same 0 0 (0 ∷ 0 ∷ (replicate n 0 ++ byte ∷ l)) (0 ∷ 1 ∷ s) e))
-bad_no_prefix {byte} (suc n) (suc m) l s e bad =
-    bad_no_prefix n m l s (tail_same 0 0 (replicate n 0 ++ byte ∷ l) (with_prefix m s) e)
-    (record { some = bad.some; early = λ one. omega (arith, bad.early one) })
+bad_no_prefix zero zero l s e bad = bad.some cc
+bad_no_prefix zero (suc m) l s e bad = bad.some cc
+bad_no_prefix (suc zero) zero l s e bad = bad.some cc
+bad_no_prefix {byte} (suc (suc zero)) zero l s e bad = let one : byte ≡ 1 = cc in omega (arith, bad.early one)
+bad_no_prefix (suc (suc (suc n))) zero l s e bad = cc
+bad_no_prefix (suc n) (suc m) l s e bad =
+    bad_no_prefix n m l s (cc) (record { some = bad.some; early = λ one. omega (arith, bad.early one) })
 
 -- bytes 00 and a prefix stand first
 record HasPrefix (t : List ℕ) : Type 0 where
@@ -130,24 +80,20 @@ prefix_of {value} v = record { zeros = v.zeros; rest = value ∷ v.rest; is = v.
 value_once : {t : List ℕ} {k j : ℕ} (a : HasValue t k) (b : HasValue t j) → (a.zeros ≡ b.zeros) × (k ≡ j)
 value_once {k} {j} a b =
     let same = prefix_once a.zeros b.zeros (k ∷ a.rest) (j ∷ b.rest) (sym a.is ∙ b.is) in
-    (same.zeros, head_same k j a.rest b.rest same.rest)
+    (same.zeros, cc)
 
 -- bytes 00 and another byte
 zeros_no_bad : (n m byte : ℕ) (l : List ℕ) → replicate n 0 ≡ replicate m 0 ++ byte ∷ l → byte ≢ 0 → ⊥
-zeros_no_bad zero zero byte l e some = let bad : 0 ≡ length (byte ∷ l) = ap length e in omega (arith, bad)
-zeros_no_bad zero (suc m) byte l e some = let bad : 0 ≡ length (0 ∷ (replicate m 0 ++ byte ∷ l)) =
-    ap length e in omega (arith, bad)
-zeros_no_bad (suc n) zero byte l e some = some (sym (head_same 0 byte (replicate n 0) l e))
-zeros_no_bad (suc n) (suc m) byte l e some =
-    zeros_no_bad n m byte l (tail_same 0 0 (replicate n 0) (replicate m 0 ++ byte ∷ l) e) some
+zeros_no_bad zero zero byte l e some = cc
+zeros_no_bad zero (suc m) byte l e some = cc
+zeros_no_bad (suc n) zero byte l e some = some cc
+zeros_no_bad (suc n) (suc m) byte l e some = zeros_no_bad n m byte l (cc) some
 
 bad_once : {n m a b : ℕ} (r s : List ℕ) → replicate n 0 ++ a ∷ r ≡ replicate m 0 ++ b ∷ s → a ≢ 0 → b ≢ 0 → n ≡ m
 bad_once {n = zero} {m = zero} r s e x y = refl
-bad_once {n = zero} {m = suc m} {a} {b} r s e x y = absurd (x (head_same a 0 r (replicate m 0 ++ b ∷ s) e))
-bad_once {n = suc n} {m = zero} {a} {b} r s e x y = absurd (y (sym (head_same 0 b (replicate n 0 ++ a ∷ r) s e)))
-bad_once {n = suc n} {m = suc m} {a} {b} r s e x y =
-    let more = bad_once {n = n} {m = m} r s (tail_same 0 0 (replicate n 0 ++ a ∷ r) (replicate m 0 ++ b ∷ s) e)
-    x y in omega (arith, more)
+bad_once {n = zero} {m = suc m} r s e x y = absurd (x cc)
+bad_once {n = suc n} {m = zero} r s e x y = absurd (y cc)
+bad_once {n = suc n} {m = suc m} r s e x y = ap suc (bad_once {n = n} {m = m} r s (cc) x y)
 
 -- the bytes after an item's prefix
 abbrev rest_of : Item → List ℕ
@@ -179,28 +125,16 @@ pub record IsSameItem (a b : Item) (x y : List ℕ) : Type 0 where
 rests_once : {a b : Item} {x y : List ℕ} (chosen : Option ℕ) → IsItem chosen a → IsItem chosen b
     → zeros_of a ≡ zeros_of b → rest_of a ++ x ≡ rest_of b ++ y → IsSameItem a b x y
 rests_once {a = Pack n r} {b = Pack m s} {x} {y} chosen p q zeros e =
-    let same = front_once r s x y (tail_same 186 186 (r ++ x) (s ++ y) e) (p.eight ∙ sym q.eight) in
-    record { item = ap (λ k. Pack k r) zeros ∙ ap (λ (l : List ℕ). Pack m l) same.0; rest = same.1 }
-rests_once {a = Pack n r} {b = Packet m value high low s} {x} {y} chosen p q zeros e =
-    absurd (let bad : 186 ≡ value =
-    head_same 186 value (r ++ x) (high ∷ low ∷ (s ++ y)) e in omega (arith, bad, q.value_is))
-rests_once {a = Packet n value high low r} {b = Pack m s} {x} {y} chosen p q zeros e =
-    absurd (let bad : value ≡ 186 =
-    head_same value 186 (high ∷ low ∷ (r ++ x)) (s ++ y) e in omega (arith, bad, p.value_is))
+    let same = front_once r s x y (cc) (p.eight ∙ sym q.eight) in record { item = cc; rest = same.1 }
+rests_once {a = Pack n r} {b = Packet m value high low s} chosen p q zeros e =
+    absurd (let bad : 186 ≡ value = cc in omega (arith, bad, q.value_is))
+rests_once {a = Packet n value high low r} {b = Pack m s} chosen p q zeros e =
+    absurd (let bad : value ≡ 186 = cc in omega (arith, bad, p.value_is))
 rests_once {a = Packet n k h l r} {b = Packet m k' h' l' s} {x} {y} chosen p q zeros e =
-    let value : k ≡ k' = head_same k k' (h ∷ l ∷ (r ++ x)) (h' ∷ l' ∷ (s ++ y)) e in
-    let e1 : h ∷ l ∷ (r ++ x) ≡ h' ∷ l' ∷ (s ++ y) = tail_same k k' (h ∷ l ∷ (r ++ x)) (h' ∷ l' ∷ (s ++ y)) e in
-    let high : h ≡ h' = head_same h h' (l ∷ (r ++ x)) (l' ∷ (s ++ y)) e1 in
-    let e2 : l ∷ (r ++ x) ≡ l' ∷ (s ++ y) = tail_same h h' (l ∷ (r ++ x)) (l' ∷ (s ++ y)) e1 in
-    let low : l ≡ l' = head_same l l' (r ++ x) (s ++ y) e2 in
-    let same =
-    front_once r s x y (tail_same l l' (r ++ x) (s ++ y) e2) (omega (arith, p.length_is, q.length_is, high, low)) in
-    record {
-      item = ap (λ z. Packet z k h l r) zeros ∙ ap (λ z. Packet m z h l r) value
-          ∙ ap (λ z. Packet m k' z l r) high ∙ ap (λ z. Packet m k' h' z r) low
-          ∙ ap (λ (z : List ℕ). Packet m k' h' l' z) same.0;
-      rest = same.1;
-    }
+    let high : h ≡ h' = cc in
+    let low : l ≡ l' = cc in
+    let same = front_once r s x y (cc) (omega (arith, p.length_is, q.length_is, high, low)) in
+    record { item = cc; rest = same.1 }
 
 -- an item stands first
 pub record StandsFirst (chosen : Option ℕ) (t : List ℕ) : Type 0 where
@@ -256,26 +190,20 @@ item_no_end a (inr c) =
 mark_other : {rest : List ℕ} {mark : ℕ} (chosen : Option ℕ) (a : Item) (x : List ℕ) → IsItem chosen a
     → rest_of a ++ x ≡ 186 ∷ mark ∷ rest → mark / 16 ≢ 2 → ⊥
 mark_other chosen (Pack n []) x p e other = omega (arith, p.eight)
-mark_other {rest} {mark} chosen (Pack n (b ∷ r)) x p e other =
-    other (ap (λ k. k / 16) (sym (head_same b mark (r ++ x) rest (tail_same 186 186 (b ∷ (r ++ x)) (mark ∷ rest) e)))
-    ∙ p.mark)
-mark_other {rest} {mark} chosen (Packet n k h l r) x p e other =
-    omega (arith, p.value_is, head_same k 186 (h ∷ l ∷ (r ++ x)) (mark ∷ rest) e)
+mark_other {mark} chosen (Pack n (b ∷ r)) x p e other =
+    let same : b ≡ mark = cc in other (ap (λ k. k / 16) (sym same) ∙ p.mark)
+mark_other chosen (Packet n k h l r) x p e other = let same : k ≡ 186 = cc in omega (arith, p.value_is, same)
 
 -- complete content has a header
 content_bad : {chosen : Option ℕ} {start place : ℕ} {t : List ℕ} (a : Item) (x : List ℕ) →
     (f : IsBadPacket chosen start t place) → IsItem chosen a →
     rest_of a ++ x ≡ f.value ∷ f.high ∷ f.low ∷ (f.front ++ f.rest) → ⊥
-content_bad (Pack n r) x f p e =
-    omega (arith, f.value_is, head_same 186 f.value (r ++ x) (f.high ∷ f.low ∷ (f.front ++ f.rest)) e)
+content_bad (Pack n r) x f p e = let same : 186 ≡ f.value = cc in omega (arith, f.value_is, same)
 content_bad {chosen} (Packet n k h l r) x f p e =
-    let values : k ≡ value = head_same k value (h ∷ l ∷ (r ++ x)) (high ∷ low ∷ (front ++ rest)) e in
-    let e1 : h ∷ l ∷ (r ++ x) ≡ high ∷ low ∷ (front ++ rest) =
-    tail_same k value (h ∷ l ∷ (r ++ x)) (high ∷ low ∷ (front ++ rest)) e in
-    let highs : h ≡ high = head_same h high (l ∷ (r ++ x)) (low ∷ (front ++ rest)) e1 in
-    let e2 : l ∷ (r ++ x) ≡ low ∷ (front ++ rest) = tail_same h high (l ∷ (r ++ x)) (low ∷ (front ++ rest)) e1 in
-    let lows : l ≡ low = head_same l low (r ++ x) (front ++ rest) e2 in
-    let whole : r ++ x ≡ front ++ rest = tail_same l low (r ++ x) (front ++ rest) e2 in
+    let values : k ≡ value = cc in
+    let highs : h ≡ high = cc in
+    let lows : l ≡ low = cc in
+    let whole : r ++ x ≡ front ++ rest = cc in
     let size : length r ≡ high * 256 + low = omega (arith, p.length_is, highs, lows) in
     let cut : length (take (length front) r) ≡ length front =
     length-take-le (length front) r (omega (arith, size, within)) in
