@@ -1,9 +1,10 @@
 -- The units that have ended are those of the standard's words, over the codes that came.
 use Rattle.std.proofs.Common.{ℕ, zero, suc, Bool, true, false, cond, eqb, ltb, ◌&&◌, ◌||◌, ◌+◌, ◌-◌}
-use Rattle.std.proofs.Common.{◌<◌, ◌≤◌, ◌≡◌, ◌⊎◌, List, [], ◌∷◌, ◌++◌, Option, Some, None}
+use Rattle.std.proofs.Common.{◌<◌, ◌≤◌, ◌≡◌, List, [], ◌∷◌, ◌++◌, Option, Some, None}
 use Rattle.std.proofs.Common.{slice_get, sym, ◌∙◌, ap, refl, subst, inl, inr, arith}
 use Rattle.std.specs.Prelude.{unwrap_or}
-use Rattle.std.proofs.lemmas.Bool.{cases_lt, eqb-true, ltb-true, false≢true}
+use Rattle.std.specs.Option.{is_some}
+use Rattle.std.proofs.lemmas.Bool.{cases_lt, ltb-true, false≢true}
 use Rattle.mpeg_scan.specs.declared.codes.Code.{Code}
 use Rattle.mpeg_scan.specs.declared.tallies.Header.{Header}
 use Rattle.mpeg_scan.specs.declared.units.Unit.{Unit as PictureUnit}
@@ -15,18 +16,17 @@ use Rattle.mpeg_scan.specs.Calls.{Call, head_call, slice_call, calls_at, no_head
 use Rattle.mpeg_scan.specs.Calls.{unit_at, unit_end}
 use Rattle.mpeg_scan.specs.Films.{units_in}
 use Rattle.mpeg_scan.specs.CodePlaces.{HasCode}
-use Rattle.mpeg_scan.specs.StandardUnits.{Counts, HasPicture, IsFirstCode, IsHeadValue, IsSliceValue}
-use Rattle.mpeg_scan.specs.StandardUnits.{NoneIn, StandsIn, StandsThere, UnitIs}
-use Rattle.mpeg_scan.proofs.ScanStepLemmas.{accepted-older, code-accepted, otherwise-second, positive}
+use Rattle.mpeg_scan.specs.StandardUnits.{Counts, HasPicture, IsHeadValue, IsSliceValue}
+use Rattle.mpeg_scan.specs.StandardUnits.{StandsThere, UnitIs}
+use Rattle.mpeg_scan.proofs.ScanStepLemmas.{accepted-older, code-accepted, otherwise-second}
 use Rattle.mpeg_scan.proofs.ScanStepLemmas.{calls-cons}
 use Rattle.mpeg_scan.proofs.PartTilingLemmas.{CodeEnds, ended-none, first-is, first_slice-accepted, raw_calls}
 use Rattle.mpeg_scan.proofs.PartTilingLemmas.{slice-apart, calls-nil, ends_at}
 use Rattle.mpeg_scan.proofs.CodeSpacingLemmas.{After, Spaced, all-below}
-use Rattle.mpeg_scan.proofs.UnitNumberingLemmas.{empty-count, first-some, second-accepted, second-none}
+use Rattle.mpeg_scan.proofs.UnitNumberingLemmas.{first-some, second-accepted, second-none}
 use Rattle.mpeg_scan.proofs.FilmLemmas.{units_in-append}
-use Rattle.mpeg_scan.proofs.LatestUnitLemmas.{Below, Firsts, Latest, Member, Open, Pictured, first-code}
+use Rattle.mpeg_scan.proofs.LatestUnitLemmas.{Below, Member, NoneFrom, Open, PictureIs, Pictured, first-code}
 use Rattle.mpeg_scan.proofs.LatestUnitLemmas.{member-has, step-open}
-use Rattle.mpeg_scan.proofs.CodeValueLemmas.{values-of}
 use Rattle.mpeg_scan.proofs.CodesBeforeLemmas.{Knows}
 use Rattle.mpeg_scan.proofs.CodeCountLemmas.{all-slices, few-slices, own-slices, unit-same}
 
@@ -61,11 +61,8 @@ open-codes c [] accepted spaced = open-first c accepted
 open-codes c (d ∷ past) accepted spaced =
     let older : List Code = d ∷ past in
     let t = tally_of older in
-    let n = slice_count older in
     let fault = code-accepted c older accepted in
-    step-open
-    (values-of c.value) (all-below older spaced.1 spaced.0)
-    (record { some = ltb-true 0 n; none = empty-count n; zero_is = eqb-true n 0; more = positive n })
+    step-open (record { code = c; past = older; below = all-below older spaced.1 spaced.0 })
     (λ head none. second-none t c.value (second-accepted t c.place c.value fault) head none)
     (λ slice none. first-some t c.place c.value (first_slice-accepted t c.place c.value fault) slice none)
     (open-codes d past (accepted-older c older accepted) spaced.1)
@@ -96,118 +93,46 @@ record HasHeader (unit : PictureUnit) (h : Header) : Type 0 where
   kind : unit.kind ≡ h.kind
   vectors : unit.vectors ≡ h.vectors
 
-close-picture : {past : List Code} {unit : PictureUnit} {n : ℕ} {h : Header} → 0 < n → HasHeader unit h
-    → Pictured past unit.from unit.head_end n h → HasPicture (Has past) (CodeFields past) unit
-close-picture {past} {h} some header is = record {
-  place = is.code.place;
-  code = subst (λ k. HasCode is.code.place k past) is.value (member-has is.code past is.member);
-  after = is.after;
-  before = is.before some;
-  only = λ other has after before. is.only other has after;
-  last = λ place value has after before head. is.last place value has after head;
-  fields = record {
-    code = is.code;
-    member = is.member;
-    zero_is = is.value;
-    place_is = refl;
-    temporal = header.temporal ∙ ap (λ (v : Header). v.temporal) is.header;
-    kind = header.kind ∙ ap (λ (v : Header). v.kind) is.header;
-    vectors = header.vectors ∙ ap (λ (v : Header). v.vectors) is.header;
-  };
-}
-
--- what a unit says of itself, with its picture's header
-abbrev latest_by : PictureUnit → ℕ → Option Header → Latest
-latest_by unit n o = record {
-  from = unit.from;
-  head_end = unit.head_end;
-  slices = n;
-  picture = o;
-  sequence = unit.has_sequence;
-  group = unit.starts_group;
-}
-
-in-head : {past : List Code} {n place value : ℕ} {o : Option Header} (unit : PictureUnit)
-    → Open past (latest_by unit n o) → 0 < n → HasCode place value past → IsHeadValue value → place < unit.head_end
-in-head {place} {value} unit open_ some has head = elim (cases_lt place unit.head_end) [
+-- a code of a head stands before the first slice
+in-head : {end place : ℕ} (past : List Code) → NoneFrom past end IsHeadValue → StandsThere (Has past) place IsHeadValue
+    → place < end
+in-head {end} {place} past ends it = elim (cases_lt place end) [
   | inl before ↦ before
-  | inr after ↦ absurd (open_.sliced some place value has after head)
+  | inr after ↦ absurd (ends place it.0 it.1.0 after it.1.1)
 ]
 
-group-closed : {past : List Code} {n : ℕ} {o : Option Header} (unit : PictureUnit)
-    → Open past (latest_by unit n o) → 0 < n
-    → Firsts past unit.from ⊎ ((place : ℕ) × (HasCode place 0xb8 past × (unit.from ≤ place)))
-    → IsFirstCode (Has past) unit.from ⊎ StandsIn (Has past) unit.from unit.head_end 0xb8
-group-closed unit open_ some (inl firsts) = inl firsts
-group-closed unit open_ some (inr it) =
-    inr (record {
-      place = it.0;
-      code = it.1.0;
-      after = it.1.1;
-      before = in-head unit open_ some it.1.0 (inr (inr refl));
-    })
+close-picture : {past : List Code} {unit : PictureUnit} {h : Header} → HasHeader unit h
+    → NoneFrom past unit.head_end IsHeadValue → Pictured past unit.from h
+    → HasPicture (Has past) (CodeFields past) unit
+close-picture {past} header ends is =
+    let has = subst (λ k. HasCode is.code.place k past) is.value (member-has is.code past is.member) in
+    record {
+      place = is.code.place;
+      code = has;
+      after = is.after;
+      before = in-head past ends (0, (has, inl refl));
+      only = λ other has after before. is.only other has after;
+      last = λ place value has after before head. is.last place value has after head;
+      fields = record {
+        code = is.code;
+        member = is.member;
+        zero_is = is.value;
+        place_is = refl;
+        temporal = header.temporal ∙ ap (λ (v : Header). v.temporal) is.header;
+        kind = header.kind ∙ ap (λ (v : Header). v.kind) is.header;
+        vectors = header.vectors ∙ ap (λ (v : Header). v.vectors) is.header;
+      };
+    }
 
-group-open : (past : List Code) (unit : PictureUnit) (n : ℕ) (o : Option Header)
-    → Open past (latest_by unit n o)
-    → IsFirstCode (Has past) unit.from ⊎ StandsIn (Has past) unit.from unit.head_end 0xb8 → unit.starts_group ≡ true
-group-open past unit n o open_ (inl firsts) = open_.grp_first firsts
-group-open past unit n o open_ (inr it) = open_.grp_set it.place it.code it.after
-
-close-by : {past : List Code} {unit : PictureUnit} {n : ℕ} {o : Option Header}
-    → Open past (latest_by unit n o) → 0 < n
-    → HasHeader unit (unwrap_or o no_header)
-    → ((place value : ℕ) → HasCode place value past → place < unit.to)
-    → Counts (Has past) IsSliceValue unit.head_end unit.to unit.slices
-    → Counts (Has past) IsSliceValue 0 unit.to (unit.first_slice + unit.slices) → Closed past unit
-close-by {o = None} open_ some header below own all = absurd (false≢true (open_.some some))
-close-by {past} {unit} {n} {o = Some h} open_ some header below own all = record {
-  unit_is = record {
-    begins = open_.begins;
-    head = open_.head some;
-    head_ends = open_.head_ends some;
-    rest = below unit.head_end (open_.head_ends some).0 (open_.head_ends some).1.0;
-    own = own;
-    all = all;
-    slices = λ place k has after before is. open_.sliced some place k has after is;
-    picture = close-picture some header open_.picture_is;
-    sequence = (
-      λ e. let it =
-          open_.seq_there e in
-          record {
-            place = it.0;
-            code = it.1.0;
-            after = it.1.1;
-            before = in-head unit open_ some it.1.0 (inr (inl refl));
-          },
-      λ it. open_.seq_set it.place it.code it.after,
-    );
-    group = (
-      λ e. group-closed unit open_ some (open_.grp_there e),
-      λ it. group-open past unit n (Some h) open_ it,
-    );
-  };
-  head_some = open_.order some;
-  rest_some = below unit.head_end (open_.head_ends some).0 (open_.head_ends some).1.0;
-}
-
--- the slices after the latest head are those from its first slice on
-own-first : {past : List Code} {to from place : ℕ} → OpenOf past → 0 < slice_count past
-    → ((place value : ℕ) → HasCode place value past → place < to) → NoneIn (Has past) from to IsHeadValue
-    → StandsThere (Has past) place IsSliceValue → from ≤ place → head_end_of past ≤ place
-own-first {past} {from} {place} open_ some below none slice far = elim (cases_lt place (head_end_of past)) [
-  | inl less ↦ elim (cases_lt (latest_unit past) from) [
-    | inl after ↦ absurd (open_.head some place slice.0 slice.1.0 (omega (arith, after, far)) less slice.1.1)
-    | inr before ↦
-        absurd (let head =
-        open_.begins in none (latest_unit past) head.0 head.1.0 before
-        (below (latest_unit past) head.0 head.1.0) head.1.1)
-  ]
-  | inr more ↦ more
-]
+some-picture : (o : Option Header) → is_some o ≡ true → (h : Header) × (o ≡ Some h)
+some-picture None e = absurd (false≢true e)
+some-picture (Some h) e = (h, refl)
 
 close : (past : List Code) (to : ℕ) → OpenOf past → Spaced past → 0 < slice_count past
     → ((place value : ℕ) → HasCode place value past → place < to) → Closed past (unit_at (tally_of past) to)
 close past to open_ spaced some below =
+    let unit = unit_at (tally_of past) to in
+    let from = latest_unit past in
     let k : Knows (Has past) past to =
     record {
       there = λ place value has. has;
@@ -217,25 +142,76 @@ close past to open_ spaced some below =
     } in
     let count : film_slice_count past ≡ film_slice_count past - slice_count past + slice_count past =
     omega (arith, few-slices past) in
-    let header : HasHeader (unit_at (tally_of past) to) (unwrap_or (latest_picture past) no_header) =
-    record { temporal = refl; kind = refl; vectors = refl } in
-    close-by open_ some header below
-    (own-slices k (λ place value has after before is. open_.sliced some place value has after is)
-    (λ from none place slice far before. own-first open_ some below none slice far))
-    (subst (λ n. Counts (Has past) IsSliceValue 0 to n) count (all-slices k))
+    let ends = open_.sliced some in
+    let first = open_.head_ends some in
+    let rest = below (head_end_of past) first.0 first.1.0 in
+    let its = some-picture (latest_picture past) (open_.some some) in
+    let header : HasHeader unit its.0 = record {
+      temporal = ap (λ (o : Option Header). (unwrap_or o no_header).temporal) its.1;
+      kind = ap (λ (o : Option Header). (unwrap_or o no_header).kind) its.1;
+      vectors = ap (λ (o : Option Header). (unwrap_or o no_header).vectors) its.1;
+    } in
+    let group = open_.group_is in
+    record {
+      unit_is = record {
+        begins = open_.begins;
+        head = open_.head some;
+        head_ends = first;
+        rest = rest;
+        own = own-slices k (λ place value has after before is. ends place value has after is)
+            (λ low none place slice far before. elim (cases_lt place (head_end_of past)) [
+              | inl less ↦ elim (cases_lt from low) [
+                | inl after ↦ absurd (open_.head some place slice.0 slice.1.0 (omega (arith, after, far)) less slice.1.1)
+                | inr before ↦ absurd (let head = open_.begins in
+                    none from head.0 head.1.0 before (below from head.0 head.1.0) head.1.1)
+              ]
+              | inr more ↦ more
+            ]);
+        all = subst (λ n. Counts (Has past) IsSliceValue 0 to n) count (all-slices k);
+        slices = λ place value has after before is. ends place value has after is;
+        picture = close-picture header ends (subst (λ o. PictureIs past from o) its.1 open_.picture_is);
+        sequence = (
+          λ e. let it = open_.sequence_is.there e in record {
+            place = it.0;
+            code = it.1.0;
+            after = it.1.1;
+            before = in-head past ends (0xb3, (it.1.0, inr (inl refl)));
+          },
+          λ it. open_.sequence_is.set it.place it.code it.after,
+        );
+        group = (
+          λ e. elim (group.there e) [
+            | inl firsts ↦ inl firsts
+            | inr it ↦ inr (record {
+              place = it.0;
+              code = it.1.0;
+              after = it.1.1;
+              before = in-head past ends (0xb8, (it.1.0, inr (inr refl)));
+            })
+          ],
+          λ either. elim either [
+            | inl firsts ↦ group.first firsts
+            | inr it ↦ group.set it.place it.code it.after
+          ],
+        );
+      };
+      head_some = open_.order some;
+      rest_some = rest;
+    }
 
 -- ---- it stays so as codes come
-
-more-has : {place value to : ℕ} (c : Code) (past : List Code) → to ≤ c.place → place < to
-    → HasCode place value (c ∷ past) → HasCode place value past
-more-has c past far before (inl new) = absurd (omega (arith, new.0, far, before))
-more-has c past far before (inr old) = old
 
 closed-grows : (c : Code) (past : List Code) (unit : PictureUnit) → unit.to ≤ c.place → Closed past unit
     → Closed (c ∷ past) unit
 closed-grows c past unit far closed =
     record {
-      unit_is = unit-same (λ place value before. (λ has. inr has, λ has. more-has c past far before has))
+      unit_is = unit-same (λ place value before. (
+        λ has. inr has,
+        λ has. elim has [
+          | inl new ↦ absurd (omega (arith, new.0, far, before))
+          | inr old ↦ old
+        ],
+      ))
           (λ place f. record {
             code = f.code;
             member = inr f.member;

@@ -14,7 +14,6 @@ mod HeaderByteLemmas
 pub mod FirstUnitLemmas
 mod NextCodeLemmas
 mod ScanBoundLemmas
-mod CodeValueLemmas
 mod LatestUnitLemmas
 mod EndedUnitLemmas
 mod StandardLemmas
