@@ -56,7 +56,7 @@ span-slice d slice =
     let low : 1 ≤ d.value = leb-true 1 d.value (and_parts (leb 1 d.value) (leb d.value 0xaf) slice).0 in
     ap (λ b. cond b 3 4) (ne_eqb d.value 0 (λ none. absurd (omega arith)))
 
-slice-case : {s : Bool} {n at : ℕ} (h : Bool) (p q : ℕ) → (s ≡ true → p + 4 ≤ at) → (0 < n → q + 4 ≤ at)
+pub slice-case : {s : Bool} {n at : ℕ} (h : Bool) (p q : ℕ) → (s ≡ true → p + 4 ≤ at) → (0 < n → q + 4 ≤ at)
     → 0 < cond h 0 (cond s (n + 1) n) → cond s p (cond h 0 q) + 4 ≤ at
 slice-case {s} true p q here before some = absurd (omega arith)
 slice-case {s = true} false p q here before some = here refl

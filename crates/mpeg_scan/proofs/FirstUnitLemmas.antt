@@ -260,28 +260,30 @@ pub record FirstHeader (r : List ℕ) (c : Code) : Type 0 where
   pub long : c.place + 12 ≤ stop
 
 -- codes that are accepted up to an end, and their headers in so many bytes
-pub record AreJudged (r : List ℕ) (c : Code) (past : List Code) (end stop : ℕ) : Type 0 where
+pub record AreJudged (r : List ℕ) (c : Code) (past : List Code) (end : ℕ) : Type 0 where
+  pub stop : ℕ
   pub accepted : first_fault (c ∷ past) ≡ None
   pub judged : latest_fault (c ∷ past) end ≡ None
   pub far : end ≤ stop
   pub headers : HeadersAre r stop (c ∷ past)
 
 -- so those before the latest
-pub older-are_judged : {r : List ℕ} {c d : Code} {past : List Code} {end stop : ℕ}
-    → AreJudged r c (d ∷ past) end stop → AreJudged r d past c.place (c.place + 4)
+pub older-are_judged : {r : List ℕ} {c d : Code} {past : List Code} {end : ℕ}
+    → AreJudged r c (d ∷ past) end → AreJudged r d past c.place
 older-are_judged {c} {d} {past} are = record {
+  stop = c.place + 4;
   accepted = accepted-older c (d ∷ past) are.accepted;
   judged = older-judged c (d ∷ past) are.accepted;
   far = omega arith;
   headers = are.headers.1;
 }
 
-pub first_in-header : {r : List ℕ} {c : Code} {past : List Code} {end stop : ℕ} → AreJudged r c past end stop
+pub first_in-header : {r : List ℕ} {c : Code} {past : List Code} {end : ℕ} → AreJudged r c past end
     → FirstHeader r (first_in c past)
 unfolding first_in
-first_in-header {c} {past = []} {end} {stop} are =
+first_in-header {c} {past = []} {end} are =
     record {
-      stop = stop;
+      stop = are.stop;
       is = are.headers.0;
       long = omega (arith, are.far, long-header None c end (first-is c are.accepted) are.judged);
     }
@@ -300,8 +302,8 @@ codes-begin bytes (c ∷ past) codes accepted ended headers =
     let n = length r in
     let judged = otherwise-first (latest_fault (c ∷ past) n) (last_fault (tally_of (c ∷ past))) ended in
     let f = first_in c past in
-    let are : AreJudged r c past n n =
-    record { accepted = accepted; judged = judged; far = omega arith; headers = headers } in
+    let are : AreJudged r c past n =
+    record { stop = n; accepted = accepted; judged = judged; far = omega arith; headers = headers } in
     let header = first_in-header are in
     let long : length r ≡ length bytes = length-read bytes [] ∙ omega arith in
     let place : first_of (c ∷ past) ≡ f.place = first_in-place c past in

@@ -394,8 +394,8 @@ rate-known {bytes} {past = c ∷ past} {at} film accepted judged =
     let first = first_in c past in
     let has = first_in-has c past in
     let k = film.knows in
-    let are : AreJudged film.read c past at film.stop =
-    record { accepted = accepted; judged = judged; far = film.far; headers = film.headers } in
+    let are : AreJudged film.read c past at =
+    record { stop = film.stop; accepted = accepted; judged = judged; far = film.far; headers = film.headers } in
     let header = first_in-header are in
     its_rate (record {
       first = first.place;

@@ -1,10 +1,11 @@
 -- The scanner's latest unit and slice begin well before the next code.
+use Rattle.std.proofs.Common.{inl, inr}
 use Rattle.std.proofs.Common.{Result, Ok, Err, OnOk, ℕ, Bool, true, false, not, cond, eqb, leb, ltb}
 use Rattle.std.proofs.Common.{◌&&◌, ◌||◌, ◌+◌, ◌-◌, ◌<◌, ◌≤◌, ◌≡◌, List, [], ◌∷◌, Option, Some, None, sym, ◌∙◌, take}
 use Rattle.std.proofs.Common.{ap, refl, subst, arith}
 use Rattle.std.specs.Option.{IsSome, option_map}
 use Rattle.std.proofs.lemmas.Option.{same_Some}
-use Rattle.std.proofs.lemmas.Bool.{true≢false, false≢true, ne_eqb, lt-leb, cond-false}
+use Rattle.std.proofs.lemmas.Bool.{cases_Bool, or_parts, true≢false, false≢true, ne_eqb, lt-leb, cond-false}
 use Rattle.mpeg_scan.specs.declared.units.TheConstants.{MAX_UNIT_HEAD_BYTES}
 use Rattle.mpeg_scan.specs.declared.codes.Code.{Code}
 use Rattle.mpeg_scan.specs.declared.codes.Prefix.{Prefix}
@@ -27,7 +28,7 @@ use Rattle.mpeg_scan.specs.CodeSteps.{next_begins, tally_now, tally_with}
 use Rattle.mpeg_scan.proofs.NextCodeLemmas.{code-begun, counts-more, counts-next, picture-next}
 use Rattle.mpeg_scan.proofs.NextCodeLemmas.{rate-next, with-more, with-noted}
 use Rattle.mpeg_scan.proofs.CodesBeforeLemmas.{slice-value}
-use Rattle.mpeg_scan.proofs.CodeSpacingLemmas.{whole-is}
+use Rattle.mpeg_scan.proofs.CodeSpacingLemmas.{slice-case, whole-is}
 use Rattle.mpeg_scan.proofs.ScanStepLemmas.{otherwise-second}
 use Rattle.mpeg_scan.proofs.PartTilingLemmas.{ended-none, first_slice-accepted, first_slice-head}
 
@@ -105,44 +106,43 @@ code_judgement-code latest tally place value e =
     otherwise-second (latest_header_fault latest tally.rate place) (code_fault (tally_with latest tally) place value) e
 
 -- a slice's code that isn't refused, and the tally with the code before it
-pub record SliceTaken (t : Tally) (latest : Option Code) (tally : Tally) (place value : ℕ) : Type 0 where
-  pub judged : code_judgement latest tally place value ≡ None
-  pub tally_is : t ≡ tally_with latest tally
+pub record SliceTaken (t : Tally) (s : Progress) (place value : ℕ) : Type 0 where
+  pub judged : code_judgement s.latest s.tally place value ≡ None
+  pub tally_is : t ≡ tally_now s
   pub slice : is_slice value ≡ true
 
-pub slice-taken : {t tally : Tally} {latest : Option Code} {place value : ℕ}
-    → (code_judgement latest tally place value ≡ None) × (t ≡ tally_with latest tally) → is_slice value ≡ true
-    → SliceTaken t latest tally place value
+pub slice-taken : {t : Tally} {s : Progress} {place value : ℕ}
+    → (code_judgement s.latest s.tally place value ≡ None) × (t ≡ tally_now s) → is_slice value ≡ true
+    → SliceTaken t s place value
 slice-taken taken slice = record { judged = taken.0; tally_is = taken.1; slice = slice }
 
 -- it isn't the film's first code
-pub slice-begun : {t tally : Tally} {latest : Option Code} {place value : ℕ} → SliceTaken t latest tally place value
-    → t.begun ≡ true
-slice-begun {t} {tally} {latest} {place} {value} taken =
+pub slice-begun : {t : Tally} {s : Progress} {place value : ℕ} → SliceTaken t s place value → t.begun ≡ true
+slice-begun {s} {place} {value} taken =
     let other = ne_eqb value 0xb3 (λ is. absurd (omega (arith, (slice-value value taken.slice).1))) in
     ap (λ (v : Tally). v.begun) taken.tally_is
-    ∙ code-begun (tally_with latest tally) place value (code_judgement-code latest tally place value taken.judged) other
+    ∙ code-begun (tally_now s) place value (code_judgement-code s.latest s.tally place value taken.judged) other
 
 -- a unit's first slice: the head before it has 1 to 1,380 bytes
-pub head-some : {t tally : Tally} {latest : Option Code} {place value : ℕ} → SliceTaken t latest tally place value
-    → HasRoom (tally_with latest tally) place → t.unit < place
-head-some {t} {tally} {latest} {place} {value} taken room =
-    let now = tally_with latest tally in
+pub head-some : {t : Tally} {s : Progress} {place value : ℕ} → SliceTaken t s place value
+    → HasRoom (tally_now s) place → t.unit < place
+head-some {t} {s} taken room =
+    let now = tally_now s in
     let unit : t.unit ≡ now.unit = ap (λ (v : Tally). v.unit) taken.tally_is in
     let begun : t.begun ≡ now.begun = ap (λ (v : Tally). v.begun) taken.tally_is in
     omega (arith, unit, room.unit (sym begun ∙ slice-begun taken))
 
-pub head-short : {t tally : Tally} {latest : Option Code} {place value : ℕ}
-    → SliceTaken t latest tally place value → t.slices ≡ 0 → place ≤ t.unit + MAX_UNIT_HEAD_BYTES
-head-short {t} {tally} {latest} {place} {value} taken none =
-    let now = tally_with latest tally in
+pub head-short : {t : Tally} {s : Progress} {place value : ℕ} → SliceTaken t s place value → t.slices ≡ 0
+    → place ≤ t.unit + MAX_UNIT_HEAD_BYTES
+head-short {t} {s} {place} {value} taken none =
+    let now = tally_now s in
     let unit : t.unit ≡ now.unit = ap (λ (v : Tally). v.unit) taken.tally_is in
     let slices : t.slices ≡ now.slices = ap (λ (v : Tally). v.slices) taken.tally_is in
     omega (
       arith,
       unit,
       first_slice-head now place value
-          (first_slice-accepted now place value (code_judgement-code latest tally place value taken.judged))
+          (first_slice-accepted now place value (code_judgement-code s.latest s.tally place value taken.judged))
           taken.slice (sym slices ∙ none),
     )
 
@@ -166,30 +166,14 @@ length-slice value slice =
     let other = ne_eqb value 0 (λ none. absurd (omega (arith, (slice-value value slice).0))) in
     length-no_zero (eqb value 1) (eqb value 0) other
 
--- the prefix that a code's value begins: at most a byte, and none where it is a slice
-record PrefixAfter (s : Bool) (l : ℕ) : Type 0 where
-  short : l ≤ 1
-  none : s ≡ true → l ≡ 0
+from-by : {place end unit : ℕ} (b : Bool) → place ≤ end → unit ≤ place → cond b place unit ≤ end
+from-by true far before = far
+from-by false far before = omega (arith, far, before)
 
-prefix-after : (value : ℕ) → PrefixAfter (is_slice value) (prefix_length (next_prefix Whole value))
-prefix-after value = record { short = length-value value; none = length-slice value }
-
-from-by : {place l fed : ℕ} (b : Bool) (unit : ℕ) → l ≤ 1 → place + 3 ≤ fed → unit ≤ place
-    → cond b place unit ≤ fed + 1 - l
-from-by true unit short at before = omega (arith, short, at)
-from-by false unit short at before = omega (arith, short, at, before)
-
-unit-by : {q : Bool} {place l fed : ℕ} (h : Bool) (unit : ℕ) → l ≤ 1 → place + 3 ≤ fed
-    → (q ≡ true → unit + 3 ≤ place) → cond (not q || h) place unit + 3 ≤ fed + 1 - l
-unit-by {q = true} true unit short at before = omega (arith, short, at)
-unit-by {q = true} false unit short at before = omega (arith, short, at, before refl)
-unit-by {q = false} h unit short at before = omega (arith, short, at)
-
-slice-by : {s : Bool} {place n l fed : ℕ} (h : Bool) (slice : ℕ) → PrefixAfter s l → place + 3 ≤ fed
-    → (0 < n → slice + 4 ≤ place) → 0 < cond h 0 (cond s (n + 1) n) → cond s place (cond h 0 slice) + 4 ≤ fed + 1 - l
-slice-by {s = true} h slice prefix at before some = omega (arith, prefix.none refl, at)
-slice-by {s = false} true slice prefix at before some = absurd (omega (arith, some))
-slice-by {s = false} false slice prefix at before some = omega (arith, prefix.short, at, before some)
+unit-by : {place end : ℕ} (b : Bool) (unit : ℕ) → place + 3 ≤ end → (b ≡ false → unit + 3 ≤ place)
+    → cond b place unit + 3 ≤ end
+unit-by true unit far before = far
+unit-by false unit far before = omega (arith, far, before refl)
 
 code-room : {t : Tally} {place fed : ℕ} (value : ℕ) → place + 3 ≤ fed → HasRoom t place
     → code_fault t place value ≡ None
@@ -198,17 +182,24 @@ code-room : {t : Tally} {place fed : ℕ} (value : ℕ) → place + 3 ≤ fed �
 unfolding next
 code-room {t} {place} {fed} value at room e =
     let c : Code = record { place = place; value = value; header = [] } in
-    let short = length-value value in
-    let far : place + 1 ≤ fed + 1 - prefix_length (next_prefix Whole value) = omega (arith, short, at) in record {
+    let end = fed + 1 - prefix_length (next_prefix Whole value) in
+    let far : place + 3 ≤ end = omega (arith, length-value value, at) in
+    let first = is_head value && ltb 0 t.slices in
+    record {
       code = λ d is. omega (arith, far, ap (λ (v : Code). v.place) (same_Some c d is));
       older = counts-more room.counts (omega (arith, far));
       now = record {
-        from = from-by (next_begins t value) t.unit short at room.from;
-        unit = λ begun. unit-by (is_head value && ltb 0 t.slices) t.unit short at room.unit;
-        slice = λ some. slice-by {n = t.slices} (is_head value) t.slice (prefix-after value) at room.slice some;
+        from = from-by (next_begins t value) (omega (arith, far)) room.from;
+        unit = λ begun. unit-by (next_begins t value) t.unit far (λ old. elim (cases_Bool t.begun) [
+          | inl is ↦ room.unit is
+          | inr none ↦ absurd (true≢false (sym (ap not none) ∙ (or_parts (not t.begun) first old).0))
+        ]);
+        slice = λ some. slice-case {s = is_slice value} {n = t.slices} {at = end} (is_head value) place t.slice
+            (λ slice. omega (arith, length-slice value slice, at))
+            (λ more. omega (arith, room.slice more, far)) some;
         picture = λ some. picture-next t c e room.picture some;
         rate = λ begun. rate-next t c e room.rate;
-        counts = counts-next t c e room.counts far;
+        counts = counts-next t c e room.counts (omega (arith, far));
       };
     }
 

@@ -2,9 +2,9 @@
 use Rattle.std.proofs.Common.{ℕ, Bool, true, false, cond, eqb, ltb, leb, ◌&&◌, ◌||◌, ◌+◌, ◌-◌, ◌*◌}
 use Rattle.std.proofs.Common.{◌/◌, ◌%◌, ◌<◌, ◌≤◌, ◌≡◌, ◌⊎◌, ◌↔◌, List, [], ◌∷◌, Option, Some, None}
 use Rattle.std.proofs.Common.{length, get_or, slice_get, sym, ◌∙◌, ap, refl, subst, inl, inr, arith}
-use Rattle.std.proofs.lemmas.Bool.{or_right, cases_lt, eq-eqb, ne_eqb, leb-true, ltb-false}
+use Rattle.std.proofs.lemmas.Bool.{cond-true, cond-false, or_right, cases_lt, eq-eqb, ne_eqb, leb-true, ltb-false}
 use Rattle.std.proofs.lemmas.Bool.{or_parts}
-use Rattle.std.proofs.lemmas.Bool.{and_parts, true≢false, false≢true}
+use Rattle.std.proofs.lemmas.Bool.{and_parts, false≢true}
 use Rattle.mpeg_scan.specs.declared.codes.Code.{Code}
 use Rattle.mpeg_scan.specs.declared.faults.FilmFault.{FilmFault}
 use Rattle.mpeg_scan.specs.declared.faults.FilmFault.TheVariants.{BadType, ShortHeader}
@@ -13,7 +13,7 @@ use Rattle.mpeg_scan.specs.declared.units.Unit.{Unit as PictureUnit}
 use Rattle.mpeg_scan.specs.StartCodes.{read_after, codes_of, latest_prefix}
 use Rattle.mpeg_scan.specs.CodeFacts.{first_rate, kind_of, tally_of, type_of, vectors_by}
 use Rattle.mpeg_scan.specs.FilmFaults.{end_fault, first_fault, header_fault, last_fault, latest_fault}
-use Rattle.mpeg_scan.specs.FilmFaults.{rate_fault}
+use Rattle.mpeg_scan.specs.FilmFaults.{picture_fault, rate_fault}
 use Rattle.mpeg_scan.specs.Films.{IsFilm}
 use Rattle.mpeg_scan.specs.CodePlaces.{HasCode, IsCodeAt}
 use Rattle.mpeg_scan.specs.StandardUnits.{HasFields, IsUnitOf}
@@ -39,24 +39,17 @@ record CodeHeader (r : List ℕ) (c : Code) : Type 0 where
   judged : header_fault rate c end ≡ None
   far : end ≤ stop
 
-code-header : {r : List ℕ} {c its : Code} {past : List Code} {end stop : ℕ} → AreJudged r c past end stop
+code-header : {r : List ℕ} {c its : Code} {past : List Code} {end : ℕ} → AreJudged r c past end
     → Member its (c ∷ past) → CodeHeader r its
-code-header {r} {c} {past} {end} {stop} are (inl same) =
+code-header {r} {c} {past} {end} are (inl same) =
     subst (λ (v : Code). CodeHeader r v) same
-    (record { stop = stop; end = end; rate = first_rate past; is = are.headers.0; judged = are.judged; far = are.far })
+    (record { stop = are.stop; end = end; rate = first_rate past; is = are.headers.0; judged = are.judged; far = are.far })
 code-header {past = []} are (inr m) = absurd m
 code-header {past = d ∷ past} are (inr m) = code-header {c = d} {past = past} (older-are_judged are) m
 
 -- of each of these codes
 abbrev AreHeaders : List ℕ → List Code → Type 0
 AreHeaders r past = (c : Code) → Member c past → CodeHeader r c
-
-picture-judged : {a b z : Bool} {h : Option FilmFault} (f g : Option FilmFault) → a ≡ false → b ≡ false
-    → z ≡ true → cond a f (cond b g (cond z h None)) ≡ None → h ≡ None
-picture-judged {a = true} {h} f g na nb is e = absurd (true≢false na)
-picture-judged {a = false} {b = true} {h} f g na nb is e = absurd (true≢false nb)
-picture-judged {a = false} {b = false} {z = true} {h} f g na nb is e = e
-picture-judged {a = false} {b = false} {z = false} {h} f g na nb is e = absurd (false≢true is)
 
 record PictureLong (c : Code) (end : ℕ) : Type 0 where
   eight : c.place + 8 ≤ end
@@ -74,11 +67,16 @@ nine-by false b none is = absurd (false≢true is)
 
 picture-long : (rate : Option ℕ) (c : Code) (end : ℕ) → c.value ≡ 0 → header_fault rate c end ≡ None → PictureLong c end
 picture-long rate c end is e =
-    let judged =
-    picture-judged (cond (ltb (end - c.place) 12) (Some (ShortHeader c.place)) (rate_fault rate c))
-    (cond (ltb (end - c.place) 8) (Some (ShortHeader c.place)) None)
-    (ne_eqb c.value 0xb3 (λ k. absurd (omega (arith, is, k))))
-    (ne_eqb c.value 0xb8 (λ k. absurd (omega (arith, is, k)))) (eq-eqb c.value 0 is) e in
+    let none : Option FilmFault = None in
+    let short = λ (n : ℕ). cond (ltb (end - c.place) n) (Some (ShortHeader c.place)) in
+    let picture = cond (eqb c.value 0) (picture_fault c end) none in
+    let group = cond (eqb c.value 0xb8) (short 8 none) picture in
+    let judged : picture_fault c end ≡ None =
+    sym (cond-true (eqb c.value 0) (picture_fault c end) none (eq-eqb c.value 0 is))
+    ∙ sym (cond-false (eqb c.value 0xb8) (short 8 none) picture
+    (ne_eqb c.value 0xb8 (λ k. absurd (omega (arith, is, k)))))
+    ∙ sym (cond-false (eqb c.value 0xb3) (short 12 (rate_fault rate c)) group
+    (ne_eqb c.value 0xb3 (λ k. absurd (omega (arith, is, k))))) ∙ e in
     let parts = some-cond-none
     (ltb (end - c.place) 8 || ((eqb (type_of c) 2 || eqb (type_of c) 3) && ltb (end - c.place) 9))
     (ShortHeader c.place) (cond (leb 1 (type_of c) && leb (type_of c) 4) None (Some (BadType c.place))) judged in
@@ -186,7 +184,8 @@ whole-headers : (r : List ℕ) (past : List Code) (n : ℕ) → first_fault past
 unfolding end_fault
 whole-headers r [] n accepted ended headers c m = absurd m
 whole-headers r (d ∷ past) n accepted ended headers c m =
-    let are : AreJudged r d past n n = record {
+    let are : AreJudged r d past n = record {
+      stop = n;
       accepted = accepted;
       judged = otherwise-first (latest_fault (d ∷ past) n) (last_fault (tally_of (d ∷ past))) ended;
       far = omega arith;

@@ -11,7 +11,7 @@ use Rattle.mpeg_scan.specs.StartCodes.{codes_of, read_after}
 use Rattle.mpeg_scan.specs.Films.{IsFilm}
 use Rattle.mpeg_scan.specs.Layout.{AreChained}
 use Rattle.mpeg_scan.specs.CodePlaces.{IsCodeAt}
-use Rattle.mpeg_scan.specs.StandardUnits.{AnyValue, ArePresented, AreUnitsOf, Counts, HasFields}
+use Rattle.mpeg_scan.specs.StandardUnits.{ArePresented, AreUnitsOf, Counts, HasFields}
 use Rattle.mpeg_scan.specs.StandardUnits.{IsFirstCode, IsHeadValue, IsSliceValue, IsUnitOf, StandsIn}
 use Rattle.mpeg_scan.specs.StandardUnits.{StandsThere, type_number, vector_fields}
 use Rattle.mpeg_scan.specs.PartTiling.{first_of}
@@ -74,28 +74,15 @@ kind-back D = refl
 kind-same : (k l : Kind) → type_number k ≡ type_number l → k ≡ l
 kind-same k l e = sym (kind-back k) ∙ ap kind_of e ∙ kind-back l
 
-count-same : {Has : ℕ → ℕ → Type 0} {OfValue : ℕ → Type 0} {from to m n : ℕ} →
-    Counts Has OfValue from to m → Counts Has OfValue from to n → m ≡ n
-count-same {Has} {from} {m} c d =
-    omega (arith, d.most c.places c.are, c.long, c.most d.places d.are, d.long)
-
 order-of : (bytes : List ℕ) (u : PictureUnit) → IsUnitOf bytes u → u.from < u.head_end
 order-of bytes u is = omega (arith, is.picture.after, is.picture.before)
 
-head-not-less : {bytes : List ℕ} {u v : PictureUnit} → IsUnitOf bytes u → IsUnitOf bytes v →
-    u.from ≡ v.from → u.head_end < v.head_end → ⊥
-head-not-less {bytes} {u} one other from less =
-    other.head u.head_end one.head_ends.0 one.head_ends.1.0
-    (omega (arith, from, order-of bytes u one)) less one.head_ends.1.1
-
-head-same : (bytes : List ℕ) (u v : PictureUnit) → IsUnitOf bytes u → IsUnitOf bytes v →
-    u.from ≡ v.from → u.head_end ≡ v.head_end
-head-same bytes u v one other from = elim (cases_lt u.head_end v.head_end) [
-  | inl less ↦ absurd (head-not-less one other from less)
-  | inr more ↦ elim (cases_lt v.head_end u.head_end) [
-    | inl less ↦ absurd (head-not-less other one (sym from) less)
-    | inr same ↦ omega (arith, more, same)
-  ]
+head-order : {bytes : List ℕ} {u v : PictureUnit} → IsUnitOf bytes u → IsUnitOf bytes v → u.from ≡ v.from
+    → v.head_end ≤ u.head_end
+head-order {bytes} {u} {v} one other from = elim (cases_lt u.head_end v.head_end) [
+  | inl less ↦ absurd (other.head u.head_end one.head_ends.0 one.head_ends.1.0
+      (omega (arith, from, order-of bytes u one)) less one.head_ends.1.1)
+  | inr more ↦ more
 ]
 
 -- a unit ends at a code of a head, or at the film's end
@@ -108,46 +95,37 @@ record IsUnitWithin (bytes : List ℕ) (u : PictureUnit) : Type 0 where
   ends : Ends bytes u.to
   within : u.to ≤ length bytes
 
-end-not-less : {bytes : List ℕ} {u v : PictureUnit} → IsUnitWithin bytes u →
-    IsUnitWithin bytes v → u.head_end ≡ v.head_end → u.to < v.to → ⊥
-end-not-less {u} one other head less = elim (one.ends) [
-  | inl end ↦ omega (arith, end, other.within, less)
-  | inr code ↦ other.unit.slices u.to code.0 code.1.0 (omega (arith, head, one.unit.rest)) less code.1.1
-]
-
-end-same : {bytes : List ℕ} {u v : PictureUnit} → IsUnitWithin bytes u →
-    IsUnitWithin bytes v → u.head_end ≡ v.head_end → u.to ≡ v.to
-end-same {u} {v} one other head = elim (cases_lt u.to v.to) [
-  | inl less ↦ absurd (end-not-less one other head less)
-  | inr more ↦ elim (cases_lt v.to u.to) [
-    | inl less ↦ absurd (end-not-less other one (sym head) less)
-    | inr same ↦ omega (arith, more, same)
+end-order : {bytes : List ℕ} {u v : PictureUnit} → IsUnitWithin bytes u → IsUnitWithin bytes v
+    → u.head_end ≡ v.head_end → v.to ≤ u.to
+end-order {u} {v} one other head = elim (cases_lt u.to v.to) [
+  | inl less ↦ elim one.ends [
+    | inl end ↦ omega (arith, end, other.within, less)
+    | inr code ↦
+        absurd (other.unit.slices u.to code.0 code.1.0 (omega (arith, head, one.unit.rest)) less code.1.1)
   ]
+  | inr more ↦ more
 ]
-
-stands-same : {bytes : List ℕ} {from to at end value : ℕ} → from ≡ at → to ≡ end →
-    StandsIn (IsCodeAt bytes) from to value → StandsIn (IsCodeAt bytes) at end value
-stands-same {from} {at} {end} from_is to_is it = record {
-  place = it.place;
-  code = it.code;
-  after = omega (arith, from_is, it.after);
-  before = omega (arith, to_is, it.before);
-}
-
-group-same : {bytes : List ℕ} {from to at end : ℕ} → from ≡ at → to ≡ end →
-    IsFirstCode (IsCodeAt bytes) from
-    ⊎ StandsIn (IsCodeAt bytes) from to 0xb8 → IsFirstCode (IsCodeAt bytes) at
-    ⊎ StandsIn (IsCodeAt bytes) at end 0xb8
-group-same {bytes} {from} {at} {end} from_is to_is (inl first) =
-    inl (subst (λ p. IsFirstCode (IsCodeAt bytes) p) from_is first)
-group-same {from} {at} {end} from_is to_is (inr it) =
-    inr (stands-same from_is to_is it)
 
 -- two units at the same places
 record AreSamePlaces (u v : PictureUnit) : Type 0 where
   from : u.from ≡ v.from
   head_end : u.head_end ≡ v.head_end
   to : u.to ≡ v.to
+
+stands-same : {bytes : List ℕ} {u v : PictureUnit} {value : ℕ} → AreSamePlaces u v
+    → StandsIn (IsCodeAt bytes) u.from u.head_end value → StandsIn (IsCodeAt bytes) v.from v.head_end value
+stands-same same it = record {
+  place = it.place;
+  code = it.code;
+  after = omega (arith, same.from, it.after);
+  before = omega (arith, same.head_end, it.before);
+}
+
+group-same : {bytes : List ℕ} {u v : PictureUnit} → AreSamePlaces u v
+    → IsFirstCode (IsCodeAt bytes) u.from ⊎ StandsIn (IsCodeAt bytes) u.from u.head_end 0xb8
+    → IsFirstCode (IsCodeAt bytes) v.from ⊎ StandsIn (IsCodeAt bytes) v.from v.head_end 0xb8
+group-same {bytes} same (inl first) = inl (subst (λ p. IsFirstCode (IsCodeAt bytes) p) same.from first)
+group-same {u} {v} same (inr it) = inr (stands-same {u = u} {v = v} same it)
 
 -- two units with the same picture
 record AreSamePictures (u v : PictureUnit) : Type 0 where
@@ -175,14 +153,16 @@ picture-same {bytes} {u} {v} one other same =
 -- one head has a sequence header or none, and starts a group or none
 headers-same : {bytes : List ℕ} {u v : PictureUnit} → IsUnitOf bytes u → IsUnitOf bytes v → AreSamePlaces u v →
     (u.has_sequence ≡ v.has_sequence) × (u.starts_group ≡ v.starts_group)
-headers-same {u} {v} one other same = (
-  bool-same u.has_sequence v.has_sequence
-      (λ e. other.sequence.1 (stands-same same.from same.head_end (one.sequence.0 e)))
-      (λ e. one.sequence.1 (stands-same (sym same.from) (sym same.head_end) (other.sequence.0 e))),
-  bool-same u.starts_group v.starts_group
-      (λ e. other.group.1 (group-same same.from same.head_end (one.group.0 e)))
-      (λ e. one.group.1 (group-same (sym same.from) (sym same.head_end) (other.group.0 e))),
-)
+headers-same {u} {v} one other same =
+    let back : AreSamePlaces v u =
+    record { from = sym same.from; head_end = sym same.head_end; to = sym same.to } in (
+      bool-same u.has_sequence v.has_sequence
+          (λ e. other.sequence.1 (stands-same same (one.sequence.0 e)))
+          (λ e. one.sequence.1 (stands-same back (other.sequence.0 e))),
+      bool-same u.starts_group v.starts_group
+          (λ e. other.group.1 (group-same same (one.group.0 e)))
+          (λ e. one.group.1 (group-same back (other.group.0 e))),
+    )
 
 -- between the same places stand the same slices, and as many before them
 slices-same : {bytes : List ℕ} {u v : PictureUnit} → IsUnitOf bytes u → IsUnitOf bytes v → AreSamePlaces u v →
@@ -191,30 +171,47 @@ slices-same {bytes} {u} {v} one other same =
     let Slices : ℕ → ℕ → ℕ → Type 0 = λ from to n. Counts (IsCodeAt bytes) IsSliceValue from to n in
     let own : Slices v.head_end v.to u.slices =
     subst (λ p. Slices v.head_end p u.slices) same.to (subst (λ p. Slices p u.to u.slices) same.head_end one.own) in
-    let slices : u.slices ≡ v.slices = count-same own other.own in
-    let all : u.first_slice + u.slices ≡ v.first_slice + v.slices =
-    count-same (subst (λ p. Slices 0 p (u.first_slice + u.slices)) same.to one.all) other.all in
-    (omega (arith, all, slices), slices)
+    let all = subst (λ p. Slices 0 p (u.first_slice + u.slices)) same.to one.all in
+    let low = own.most other.own.places other.own.are in
+    let high = other.own.most own.places own.are in
+    let low_all = all.most other.all.places other.all.are in
+    let high_all = other.all.most all.places all.are in
+    let slices : u.slices ≡ v.slices = omega (arith, low, own.long, high, other.own.long) in
+    (omega (arith, slices, low_all, all.long, high_all, other.all.long), slices)
 
--- such a unit, numbered after so many units, and those before its group
-record IsNumberedUnit (bytes : List ℕ) (number group : ℕ) (u : PictureUnit) : Type 0 where
+-- where units begin, how many come before them, and how many before the latest group
+record Onward : Type 0 where
+  from : ℕ
+  number : ℕ
+  group : ℕ
+
+abbrev after_unit : Onward → PictureUnit → Onward
+after_unit at u =
+    record { from = u.to; number = at.number + 1; group = cond u.starts_group at.number at.group }
+
+-- such a unit that begins there and is numbered so
+record IsNumberedUnit (bytes : List ℕ) (at : Onward) (u : PictureUnit) : Type 0 where
+  begins : u.from ≡ at.from
   lies : IsUnitWithin bytes u
-  shown : u.presentation ≡ cond u.starts_group number group + u.temporal
+  shown : u.presentation ≡ cond u.starts_group at.number at.group + u.temporal
 
-units-same : {bytes : List ℕ} {number group : ℕ} {u v : PictureUnit} → IsNumberedUnit bytes number group u →
-    IsNumberedUnit bytes number group v → u.from ≡ v.from → u ≡ v
-units-same {bytes} {number} {group} {u} {v} left right from =
+units-same : {bytes : List ℕ} {at : Onward} {u v : PictureUnit} → IsNumberedUnit bytes at u
+    → IsNumberedUnit bytes at v → u ≡ v
+units-same {at} {u} {v} left right =
     let one = left.lies.unit in
     let other = right.lies.unit in
-    let head = head-same bytes u v one other from in
-    let places : AreSamePlaces u v =
-    record { from = from; head_end = head; to = end-same left.lies right.lies head } in
+    let from : u.from ≡ v.from = left.begins ∙ sym right.begins in
+    let head : u.head_end ≡ v.head_end =
+    omega (arith, head-order one other from, head-order other one (sym from)) in
+    let to : u.to ≡ v.to =
+    omega (arith, end-order left.lies right.lies head, end-order right.lies left.lies (sym head)) in
+    let places : AreSamePlaces u v = record { from = from; head_end = head; to = to } in
     let picture = picture-same one other places in
     let headers = headers-same one other places in
     let slices = slices-same one other places in
     let presentation : u.presentation ≡ v.presentation =
-    left.shown ∙ ap (λ b. cond b number group + u.temporal) headers.1
-    ∙ ap (λ n. cond v.starts_group number group + n) picture.temporal ∙ sym right.shown in
+    left.shown ∙ ap (λ b. cond b at.number at.group + u.temporal) headers.1
+    ∙ ap (λ n. cond v.starts_group at.number at.group + n) picture.temporal ∙ sym right.shown in
     let same : AreSameFields u v = record {
       from = from;
       head_end = head;
@@ -258,16 +255,17 @@ not-at-end : (bytes : List ℕ) (from : ℕ) (u : PictureUnit) → IsUnitOf byte
     from ≡ length bytes → ⊥
 not-at-end bytes from u is same end = omega (arith, same, end, is.begins.1.0.fits)
 
--- units of the bytes, one after another from a place to the end, numbered from these numbers on
-record AreFrom (bytes : List ℕ) (from number group : ℕ) (us : List PictureUnit) : Type 0 where
+-- units of the bytes, one after another from there to the end, and numbered so
+record AreFrom (bytes : List ℕ) (at : Onward) (us : List PictureUnit) : Type 0 where
   each : All bytes us
-  chained : AreChained from us (length bytes)
-  presented : ArePresented number group us
+  chained : AreChained at.from us (length bytes)
+  presented : ArePresented at.number at.group us
 
 -- the first of them, and those after it
-first_unit : {bytes : List ℕ} {from number group : ℕ} {u : PictureUnit} {us : List PictureUnit} →
-    AreFrom bytes from number group (u ∷ us) → IsNumberedUnit bytes number group u
+first_unit : {bytes : List ℕ} {at : Onward} {u : PictureUnit} {us : List PictureUnit} → AreFrom bytes at (u ∷ us)
+    → IsNumberedUnit bytes at u
 first_unit {bytes} {u} {us} are = record {
+  begins = are.chained.0;
   lies = record {
     unit = are.each.0;
     ends = chain-ends bytes u.to us are.each.1 are.chained.1;
@@ -276,41 +274,35 @@ first_unit {bytes} {u} {us} are = record {
   shown = are.presented.0;
 }
 
-rest_units : {bytes : List ℕ} {from number group : ℕ} {u : PictureUnit} {us : List PictureUnit} →
-    AreFrom bytes from number group (u ∷ us) → AreFrom bytes u.to (number + 1) (cond u.starts_group number group) us
+rest_units : {bytes : List ℕ} {at : Onward} {u : PictureUnit} {us : List PictureUnit} → AreFrom bytes at (u ∷ us)
+    → AreFrom bytes (after_unit at u) us
 rest_units are = record { each = are.each.1; chained = are.chained.1; presented = are.presented.1 }
 
-lists-same : {bytes : List ℕ} {from number group : ℕ} {us vs : List PictureUnit} → AreFrom bytes from number group us →
-    AreFrom bytes from number group vs → us ≡ vs
+lists-same : {bytes : List ℕ} {at : Onward} {us vs : List PictureUnit} → AreFrom bytes at us → AreFrom bytes at vs
+    → us ≡ vs
 lists-same {us = []} {vs = []} one other = refl
-lists-same {bytes} {from} {us = []} {vs = v ∷ vs} one other =
-    absurd (not-at-end bytes from v other.each.0 other.chained.0 one.chained)
-lists-same {bytes} {from} {us = u ∷ us} {vs = []} one other =
-    absurd (not-at-end bytes from u one.each.0 one.chained.0 other.chained)
-lists-same {bytes} {number} {group} {us = u ∷ us} {vs = v ∷ vs} one other =
-    let e : u ≡ v = units-same (first_unit one) (first_unit other) (one.chained.0 ∙ sym other.chained.0) in
-    let rest : us ≡ vs =
-    lists-same {from = v.to} {number = number + 1} {group = cond v.starts_group number group} {us = us}
-    {vs = vs} (subst (λ (w : PictureUnit).
-    AreFrom bytes w.to (number + 1) (cond w.starts_group number group) us) e (rest_units one)) (rest_units other) in
+lists-same {bytes} {at} {us = []} {vs = v ∷ vs} one other =
+    absurd (not-at-end bytes at.from v other.each.0 other.chained.0 one.chained)
+lists-same {bytes} {at} {us = u ∷ us} {vs = []} one other =
+    absurd (not-at-end bytes at.from u one.each.0 one.chained.0 other.chained)
+lists-same {bytes} {at} {us = u ∷ us} {vs = v ∷ vs} one other =
+    let e : u ≡ v = units-same (first_unit one) (first_unit other) in
+    let rest : us ≡ vs = lists-same {at = after_unit at v} {us = us} {vs = vs}
+    (subst (λ (w : PictureUnit). AreFrom bytes (after_unit at w) us) e (rest_units one)) (rest_units other) in
     ap (λ (w : PictureUnit). w ∷ us) e ∙ ap (λ (l : List PictureUnit). v ∷ l) rest
-
-one-first : {bytes : List ℕ} {p q : ℕ} → StandsThere (IsCodeAt bytes) p AnyValue →
-    IsFirstCode (IsCodeAt bytes) p → StandsThere (IsCodeAt bytes) q AnyValue →
-    IsFirstCode (IsCodeAt bytes) q → p ≡ q
-one-first {p} {q} here first there also =
-    omega (arith, first q there.0 there.1.0, also p here.0 here.1.0)
 
 pub one-list : (bytes : List ℕ) (units others : List PictureUnit) → AreUnitsOf bytes units →
     AreUnitsOf bytes others → units ≡ others
 one-list bytes units others one other =
-    let from = one-first other.code other.first one.code one.first in
-    let left : AreFrom bytes one.from 0 0 units = record {
-      each = all-of bytes units one.each;
-      chained = one.chained;
-      presented = one.presented;
-    } in
-    let right : AreFrom bytes one.from 0 0 others = record {
+    let from : other.from ≡ one.from = omega (
+      arith,
+      other.first one.from one.code.0 one.code.1.0,
+      one.first other.from other.code.0 other.code.1.0,
+    ) in
+    let at : Onward = record { from = one.from; number = 0; group = 0 } in
+    let left : AreFrom bytes at units =
+    record { each = all-of bytes units one.each; chained = one.chained; presented = one.presented } in
+    let right : AreFrom bytes at others = record {
       each = all-of bytes others other.each;
       chained = subst (λ p. AreChained p others (length bytes)) from other.chained;
       presented = other.presented;
