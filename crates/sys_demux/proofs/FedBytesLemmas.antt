@@ -16,7 +16,7 @@ use Rattle.sys_demux.specs.SystemStreams.{IsTruncatedItem, IsEnd, IsFault, IsSys
 use Rattle.sys_demux.specs.SystemStreams.{IsBadByte, IsBadPacket, IsBadValue}
 use Rattle.sys_demux.specs.ValidStates.{least_rest, is_sound}
 use Rattle.sys_demux.specs.ParserStates.{video_from, IsAtPrefix, IsAtHeader, IsAtZeros, IsAtRest, IsShown}
-use Rattle.sys_demux.specs.ParserStates.{IsPart, LeadsTo, IsReached, end_fault, fault_at, begins_at}
+use Rattle.sys_demux.specs.ParserStates.{IsPart, LeadsTo, IsReached, Part, Reading, end_fault, fault_at, part_after}
 use Rattle.sys_demux.specs.declared.faults.SystemFault.{SystemFault}
 use Rattle.sys_demux.specs.declared.faults.SystemFault.TheVariants.{NotPack, BadCode, BadPacket}
 use Rattle.sys_demux.specs.declared.faults.SystemFault.TheVariants.{Truncated}
@@ -53,11 +53,10 @@ bytes_more items item =
     ∙ ap (λ (l : List ℕ). bytes_of items ++ l) (append-nil (item_bytes item))
 
 -- a part that leads to a state, after items
-pub reached_leads : {place : ℕ} {now : Option ℕ} {part kept : List ℕ} {state : ParserState} (items : List Item)
-    → AreItems None items →
-    LeadsTo (begins_at (chosen_after None items) (length (bytes_of items))) place now part kept state
-    → IsReached state place now (bytes_of items ++ part) (video_of None items ++ kept)
-reached_leads {place} {part} {kept} items are (inl is) = record {
+reached_leads : (a : Reading) (items : List Item) (part kept : List ℕ) → AreItems None items
+    → LeadsTo (part_after items a part kept) a.state
+    → IsReached (record a { seen = bytes_of items ++ part; video = video_of None items ++ kept })
+reached_leads a items part kept are (inl is) = record {
   items = items;
   part = part;
   kept = kept;
@@ -66,10 +65,10 @@ reached_leads {place} {part} {kept} items are (inl is) = record {
   video_is = refl;
   is_part = is;
 }
-reached_leads {place} {now} {part} {kept} items are (inr done) =
+reached_leads a items part kept are (inr done) =
     let d = done.1.0 in
     let all = items ++ d.item ∷ [] in
-    let at_zeros : IsAtZeros (chosen_after None all) 0 now [] [] = record {
+    let at_zeros : IsAtZeros (part_after all a [] []) 0 = record {
       count = 0;
       are = refl;
       zeros_are = omega arith;
@@ -85,51 +84,52 @@ reached_leads {place} {now} {part} {kept} items are (inr done) =
           ∙ sym (append-nil (bytes_of all));
       video_is = ap (λ (l : List ℕ). video_of None items ++ l) (sym d.video_is)
           ∙ sym (video_more None items d.item) ∙ sym (append-nil (video_of None all));
-      is_part =
-          subst (λ s. IsPart (begins_at (chosen_after None all) (length (bytes_of all))) place now [] [] s)
-          (sym done.1.1) at_zeros;
+      is_part = subst (λ s. IsPart (part_after all a [] []) s) (sym done.1.1) at_zeros;
     }
 
--- bytes more
-pub step : {state next : ParserState} {place place' : ℕ} {now now' : Option ℕ} {seen video : List ℕ}
-    (bytes more : List ℕ) → IsReached state place now seen video →
-    ((chosen : Option ℕ) (start : ℕ) (part kept : List ℕ) → start + length part ≡ length seen →
-    IsPart (begins_at chosen start) place now part kept state
-    → LeadsTo (begins_at chosen start) place' now' (part ++ bytes) (kept ++ more) next) →
-    IsReached next place' now' (seen ++ bytes) (video ++ more)
-step {next} {place} {place'} {now'} {seen} {video} bytes more r leads =
-    let size : length (bytes_of r.items) + length r.part ≡ length seen =
-    sym (ap length r.seen_is ∙ length-append (bytes_of r.items) r.part) in
-    let after = reached_leads r.items r.are
-    (leads (chosen_after None r.items) (length (bytes_of r.items)) r.part r.kept size r.is_part) in
-    let seen_is : bytes_of r.items ++ (r.part ++ bytes) ≡ seen ++ bytes =
-    sym (append_assoc (bytes_of r.items) r.part bytes) ∙ ap (λ (l : List ℕ). l ++ bytes) (sym r.seen_is) in
-    let video_is : video_of None r.items ++ (r.kept ++ more) ≡ video ++ more =
-    sym (append_assoc (video_of None r.items) r.kept more) ∙ ap (λ (l : List ℕ). l ++ more) (sym r.video_is) in
-    subst (λ (s : List ℕ). IsReached next place' now' s (video ++ more)) seen_is
-    (subst (λ (v : List ℕ). IsReached next place' now' (bytes_of r.items ++ (r.part ++ bytes)) v) video_is after)
+-- what is read leaves this part
+abbrev pub part_of : {a : Reading} → IsReached a → Part
+part_of {a} r = part_after r.items a r.part r.kept
 
--- one byte more, and no video
-pub step_byte : {state next : ParserState} {place place' : ℕ} {now now' : Option ℕ} {seen video : List ℕ} (byte : ℕ) →
-    IsReached state place now seen video →
-    ((chosen : Option ℕ) (start : ℕ) (part kept : List ℕ) → start + length part ≡ length seen →
-    IsPart (begins_at chosen start) place now part kept state
-    → LeadsTo (begins_at chosen start) place' now' (part ++ byte ∷ []) kept next) →
-    IsReached next place' now' (seen ++ byte ∷ []) video
-step_byte {next} {place} {place'} {now'} {seen} {video} byte r leads =
-    let more = step (byte ∷ []) [] r (λ chosen start part kept size is.
-    subst (λ (k : List ℕ). LeadsTo (begins_at chosen start) place' now' (part ++ byte ∷ []) k next)
-    (sym (append-nil kept))
-    (leads chosen start part kept size is)) in
-    subst (λ (v : List ℕ). IsReached next place' now' (seen ++ byte ∷ []) v) (append-nil video) more
+pub part_size : {a : Reading} (r : IsReached a) → (part_of r).after.start + length (part_of r).bytes ≡ length a.seen
+part_size r = sym (ap length r.seen_is ∙ length-append (bytes_of r.items) r.part)
 
-pub moved : {state state' : ParserState} {place place' : ℕ} {now now' : Option ℕ} {seen video : List ℕ}
-    → state ≡ state' → place ≡ place' → now ≡ now' → IsReached state' place' now' seen video
-    → IsReached state place now seen video
-moved {state'} {place} {place'} {now} {seen} {video} s p n r =
-    subst (λ x. IsReached x place now seen video) (sym s)
-    (subst (λ x. IsReached state' x now seen video) (sym p)
-    (subst (λ x. IsReached state' place' x seen video) (sym n) r))
+-- bytes more, and the video in them
+pub step : {a : Reading} (r : IsReached a) (b : Reading)
+    → LeadsTo (part_after r.items b (r.part ++ b.seen) (r.kept ++ b.video)) b.state
+    → IsReached (record b { seen = a.seen ++ b.seen; video = a.video ++ b.video })
+step {a} r b leads =
+    let after = reached_leads b r.items (r.part ++ b.seen) (r.kept ++ b.video) r.are leads in
+    let seen_is : bytes_of r.items ++ (r.part ++ b.seen) ≡ a.seen ++ b.seen =
+    sym (append_assoc (bytes_of r.items) r.part b.seen) ∙ ap (λ (l : List ℕ). l ++ b.seen) (sym r.seen_is) in
+    let video_is : video_of None r.items ++ (r.kept ++ b.video) ≡ a.video ++ b.video =
+    sym (append_assoc (video_of None r.items) r.kept b.video) ∙ ap (λ (l : List ℕ). l ++ b.video) (sym r.video_is) in
+    subst (λ (s : List ℕ). IsReached (record b { seen = s; video = a.video ++ b.video })) seen_is
+    (subst (λ (v : List ℕ). IsReached (record b { seen = bytes_of r.items ++ (r.part ++ b.seen); video = v }))
+    video_is after)
+
+-- bytes more without video
+pub step_none : {a : Reading} (r : IsReached a) (b : Reading)
+    → LeadsTo (part_after r.items b (r.part ++ b.seen) r.kept) b.state
+    → IsReached (record b { seen = a.seen ++ b.seen; video = a.video })
+step_none {a} r b leads =
+    let none : Reading = record b { video = [] } in
+    let more = step r none (subst (λ (k : List ℕ). LeadsTo (part_after r.items b (r.part ++ b.seen) k) b.state)
+    (sym (append-nil r.kept)) leads) in
+    subst (λ (v : List ℕ). IsReached (record b { seen = a.seen ++ b.seen; video = v })) (append-nil a.video) more
+
+-- the same state, place and stream_id
+pub record IsSameState (a b : Reading) : Type 0 where
+  pub state : a.state ≡ b.state
+  pub place : a.place ≡ b.place
+  pub now : a.now ≡ b.now
+
+pub moved : {a b : Reading} → IsSameState a b → IsReached b
+    → IsReached (record a { seen = b.seen; video = b.video })
+moved {a} {b} same r =
+    subst (λ x. IsReached (record b { state = x; place = a.place; now = a.now })) (sym same.state)
+    (subst (λ x. IsReached (record b { place = x; now = a.now })) (sym same.place)
+    (subst (λ x. IsReached (record b { now = x })) (sym same.now) r))
 
 -- a fault that bytes show stays
 more_after : (tail front rest more : List ℕ) → tail ≡ front ++ rest → tail ++ more ≡ front ++ (rest ++ more)
@@ -204,13 +204,13 @@ fault_stays {fault = BadCode place} more shows =
 fault_stays {fault = BadPacket place} more shows = bad_packet_stays more shows.fault_is
 fault_stays {fault = Truncated place} more shows = absurd shows.shown
 
-pub failed_refused : {fault : SystemFault} {place : ℕ} {now : Option ℕ} {seen video : List ℕ} (more : List ℕ)
-    → IsReached (Failed fault) place now seen video → IsBadStream (seen ++ more) fault
-failed_refused {fault} {place} {seen} more r = record {
+pub failed_refused : {fault : SystemFault} (a : Reading) (more : List ℕ)
+    → IsReached (record a { state = Failed fault }) → IsBadStream (a.seen ++ more) fault
+failed_refused {fault} a more r = record {
   items = r.items;
   tail = r.part ++ more;
   are = r.are;
-  bytes_are = more_after seen (bytes_of r.items) r.part more r.seen_is;
+  bytes_are = more_after a.seen (bytes_of r.items) r.part more r.seen_is;
   fault_is = fault_stays {chosen = chosen_after None r.items} {start = length (bytes_of r.items)}
       {tail = r.part} {fault = fault} more
       (record { shown = r.is_part.2; fault_is = r.is_part.0 });
@@ -261,10 +261,9 @@ can_end (Rest count) left enough = record {
       (le-leb count (length (replicate left 0)) (omega (arith, length-replicate {A = ℕ} left 0, enough)));
 }
 
-header_cut : {chosen : Option ℕ} {start place : ℕ} {now : Option ℕ} {part kept : List ℕ} {header : Header}
-    {left : ℕ} → IsAtHeader chosen start place now part kept header left →
-    0 < least_rest header → least_rest header ≤ left → IsTruncatedItem chosen start part place
-header_cut {start} {place} {kept} {header} {left} h some enough =
+header_cut : {p : Part} {header : Header} {left : ℕ} → IsAtHeader p header left → 0 < least_rest header
+    → least_rest header ≤ left → IsTruncatedItem p.after.chosen p.after.start p.bytes p.place
+header_cut {header} {left} h some enough =
     let end = can_end header left enough in
     let found : video_in (h.front ++ end.rest) ≡ Some end.video = h.video_is end.rest end.long ∙ end.is in
     record {
@@ -283,10 +282,9 @@ header_cut {start} {place} {kept} {header} {left} h some enough =
       place_is = h.place_is;
     }
 
-rest_cut : {chosen : Option ℕ} {start place : ℕ} {now : Option ℕ} {part kept : List ℕ} {left : ℕ}
-    {video : List ℕ → List ℕ} → IsAtRest chosen start place now part kept left video → IsTruncatedItem chosen start part
-    place
-rest_cut {start} {place} {kept} {left} h =
+rest_cut : {p : Part} {left : ℕ} {video : List ℕ → List ℕ} → IsAtRest p left video
+    → IsTruncatedItem p.after.chosen p.after.start p.bytes p.place
+rest_cut {p} {left} h =
     let size = length-replicate {A = ℕ} left 0 in
     let d = h.ends (replicate left 0) size in
     record {
@@ -296,7 +294,7 @@ rest_cut {start} {place} {kept} {left} h =
       is = d.bytes_are;
       begun = omega (arith, h.begun, d.zeros_are);
       some = omega (arith, size, h.some);
-      place_is = h.place_is ∙ ap (λ n. start + n) (sym d.zeros_are);
+      place_is = h.place_is ∙ ap (λ n. p.after.start + n) (sym d.zeros_are);
     }
 
 pack_whole : IsPack (32 ∷ replicate 7 0)
@@ -311,17 +309,16 @@ record WholeItem (chosen : Option ℕ) (rest : List ℕ) : Type 0 where
   bytes_are : (zeros : ℕ) → item_bytes (item zeros) ≡ with_prefix zeros (rest ++ lacking)
   some : 0 < length lacking
 
-prefix_cut : {chosen : Option ℕ} {start place : ℕ} {now wanted : Option ℕ} {rest part kept : List ℕ} →
-    IsAtPrefix start place rest now wanted part kept →
-    WholeItem chosen rest → IsTruncatedItem chosen start part place
-prefix_cut {start} {rest} h whole = record {
+prefix_cut : {p : Part} {rest : List ℕ} {wanted : Option ℕ} → IsAtPrefix p rest wanted
+    → WholeItem p.after.chosen rest → IsTruncatedItem p.after.chosen p.after.start p.bytes p.place
+prefix_cut {p} {rest} h whole = record {
   item = item h.zeros;
   lacking = lacking;
   is_item = is_item h.zeros;
   is = bytes_are h.zeros ∙ sym (ap (λ (l : List ℕ). l ++ lacking) h.are ∙ prefixed_more h.zeros rest lacking);
   begun = omega (arith, zeros_are h.zeros, ap length h.are, length_prefixed h.zeros rest);
   some = some;
-  place_is = h.place_is ∙ ap (λ n. start + n) (sym (zeros_are h.zeros));
+  place_is = h.place_is ∙ ap (λ n. p.after.start + n) (sym (zeros_are h.zeros));
 }
   where
     open whole use {lacking, item, is_item, zeros_are, bytes_are, some}
@@ -378,69 +375,60 @@ high_lacks chosen value value_is = record {
 }
 
 -- the stream ends inside an item
-inside_cut : {fault : SystemFault} {state : ParserState} {place : ℕ} {now : Option ℕ} {seen video : List ℕ}
-    (r : IsReached state place now seen video) → is_sound state ≡ true →
-    end_fault state place ≡ Some fault → IsFault (chosen_after None r.items) (length (bytes_of r.items)) r.part fault
-inside_cut {fault} {state = Zeros zeros} r sound ends = absurd (none-some fault ends)
-inside_cut {fault} {state = Value} {place} r sound ends =
-    subst (IsFault (chosen_after None r.items) (length (bytes_of r.items)) r.part)
-    (same_Some (Truncated place) fault ends) (prefix_cut r.is_part value_lacks)
-inside_cut {fault} {state = Mark} {place} r sound ends =
-    subst (IsFault (chosen_after None r.items) (length (bytes_of r.items)) r.part)
-    (same_Some (Truncated place) fault ends) (prefix_cut r.is_part pack_lacks)
-inside_cut {fault} {state = High value} {place} r sound ends =
-    subst (IsFault (chosen_after None r.items) (length (bytes_of r.items)) r.part)
-    (same_Some (Truncated place) fault ends)
-    (prefix_cut r.is_part.0 (high_lacks (chosen_after None r.items) value r.is_part.1))
-inside_cut {fault} {state = Low value high} {place} r sound ends =
-    subst (IsFault (chosen_after None r.items) (length (bytes_of r.items)) r.part)
-    (same_Some (Truncated place) fault ends)
-    (prefix_cut r.is_part.0 (low_lacks (chosen_after None r.items) value high r.is_part.1))
-inside_cut {fault} {state = InHeader header left} {place} r sound ends =
+inside_cut : {fault : SystemFault} (p : Part) (state : ParserState) → IsPart p state → is_sound state ≡ true
+    → end_fault state p.place ≡ Some fault → IsFault p.after.chosen p.after.start p.bytes fault
+inside_cut {fault} p (Zeros zeros) is sound ends = absurd (none-some fault ends)
+inside_cut {fault} p Value is sound ends =
+    subst (IsFault p.after.chosen p.after.start p.bytes) (same_Some (Truncated p.place) fault ends)
+    (prefix_cut is value_lacks)
+inside_cut {fault} p Mark is sound ends =
+    subst (IsFault p.after.chosen p.after.start p.bytes) (same_Some (Truncated p.place) fault ends)
+    (prefix_cut is pack_lacks)
+inside_cut {fault} p (High value) is sound ends =
+    subst (IsFault p.after.chosen p.after.start p.bytes) (same_Some (Truncated p.place) fault ends)
+    (prefix_cut is.0 (high_lacks p.after.chosen value is.1))
+inside_cut {fault} p (Low value high) is sound ends =
+    subst (IsFault p.after.chosen p.after.start p.bytes) (same_Some (Truncated p.place) fault ends)
+    (prefix_cut is.0 (low_lacks p.after.chosen value high is.1))
+inside_cut {fault} p (InHeader header left) is sound ends =
     let enough = sound_header header left sound in
-    subst (IsFault (chosen_after None r.items) (length (bytes_of r.items)) r.part)
-    (same_Some (Truncated place) fault ends) (header_cut r.is_part enough.0 enough.1)
-inside_cut {fault} {state = Pass left} {place} r sound ends =
-    subst (IsFault (chosen_after None r.items) (length (bytes_of r.items)) r.part)
-    (same_Some (Truncated place) fault ends) (rest_cut r.is_part)
-inside_cut {fault} {state = Video left} {place} r sound ends =
-    subst (IsFault (chosen_after None r.items) (length (bytes_of r.items)) r.part)
-    (same_Some (Truncated place) fault ends) (rest_cut r.is_part)
-inside_cut {fault} {state = End} r sound ends = absurd (none-some fault ends)
-inside_cut {fault} {state = Failed other} r sound ends =
-    subst (IsFault (chosen_after None r.items) (length (bytes_of r.items)) r.part)
-    (same_Some other fault ends) r.is_part.0
+    subst (IsFault p.after.chosen p.after.start p.bytes) (same_Some (Truncated p.place) fault ends)
+    (header_cut is enough.0 enough.1)
+inside_cut {fault} p (Pass left) is sound ends =
+    subst (IsFault p.after.chosen p.after.start p.bytes) (same_Some (Truncated p.place) fault ends) (rest_cut is)
+inside_cut {fault} p (Video left) is sound ends =
+    subst (IsFault p.after.chosen p.after.start p.bytes) (same_Some (Truncated p.place) fault ends) (rest_cut is)
+inside_cut {fault} p End is sound ends = absurd (none-some fault ends)
+inside_cut {fault} p (Failed other) is sound ends =
+    subst (IsFault p.after.chosen p.after.start p.bytes) (same_Some other fault ends) is.0
 
-pub ended_refused : {state : ParserState} {place : ℕ} {now : Option ℕ} {seen video : List ℕ} {fault : SystemFault}
-    → is_sound state ≡ true → IsReached state place now seen video → end_fault state place ≡ Some fault
-    → IsBadStream seen fault
-ended_refused sound r ends = record {
+pub ended_refused : {a : Reading} {fault : SystemFault} → is_sound a.state ≡ true → IsReached a
+    → end_fault a.state a.place ≡ Some fault → IsBadStream a.seen fault
+ended_refused {a} sound r ends = record {
   items = r.items;
   tail = r.part;
   are = r.are;
   bytes_are = r.seen_is;
-  fault_is = inside_cut r sound ends;
+  fault_is = inside_cut (part_of r) a.state r.is_part sound ends;
 }
 
 -- the stream ends where it may
-at_end : {state : ParserState} {place : ℕ} {now : Option ℕ} {seen video : List ℕ}
-    (r : IsReached state place now seen video) → end_fault state place ≡ None → IsEnd r.part × (r.kept ≡ [])
-at_end {state = Zeros zeros} r ends = (inl (record { count = r.is_part.count; are = r.is_part.are }), r.is_part.none)
-at_end {state = Value} {place} r ends = absurd (none-some (Truncated place) (sym ends))
-at_end {state = Mark} {place} r ends = absurd (none-some (Truncated place) (sym ends))
-at_end {state = High value} {place} r ends = absurd (none-some (Truncated place) (sym ends))
-at_end {state = Low value high} {place} r ends = absurd (none-some (Truncated place) (sym ends))
-at_end {state = InHeader header left} {place} r ends = absurd (none-some (Truncated place) (sym ends))
-at_end {state = Pass left} {place} r ends = absurd (none-some (Truncated place) (sym ends))
-at_end {state = Video left} {place} r ends = absurd (none-some (Truncated place) (sym ends))
-at_end {state = End} r ends =
-    (inr (record { zeros = r.is_part.zeros; rest = r.is_part.rest; is = r.is_part.are }), r.is_part.none)
-at_end {state = Failed fault} r ends = absurd (none-some fault (sym ends))
+at_end : (p : Part) (state : ParserState) → IsPart p state → end_fault state p.place ≡ None
+    → IsEnd p.bytes × (p.kept ≡ [])
+at_end p (Zeros zeros) is ends = (inl (record { count = is.count; are = is.are }), is.none)
+at_end p Value is ends = absurd (none-some (Truncated p.place) (sym ends))
+at_end p Mark is ends = absurd (none-some (Truncated p.place) (sym ends))
+at_end p (High value) is ends = absurd (none-some (Truncated p.place) (sym ends))
+at_end p (Low value high) is ends = absurd (none-some (Truncated p.place) (sym ends))
+at_end p (InHeader header left) is ends = absurd (none-some (Truncated p.place) (sym ends))
+at_end p (Pass left) is ends = absurd (none-some (Truncated p.place) (sym ends))
+at_end p (Video left) is ends = absurd (none-some (Truncated p.place) (sym ends))
+at_end p End is ends = (inr (record { zeros = is.zeros; rest = is.rest; is = is.are }), is.none)
+at_end p (Failed fault) is ends = absurd (none-some fault (sym ends))
 
-pub ended_system : {state : ParserState} {place : ℕ} {now : Option ℕ} {seen video : List ℕ}
-    → IsReached state place now seen video → end_fault state place ≡ None → IsSystem seen video
-ended_system r ends =
-    let end = at_end r ends in
+pub ended_system : {a : Reading} → IsReached a → end_fault a.state a.place ≡ None → IsSystem a.seen a.video
+ended_system {a} r ends =
+    let end = at_end (part_of r) a.state r.is_part ends in
     record {
       items = r.items;
       tail = r.part;

@@ -12,9 +12,10 @@ use Rattle.sys_demux.specs.StreamItems.{with_prefix, choose, is_chosen}
 use Rattle.sys_demux.specs.StreamItems.Item.{Pack, Packet}
 use Rattle.sys_demux.specs.SystemStreams.{IsBadPacket}
 use Rattle.sys_demux.specs.ParserStates.{video_from, IsDone, IsAtZeros, IsAtPrefix, IsAtHeader, IsAtRest}
-use Rattle.sys_demux.specs.ParserStates.{IsPart, LeadsTo, place_in, begins_at}
+use Rattle.sys_demux.specs.ParserStates.{IsPart, LeadsTo, Part, of_item, place_in, with_byte}
 use Rattle.sys_demux.specs.declared.faults.SystemFault.TheVariants.{BadPacket}
 use Rattle.sys_demux.specs.declared.headers.Header.{Header}
+use Rattle.sys_demux.specs.declared.parser_states.ParserState.{ParserState}
 use Rattle.sys_demux.specs.declared.headers.Header.TheVariants.{Stuffing, Second, Stamp, Rest}
 use Rattle.sys_demux.specs.declared.parser_states.ParserState.TheVariants.{Zeros, InHeader, Pass, Video, Failed}
 
@@ -26,26 +27,24 @@ length_prefixed zeros rest =
     length-append (replicate zeros 0) (0 ∷ 0 ∷ 1 ∷ rest) ∙ omega (arith, length-replicate {A = ℕ} zeros 0)
 
 -- bytes 00
-pub zeros_more : {chosen : Option ℕ} {zeros byte least : ℕ} {now : Option ℕ} {part kept : List ℕ} →
-    IsAtZeros chosen zeros now part kept → byte ≡ 0 → least ≡ min zeros 1 →
-    IsAtZeros chosen (least + 1) now (part ++ byte ∷ []) kept
-zeros_more {byte} {kept} h zero_is least_is = record {
+pub zeros_more : {p : Part} {zeros byte : ℕ} → IsAtZeros p zeros → byte ≡ 0
+    → IsAtZeros (with_byte p byte) (min zeros 1 + 1)
+zeros_more {byte} h zero_is = record {
   count = h.count + 1;
   are =
       ap (λ (l : List ℕ). l ++ byte ∷ []) h.are ∙ ap (λ b. replicate h.count 0 ++ b ∷ []) zero_is
       ∙ replicate_more h.count 0;
-  zeros_are = omega (arith, least_is, h.zeros_are);
+  zeros_are = omega (arith, h.zeros_are);
   now_is = h.now_is;
   none = h.none;
 }
 
 -- a prefix after two of them or more
-pub zeros_prefix : {chosen : Option ℕ} {zeros byte at start : ℕ} {now : Option ℕ} {part kept : List ℕ} →
-    IsAtZeros chosen zeros now part kept → byte ≡ 1 → 2 ≤ zeros → at ≡ start + length part →
-    IsAtPrefix start (at - 2) [] now chosen (part ++ byte ∷ []) kept
-zeros_prefix {byte} {at} {start} {part} {kept} h one many at_is =
+pub zeros_prefix : {p : Part} {zeros byte : ℕ} → IsAtZeros p zeros → byte ≡ 1 → 2 ≤ zeros
+    → IsAtPrefix (with_byte (of_item p (p.after.start + length p.bytes - 2)) byte) [] p.after.chosen
+zeros_prefix {p} {byte} h one many =
     let two : 2 ≤ h.count = omega (arith, many, h.zeros_are) in
-    let size : length part ≡ h.count = ap length h.are ∙ length-replicate {A = ℕ} h.count 0 in
+    let size : length p.bytes ≡ h.count = ap length h.are ∙ length-replicate {A = ℕ} h.count 0 in
     let split : replicate {A = ℕ} h.count 0 ≡ replicate (h.count - 2) 0 ++ (0 ∷ 0 ∷ []) =
     ap (λ n. replicate n 0) (let n : h.count ≡ h.count - 2 + 2 = omega arith in n)
     ∙ sym (replicate-append-replicate (h.count - 2) 2 0) in
@@ -54,17 +53,16 @@ zeros_prefix {byte} {at} {start} {part} {kept} h one many at_is =
       are = ap (λ (l : List ℕ). l ++ byte ∷ []) (h.are ∙ split)
           ∙ ap (λ b. (replicate (h.count - 2) 0 ++ (0 ∷ 0 ∷ [])) ++ b ∷ []) one
           ∙ append_assoc (replicate (h.count - 2) 0) (0 ∷ 0 ∷ []) (1 ∷ []);
-      place_is = omega (arith, two, size, at_is);
+      place_is = omega (arith, two, size);
       now_is = h.now_is;
       none = h.none;
     }
 
 -- a pack header
-pub pack_begins : {chosen : Option ℕ} {start place : ℕ} {now : Option ℕ} {part kept : List ℕ} (mark : ℕ) →
-    IsAtPrefix start place (186 ∷ []) now chosen part kept → mark / 16 ≡ 2 →
-    IsAtRest chosen start place now (part ++ mark ∷ []) kept 7 (λ rest. [])
-pack_begins {start} {place} {part} {kept} mark h is =
-    let grown : part ++ mark ∷ [] ≡ with_prefix h.zeros (186 ∷ mark ∷ []) =
+pub pack_begins : {p : Part} (mark : ℕ) → IsAtPrefix p (186 ∷ []) p.after.chosen → mark / 16 ≡ 2
+    → IsAtRest (with_byte p mark) 7 (λ rest. [])
+pack_begins {p} mark h is =
+    let grown : p.bytes ++ mark ∷ [] ≡ with_prefix h.zeros (186 ∷ mark ∷ []) =
     ap (λ (l : List ℕ). l ++ mark ∷ []) h.are ∙ prefixed_more h.zeros (186 ∷ []) (mark ∷ []) in
     record {
       zeros = h.zeros;
@@ -81,136 +79,181 @@ pack_begins {start} {place} {part} {kept} mark h is =
       place_is = h.place_is;
     }
 
--- a complete packet of another stream
-other_done : {before : Option ℕ} {value high start place : ℕ} {now : Option ℕ} {part kept : List ℕ} (low : ℕ)
-    (rest : List ℕ) → (h : IsAtPrefix start place (value ∷ high ∷ []) now (choose before value) part kept)
-    → 187 ≤ value → is_chosen (choose before value) value ≡ false → length rest ≡ high * 256 + low
-    → IsDone before h.zeros now ((part ++ low ∷ []) ++ rest) kept
-other_done {before} {value} {high} {start} {place} {kept} low rest h value_is other long = record {
-  item = Packet h.zeros value high low rest;
-  is_item = record {
-    value_is = value_is;
-    length_is = long;
-    header = λ chosen. absurd (both_ways (is_chosen (choose before value) value) other chosen);
-  };
-  bytes_are = sym
-      (ap (λ (l : List ℕ). (l ++ low ∷ []) ++ rest) h.are
-      ∙ ap (λ (l : List ℕ). l ++ rest) (prefixed_more h.zeros (value ∷ high ∷ []) (low ∷ []))
-      ∙ prefixed_more h.zeros (value ∷ high ∷ low ∷ []) rest);
-  zeros_are = refl;
-  next_is = sym h.now_is;
-  video_is = cond-false (is_chosen (choose before value) value) (unwrap_or (video_in rest) []) [] other ∙ sym h.none;
-}
+-- a part that so many bytes end, none or more
+pub record HasRest (p : Part) (left : ℕ) (video : List ℕ → List ℕ) : Type 0 where
+  pub zeros : ℕ
+  pub begun : zeros + 3 ≤ length p.bytes
+  pub ends : (rest : List ℕ) → length rest ≡ left →
+      IsDone (record p { bytes = p.bytes ++ rest; kept = p.kept ++ video rest }) zeros
+  pub place_is : p.place ≡ p.after.start + zeros
 
-length_more : {part : List ℕ} (rest : List ℕ) (zeros value high low : ℕ)
-    → part ≡ with_prefix zeros (value ∷ high ∷ []) → zeros + 3 ≤ length (part ++ low ∷ [])
-length_more {part} rest zeros value high low are =
-    omega (arith, ap length are, length_prefixed zeros (value ∷ high ∷ []), length-append part (low ∷ []))
-
-pub length_passed : {before : Option ℕ} {value high total start place : ℕ} {now : Option ℕ} {part kept : List ℕ}
-    (low : ℕ) → IsAtPrefix start place (value ∷ high ∷ []) now (choose before value) part kept → 187 ≤ value →
-    is_chosen (choose before value) value ≡ false → total ≡ high * 256 + low
-    → LeadsTo (begins_at before start) place now (part ++ low ∷ []) kept (cond (total == 0) (Zeros 0) (Pass total))
-length_passed {before} {value} {high} {total} {start} {place} {now} {part} {kept} low h value_is other total_is =
-    elim (cases_eq total 0) [
-      | inl none ↦ (
-          let empty : part ++ low ∷ [] ≡ (part ++ low ∷ []) ++ [] = sym (append-nil (part ++ low ∷ [])) in
-          let done = other_done low [] h value_is other (omega (arith, none, total_is)) in
+-- where there is none, an item ends
+rest_leads : {p : Part} {left : ℕ} {video : List ℕ → List ℕ} (state : ParserState) → HasRest p left video
+    → video [] ≡ [] → (IsAtRest p left video → IsPart p state) → LeadsTo p (cond (left == 0) (Zeros 0) state)
+rest_leads {p} {left} {video} state h none at =
+    elim (cases_eq left 0) [
+      | inl is ↦
+          (let done = h.ends [] (sym is) in
+          let bytes : p.bytes ++ [] ≡ p.bytes = append-nil p.bytes in
+          let kept : p.kept ++ video [] ≡ p.kept = ap (λ (l : List ℕ). p.kept ++ l) none ∙ append-nil p.kept in
           inr (
             h.zeros,
             (
-              subst (λ (l : List ℕ). IsDone before h.zeros now l kept) (sym empty) done,
-              cond-true (total == 0) (Zeros 0) (Pass total) (eq-eqb total 0 none),
+              subst (λ (l : List ℕ). IsDone (record p { bytes = l }) h.zeros) bytes
+                  (subst (λ (l : List ℕ). IsDone (record p { bytes = p.bytes ++ []; kept = l }) h.zeros) kept done),
+              cond-true (left == 0) (Zeros 0) state (eq-eqb left 0 is),
             ),
-          )
-          )
-      | inr some ↦ (
-          let at_rest : IsAtRest before start place now (part ++ low ∷ []) kept total (λ rest. []) = record {
+          ))
+      | inr some ↦
+          inl (subst (λ s. IsPart p s) (sym (cond-false (left == 0) (Zeros 0) state (ne_eqb left 0 some))) (at (record {
             zeros = h.zeros;
-            begun = length_more [] h.zeros value high low h.are;
+            begun = h.begun;
             some = omega (arith, some);
-            ends = λ rest long. subst (λ (l : List ℕ). IsDone before h.zeros now ((part ++ low ∷ []) ++ rest) l)
-                (sym (append-nil kept))
-                (other_done low rest h value_is other (long ∙ total_is));
+            ends = h.ends;
             place_is = h.place_is;
-          } in
-          inl (subst (λ s. IsPart (begins_at before start) place now (part ++ low ∷ []) kept s)
-          (sym (cond-false (total == 0) (Zeros 0) (Pass total) (ne_eqb total 0 some))) at_rest)
-          )
+          })))
     ]
 
--- the length of a packet of the chosen stream ends with this byte
-pub record LengthRead (before : Option ℕ) (start place : ℕ) (now : Option ℕ) (part kept : List ℕ)
-    (value low total : ℕ) : Type 0 where
-  pub high : ℕ
-  pub at_prefix : IsAtPrefix start place (value ∷ high ∷ []) now (choose before value) part kept
-  pub value_is : 187 ≤ value
-  pub chosen_is : is_chosen (choose before value) value ≡ true
-  pub total_is : total ≡ high * 256 + low
+pub pass_leads : {p : Part} {left : ℕ} → HasRest p left (λ rest. [])
+    → LeadsTo p (cond (left == 0) (Zeros 0) (Pass left))
+pass_leads {left} h = rest_leads (Pass left) h refl (λ at. at)
 
--- the packet has no content
-pub length_none : {before : Option ℕ} {start place : ℕ} {now : Option ℕ} {part kept : List ℕ}
-    {value low total : ℕ} → LengthRead before start place now part kept value low total →
-    total ≡ 0 → LeadsTo (begins_at before start) place now (part ++ low ∷ []) kept (Failed (BadPacket place))
+pub video_leads : {p : Part} {left : ℕ} → HasRest p left (λ rest. rest)
+    → LeadsTo p (cond (left == 0) (Zeros 0) (Video left))
+video_leads {left} h = rest_leads (Video left) h refl (λ at. at)
+
+-- bytes of the rest, of which all are video or none
+pub rest_more : {p : Part} {left : ℕ} {video : List ℕ → List ℕ} (taken : List ℕ) → IsAtRest p left video
+    → length taken ≤ left → ((rest : List ℕ) → video (taken ++ rest) ≡ video taken ++ video rest)
+    → HasRest (record p { bytes = p.bytes ++ taken; kept = p.kept ++ video taken }) (left - length taken) video
+rest_more {p} {left} {video} taken h within split = record {
+  zeros = h.zeros;
+  begun = omega (arith, h.begun, length-append p.bytes taken);
+  ends = λ rest long.
+      subst (λ (l : List ℕ). IsDone (record p {
+        bytes = l;
+        kept = (p.kept ++ video taken) ++ video rest;
+      }) h.zeros) (sym (append_assoc p.bytes taken rest))
+      (subst (λ (l : List ℕ). IsDone (record p { bytes = p.bytes ++ (taken ++ rest); kept = l }) h.zeros)
+      (ap (λ (l : List ℕ). p.kept ++ l) (split rest) ∙ sym (append_assoc p.kept (video taken) (video rest)))
+      (h.ends (taken ++ rest) (omega (arith, length-append taken rest, long, within))));
+  place_is = h.place_is;
+}
+
+-- the length of a packet ends with this byte
+pub record LengthRead (p : Part) : Type 0 where
+  pub value : ℕ
+  pub high : ℕ
+  pub low : ℕ
+  pub at_prefix : IsAtPrefix p (value ∷ high ∷ []) (choose p.after.chosen value)
+  pub value_is : 187 ≤ value
+
+abbrev pub total_of : {p : Part} → LengthRead p → ℕ
+total_of read = read.high * 256 + read.low
+
+length_grown : {p : Part} (read : LengthRead p)
+    → p.bytes ++ read.low ∷ [] ≡ with_prefix read.at_prefix.zeros (read.value ∷ read.high ∷ read.low ∷ [])
+length_grown read =
+    ap (λ (l : List ℕ). l ++ read.low ∷ []) read.at_prefix.are
+    ∙ prefixed_more read.at_prefix.zeros (read.value ∷ read.high ∷ []) (read.low ∷ [])
+
+-- a packet of another stream
+pub length_passed : {p : Part} (read : LengthRead p)
+    → is_chosen (choose p.after.chosen read.value) read.value ≡ false
+    → LeadsTo (with_byte p read.low) (cond (total_of read == 0) (Zeros 0) (Pass (total_of read)))
+length_passed {p} read other = pass_leads (record {
+  zeros = h.zeros;
+  begun = omega (arith, ap length grown, length_prefixed h.zeros (value ∷ high ∷ low ∷ []));
+  ends = λ rest long. record {
+    item = Packet h.zeros value high low rest;
+    is_item = record {
+      value_is = value_is;
+      length_is = long;
+      header = λ chosen. absurd (both_ways (is_chosen (choose p.after.chosen value) value) other chosen);
+    };
+    bytes_are = sym (ap (λ (l : List ℕ). l ++ rest) grown
+        ∙ prefixed_more h.zeros (value ∷ high ∷ low ∷ []) rest);
+    zeros_are = refl;
+    next_is = sym h.now_is;
+    video_is = cond-false (is_chosen (choose p.after.chosen value) value) (unwrap_or (video_in rest) []) [] other
+        ∙ sym (ap (λ (l : List ℕ). l ++ []) h.none);
+  };
+  place_is = h.place_is;
+})
+  where
+    open read use {value, high, low, at_prefix as h, value_is}
+
+    grown : p.bytes ++ low ∷ [] ≡ with_prefix h.zeros (value ∷ high ∷ low ∷ [])
+    grown = length_grown read
+
+-- a packet of the chosen stream has no content
+pub length_none : {p : Part} (read : LengthRead p)
+    → is_chosen (choose p.after.chosen read.value) read.value ≡ true → total_of read ≡ 0
+    → LeadsTo (with_byte p read.low) (Failed (BadPacket p.place))
 unfolding video_in
-length_none {before} {start} {place} {part} {value} {low} read none =
-    let bad : IsBadPacket before start (part ++ low ∷ []) place = record {
+length_none {p} read chosen none =
+    let bad : IsBadPacket p.after.chosen p.after.start (p.bytes ++ low ∷ []) p.place = record {
       zeros = h.zeros;
       value = value;
       high = high;
       low = low;
       front = [];
       rest = [];
-      is = ap (λ (l : List ℕ). l ++ low ∷ []) h.are ∙ prefixed_more h.zeros (value ∷ high ∷ []) (low ∷ []);
+      is = length_grown read;
       value_is = value_is;
-      chosen_is = chosen_is;
+      chosen_is = chosen;
       within = omega arith;
-      none =
-          λ more long. ap (λ (l : List ℕ). from_stuffing 16 l)
-          (nil_from_length more (omega (arith, long, total_is, none)));
+      none = λ more long. ap (λ (l : List ℕ). from_stuffing 16 l)
+          (nil_from_length more (omega (arith, long, none)));
       place_is = h.place_is;
     } in
     inl (bad, h.none, tt)
   where
-    open read use {high, at_prefix as h, value_is, chosen_is, total_is}
+    open read use {value, high, low, at_prefix as h, value_is}
 
--- the packet has some content
-pub length_header : {before : Option ℕ} {start place : ℕ} {now : Option ℕ} {part kept : List ℕ}
-    {value low total : ℕ} → LengthRead before start place now part kept value low total →
-    LeadsTo (begins_at before start) place now (part ++ low ∷ []) kept (InHeader (Stuffing 0) total)
+-- it has some content
+pub length_header : {p : Part} (read : LengthRead p)
+    → is_chosen (choose p.after.chosen read.value) read.value ≡ true
+    → LeadsTo (with_byte p read.low) (InHeader (Stuffing 0) (total_of read))
 unfolding video_in
-length_header {value} {low} read =
+length_header read chosen =
     inl (record {
       zeros = h.zeros;
       value = value;
       high = high;
       low = low;
       front = [];
-      are = ap (λ (l : List ℕ). l ++ low ∷ []) h.are ∙ prefixed_more h.zeros (value ∷ high ∷ []) (low ∷ []);
+      are = length_grown read;
       value_is = value_is;
-      chosen_is = chosen_is;
-      length_is = omega (arith, total_is);
+      chosen_is = chosen;
+      length_is = omega arith;
       video_is = λ rest long. refl;
       place_is = h.place_is;
       now_is = h.now_is;
       none = h.none;
     })
   where
-    open read use {high, at_prefix as h, value_is, chosen_is, total_is}
+    open read use {value, high, low, at_prefix as h, value_is}
 
 -- one byte more of a content
 front_more : {part : List ℕ} (zeros : ℕ) (front : List ℕ) (byte : ℕ) → part ≡ with_prefix zeros front
     → part ++ byte ∷ [] ≡ with_prefix zeros (front ++ byte ∷ [])
 front_more zeros front byte are = ap (λ (l : List ℕ). l ++ byte ∷ []) are ∙ prefixed_more zeros front (byte ∷ [])
 
+-- a byte of a header, with so many bytes of the packet after it
+pub record HeaderByte (p : Part) : Type 0 where
+  pub header : Header
+  pub byte : ℕ
+  pub left : ℕ
+  pub at : IsAtHeader p header (left + 1)
+
 -- a byte that no content has there
-pub header_bad : {chosen : Option ℕ} {start place left : ℕ} {now : Option ℕ} {part kept : List ℕ} {header : Header}
-    (byte : ℕ) → IsAtHeader chosen start place now part kept header (left + 1) →
-    ((rest : List ℕ) → length rest ≡ left → video_from header (byte ∷ rest) ≡ None)
-    → LeadsTo (begins_at chosen start) place now (part ++ byte ∷ []) kept (Failed (BadPacket place))
-header_bad {chosen} {start} {place} {left} {part} {kept} {header} byte h none =
+pub header_bad : {p : Part} (b : HeaderByte p)
+    → ((rest : List ℕ) → length rest ≡ b.left → video_from b.header (b.byte ∷ rest) ≡ None)
+    → LeadsTo (with_byte p b.byte) (Failed (BadPacket p.place))
+header_bad {p} b none =
     let size : length (h.front ++ byte ∷ []) ≡ length h.front + 1 = length-append h.front (byte ∷ []) in
-    let bad : IsBadPacket chosen start (part ++ byte ∷ []) place = record {
+    let bad : IsBadPacket p.after.chosen p.after.start (p.bytes ++ byte ∷ []) p.place = record {
       zeros = h.zeros;
       value = h.value;
       high = h.high;
@@ -230,15 +273,16 @@ header_bad {chosen} {start} {place} {left} {part} {kept} {header} byte h none =
       place_is = h.place_is;
     } in
     inl (bad, h.none, tt)
+  where
+    open b use {byte, at as h}
 
 -- a complete packet of the chosen stream
-chosen_done : {chosen : Option ℕ} {start place left : ℕ} {now : Option ℕ} {part kept video : List ℕ}
-    {header : Header} (byte : ℕ) (rest : List ℕ) → (h : IsAtHeader chosen start place now part kept header (left + 1)) →
-    length rest ≡ left → video_from header (byte ∷ rest) ≡ Some video
-    → IsDone chosen h.zeros now ((part ++ byte ∷ []) ++ rest) (kept ++ video)
-chosen_done {chosen} {start} {place} {left} {kept} {video} {header} byte rest h long is =
+chosen_done : {p : Part} (b : HeaderByte p) (rest : List ℕ) → length rest ≡ b.left
+    → video_from b.header (b.byte ∷ rest) ≡ Some rest
+    → IsDone (record p { bytes = (p.bytes ++ b.byte ∷ []) ++ rest; kept = p.kept ++ rest }) b.at.zeros
+chosen_done {p} b rest long is =
     let content = (h.front ++ byte ∷ []) ++ rest in
-    let found : video_in content ≡ Some video =
+    let found : video_in content ≡ Some rest =
     ap video_in (append_assoc h.front (byte ∷ []) rest) ∙ h.video_is (byte ∷ rest) (omega (arith, long)) ∙ is in
     let P : Option (List ℕ) → Type 0 = IsSome in
     record {
@@ -259,19 +303,20 @@ chosen_done {chosen} {start} {place} {left} {kept} {video} {header} byte rest h 
           ∙ prefixed_more h.zeros (h.value ∷ h.high ∷ h.low ∷ (h.front ++ byte ∷ [])) rest);
       zeros_are = refl;
       next_is = sym h.now_is;
-      video_is = cond-true (is_chosen (choose chosen h.value) h.value) (unwrap_or (video_in content) []) []
-          h.chosen_is ∙ ap (λ o. unwrap_or o []) found ∙ sym (ap (λ (l : List ℕ). l ++ video) h.none);
+      video_is = cond-true (is_chosen (choose p.after.chosen h.value) h.value) (unwrap_or (video_in content) []) []
+          h.chosen_is ∙ ap (λ o. unwrap_or o []) found ∙ sym (ap (λ (l : List ℕ). l ++ rest) h.none);
     }
+  where
+    open b use {byte, at as h}
 
 after_none : (rest : List ℕ) → after_bytes 0 rest ≡ Some rest
 after_none rest = cond-true (nat_le 0 (length rest)) (Some (drop 0 rest)) None (grind (arith, nat_tests))
 
 -- a byte after which the header goes on
-goes_on : {chosen : Option ℕ} {start place left : ℕ} {now : Option ℕ} {part kept : List ℕ} {header next : Header}
-    (byte : ℕ) → IsAtHeader chosen start place now part kept header (left + 1) →
-    ((rest : List ℕ) → length rest ≡ left → video_from header (byte ∷ rest) ≡ video_from next rest)
-    → IsAtHeader chosen start place now (part ++ byte ∷ []) kept next left
-goes_on {start} {place} {left} {kept} {header} {next} byte h same =
+goes_on : {p : Part} (b : HeaderByte p) (next : Header)
+    → ((rest : List ℕ) → length rest ≡ b.left → video_from b.header (b.byte ∷ rest) ≡ video_from next rest)
+    → IsAtHeader (with_byte p b.byte) next b.left
+goes_on b next same =
     let size : length (h.front ++ byte ∷ []) ≡ length h.front + 1 = length-append h.front (byte ∷ []) in
     record {
       zeros = h.zeros;
@@ -289,140 +334,49 @@ goes_on {start} {place} {left} {kept} {header} {next} byte h same =
       now_is = h.now_is;
       none = h.none;
     }
+  where
+    open b use {byte, at as h}
 
 -- a byte after which the video begins
-video_begins : {chosen : Option ℕ} {start place left : ℕ} {now : Option ℕ} {part kept : List ℕ} {header : Header}
-    (byte : ℕ) → IsAtHeader chosen start place now part kept header (left + 1) →
-    ((rest : List ℕ) → length rest ≡ left → video_from header (byte ∷ rest) ≡ Some rest)
-    → LeadsTo (begins_at chosen start) place now (part ++ byte ∷ []) kept (cond (left == 0) (Zeros 0) (Video left))
-video_begins {chosen} {start} {place} {left} {now} {part} {kept} {header} byte h same =
-    elim (cases_eq left 0) [
-      | inl none ↦ (
-          let done = chosen_done byte [] h (sym none) (same [] (sym none)) in
-          inr (
-            h.zeros,
-            (
-              subst (λ (l : List ℕ). IsDone chosen h.zeros now l kept) (append-nil (part ++ byte ∷ []))
-                  (subst (λ (l : List ℕ). IsDone chosen h.zeros now ((part ++ byte ∷ []) ++ []) l)
-                  (append-nil kept) done),
-              cond-true (left == 0) (Zeros 0) (Video left) (eq-eqb left 0 none),
-            ),
-          )
-          )
-      | inr some ↦ (
-          let at_rest : IsAtRest chosen start place now (part ++ byte ∷ []) kept left (λ rest. rest) = record {
-            zeros = h.zeros;
-            begun = omega (
-              arith,
-              ap length h.are,
-              length_prefixed h.zeros (h.value ∷ h.high ∷ h.low ∷ h.front),
-              length-append part (byte ∷ []),
-            );
-            some = omega (arith, some);
-            ends = λ rest long. chosen_done byte rest h long (same rest long);
-            place_is = h.place_is;
-          } in
-          inl (subst (λ s. IsPart (begins_at chosen start) place now (part ++ byte ∷ []) kept s)
-          (sym (cond-false (left == 0) (Zeros 0) (Video left) (ne_eqb left 0 some))) at_rest)
-          )
-    ]
+video_begins : {p : Part} (b : HeaderByte p)
+    → ((rest : List ℕ) → length rest ≡ b.left → video_from b.header (b.byte ∷ rest) ≡ Some rest)
+    → LeadsTo (with_byte p b.byte) (cond (b.left == 0) (Zeros 0) (Video b.left))
+video_begins {p} b same = video_leads (record {
+  zeros = h.zeros;
+  begun = omega (
+    arith,
+    ap length h.are,
+    length_prefixed h.zeros (h.value ∷ h.high ∷ h.low ∷ h.front),
+    length-append p.bytes (byte ∷ []),
+  );
+  ends = λ rest long. chosen_done b rest long (same rest long);
+  place_is = h.place_is;
+})
+  where
+    open b use {byte, at as h}
 
-pub header_leads : {chosen : Option ℕ} {start place left : ℕ} {now : Option ℕ} {part kept : List ℕ} {header : Header}
-    (byte : ℕ) (next : Header) → IsAtHeader chosen start place now part kept header (left + 1) →
-    ((rest : List ℕ) → length rest ≡ left → video_from header (byte ∷ rest) ≡ video_from next rest)
-    → LeadsTo (begins_at chosen start) place now (part ++ byte ∷ []) kept (place_in next left)
-header_leads {start} {place} {left} {kept} {header} byte (Stuffing count) h same = inl (goes_on byte h same)
-header_leads {start} {place} {left} {kept} {header} byte Second h same = inl (goes_on byte h same)
-header_leads {start} {place} {left} {kept} {header} byte Stamp h same = inl (goes_on byte h same)
-header_leads {chosen} {start} {place} {left} {now} {part} {kept} {header} byte (Rest count) h same =
+pub header_leads : {p : Part} (b : HeaderByte p) (next : Header)
+    → ((rest : List ℕ) → length rest ≡ b.left → video_from b.header (b.byte ∷ rest) ≡ video_from next rest)
+    → LeadsTo (with_byte p b.byte) (place_in next b.left)
+header_leads b (Stuffing count) same = inl (goes_on b (Stuffing count) same)
+header_leads b Second same = inl (goes_on b Second same)
+header_leads b Stamp same = inl (goes_on b Stamp same)
+header_leads {p} b (Rest count) same =
+    let video = cond (b.left == 0) (Zeros 0) (Video b.left) in
+    let Leads = λ (s : ParserState). LeadsTo (with_byte p b.byte) s in
     elim (cases_eq count 0) [
-      | inl whole ↦ (
-          let at_video =
-          video_begins byte h (λ rest long. same rest long ∙ ap (λ n. after_bytes n rest) whole ∙ after_none rest) in
-          subst (λ s. LeadsTo (begins_at chosen start) place now (part ++ byte ∷ []) kept s)
-          (sym (cond-true (count == 0) (cond (left == 0) (Zeros 0) (Video left))
-          (InHeader (Rest count) left) (eq-eqb count 0 whole))) at_video
-          )
+      | inl whole ↦
+          subst Leads (sym (cond-true (count == 0) video (InHeader (Rest count) b.left) (eq-eqb count 0 whole)))
+          (video_begins b (λ rest long. same rest long ∙ ap (λ n. after_bytes n rest) whole ∙ after_none rest))
       | inr some ↦
-          subst (λ s. LeadsTo (begins_at chosen start) place now (part ++ byte ∷ []) kept s)
-          (sym (cond-false (count == 0) (cond (left == 0) (Zeros 0) (Video left))
-          (InHeader (Rest count) left) (ne_eqb count 0 some)))
-          (inl (goes_on byte h same))
-    ]
-
--- bytes of an item that are passed over or video
-pub rest_leads : {chosen : Option ℕ} {start place left count : ℕ} {now : Option ℕ} {part kept : List ℕ}
-    (taken : List ℕ) → IsAtRest chosen start place now part kept left (λ rest. []) → length taken ≡ count
-    → count ≤ left →
-    LeadsTo (begins_at chosen start) place now (part ++ taken) kept
-    (cond (left - count == 0) (Zeros 0) (Pass (left - count)))
-rest_leads {chosen} {start} {place} {left} {count} {now} {part} {kept} taken h size within =
-    elim (cases_eq (left - count) 0) [
-      | inl none ↦ (
-          let done = h.ends taken (omega (arith, size, within, none)) in
-          inr (
-            h.zeros,
-            (
-              subst (λ (l : List ℕ). IsDone chosen h.zeros now (part ++ taken) l) (append-nil kept) done,
-              cond-true (left - count == 0) (Zeros 0) (Pass (left - count)) (eq-eqb (left - count) 0 none),
-            ),
-          )
-          )
-      | inr some ↦ (
-          let at_rest : IsAtRest chosen start place now (part ++ taken) kept (left - count) (λ rest. []) = record {
-            zeros = h.zeros;
-            begun = omega (arith, h.begun, length-append part taken);
-            some = omega (arith, some);
-            ends = λ rest long. subst (λ (l : List ℕ). IsDone chosen h.zeros now l (kept ++ []))
-                (sym (append_assoc part taken rest))
-                (h.ends (taken ++ rest) (omega (arith, length-append taken rest, size, long, within)));
-            place_is = h.place_is;
-          } in
-          inl (subst (λ s. IsPart (begins_at chosen start) place now (part ++ taken) kept s)
-          (sym (cond-false (left - count == 0) (Zeros 0) (Pass (left - count)) (ne_eqb (left - count) 0 some))) at_rest)
-          )
-    ]
-
-pub video_leads : {chosen : Option ℕ} {start place left count : ℕ} {now : Option ℕ} {part kept : List ℕ}
-    (taken : List ℕ) → IsAtRest chosen start place now part kept left (λ rest. rest) → length taken ≡ count
-    → count ≤ left →
-    LeadsTo (begins_at chosen start) place now (part ++ taken) (kept ++ taken)
-    (cond (left - count == 0) (Zeros 0) (Video (left - count)))
-video_leads {chosen} {start} {place} {left} {count} {now} {part} {kept} taken h size within =
-    elim (cases_eq (left - count) 0) [
-      | inl none ↦
-          inr (
-            h.zeros,
-            (
-              h.ends taken (omega (arith, size, within, none)),
-              cond-true (left - count == 0) (Zeros 0) (Video (left - count)) (eq-eqb (left - count) 0 none),
-            ),
-          )
-      | inr some ↦ (
-          let at_rest : IsAtRest chosen start place now (part ++ taken) (kept ++ taken) (left - count) (λ rest. rest) =
-          record {
-            zeros = h.zeros;
-            begun = omega (arith, h.begun, length-append part taken);
-            some = omega (arith, some);
-            ends = λ rest long.
-                subst (λ (l : List ℕ). IsDone chosen h.zeros now l ((kept ++ taken) ++ rest))
-                (sym (append_assoc part taken rest))
-                (subst (λ (l : List ℕ). IsDone chosen h.zeros now (part ++ (taken ++ rest)) l)
-                (sym (append_assoc kept taken rest))
-                (h.ends (taken ++ rest) (omega (arith, length-append taken rest, size, long, within))));
-            place_is = h.place_is;
-          } in
-          inl (subst (λ s. IsPart (begins_at chosen start) place now (part ++ taken) (kept ++ taken) s)
-          (sym (cond-false (left - count == 0) (Zeros 0) (Video (left - count))
-          (ne_eqb (left - count) 0 some))) at_rest)
-          )
+          subst Leads (sym (cond-false (count == 0) video (InHeader (Rest count) b.left) (ne_eqb count 0 some)))
+          (inl (goes_on b (Rest count) same))
     ]
 
 -- the first byte of a packet's length
-pub high_more : {start place value byte : ℕ} {now wanted : Option ℕ} {part kept : List ℕ}
-    → IsAtPrefix start place (value ∷ []) now wanted part kept
-    → IsAtPrefix start place (value ∷ byte ∷ []) now wanted (part ++ byte ∷ []) kept
-high_more {start} {place} {value} {byte} {kept} h = record {
+pub high_more : {p : Part} {value byte : ℕ} {wanted : Option ℕ} → IsAtPrefix p (value ∷ []) wanted
+    → IsAtPrefix (with_byte p byte) (value ∷ byte ∷ []) wanted
+high_more {value} {byte} h = record {
   zeros = h.zeros;
   are = ap (λ (l : List ℕ). l ++ byte ∷ []) h.are ∙ prefixed_more h.zeros (value ∷ []) (byte ∷ []);
   place_is = h.place_is;

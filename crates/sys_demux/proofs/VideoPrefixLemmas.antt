@@ -8,7 +8,7 @@ use Rattle.std.proofs.lemmas.List.{take-append-drop, length-take-le}
 use Rattle.sys_demux.specs.StreamItems.{Item, item_bytes, chosen_next, chosen_after, AreItems, item_video}
 use Rattle.sys_demux.specs.StreamItems.{video_of, bytes_of}
 use Rattle.sys_demux.specs.SystemStreams.{IsEnd, IsTruncatedItem, IsSystem}
-use Rattle.sys_demux.specs.ParserStates.{IsAtRest, IsReached}
+use Rattle.sys_demux.specs.ParserStates.{IsAtRest, IsPart, IsReached, Part, Reading, part_after}
 use Rattle.sys_demux.specs.declared.faults.SystemFault.TheVariants.{Truncated}
 use Rattle.sys_demux.specs.declared.parser_states.ParserState.{ParserState}
 use Rattle.sys_demux.specs.declared.parser_states.ParserState.TheVariants.{Zeros, Value, Mark, High, Low}
@@ -80,10 +80,10 @@ none_begins : (kept whole : List ℕ) → kept ≡ [] → Begins kept whole
 none_begins kept whole none = record { rest = whole; is = sym (ap (λ (l : List ℕ). l ++ whole) none) }
 
 -- an item of which some bytes are to come, or all of them follow
-rest_begins : {chosen : Option ℕ} {start place : ℕ} {now : Option ℕ} {part kept : List ℕ} {left : ℕ}
-    {video : List ℕ → List ℕ} {items : List Item} (more : List ℕ) → IsAtRest chosen start place now part kept left video →
-    AreWhole chosen items (part ++ more) → Begins kept (video_of chosen items)
-rest_begins {chosen} {start} {place} {part} {kept} {left} {video} {items} more h whole =
+rest_begins : {p : Part} {left : ℕ} {video : List ℕ → List ℕ} {items : List Item} (more : List ℕ)
+    → IsAtRest p left video → AreWhole p.after.chosen items (p.bytes ++ more)
+    → Begins p.kept (video_of p.after.chosen items)
+rest_begins {p} {left} {video} {items} more h whole =
     elim (cases_lt (length more) left) [
       | inl less ↦
           (let pad : List ℕ = replicate (left - length more) 0 in
@@ -93,10 +93,10 @@ rest_begins {chosen} {start} {place} {part} {kept} {left} {video} {items} more h
             item = d.item;
             lacking = pad;
             is_item = d.is_item;
-            is = d.bytes_are ∙ sym (append_assoc part more pad);
-            begun = omega (arith, h.begun, d.zeros_are, length-append part more);
+            is = d.bytes_are ∙ sym (append_assoc p.bytes more pad);
+            begun = omega (arith, h.begun, d.zeros_are, length-append p.bytes more);
             some = omega (arith, size, less);
-            place_is = h.place_is ∙ ap (λ n. start + n) (sym d.zeros_are);
+            place_is = h.place_is ∙ ap (λ n. p.after.start + n) (sym d.zeros_are);
           })))
       | inr enough ↦
           (let d = h.ends (take left more) (length-take-le left more enough) in
@@ -105,16 +105,16 @@ rest_begins {chosen} {start} {place} {part} {kept} {left} {video} {items} more h
             rest = drop left more;
             is_item = d.is_item;
             is = ap (λ (l : List ℕ). l ++ drop left more) d.bytes_are
-                ∙ append_assoc part (take left more) (drop left more)
-                ∙ ap (λ (l : List ℕ). part ++ l) (take-append-drop left more);
+                ∙ append_assoc p.bytes (take left more) (drop left more)
+                ∙ ap (λ (l : List ℕ). p.bytes ++ l) (take-append-drop left more);
           }) d.video_is)
     ]
   where
-    short : (items : List Item) → AreWhole chosen items (part ++ more)
-        → IsTruncatedItem chosen start (part ++ more) place → ⊥
+    short : (items : List Item) → AreWhole p.after.chosen items (p.bytes ++ more)
+        → IsTruncatedItem p.after.chosen p.after.start (p.bytes ++ more) p.place → ⊥
     short [] whole cut =
-        end_no_fault chosen start whole.tail (Truncated place) whole.end
-        (subst (λ (l : List ℕ). IsTruncatedItem chosen start l place) whole.is cut)
+        end_no_fault p.after.chosen p.after.start whole.tail (Truncated p.place) whole.end
+        (subst (λ (l : List ℕ). IsTruncatedItem p.after.chosen p.after.start l p.place) whole.is cut)
     short (y ∷ ys) whole cut =
         let first = first_item whole in
         let same = item_once (cut_stands cut) (record {
@@ -126,8 +126,8 @@ rest_begins {chosen} {start} {place} {part} {kept} {left} {video} {items} more h
         }) in
         omega (arith, ap length same.rest, length-append first.rest cut.lacking, cut.some)
 
-    long : (items : List Item) → AreWhole chosen items (part ++ more) → (a : StandsFirst chosen (part ++ more))
-        → item_video chosen a.item ≡ kept ++ video (take left more) → Begins kept (video_of chosen items)
+    long : (items : List Item) → AreWhole p.after.chosen items (p.bytes ++ more) → (a : StandsFirst p.after.chosen (p.bytes ++ more))
+        → item_video p.after.chosen a.item ≡ p.kept ++ video (take left more) → Begins p.kept (video_of p.after.chosen items)
     long [] whole a is = absurd (item_no_end (record {
       item = a.item;
       rest = a.rest;
@@ -136,44 +136,37 @@ rest_begins {chosen} {start} {place} {part} {kept} {left} {video} {items} more h
     }) whole.end)
     long (y ∷ ys) whole a is =
         let same = item_once a (first_item whole) in
-        let later = video_of (chosen_next chosen y) ys in
+        let later = video_of (chosen_next p.after.chosen y) ys in
         record {
           rest = video (take left more) ++ later;
-          is = ap (λ (v : List ℕ). v ++ later) (sym (ap (item_video chosen) same.item) ∙ is)
-              ∙ append_assoc kept (video (take left more)) later;
+          is = ap (λ (v : List ℕ). v ++ later) (sym (ap (item_video p.after.chosen) same.item) ∙ is)
+              ∙ append_assoc p.kept (video (take left more)) later;
         }
 
-part_begins : {state : ParserState} {place : ℕ} {now : Option ℕ} {seen video : List ℕ} {items : List Item}
-    (more : List ℕ) (r : IsReached state place now seen video) → AreWhole (chosen_after None r.items) items (r.part ++ more)
-    → Begins r.kept (video_of (chosen_after None r.items) items)
-part_begins {state = Zeros zeros} {items} more r whole =
-    none_begins r.kept (video_of (chosen_after None r.items) items) r.is_part.none
-part_begins {state = Value} {items} more r whole =
-    none_begins r.kept (video_of (chosen_after None r.items) items) r.is_part.none
-part_begins {state = Mark} {items} more r whole =
-    none_begins r.kept (video_of (chosen_after None r.items) items) r.is_part.none
-part_begins {state = High value} {items} more r whole =
-    none_begins r.kept (video_of (chosen_after None r.items) items) r.is_part.0.none
-part_begins {state = Low value high} {items} more r whole =
-    none_begins r.kept (video_of (chosen_after None r.items) items) r.is_part.0.none
-part_begins {state = InHeader header left} {items} more r whole =
-    none_begins r.kept (video_of (chosen_after None r.items) items) r.is_part.none
-part_begins {state = Pass left} more r whole = rest_begins more r.is_part whole
-part_begins {state = Video left} more r whole = rest_begins more r.is_part whole
-part_begins {state = End} {items} more r whole =
-    none_begins r.kept (video_of (chosen_after None r.items) items) r.is_part.none
-part_begins {state = Failed fault} {items} more r whole =
-    none_begins r.kept (video_of (chosen_after None r.items) items) r.is_part.1
+part_begins : {items : List Item} (p : Part) (state : ParserState) (more : List ℕ) → IsPart p state
+    → AreWhole p.after.chosen items (p.bytes ++ more) → Begins p.kept (video_of p.after.chosen items)
+part_begins {items} p (Zeros zeros) more is whole = none_begins p.kept (video_of p.after.chosen items) is.none
+part_begins {items} p Value more is whole = none_begins p.kept (video_of p.after.chosen items) is.none
+part_begins {items} p Mark more is whole = none_begins p.kept (video_of p.after.chosen items) is.none
+part_begins {items} p (High value) more is whole = none_begins p.kept (video_of p.after.chosen items) is.0.none
+part_begins {items} p (Low value high) more is whole =
+    none_begins p.kept (video_of p.after.chosen items) is.0.none
+part_begins {items} p (InHeader header left) more is whole =
+    none_begins p.kept (video_of p.after.chosen items) is.none
+part_begins p (Pass left) more is whole = rest_begins more is whole
+part_begins p (Video left) more is whole = rest_begins more is whole
+part_begins {items} p End more is whole = none_begins p.kept (video_of p.after.chosen items) is.none
+part_begins {items} p (Failed fault) more is whole = none_begins p.kept (video_of p.after.chosen items) is.1
 
-pub video_begins : {state : ParserState} {place : ℕ} {now : Option ℕ} {seen video whole : List ℕ} (more : List ℕ)
-    → IsReached state place now seen video → IsSystem (seen ++ more) whole → (rest : List ℕ) × (whole ≡ video ++ rest)
-video_begins more r system =
+pub video_begins : {a : Reading} {whole : List ℕ} (more : List ℕ) → IsReached a → IsSystem (a.seen ++ more) whole
+    → (rest : List ℕ) × (whole ≡ a.video ++ rest)
+video_begins {a} more r system =
     let bytes : bytes_of r.items ++ (r.part ++ more) ≡ bytes_of system.items ++ system.tail =
     sym (append_assoc (bytes_of r.items) r.part more) ∙ ap (λ (l : List ℕ). l ++ more) (sym r.seen_is)
     ∙ system.bytes_are in
     let known = strip {l = r.part ++ more} r.are
     (record { tail = system.tail; are = system.are; is = bytes; end = system.end }) in
-    let begins = part_begins more r known.whole in (
+    let begins = part_begins (part_after r.items a r.part r.kept) a.state more r.is_part known.whole in (
       begins.rest,
       system.video_is ∙ known.video ∙ ap (λ (l : List ℕ). video_of None r.items ++ l) begins.is
           ∙ sym (append_assoc (video_of None r.items) r.kept begins.rest)

@@ -26,76 +26,6 @@ video_from Second rest = from_stamp (drop 1 rest)
 video_from Stamp rest = from_stamp rest
 video_from (Rest count) rest = after_bytes count rest
 
--- an item with these bytes and this video
-pub record IsDone (chosen : Option ℕ) (zeros : ℕ) (next : Option ℕ) (bytes video : List ℕ)
-    : Type 0 where
-  pub item : Item
-  pub is_item : IsItem chosen item
-  pub bytes_are : item_bytes item ≡ bytes
-  pub zeros_are : zeros_of item ≡ zeros
-  pub next_is : chosen_next chosen item ≡ next
-  pub video_is : item_video chosen item ≡ video
-
--- bytes 00, of which up to two count
-pub record IsAtZeros (chosen : Option ℕ) (zeros : ℕ) (now : Option ℕ) (part kept : List ℕ)
-    : Type 0 where
-  pub count : ℕ
-  pub are : part ≡ replicate count 0
-  pub zeros_are : zeros ≡ min count 2
-  pub now_is : now ≡ chosen
-  pub none : kept ≡ []
-
--- bytes 00, a prefix and these bytes, of an item at this place
-pub record IsAtPrefix (start place : ℕ) (rest : List ℕ) (now wanted : Option ℕ) (part kept : List ℕ)
-    : Type 0 where
-  pub zeros : ℕ
-  pub are : part ≡ with_prefix zeros rest
-  pub place_is : place ≡ start + zeros
-  pub now_is : now ≡ wanted
-  pub none : kept ≡ []
-
--- inside the header of a packet of the chosen stream, with so many bytes of its content left
-pub record IsAtHeader (chosen : Option ℕ) (start place : ℕ) (now : Option ℕ) (part kept : List ℕ)
-    (header : Header) (left : ℕ) : Type 0 where
-  pub zeros : ℕ
-  pub value : ℕ
-  pub high : ℕ
-  pub low : ℕ
-  pub front : List ℕ
-  pub are : part ≡ with_prefix zeros (value ∷ high ∷ low ∷ front)
-  pub value_is : 187 ≤ value
-  pub chosen_is : is_chosen (choose chosen value) value ≡ true
-  pub length_is : length front + left ≡ high * 256 + low
-  pub video_is : (rest : List ℕ) → length rest ≡ left →
-      video_in (front ++ rest) ≡ video_from header rest
-  pub place_is : place ≡ start + zeros
-  pub now_is : now ≡ choose chosen value
-  pub none : kept ≡ []
-
--- inside an item that any bytes of this number end, all of them video or none
-pub record IsAtRest (chosen : Option ℕ) (start place : ℕ) (now : Option ℕ) (part kept : List ℕ)
-    (left : ℕ) (video : List ℕ → List ℕ) : Type 0 where
-  pub zeros : ℕ
-  pub begun : zeros + 3 ≤ length part
-  pub some : 0 < left
-  pub ends : (rest : List ℕ) → length rest ≡ left →
-      IsDone chosen zeros now (part ++ rest) (kept ++ video rest)
-  pub place_is : place ≡ start + zeros
-
--- the end's code was read
-pub record IsAtEnd (part kept : List ℕ) : Type 0 where
-  pub zeros : ℕ
-  pub rest : List ℕ
-  pub are : part ≡ with_prefix zeros (185 ∷ rest)
-  pub none : kept ≡ []
-
--- a fault that bytes show, whatever follows them
-abbrev pub IsShown : SystemFault → Type 0
-IsShown (NotPack place) = Unit {0}
-IsShown (BadCode place) = Unit {0}
-IsShown (BadPacket place) = Unit {0}
-IsShown (Truncated place) = ⊥
-
 -- what items leave for a part after them: the stream_id that was chosen, and where they end
 pub record Beginning : Type 0 where
   pub chosen : Option ℕ
@@ -104,51 +34,147 @@ pub record Beginning : Type 0 where
 abbrev pub begins_at : Option ℕ → ℕ → Beginning
 begins_at chosen start = record { chosen = chosen; start = start }
 
--- a part of the bytes that begins there leads to this state, for an item at this place and the
--- stream_id that is chosen now; its video is kept
-abbrev pub IsPart : Beginning → ℕ → Option ℕ → List ℕ → List ℕ → ParserState → Type 0
-IsPart at place now part kept (Zeros zeros) = IsAtZeros at.chosen zeros now part kept
-IsPart at place now part kept Value = IsAtPrefix at.start place [] now at.chosen part kept
-IsPart at place now part kept Mark =
-    IsAtPrefix at.start place (186 ∷ []) now at.chosen part kept
-IsPart at place now part kept (High value) =
-    IsAtPrefix at.start place (value ∷ []) now (choose at.chosen value) part kept × (187 ≤ value)
-IsPart at place now part kept (Low value high) =
-    IsAtPrefix at.start place (value ∷ high ∷ []) now (choose at.chosen value) part kept
-    × (187 ≤ value)
-IsPart at place now part kept (InHeader header left) =
-    IsAtHeader at.chosen at.start place now part kept header left
-IsPart at place now part kept (Pass left) =
-    IsAtRest at.chosen at.start place now part kept left (λ rest. [])
-IsPart at place now part kept (Video left) =
-    IsAtRest at.chosen at.start place now part kept left (λ rest. rest)
-IsPart at place now part kept End = IsAtEnd part kept
-IsPart at place now part kept (Failed fault) = IsFault at.chosen at.start part fault
-    × (kept ≡ []) × IsShown fault
+-- a part of the bytes that begins there: the place of its item, the stream_id that is chosen after
+-- it, its bytes and the video in them
+pub record Part : Type 0 where
+  pub after : Beginning
+  pub place : ℕ
+  pub now : Option ℕ
+  pub bytes : List ℕ
+  pub kept : List ℕ
+
+abbrev pub of_item : Part → ℕ → Part
+of_item p place = record p { place = place }
+
+abbrev pub choosing : Part → Option ℕ → Part
+choosing p now = record p { now = now }
+
+abbrev pub with_byte : Part → ℕ → Part
+with_byte p byte = record p { bytes = p.bytes ++ byte ∷ [] }
+
+-- an item with these bytes and this video
+pub record IsDone (p : Part) (zeros : ℕ) : Type 0 where
+  pub item : Item
+  pub is_item : IsItem p.after.chosen item
+  pub bytes_are : item_bytes item ≡ p.bytes
+  pub zeros_are : zeros_of item ≡ zeros
+  pub next_is : chosen_next p.after.chosen item ≡ p.now
+  pub video_is : item_video p.after.chosen item ≡ p.kept
+
+-- bytes 00, of which up to two count
+pub record IsAtZeros (p : Part) (zeros : ℕ) : Type 0 where
+  pub count : ℕ
+  pub are : p.bytes ≡ replicate count 0
+  pub zeros_are : zeros ≡ min count 2
+  pub now_is : p.now ≡ p.after.chosen
+  pub none : p.kept ≡ []
+
+-- bytes 00, a prefix and these bytes, of an item at this place
+pub record IsAtPrefix (p : Part) (rest : List ℕ) (wanted : Option ℕ) : Type 0 where
+  pub zeros : ℕ
+  pub are : p.bytes ≡ with_prefix zeros rest
+  pub place_is : p.place ≡ p.after.start + zeros
+  pub now_is : p.now ≡ wanted
+  pub none : p.kept ≡ []
+
+-- inside the header of a packet of the chosen stream, with so many bytes of its content left
+pub record IsAtHeader (p : Part) (header : Header) (left : ℕ) : Type 0 where
+  pub zeros : ℕ
+  pub value : ℕ
+  pub high : ℕ
+  pub low : ℕ
+  pub front : List ℕ
+  pub are : p.bytes ≡ with_prefix zeros (value ∷ high ∷ low ∷ front)
+  pub value_is : 187 ≤ value
+  pub chosen_is : is_chosen (choose p.after.chosen value) value ≡ true
+  pub length_is : length front + left ≡ high * 256 + low
+  pub video_is : (rest : List ℕ) → length rest ≡ left →
+      video_in (front ++ rest) ≡ video_from header rest
+  pub place_is : p.place ≡ p.after.start + zeros
+  pub now_is : p.now ≡ choose p.after.chosen value
+  pub none : p.kept ≡ []
+
+-- inside an item that any bytes of this number end, all of them video or none
+pub record IsAtRest (p : Part) (left : ℕ) (video : List ℕ → List ℕ) : Type 0 where
+  pub zeros : ℕ
+  pub begun : zeros + 3 ≤ length p.bytes
+  pub some : 0 < left
+  pub ends : (rest : List ℕ) → length rest ≡ left →
+      IsDone (record p { bytes = p.bytes ++ rest; kept = p.kept ++ video rest }) zeros
+  pub place_is : p.place ≡ p.after.start + zeros
+
+-- the end's code was read
+pub record IsAtEnd (p : Part) : Type 0 where
+  pub zeros : ℕ
+  pub rest : List ℕ
+  pub are : p.bytes ≡ with_prefix zeros (185 ∷ rest)
+  pub none : p.kept ≡ []
+
+-- a fault that bytes show, whatever follows them
+abbrev pub IsShown : SystemFault → Type 0
+IsShown (NotPack place) = Unit {0}
+IsShown (BadCode place) = Unit {0}
+IsShown (BadPacket place) = Unit {0}
+IsShown (Truncated place) = ⊥
+
+-- it leads to this state
+abbrev pub IsPart : Part → ParserState → Type 0
+IsPart p (Zeros zeros) = IsAtZeros p zeros
+IsPart p Value = IsAtPrefix p [] p.after.chosen
+IsPart p Mark = IsAtPrefix p (186 ∷ []) p.after.chosen
+IsPart p (High value) =
+    IsAtPrefix p (value ∷ []) (choose p.after.chosen value) × (187 ≤ value)
+IsPart p (Low value high) =
+    IsAtPrefix p (value ∷ high ∷ []) (choose p.after.chosen value) × (187 ≤ value)
+IsPart p (InHeader header left) = IsAtHeader p header left
+IsPart p (Pass left) = IsAtRest p left (λ rest. [])
+IsPart p (Video left) = IsAtRest p left (λ rest. rest)
+IsPart p End = IsAtEnd p
+IsPart p (Failed fault) =
+    IsFault p.after.chosen p.after.start p.bytes fault × (p.kept ≡ []) × IsShown fault
 
 -- the same, or an item ends there
-abbrev pub LeadsTo : Beginning → ℕ → Option ℕ → List ℕ → List ℕ → ParserState → Type 0
-LeadsTo at place now part kept state =
-    IsPart at place now part kept state
-    ⊎ ((zeros : ℕ) × (IsDone at.chosen zeros now part kept × (state ≡ Zeros 0)))
+abbrev pub LeadsTo : Part → ParserState → Type 0
+LeadsTo p state = IsPart p state ⊎ ((zeros : ℕ) × (IsDone p zeros × (state ≡ Zeros 0)))
 
--- the state to which these bytes lead, and the video in them so far
-pub record IsReached (state : ParserState) (place : ℕ) (now : Option ℕ) (seen video : List ℕ)
-    : Type 0 where
+-- a state, for an item at this place and the stream_id that is chosen now, after these bytes, and
+-- the video in them so far
+pub record Reading : Type 0 where
+  pub state : ParserState
+  pub place : ℕ
+  pub now : Option ℕ
+  pub seen : List ℕ
+  pub video : List ℕ
+
+abbrev pub part_after : List Item → Reading → List ℕ → List ℕ → Part
+part_after items a part kept = record {
+  after = begins_at (chosen_after None items) (length (bytes_of items));
+  place = a.place;
+  now = a.now;
+  bytes = part;
+  kept = kept;
+}
+
+-- the bytes lead to the state
+pub record IsReached (a : Reading) : Type 0 where
   pub items : List Item
   pub part : List ℕ
   pub kept : List ℕ
   pub are : AreItems None items
-  pub seen_is : seen ≡ bytes_of items ++ part
-  pub video_is : video ≡ video_of None items ++ kept
-  pub is_part :
-      IsPart (begins_at (chosen_after None items) (length (bytes_of items)))
-      place now part kept state
+  pub seen_is : a.seen ≡ bytes_of items ++ part
+  pub video_is : a.video ≡ video_of None items ++ kept
+  pub is_part : IsPart (part_after items a part kept) a.state
 
 -- an unwrapper was fed these bytes, and gave this video
 pub record WasFed (unwrapper : Unwrapper) (seen video : List ℕ) : Type 0 where
   pub count : unwrapper.fed ≡ length seen
-  pub reached : IsReached unwrapper.place unwrapper.item unwrapper.chosen seen video
+  pub reached : IsReached (record {
+    state = unwrapper.place;
+    place = unwrapper.item;
+    now = unwrapper.chosen;
+    seen = seen;
+    video = video;
+  })
 
 -- the fault that an unwrapper has answered
 abbrev pub fault_at : ParserState → Option SystemFault

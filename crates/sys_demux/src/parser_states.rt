@@ -1,11 +1,11 @@
 //! Where in a system stream the next byte stands, and where a byte leads.
 
-ghost use Rattle.std.specs.Prelude.{◌≡◌, ℕ, ◌+◌, ◌-◌, ◌≤◌, ◌<◌, ◌==◌, if◌then◌else◌, IsTrue, List};
-ghost use Rattle.std.specs.Prelude.{[], ◌∷◌, ◌++◌, length, Option};
+ghost use Rattle.std.specs.Prelude.{◌≡◌, ℕ, ◌+◌, ◌-◌, ◌≤◌, ◌<◌, ◌==◌, if◌then◌else◌, IsTrue};
+ghost use Rattle.std.specs.Prelude.{[], ◌∷◌, length};
 ghost use Rattle.sys_demux.specs.StreamItems.{choose, is_chosen};
 ghost use Rattle.sys_demux.specs.ValidStates.{least_rest, is_sound};
-ghost use Rattle.sys_demux.specs.ParserStates.{IsAtZeros, IsAtPrefix, IsAtHeader, IsPart, LeadsTo};
-ghost use Rattle.sys_demux.specs.ParserStates.{begins_at, place_in, end_fault};
+ghost use Rattle.sys_demux.specs.ParserStates.{IsAtZeros, IsAtPrefix, IsAtHeader, IsPart, LeadsTo, Part};
+ghost use Rattle.sys_demux.specs.ParserStates.{choosing, of_item, with_byte, place_in, end_fault};
 
 use crate::faults::SystemFault;
 use crate::headers::{Header, header_next};
@@ -48,10 +48,8 @@ pub(crate) enum ParserState {
 /// The place after a byte where an item must stand; `at` is the byte's own place.
 pub(crate) fn zeros_next(zeros: u8, byte: u8, at: u64) -> ParserState
     ensures sound { IsTrue (is_sound result) }
-    ensures next { (chosen now : Option ℕ) (start : ℕ) (part kept : List ℕ) →
-        IsAtZeros chosen zeros now part kept →
-        at ≡ start + length part →
-        IsPart (begins_at chosen start) (at - 2) now (part ++ byte ∷ []) kept result }
+    ensures next { (p : Part) → IsAtZeros p zeros → at ≡ p.after.start + length p.bytes →
+        IsPart (with_byte (of_item p (at - 2)) byte) result }
 {
     match byte {
         // Any number of bytes 00 may stand before a prefix, so the count stops at two.
@@ -64,9 +62,8 @@ pub(crate) fn zeros_next(zeros: u8, byte: u8, at: u64) -> ParserState
 /// The place after the start code value of the item at `item`.
 pub(crate) fn value_next(value: u8, item: u64) -> ParserState
     ensures sound { IsTrue (is_sound result) }
-    ensures next { (chosen now : Option ℕ) (start : ℕ) (part kept : List ℕ) →
-        IsAtPrefix start item [] now chosen part kept →
-        IsPart (begins_at chosen start) item (choose now value) (part ++ value ∷ []) kept result }
+    ensures next { (p : Part) → IsAtPrefix (of_item p item) [] p.after.chosen →
+        IsPart (with_byte (choosing (of_item p item) (choose p.now value)) value) result }
 {
     if value == END_VALUE {
         // A stream ends at its end code. What follows is passed over.
@@ -84,9 +81,8 @@ pub(crate) fn value_next(value: u8, item: u64) -> ParserState
 /// The place after the fifth byte of the pack header at `item`.
 pub(crate) fn mark_next(mark: u8, item: u64) -> ParserState
     ensures sound { IsTrue (is_sound result) }
-    ensures next { (chosen now : Option ℕ) (start : ℕ) (part kept : List ℕ) →
-        IsAtPrefix start item (186 ∷ []) now chosen part kept →
-        IsPart (begins_at chosen start) item now (part ++ mark ∷ []) kept result }
+    ensures next { (p : Part) → IsAtPrefix (of_item p item) (186 ∷ []) p.after.chosen →
+        IsPart (with_byte (of_item p item) mark) result }
 {
     // MPEG-1 has the bits 0010 here. A pack of MPEG-2 has 01 and other fields.
     if mark / 16 == 2 {
@@ -128,10 +124,9 @@ pub(crate) fn length_next(
     item: u64,
 ) -> ParserState
     ensures sound { IsTrue (is_sound result) }
-    ensures next { (before : Option ℕ) (start : ℕ) (part kept : List ℕ) →
-        IsAtPrefix start item (value ∷ high ∷ []) chosen (choose before value) part kept →
-        187 ≤ value →
-        LeadsTo (begins_at before start) item chosen (part ++ low ∷ []) kept result }
+    ensures next { (p : Part) → IsAtPrefix (choosing (of_item p item) chosen)
+        (value ∷ high ∷ []) (choose p.after.chosen value) →
+        187 ≤ value → LeadsTo (with_byte (choosing (of_item p item) chosen) low) result }
 {
     let length = u16::from(high) * 256 + u16::from(low);
     // Only the chosen stream is judged. Packets of others, such as audio, may have any content.
@@ -151,9 +146,8 @@ pub(crate) fn header_place(header: Header, byte: u8, left: u16, item: u64) -> Pa
     requires some { 0 < least_rest header }
     requires enough { least_rest header ≤ left + 1 }
     ensures sound { IsTrue (is_sound result) }
-    ensures next { (chosen now : Option ℕ) (start : ℕ) (part kept : List ℕ) →
-        IsAtHeader chosen start item now part kept header (left + 1) →
-        LeadsTo (begins_at chosen start) item now (part ++ byte ∷ []) kept result }
+    ensures next { (p : Part) → IsAtHeader (of_item p item) header (left + 1) →
+        LeadsTo (with_byte (of_item p item) byte) result }
 {
     match header_next(header, byte, left) {
         None => ParserState::Failed(SystemFault::BadPacket(item)),
