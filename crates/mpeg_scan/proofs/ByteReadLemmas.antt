@@ -111,13 +111,13 @@ quiet-kept : {s : Progress} {r : List ℕ} (xs : List ℕ) → IsQuiet s xs → 
     → HasReadBytes (scan_with_run s xs) (read_after r xs)
 quiet-kept [] quiet kept = kept
 quiet-kept {s} {r} (x ∷ xs) quiet kept =
-    quiet-kept {s = scan_with_byte s x} {r = x ∷ r} xs quiet.1 (taken-plain quiet.0 refl kept)
+    quiet-kept {s = scan_with_byte s x} {r = x ∷ r} xs quiet.1 (taken-plain {s = s} {x = x} quiet.0 kept)
 
 quiet-calls : {s : Progress} {r : List ℕ} (xs : List ℕ) → IsQuiet s xs → HasReadBytes s r
     → calls_of (codes_of (read_after r xs)) ≡ calls_of (codes_of r)
 quiet-calls [] quiet kept = refl
 quiet-calls {s} {r} (x ∷ xs) quiet kept =
-    quiet-calls {s = scan_with_byte s x} {r = x ∷ r} xs quiet.1 (taken-plain quiet.0 refl kept)
+    quiet-calls {s = scan_with_byte s x} {r = x ∷ r} xs quiet.1 (taken-plain {s = s} {x = x} quiet.0 kept)
     ∙ sym (taken-none x quiet.0 kept [])
 
 pub skipped-kept : {old new : Progress} {rest : List ℕ} {count : ℕ} {r : List ℕ} → HasSkipped old new rest count

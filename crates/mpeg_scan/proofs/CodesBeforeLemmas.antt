@@ -117,15 +117,19 @@ pub value-slice : (value : ℕ) → IsSliceValue value → is_slice value ≡ tr
 value-slice value is =
     and_from (leb 1 value) (leb value 0xaf) (le-leb 1 value is.0) (le-leb value 0xaf is.1)
 
-head-by : {a b c : Bool} {A B C : Type 0} → (a ≡ true → A) → (b ≡ true → B) → (c ≡ true → C) →
-    (a || (b || c)) ≡ true → A ⊎ (B ⊎ C)
-head-by {a = true} {c} {B} one two three e = inl (one refl)
-head-by {a = false} {b = true} {c} {B} one two three e = inr (inl (two refl))
-head-by {a = false} {b = false} {c = true} {B} one two three e = inr (inr (three refl))
-head-by {a = false} {b = false} {c = false} {B} one two three e = absurd (false≢true e)
+pub any-true : (a b d : Bool) → (a || (b || d)) ≡ true → (a ≡ true) ⊎ ((b ≡ true) ⊎ (d ≡ true))
+any-true true b d is = inl refl
+any-true false true d is = inr (inl refl)
+any-true false false d is = inr (inr is)
 
 pub head-value : (value : ℕ) → is_head value ≡ true → IsHeadValue value
-head-value value e = head-by (eqb-true value 0) (eqb-true value 0xb3) (eqb-true value 0xb8) e
+head-value value e = elim (any-true (eqb value 0) (eqb value 0xb3) (eqb value 0xb8) e) [
+  | inl a ↦ inl (eqb-true value 0 a)
+  | inr other ↦ elim other [
+    | inl b ↦ inr (inl (eqb-true value 0xb3 b))
+    | inr d ↦ inr (inr (eqb-true value 0xb8 d))
+  ]
+]
 
 pub value-head : (value : ℕ) → IsHeadValue value → is_head value ≡ true
 value-head value (inl e) = ap is_head e

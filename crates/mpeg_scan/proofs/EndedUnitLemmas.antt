@@ -1,7 +1,7 @@
 -- The units that have ended are those of the standard's words, over the codes that came.
 use Rattle.std.proofs.Common.{ℕ, zero, suc, Bool, true, false, cond, eqb, ltb, ◌&&◌, ◌||◌, ◌+◌, ◌-◌}
 use Rattle.std.proofs.Common.{◌<◌, ◌≤◌, ◌≡◌, List, [], ◌∷◌, ◌++◌, Option, Some, None}
-use Rattle.std.proofs.Common.{slice_get, sym, ◌∙◌, ap, refl, subst, inl, inr, arith}
+use Rattle.std.proofs.Common.{sym, ◌∙◌, ap, refl, subst, inl, inr, arith}
 use Rattle.std.specs.Prelude.{unwrap_or}
 use Rattle.std.specs.Option.{is_some}
 use Rattle.std.proofs.lemmas.Bool.{cases_lt, ltb-true, false≢true}
@@ -14,6 +14,7 @@ use Rattle.mpeg_scan.specs.CodeFacts.{temporal_of, type_of, latest_unit, vectors
 use Rattle.mpeg_scan.specs.FilmFaults.{end_fault, first_fault, last_fault, latest_fault}
 use Rattle.mpeg_scan.specs.Calls.{Call, head_call, slice_call, calls_at, no_header, calls_of}
 use Rattle.mpeg_scan.specs.Calls.{unit_at, unit_end}
+use Rattle.mpeg_scan.specs.Layout.{OfUnit}
 use Rattle.mpeg_scan.specs.Films.{units_in}
 use Rattle.mpeg_scan.specs.CodePlaces.{HasCode}
 use Rattle.mpeg_scan.specs.StandardUnits.{Counts, HasPicture, IsHeadValue, IsSliceValue}
@@ -250,12 +251,12 @@ all-later past at to [] far all = tt
 all-later past at to (unit ∷ units) far all =
     ((all.0.0, omega (arith, far, all.0.1)), all-later past at to units far all.1)
 
-pub all-at : {past : List Code} {unit : PictureUnit} (at : ℕ) (units : List PictureUnit) (k : ℕ)
-    → slice_get units k ≡ Some unit → AllClosed past at units → Closed past unit
-all-at at [] k is all = cc
-all-at {past} {unit} at (u ∷ units) zero is all = let same : u ≡ unit =
-    cc in subst (λ (v : PictureUnit). Closed past v) same all.0.0
-all-at {past} {unit} at (u ∷ units) (suc k) is all = all-at {past = past} {unit = unit} at units k is all.1
+pub all-at : {past : List Code} (at : ℕ) (units : List PictureUnit) (k : ℕ) → AllClosed past at units
+    → OfUnit units k (λ u. Closed past u)
+all-at at [] k all unit is = cc
+all-at {past} at (u ∷ units) zero all unit is =
+    let same : u ≡ unit = cc in subst (λ (v : PictureUnit). Closed past v) same all.0.0
+all-at {past} at (u ∷ units) (suc k) all unit is = all-at {past = past} at units k all.1 unit is
 
 -- the unit that ends at a code, by tests: s, h: it is a slice, a head code; q, e: there were slices, there were none
 closed-call : {s h q : Bool} {c : Code} {past : List Code} (e : Bool) (here : CodeEnds) → (s ≡ true → h ≡ false)

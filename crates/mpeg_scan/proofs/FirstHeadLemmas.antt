@@ -71,7 +71,7 @@ first-head film unit is =
     let past = codes_of r in
     let accepted = otherwise-first (first_fault past) (end_fault past (length r))
     (accepted-whole r film.grammar.accepted) in
-    let ends = (film-standard film.grammar 0 is).head_ends in
+    let ends = (film-standard film.grammar 0 unit is).head_ends in
     let has = (codes-stand bytes unit.head_end ends.0).1 ends.1.0 in
     let from : unit.from ≡ first_of past =
     from-first (first_of past) (length bytes) film.units.items unit is

@@ -14,6 +14,7 @@ use Rattle.mpeg_scan.specs.FilmFaults.{end_fault, first_fault, header_fault, las
 use Rattle.mpeg_scan.specs.FilmFaults.{picture_fault, rate_fault}
 use Rattle.mpeg_scan.specs.Calls.{Call, head_call, slice_call, calls_at, calls_of, unit_at}
 use Rattle.mpeg_scan.specs.Calls.{unit_end}
+use Rattle.mpeg_scan.specs.Layout.{OfUnit}
 use Rattle.mpeg_scan.specs.Films.{IsFilm, units_in}
 use Rattle.mpeg_scan.specs.PartTiling.{first_of}
 use Rattle.mpeg_scan.specs.CodePlaces.{HasCode, IsCodeAt}
@@ -163,7 +164,7 @@ pub film-some : (bytes : List ℕ) (rate : ℕ) (units : List PictureUnit) (star
 film-some bytes rate units starts film = starts-some units (film-starts bytes rate units starts film)
 
 pub film-group : {bytes : List ℕ} {rate : ℕ} {units : List PictureUnit} {starts : List ℕ}
-    → IsFilm bytes rate units starts → (unit : PictureUnit) → slice_get units 0 ≡ Some unit → unit.starts_group ≡ true
+    → IsFilm bytes rate units starts → OfUnit units 0 (λ u. u.starts_group ≡ true)
 film-group {bytes} {rate} {units} {starts} film = starts-first units (film-starts bytes rate units starts film)
 
 -- ---- the first sequence header
@@ -260,7 +261,8 @@ pub record FirstHeader (r : List ℕ) (c : Code) : Type 0 where
   pub long : c.place + 12 ≤ stop
 
 -- codes that are accepted up to an end, and their headers in so many bytes
-pub record AreJudged (r : List ℕ) (c : Code) (past : List Code) (end : ℕ) : Type 0 where
+pub record AreJudged (r : List ℕ) (c : Code) (past : List Code) : Type 0 where
+  pub end : ℕ
   pub stop : ℕ
   pub accepted : first_fault (c ∷ past) ≡ None
   pub judged : latest_fault (c ∷ past) end ≡ None
@@ -268,9 +270,10 @@ pub record AreJudged (r : List ℕ) (c : Code) (past : List Code) (end : ℕ) : 
   pub headers : HeadersAre r stop (c ∷ past)
 
 -- so those before the latest
-pub older-are_judged : {r : List ℕ} {c d : Code} {past : List Code} {end : ℕ}
-    → AreJudged r c (d ∷ past) end → AreJudged r d past c.place
+pub older-are_judged : {r : List ℕ} {c d : Code} {past : List Code}
+    → AreJudged r c (d ∷ past) → AreJudged r d past
 older-are_judged {c} {d} {past} are = record {
+  end = c.place;
   stop = c.place + 4;
   accepted = accepted-older c (d ∷ past) are.accepted;
   judged = older-judged c (d ∷ past) are.accepted;
@@ -278,14 +281,14 @@ older-are_judged {c} {d} {past} are = record {
   headers = are.headers.1;
 }
 
-pub first_in-header : {r : List ℕ} {c : Code} {past : List Code} {end : ℕ} → AreJudged r c past end
+pub first_in-header : {r : List ℕ} {c : Code} {past : List Code} → AreJudged r c past
     → FirstHeader r (first_in c past)
 unfolding first_in
-first_in-header {c} {past = []} {end} are =
+first_in-header {c} {past = []} are =
     record {
       stop = are.stop;
       is = are.headers.0;
-      long = omega (arith, are.far, long-header None c end (first-is c are.accepted) are.judged);
+      long = omega (arith, are.far, long-header None c are.end (first-is c are.accepted) are.judged);
     }
 first_in-header {past = d ∷ past} are = first_in-header {c = d} {past = past} (older-are_judged are)
 
@@ -302,8 +305,8 @@ codes-begin bytes (c ∷ past) codes accepted ended headers =
     let n = length r in
     let judged = otherwise-first (latest_fault (c ∷ past) n) (last_fault (tally_of (c ∷ past))) ended in
     let f = first_in c past in
-    let are : AreJudged r c past n =
-    record { stop = n; accepted = accepted; judged = judged; far = omega arith; headers = headers } in
+    let are : AreJudged r c past =
+    record { end = n; stop = n; accepted = accepted; judged = judged; far = omega arith; headers = headers } in
     let header = first_in-header are in
     let long : length r ≡ length bytes = length-read bytes [] ∙ omega arith in
     let place : first_of (c ∷ past) ≡ f.place = first_in-place c past in
@@ -333,8 +336,7 @@ chained-first from to (u ∷ units) unit is chained = let same : u ≡ unit =
 
 -- the first unit begins with the sequence header of the film's rate
 pub film-begins : {bytes : List ℕ} {rate : ℕ} {units : List PictureUnit} {starts : List ℕ}
-    → IsFilm bytes rate units starts → (unit : PictureUnit) → slice_get units 0 ≡ Some unit
-    → BeginsSequence bytes rate unit.from
+    → IsFilm bytes rate units starts → OfUnit units 0 (λ u. BeginsSequence bytes rate u.from)
 film-begins {bytes} {rate} {units} {starts} film unit is =
     let r = read_after [] bytes in
     let none = accepted-whole r film.accepted in

@@ -24,7 +24,7 @@ use Rattle.mpeg_scan.proofs.HeaderByteLemmas.{Same, HeadersAre, header-byte}
 use Rattle.mpeg_scan.proofs.DecisionLemmas.{Decides, both-cond, by-test, decide, neither, none-of, only-first}
 use Rattle.mpeg_scan.proofs.DecisionLemmas.{only-second}
 use Rattle.mpeg_scan.specs.CodePlaces.{IsCodeAt}
-use Rattle.mpeg_scan.proofs.CodesBeforeLemmas.{CodesBefore, Knows, known, latest-is, latest-new, older}
+use Rattle.mpeg_scan.proofs.CodesBeforeLemmas.{any-true, CodesBefore, Knows, known, latest-is, latest-new, older}
 
 -- the header bytes of a code are those after it, as far as a place
 abbrev pub Fits : List ℕ → ℕ → Code → Type 0
@@ -75,11 +75,6 @@ first-sequence {p} {q} none other = elim (cases_lt q p) [
 ]
 
 -- ---- a rate
-
-rate-parts : (a b d : Bool) → (a || (b || d)) ≡ true → (a ≡ true) ⊎ ((b ≡ true) ⊎ (d ≡ true))
-rate-parts true b d is = inl refl
-rate-parts false true d is = inr (inl refl)
-rate-parts false false d is = inr (inr is)
 
 rate-whole : (a b d : Bool) → (a ≡ true) ⊎ ((b ≡ true) ⊎ (d ≡ true)) → (a || (b || d)) ≡ true
 rate-whole a b d (inl is) = or_left a (b || d) is
@@ -141,7 +136,7 @@ rate-tested : {bytes : List ℕ} {place : ℕ} {rate : Option ℕ} → RateIs by
     → (is_bad_rate rate (picture_rate bytes place) ≡ true) ↔ IsBadAt bytes place
 rate-tested {bytes} {place} {rate} known =
     let its = picture_rate bytes place in (
-      λ t. bad-rate known (rate-parts (eqb its 0) (ltb 8 its) (differs rate its) t),
+      λ t. bad-rate known (any-true (eqb its 0) (ltb 8 its) (differs rate its) t),
       λ bad. rate-whole (eqb its 0) (ltb 8 its) (differs rate its) (rate-bad known bad),
     )
 
@@ -394,8 +389,8 @@ rate-known {bytes} {past = c ∷ past} {at} film accepted judged =
     let first = first_in c past in
     let has = first_in-has c past in
     let k = film.knows in
-    let are : AreJudged film.read c past at =
-    record { stop = film.stop; accepted = accepted; judged = judged; far = film.far; headers = film.headers } in
+    let are : AreJudged film.read c past =
+    record { end = at; stop = film.stop; accepted = accepted; judged = judged; far = film.far; headers = film.headers } in
     let header = first_in-header are in
     its_rate (record {
       first = first.place;

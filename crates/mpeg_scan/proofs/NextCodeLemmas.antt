@@ -4,6 +4,10 @@ use Rattle.std.proofs.Common.{◌+◌, ◌-◌, ◌<◌, ◌≤◌, ◌≡◌, O
 use Rattle.std.specs.Option.{ForSome, IsSome, is_some, option_map}
 use Rattle.std.proofs.lemmas.Option.{same_Some}
 use Rattle.std.proofs.lemmas.Bool.{false≢true, or_parts, true≢false}
+use Rattle.mpeg_scan.proofs.ScanStepLemmas.{some-cond-none}
+use Rattle.std.proofs.lemmas.Bool.{cases_Bool}
+use Rattle.std.proofs.Common.{inl, inr, sym, ◌∙◌}
+use Rattle.mpeg_scan.specs.declared.faults.FilmFault.{FilmFault}
 use Rattle.mpeg_scan.specs.declared.codes.Code.{Code}
 use Rattle.mpeg_scan.specs.declared.faults.FilmFault.TheVariants.{Mpeg2, NoSequence, SystemCode}
 use Rattle.mpeg_scan.specs.declared.tallies.Header.{Header}
@@ -87,23 +91,22 @@ with-noted {t} (Some c) x room =
 
 -- ---- a code that isn't refused
 
-begun-by : {q k : Bool} (a b : Bool) (place : ℕ) → k ≡ false
-    → cond a (Some (SystemCode place))
-    (cond b (Some (Mpeg2 place)) (cond (not q && not k) (Some NoSequence) None)) ≡ None → q ≡ true
-begun-by true b place other e = absurd (cc)
-begun-by false true place other e = absurd (cc)
-begun-by {q = true} false false place other e = refl
-begun-by {q = false} {k = true} false false place other e = absurd (true≢false other)
-begun-by {q = false} {k = false} false false place other e = absurd (cc)
-
 -- only a sequence header comes first
 pub code-begun : (t : Tally) (place value : ℕ) → code_fault t place value ≡ None → eqb value 0xb3 ≡ false
     → t.begun ≡ true
 code-begun t place value e other =
-    begun-by (leb 0xb9 value) (eqb value 0xb5) place other
+    let test = not t.begun && not (eqb value 0xb3) in
+    let third : Option FilmFault = cond test (Some NoSequence) None in
+    let first = some-cond-none (leb 0xb9 value) (SystemCode place) (cond (eqb value 0xb5) (Some (Mpeg2 place)) third)
     (otherwise-first (value_fault t place value)
     (first_refusal (second_fault t value)
-    (first_refusal (first_slice_fault t place value) (count_fault t place value))) e)
+    (first_refusal (first_slice_fault t place value) (count_fault t place value))) e) in
+    let second = some-cond-none (eqb value 0xb5) (Mpeg2 place) third first.1 in
+    let none = (some-cond-none test NoSequence None second.1).0 in
+    elim (cases_Bool t.begun) [
+      | inl begun ↦ begun
+      | inr other_begun ↦ absurd (true≢false (sym (ap (λ b. not b && not (eqb value 0xb3)) other_begun ∙ ap not other) ∙ none))
+    ]
 
 group-by : (b z : Bool) (pictures group : ℕ) → group ≤ pictures
     → cond b pictures group ≤ cond z (pictures + 1) pictures
@@ -163,12 +166,13 @@ picture-next t c e before some =
     } in
     picture-by (header_of c) t.picture known some
 
-rate-by : {b begun : Bool} (rate : Option ℕ) (c : Code) → eqb c.value 0xb3 ≡ b → (b ≡ false → begun ≡ true)
-    → (begun ≡ true → IsSome rate) → IsSome (rate_after rate c)
-rate-by {b = true} None c is begun before = ap (λ e. is_some (cond e (Some (rate_code c)) None)) is
-rate-by {b = false} None c is begun before = absurd (false≢true (before (begun refl)))
-rate-by (Some rate) c is begun before = refl
+rate-by : (rate : Option ℕ) (c : Code) → (eqb c.value 0xb3 ≡ false → IsSome rate) → IsSome (rate_after rate c)
+rate-by None c before = elim (cases_Bool (eqb c.value 0xb3)) [
+  | inl is ↦ ap (λ e. is_some (cond e (Some (rate_code c)) None)) is
+  | inr other ↦ absurd (false≢true (before other))
+]
+rate-by (Some rate) c before = refl
 
 pub rate-next : (t : Tally) (c : Code) → code_fault t c.place c.value ≡ None → (t.begun ≡ true → IsSome t.rate)
     → IsSome (next_rate t c)
-rate-next t c e before = rate-by t.rate c refl (λ other. code-begun t c.place c.value e other) before
+rate-next t c e before = rate-by t.rate c (λ other. before (code-begun t c.place c.value e other))

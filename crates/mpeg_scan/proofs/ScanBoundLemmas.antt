@@ -29,6 +29,7 @@ use Rattle.mpeg_scan.proofs.NextCodeLemmas.{code-begun, counts-more, counts-next
 use Rattle.mpeg_scan.proofs.NextCodeLemmas.{rate-next, with-more, with-noted}
 use Rattle.mpeg_scan.proofs.CodesBeforeLemmas.{slice-value}
 use Rattle.mpeg_scan.proofs.CodeSpacingLemmas.{slice-case, whole-is}
+use Rattle.mpeg_scan.proofs.ScanStepLemmas.{NotedCode, judged_at}
 use Rattle.mpeg_scan.proofs.ScanStepLemmas.{otherwise-second}
 use Rattle.mpeg_scan.proofs.PartTilingLemmas.{ended-none, first_slice-accepted, first_slice-head}
 
@@ -203,26 +204,31 @@ code-room {t} {place} {fed} value at room e =
       };
     }
 
-pub coded-ahead : {s n m : Progress} (x : ℕ) → is_whole s.prefix ≡ true → n ≡ scan_with_byte s x
-    → code_judgement n.latest n.tally (s.fed - 3) x ≡ None → m ≡ scan_with_code n (s.fed - 3) x → IsAhead s → IsAhead m
-coded-ahead {s} {n} {m} x whole noted judged is room =
+pub coded-ahead : {m : Progress} (c : NotedCode)
+    → (judged_at c c.noted ≡ None) × (m ≡ scan_with_code c.noted (c.before.fed - 3) c.byte) → IsAhead c.before
+    → IsAhead m
+coded-ahead c h room =
+    let s = c.before in
+    let n = c.noted in
+    let x = c.byte in
     let place = s.fed - 3 in
-    let three = whole-length s.prefix whole in
-    let fed : n.fed ≡ s.fed + 1 = ap (λ (v : Progress). v.fed) noted in
+    let three = whole-length s.prefix c.whole in
+    let fed : n.fed ≡ s.fed + 1 = ap (λ (v : Progress). v.fed) c.is in
     let prefix : n.prefix ≡ next_prefix Whole x =
-    ap (λ (v : Progress). v.prefix) noted ∙ ap (λ p. next_prefix p x) (whole-is s.prefix whole) in
+    ap (λ (v : Progress). v.prefix) c.is ∙ ap (λ p. next_prefix p x) (whole-is s.prefix c.whole) in
     let length : prefix_length n.prefix ≡ prefix_length (next_prefix Whole x) = ap prefix_length prefix in
     let made = code-room {t = tally_now n} {place = place} {fed = s.fed} x (omega (arith, three, room.read))
-    (room-before x whole noted room).now (code_judgement-code n.latest n.tally place x judged) in
-    subst (λ (v : Progress). IsAhead v) (sym is) (record {
+    (room-before x c.whole c.is room).now (code_judgement-code n.latest n.tally place x h.0) in
+    subst (λ (v : Progress). IsAhead v) (sym h.1) (record {
       read = omega (arith, fed, length, length-value x);
       room = with-more made (omega (arith, fed, length));
     })
 
-pub coded-awaits : {m : Progress} (Ready : ℕ → Type 0) (n : Progress) (x place : ℕ)
-    → m ≡ scan_with_code n place x → AwaitsSliceAfter Ready (tally_now n) place x → AwaitsSlice Ready (tally_now m)
+pub coded-awaits : {m : Progress} (Ready : ℕ → Type 0) (c : NotedCode)
+    → m ≡ scan_with_code c.noted (c.before.fed - 3) c.byte
+    → AwaitsSliceAfter Ready (tally_now c.noted) (c.before.fed - 3) c.byte → AwaitsSlice Ready (tally_now m)
 unfolding next
-coded-awaits Ready n x place is awaits =
+coded-awaits Ready c is awaits =
     subst (λ (v : Progress). AwaitsSlice Ready (tally_now v)) (sym is) awaits
 
 -- ---- as a run is passed over

@@ -239,58 +239,45 @@ whole-read : {s : Progress} {r : List ℕ} {b : Bool} → HasReadBytes s r → i
     → is_whole (latest_prefix r) ≡ b
 whole-read kept is = sym (ap is_whole kept.prefix) ∙ is
 
-pub taken-plain : {s n : Progress} {r : List ℕ} {x : ℕ} → is_whole s.prefix ≡ false
-    → n ≡ scan_with_byte s x → HasReadBytes s r → HasReadBytes n (x ∷ r)
-taken-plain {s} {r} {x} plain noted kept =
-    subst (λ (v : Progress). HasReadBytes v (x ∷ r)) (sym noted) (fed-plain s r x kept (whole-read kept plain))
+pub taken-plain : {s : Progress} {r : List ℕ} {x : ℕ} → is_whole s.prefix ≡ false → HasReadBytes s r
+    → HasReadBytes (scan_with_byte s x) (x ∷ r)
+taken-plain {s} {r} {x} plain kept = fed-plain s r x kept (whole-read kept plain)
 
 -- the byte that ends a start code is noted
-pub record CodeNoted (s n : Progress) (r : List ℕ) (x place : ℕ) : Type 0 where
-  pub whole : is_whole s.prefix ≡ true
-  pub noted : n ≡ scan_with_byte s x
-  pub place_is : place ≡ s.fed - 3
-  pub kept : HasReadBytes s r
+pub record NotedCode : Type 0 where
+  pub before : Progress
+  pub noted : Progress
+  pub byte : ℕ
+  pub whole : is_whole before.prefix ≡ true
+  pub is : noted ≡ scan_with_byte before byte
 
-pub code-noted : {s n : Progress} {r : List ℕ} {x : ℕ} → true ≡ is_whole s.prefix → n ≡ scan_with_byte s x
-    → HasReadBytes s r → CodeNoted s n r x (s.fed - 3)
-code-noted whole noted kept = record { whole = sym whole; noted = noted; place_is = refl; kept = kept }
+abbrev pub code-noted : {n : Progress} (s : Progress) (x : ℕ) → true ≡ is_whole s.prefix → n ≡ scan_with_byte s x → NotedCode
+code-noted {n} s x whole is = record { before = s; noted = n; byte = x; whole = sym whole; is = is }
 
-whole-before : {s n : Progress} {r : List ℕ} {x place : ℕ} → CodeNoted s n r x place → is_whole (latest_prefix r) ≡ true
-whole-before code = whole-read code.kept code.whole
+abbrev pub judged_at : NotedCode → Progress → Option FilmFault
+judged_at c n = code_judgement n.latest n.tally (c.before.fed - 3) c.byte
 
-pub taken-code : {s n m : Progress} {r : List ℕ} {x place : ℕ} → CodeNoted s n r x place
-    → (code_judgement n.latest n.tally place x ≡ None) × (m ≡ scan_with_code n place x) → HasReadBytes m (x ∷ r)
-taken-code {s} {m} {r} {x} {place} code h =
-    let none : code_judgement (scan_with_byte s x).latest s.tally (s.fed - 3) x ≡ None =
-    sym (ap (λ (v : Progress). code_judgement v.latest v.tally place x) noted
-    ∙ ap (λ p. code_judgement (scan_with_byte s x).latest s.tally p x) place_is) ∙ h.0 in
-    let became : m ≡ scan_with_code (scan_with_byte s x) (s.fed - 3) x =
-    h.1 ∙ ap (λ (v : Progress). scan_with_code v place x) noted
-    ∙ ap (λ p. scan_with_code (scan_with_byte s x) p x) place_is in
-    subst (λ (v : Progress). HasReadBytes v (x ∷ r)) (sym became) (fed-code kept (whole-before code) none)
-  where
-    open code use {noted, place_is, kept}
+pub taken-code : {m : Progress} {r : List ℕ} (c : NotedCode) → HasReadBytes c.before r
+    → (judged_at c c.noted ≡ None) × (m ≡ scan_with_code c.noted (c.before.fed - 3) c.byte)
+    → HasReadBytes m (c.byte ∷ r)
+taken-code {r} c kept h =
+    let none = ap (judged_at c) (sym c.is) ∙ h.0 in
+    let became = h.1 ∙ ap (λ (v : Progress). scan_with_code v (c.before.fed - 3) c.byte) c.is in
+    subst (λ (v : Progress). HasReadBytes v (c.byte ∷ r)) (sym became) (fed-code kept (whole-read kept c.whole) none)
 
-pub taken-fault : {s n : Progress} {r : List ℕ} {x place : ℕ} {f : FilmFault} → CodeNoted s n r x place
-    → code_judgement n.latest n.tally place x ≡ Some f → first_fault (codes_of (x ∷ r)) ≡ Some f
-taken-fault {s} {r} {x} {place} code h =
-    first_fault-at s r x kept (whole-before code)
-    ∙ sym (ap (λ (v : Progress). code_judgement v.latest v.tally place x) noted
-    ∙ ap (λ p. code_judgement (scan_with_byte s x).latest s.tally p x) place_is) ∙ h
-  where
-    open code use {noted, place_is, kept}
+pub taken-fault : {r : List ℕ} {f : FilmFault} (c : NotedCode) → HasReadBytes c.before r
+    → judged_at c c.noted ≡ Some f → first_fault (codes_of (c.byte ∷ r)) ≡ Some f
+taken-fault {r} c kept h =
+    first_fault-at c.before r c.byte kept (whole-read kept c.whole) ∙ ap (judged_at c) (sym c.is) ∙ h
 
-pub taken-calls : {s n : Progress} {r : List ℕ} {x place : ℕ} → CodeNoted s n r x place → (calls : List Call)
-    → (calls ++ calls_of (codes_of r)) ++ calls_at (tally_with n.latest n.tally) place x ≡ calls ++ calls_of
-    (codes_of (x ∷ r))
-taken-calls {s} {n} {r} {x} {place} code calls =
-    append_assoc calls (calls_of (codes_of r)) (calls_at (tally_with n.latest n.tally) place x)
-    ∙ ap (λ (v : Progress). calls ++ (calls_of (codes_of r) ++ calls_at (tally_with v.latest v.tally) place x)) noted
-    ∙ ap (λ p. calls ++ (calls_of (codes_of r) ++ calls_at
-    (tally_with (scan_with_byte s x).latest s.tally) p x)) place_is
-    ∙ ap (λ (l : List Call). calls ++ l) (sym (calls-at_code s r x kept (whole-before code)))
-  where
-    open code use {noted, place_is, kept}
+pub taken-calls : {r : List ℕ} (c : NotedCode) → HasReadBytes c.before r → (calls : List Call)
+    → (calls ++ calls_of (codes_of r)) ++ calls_at (tally_with c.noted.latest c.noted.tally) (c.before.fed - 3) c.byte
+    ≡ calls ++ calls_of (codes_of (c.byte ∷ r))
+taken-calls {r} c kept calls =
+    let place = c.before.fed - 3 in
+    append_assoc calls (calls_of (codes_of r)) (calls_at (tally_with c.noted.latest c.noted.tally) place c.byte)
+    ∙ ap (λ (v : Progress). calls ++ (calls_of (codes_of r) ++ calls_at (tally_with v.latest v.tally) place c.byte)) c.is
+    ∙ ap (λ (l : List Call). calls ++ l) (sym (calls-at_code c.before r c.byte kept (whole-read kept c.whole)))
 
 pub taken-none : {s : Progress} {r : List ℕ} (x : ℕ) → is_whole s.prefix ≡ false → HasReadBytes s r
     → (calls : List Call) → calls ++ calls_of (codes_of r) ≡ calls ++ calls_of (codes_of (x ∷ r))

@@ -1,10 +1,12 @@
 -- The slices of an accepted film are those of its slice codes, in their order.
-use Rattle.std.proofs.Common.{ℕ, Bool, true, false, cond, eqb, ltb, leb, ◌+◌, ◌<◌, ◌≡◌, ◌⊎◌, ◌↔◌}
+use Rattle.std.proofs.Common.{ℕ, Bool, true, false, cond, eqb, ltb, ◌+◌, ◌<◌, ◌≡◌, ◌⊎◌, ◌↔◌}
 use Rattle.std.proofs.Common.{List, [], ◌∷◌, ◌++◌, None, length, sym, ◌∙◌, ap, refl, subst, inl}
 use Rattle.std.proofs.Common.{inr, arith}
 use Rattle.std.proofs.lemmas.Bool.{cases_Bool, eqb-true, eq-eqb, ne_eqb, ltb-true, ltb-false}
-use Rattle.std.proofs.lemmas.Bool.{true≢false, false≢true, and_parts, and_from, leb-true, le-leb}
+use Rattle.std.proofs.lemmas.Bool.{true≢false, false≢true}
 use Rattle.std.proofs.lemmas.List.{append-nil}
+use Rattle.mpeg_scan.proofs.CodesBeforeLemmas.{slice-value, value-slice}
+use Rattle.std.proofs.lemmas.Bool.{cases_Bool}
 use Rattle.mpeg_scan.specs.declared.codes.Code.{Code}
 use Rattle.mpeg_scan.specs.declared.units.Unit.{Unit as PictureUnit}
 use Rattle.mpeg_scan.specs.StartCodes.{read_after, codes_of}
@@ -123,28 +125,20 @@ among-parts place last (x ∷ xs) (inr r) = elim (among-parts place last xs r) [
   | inr e ↦ inr e
 ]
 
-slice-value : (value : ℕ) → is_slice value ≡ true → IsSliceValue value
-slice-value value e =
-    let parts = and_parts (leb 1 value) (leb value 0xaf) e in (leb-true 1 value parts.0, leb-true value 0xaf parts.1)
-
-value-slice : (value : ℕ) → IsSliceValue value → is_slice value ≡ true
-value-slice value is = and_from (leb 1 value) (leb value 0xaf) (le-leb 1 value is.0) (le-leb value 0xaf is.1)
-
 abbrev ThereIn : List Code → ℕ → Type 0
 ThereIn past place = (value : ℕ) × (HasCode place value past × IsSliceValue value)
 
-there-by : {b : Bool} {place : ℕ} (c : Code) (past : List Code) (places : List ℕ) → is_slice c.value ≡ b
-    → (IsAmong place places → ThereIn past place)
-    → IsAmong place (cond b (places ++ c.place ∷ []) places) → ThereIn (c ∷ past) place
-there-by {b = false} {place} c past places is older among = let it = older among in (it.0, (inr it.1.0, it.1.1))
-there-by {b = true} {place} c past places is older among = elim (among-parts place c.place places among) [
-  | inl a ↦ let it = older a in (it.0, (inr it.1.0, it.1.1))
-  | inr e ↦ (c.value, (inl (e, refl), slice-value c.value is))
-]
-
 among-there : (past : List Code) (place : ℕ) → IsAmong place (slice_places past) → ThereIn past place
 among-there [] place among = absurd among
-among-there (c ∷ past) place among = there-by c past (slice_places past) refl (among-there past place) among
+among-there (c ∷ past) place among =
+    let Among = λ (b : Bool). IsAmong place (cond b (slice_places past ++ c.place ∷ []) (slice_places past)) in
+    elim (cases_Bool (is_slice c.value)) [
+      | inl slice ↦ elim (among-parts place c.place (slice_places past) (subst Among slice among)) [
+        | inl a ↦ (let it = among-there past place a in (it.0, (inr it.1.0, it.1.1)))
+        | inr e ↦ (c.value, (inl (e, refl), slice-value c.value slice))
+      ]
+      | inr other ↦ (let it = among-there past place (subst Among other among) in (it.0, (inr it.1.0, it.1.1)))
+    ]
 
 older-among : (b : Bool) (place last : ℕ) (places : List ℕ) → IsAmong place places
     → IsAmong place (cond b (places ++ last ∷ []) places)

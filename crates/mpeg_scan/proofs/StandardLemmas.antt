@@ -1,7 +1,7 @@
 -- The units of an accepted film are those of the standard's words: from the codes to the bytes.
 use Rattle.std.proofs.Common.{ℕ, Bool, true, false, cond, eqb, ltb, leb, ◌&&◌, ◌||◌, ◌+◌, ◌-◌, ◌*◌}
 use Rattle.std.proofs.Common.{◌/◌, ◌%◌, ◌<◌, ◌≤◌, ◌≡◌, ◌⊎◌, ◌↔◌, List, [], ◌∷◌, Option, Some, None}
-use Rattle.std.proofs.Common.{length, get_or, slice_get, sym, ◌∙◌, ap, refl, subst, inl, inr, arith}
+use Rattle.std.proofs.Common.{length, get_or, sym, ◌∙◌, ap, refl, subst, inl, inr, arith}
 use Rattle.std.proofs.lemmas.Bool.{cond-true, cond-false, or_right, cases_lt, eq-eqb, ne_eqb, leb-true, ltb-false}
 use Rattle.std.proofs.lemmas.Bool.{or_parts}
 use Rattle.std.proofs.lemmas.Bool.{and_parts, false≢true}
@@ -14,6 +14,7 @@ use Rattle.mpeg_scan.specs.StartCodes.{read_after, codes_of, latest_prefix}
 use Rattle.mpeg_scan.specs.CodeFacts.{first_rate, kind_of, tally_of, type_of, vectors_by}
 use Rattle.mpeg_scan.specs.FilmFaults.{end_fault, first_fault, header_fault, last_fault, latest_fault}
 use Rattle.mpeg_scan.specs.FilmFaults.{picture_fault, rate_fault}
+use Rattle.mpeg_scan.specs.Layout.{OfUnit}
 use Rattle.mpeg_scan.specs.Films.{IsFilm}
 use Rattle.mpeg_scan.specs.CodePlaces.{HasCode, IsCodeAt}
 use Rattle.mpeg_scan.specs.StandardUnits.{HasFields, IsUnitOf}
@@ -39,11 +40,11 @@ record CodeHeader (r : List ℕ) (c : Code) : Type 0 where
   judged : header_fault rate c end ≡ None
   far : end ≤ stop
 
-code-header : {r : List ℕ} {c its : Code} {past : List Code} {end : ℕ} → AreJudged r c past end
+code-header : {r : List ℕ} {c its : Code} {past : List Code} → AreJudged r c past
     → Member its (c ∷ past) → CodeHeader r its
-code-header {r} {c} {past} {end} are (inl same) =
+code-header {r} {c} {past} are (inl same) =
     subst (λ (v : Code). CodeHeader r v) same
-    (record { stop = are.stop; end = end; rate = first_rate past; is = are.headers.0; judged = are.judged; far = are.far })
+    (record { stop = are.stop; end = are.end; rate = first_rate past; is = are.headers.0; judged = are.judged; far = are.far })
 code-header {past = []} are (inr m) = absurd m
 code-header {past = d ∷ past} are (inr m) = code-header {c = d} {past = past} (older-are_judged are) m
 
@@ -184,7 +185,8 @@ whole-headers : (r : List ℕ) (past : List Code) (n : ℕ) → first_fault past
 unfolding end_fault
 whole-headers r [] n accepted ended headers c m = absurd m
 whole-headers r (d ∷ past) n accepted ended headers c m =
-    let are : AreJudged r d past n = record {
+    let are : AreJudged r d past = record {
+      end = n;
       stop = n;
       accepted = accepted;
       judged = otherwise-first (latest_fault (d ∷ past) n) (last_fault (tally_of (d ∷ past))) ended;
@@ -194,9 +196,8 @@ whole-headers r (d ∷ past) n accepted ended headers c m =
     code-header are m
 
 pub film-standard : {bytes : List ℕ} {rate : ℕ} {units : List PictureUnit} {starts : List ℕ}
-    → IsFilm bytes rate units starts → (k : ℕ) {unit : PictureUnit} → slice_get units k ≡ Some unit
-    → IsUnitOf bytes unit
-film-standard {bytes} {units} {starts} film k {unit} is =
+    → IsFilm bytes rate units starts → (k : ℕ) → OfUnit units k (λ u. IsUnitOf bytes u)
+film-standard {bytes} {units} {starts} film k unit is =
     let r = read_after [] bytes in
     let past = codes_of r in
     let none = accepted-whole r film.accepted in
@@ -208,4 +209,4 @@ film-standard {bytes} {units} {starts} film k {unit} is =
     let mine : AllClosed past (length r) units =
     subst (λ (l : List PictureUnit). AllClosed past (length r) l) (sym film.units) all in
     unit-bytes bytes past unit (codes-stand bytes)
-    (whole-headers r past (length r) accepted ended (codes-headers r)) (all-at (length r) units k is mine)
+    (whole-headers r past (length r) accepted ended (codes-headers r)) (all-at (length r) units k mine unit is)

@@ -6,7 +6,7 @@ use Rattle.mpeg_scan.proofs.laws.law_units_match_the_standard.Goals as goal
 pub returns : goal.returns
 returns c =
     let film = c.args.film.now in record {
-      units = λ k u is. film-standard film.grammar k is;
+      units = film-standard film.grammar;
       presented = film-presented film.bytes.items film.rate film.units.items film.slice_starts.items film.grammar;
       all = film-units_of film.bytes.items film.rate film.units.items film.slice_starts.items film.grammar;
     }
