@@ -1,37 +1,22 @@
 -- The head of a film's first unit holds all of its sequence header.
-use Rattle.std.proofs.Common.{◌≡◌, ℕ, true, cond, eqb, ltb, ◌+◌, ◌-◌, ◌≤◌, ◌⊎◌}
-use Rattle.std.proofs.Common.{List, [], ◌∷◌, Option, Some, None, length, slice_get, sym, inl}
-use Rattle.std.proofs.Common.{inr, refl, ap, ◌∙◌, arith}
-use Rattle.std.proofs.lemmas.Bool.{eq-eqb, ltb-false}
+use Rattle.std.proofs.Common.{◌≡◌, ℕ, ◌+◌, ◌≤◌, ◌⊎◌}
+use Rattle.std.proofs.Common.{List, [], ◌∷◌, Some, None, length, slice_get, sym, inl}
+use Rattle.std.proofs.Common.{inr, refl, ◌∙◌, arith}
 use Rattle.mpeg_scan.specs.declared.codes.Code.{Code}
-use Rattle.mpeg_scan.specs.declared.faults.FilmFault.TheVariants.{ShortHeader}
 use Rattle.mpeg_scan.specs.declared.units.Unit.{Unit as PictureUnit}
 use Rattle.mpeg_scan.specs.declared.films.Film.{Film}
 use Rattle.mpeg_scan.specs.StartCodes.{read_after, codes_of}
 use Rattle.mpeg_scan.specs.CodePlaces.{HasCode}
-use Rattle.mpeg_scan.specs.FilmFaults.{end_fault, first_fault, header_fault, picture_fault, rate_fault}
+use Rattle.mpeg_scan.specs.FilmFaults.{end_fault, first_fault}
 use Rattle.mpeg_scan.specs.PartTiling.{first_of}
+use Rattle.mpeg_scan.proofs.FirstUnitLemmas.{chained-first, long-header}
 use Rattle.mpeg_scan.proofs.CodePlaceLemmas.{codes-stand}
 use Rattle.mpeg_scan.proofs.CodeSpacingLemmas.{Spaced, all-below, placed-codes}
-use Rattle.mpeg_scan.proofs.FilmBoundLemmas.{older-judged, sequence-judged}
-use Rattle.mpeg_scan.specs.Layout.{AreChained}
+use Rattle.mpeg_scan.proofs.FilmBoundLemmas.{older-judged}
 use Rattle.mpeg_scan.proofs.PartTilingLemmas.{first-is}
-use Rattle.mpeg_scan.proofs.ScanStepLemmas.{accepted-older, accepted-whole, otherwise-first, some-cond-none}
+use Rattle.mpeg_scan.proofs.ScanStepLemmas.{accepted-older, accepted-whole, otherwise-first}
 use Rattle.mpeg_scan.proofs.StandardLemmas.{film-standard}
 use Rattle.mpeg_scan.proofs.UnitLayoutLemmas.{film-chained}
-
--- a sequence header that is judged has 12 bytes
-long-header : (rate : Option ℕ) (c : Code) (end : ℕ) → c.value ≡ 0xb3 → header_fault rate c end ≡ None
-    → c.place + 12 ≤ end
-long-header rate c end is e =
-    let test : eqb c.value 0xb3 ≡ true = eq-eqb c.value 0xb3 is in
-    let judged =
-    some-cond-none (ltb (end - c.place) 12) (ShortHeader c.place) (rate_fault rate c)
-    (sequence-judged (eqb c.value 0xb3)
-    (cond (ltb (end - c.place) 12) (Some (ShortHeader c.place)) (rate_fault rate c))
-    (cond (eqb c.value 0xb8) (cond (ltb (end - c.place) 8) (Some (ShortHeader c.place)) None)
-    (cond (eqb c.value 0) (picture_fault c end) None)) test e) in
-    omega (arith, ltb-false (end - c.place) 12 judged.0)
 
 -- a code after the first one stands 12 bytes after it, or later
 later-far : (c d : Code) (past : List Code) → Spaced (c ∷ (d ∷ past)) → first_fault (c ∷ (d ∷ past)) ≡ None
@@ -56,12 +41,6 @@ codes-far (c ∷ (d ∷ past)) spaced accepted place value (inl new) =
 codes-far (c ∷ (d ∷ past)) spaced accepted place value (inr old) =
     codes-far (d ∷ past) spaced.1 (accepted-older c (d ∷ past) accepted) place value old
 
-from-first : (from to : ℕ) (units : List PictureUnit) (unit : PictureUnit) → slice_get units 0 ≡ Some unit
-    → AreChained from units to → unit.from ≡ from
-from-first from to [] unit is chained = cc
-from-first from to (u ∷ units) unit is chained =
-    let same : u ≡ unit = cc in ap (λ (v : PictureUnit). v.from) (sym same) ∙ chained.0
-
 -- the head of the first unit has the 12 bytes of its sequence header
 pub first-head : (film : Film) (unit : PictureUnit) → slice_get film.units.items 0 ≡ Some unit
     → unit.from + 12 ≤ unit.head_end
@@ -74,7 +53,7 @@ first-head film unit is =
     let ends = (film-standard film.grammar 0 unit is).head_ends in
     let has = (codes-stand bytes unit.head_end ends.0).1 ends.1.0 in
     let from : unit.from ≡ first_of past =
-    from-first (first_of past) (length bytes) film.units.items unit is
+    chained-first (first_of past) (length bytes) film.units.items unit is
     (film-chained bytes film.rate film.units.items film.slice_starts.items film.grammar) in
     elim (codes-far past (placed-codes r).spaced accepted unit.head_end ends.0 has) [
       | inl header ↦ absurd (omega (arith, header, ends.1.1.1))

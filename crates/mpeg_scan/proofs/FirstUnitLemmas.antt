@@ -211,7 +211,7 @@ first_in-rate c [] accepted =
 first_in-rate c (d ∷ past) accepted =
     ap (λ (rate : Option ℕ). rate_after rate c) (first_in-rate d past (accepted-older c (d ∷ past) accepted))
 
-long-header : (rate : Option ℕ) (c : Code) (end : ℕ) → c.value ≡ 0xb3 → header_fault rate c end ≡ None
+pub long-header : (rate : Option ℕ) (c : Code) (end : ℕ) → c.value ≡ 0xb3 → header_fault rate c end ≡ None
     → c.place + 12 ≤ end
 long-header rate c end is e =
     let test : eqb c.value 0xb3 ≡ true = eq-eqb c.value 0xb3 is in
@@ -328,7 +328,7 @@ codes-begin bytes (c ∷ past) codes accepted ended headers =
       });
     }
 
-chained-first : (from to : ℕ) (units : List PictureUnit) (unit : PictureUnit) → slice_get units 0 ≡ Some unit
+pub chained-first : (from to : ℕ) (units : List PictureUnit) (unit : PictureUnit) → slice_get units 0 ≡ Some unit
     → AreChained from units to → unit.from ≡ from
 chained-first from to [] unit is chained = cc
 chained-first from to (u ∷ units) unit is chained = let same : u ≡ unit =
