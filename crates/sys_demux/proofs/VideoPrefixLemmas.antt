@@ -79,6 +79,35 @@ strip {chosen} {items = x ∷ xs} {items' = y ∷ ys} {l} p whole =
 none_begins : (kept whole : List ℕ) → kept ≡ [] → Begins kept whole
 none_begins kept whole none = record { rest = whole; is = sym (ap (λ (l : List ℕ). l ++ whole) none) }
 
+-- the video of a complete stream begins with that of its first item
+first_video : {chosen : Option ℕ} {bytes : List ℕ} (items : List Item) → AreWhole chosen items bytes
+    → (a : StandsFirst chosen bytes) → Begins (item_video chosen a.item) (video_of chosen items)
+first_video {chosen} [] whole a =
+    absurd (item_no_end (subst (λ (l : List ℕ). StandsFirst chosen l) whole.is a) whole.end)
+first_video {chosen} (y ∷ ys) whole a = record {
+  rest = video_of (chosen_next chosen y) ys;
+  is = ap (λ x. item_video chosen x ++ video_of (chosen_next chosen y) ys)
+      (sym (item_once a (first_item whole)).item);
+}
+
+-- no item of a complete stream is truncated
+no_truncated : (p : Part) (more : List ℕ) (items : List Item)
+    → AreWhole p.after.chosen items (p.bytes ++ more)
+    → IsTruncatedItem p.after.chosen p.after.start (p.bytes ++ more) p.place → ⊥
+no_truncated p more [] whole cut =
+    end_no_fault p.after.chosen p.after.start whole.tail (Truncated p.place) whole.end
+    (subst (λ (l : List ℕ). IsTruncatedItem p.after.chosen p.after.start l p.place) whole.is cut)
+no_truncated p more (y ∷ ys) whole cut =
+    let first = first_item whole in
+    let same = item_once (cut_stands cut) (record {
+      item = y;
+      rest = first.rest ++ cut.lacking;
+      is_item = first.is_item;
+      is = sym (append_assoc (item_bytes y) first.rest cut.lacking)
+          ∙ ap (λ (l : List ℕ). l ++ cut.lacking) first.is;
+    }) in
+    omega (arith, ap length same.rest, length-append first.rest cut.lacking, cut.some)
+
 -- an item of which some bytes are to come, or all of them follow
 rest_begins : {p : Part} {left : ℕ} {video : List ℕ → List ℕ} {items : List Item} (more : List ℕ)
     → IsAtRest p left video → AreWhole p.after.chosen items (p.bytes ++ more)
@@ -89,7 +118,7 @@ rest_begins {p} {left} {video} {items} more h whole =
           (let pad : List ℕ = replicate (left - length more) 0 in
           let size : length pad ≡ left - length more = length-replicate {A = ℕ} (left - length more) 0 in
           let d = h.ends (more ++ pad) (omega (arith, length-append more pad, size, less)) in
-          absurd (short items whole (record {
+          absurd (no_truncated p more items whole (record {
             item = d.item;
             lacking = pad;
             is_item = d.is_item;
@@ -100,48 +129,20 @@ rest_begins {p} {left} {video} {items} more h whole =
           })))
       | inr enough ↦
           (let d = h.ends (take left more) (length-take-le left more enough) in
-          long items whole (record {
+          let begins = first_video items whole (record {
             item = d.item;
             rest = drop left more;
             is_item = d.is_item;
             is = ap (λ (l : List ℕ). l ++ drop left more) d.bytes_are
                 ∙ append_assoc p.bytes (take left more) (drop left more)
                 ∙ ap (λ (l : List ℕ). p.bytes ++ l) (take-append-drop left more);
-          }) d.video_is)
+          }) in
+          record {
+            rest = video (take left more) ++ begins.rest;
+            is = begins.is ∙ ap (λ (l : List ℕ). l ++ begins.rest) d.video_is
+                ∙ append_assoc p.kept (video (take left more)) begins.rest;
+          })
     ]
-  where
-    short : (items : List Item) → AreWhole p.after.chosen items (p.bytes ++ more)
-        → IsTruncatedItem p.after.chosen p.after.start (p.bytes ++ more) p.place → ⊥
-    short [] whole cut =
-        end_no_fault p.after.chosen p.after.start whole.tail (Truncated p.place) whole.end
-        (subst (λ (l : List ℕ). IsTruncatedItem p.after.chosen p.after.start l p.place) whole.is cut)
-    short (y ∷ ys) whole cut =
-        let first = first_item whole in
-        let same = item_once (cut_stands cut) (record {
-          item = y;
-          rest = first.rest ++ cut.lacking;
-          is_item = first.is_item;
-          is = sym (append_assoc (item_bytes y) first.rest cut.lacking)
-              ∙ ap (λ (l : List ℕ). l ++ cut.lacking) first.is;
-        }) in
-        omega (arith, ap length same.rest, length-append first.rest cut.lacking, cut.some)
-
-    long : (items : List Item) → AreWhole p.after.chosen items (p.bytes ++ more) → (a : StandsFirst p.after.chosen (p.bytes ++ more))
-        → item_video p.after.chosen a.item ≡ p.kept ++ video (take left more) → Begins p.kept (video_of p.after.chosen items)
-    long [] whole a is = absurd (item_no_end (record {
-      item = a.item;
-      rest = a.rest;
-      is_item = a.is_item;
-      is = a.is ∙ whole.is;
-    }) whole.end)
-    long (y ∷ ys) whole a is =
-        let same = item_once a (first_item whole) in
-        let later = video_of (chosen_next p.after.chosen y) ys in
-        record {
-          rest = video (take left more) ++ later;
-          is = ap (λ (v : List ℕ). v ++ later) (sym (ap (item_video p.after.chosen) same.item) ∙ is)
-              ∙ append_assoc p.kept (video (take left more)) later;
-        }
 
 part_begins : {items : List Item} (p : Part) (state : ParserState) (more : List ℕ) → IsPart p state
     → AreWhole p.after.chosen items (p.bytes ++ more) → Begins p.kept (video_of p.after.chosen items)
