@@ -1,14 +1,14 @@
 -- How many codes of a value stand before a place, from the latest code of another value on.
-use Rattle.std.proofs.Common.{ℕ, suc, Bool, true, false, cond, eqb, ◌+◌, ◌<◌, ◌≤◌, ◌≡◌, ◌↔◌, List, []}
-use Rattle.std.proofs.Common.{◌∷◌, length, sym, ◌∙◌, ap, refl, subst, inl, inr, arith}
+use Rattle.std.proofs.Common.{ℕ, suc, Bool, true, false, cond, eqb, ◌+◌, ◌<◌, ◌≤◌, ◌≡◌, ◌⊎◌, ◌↔◌}
+use Rattle.std.proofs.Common.{List, [], ◌∷◌, length, sym, ◌∙◌, ap, refl, subst, inl, inr, arith}
 use Rattle.std.proofs.lemmas.Bool.{cases_Bool, cases_lt, eqb-true, eq-eqb, ne_eqb, false≢true, true≢false}
 use Rattle.mpeg_scan.specs.declared.codes.Code.{Code}
 use Rattle.mpeg_scan.specs.CodeFacts.{film_slice_count, before_group_of, is_head, is_slice, picture_count}
 use Rattle.mpeg_scan.specs.CodeFacts.{slice_count}
 use Rattle.mpeg_scan.specs.StandardRefusals.{IsPicture}
 use Rattle.mpeg_scan.specs.declared.units.Unit.{Unit as PictureUnit}
-use Rattle.mpeg_scan.specs.StandardUnits.{AreCodes, Counts, IsHeadValue, IsSliceValue, NoneIn}
-use Rattle.mpeg_scan.specs.StandardUnits.{StandsIn, StandsThere, UnitIs}
+use Rattle.mpeg_scan.specs.StandardUnits.{AreCodes, Counts, IsFirstCode, IsHeadValue, IsSliceValue}
+use Rattle.mpeg_scan.specs.StandardUnits.{NoneIn, StandsIn, StandsThere, UnitIs}
 use Rattle.mpeg_scan.proofs.PartTilingLemmas.{slice-apart}
 use Rattle.mpeg_scan.proofs.CodesBeforeLemmas.{Knows, known, earlier, has-new, head-value, here, value-head}
 use Rattle.mpeg_scan.proofs.CodesBeforeLemmas.{value-slice, new-below, none-after, none-with, older}
@@ -280,17 +280,40 @@ counts-same {from} {to} same c = record {
       (λ place has far before. ((has.0, ((same place has.0 before).1 has.1.0, has.1.1)), (far, before))) are);
 }
 
+-- the same in a unit's head: a code of a value, and what starts a group
+code-same : {A B : ℕ → ℕ → Type 0} (unit : PictureUnit) (value : ℕ) → SameCodes A B unit.head_end
+    → StandsIn A unit.from unit.head_end value → StandsIn B unit.from unit.head_end value
+code-same unit value same it = record {
+  place = it.place;
+  code = (same it.place value it.before).0 it.code;
+  after = it.after;
+  before = it.before;
+}
+
+starts-same : {A B : ℕ → ℕ → Type 0} (unit : PictureUnit) → SameCodes A B unit.head_end
+    → unit.from < unit.head_end → IsFirstCode A unit.from ⊎ StandsIn A unit.from unit.head_end 0xb8
+    → IsFirstCode B unit.from ⊎ StandsIn B unit.from unit.head_end 0xb8
+starts-same unit same some (inl it) = inl (λ place value has. elim (cases_lt place unit.head_end) [
+  | inl before ↦ it place value ((same place value before).1 has)
+  | inr after ↦ omega (arith, some, after)
+])
+starts-same unit same some (inr it) = inr (code-same unit 0xb8 same it)
+
 -- where these have the codes before a unit's end, it is a unit of both
 pub unit-same : {A B : ℕ → ℕ → Type 0} {F G : ℕ → PictureUnit → Type 0} {unit : PictureUnit}
     → SameCodes A B unit.to → ((place : ℕ) → F place unit → G place unit) → UnitIs A F unit → UnitIs B G unit
 unit-same {A} {B} {unit} same fields u =
     let p = u.picture in
-    let head : unit.head_end < unit.to = u.rest in
-    let from : unit.from < unit.to = omega (arith, p.after, p.before, u.rest) in
+    let some : unit.from < unit.head_end = omega (arith, p.after, p.before) in
+    let there : SameCodes A B unit.head_end =
+    λ place value before. same place value (omega (arith, before, u.rest)) in
+    let back : SameCodes B A unit.head_end =
+    λ place value before. ((there place value before).1, (there place value before).0) in
     record {
-      begins = (u.begins.0, ((same unit.from u.begins.0 from).0 u.begins.1.0, u.begins.1.1));
-      head = λ place value has after before is. u.head place value (back place value before has) after before is;
-      head_ends = (u.head_ends.0, ((same unit.head_end u.head_ends.0 head).0 u.head_ends.1.0, u.head_ends.1.1));
+      begins = (u.begins.0, ((there unit.from u.begins.0 some).0 u.begins.1.0, u.begins.1.1));
+      head = λ place value has after before is.
+          u.head place value ((back place value before).0 has) after before is;
+      head_ends = (u.head_ends.0, ((same unit.head_end u.head_ends.0 u.rest).0 u.head_ends.1.0, u.head_ends.1.1));
       rest = u.rest;
       own = counts-same same u.own;
       all = counts-same same u.all;
@@ -298,43 +321,20 @@ unit-same {A} {B} {unit} same fields u =
           u.slices place value ((same place value before).1 has) after before is;
       picture = record {
         place = p.place;
-        code = (same p.place 0 (omega (arith, p.before, head))).0 p.code;
+        code = (there p.place 0 p.before).0 p.code;
         after = p.after;
         before = p.before;
-        only = λ other has after before. p.only other (back other 0 before has) after before;
-        last = λ place value has after before is. p.last place value (back place value before has) after before is;
+        only = λ other has after before. p.only other ((back other 0 before).0 has) after before;
+        last = λ place value has after before is.
+            p.last place value ((back place value before).0 has) after before is;
         fields = fields p.place p.fields;
       };
-      sequence = (λ e. there 0xb3 (u.sequence.0 e), λ it. u.sequence.1 (less 0xb3 it));
+      sequence = (
+        λ e. code-same unit 0xb3 there (u.sequence.0 e),
+        λ it. u.sequence.1 (code-same unit 0xb3 back it),
+      );
       group = (
-        λ e. elim (u.group.0 e) [
-          | inl firsts ↦ inl (λ place value has. elim (cases_lt place unit.to) [
-            | inl before ↦ firsts place value ((same place value before).1 has)
-            | inr after ↦ omega (arith, from, after)
-          ])
-          | inr it ↦ inr (there 0xb8 it)
-        ],
-        λ either. u.group.1 (elim either [
-          | inl firsts ↦ inl (λ place value has. elim (cases_lt place unit.to) [
-            | inl before ↦ firsts place value ((same place value before).0 has)
-            | inr after ↦ omega (arith, from, after)
-          ])
-          | inr it ↦ inr (less 0xb8 it)
-        ]),
+        λ e. starts-same unit there some (u.group.0 e),
+        λ either. u.group.1 (starts-same unit back some either),
       );
     }
-  where
-    back : (place value : ℕ) → place < unit.head_end → B place value → A place value
-    back place value before has = (same place value (omega (arith, before, u.rest))).1 has
-
-    there : (value : ℕ) → StandsIn A unit.from unit.head_end value → StandsIn B unit.from unit.head_end value
-    there value it = record {
-      place = it.place;
-      code = (same it.place value (omega (arith, it.before, u.rest))).0 it.code;
-      after = it.after;
-      before = it.before;
-    }
-
-    less : (value : ℕ) → StandsIn B unit.from unit.head_end value → StandsIn A unit.from unit.head_end value
-    less value it =
-        record { place = it.place; code = back it.place value it.before it.code; after = it.after; before = it.before }

@@ -1,6 +1,6 @@
 -- The units that have ended are those of the standard's words, over the codes that came.
 use Rattle.std.proofs.Common.{ℕ, zero, suc, Bool, true, false, cond, eqb, ltb, ◌&&◌, ◌||◌, ◌+◌, ◌-◌}
-use Rattle.std.proofs.Common.{◌<◌, ◌≤◌, ◌≡◌, List, [], ◌∷◌, ◌++◌, Option, Some, None}
+use Rattle.std.proofs.Common.{◌<◌, ◌≤◌, ◌≡◌, ◌⊎◌, ◌↔◌, List, [], ◌∷◌, ◌++◌, Option, Some, None}
 use Rattle.std.proofs.Common.{sym, ◌∙◌, ap, refl, subst, inl, inr, arith}
 use Rattle.std.specs.Prelude.{unwrap_or}
 use Rattle.std.specs.Option.{is_some}
@@ -17,8 +17,8 @@ use Rattle.mpeg_scan.specs.Calls.{unit_at, unit_end}
 use Rattle.mpeg_scan.specs.Layout.{OfUnit}
 use Rattle.mpeg_scan.specs.Films.{units_in}
 use Rattle.mpeg_scan.specs.CodePlaces.{HasCode}
-use Rattle.mpeg_scan.specs.StandardUnits.{Counts, HasPicture, IsHeadValue, IsSliceValue}
-use Rattle.mpeg_scan.specs.StandardUnits.{StandsThere, UnitIs}
+use Rattle.mpeg_scan.specs.StandardUnits.{Counts, HasPicture, IsFirstCode, IsHeadValue}
+use Rattle.mpeg_scan.specs.StandardUnits.{IsSliceValue, StandsIn, UnitIs}
 use Rattle.mpeg_scan.proofs.ScanStepLemmas.{accepted-older, code-accepted, otherwise-second}
 use Rattle.mpeg_scan.proofs.ScanStepLemmas.{calls-cons}
 use Rattle.mpeg_scan.proofs.PartTilingLemmas.{CodeEnds, ended-none, first-is, first_slice-accepted, raw_calls}
@@ -26,8 +26,8 @@ use Rattle.mpeg_scan.proofs.PartTilingLemmas.{slice-apart, calls-nil, ends_at}
 use Rattle.mpeg_scan.proofs.CodeSpacingLemmas.{After, Spaced, all-below}
 use Rattle.mpeg_scan.proofs.UnitNumberingLemmas.{first-some, second-accepted, second-none}
 use Rattle.mpeg_scan.proofs.FilmLemmas.{units_in-append}
-use Rattle.mpeg_scan.proofs.LatestUnitLemmas.{Below, Member, NoneFrom, Open, PictureIs, Pictured, first-code}
-use Rattle.mpeg_scan.proofs.LatestUnitLemmas.{member-has, step-open}
+use Rattle.mpeg_scan.proofs.LatestUnitLemmas.{Below, GroupFlag, Member, NoneFrom, Open, PictureIs}
+use Rattle.mpeg_scan.proofs.LatestUnitLemmas.{Pictured, first-code, member-has, step-open}
 use Rattle.mpeg_scan.proofs.CodesBeforeLemmas.{Knows}
 use Rattle.mpeg_scan.proofs.CodeCountLemmas.{all-slices, few-slices, own-slices, unit-same}
 
@@ -88,30 +88,39 @@ pub record Closed (past : List Code) (unit : PictureUnit) : Type 0 where
   pub head_some : unit.from < unit.head_end
   pub rest_some : unit.head_end < unit.to
 
--- a unit with what this header says of its picture
-record HasHeader (unit : PictureUnit) (h : Header) : Type 0 where
-  temporal : unit.temporal ≡ h.temporal
-  kind : unit.kind ≡ h.kind
-  vectors : unit.vectors ≡ h.vectors
+-- a code of a head that stands where a unit begins or later stands in the unit's head
+in-head : {value : ℕ} (past : List Code) (unit : PictureUnit)
+    → NoneFrom past unit.head_end IsHeadValue → IsHeadValue value
+    → (place : ℕ) × (HasCode place value past × (unit.from ≤ place))
+    → StandsIn (Has past) unit.from unit.head_end value
+in-head {value} past unit ends is it = record {
+  place = it.0;
+  code = it.1.0;
+  after = it.1.1;
+  before = elim (cases_lt it.0 unit.head_end) [
+    | inl before ↦ before
+    | inr after ↦ absurd (ends it.0 value it.1.0 after is)
+  ];
+}
 
--- a code of a head stands before the first slice
-in-head : {end place : ℕ} (past : List Code) → NoneFrom past end IsHeadValue → StandsThere (Has past) place IsHeadValue
-    → place < end
-in-head {end} {place} past ends it = elim (cases_lt place end) [
-  | inl before ↦ before
-  | inr after ↦ absurd (ends place it.0 it.1.0 after it.1.1)
-]
+some-picture : (past : List Code) (from : ℕ) (o : Option Header) → is_some o ≡ true
+    → PictureIs past from o → Pictured past from (unwrap_or o no_header)
+some-picture past from None e is = absurd (false≢true e)
+some-picture past from (Some h) e is = is
 
-close-picture : {past : List Code} {unit : PictureUnit} {h : Header} → HasHeader unit h
-    → NoneFrom past unit.head_end IsHeadValue → Pictured past unit.from h
-    → HasPicture (Has past) (CodeFields past) unit
-close-picture {past} header ends is =
+-- the picture of the latest unit
+open-picture : {past : List Code} (to : ℕ) → OpenOf past → 0 < slice_count past
+    → HasPicture (Has past) (CodeFields past) (unit_at (tally_of past) to)
+unfolding in-head
+open-picture {past} to open_ some =
+    let is = some-picture past (latest_unit past) (latest_picture past) (open_.some some) open_.picture_is in
     let has = subst (λ k. HasCode is.code.place k past) is.value (member-has is.code past is.member) in
     record {
       place = is.code.place;
       code = has;
       after = is.after;
-      before = in-head past ends (0, (has, inl refl));
+      before = (in-head past (unit_at (tally_of past) to) (open_.sliced some) (inl refl)
+          (is.code.place, (has, is.after))).before;
       only = λ other has after before. is.only other has after;
       last = λ place value has after before head. is.last place value has after head;
       fields = record {
@@ -119,21 +128,46 @@ close-picture {past} header ends is =
         member = is.member;
         zero_is = is.value;
         place_is = refl;
-        temporal = header.temporal ∙ ap (λ (v : Header). v.temporal) is.header;
-        kind = header.kind ∙ ap (λ (v : Header). v.kind) is.header;
-        vectors = header.vectors ∙ ap (λ (v : Header). v.vectors) is.header;
+        temporal = ap (λ (v : Header). v.temporal) is.header;
+        kind = ap (λ (v : Header). v.kind) is.header;
+        vectors = ap (λ (v : Header). v.vectors) is.header;
       };
     }
 
-some-picture : (o : Option Header) → is_some o ≡ true → (h : Header) × (o ≡ Some h)
-some-picture None e = absurd (false≢true e)
-some-picture (Some h) e = (h, refl)
+-- its slices, up to a place that all codes stand before
+open-slices : {past : List Code} {to : ℕ} → Knows (Has past) past to → OpenOf past
+    → 0 < slice_count past → Counts (Has past) IsSliceValue (head_end_of past) to (slice_count past)
+open-slices {past} k open_ some =
+    let from = latest_unit past in
+    let begins = open_.begins in
+    own-slices k (λ place value has after before is. open_.sliced some place value has after is)
+    (λ low none place slice far before. elim (cases_lt place (head_end_of past)) [
+      | inl less ↦ elim (cases_lt from low) [
+        | inl after ↦ absurd (open_.head some place slice.0 slice.1.0 (omega (arith, after, far)) less slice.1.1)
+        | inr older ↦ absurd (none from begins.0 begins.1.0 older (k.below from begins.0 begins.1.0) begins.1.1)
+      ]
+      | inr more ↦ more
+    ])
+
+-- a unit starts a group: no code stands before it, or a group header stands in its head
+group-flagged : (past : List Code) (unit : PictureUnit) → NoneFrom past unit.head_end IsHeadValue
+    → GroupFlag past unit.from unit.starts_group → (unit.starts_group ≡ true)
+    ↔ (IsFirstCode (Has past) unit.from ⊎ StandsIn (Has past) unit.from unit.head_end 0xb8)
+group-flagged past unit ends group = (
+  λ e. elim (group.there e) [
+    | inl firsts ↦ inl firsts
+    | inr it ↦ inr (in-head past unit ends (inr (inr refl)) it)
+  ],
+  λ either. elim either [
+    | inl firsts ↦ group.first firsts
+    | inr it ↦ group.set it.place it.code it.after
+  ],
+)
 
 close : (past : List Code) (to : ℕ) → OpenOf past → Spaced past → 0 < slice_count past
     → ((place value : ℕ) → HasCode place value past → place < to) → Closed past (unit_at (tally_of past) to)
 close past to open_ spaced some below =
     let unit = unit_at (tally_of past) to in
-    let from = latest_unit past in
     let k : Knows (Has past) past to =
     record {
       there = λ place value has. has;
@@ -146,55 +180,21 @@ close past to open_ spaced some below =
     let ends = open_.sliced some in
     let first = open_.head_ends some in
     let rest = below (head_end_of past) first.0 first.1.0 in
-    let its = some-picture (latest_picture past) (open_.some some) in
-    let header : HasHeader unit its.0 = record {
-      temporal = ap (λ (o : Option Header). (unwrap_or o no_header).temporal) its.1;
-      kind = ap (λ (o : Option Header). (unwrap_or o no_header).kind) its.1;
-      vectors = ap (λ (o : Option Header). (unwrap_or o no_header).vectors) its.1;
-    } in
-    let group = open_.group_is in
     record {
       unit_is = record {
         begins = open_.begins;
         head = open_.head some;
         head_ends = first;
         rest = rest;
-        own = own-slices k (λ place value has after before is. ends place value has after is)
-            (λ low none place slice far before. elim (cases_lt place (head_end_of past)) [
-              | inl less ↦ elim (cases_lt from low) [
-                | inl after ↦ absurd (open_.head some place slice.0 slice.1.0 (omega (arith, after, far)) less slice.1.1)
-                | inr before ↦ absurd (let head = open_.begins in
-                    none from head.0 head.1.0 before (below from head.0 head.1.0) head.1.1)
-              ]
-              | inr more ↦ more
-            ]);
+        own = open-slices k open_ some;
         all = subst (λ n. Counts (Has past) IsSliceValue 0 to n) count (all-slices k);
         slices = λ place value has after before is. ends place value has after is;
-        picture = close-picture header ends (subst (λ o. PictureIs past from o) its.1 open_.picture_is);
+        picture = open-picture to open_ some;
         sequence = (
-          λ e. let it = open_.sequence_is.there e in record {
-            place = it.0;
-            code = it.1.0;
-            after = it.1.1;
-            before = in-head past ends (0xb3, (it.1.0, inr (inl refl)));
-          },
+          λ e. in-head past unit ends (inr (inl refl)) (open_.sequence_is.there e),
           λ it. open_.sequence_is.set it.place it.code it.after,
         );
-        group = (
-          λ e. elim (group.there e) [
-            | inl firsts ↦ inl firsts
-            | inr it ↦ inr (record {
-              place = it.0;
-              code = it.1.0;
-              after = it.1.1;
-              before = in-head past ends (0xb8, (it.1.0, inr (inr refl)));
-            })
-          ],
-          λ either. elim either [
-            | inl firsts ↦ group.first firsts
-            | inr it ↦ group.set it.place it.code it.after
-          ],
-        );
+        group = group-flagged past unit ends open_.group_is;
       };
       head_some = open_.order some;
       rest_some = rest;
