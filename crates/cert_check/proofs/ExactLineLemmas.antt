@@ -40,24 +40,24 @@ pub record LineIn (v : ℕ) (segments : List Segment) (i j : ℕ) : Type 0 where
       ≡ (v + total_bytes (take i segments)) * (segment_at segments i).slots + j * (segment_at segments i).bytes
   pub under : line_under segments (total_slots (take i segments) + j) ≡ (segment_at segments i).slots
 
-pub line_in : {v : ℕ} {segments : List Segment} {i j : ℕ} → i < length segments → 1 ≤ j
-    → j ≤ (segment_at segments i).slots → LineIn v segments i j
-line_in {segments = []} inside some few = absurd (omega (arith, inside))
-line_in {v} {segments = s ∷ rest} {i = zero} {j} inside some few = record {
+pub line_in : {v : ℕ} {segments : List Segment} {i j : ℕ} → i < length segments
+    → (1 ≤ j) × (j ≤ (segment_at segments i).slots) → LineIn v segments i j
+line_in {segments = []} inside within = absurd (omega (arith, inside))
+line_in {v} {segments = s ∷ rest} {i = zero} {j} inside within = record {
   top =
-      let at : line_top v (s ∷ rest) j ≡ v * s.slots + j * s.bytes = line_top-in v s rest j few in
+      let at : line_top v (s ∷ rest) j ≡ v * s.slots + j * s.bytes = line_top-in v s rest j within.1 in
       ap (line_top v (s ∷ rest)) (omega arith) ∙ at ∙ omega arith;
-  under = ap (line_under (s ∷ rest)) (omega arith) ∙ line_under-in s rest j few;
+  under = ap (line_under (s ∷ rest)) (omega arith) ∙ line_under-in s rest j within.1;
 }
-line_in {v} {segments = s ∷ rest} {i = suc i} {j} inside some few =
+line_in {v} {segments = s ∷ rest} {i = suc i} {j} inside within =
     let after : LineIn (v + s.bytes) rest i j =
-    line_in {v = v + s.bytes} {segments = rest} {i = i} {j = j} (omega (arith, inside)) some few in
+    line_in {v = v + s.bytes} {segments = rest} {i = i} {j = j} (omega (arith, inside)) within in
     let slots : total_slots (s ∷ take i rest) ≡ s.slots + total_slots (take i rest) =
     sum_by-cons (λ x. x.slots) s (take i rest) in
     let bytes : total_bytes (s ∷ take i rest) ≡ s.bytes + total_bytes (take i rest) =
     sum_by-cons (λ x. x.bytes) s (take i rest) in
     let place : total_slots (s ∷ take i rest) + j ≡ s.slots + (total_slots (take i rest) + j) = omega (arith, slots) in
-    let later : 1 ≤ total_slots (take i rest) + j = omega arith in
+    let later : 1 ≤ total_slots (take i rest) + j = omega (arith, within.0) in
     let height : (v + s.bytes + total_bytes (take i rest)) * (segment_at rest i).slots
     ≡ (v + total_bytes (s ∷ take i rest)) * (segment_at rest i).slots =
     ap (λ x. x * (segment_at rest i).slots) (omega (arith, bytes)) in

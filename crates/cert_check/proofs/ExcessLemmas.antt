@@ -1,6 +1,6 @@
 -- How much a list of numbers goes over an integer threshold, and over a rate.
 use Rattle.std.proofs.Common.{◌≡◌, ◌≤◌, ◌+◌, ◌-◌, ◌*◌, ℕ, List, [], ◌∷◌, All, length, sum, sum_by, arith, refl, ap}
-use Rattle.std.proofs.Common.{◌∙◌, inl, inr}
+use Rattle.std.proofs.Common.{◌∙◌, inl, inr, subst}
 use Rattle.std.proofs.Math.Nat.{le_antisymm, mul-le-mul_left}
 use Rattle.std.proofs.lemmas.Bool.{cases_lt}
 use Rattle.std.proofs.lemmas.List.Sums.{sum_by-cons, sum_by-le-sum_by}
@@ -49,18 +49,19 @@ pub excess-one : (p : ℕ) (ys : List ℕ) → excess ys p 1 ≡ over p ys
 excess-one p ys = sum_by-agree (λ b. 1 * b - p) (λ b. b - p) ys (λ b. omega arith)
 
 -- one number over the rate ((e + r) * a + r) / (e + r), by the two integer thresholds next to it
-between_above : {b : ℕ} (a e r d : ℕ) → 1 ≤ e → b ≡ a + 1 + d
-    → (e + r) * b - ((e + r) * a + r) ≡ e * (b - a) + r * (b - (a + 1))
-between_above {b} a e r d some is =
-    let one : b - a ≡ 1 + d = omega arith in
-    let two : b - (a + 1) ≡ d = omega arith in
-    let left : (e + r) * b ≡ (e + r) * (a + 1 + d) = ap (λ n. (e + r) * n) is in
-    rw (one, two) (omega (arith, left))
+between_above : (a e r d : ℕ) → 1 ≤ e
+    → (e + r) * (a + 1 + d) - ((e + r) * a + r) ≡ e * (a + 1 + d - a) + r * (a + 1 + d - (a + 1))
+between_above a e r d some =
+    let one : a + 1 + d - a ≡ 1 + d = omega arith in
+    let two : a + 1 + d - (a + 1) ≡ d = omega arith in
+    rw (one, two) (omega arith)
 
 between_thresholds : (a e r b : ℕ) → 1 ≤ e → (e + r) * b - ((e + r) * a + r) ≡ e * (b - a) + r * (b - (a + 1))
 between_thresholds a e r b some =
     elim (cases_lt a b) [
-      | inl above ↦ between_above a e r (b - (a + 1)) some (omega arith)
+      | inl above ↦
+          subst (λ b. (e + r) * b - ((e + r) * a + r) ≡ e * (b - a) + r * (b - (a + 1))) (omega arith)
+          (between_above a e r (b - (a + 1)) some)
       | inr under ↦ (
           let zero_one : b - a ≡ 0 = omega arith in
           let zero_two : b - (a + 1) ≡ 0 = omega arith in

@@ -7,7 +7,7 @@ use Rattle.std.proofs.lemmas.List.Sums.{sum_by-cons}
 use Rattle.plan_cert.specs.declared.Segment.{Segment}
 use Rattle.plan_cert.specs.PlanSlots.{plan_slots, total_slots}
 use Rattle.plan_cert.proofs.SlotSums.{sum-take-in, sum-take-past}
-use Rattle.cert_check.specs.TautRecursion.{StaysBetween, RunsTaut}
+use Rattle.cert_check.specs.TautRecursion.{Start, after, RunsTaut}
 
 -- the floor of a segment's line from height v, against a whole number
 floor_above : (v : ℕ) (s : Segment) (t h : ℕ) → 0 < s.slots → h * s.slots ≤ v * s.slots + t * s.bytes
@@ -31,48 +31,38 @@ floor_below v s t h pos above =
     open s use {slots as n, bytes as b}
 
 -- through t slots of the line
-pub record KeepsAt (lo hi : ℕ → ℕ) (k v t : ℕ) (segments : List Segment) : Type 0 where
-  pub above : lo (k + t) ≤ v + sum (take t (plan_slots segments))
-  pub below : v + sum (take t (plan_slots segments)) ≤ hi (k + t)
+pub record KeepsAt (at : Start) (t : ℕ) (segments : List Segment) : Type 0 where
+  pub above : at.lo (at.place + t) ≤ at.height + sum (take t (plan_slots segments))
+  pub below : at.height + sum (take t (plan_slots segments)) ≤ at.hi (at.place + t)
 
--- in the first segment
-keeps_in : {lo hi : ℕ → ℕ} {k v : ℕ} {s : Segment} (rest : List Segment) → StaysBetween lo hi k v s →
-    {t : ℕ} → t ≤ s.slots → KeepsAt lo hi k v t (s ∷ rest)
-keeps_in {lo} {hi} {k} {v} {s} rest stays {t} within =
-    let here : sum (take t (plan_slots (s ∷ rest))) ≡ t * s.bytes / s.slots = sum-take-in s rest t stays.some within in
-    record {
-      above = rw here (floor_above v s t (lo (k + t)) stays.some (stays.above t within));
-      below = rw here (floor_below v s t (hi (k + t)) stays.some (stays.below t within));
-    }
-
-pub line_keeps : {lo hi : ℕ → ℕ} {k v : ℕ} {s : Segment} {rest : List Segment} → RunsTaut lo hi k v (s ∷ rest) →
-    {t : ℕ} → t ≤ total_slots (s ∷ rest) → KeepsAt lo hi k v t (s ∷ rest)
-line_keeps {lo} {hi} {k} {v} {s} {rest = []} runs {t} few =
-    let slots : total_slots (s ∷ []) ≡ s.slots + total_slots [] = sum_by-cons (λ x. x.slots) s [] in
-    let none : total_slots [] ≡ 0 = refl in
-    keeps_in [] runs.0 (omega (arith, few, slots, none))
-line_keeps {lo} {hi} {k} {v} {s} {rest = next ∷ rest} runs {t} few =
+pub line_keeps : {at : Start} (segments : List Segment) → RunsTaut at segments → {t : ℕ} → 1 ≤ t
+    → t ≤ total_slots segments → KeepsAt at t segments
+line_keeps [] runs some few = absurd (omega (arith, some, few))
+line_keeps {at} (s ∷ rest) runs {t} some few =
     elim (cases_lt s.slots t) [
-      | inr within ↦ keeps_in (next ∷ rest) runs.0 within
+      | inr within ↦ (
+          let stays = runs.0 in
+          let here : sum (take t (plan_slots (s ∷ rest))) ≡ t * s.bytes / s.slots =
+          sum-take-in s rest t stays.some within in
+          record {
+            above = rw here (floor_above at.height s t (at.lo (at.place + t)) stays.some (stays.above t within));
+            below = rw here (floor_below at.height s t (at.hi (at.place + t)) stays.some (stays.below t within));
+          }
+          )
       | inl past ↦ (
           let d = t - s.slots in
           let is : t ≡ s.slots + d = omega arith in
-          let slots : total_slots (s ∷ next ∷ rest) ≡ s.slots + total_slots (next ∷ rest) =
-          sum_by-cons (λ x. x.slots) s (next ∷ rest) in
-          let after : KeepsAt lo hi (k + s.slots) (v + s.bytes) d (next ∷ rest) =
-          line_keeps {lo = lo} {hi = hi} {k = k + s.slots} {v = v + s.bytes} {s = next} {rest = rest} runs.2
-          {t = d} (omega (arith, few, slots)) in
-          let joined : sum (take (s.slots + d) (plan_slots (s ∷ next ∷ rest)))
-          ≡ s.bytes + sum (take d (plan_slots (next ∷ rest))) = sum-take-past s (next ∷ rest) d runs.0.some in
-          let whole : sum (take t (plan_slots (s ∷ next ∷ rest)))
-          ≡ s.bytes + sum (take d (plan_slots (next ∷ rest))) =
-          ap (λ n. sum (take n (plan_slots (s ∷ next ∷ rest)))) is ∙ joined in
-          let place : k + s.slots + d ≡ k + t = omega (arith, is) in
-          let low : lo (k + s.slots + d) ≡ lo (k + t) = ap lo place in
-          let high : hi (k + s.slots + d) ≡ hi (k + t) = ap hi place in
+          let slots : total_slots (s ∷ rest) ≡ s.slots + total_slots rest = sum_by-cons (λ x. x.slots) s rest in
+          let later : KeepsAt (after at s) d rest =
+          line_keeps {at = after at s} rest runs.2 {t = d} (omega arith) (omega (arith, few, slots)) in
+          let whole : sum (take t (plan_slots (s ∷ rest))) ≡ s.bytes + sum (take d (plan_slots rest)) =
+          ap (λ n. sum (take n (plan_slots (s ∷ rest)))) is ∙ sum-take-past s rest d runs.0.some in
+          let place : at.place + s.slots + d ≡ at.place + t = omega (arith, is) in
+          let low = ap at.lo place in
+          let high = ap at.hi place in
           record {
-            above = omega (arith, whole, low, after.above);
-            below = omega (arith, whole, high, after.below);
+            above = omega (arith, whole, low, later.above);
+            below = omega (arith, whole, high, later.below);
           }
           )
     ]

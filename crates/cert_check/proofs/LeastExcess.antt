@@ -1,7 +1,7 @@
 -- A taut line goes over each integer threshold by no more than any list of numbers that stays between the same curves.
 -- One induction over the segments. A segment is hot where its slope is above the threshold p, else cold. A change from
 -- hot to cold stands on the lower curve, one from cold to hot on the upper one.
-use Rattle.std.proofs.Common.{◌≡◌, ◌<◌, ◌≤◌, ◌+◌, ◌-◌, ◌*◌, ℕ, List, [], ◌∷◌, ◌++◌, inl, inr, length, take, drop, sum}
+use Rattle.std.proofs.Common.{◌≡◌, ◌<◌, ◌≤◌, ◌+◌, ◌-◌, ◌*◌, ℕ, List, [], ◌∷◌, ◌++◌, ◌⊎◌, inl, inr, length, take, drop, sum}
 use Rattle.std.proofs.Common.{arith, sym, ap, subst, ◌∙◌, add-zero}
 use Rattle.std.proofs.Math.Nat.{mul-le-mul_right}
 use Rattle.std.proofs.Math.Seq.{take-append-add}
@@ -12,14 +12,20 @@ use Rattle.plan_cert.specs.declared.Segment.{Segment}
 use Rattle.plan_cert.specs.PlanSlots.{total_slots, total_bytes}
 use Rattle.slope_frac.specs.SlopeOrder.{IsLessSteep}
 use Rattle.cert_check.specs.ExactLine.{slope_of}
-use Rattle.cert_check.specs.TautRecursion.{Bends, RunsTaut}
+use Rattle.cert_check.specs.TautRecursion.{Start, after, Bends, RunsTaut}
 use Rattle.cert_check.proofs.ExcessLemmas.{over, sum-le-over}
 use Rattle.cert_check.proofs.SlotExcess.{line_over}
 
--- the numbers ys, in m-ths, keep the running sum between the curves from place k, where it is `held`
-pub record KeepsBetween (m : ℕ) (lo hi : ℕ → ℕ) (k held : ℕ) (ys : List ℕ) : Type 0 where
-  pub above : (j : ℕ) → j ≤ length ys → m * lo (k + j) ≤ held + sum (take j ys)
-  pub below : (j : ℕ) → j ≤ length ys → held + sum (take j ys) ≤ m * hi (k + j)
+-- a place and a height of the line, and there a running sum, in m-ths, with the numbers that follow
+pub record Beside (m : ℕ) : Type 0 where
+  pub at : Start
+  pub held : ℕ
+  pub ys : List ℕ
+
+-- the numbers keep the running sum between the curves
+pub record KeepsBetween {m : ℕ} (b : Beside m) : Type 0 where
+  pub above : (j : ℕ) → j ≤ length b.ys → m * b.at.lo (b.at.place + j) ≤ b.held + sum (take j b.ys)
+  pub below : (j : ℕ) → j ≤ length b.ys → b.held + sum (take j b.ys) ≤ m * b.at.hi (b.at.place + j)
 
 -- taking j numbers of what is left after n numbers
 sum-take-drop : (n j : ℕ) (ys : List ℕ) → n + j ≤ length ys → sum (take n ys) + sum (take j (drop n ys))
@@ -33,28 +39,30 @@ sum-take-drop n j ys fits =
     ap (λ c. take (c + j) ys) (sym first) ∙ ap (λ zs. take (length (take n ys) + j) zs) (sym joined) ∙ seam in
     sym (ap sum seam' ∙ sum_by-append (λ b. b) (take n ys) (take j (drop n ys)))
 
--- what is left after n numbers stays between the curves from there
-pub keeps_on : {m : ℕ} {lo hi : ℕ → ℕ} {k held : ℕ} {ys : List ℕ} (n : ℕ) → n ≤ length ys
-    → KeepsBetween m lo hi k held ys →
-    KeepsBetween m lo hi (k + n) (held + sum (take n ys)) (drop n ys)
-keeps_on {m} {lo} {hi} {k} {held} {ys} n fits keeps = record {
-  above = λ j few.
-      let left : length (drop n ys) ≡ length ys - n = length-drop n ys in
-      let e : sum (take n ys) + sum (take j (drop n ys)) ≡ sum (take (n + j) ys) = sum-take-drop n j ys (omega arith) in
-      let place : k + (n + j) ≡ k + n + j = omega arith in
-      let h : m * lo (k + (n + j)) ≤ held + sum (take (n + j) ys) = keeps.above (n + j) (omega arith) in
-      let h' : m * lo (k + n + j) ≤ held + sum (take (n + j) ys) =
-      subst (λ c. m * lo c ≤ held + sum (take (n + j) ys)) place h in
-      omega (arith, e, h');
-  below = λ j few.
-      let left : length (drop n ys) ≡ length ys - n = length-drop n ys in
-      let e : sum (take n ys) + sum (take j (drop n ys)) ≡ sum (take (n + j) ys) = sum-take-drop n j ys (omega arith) in
-      let place : k + (n + j) ≡ k + n + j = omega arith in
-      let h : held + sum (take (n + j) ys) ≤ m * hi (k + (n + j)) = keeps.below (n + j) (omega arith) in
-      let h' : held + sum (take (n + j) ys) ≤ m * hi (k + n + j) =
-      subst (λ c. held + sum (take (n + j) ys) ≤ m * hi c) place h in
-      omega (arith, e, h');
-}
+-- after a segment, and as many numbers as it has slots
+abbrev beside_after : {m : ℕ} → Beside m → Segment → Beside m
+beside_after b s =
+    record { at = after b.at s; held = b.held + sum (take s.slots b.ys); ys = drop s.slots b.ys }
+
+-- the numbers that are left stay between the curves from there
+keeps_on : {m : ℕ} {b : Beside m} (s : Segment) → s.slots ≤ length b.ys → KeepsBetween b
+    → KeepsBetween (beside_after b s)
+keeps_on {m} {b} s fits keeps =
+    record {
+      above = λ j few.
+          let e = sum-take-drop s.slots j ys (omega (arith, length-drop s.slots ys)) in
+          let h = keeps.above (s.slots + j) (omega (arith, length-drop s.slots ys)) in
+          omega (arith, e, h, ap (λ c. m * at.lo c) (same_place at.place s.slots j));
+      below = λ j few.
+          let e = sum-take-drop s.slots j ys (omega (arith, length-drop s.slots ys)) in
+          let h = keeps.below (s.slots + j) (omega (arith, length-drop s.slots ys)) in
+          omega (arith, e, h, ap (λ c. m * at.hi c) (same_place at.place s.slots j));
+    }
+  where
+    open b use {at, ys}
+
+    same_place : (k n j : ℕ) → k + (n + j) ≡ k + n + j
+    same_place k n j = omega arith
 
 -- the first segment's slope is above p, or at most p; a list without segments counts as both
 abbrev pub IsHot : ℕ → List Segment → Type 0
@@ -65,32 +73,10 @@ abbrev pub IsCold : ℕ → List Segment → Type 0
 IsCold p [] = Unit {0}
 IsCold p (s ∷ rest) = s.bytes ≤ s.slots * p
 
--- the hypothesis of the induction: from place k, where the line is at height v and the running sum is `held`
-pub record Bounds (m p v held : ℕ) (segments : List Segment) (ys : List ℕ) : Type 0 where
-  pub hot : IsHot p segments → m * line_over p segments + m * v ≤ over (m * p) ys + held
-  pub cold : IsCold p segments → m * line_over p segments ≤ over (m * p) ys
-
--- a segment above p from height v, where the running sum is `held`: what the numbers of its slots are together and send
--- above m * p, and what those after it send above, as the line does
-record HotSegment (m p v held : ℕ) : Type 0 where
-  pub segment : Segment
-  pub own_sum : ℕ
-  pub own_over : ℕ
-  pub rest_over : ℕ
-  pub rest_line : ℕ
-  pub is_hot : segment.slots * p < segment.bytes
-  pub few : own_sum ≤ own_over + segment.slots * (m * p)
-  pub after : m * rest_line + m * (v + segment.bytes) ≤ rest_over + (held + own_sum)
-
-hot_step : {m p v held : ℕ} (hot : HotSegment m p v held) →
-    m * ((hot.segment.bytes - hot.segment.slots * p) + hot.rest_line) + m * v ≤ hot.own_over + hot.rest_over + held
-hot_step {m} {p} hot =
-    let d = b - n * p in
-    let split : b ≡ n * p + d = omega (arith, hot.is_hot) in
-    let all : m * b ≡ m * (n * p + d) = ap (λ x. m * x) split in
-    omega (arith, all, hot.few, hot.after)
-  where
-    open hot use {segment.{slots as n, bytes as b}}
+-- the hypothesis of the induction
+pub record Bounds {m : ℕ} (p : ℕ) (b : Beside m) (segments : List Segment) : Type 0 where
+  pub hot : IsHot p segments → m * line_over p segments + m * b.at.height ≤ over (m * p) b.ys + b.held
+  pub cold : IsCold p segments → m * line_over p segments ≤ over (m * p) b.ys
 
 -- a segment above p that is followed by one at most p doesn't rise
 no_rise : (p : ℕ) (s next : Segment) → s.slots * p < s.bytes → next.bytes ≤ next.slots * p
@@ -108,45 +94,54 @@ no_fall p s next is_cold is_hot falls =
     let two : s.bytes * next.slots ≤ s.slots * p * next.slots = mul-le-mul_right next.slots is_cold in
     omega (arith, one, two, falls)
 
--- what comes after a hot segment, in the form that `hot_step` takes
-after_hot : {m p : ℕ} {lo hi : ℕ → ℕ} {k v held : ℕ} {rest : List Segment} {zs : List ℕ} (s : Segment) →
-    s.slots * p < s.bytes → Bends lo hi k v s rest → KeepsBetween m lo hi k held zs → Bounds m p v held rest zs →
-    m * line_over p rest + m * v ≤ over (m * p) zs + held
-after_hot {m} {p} {lo} {rest = []} s is_hot bend keeps bounds = bounds.hot tt
-after_hot {m} {p} {lo} {k} {v} {held} {rest = next ∷ others} {zs} s is_hot bend keeps bounds =
-    elim (cases_lt (next.slots * p) next.bytes) [
-      | inl next_hot ↦ bounds.hot next_hot
-      | inr next_cold ↦ elim bend [
-        | inl rise ↦ absurd (no_rise p s next is_hot next_cold rise.0)
-        | inr fall ↦ (
-            let least : m * lo (k + 0) ≤ held + 0 = keeps.above 0 (omega arith) in
-            let here : m * lo (k + 0) ≡ m * lo k = ap (λ c. m * lo c) (add-zero k) in
-            let line : m * line_over p (next ∷ others) ≤ over (m * p) zs = bounds.cold next_cold in
-            let height : m * v ≡ m * lo k = ap (λ x. m * x) fall.1 in
-            omega (arith, least, here, line, height)
-            )
-      ]
-    ]
+-- after a hot segment a cold one follows only on the lower curve
+hot_falls : (p : ℕ) (at : Start) (s : Segment) (rest : List Segment) → s.slots * p < s.bytes → Bends at s rest
+    → IsHot p rest ⊎ (IsCold p rest × (at.height ≡ at.lo at.place))
+hot_falls p at s [] is_hot bend = inl tt
+hot_falls p at s (next ∷ rest) is_hot bend = elim (cases_lt (next.slots * p) next.bytes) [
+  | inl next_hot ↦ inl next_hot
+  | inr next_cold ↦ elim bend [
+    | inl rise ↦ absurd (no_rise p s next is_hot next_cold rise.0)
+    | inr fall ↦ inr (next_cold, fall.1)
+  ]
+]
 
--- what comes after a cold segment
-after_cold : {m p : ℕ} {lo hi : ℕ → ℕ} {k v held : ℕ} {rest : List Segment} {zs : List ℕ} (s : Segment) →
-    s.bytes ≤ s.slots * p → Bends lo hi k v s rest → KeepsBetween m lo hi k held zs → Bounds m p v held rest zs →
-    m * line_over p rest ≤ over (m * p) zs
-after_cold {m} {p} {lo} {rest = []} s is_cold bend keeps bounds = bounds.cold tt
-after_cold {m} {p} {lo} {hi} {k} {v} {held} {rest = next ∷ others} {zs} s is_cold bend keeps bounds =
-    elim (cases_lt (next.slots * p) next.bytes) [
-      | inr next_cold ↦ bounds.cold next_cold
-      | inl next_hot ↦ elim bend [
-        | inr fall ↦ absurd (no_fall p s next is_cold next_hot fall.0)
-        | inl rise ↦ (
-            let most : held + 0 ≤ m * hi (k + 0) = keeps.below 0 (omega arith) in
-            let here : m * hi (k + 0) ≡ m * hi k = ap (λ c. m * hi c) (add-zero k) in
-            let line : m * line_over p (next ∷ others) + m * v ≤ over (m * p) zs + held = bounds.hot next_hot in
-            let height : m * v ≡ m * hi k = ap (λ x. m * x) rise.1 in
-            omega (arith, most, here, line, height)
-            )
-      ]
-    ]
+-- and after a cold one a hot one only on the upper curve
+cold_rises : (p : ℕ) (at : Start) (s : Segment) (rest : List Segment) → s.bytes ≤ s.slots * p → Bends at s rest
+    → IsCold p rest ⊎ (IsHot p rest × (at.height ≡ at.hi at.place))
+cold_rises p at s [] is_cold bend = inl tt
+cold_rises p at s (next ∷ rest) is_cold bend = elim (cases_lt (next.slots * p) next.bytes) [
+  | inr next_cold ↦ inl next_cold
+  | inl next_hot ↦ elim bend [
+    | inr fall ↦ absurd (no_fall p s next is_cold next_hot fall.0)
+    | inl rise ↦ inr (next_hot, rise.1)
+  ]
+]
+
+-- what comes after a segment, where the numbers keep the running sum between the curves
+after_hot : {m p : ℕ} {b : Beside m} {rest : List Segment}
+    → IsHot p rest ⊎ (IsCold p rest × (b.at.height ≡ b.at.lo b.at.place)) → KeepsBetween b × Bounds p b rest
+    → m * line_over p rest + m * b.at.height ≤ over (m * p) b.ys + b.held
+after_hot {m} {p} {b} next known = elim next [
+  | inl hot ↦ known.1.hot hot
+  | inr cold ↦ (
+      let least = known.0.above 0 (omega arith) in
+      let here = ap (λ c. m * b.at.lo c) (add-zero b.at.place) in
+      omega (arith, least, here, known.1.cold cold.0, ap (λ x. m * x) cold.1)
+      )
+]
+
+after_cold : {m p : ℕ} {b : Beside m} {rest : List Segment}
+    → IsCold p rest ⊎ (IsHot p rest × (b.at.height ≡ b.at.hi b.at.place)) → KeepsBetween b × Bounds p b rest
+    → m * line_over p rest ≤ over (m * p) b.ys
+after_cold {m} {p} {b} next known = elim next [
+  | inl cold ↦ known.1.cold cold
+  | inr hot ↦ (
+      let most = known.0.below 0 (omega arith) in
+      let here = ap (λ c. m * b.at.hi c) (add-zero b.at.place) in
+      omega (arith, most, here, known.1.hot hot.0, ap (λ x. m * x) hot.1)
+      )
+]
 
 -- the first n numbers and those after them: what both send above q, and how much the first ones are
 record OverParts (q n : ℕ) (ys : List ℕ) : Type 0 where
@@ -163,80 +158,57 @@ over_parts q n ys fits =
           (sum-le-over q (take n ys));
     }
 
--- after the last segment, where the line has met the lower curve
-bounds_end : {m p : ℕ} {lo hi : ℕ → ℕ} {k v held : ℕ} {ys : List ℕ} → lo (k + 0) ≡ v + 0
-    → KeepsBetween m lo hi k held ys → Bounds m p v held [] ys
-bounds_end {m} {lo} {k} {v} {held} ends keeps = record {
-  hot = λ _.
-      let least : m * lo (k + 0) ≤ held + 0 = keeps.above 0 (omega arith) in
-      let at : m * lo (k + 0) ≡ m * (v + 0) = ap (λ x. m * x) ends in
-      omega (arith, least, at);
-  cold = λ _. omega arith;
-}
+-- segments that run taut to where the lower curve ends, beside as many numbers as they have slots, which keep the
+-- running sum between the curves
+pub record RunsBeside {m : ℕ} (b : Beside m) (segments : List Segment) : Type 0 where
+  pub runs : RunsTaut b.at segments
+  pub ends : b.at.lo (b.at.place + total_slots segments) ≡ b.at.height + total_bytes segments
+  pub same_length : length b.ys ≡ total_slots segments
+  pub keeps : KeepsBetween b
 
--- the induction: the line ends on both curves
-pub bounds : {m p : ℕ} {lo hi : ℕ → ℕ} {k v held : ℕ} {segments : List Segment} {ys : List ℕ} →
-    RunsTaut lo hi k v segments → lo (k + total_slots segments) ≡ v + total_bytes segments
-    → length ys ≡ total_slots segments →
-    KeepsBetween m lo hi k held ys → Bounds m p v held segments ys
-bounds {segments = []} runs ends same keeps = bounds_end ends keeps
-bounds {m} {p} {lo} {hi} {k} {v} {held} {segments = s ∷ rest} {ys} runs ends same keeps =
+-- the induction
+bounds : {m : ℕ} (p : ℕ) {b : Beside m} (segments : List Segment) → RunsBeside b segments → Bounds p b segments
+bounds {m} p {b} [] line =
+    let least = line.keeps.above 0 (omega arith) in
+    record {
+      hot = λ _. omega (arith, least, ap (λ x. m * x) line.ends);
+      cold = λ _. omega arith;
+    }
+bounds {m} p {b} (s ∷ rest) line =
     let slots : total_slots (s ∷ rest) ≡ s.slots + total_slots rest = sum_by-cons (λ x. x.slots) s rest in
     let bytes : total_bytes (s ∷ rest) ≡ s.bytes + total_bytes rest = sum_by-cons (λ x. x.bytes) s rest in
-    let line : line_over p (s ∷ rest) ≡ (s.bytes - s.slots * p) + line_over p rest =
+    let over_line : line_over p (s ∷ rest) ≡ (s.bytes - s.slots * p) + line_over p rest =
     sum_by-cons (λ x. x.bytes - x.slots * p) s rest in
-    let fits : s.slots ≤ length ys = omega (arith, same, slots) in
-    let same' : length (drop s.slots ys) ≡ total_slots rest = omega (arith, length-drop s.slots ys, same, slots) in
-    let keeps' = keeps_on s.slots fits keeps in
-    let place : k + total_slots (s ∷ rest) ≡ k + s.slots + total_slots rest = omega (arith, slots) in
-    let ends' : lo (k + s.slots + total_slots rest) ≡ v + s.bytes + total_bytes rest =
-    ap lo (sym place) ∙ ends ∙ omega (arith, bytes) in
-    let rest' : Bounds m p (v + s.bytes) (held + sum (take s.slots ys)) rest (drop s.slots ys) =
-    bounds {m = m} {p = p} {lo = lo} {hi = hi} {k = k + s.slots} {v = v + s.bytes}
-    {held = held + sum (take s.slots ys)} {segments = rest} {ys = drop s.slots ys} runs.2 ends' same' keeps' in
-    let parts = over_parts (m * p) s.slots ys fits in
+    let fits : s.slots ≤ length b.ys = omega (arith, line.same_length, slots) in
+    let place : b.at.place + total_slots (s ∷ rest) ≡ b.at.place + s.slots + total_slots rest = omega (arith, slots) in
+    let further : RunsBeside (beside_after b s) rest = record {
+      runs = line.runs.2;
+      ends = ap b.at.lo (sym place) ∙ line.ends ∙ omega (arith, bytes);
+      same_length = omega (arith, length-drop s.slots b.ys, line.same_length, slots);
+      keeps = keeps_on s fits line.keeps;
+    } in
+    let known : KeepsBetween (beside_after b s) × Bounds p (beside_after b s) rest =
+    (further.keeps, bounds p {b = beside_after b s} rest further) in
+    let parts = over_parts (m * p) s.slots b.ys fits in
     record {
       hot = λ is_hot.
-          let here : HotSegment m p v held = record {
-            segment = s;
-            own_sum = sum (take s.slots ys);
-            own_over = over (m * p) (take s.slots ys);
-            rest_over = over (m * p) (drop s.slots ys);
-            rest_line = line_over p rest;
-            is_hot = is_hot;
-            few = parts.few;
-            after = after_hot s is_hot runs.1 keeps' rest';
-          } in
-          rw (line, parts.whole) (hot_step here);
+          let d = s.bytes - s.slots * p in
+          let split : s.bytes ≡ s.slots * p + d = omega (arith, is_hot) in
+          let later = after_hot (hot_falls p (after b.at s) s rest is_hot line.runs.1) known in
+          rw (over_line, parts.whole) (omega (arith, ap (λ x. m * x) split, parts.few, later));
       cold = λ is_cold.
-          let after : m * line_over p rest ≤ over (m * p) (drop s.slots ys) =
-          after_cold s is_cold runs.1 keeps' rest' in
+          let later = after_cold (cold_rises p (after b.at s) s rest is_cold line.runs.1) known in
           let none : s.bytes - s.slots * p ≡ 0 = omega arith in
-          rw (line, parts.whole, none) (omega (arith, after));
+          rw (over_line, parts.whole, none) (omega (arith, later));
     }
 
--- segments that run taut from height v to where the lower curve ends, and as many numbers as they have slots
-pub record IsTautBeside (lo hi : ℕ → ℕ) (v : ℕ) (segments : List Segment) (ys : List ℕ) : Type 0 where
-  pub runs : RunsTaut lo hi 0 v segments
-  pub ends : lo (total_slots segments) ≡ v + total_bytes segments
-  pub same_length : length ys ≡ total_slots segments
-
 -- from a place where the curves meet, or where the first segment is cold, the line goes over p by no more than ys
-pub least : {m : ℕ} {lo hi : ℕ → ℕ} {ys : List ℕ} (p v : ℕ) (segments : List Segment)
-    → IsTautBeside lo hi v segments ys →
-    KeepsBetween m lo hi 0 (m * v) ys → m * line_over p segments ≤ over (m * p) ys
-least {m} {lo} {ys} p v segments line keeps =
-    let ends' : lo (0 + total_slots segments) ≡ v + total_bytes segments =
-    subst (λ c. lo c ≡ v + total_bytes segments) (omega arith) line.ends in
-    let both : Bounds m p v (m * v) segments ys = bounds line.runs ends' line.same_length keeps in
-    from_both segments both
-  where
-    from_both : (segs : List Segment) → Bounds m p v (m * v) segs ys → m * line_over p segs ≤ over (m * p) ys
-    from_both [] both = both.cold tt
-    from_both (s ∷ rest) both =
-        elim (cases_lt (s.slots * p) s.bytes) [
-          | inl is_hot ↦
-              (let h : m * line_over p (s ∷ rest) + m * v ≤ over (m * p) ys + m * v =
-              both.hot is_hot in omega (arith, h))
-          | inr is_cold ↦ both.cold is_cold
-        ]
+pub least : {m : ℕ} (p : ℕ) {b : Beside m} (segments : List Segment) → RunsBeside b segments
+    → b.held ≡ m * b.at.height → m * line_over p segments ≤ over (m * p) b.ys
+least {m} p {b} [] line same = (bounds p [] line).cold tt
+least {m} p {b} (s ∷ rest) line same =
+    let both = bounds p (s ∷ rest) line in
+    elim (cases_lt (s.slots * p) s.bytes) [
+      | inl is_hot ↦ (let h = both.hot is_hot in omega (arith, h, same))
+      | inr is_cold ↦ both.cold is_cold
+    ]

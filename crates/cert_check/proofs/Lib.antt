@@ -10,4 +10,3 @@ pub mod TautFormLemmas
 pub mod OptimalityProof
 mod SegmentEnds
 mod LineWalkLemmas
-mod FirstFaultLemmas

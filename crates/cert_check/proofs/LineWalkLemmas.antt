@@ -26,66 +26,51 @@ one_after segments i before =
           )
     ]
 
+-- what the walk needs of the list: no segment is empty
+abbrev pub AreFull : List Segment → Type 0
+AreFull segments = (i : ℕ) → i < length segments → 1 ≤ (segment_at segments i).slots
+
 pub record Goes (from : ℕ) (segments : List Segment) (t : ℕ) (walk : Walk) : Type 0 where
   pub stands : IsWalkAt from segments t walk
   pub some : 1 ≤ walk.passed
 
 -- one slot further: from a segment's end into the next one, and within a segment
-goes_over : {from : ℕ} {low up : List ℕ} {segments : List Segment} {t : ℕ} {walk : Walk}
-    → AddsUp from low up segments → IsWalkAt from segments t walk → t < length low
-    → walk.passed ≡ (segment_at segments walk.index).slots
-    → Goes from segments (t + 1) (record {
-      index = walk.index + 1;
-      passed = 1;
-      height = walk.height + (segment_at segments walk.index).bytes;
-    })
-goes_over {from} {low} {segments} {t} {walk} whole stands few over =
-    let s = segment_at segments walk.index in
-    let ends : end_place segments walk.index ≡ total_slots (take walk.index segments) + s.slots =
-    end_place_is segments walk.index stands.inside in
-    let height : end_height from segments walk.index ≡ from + total_bytes (take walk.index segments) + s.bytes =
-    end_height_is from segments walk.index stands.inside in
-    let after : walk.index + 1 < length segments =
-    one_after segments walk.index (omega (arith, ends, stands.place, over, whole.slots, few)) in
-    record {
-      stands = record {
-        inside = after;
-        within = whole.some (walk.index + 1) after;
-        place = omega (arith, ends, stands.place, over);
-        height_is = omega (arith, height, stands.height_is);
-      };
-      some = omega arith;
-    }
-
-goes_within : {from : ℕ} {segments : List Segment} {t : ℕ} {walk : Walk} → IsWalkAt from segments t walk
-    → walk.passed ≢ (segment_at segments walk.index).slots
-    → Goes from segments (t + 1) (record { index = walk.index; passed = walk.passed + 1; height = walk.height })
-goes_within stands within = record {
-  stands = record {
-    inside = stands.inside;
-    within = omega (arith, stands.within, within);
-    place = omega (arith, stands.place);
-    height_is = stands.height_is;
-  };
-  some = omega arith;
-}
-
-pub goes_on : {from : ℕ} {low up : List ℕ} {segments : List Segment} {t : ℕ} {walk : Walk}
-    → AddsUp from low up segments →
-    IsWalkAt from segments t walk → t < length low → Goes from segments (t + 1) (next_walk segments walk)
-goes_on {from} {low} {segments} {t} {walk} whole stands few =
+pub goes_on : {from : ℕ} {segments : List Segment} {t : ℕ} {walk : Walk} → IsWalkAt from segments t walk
+    → AreFull segments × (t < total_slots segments) → Goes from segments (t + 1) (next_walk segments walk)
+goes_on {from} {segments} {t} {walk} stands more =
     let s = segment_at segments walk.index in
     let over : Walk = record { index = walk.index + 1; passed = 1; height = walk.height + s.bytes } in
     let within : Walk = record { index = walk.index; passed = walk.passed + 1; height = walk.height } in
     elim (cases_eq walk.passed s.slots) [
-      | inl end ↦
-          subst (λ w. Goes from segments (t + 1) w)
+      | inl end ↦ (
+          let ends = end_place_is segments walk.index stands.inside in
+          let height = end_height_is from segments walk.index stands.inside in
+          let next : walk.index + 1 < length segments =
+          one_after segments walk.index (omega (arith, ends, stands.place, end, more.1)) in
+          subst (Goes from segments (t + 1))
           (sym (cond-true (nat_eq walk.passed s.slots) over within (eq-eqb walk.passed s.slots end)))
-          (goes_over whole stands few end)
+          (record {
+            stands = record {
+              inside = next;
+              within = more.0 (walk.index + 1) next;
+              place = omega (arith, ends, stands.place, end);
+              height_is = omega (arith, height, stands.height_is);
+            };
+            some = omega arith;
+          })
+          )
       | inr before ↦
-          subst (λ w. Goes from segments (t + 1) w)
+          subst (Goes from segments (t + 1))
           (sym (cond-false (nat_eq walk.passed s.slots) over within (ne_eqb walk.passed s.slots before)))
-          (goes_within stands before)
+          (record {
+            stands = record {
+              inside = stands.inside;
+              within = omega (arith, stands.within, before);
+              place = omega (arith, stands.place);
+              height_is = stands.height_is;
+            };
+            some = omega arith;
+          })
     ]
 
 -- the exact line where the walk stands
@@ -94,52 +79,16 @@ pub record Height (from : ℕ) (segments : List Segment) (t : ℕ) (walk : Walk)
       ≡ walk.height * (segment_at segments walk.index).slots + walk.passed * (segment_at segments walk.index).bytes
   pub under : line_under segments t ≡ (segment_at segments walk.index).slots
 
-pub height_at : (from : ℕ) (segments : List Segment) (t : ℕ) (walk : Walk) → Goes from segments t walk
+pub height_at : {from : ℕ} {segments : List Segment} {t : ℕ} {walk : Walk} → Goes from segments t walk
     → Height from segments t walk
-height_at from segments t walk goes =
-    let at : LineIn from segments walk.index walk.passed = line_in goes.stands.inside goes.some goes.stands.within in
-    let height : (from + total_bytes (take walk.index segments)) * (segment_at segments walk.index).slots
-    ≡ walk.height * (segment_at segments walk.index).slots =
-    ap (λ h. h * (segment_at segments walk.index).slots) (sym goes.stands.height_is) in
+height_at {from} {segments} {t} {walk} goes =
+    let at : LineIn from segments walk.index walk.passed = line_in goes.stands.inside (goes.some, goes.stands.within) in
+    let height = ap (λ h. h * (segment_at segments walk.index).slots) (sym goes.stands.height_is) in
     record {
       top = ap (line_top from segments) (sym goes.stands.place) ∙ at.top
           ∙ ap (λ h. h + walk.passed * (segment_at segments walk.index).bytes) height;
       under = ap (line_under segments) (sym goes.stands.place) ∙ at.under;
     }
-
-pub below_there : {from : ℕ} {segments : List Segment} {t h : ℕ} {walk : Walk} (low : List ℕ) →
-    Goes from segments (t + 1) walk → t < length low →
-    h ≡ walk.height * (segment_at segments walk.index).slots + walk.passed * (segment_at segments walk.index).bytes →
-    h < slice_index low t * (segment_at segments walk.index).slots → IsBelowLow from low segments t
-below_there {from} {segments} {t} {h} {walk} low goes few is under =
-    let at = height_at from segments (t + 1) walk goes in
-    (few, rw (at.top, at.under) (omega (arith, is, under)))
-
-pub not_below_there : {from : ℕ} {segments : List Segment} {t h : ℕ} {walk : Walk} (low : List ℕ) →
-    Goes from segments (t + 1) walk →
-    h ≡ walk.height * (segment_at segments walk.index).slots + walk.passed * (segment_at segments walk.index).bytes →
-    slice_index low t * (segment_at segments walk.index).slots ≤ h → IsBelowLow from low segments t → ⊥
-not_below_there {from} {segments} {t} {h} {walk} low goes is over fault =
-    let at = height_at from segments (t + 1) walk goes in
-    let h' = rw (at.top, at.under) at fault.1 in
-    omega (arith, is, over, h')
-
-pub above_there : {from : ℕ} {segments : List Segment} {t h : ℕ} {walk : Walk} (up : List ℕ) →
-    Goes from segments (t + 1) walk → t < length up →
-    h ≡ walk.height * (segment_at segments walk.index).slots + walk.passed * (segment_at segments walk.index).bytes →
-    slice_index up t * (segment_at segments walk.index).slots < h → IsAboveUp from up segments t
-above_there {from} {segments} {t} {h} {walk} up goes few is over =
-    let at = height_at from segments (t + 1) walk goes in
-    (few, rw (at.top, at.under) (omega (arith, is, over)))
-
-pub not_above_there : {from : ℕ} {segments : List Segment} {t h : ℕ} {walk : Walk} (up : List ℕ) →
-    Goes from segments (t + 1) walk →
-    h ≡ walk.height * (segment_at segments walk.index).slots + walk.passed * (segment_at segments walk.index).bytes →
-    h ≤ slice_index up t * (segment_at segments walk.index).slots → IsAboveUp from up segments t → ⊥
-not_above_there {from} {segments} {t} {h} {walk} up goes is under fault =
-    let at = height_at from segments (t + 1) walk goes in
-    let h' = rw (at.top, at.under) at fault.1 in
-    omega (arith, is, under, h')
 
 -- the first place so far, one place on
 pub first_kept : (o : Option ℕ) (P : ℕ → Type 0) (t : ℕ) → MatchOption o ((j : ℕ) → j < t → ¬ P j) (IsFirst P) →

@@ -7,22 +7,25 @@ use Rattle.std.proofs.lemmas.Bool.{cases_lt, cases_order}
 use Rattle.std.proofs.lemmas.List.Sums.{sum_by-cons}
 use Rattle.plan_cert.specs.declared.Segment.{Segment}
 use Rattle.plan_cert.specs.PlanSlots.{total_slots, total_bytes}
-use Rattle.cert_check.specs.TautRecursion.{StaysBetween, RunsTaut, MeetsLower, MeetsUpper}
+use Rattle.cert_check.specs.TautRecursion.{Start, start_at, after, StaysBetween, RunsTaut, MeetsLower, MeetsUpper, MeetsBoth}
+
+pub same_start : (at : Start) {k v : ℕ} → k ≡ at.place → v ≡ at.height → start_at at.lo at.hi k v ≡ at
+same_start at {k} {v} place height =
+    ap (λ c. start_at at.lo at.hi c v) place ∙ ap (λ c. start_at at.lo at.hi at.place c) height
 
 -- the line ends on both curves
-pub record EndsOn (lo hi : ℕ → ℕ) (k v : ℕ) (segments : List Segment) : Type 0 where
-  pub low : lo (k + total_slots segments) ≡ v + total_bytes segments
-  pub high : hi (k + total_slots segments) ≡ v + total_bytes segments
+pub record EndsOn (at : Start) (segments : List Segment) : Type 0 where
+  pub low : at.lo (at.place + total_slots segments) ≡ at.height + total_bytes segments
+  pub high : at.hi (at.place + total_slots segments) ≡ at.height + total_bytes segments
 
--- a taut line, from place k and height v to the end of both curves
-pub record IsTautLine (lo hi : ℕ → ℕ) (k v : ℕ) (segments : List Segment) : Type 0 where
-  pub runs : RunsTaut lo hi k v segments
-  pub ends : EndsOn lo hi k v segments
+-- a taut line to the end of both curves
+pub record IsTautLine (at : Start) (segments : List Segment) : Type 0 where
+  pub runs : RunsTaut at segments
+  pub ends : EndsOn at segments
 
--- a segment from a place and a height, and the next one
+-- a segment, and the next one
 pub record Bend : Type 0 where
-  pub place : ℕ
-  pub height : ℕ
+  pub at : Start
   pub first : Segment
   pub next : Segment
   pub some : 1 ≤ next.slots
@@ -30,10 +33,10 @@ pub record Bend : Type 0 where
 -- where a curve stands on or above the ray of a steeper next segment, it stands so above the ray of the first one
 pub above_ray : (bend : Bend) (curve : ℕ → ℕ) (i : ℕ) → bend.first.bytes * bend.next.slots
     ≤ bend.next.bytes * bend.first.slots
-    → (bend.height + bend.first.bytes) * bend.next.slots + i * bend.next.bytes
-    ≤ curve (bend.place + bend.first.slots + i) * bend.next.slots
-    → bend.height * bend.first.slots + (bend.first.slots + i) * bend.first.bytes
-    ≤ curve (bend.place + (bend.first.slots + i)) * bend.first.slots
+    → (bend.at.height + bend.first.bytes) * bend.next.slots + i * bend.next.bytes
+    ≤ curve (bend.at.place + bend.first.slots + i) * bend.next.slots
+    → bend.at.height * bend.first.slots + (bend.first.slots + i) * bend.first.bytes
+    ≤ curve (bend.at.place + (bend.first.slots + i)) * bend.first.slots
 above_ray bend curve i steeper above =
     let h = curve (k + n + i) in
     let one : ((v + b) * n' + i * b') * n ≤ h * n' * n = mul-le-mul_right n above in
@@ -42,15 +45,15 @@ above_ray bend curve i steeper above =
     let all : (v * n + (n + i) * b) * n' ≤ h * n * n' = omega (arith, one, two) in
     subst (λ p. v * n + (n + i) * b ≤ curve p * n) (omega arith) (le_of_mul-le-mul_right all pos)
   where
-    open bend use {place as k, height as v, first.{slots as n, bytes as b}, next.{slots as n', bytes as b'}}
+    open bend use {at.{place as k, height as v}, first.{slots as n, bytes as b}, next.{slots as n', bytes as b'}}
 
 -- the mirror
 pub below_ray : (bend : Bend) (curve : ℕ → ℕ) (i : ℕ) → bend.next.bytes * bend.first.slots
     ≤ bend.first.bytes * bend.next.slots
-    → curve (bend.place + bend.first.slots + i) * bend.next.slots
-    ≤ (bend.height + bend.first.bytes) * bend.next.slots + i * bend.next.bytes
-    → curve (bend.place + (bend.first.slots + i)) * bend.first.slots
-    ≤ bend.height * bend.first.slots + (bend.first.slots + i) * bend.first.bytes
+    → curve (bend.at.place + bend.first.slots + i) * bend.next.slots
+    ≤ (bend.at.height + bend.first.bytes) * bend.next.slots + i * bend.next.bytes
+    → curve (bend.at.place + (bend.first.slots + i)) * bend.first.slots
+    ≤ bend.at.height * bend.first.slots + (bend.first.slots + i) * bend.first.bytes
 below_ray bend curve i flatter below =
     let h = curve (k + n + i) in
     let one : h * n' * n ≤ ((v + b) * n' + i * b') * n = mul-le-mul_right n below in
@@ -59,7 +62,7 @@ below_ray bend curve i flatter below =
     let all : h * n * n' ≤ (v * n + (n + i) * b) * n' = omega (arith, one, two) in
     subst (λ p. curve p * n ≤ v * n + (n + i) * b) (omega arith) (le_of_mul-le-mul_right all pos)
   where
-    open bend use {place as k, height as v, first.{slots as n, bytes as b}, next.{slots as n', bytes as b'}}
+    open bend use {at.{place as k, height as v}, first.{slots as n, bytes as b}, next.{slots as n', bytes as b'}}
 
 -- a flatter and a steeper segment from one height
 record Fork : Type 0 where
@@ -81,125 +84,119 @@ apart fork j h some below above =
     open fork use {height as v, flat.{slots as n, bytes as b}, steep.{slots as n', bytes as b'}}
 
 -- so a steeper ray that meets low and a flatter one that meets high don't begin together
-pub no_steeper : {lo hi : ℕ → ℕ} {k v : ℕ} {flat steep : Segment} → MeetsUpper lo hi k v flat
-    → MeetsLower lo hi k v steep
+pub no_steeper : {at : Start} {flat steep : Segment} → MeetsUpper at flat → MeetsLower at steep
     → flat.bytes * steep.slots < steep.bytes * flat.slots → ⊥
-no_steeper {lo} {hi} {k} {v} {flat} {steep} high low steeper =
-    let fork : Fork = record { height = v; flat = flat; steep = steep; steeper = steeper } in
+no_steeper {at} {flat} {steep} high low steeper =
+    let fork : Fork = record { height = at.height; flat = flat; steep = steep; steeper = steeper } in
     elim (cases_lt low.far high.far) [
-      | inl before ↦ apart fork low.far (lo (k + low.far)) low.later (high.free low.far (omega arith)) low.touches
-      | inr after ↦ apart fork high.far (hi (k + high.far)) high.later high.touches (low.free high.far after)
+      | inl before ↦
+          apart fork low.far (at.lo (at.place + low.far)) low.later (high.free low.far (omega arith)) low.touches
+      | inr after ↦
+          apart fork high.far (at.hi (at.place + high.far)) high.later high.touches (low.free high.far after)
     ]
 
 -- a segment that ends on a curve meets it there
-pub end_meets_low : {lo hi : ℕ → ℕ} {k v : ℕ} {s : Segment} → StaysBetween lo hi k v s → v + s.bytes ≡ lo (k + s.slots)
-    → MeetsLower lo hi k v s
-end_meets_low {lo} {k} {v} {s} stays on_low = record {
+pub end_meets_low : {at : Start} {s : Segment} → StaysBetween at s → at.height + s.bytes ≡ at.lo (at.place + s.slots)
+    → MeetsLower at s
+end_meets_low {at} {s} stays on_low = record {
   far = s.slots;
   later = stays.some;
-  touches = let e : (v + s.bytes) * s.slots ≡ lo (k + s.slots) * s.slots =
-      ap (λ x. x * s.slots) on_low in omega (arith, e);
+  touches = let e = ap (λ x. x * s.slots) on_low in omega (arith, e);
   free = stays.below;
 }
 
-pub end_meets_high : {lo hi : ℕ → ℕ} {k v : ℕ} {s : Segment} → StaysBetween lo hi k v s → v + s.bytes ≡ hi (k + s.slots)
-    → MeetsUpper lo hi k v s
-end_meets_high {lo} {hi} {k} {v} {s} stays on_high = record {
+pub end_meets_high : {at : Start} {s : Segment} → StaysBetween at s → at.height + s.bytes ≡ at.hi (at.place + s.slots)
+    → MeetsUpper at s
+end_meets_high {at} {s} stays on_high = record {
   far = s.slots;
   later = stays.some;
-  touches = let e : (v + s.bytes) * s.slots ≡ hi (k + s.slots) * s.slots =
-      ap (λ x. x * s.slots) on_high in omega (arith, e);
+  touches = let e = ap (λ x. x * s.slots) on_high in omega (arith, e);
   free = stays.above;
 }
 
 -- the meeting of a steeper segment's ray, seen along the ray of the segment before it
-low_further : {lo hi : ℕ → ℕ} {k v : ℕ} {s : Segment} (next : Segment) → StaysBetween lo hi k v s → 1 ≤ next.slots →
-    s.bytes * next.slots ≤ next.bytes * s.slots → MeetsLower lo hi (k + s.slots) (v + s.bytes) next
-    → MeetsLower lo hi k v s
-low_further {lo} {hi} {k} {v} {s} next stays some steeper meets =
-    let bend : Bend = record { place = k; height = v; first = s; next = next; some = some } in
-    record {
-      far = s.slots + meets.far;
-      later = omega (arith, meets.later);
-      touches = above_ray bend lo meets.far steeper meets.touches;
-      free = λ i near. elim (cases_lt s.slots i) [
-        | inr within ↦ stays.below i within
-        | inl past ↦ subst (λ j. v * s.slots + j * s.bytes ≤ hi (k + j) * s.slots) (omega arith)
-            (above_ray bend hi (i - s.slots) steeper (meets.free (i - s.slots) (omega arith)))
-      ];
-    }
+low_further : (bend : Bend) → StaysBetween bend.at bend.first
+    → bend.first.bytes * bend.next.slots ≤ bend.next.bytes * bend.first.slots
+    → MeetsLower (after bend.at bend.first) bend.next → MeetsLower bend.at bend.first
+low_further bend stays steeper meets = record {
+  far = s.slots + meets.far;
+  later = omega (arith, meets.later);
+  touches = above_ray bend at.lo meets.far steeper meets.touches;
+  free = λ i near. elim (cases_lt s.slots i) [
+    | inr within ↦ stays.below i within
+    | inl past ↦ subst (λ j. at.height * s.slots + j * s.bytes ≤ at.hi (at.place + j) * s.slots) (omega arith)
+        (above_ray bend at.hi (i - s.slots) steeper (meets.free (i - s.slots) (omega arith)))
+  ];
+}
+  where
+    open bend use {at, first as s}
 
-high_further : {lo hi : ℕ → ℕ} {k v : ℕ} {s : Segment} (next : Segment) → StaysBetween lo hi k v s → 1 ≤ next.slots →
-    next.bytes * s.slots ≤ s.bytes * next.slots → MeetsUpper lo hi (k + s.slots) (v + s.bytes) next
-    → MeetsUpper lo hi k v s
-high_further {lo} {hi} {k} {v} {s} next stays some flatter meets =
-    let bend : Bend = record { place = k; height = v; first = s; next = next; some = some } in
-    record {
-      far = s.slots + meets.far;
-      later = omega (arith, meets.later);
-      touches = below_ray bend hi meets.far flatter meets.touches;
-      free = λ i near. elim (cases_lt s.slots i) [
-        | inr within ↦ stays.above i within
-        | inl past ↦ subst (λ j. lo (k + j) * s.slots ≤ v * s.slots + j * s.bytes) (omega arith)
-            (below_ray bend lo (i - s.slots) flatter (meets.free (i - s.slots) (omega arith)))
-      ];
-    }
+high_further : (bend : Bend) → StaysBetween bend.at bend.first
+    → bend.next.bytes * bend.first.slots ≤ bend.first.bytes * bend.next.slots
+    → MeetsUpper (after bend.at bend.first) bend.next → MeetsUpper bend.at bend.first
+high_further bend stays flatter meets = record {
+  far = s.slots + meets.far;
+  later = omega (arith, meets.later);
+  touches = below_ray bend at.hi meets.far flatter meets.touches;
+  free = λ i near. elim (cases_lt s.slots i) [
+    | inr within ↦ stays.above i within
+    | inl past ↦ subst (λ j. at.lo (at.place + j) * s.slots ≤ at.height * s.slots + j * s.bytes) (omega arith)
+        (below_ray bend at.lo (i - s.slots) flatter (meets.free (i - s.slots) (omega arith)))
+  ];
+}
+  where
+    open bend use {at, first as s}
 
--- what is left after the first segment ends on both curves too
-pub ends_on : {lo hi : ℕ → ℕ} {k v : ℕ} {s : Segment} {rest : List Segment} → EndsOn lo hi k v (s ∷ rest)
-    → EndsOn lo hi (k + s.slots) (v + s.bytes) rest
-ends_on {lo} {hi} {k} {v} {s} {rest} ends =
+-- what is left after the first segment is a taut line too
+pub line_on : {at : Start} {s : Segment} {rest : List Segment} → IsTautLine at (s ∷ rest) → IsTautLine (after at s) rest
+line_on {at} {s} {rest} line =
     let slots : total_slots (s ∷ rest) ≡ s.slots + total_slots rest = sum_by-cons (λ x. x.slots) s rest in
     let bytes : total_bytes (s ∷ rest) ≡ s.bytes + total_bytes rest = sum_by-cons (λ x. x.bytes) s rest in
-    let place : k + total_slots (s ∷ rest) ≡ k + s.slots + total_slots rest = omega (arith, slots) in
-    let height : v + total_bytes (s ∷ rest) ≡ v + s.bytes + total_bytes rest = omega (arith, bytes) in
+    let place : at.place + total_slots (s ∷ rest) ≡ at.place + s.slots + total_slots rest = omega (arith, slots) in
+    let height : at.height + total_bytes (s ∷ rest) ≡ at.height + s.bytes + total_bytes rest = omega (arith, bytes) in
     record {
-      low = ap lo (sym place) ∙ ends.low ∙ height;
-      high = ap hi (sym place) ∙ ends.high ∙ height;
+      runs = line.runs.2;
+      ends = record {
+        low = ap at.lo (sym place) ∙ line.ends.low ∙ height;
+        high = ap at.hi (sym place) ∙ line.ends.high ∙ height;
+      };
     }
 
--- and runs taut
-pub line_on : {lo hi : ℕ → ℕ} {k v : ℕ} {s : Segment} {rest : List Segment} → IsTautLine lo hi k v (s ∷ rest)
-    → IsTautLine lo hi (k + s.slots) (v + s.bytes) rest
-line_on {lo} {hi} {k} {v} {s} {rest} line =
-    record { runs = line.runs.2; ends = ends_on {lo = lo} {hi = hi} {k = k} {v = v} {s = s} {rest = rest} line.ends }
-
--- every taut line's first ray meets low
-pub meets_low : {lo hi : ℕ → ℕ} {k v : ℕ} {s : Segment} {rest : List Segment} → IsTautLine lo hi k v (s ∷ rest)
-    → MeetsLower lo hi k v s
-meets_low {lo} {k} {v} {s} {rest = []} line =
-    let e = (line_on line).ends.low in
-    let on_low : v + s.bytes ≡ lo (k + s.slots) = sym (ap lo (omega arith) ∙ e ∙ omega arith) in
-    end_meets_low line.runs.0 on_low
-meets_low {lo} {hi} {k} {v} {s} {rest = next ∷ rest} line =
+-- every taut line's first ray meets both curves
+pub line_meets : {at : Start} {s : Segment} {rest : List Segment} → IsTautLine at (s ∷ rest) → MeetsBoth at s
+line_meets {at} {s} {rest = []} line =
+    let ends = (line_on line).ends in
+    record {
+      some = line.runs.0.some;
+      lower = end_meets_low line.runs.0 (sym (ap at.lo (omega arith) ∙ ends.low ∙ omega arith));
+      upper = end_meets_high line.runs.0 (sym (ap at.hi (omega arith) ∙ ends.high ∙ omega arith));
+    }
+line_meets {at} {s} {rest = next ∷ rest} line =
+    let stays = line.runs.0 in
+    let bend : Bend = record { at = at; first = s; next = next; some = line.runs.2.0.some } in
+    let later : MeetsBoth (after at s) next = line_meets {at = after at s} {s = next} {rest = rest} (line_on line) in
     elim line.runs.1 [
-      | inl rise ↦ low_further next line.runs.0 line.runs.2.0.some (omega (arith, rise.0))
-          (meets_low {lo = lo} {hi = hi} {k = k + s.slots} {v = v + s.bytes} {s = next} {rest = rest} (line_on line))
-      | inr fall ↦ end_meets_low line.runs.0 fall.1
-    ]
-
--- and meets high
-pub meets_high : {lo hi : ℕ → ℕ} {k v : ℕ} {s : Segment} {rest : List Segment} → IsTautLine lo hi k v (s ∷ rest)
-    → MeetsUpper lo hi k v s
-meets_high {lo} {hi} {k} {v} {s} {rest = []} line =
-    let e = (line_on line).ends.high in
-    let on_high : v + s.bytes ≡ hi (k + s.slots) = sym (ap hi (omega arith) ∙ e ∙ omega arith) in
-    end_meets_high line.runs.0 on_high
-meets_high {lo} {hi} {k} {v} {s} {rest = next ∷ rest} line =
-    elim line.runs.1 [
-      | inl rise ↦ end_meets_high line.runs.0 rise.1
-      | inr fall ↦ high_further next line.runs.0 line.runs.2.0.some (omega (arith, fall.0))
-          (meets_high {lo = lo} {hi = hi} {k = k + s.slots} {v = v + s.bytes} {s = next} {rest = rest} (line_on line))
+      | inl rise ↦
+          record {
+            some = stays.some;
+            lower = low_further bend stays (omega (arith, rise.0)) later.lower;
+            upper = end_meets_high stays rise.1;
+          }
+      | inr fall ↦
+          record {
+            some = stays.some;
+            lower = end_meets_low stays fall.1;
+            upper = high_further bend stays (omega (arith, fall.0)) later.upper;
+          }
     ]
 
 -- so two taut lines from one place begin with one slope
-pub one_slope : {lo hi : ℕ → ℕ} {k v : ℕ} {s : Segment} {xs : List Segment} {t : Segment} {ys : List Segment} →
-    IsTautLine lo hi k v (s ∷ xs) → IsTautLine lo hi k v (t ∷ ys) → s.bytes * t.slots ≡ t.bytes * s.slots
-one_slope {lo} {s} {t} one other =
+pub one_slope : {at : Start} {s t : Segment} → MeetsBoth at s → MeetsBoth at t → s.bytes * t.slots ≡ t.bytes * s.slots
+one_slope {s} {t} one other =
     elim (cases_order (s.bytes * t.slots) (t.bytes * s.slots)) [
       | inl same ↦ same
       | inr differs ↦ elim differs [
-        | inl less ↦ absurd (no_steeper (meets_high one) (meets_low other) less)
-        | inr more ↦ absurd (no_steeper (meets_high other) (meets_low one) more)
+        | inl less ↦ absurd (no_steeper one.upper other.lower less)
+        | inr more ↦ absurd (no_steeper other.upper one.lower more)
       ]
     ]

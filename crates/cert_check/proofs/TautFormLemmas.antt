@@ -6,10 +6,10 @@ use Rattle.plan_cert.specs.declared.Segment.{Segment}
 use Rattle.plan_cert.specs.PlanSlots.{total_slots, total_bytes}
 use Rattle.wire_curve.specs.SoundCurves.{AreSound, bound_at}
 use Rattle.cert_check.specs.ExactLine.{segment_at, line_top, line_under}
-use Rattle.cert_check.specs.TautRecursion.{RunsTaut}
+use Rattle.cert_check.specs.TautRecursion.{Start, start_at, RunsTaut}
 use Rattle.cert_check.specs.CertFaults.{IsTaut}
-use Rattle.cert_check.proofs.TautEquivalence.{Faultless, runs_from_faultless, faultless_from_runs}
-use Rattle.cert_check.proofs.SegmentUniqueness.{EndsOn, IsTautLine}
+use Rattle.cert_check.proofs.TautEquivalence.{Faultless, IsBetween, runs_from_faultless, faultless_from_runs}
+use Rattle.cert_check.proofs.SegmentUniqueness.{IsTautLine}
 
 -- what the proofs need of two sound curves: as many numbers, at least one, and one end
 pub record AreClosed (low up : List ℕ) : Type 0 where
@@ -35,46 +35,16 @@ pub slots_are : (from : ℕ) (low up : List ℕ) (segments : List Segment) → I
     → total_slots segments ≡ length low
 slots_are from low up segments taut = not_different (total_slots segments) (length low) taut.right_length
 
-pub total_is : (from : ℕ) (low up : List ℕ) (segments : List Segment) → IsTaut from low up segments
-    → from + total_bytes segments ≡ slice_index up (length up - 1)
-total_is from low up segments taut =
-    not_different (from + total_bytes segments) (slice_index up (length up - 1)) taut.right_total
+-- the start of two lists of numbers
+abbrev pub start_of : ℕ → List ℕ → List ℕ → Start
+start_of from low up = start_at (bound_at from low) (bound_at from up) 0 from
 
--- no place of the line is below the lower curve, nor above the upper one
-above_low : (from : ℕ) (low up : List ℕ) (segments : List Segment) → IsTaut from low up segments
-    → (j : ℕ) → 1 ≤ j → j ≤ length low → bound_at from low (0 + j) * line_under segments j ≤ line_top from segments j
-above_low from low up segments taut j later few =
-    let t = j - 1 in
-    let is : t + 1 ≡ j = omega arith in
-    let at : bound_at from low (0 + j) ≡ slice_index low t =
-    ap (bound_at from low) (omega arith) ∙ bound_after from low t in
-    elim (cases_lt (line_top from segments j) (slice_index low t * line_under segments j)) [
-      | inl below ↦
-          absurd (taut.above t (
-            omega (arith, few),
-            subst (λ c. line_top from segments c < slice_index low t * line_under segments c) (sym is) below,
-          ))
-      | inr fine ↦ rw at fine
-    ]
+-- the bounds after a slot, from the start on
+pub bound_on : (from : ℕ) (curve : List ℕ) (t : ℕ) → bound_at from curve (0 + (t + 1)) ≡ slice_index curve t
+bound_on from curve t = ap (bound_at from curve) (omega arith) ∙ bound_after from curve t
 
-below_up : (from : ℕ) (low up : List ℕ) (segments : List Segment) → IsTaut from low up segments
-    → (j : ℕ) → 1 ≤ j → j ≤ length up → line_top from segments j ≤ bound_at from up (0 + j) * line_under segments j
-below_up from low up segments taut j later few =
-    let t = j - 1 in
-    let is : t + 1 ≡ j = omega arith in
-    let at : bound_at from up (0 + j) ≡ slice_index up t =
-    ap (bound_at from up) (omega arith) ∙ bound_after from up t in
-    elim (cases_lt (slice_index up t * line_under segments j) (line_top from segments j)) [
-      | inl above ↦
-          absurd (taut.below t (
-            omega (arith, few),
-            subst (λ c. slice_index up t * line_under segments c < line_top from segments c) (sym is) above,
-          ))
-      | inr fine ↦ rw at fine
-    ]
-
-faultless : (from : ℕ) (low up : List ℕ) (segments : List Segment) → AreClosed low up → IsTaut from low up segments →
-    Faultless (bound_at from low) (bound_at from up) 0 from segments
+faultless : (from : ℕ) (low up : List ℕ) (segments : List Segment) → AreClosed low up → IsTaut from low up segments
+    → Faultless (start_of from low up) segments
 faultless from low up segments closed taut =
     let slots : total_slots segments ≡ length low = slots_are from low up segments taut in
     record {
@@ -84,84 +54,87 @@ faultless from low up segments closed taut =
       ];
       start_above = omega arith;
       start_below = omega arith;
-      above = λ j later few. above_low from low up segments taut j later (omega (arith, slots, few));
-      below = λ j later few.
-          below_up from low up segments taut j later (omega (arith, slots, few, closed.same_length));
-      no_equal = λ i inside level. taut.no_equal i (inside, level);
-      rises_on_upper = λ i inside rise.
-          not_different (from + total_bytes (take (i + 1) segments))
-          (bound_at from up (total_slots (take (i + 1) segments))) (λ off. taut.no_rise_off i (inside, rise, off))
-          ∙ ap (bound_at from up) (omega arith);
-      falls_on_lower = λ i inside fall.
-          not_different (from + total_bytes (take (i + 1) segments))
-          (bound_at from low (total_slots (take (i + 1) segments))) (λ off. taut.no_fall_off i (inside, fall, off))
-          ∙ ap (bound_at from low) (omega arith);
+      between = λ j later few.
+          subst (IsBetween (start_of from low up) segments) (omega arith)
+          (between_at (j - 1) (omega (arith, slots, few)));
+      bends = λ i inside. record {
+        differs = λ level. taut.no_equal i (inside, level);
+        rise = λ rise.
+            not_different (from + total_bytes (take (i + 1) segments))
+            (bound_at from up (total_slots (take (i + 1) segments))) (λ off. taut.no_rise_off i (inside, rise, off))
+            ∙ ap (bound_at from up) (omega arith);
+        fall = λ fall.
+            not_different (from + total_bytes (take (i + 1) segments))
+            (bound_at from low (total_slots (take (i + 1) segments))) (λ off. taut.no_fall_off i (inside, fall, off))
+            ∙ ap (bound_at from low) (omega arith);
+      };
     }
+  where
+    -- where the line is neither below the lower curve nor above the upper one, it lies between them
+    between_at : (t : ℕ) → t < length low → IsBetween (start_of from low up) segments (t + 1)
+    between_at t few = record {
+      above = elim (cases_lt (line_top from segments (t + 1)) (slice_index low t * line_under segments (t + 1))) [
+        | inl off ↦ absurd (taut.above t (few, off))
+        | inr fine ↦ rw (bound_on from low t) fine
+      ];
+      below = elim (cases_lt (slice_index up t * line_under segments (t + 1)) (line_top from segments (t + 1))) [
+        | inl off ↦ absurd (taut.below t (omega (arith, few, closed.same_length), off))
+        | inr fine ↦ rw (bound_on from up t) fine
+      ];
+    }
+
+-- segments that run taut over the curves' slots to the end of the upper curve
+pub record RunsWhole (from : ℕ) (low up : List ℕ) (segments : List Segment) : Type 0 where
+  pub runs : RunsTaut (start_of from low up) segments
+  pub slots : total_slots segments ≡ length low
+  pub total : from + total_bytes segments ≡ slice_index up (length low - 1)
 
 -- a list without faults runs taut
 pub runs_from_taut : (from : ℕ) (low up : List ℕ) (segments : List Segment) → AreClosed low up
-    → IsTaut from low up segments →
-    RunsTaut (bound_at from low) (bound_at from up) 0 from segments
-runs_from_taut from low up segments closed taut =
-    runs_from_faultless (bound_at from low) (bound_at from up) 0 from segments
-    (faultless from low up segments closed taut)
+    → IsTaut from low up segments → RunsWhole from low up segments
+runs_from_taut from low up segments closed taut = record {
+  runs = runs_from_faultless (start_of from low up) segments (faultless from low up segments closed taut);
+  slots = slots_are from low up segments taut;
+  total = not_different (from + total_bytes segments) (slice_index up (length up - 1)) taut.right_total
+      ∙ ap (λ n. slice_index up (n - 1)) closed.same_length;
+}
 
 -- and ends where both curves end
-pub ends_from_taut : (from : ℕ) (low up : List ℕ) (segments : List Segment) → AreClosed low up
-    → IsTaut from low up segments →
-    EndsOn (bound_at from low) (bound_at from up) 0 from segments
-ends_from_taut from low up segments closed taut =
-    let slots : total_slots segments ≡ length low = slots_are from low up segments taut in
-    let total : from + total_bytes segments ≡ slice_index up (length low - 1) =
-    total_is from low up segments taut ∙ ap (λ n. slice_index up (n - 1)) closed.same_length in
-    let place : 0 + total_slots segments ≡ length low = omega (arith, slots) in
+pub line_of_runs : {from : ℕ} {low up : List ℕ} {segments : List Segment} → AreClosed low up
+    → RunsWhole from low up segments → IsTautLine (start_of from low up) segments
+line_of_runs {from} {low} {up} {segments} closed whole =
+    let place : 0 + total_slots segments ≡ length low = omega (arith, whole.slots) in
     record {
-      low = ap (bound_at from low) place ∙ bound_end from low (length low) closed.some_slot ∙ closed.meet ∙ sym total;
-      high = ap (bound_at from up) place ∙ bound_end from up (length low) closed.some_slot ∙ sym total;
+      runs = whole.runs;
+      ends = record {
+        low = ap (bound_at from low) place ∙ bound_end from low (length low) closed.some_slot ∙ closed.meet
+            ∙ sym whole.total;
+        high = ap (bound_at from up) place ∙ bound_end from up (length low) closed.some_slot ∙ sym whole.total;
+      };
     }
 
-pub line_from_taut : (from : ℕ) (low up : List ℕ) (segments : List Segment) → AreClosed low up
-    → IsTaut from low up segments →
-    IsTautLine (bound_at from low) (bound_at from up) 0 from segments
-line_from_taut from low up segments closed taut =
+-- such a list has no fault
+pub taut_from_runs : {from : ℕ} {low up : List ℕ} {segments : List Segment} → AreClosed low up
+    → RunsWhole from low up segments → IsTaut from low up segments
+taut_from_runs {from} {low} {up} {segments} closed whole =
+    let ends = (line_of_runs closed whole).ends in
+    let clean : Faultless (start_of from low up) segments =
+    faultless_from_runs segments whole.runs (omega (arith, ends.low)) (omega (arith, ends.high)) in
     record {
-      runs = runs_from_taut from low up segments closed taut;
-      ends = ends_from_taut from low up segments closed taut;
-    }
-
--- a list that runs taut, over the curves' slots and to their end, has no fault
-pub taut_from_runs : {low up : List ℕ} (from : ℕ) (segments : List Segment) → AreClosed low up →
-    RunsTaut (bound_at from low) (bound_at from up) 0 from segments → total_slots segments ≡ length low →
-    from + total_bytes segments ≡ slice_index up (length low - 1) → IsTaut from low up segments
-taut_from_runs {low} {up} from segments closed runs slots total =
-    let place : 0 + total_slots segments ≡ length low = omega (arith, slots) in
-    let low_end : bound_at from low (0 + total_slots segments) ≡ from + total_bytes segments =
-    ap (bound_at from low) place ∙ bound_end from low (length low) closed.some_slot ∙ closed.meet ∙ sym total in
-    let high_end : bound_at from up (0 + total_slots segments) ≡ from + total_bytes segments =
-    ap (bound_at from up) place ∙ bound_end from up (length low) closed.some_slot ∙ sym total in
-    let clean : Faultless (bound_at from low) (bound_at from up) 0 from segments =
-    faultless_from_runs runs (omega (arith, low_end)) (omega (arith, high_end)) in
-    record {
-      no_empty = λ i empty. let some : 1 ≤ (segment_at segments i).slots =
-          clean.no_empty i empty.0 in omega (arith, some, empty.1);
-      right_length = λ off. off slots;
-      right_total = λ off. off (total ∙ ap (λ n. slice_index up (n - 1)) (sym closed.same_length));
+      no_empty = λ i empty. let some = clean.no_empty i empty.0 in omega (arith, some, empty.1);
+      right_length = λ off. off whole.slots;
+      right_total = λ off. off (whole.total ∙ ap (λ n. slice_index up (n - 1)) (sym closed.same_length));
       above = λ t fault.
-          let h : bound_at from low (0 + (t + 1)) * line_under segments (t + 1)
-          ≤ line_top from segments (t + 1) = clean.above (t + 1) (omega arith) (omega (arith, slots, fault.0)) in
-          let at : bound_at from low (0 + (t + 1)) ≡ slice_index low t =
-          ap (bound_at from low) (omega arith) ∙ bound_after from low t in
-          let h' : slice_index low t * line_under segments (t + 1) ≤ line_top from segments (t + 1) = rw at at h in
+          let h = (clean.between (t + 1) (omega arith) (omega (arith, whole.slots, fault.0))).above in
+          let h' = rw (bound_on from low t) at h in
           omega (arith, h', fault.1);
       below = λ t fault.
-          let h : line_top from segments (t + 1)
-          ≤ bound_at from up (0 + (t + 1)) * line_under segments (t + 1) =
-          clean.below (t + 1) (omega arith) (omega (arith, slots, fault.0, closed.same_length)) in
-          let at : bound_at from up (0 + (t + 1)) ≡ slice_index up t =
-          ap (bound_at from up) (omega arith) ∙ bound_after from up t in
-          let h' : line_top from segments (t + 1) ≤ slice_index up t * line_under segments (t + 1) = rw at at h in
+          let h = (clean.between (t + 1) (omega arith) (omega (arith, whole.slots, fault.0, closed.same_length))).below in
+          let h' = rw (bound_on from up t) at h in
           omega (arith, h', fault.1);
-      no_equal = λ i fault. clean.no_equal i fault.0 fault.1;
-      no_rise_off = λ i fault. fault.2 (clean.rises_on_upper i fault.0 fault.1 ∙ ap (bound_at from up) (omega arith));
-      no_fall_off = λ i fault. fault.2 (clean.falls_on_lower i fault.0 fault.1 ∙ ap (bound_at from low) (omega arith));
+      no_equal = λ i fault. (clean.bends i fault.0).differs fault.1;
+      no_rise_off = λ i fault.
+          fault.2 ((clean.bends i fault.0).rise fault.1 ∙ ap (bound_at from up) (omega arith));
+      no_fall_off = λ i fault.
+          fault.2 ((clean.bends i fault.0).fall fault.1 ∙ ap (bound_at from low) (omega arith));
     }

@@ -9,8 +9,8 @@ use Rattle.slope_frac.proofs.CrossProducts.{level_trans, at_most_below, below_at
 use Rattle.plan_cert.specs.declared.Segment.{Segment}
 use Rattle.plan_cert.specs.PlanSlots.{total_slots, total_bytes}
 use Rattle.cert_check.specs.ExactLine.{slope_of}
-use Rattle.cert_check.specs.TautRecursion.{StaysBetween, Bends, RunsTaut}
-use Rattle.cert_check.proofs.SegmentUniqueness.{IsTautLine, line_on, one_slope}
+use Rattle.cert_check.specs.TautRecursion.{Start, after, StaysBetween, Bends, RunsTaut}
+use Rattle.cert_check.proofs.SegmentUniqueness.{same_start, IsTautLine, line_on, line_meets, one_slope}
 
 abbrev segment : ℕ → ℕ → Segment
 segment n b = record { slots = n; bytes = b }
@@ -63,34 +63,28 @@ cut_above split v j h pos above =
     open split use {whole.{slots as c, bytes as d}, first.{slots as n, bytes as b}, last.{slots as n', bytes as b'}}
 
 -- the last part stays between the curves
-cut_stays : {lo hi : ℕ → ℕ} {k v : ℕ} (split : SplitSegment) → StaysBetween lo hi k v split.whole
-    → StaysBetween lo hi (k + split.first.slots) (v + split.first.bytes) split.last
-cut_stays {lo} {hi} {k} {v} split stays = record {
+cut_stays : {at : Start} (split : SplitSegment) → StaysBetween at split.whole
+    → StaysBetween (after at split.first) split.last
+cut_stays {at} split stays = record {
   some = split.some;
   above = λ j few.
-      let h : lo (k + (n + j)) * t.slots ≤ v * t.slots + (n + j) * t.bytes =
-      stays.above (n + j) (omega (arith, split.slots)) in
-      let place : lo (k + (n + j)) * t.slots ≡ lo (k + n + j) * t.slots = ap (λ x. lo x * t.slots) (omega arith) in
-      cut_below split v j (lo (k + n + j)) stays.some (omega (arith, h, place));
+      let h = stays.above (n + j) (omega (arith, split.slots)) in
+      let place = ap (λ x. at.lo x * t.slots) (same_place at n j) in
+      cut_below split at.height j (at.lo (at.place + n + j)) stays.some (omega (arith, h, place));
   below = λ j few.
-      let h : v * t.slots + (n + j) * t.bytes ≤ hi (k + (n + j)) * t.slots =
-      stays.below (n + j) (omega (arith, split.slots)) in
-      let place : hi (k + (n + j)) * t.slots ≡ hi (k + n + j) * t.slots = ap (λ x. hi x * t.slots) (omega arith) in
-      cut_above split v j (hi (k + n + j)) stays.some (omega (arith, h, place));
+      let h = stays.below (n + j) (omega (arith, split.slots)) in
+      let place = ap (λ x. at.hi x * t.slots) (same_place at n j) in
+      cut_above split at.height j (at.hi (at.place + n + j)) stays.some (omega (arith, h, place));
 }
   where
     open split use {whole as t, first.{slots as n}}
 
--- two curves, and a place and a height between them
-record Between : Type 0 where
-  pub lo : ℕ → ℕ
-  pub hi : ℕ → ℕ
-  pub place : ℕ
-  pub height : ℕ
+    same_place : (at : Start) (n j : ℕ) → at.place + (n + j) ≡ at.place + n + j
+    same_place at n j = omega arith
 
 -- a bend after a segment is one after its last part, which has the same slope
-cut_bends : (at : Between) (split : SplitSegment) (rest : List Segment) → 1 ≤ split.whole.slots
-    → Bends at.lo at.hi at.place at.height split.whole rest → Bends at.lo at.hi at.place at.height split.last rest
+cut_bends : (at : Start) (split : SplitSegment) (rest : List Segment) → 1 ≤ split.whole.slots
+    → Bends at split.whole rest → Bends at split.last rest
 cut_bends at split [] some bend = tt
 cut_bends at split (next ∷ rest) some bend =
     elim bend [
@@ -119,42 +113,39 @@ cut_bends at split (next ∷ rest) some bend =
     ]
 
 -- what is left of a taut line after the first part of its first segment is a taut line
-part_line : {lo hi : ℕ → ℕ} {k v : ℕ} (split : SplitSegment) (ys : List Segment)
-    → IsTautLine lo hi k v (split.whole ∷ ys)
-    → IsTautLine lo hi (k + split.first.slots) (v + split.first.bytes) (split.last ∷ ys)
-part_line {lo} {hi} {k} {v} split ys line =
-    let at : Between = record { lo = lo; hi = hi; place = k + t.slots; height = v + t.bytes } in
-    let place : k + t.slots ≡ k + s.slots + n' = omega (arith, split.slots) in
-    let height : v + t.bytes ≡ v + s.bytes + b' = omega (arith, split.bytes) in
-    let bend : Bends lo hi (k + t.slots) (v + t.bytes) part ys = cut_bends at split ys line.runs.0.some line.runs.1 in
-    let stays : StaysBetween lo hi (k + s.slots) (v + s.bytes) part = cut_stays split line.runs.0 in
-    let bend' : Bends lo hi (k + s.slots + n') (v + s.bytes + b') part ys =
-    subst (λ c. Bends lo hi c (v + s.bytes + b') part ys) place
-    (subst (λ c. Bends lo hi (k + t.slots) c part ys) height bend) in
-    let rest' : RunsTaut lo hi (k + s.slots + n') (v + s.bytes + b') ys =
-    subst (λ c. RunsTaut lo hi c (v + s.bytes + b') ys) place
-    (subst (λ c. RunsTaut lo hi (k + t.slots) c ys) height line.runs.2) in
+part_line : {at : Start} (split : SplitSegment) (ys : List Segment) → IsTautLine at (split.whole ∷ ys)
+    → IsTautLine (after at split.first) (split.last ∷ ys)
+part_line {at} split ys line =
+    let is : after at t ≡ after (after at s) part =
+    same_start (after (after at s) part) (omega (arith, split.slots)) (omega (arith, split.bytes)) in
     let slots_t : total_slots (t ∷ ys) ≡ t.slots + total_slots ys = sum_by-cons (λ x. x.slots) t ys in
     let bytes_t : total_bytes (t ∷ ys) ≡ t.bytes + total_bytes ys = sum_by-cons (λ x. x.bytes) t ys in
-    let slots_p : total_slots (part ∷ ys) ≡ n' + total_slots ys = sum_by-cons (λ x. x.slots) part ys in
-    let bytes_p : total_bytes (part ∷ ys) ≡ b' + total_bytes ys = sum_by-cons (λ x. x.bytes) part ys in
-    let place' : k + s.slots + total_slots (part ∷ ys) ≡ k + total_slots (t ∷ ys) =
+    let slots_p : total_slots (part ∷ ys) ≡ part.slots + total_slots ys = sum_by-cons (λ x. x.slots) part ys in
+    let bytes_p : total_bytes (part ∷ ys) ≡ part.bytes + total_bytes ys = sum_by-cons (λ x. x.bytes) part ys in
+    let place' : at.place + s.slots + total_slots (part ∷ ys) ≡ at.place + total_slots (t ∷ ys) =
     omega (arith, slots_t, slots_p, split.slots) in
-    let height' : v + total_bytes (t ∷ ys) ≡ v + s.bytes + total_bytes (part ∷ ys) =
+    let height' : at.height + total_bytes (t ∷ ys) ≡ at.height + s.bytes + total_bytes (part ∷ ys) =
     omega (arith, bytes_t, bytes_p, split.bytes) in
     record {
-      runs = (stays, bend', rest');
-      ends = record { low = ap lo place' ∙ line.ends.low ∙ height'; high = ap hi place' ∙ line.ends.high ∙ height' };
+      runs = (
+        cut_stays split line.runs.0,
+        subst (λ a. Bends a part ys) is (cut_bends (after at t) split ys line.runs.0.some line.runs.1),
+        subst (λ a. RunsTaut a ys) is line.runs.2,
+      );
+      ends = record {
+        low = ap at.lo place' ∙ line.ends.low ∙ height';
+        high = ap at.hi place' ∙ line.ends.high ∙ height';
+      };
     }
   where
-    open split use {whole as t, first as s, last as part, last.{slots as n', bytes as b'}}
+    open split use {whole as t, first as s, last as part}
 
 -- no taut line goes on after the first part of another one's first segment
-no_part : {lo hi : ℕ → ℕ} {k v : ℕ} (split : SplitSegment) (next : Segment) (xs ys : List Segment) →
-    IsTautLine lo hi k v (split.first ∷ next ∷ xs) → IsTautLine lo hi k v (split.whole ∷ ys) → ⊥
-no_part split next xs ys line other =
-    let level_n : next.bytes * part.slots ≡ part.bytes * next.slots =
-    one_slope (line_on line) (part_line split ys other) in
+ends_there : {at : Start} (split : SplitSegment) {xs ys : List Segment} → IsTautLine at (split.first ∷ xs)
+    → IsTautLine at (split.whole ∷ ys) → xs ≡ []
+ends_there split {xs = []} line other = refl
+ends_there {at} split {xs = next ∷ xs} {ys} line other =
+    let level_n = one_slope (line_meets (line_on line)) (line_meets (part_line split ys other)) in
     let level_ns : next.bytes * s.slots ≡ s.bytes * next.slots =
     level_trans (record {
       first = slope_of next;
@@ -163,25 +154,20 @@ no_part split next xs ys line other =
       some_slot = split.some;
     }) level_n (sym (level_first split)) in
     elim line.runs.1 [
-      | inl rise ↦ omega (arith, rise.0, level_ns)
-      | inr fall ↦ omega (arith, fall.0, level_ns)
+      | inl rise ↦ absurd (omega (arith, rise.0, level_ns))
+      | inr fall ↦ absurd (omega (arith, fall.0, level_ns))
     ]
   where
     open split use {first as s, last as part}
 
--- of two taut lines with level first slopes none has the shorter first segment
-no_longer : {lo hi : ℕ → ℕ} {k v : ℕ} {s : Segment} {xs : List Segment} {t : Segment} {ys : List Segment} →
-    IsTautLine lo hi k v (s ∷ xs) → IsTautLine lo hi k v (t ∷ ys) →
-    total_slots (s ∷ xs) ≡ total_slots (t ∷ ys) → s.bytes * t.slots ≡ t.bytes * s.slots → s.slots < t.slots → ⊥
-no_longer {lo} {s} {xs = []} {t} {ys} line other same level shorter =
-    let slots : total_slots (t ∷ ys) ≡ t.slots + total_slots ys = sum_by-cons (λ x. x.slots) t ys in
-    omega (arith, same, slots, shorter)
-no_longer {lo} {s} {xs = next ∷ xs} {t} {ys} line other same level shorter =
+-- a segment of the same slope with fewer slots is a first part
+split_of : (s t : Segment) → s.bytes * t.slots ≡ t.bytes * s.slots → s.slots < t.slots → SplitSegment
+split_of s t level shorter =
     let fewer : s.bytes * t.slots ≤ t.bytes * t.slots =
     omega (arith, level, mul-le-mul_left t.bytes (le_of_lt shorter)) in
     let pos : 0 < t.slots = omega arith in
     let few : s.bytes ≤ t.bytes = le_of_mul-le-mul_right fewer pos in
-    let split : SplitSegment = record {
+    record {
       whole = t;
       first = s;
       last = segment (t.slots - s.slots) (t.bytes - s.bytes);
@@ -189,8 +175,7 @@ no_longer {lo} {s} {xs = next ∷ xs} {t} {ys} line other same level shorter =
       bytes = omega arith;
       some = omega arith;
       level = level;
-    } in
-    no_part split next xs ys line other
+    }
 
 -- two segments of one length and level slopes are one
 same_segment : (s t : Segment) → s.slots ≡ t.slots → 1 ≤ s.slots → s.bytes * t.slots ≡ t.bytes * s.slots → s ≡ t
@@ -202,33 +187,38 @@ same_segment s t slots some level =
     ap (λ n. segment n s.bytes) slots ∙ ap (λ b. segment t.slots b) bytes
 
 -- the complete list
-pub one_list : {lo hi : ℕ → ℕ} {k v : ℕ} {xs ys : List Segment} →
-    IsTautLine lo hi k v xs → IsTautLine lo hi k v ys → total_slots xs ≡ total_slots ys → xs ≡ ys
-one_list {lo} {xs = []} {ys = []} line other same = refl
-one_list {lo} {xs = []} {ys = t ∷ ys} line other same =
+pub one_list : {at : Start} {xs ys : List Segment} → IsTautLine at xs → IsTautLine at ys
+    → total_slots xs ≡ total_slots ys → xs ≡ ys
+unfolding split_of
+one_list {xs = []} {ys = []} line other same = refl
+one_list {xs = []} {ys = t ∷ ys} line other same =
     let slots : total_slots (t ∷ ys) ≡ t.slots + total_slots ys = sum_by-cons (λ x. x.slots) t ys in
-    let some : 1 ≤ t.slots = other.runs.0.some in
-    absurd (omega (arith, same, slots, some))
-one_list {lo} {xs = s ∷ xs} {ys = []} line other same =
+    absurd (omega (arith, same, slots, other.runs.0.some))
+one_list {xs = s ∷ xs} {ys = []} line other same =
     let slots : total_slots (s ∷ xs) ≡ s.slots + total_slots xs = sum_by-cons (λ x. x.slots) s xs in
-    let some : 1 ≤ s.slots = line.runs.0.some in
-    absurd (omega (arith, same, slots, some))
-one_list {lo} {hi} {k} {v} {xs = s ∷ xs} {ys = t ∷ ys} line other same =
-    let level : s.bytes * t.slots ≡ t.bytes * s.slots = one_slope line other in
+    absurd (omega (arith, same, slots, line.runs.0.some))
+one_list {at} {xs = s ∷ xs} {ys = t ∷ ys} line other same =
+    let level : s.bytes * t.slots ≡ t.bytes * s.slots = one_slope (line_meets line) (line_meets other) in
     let slots_s : total_slots (s ∷ xs) ≡ s.slots + total_slots xs = sum_by-cons (λ x. x.slots) s xs in
     let slots_t : total_slots (t ∷ ys) ≡ t.slots + total_slots ys = sum_by-cons (λ x. x.slots) t ys in
     elim (cases_order s.slots t.slots) [
       | inl one ↦ (
           let first : s ≡ t = same_segment s t one line.runs.0.some level in
-          let other' : IsTautLine lo hi (k + s.slots) (v + s.bytes) ys =
-          subst (λ x. IsTautLine lo hi (k + x.slots) (v + x.bytes) ys) (sym first) (line_on other) in
+          let other' : IsTautLine (after at s) ys =
+          subst (λ x. IsTautLine (after at x) ys) (sym first) (line_on other) in
           let others : xs ≡ ys =
-          one_list {lo = lo} {hi = hi} {k = k + s.slots} {v = v + s.bytes} {xs = xs} {ys = ys}
-          (line_on line) other' (omega (arith, same, slots_s, slots_t, one)) in
+          one_list {at = after at s} {xs = xs} {ys = ys} (line_on line) other'
+          (omega (arith, same, slots_s, slots_t, one)) in
           ap (λ x. x ∷ xs) first ∙ ap (λ zs. t ∷ zs) others
           )
       | inr differs ↦ elim differs [
-        | inl shorter ↦ absurd (no_longer line other same level shorter)
-        | inr longer ↦ absurd (no_longer other line (sym same) (sym level) longer)
+        | inl shorter ↦ (
+            let none : total_slots xs ≡ 0 = ap total_slots (ends_there (split_of s t level shorter) line other) in
+            absurd (omega (arith, same, slots_s, slots_t, none, shorter))
+            )
+        | inr longer ↦ (
+            let none : total_slots ys ≡ 0 = ap total_slots (ends_there (split_of t s (sym level) longer) other line) in
+            absurd (omega (arith, same, slots_s, slots_t, none, longer))
+            )
       ]
     ]

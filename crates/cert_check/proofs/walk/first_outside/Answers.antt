@@ -2,8 +2,7 @@ use Rattle.std.proofs.lemmas.Grind.{common_steps}
 use Rattle.std.proofs.Common.{◌≡◌, ◌<◌, ◌+◌, false, not, is_some, length, arith, ap, ◌∙◌, below_more}
 use Rattle.std.proofs.lemmas.Bool.{both_ways}
 use Rattle.cert_check.specs.CertFaults.{IsAboveUp}
-use Rattle.cert_check.proofs.LineWalkLemmas.{Goes, goes_on, below_there, not_below_there, above_there, not_above_there}
-use Rattle.cert_check.proofs.LineWalkLemmas.{first_kept, first_found}
+use Rattle.cert_check.proofs.LineWalkLemmas.{Goes, goes_on, height_at, first_kept, first_found}
 use Rattle.cert_check.proofs.walk.first_outside.Goals as goal
 use Rattle.cert_check.proofs.walk.first_outside.Goals.{then-is_none+then-height-from-2, else-is_none}
 use Rattle.cert_check.proofs.walk.first_outside.Goals.{else-is_none-via-then-is_none+else-height-from-2}
@@ -13,13 +12,15 @@ pub returns-then-height-from : goal.returns-then-height-from
 returns-then-height-from c =
     let curves = c.args.curves.now in
     let segments = c.args.segments.now in
-    let short : c.loop-t.t < length c.as_slice-low.result.now = omega arith in
-    let few : c.loop-t.t < length curves.low.items = rw c.as_slice-low.ensures.value at short in
+    let few : c.loop-t.t < length curves.low.items =
+    rw c.as_slice-low.ensures.value at (let short : c.loop-t.t < length c.as_slice-low.result.now = omega arith in short) in
     let goes : Goes curves.from segments (c.loop-t.t + 1) c.next_walk-walk.result =
-    rw c.next_walk-walk.ensures (goes_on c.requires c.loop-t.invariant.stands few) in
+    rw c.next_walk-walk.ensures
+    (goes_on c.loop-t.invariant.stands (c.requires.some, omega (arith, few, c.requires.slots))) in
+    let at = height_at goes in
+    let under = rw (c.from.ensures, c.from-in-loop-t.ensures, c.as_slice-low.ensures.value) at c.if-height-from.true in
     record {
-      here = below_there curves.low.items goes few c.scaled_height-height.ensures
-          (rw (c.from.ensures, c.from-in-loop-t.ensures, c.as_slice-low.ensures.value) at c.if-height-from.true);
+      here = (few, rw (at.top, at.under) (omega (arith, c.scaled_height-height.ensures, under)));
       not_before = c.loop-t.invariant.not_below;
     }
 
@@ -27,35 +28,41 @@ pub loop-t-preserved : goal.loop-t-preserved
 loop-t-preserved c =
     let curves = c.args.curves.now in
     let segments = c.args.segments.now in
-    let short : c.loop-t.t < length c.as_slice-low.result.now = omega arith in
-    let few : c.loop-t.t < length curves.low.items = rw c.as_slice-low.ensures.value at short in
-    let few_up : c.loop-t.t < length curves.up.items = omega (arith, few, c.requires.slots, c.requires.slots_up) in
+    let few : c.loop-t.t < length curves.low.items =
+    rw c.as_slice-low.ensures.value at (let short : c.loop-t.t < length c.as_slice-low.result.now = omega arith in short) in
     let goes : Goes curves.from segments (c.loop-t.t + 1) c.next_walk-walk.result =
-    rw c.next_walk-walk.ensures (goes_on c.requires c.loop-t.invariant.stands few) in
+    rw c.next_walk-walk.ensures
+    (goes_on c.loop-t.invariant.stands (c.requires.some, omega (arith, few, c.requires.slots))) in
+    let at = height_at goes in
+    let scaled = c.scaled_height-height.ensures in
     let Above = IsAboveUp curves.from curves.up.items segments in
     let up_is = c.as_slice-up.ensures.value in
     record {
       stands = goes.stands;
-      not_below = below_more _ _ c.loop-t.invariant.not_below
-          (not_below_there curves.low.items goes c.scaled_height-height.ensures
-          (rw (c.from.ensures, c.from-in-loop-t.ensures, c.as_slice-low.ensures.value) at c.if-height-from.false));
+      not_below = below_more _ _ c.loop-t.invariant.not_below (λ fault.
+          let over = rw (c.from.ensures, c.from-in-loop-t.ensures, c.as_slice-low.ensures.value) at c.if-height-from.false in
+          let h = rw (at.top, at.under) at fault.1 in
+          omega (arith, scaled, over, h));
       above_is = elim c.if-is_none.branch [
         | then-is_none+then-height-from-2 w ↦ (
             let none : is_some c.loop-t.above ≡ false = c.is_none.ensures ∙ ap not w.if-is_none.true in
             let over =
             rw (w.from-then-is_none.ensures, w.from-then-is_none-2.ensures, up_is) at w.if-height-from-2.true in
             rw w.above-is
-            (first_found c.loop-t.above Above c.loop-t.t c.loop-t.invariant.above_is none
-            (above_there curves.up.items goes few_up c.scaled_height-height.ensures over))
+            (first_found c.loop-t.above Above c.loop-t.t c.loop-t.invariant.above_is none (
+              omega (arith, few, c.requires.slots, c.requires.slots_up),
+              rw (at.top, at.under) (omega (arith, scaled, over)),
+            ))
             )
         | else-is_none w ↦
             rw w.above-is
             (first_kept c.loop-t.above Above c.loop-t.t c.loop-t.invariant.above_is
             (λ none. elim w.else-is_none.branch [
-              | else-is_none-via-then-is_none+else-height-from-2 w' ↦
-                  (let under =
+              | else-is_none-via-then-is_none+else-height-from-2 w' ↦ (λ fault.
+                  let under =
                   rw (w'.from-then-is_none.ensures, w'.from-then-is_none-2.ensures, up_is) at w'.if-height-from-2.false in
-                  not_above_there curves.up.items goes c.scaled_height-height.ensures under)
+                  let h = rw (at.top, at.under) at fault.1 in
+                  omega (arith, scaled, under, h))
               | else-is_none-via-else-is_none w' ↦
                   absurd (both_ways (is_some c.loop-t.above) none (c.is_none.ensures ∙ ap not w'.if-is_none.false))
             ]))
