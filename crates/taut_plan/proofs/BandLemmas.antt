@@ -6,10 +6,13 @@ use Rattle.std.proofs.lemmas.Bool.{cases_lt}
 use Rattle.wire_curve.specs.SoundCurves.{AreSound, bound_at}
 use Rattle.wire_curve.proofs.SlotUsageLemmas.{rises_by_steps}
 use Rattle.cert_check.proofs.TautFormLemmas.{bound_after, bound_end}
-use Rattle.taut_plan.specs.Funnel.{IsBand}
+use Rattle.taut_plan.specs.Funnel.{Limits, IsBand}
+
+abbrev pub limits_of : ℕ → List ℕ → List ℕ → Limits
+limits_of from low up = record { lo = bound_at from low; hi = bound_at from up; from = from; n = length low }
 
 pub band_of_sound : (from : ℕ) (low up : List ℕ) → AreSound from low up
-    → IsBand (bound_at from low) (bound_at from up) from (length low)
+    → IsBand (limits_of from low up)
 band_of_sound from low up sound =
     let start = sound.starts_within in
     let some = sound.some_slot in

@@ -6,9 +6,9 @@ use Rattle.taut_plan.specs.declared.points.Point.{Point}
 use Rattle.taut_plan.specs.declared.points.Side.{Side}
 use Rattle.taut_plan.specs.declared.points.Side.TheVariants.{Lower, Upper}
 use Rattle.taut_plan.specs.Slopes.{IsWithin, IsInside, other_side}
-use Rattle.taut_plan.specs.Chain.{on_curve, IsChain, IsFurthest}
-use Rattle.taut_plan.specs.Funnel.{FunnelReach, funnel_reach, KeepsApart, IsCrossing, IsUncrossed}
-use Rattle.taut_plan.proofs.SlopeLemmas.{Seen, SeenCorner, within_within, inside_within, within_itself, inside_weaker}
+use Rattle.taut_plan.specs.Chain.{on_curve, read_to, IsChain, IsFurthest}
+use Rattle.taut_plan.specs.Funnel.{Funnel, FunnelReach, funnel_reach, curve_on, KeepsApart, IsCrossing, IsCrossed, IsUncrossed}
+use Rattle.taut_plan.proofs.SlopeLemmas.{IsOrdered, Seen, SeenCorner, within_within, inside_within, within_itself, inside_weaker}
 use Rattle.taut_plan.proofs.SlopeLemmas.{inside_not_within, turns_apart}
 
 -- on the other side the order is reversed
@@ -23,11 +23,6 @@ other_inside Upper o a b h = h
 pub is_on_curve : (curve : ℕ → ℕ) (p : Point) → p.height ≡ curve p.place → p ≡ on_curve curve p.place
 is_on_curve curve p on = ap (λ (h : ℕ). let q : Point = record { place = p.place; height = h } in q) on
 
--- the heights at one place are in order: the one curve's number isn't past the other's
-abbrev pub IsOrdered : Side → ℕ → ℕ → Type 0
-IsOrdered Lower a b = a ≤ b
-IsOrdered Upper a b = b ≤ a
-
 pub ordered_within : (side : Side) (o a b : Point) → a.place ≡ b.place → IsOrdered side a.height b.height
     → IsWithin side o a b
 ordered_within Lower o a b same le =
@@ -39,24 +34,35 @@ ordered_within Upper o a b same le =
     let up : (a.place - o.place) * b.height ≤ (a.place - o.place) * a.height = mul-le-mul_left (a.place - o.place) le in
     rw e (omega (arith, up))
 
--- What a crossing says about the corner b, the first point of the other chain.
-pub record IsCorner (side : Side) (curve other : ℕ → ℕ) (sight : FunnelReach) (b : Point) : Type 0 where
-  pub later : sight.apex.place < b.place
-  pub near : b.place ≤ sight.other_reach
-  pub before_new : b.place < sight.reach
-  pub on : b.height ≡ other b.place
-  pub own_within : (i : ℕ) → sight.apex.place < i → i < sight.reach → IsWithin side sight.apex (on_curve curve i) b
-  pub others_beyond : (j : ℕ) → sight.apex.place < j → j ≤ b.place → IsWithin side sight.apex b (on_curve other j)
-  pub others_after : (j : ℕ) → b.place < j → j ≤ sight.other_reach → IsInside side sight.apex b (on_curve other j)
-  pub crossed : IsInside side sight.apex b (on_curve curve sight.reach)
+-- a funnel between two curves
+abbrev pub funnel_on : (lo hi : ℕ → ℕ) → Side → FunnelReach → List Point → List Point → Funnel
+funnel_on lo hi side sight own others = record {
+  side = side;
+  curve = curve_on lo hi side;
+  other = curve_on lo hi (other_side side);
+  sight = sight;
+  own = own;
+  others = others;
+}
 
-pub corner_of : {side : Side} {curve other : ℕ → ℕ} {t s : ℕ} {o : Point} {own : List Point} {b : Point}
-    {rest : List Point}
-    → IsCrossing side curve other (funnel_reach t s o) own (b ∷ rest) → IsOrdered side (curve t) (other t)
-    → IsInside side o b (on_curve curve t)
-    → IsCorner side curve other (funnel_reach t s o) b
-corner_of {side} {curve} {other} {t} {s} {o} {b} state ordered crossed =
-    let edge = state.others.0 in
+-- what a crossing says about the corner b, the first point of the other chain
+pub record IsCorner (f : Funnel) (b : Point) : Type 0 where
+  pub later : f.sight.apex.place < b.place
+  pub near : b.place ≤ f.sight.other_reach
+  pub before_new : b.place < f.sight.reach
+  pub on : b.height ≡ f.other b.place
+  pub own_within : (i : ℕ) → f.sight.apex.place < i → i < f.sight.reach
+      → IsWithin f.side f.sight.apex (on_curve f.curve i) b
+  pub others_beyond : (j : ℕ) → f.sight.apex.place < j → j ≤ b.place
+      → IsWithin f.side f.sight.apex b (on_curve f.other j)
+  pub others_after : (j : ℕ) → b.place < j → j ≤ f.sight.other_reach
+      → IsInside f.side f.sight.apex b (on_curve f.other j)
+  pub crossed : IsInside f.side f.sight.apex b (on_curve f.curve f.sight.reach)
+
+pub corner_of : {f : Funnel} {b : Point} → IsCrossing f → IsOrdered f.side (f.curve f.sight.reach) (f.other f.sight.reach)
+    → IsCrossed f.side f.sight.apex f.others (on_curve f.curve f.sight.reach) b → IsCorner f b
+corner_of {f} {b} state ordered crossed =
+    let edge = (subst (IsChain (other_side side) other s o) crossed.is state.others).0 in
     let later = edge.later in
     let near = edge.near in
     let on = edge.on in
@@ -70,7 +76,7 @@ corner_of {side} {curve} {other} {t} {s} {o} {b} state ordered crossed =
             let height : b.height ≡ other t = on ∙ ap other at in
             let level = ordered_within side o (on_curve curve t) b (sym at)
             (subst (λ h. IsOrdered side (curve t) h) (sym height) ordered) in
-            absurd (inside_not_within side o b (on_curve curve t) crossed level))
+            absurd (inside_not_within side o b (on_curve curve t) crossed.crossed level))
       ];
       on = on;
       own_within =
@@ -79,13 +85,15 @@ corner_of {side} {curve} {other} {t} {s} {o} {b} state ordered crossed =
           (state.apart.apart i b.place after before later near);
       others_beyond = λ j after upto. other_within side o (on_curve other j) b (edge.before j after upto);
       others_after = λ j past upto. other_inside side o (on_curve other j) b (edge.beyond j past upto);
-      crossed = crossed;
+      crossed = crossed.crossed;
     }
+  where
+    open f use {side, curve, other, sight.{apex as o, reach as t, other_reach as s}}
 
 -- seen from the corner, the new point is the furthest out
-edge_moves : {side : Side} {curve other : ℕ → ℕ} {t s : ℕ} {o b p : Point} → IsFurthest side curve t o p
-    → IsCorner side curve other (funnel_reach t s o) b → p.place ≡ t → IsFurthest side curve t b p
-edge_moves {side} {curve} {t} {o} {b} {p} edge corner at =
+edge_moves : {f : Funnel} {b p : Point} → IsFurthest (read_to f.side f.curve f.sight.reach) f.sight.apex p → IsCorner f b
+    → p.place ≡ f.sight.reach → IsFurthest (read_to f.side f.curve f.sight.reach) b p
+edge_moves {f} {b} {p} edge corner at =
     let gone = corner.before_new in
     let is : p ≡ on_curve curve t = is_on_curve curve p edge.on ∙ ap (on_curve curve) at in
     let out : IsWithin side o b p =
@@ -111,13 +119,15 @@ edge_moves {side} {curve} {t} {o} {b} {p} edge corner at =
       ];
       beyond = λ j past upto. absurd (omega (arith, past, upto, at));
     }
+  where
+    open f use {side, curve, sight.{apex as o, reach as t}}
 
 -- the chain with the new point is that point alone, and stays so
-own_moves : {side : Side} {curve other : ℕ → ℕ} {t s : ℕ} {o b : Point} (own : List Point)
-    → IsChain side curve t o own → IsCorner side curve other (funnel_reach t s o) b → IsChain side curve t b own
-own_moves {other} {s} [] at_end corner = let one = corner.later in let two =
-    corner.before_new in absurd (omega (arith, at_end, one, two))
-own_moves {side} {curve} {other} {t} {s} {o} {b} (p ∷ rest) chain corner =
+own_moves : {f : Funnel} {b : Point} (own : List Point) → IsChain f.side f.curve f.sight.reach f.sight.apex own
+    → IsCorner f b → IsChain f.side f.curve f.sight.reach b own
+own_moves [] at_end corner =
+    let one = corner.later in let two = corner.before_new in absurd (omega (arith, at_end, one, two))
+own_moves {f} {b} (p ∷ rest) chain corner =
     let edge = chain.0 in
     let later = edge.later in
     let near = edge.near in
@@ -131,20 +141,31 @@ own_moves {side} {curve} {other} {t} {s} {o} {b} (p ∷ rest) chain corner =
           (inside_weaker side o (on_curve curve t) b new)))
       | inr ge ↦ (edge_moves edge corner (omega (arith, ge, near)), chain.1)
     ]
+  where
+    open f use {side, curve, sight.{apex as o, reach as t}}
+
+-- the funnel from a corner on, which leaves the other chain
+abbrev pub from_corner : Funnel → Point → List Point → Funnel
+from_corner f b rest = record {
+  side = f.side;
+  curve = f.curve;
+  other = f.other;
+  sight = funnel_reach f.sight.reach f.sight.other_reach b;
+  own = f.own;
+  others = rest;
+}
 
 -- the corner becomes the point that the chains begin at
-pub crossing_moves : {side : Side} {curve other : ℕ → ℕ} {t s : ℕ} {o : Point} {own : List Point} {b : Point}
-    {rest : List Point}
-    → IsCrossing side curve other (funnel_reach t s o) own (b ∷ rest) → IsCorner side curve other (funnel_reach t s o) b
-    → IsCrossing side curve other (funnel_reach t s b) own rest
-crossing_moves {side} {curve} {other} {s} {o} {own} {b} state corner =
+pub crossing_moves : {f : Funnel} {b : Point} {rest : List Point} → IsCrossing f → IsCorner f b → f.others ≡ b ∷ rest
+    → IsCrossing (from_corner f b rest)
+crossing_moves {f} {b} state corner is =
     let first = corner.later in
     record {
       newest = state.newest;
       beyond = corner.before_new;
       not_past = state.not_past;
-      own = own_moves own state.own corner;
-      others = state.others.1;
+      own = own_moves f.own state.own corner;
+      others = (subst (IsChain (other_side side) other s o) is state.others).1;
       apart = record {
         apart = λ i j i_past i_before j_past j_upto.
             let seen : SeenCorner = record {
@@ -160,34 +181,37 @@ crossing_moves {side} {curve} {other} {s} {o} {own} {b} state corner =
             (inside_weaker side o b (on_curve other j) (corner.others_after j j_past j_upto));
       };
     }
+  where
+    open f use {side, curve, other, sight.{apex as o, other_reach as s}}
 
--- The new point stands within the other chain: so the curves stand apart with it.
-uncrossed_within : {side : Side} {curve other : ℕ → ℕ} {t s : ℕ} {o : Point} {own others : List Point}
-    → IsCrossing side curve other (funnel_reach t s o) own others
-    → IsUncrossed side o others (on_curve curve t) → (j : ℕ) → o.place < j → j ≤ s
-    → IsWithin side o (on_curve curve t) (on_curve other j)
-uncrossed_within {s} {others = []} state un j after upto = absurd (omega (arith, state.others, after, upto))
-uncrossed_within {side} {curve} {other} {t} {o} {others = b ∷ rest} state un j after upto =
-    let edge = state.others.0 in
-    let later = edge.later in
-    let seen : Seen = record { from = o; first = on_curve curve t; second = b; third = on_curve other j } in
-    within_within side seen later un
-    (elim (cases_lt b.place j) [
-      | inl beyond ↦
-          inside_weaker side o b (on_curve other j)
-          (other_inside side o (on_curve other j) b (edge.beyond j beyond upto))
-      | inr before ↦ other_within side o (on_curve other j) b (edge.before j after before)
-    ])
-
-pub apart_again : {side : Side} {curve other : ℕ → ℕ} {t s : ℕ} {o : Point} {own others : List Point}
-    → IsCrossing side curve other (funnel_reach t s o) own others
-    → IsUncrossed side o others (on_curve curve t) → KeepsApart side curve other (funnel_reach (t + 1) s o)
-apart_again {side} {curve} {other} {t} {s} {o} {own} state un = record {
+-- Where the new point stands within the other chain, the curves stand apart with it.
+pub apart_again : {f : Funnel} → IsCrossing f
+    → IsUncrossed f.side f.sight.apex f.others (on_curve f.curve f.sight.reach)
+    → KeepsApart f.side f.curve f.other (funnel_reach (f.sight.reach + 1) f.sight.other_reach f.sight.apex)
+apart_again {f} state un = record {
   apart = λ i j i_after i_before j_after j_upto.
       elim (cases_lt i t) [
         | inl old ↦ state.apart.apart i j i_after old j_after j_upto
         | inr new ↦ (let e : t ≡ i = omega (arith, new, i_before) in
             subst (λ k. IsWithin side o (on_curve curve k) (on_curve other j)) e
-            (uncrossed_within {own = own} state un j j_after j_upto))
+            (within f.others state.others un j j_after j_upto))
       ];
 }
+  where
+    open f use {side, curve, other, sight.{apex as o, reach as t, other_reach as s}}
+
+    within : (others : List Point) → IsChain (other_side side) other s o others
+        → IsUncrossed side o others (on_curve curve t) → (j : ℕ) → o.place < j → j ≤ s
+        → IsWithin side o (on_curve curve t) (on_curve other j)
+    within [] chain un j after upto = absurd (omega (arith, chain, after, upto))
+    within (b ∷ rest) chain un j after upto =
+        let edge = chain.0 in
+        let later = edge.later in
+        let seen : Seen = record { from = o; first = on_curve curve t; second = b; third = on_curve other j } in
+        within_within side seen later un
+        (elim (cases_lt b.place j) [
+          | inl beyond ↦
+              inside_weaker side o b (on_curve other j)
+              (other_inside side o (on_curve other j) b (edge.beyond j beyond upto))
+          | inr before ↦ other_within side o (on_curve other j) b (edge.before j after before)
+        ])

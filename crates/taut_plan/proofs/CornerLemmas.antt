@@ -1,100 +1,43 @@
 -- Corners of the chains are corners of the taut line, and the point where the curves meet ends it.
 use Rattle.std.proofs.Common.{◌≡◌, ℕ, ◌+◌, ◌-◌, ◌*◌, ◌<◌, ◌≤◌, List, [], ◌∷◌, ◌++◌, arith, sym, subst, ap, ◌∙◌, inl}
-use Rattle.std.proofs.Common.{inr}
+use Rattle.std.proofs.Common.{inr, append_assoc}
 use Rattle.std.proofs.Math.Nat.{mul-le-mul_left, mul-le-mul_right, lt_of_mul-lt-mul_left}
 use Rattle.std.proofs.lemmas.Bool.{cases_lt}
 use Rattle.std.proofs.lemmas.List.Sums.{sum_by_push}
 use Rattle.plan_cert.specs.declared.Segment.{Segment}
-use Rattle.cert_check.specs.TautRecursion.{StaysBetween}
-use Rattle.cert_check.proofs.SegmentUniqueness.{end_meets_high, end_meets_low}
+use Rattle.cert_check.specs.TautRecursion.{Start, start_at, StaysBetween, RunsTaut}
+use Rattle.cert_check.proofs.SegmentUniqueness.{end_meets_high, end_meets_low, same_start}
 use Rattle.taut_plan.specs.declared.points.Point.{Point}
 use Rattle.taut_plan.specs.declared.points.Side.{Side}
 use Rattle.taut_plan.specs.declared.points.Side.TheVariants.{Lower, Upper}
-use Rattle.taut_plan.specs.Slopes.{slope_le, slope_lt, IsWithin, IsInside, other_side}
+use Rattle.taut_plan.specs.Slopes.{IsWithin, IsInside, other_side}
 use Rattle.taut_plan.specs.Chain.{on_curve}
-use Rattle.taut_plan.specs.Funnel.{IsBand, KeepsApart, curve_on, funnel_reach}
+use Rattle.taut_plan.specs.Funnel.{Limits, IsBand, Funnel, FunnelReach, IsCrossing, IsFunnel, curve_on, funnel_reach}
 use Rattle.taut_plan.specs.Path.{GoesOn, IsPath, IsTautPath, segment_to}
-use Rattle.taut_plan.proofs.BendLemmas.{IsCorner}
-use Rattle.taut_plan.proofs.PathLemmas.{IsRise, IsFall, goes_on_rise, goes_on_fall}
+use Rattle.taut_plan.proofs.SlopeLemmas.{IsOrdered, IsPast}
+use Rattle.taut_plan.proofs.BendLemmas.{IsCorner, funnel_on}
+use Rattle.taut_plan.proofs.PathLemmas.{IsTurn, turn_slope, turn_bends}
 
--- a ray, from a height
-record Ray : Type 0 where
-  pub height : ℕ
-  pub slots : ℕ
-  pub bytes : ℕ
+-- the ray from one point to a higher one, at a third point's place
+abbrev ray_at : Point → Point → Point → ℕ
+ray_at o b p = o.height * (b.place - o.place) + (p.place - o.place) * (b.height - o.height)
 
-abbrev ray_to : Point → Point → Ray
-ray_to from to = record { height = from.height; slots = to.place - from.place; bytes = to.height - from.height }
+high : (o b : Point) → o.height ≤ b.height → b.height ≡ o.height + (b.height - o.height)
+high o b up = omega (arith, up)
 
--- The ray, where h is its end, against a height y at offset i.
-ray_le : {h : ℕ} (ray : Ray) (i y : ℕ) → h ≡ ray.height + ray.bytes → slope_le ray.height ray.slots h i y
-    → ray.height * ray.slots + i * ray.bytes ≤ y * ray.slots
-ray_le {h} ray i y is le = let e : i * h ≡ i * (ray.height + ray.bytes) = ap (λ x. i * x) is in omega (arith, le, e)
+ray_past : (side : Side) (o b p : Point) → o.height ≤ b.height → IsInside side o b p
+    → IsPast side (ray_at o b p) (p.height * (b.place - o.place))
+ray_past Lower o b p up inside =
+    let e = ap (λ h. (p.place - o.place) * h) (high o b up) in omega (arith, inside, e)
+ray_past Upper o b p up inside =
+    let e = ap (λ h. (p.place - o.place) * h) (high o b up) in omega (arith, inside, e)
 
-ray_lt : {h : ℕ} (ray : Ray) (i y : ℕ) → h ≡ ray.height + ray.bytes → slope_lt ray.height ray.slots h i y
-    → ray.height * ray.slots + i * ray.bytes < y * ray.slots
-ray_lt {h} ray i y is lt = let e : i * h ≡ i * (ray.height + ray.bytes) = ap (λ x. i * x) is in omega (arith, lt, e)
-
-ray_ge : {h : ℕ} (ray : Ray) (i y : ℕ) → h ≡ ray.height + ray.bytes → slope_le ray.height i y ray.slots h
-    → y * ray.slots ≤ ray.height * ray.slots + i * ray.bytes
-ray_ge {h} ray i y is le = let e : i * h ≡ i * (ray.height + ray.bytes) = ap (λ x. i * x) is in omega (arith, le, e)
-
-ray_gt : {h : ℕ} (ray : Ray) (i y : ℕ) → h ≡ ray.height + ray.bytes → slope_lt ray.height i y ray.slots h
-    → y * ray.slots < ray.height * ray.slots + i * ray.bytes
-ray_gt {h} ray i y is lt = let e : i * h ≡ i * (ray.height + ray.bytes) = ap (λ x. i * x) is in omega (arith, lt, e)
-
--- The same over points, at an offset from the first one.
-line_below : (curve : ℕ → ℕ) (o b : Point) (i : ℕ) → o.height ≤ b.height
-    → IsWithin Lower o b (on_curve curve (o.place + i))
-    → o.height * (b.place - o.place) + i * (b.height - o.height) ≤ curve (o.place + i) * (b.place - o.place)
-line_below curve o b i up h =
-    let e : (o.place + i) - o.place ≡ i = omega arith in
-    ray_le (ray_to o b) i (curve (o.place + i)) (omega (arith, up))
-    (subst (λ d. slope_le o.height (b.place - o.place) b.height d (curve (o.place + i))) e h)
-
-line_under : (curve : ℕ → ℕ) (o b : Point) (i : ℕ) → o.height ≤ b.height
-    → IsInside Lower o b (on_curve curve (o.place + i))
-    → o.height * (b.place - o.place) + i * (b.height - o.height) < curve (o.place + i) * (b.place - o.place)
-line_under curve o b i up h =
-    let e : (o.place + i) - o.place ≡ i = omega arith in
-    ray_lt (ray_to o b) i (curve (o.place + i)) (omega (arith, up))
-    (subst (λ d. slope_lt o.height (b.place - o.place) b.height d (curve (o.place + i))) e h)
-
-line_above : (curve : ℕ → ℕ) (o b : Point) (i : ℕ) → o.height ≤ b.height
-    → IsWithin Lower o (on_curve curve (o.place + i)) b
-    → curve (o.place + i) * (b.place - o.place) ≤ o.height * (b.place - o.place) + i * (b.height - o.height)
-line_above curve o b i up h =
-    let e : (o.place + i) - o.place ≡ i = omega arith in
-    ray_ge (ray_to o b) i (curve (o.place + i)) (omega (arith, up))
-    (subst (λ d. slope_le o.height d (curve (o.place + i)) (b.place - o.place) b.height) e h)
-
-line_over : (curve : ℕ → ℕ) (o b : Point) (i : ℕ) → o.height ≤ b.height
-    → IsInside Lower o (on_curve curve (o.place + i)) b
-    → curve (o.place + i) * (b.place - o.place) < o.height * (b.place - o.place) + i * (b.height - o.height)
-line_over curve o b i up h =
-    let e : (o.place + i) - o.place ≡ i = omega arith in
-    ray_gt (ray_to o b) i (curve (o.place + i)) (omega (arith, up))
-    (subst (λ d. slope_lt o.height d (curve (o.place + i)) (b.place - o.place) b.height) e h)
-
--- at the start of a ray
-starts_above : (curve : ℕ → ℕ) (k : ℕ) (ray : Ray) (i : ℕ) → i ≤ 0 → curve k ≤ ray.height
-    → curve (k + i) * ray.slots ≤ ray.height * ray.slots + i * ray.bytes
-starts_above curve k ray i none le =
-    let e : k ≡ k + i = omega (arith, none) in
-    let up : curve k * n ≤ v * n = mul-le-mul_right n le in
-    subst (λ p. curve p * n ≤ v * n + i * b) e (omega (arith, up))
-  where
-    open ray use {height as v, slots as n, bytes as b}
-
-starts_below : (curve : ℕ → ℕ) (k : ℕ) (ray : Ray) (i : ℕ) → i ≤ 0 → ray.height ≤ curve k
-    → ray.height * ray.slots + i * ray.bytes ≤ curve (k + i) * ray.slots
-starts_below curve k ray i none le =
-    let e : k ≡ k + i = omega (arith, none) in
-    let z : 0 ≡ i = omega (arith, none) in
-    let up : v * n ≤ curve k * n = mul-le-mul_right n le in
-    subst (λ p. v * n + i * b ≤ curve p * n) e (subst (λ j. v * n + j * b ≤ curve k * n) z (omega (arith, up)))
-  where
-    open ray use {height as v, slots as n, bytes as b}
+ray_within : (side : Side) (o b p : Point) → o.height ≤ b.height → IsWithin side o p b
+    → IsOrdered side (p.height * (b.place - o.place)) (ray_at o b p)
+ray_within Lower o b p up within =
+    let e = ap (λ h. (p.place - o.place) * h) (high o b up) in omega (arith, within, e)
+ray_within Upper o b p up within =
+    let e = ap (λ h. (p.place - o.place) * h) (high o b up) in omega (arith, within, e)
 
 -- the line goes from a point between the curves to one that is no lower, and each curve stays on its side of the line
 record LeadsBetween (lo hi : ℕ → ℕ) (o b : Point) : Type 0 where
@@ -106,222 +49,254 @@ record LeadsBetween (lo hi : ℕ → ℕ) (o b : Point) : Type 0 where
   pub high_within : (p : ℕ) → o.place < p → p ≤ b.place → IsWithin Lower o b (on_curve hi p)
 
 segment_stays : {lo hi : ℕ → ℕ} {o b : Point} → LeadsBetween lo hi o b
-    → StaysBetween lo hi o.place o.height (segment_to o b)
+    → StaysBetween (start_at lo hi o.place o.height) (segment_to o b)
 segment_stays {lo} {hi} {o} {b} keeps =
     let later = keeps.later in
     let end : o.place + (b.place - o.place) ≡ b.place = omega (arith, later) in
     record {
       some = omega (arith, later);
       above = λ i upto. elim (cases_lt 0 i) [
-        | inl pos ↦ line_above lo o b i keeps.rises
-            (keeps.low_within (o.place + i) (omega (arith, pos)) (omega (arith, upto, end)))
-        | inr none ↦ starts_above lo o.place (ray_to o b) i none keeps.above
+        | inl pos ↦ (
+            let h = ray_within Lower o b (on_curve lo (o.place + i)) keeps.rises
+            (keeps.low_within (o.place + i) (omega (arith, pos)) (omega (arith, upto, end))) in
+            omega (arith, h, along i)
+            )
+        | inr none ↦ (
+            let h = mul-le-mul_right (b.place - o.place) keeps.above in
+            let e : lo (o.place + i) * (b.place - o.place) ≡ lo o.place * (b.place - o.place) =
+            ap (λ p. lo p * (b.place - o.place)) (omega (arith, none)) in
+            omega (arith, h, e)
+            )
       ];
       below = λ i upto. elim (cases_lt 0 i) [
-        | inl pos ↦ line_below hi o b i keeps.rises
-            (keeps.high_within (o.place + i) (omega (arith, pos)) (omega (arith, upto, end)))
-        | inr none ↦ starts_below hi o.place (ray_to o b) i none keeps.below
+        | inl pos ↦ (
+            let h = ray_within Upper o b (on_curve hi (o.place + i)) keeps.rises
+            (keeps.high_within (o.place + i) (omega (arith, pos)) (omega (arith, upto, end))) in
+            omega (arith, h, along i)
+            )
+        | inr none ↦ (
+            let h = mul-le-mul_right (b.place - o.place) keeps.below in
+            let e : hi (o.place + i) * (b.place - o.place) ≡ hi o.place * (b.place - o.place) =
+            ap (λ p. hi p * (b.place - o.place)) (omega (arith, none)) in
+            let z : i * (b.height - o.height) ≡ 0 * (b.height - o.height) =
+            ap (λ n. n * (b.height - o.height)) (omega (arith, none)) in
+            omega (arith, h, e, z)
+            )
       ];
     }
+  where
+    along : (i : ℕ) → (o.place + i - o.place) * (b.height - o.height) ≡ i * (b.height - o.height)
+    along i = ap (λ n. n * (b.height - o.height)) (omega arith)
 
--- a corner of the upper chain
-pub rise_of_corner : {lo hi : ℕ → ℕ} {t s : ℕ} {o b : Point} → IsCorner Lower lo hi (funnel_reach t s o) b → t ≤ s + 1
-    → lo o.place ≤ o.height → o.height ≤ hi o.place
-    → o.height ≤ b.height → lo t ≤ hi t → IsRise lo hi o.place o.height (segment_to o b)
-rise_of_corner {lo} {hi} {t} {s} {o} {b} corner newest above below up ordered =
-    let later = corner.later in
-    let near = corner.near in
-    let new = corner.before_new in
-    let n = b.place - o.place in
-    let end : o.place + n ≡ b.place = omega (arith, later) in
-    let far : o.place + (t - o.place) ≡ t = omega (arith, later, new) in
-    let leaves : o.height * n + (t - o.place) * (b.height - o.height) < lo t * n =
-    subst (λ p. o.height * n + (t - o.place) * (b.height - o.height) < lo p * n) far
-    (line_under lo o b (t - o.place) up (subst (λ p. IsInside Lower o b (on_curve lo p)) (sym far) corner.crossed)) in
-    record {
-      stays = segment_stays (record {
-        later = later;
-        rises = up;
-        above = above;
-        below = below;
-        low_within = λ p after upto. corner.own_within p after (omega (arith, upto, new));
-        high_within = corner.others_beyond;
-      });
-      on = let e : o.height + (b.height - o.height) ≡ b.height = omega (arith, up) in e ∙ (corner.on ∙ ap hi (sym end));
-      far = t - o.place;
-      later = omega (arith, later, new);
-      leaves = subst (λ p. o.height * n + (t - o.place) * (b.height - o.height) < lo p * n) (sym far) leaves;
-      free = λ i past upto. elim (cases_lt s (o.place + i)) [
-        | inr known ↦ line_under hi o b i up (corner.others_after (o.place + i) (omega (arith, past, end)) known)
-        | inl last ↦ (let at : t ≡ o.place + i = omega (arith, last, newest, upto, far) in
-            let same : t - o.place ≡ i = omega (arith, at) in
-            let height : lo t * n ≤ hi t * n = mul-le-mul_right n ordered in
-            let all : o.height * n + (t - o.place) * (b.height - o.height) < hi t * n = omega (arith, leaves, height) in
-            subst (λ p. o.height * n + i * (b.height - o.height)
-            < hi p * n) at (subst (λ j. o.height * n + j * (b.height - o.height) < hi t * n) same all))
-      ];
-    }
+-- A path, and the funnel from its apex, while the other chain may give way to the new point: all that a bend is made of.
+pub record Bending (limits : Limits) : Type 0 where
+  pub side : Side
+  pub sight : FunnelReach
+  pub own : List Point
+  pub others : List Point
+  pub segments : List Segment
+  pub fits : sight.reach ≤ limits.n
+  pub path : IsPath limits.lo limits.hi limits.from sight.apex segments
+  pub crossing : IsCrossing (funnel_on limits.lo limits.hi side sight own others)
 
--- a corner of the lower chain
-pub fall_of_corner : {lo hi : ℕ → ℕ} {t s : ℕ} {o b : Point} → IsCorner Upper hi lo (funnel_reach t s o) b → t ≤ s + 1
-    → lo o.place ≤ o.height → o.height ≤ hi o.place
-    → o.height ≤ b.height → lo t ≤ hi t → IsFall lo hi o.place o.height (segment_to o b)
-fall_of_corner {lo} {hi} {t} {s} {o} {b} corner newest above below up ordered =
-    let later = corner.later in
-    let near = corner.near in
-    let new = corner.before_new in
-    let n = b.place - o.place in
-    let end : o.place + n ≡ b.place = omega (arith, later) in
-    let far : o.place + (t - o.place) ≡ t = omega (arith, later, new) in
-    let leaves : hi t * n < o.height * n + (t - o.place) * (b.height - o.height) =
-    subst (λ p. hi p * n < o.height * n + (t - o.place) * (b.height - o.height)) far
-    (line_over hi o b (t - o.place) up (subst (λ p. IsInside Upper o b (on_curve hi p)) (sym far) corner.crossed)) in
-    record {
-      stays = segment_stays (record {
-        later = later;
-        rises = up;
-        above = above;
-        below = below;
-        low_within = corner.others_beyond;
-        high_within = λ p after upto. corner.own_within p after (omega (arith, upto, new));
-      });
-      on = let e : o.height + (b.height - o.height) ≡ b.height = omega (arith, up) in e ∙ (corner.on ∙ ap lo (sym end));
-      far = t - o.place;
-      later = omega (arith, later, new);
-      leaves = subst (λ p. hi p * n < o.height * n + (t - o.place) * (b.height - o.height)) (sym far) leaves;
-      free = λ i past upto. elim (cases_lt s (o.place + i)) [
-        | inr known ↦ line_over lo o b i up (corner.others_after (o.place + i) (omega (arith, past, end)) known)
-        | inl last ↦ (let at : t ≡ o.place + i = omega (arith, last, newest, upto, far) in
-            let same : t - o.place ≡ i = omega (arith, at) in
-            let height : lo t * n ≤ hi t * n = mul-le-mul_right n ordered in
-            let all : lo t * n < o.height * n + (t - o.place) * (b.height - o.height) = omega (arith, leaves, height) in
-            subst (λ p. lo p * n
-            < o.height * n
-            + i * (b.height - o.height)) at (subst (λ j. lo t * n < o.height * n + j * (b.height - o.height)) same all))
-      ];
-    }
+abbrev pub funnel_of : {limits : Limits} → Bending limits → Funnel
+funnel_of {limits} state = funnel_on limits.lo limits.hi state.side state.sight state.own state.others
 
-above_start : {z : ℕ} (v t n h : ℕ) → slope_lt v t z n h → v ≤ z → v < h
-above_start {z} v t n h lt le =
-    let up : n * v ≤ n * z = mul-le-mul_left n le in
-    let all : t * v < t * h = omega (arith, lt, up) in
-    lt_of_mul-lt-mul_left t all
+past_further : (side : Side) (a b c : ℕ) → IsPast side a b → IsOrdered side b c → IsPast side a c
+past_further Lower a b c p q = omega (arith, p, q)
+past_further Upper a b c p q = omega (arith, p, q)
 
--- the new point's place t, after o and of the curves' places up to n: the other chain is read up to s, which is t or
--- t - 1
-pub record IsNewPlace (n t s : ℕ) (o : Point) : Type 0 where
-  pub fits : t ≤ n
-  pub newest : t ≤ s + 1
-  pub not_past : s ≤ t
-  pub beyond : o.place < t
+-- at one place the curves are in order, also times a number
+ordered_times : (side : Side) (limits : Limits) (t n : ℕ) → limits.lo t ≤ limits.hi t
+    → IsOrdered side (curve_on limits.lo limits.hi side t * n) (curve_on limits.lo limits.hi (other_side side) t * n)
+ordered_times Lower limits t n le = mul-le-mul_right n le
+ordered_times Upper limits t n le = mul-le-mul_right n le
 
--- the line never falls to a corner
-pub corner_rises : {side : Side} {lo hi : ℕ → ℕ} {from n t s : ℕ} {o b : Point} → IsBand lo hi from n
-    → IsNewPlace n t s o → o.height ≤ hi o.place
-    → IsCorner side (curve_on lo hi side) (curve_on lo hi (other_side side)) (funnel_reach t s o) b → o.height ≤
-    b.height
-corner_rises {side = Lower} {lo} {from} {s} {o} {b} band new below corner =
+-- the line never falls to a corner, which stands between the curves
+record IsGoodCorner (limits : Limits) (o b : Point) : Type 0 where
+  pub rises : o.height ≤ b.height
+  pub above : limits.lo b.place ≤ b.height
+  pub below : b.height ≤ limits.hi b.place
+
+good_corner : {limits : Limits} → IsBand limits → (side : Side) (state : Bending limits) {b : Point}
+    → IsCorner (funnel_on limits.lo limits.hi side state.sight state.own state.others) b
+    → IsGoodCorner limits state.sight.apex b
+good_corner {limits} band Lower state {b} corner =
     let later = corner.later in
     let near = corner.near in
     let on = corner.on in
-    let up = band.high_rises o.place b.place (omega (arith, later)) (omega (arith, near, new.not_past, new.fits)) in
-    omega (arith, below, up, on)
-corner_rises {side = Upper} {lo} {hi} {from} {t} {s} {o} {b} band new below corner =
-    let up = band.high_rises o.place t (omega (arith, new.beyond)) new.fits in
-    let lt = above_start o.height (t - o.place) (b.place - o.place) b.height corner.crossed
-    (omega (arith, below, up)) in
-    omega (arith, lt)
-
--- the path goes on to a corner
-goes_to_corner : (side : Side) {lo hi : ℕ → ℕ} {from n t s : ℕ} {o b : Point} {segments : List Segment}
-    → IsNewPlace n t s o → IsPath lo hi from o segments → lo t ≤ hi t → o.height ≤ b.height
-    → IsCorner side (curve_on lo hi side) (curve_on lo hi (other_side side)) (funnel_reach t s o) b
-    → GoesOn lo hi from (o.place + (b.place - o.place)) (o.height + (b.height - o.height))
-    (segments ++ segment_to o b ∷ [])
-goes_to_corner Lower new path ordered up corner =
-    goes_on_rise path.goes_on (rise_of_corner corner new.newest path.above path.below up ordered)
-goes_to_corner Upper new path ordered up corner =
-    goes_on_fall path.goes_on (fall_of_corner corner new.newest path.above path.below up ordered)
-
-pub path_bends : {side : Side} {lo hi : ℕ → ℕ} {from n t s : ℕ} {o b : Point} {segments : List Segment}
-    → IsBand lo hi from n → IsNewPlace n t s o → IsPath lo hi from o segments
-    → IsCorner side (curve_on lo hi side) (curve_on lo hi (other_side side)) (funnel_reach t s o) b
-    → IsPath lo hi from b (segments ++ segment_to o b ∷ [])
-path_bends {side} {lo} {hi} {from} {n} {t} {s} {o} {b} {segments} band new path corner =
-    let later = corner.later in
-    let near = corner.near in
-    let up = corner_rises band new path.below corner in
-    let place : o.place + (b.place - o.place) ≡ b.place = omega (arith, later) in
-    let height : o.height + (b.height - o.height) ≡ b.height = omega (arith, up) in
-    let slots = path.slots in
-    let bytes = path.bytes in
+    let within : b.place ≤ limits.n = omega (arith, near, state.crossing.not_past, state.fits) in
     record {
-      slots = let e = sum_by_push (λ (x : Segment). x.slots) segments (segment_to o b) in
-          omega (arith, e, slots, place);
-      bytes = let e = sum_by_push (λ (x : Segment). x.bytes) segments (segment_to o b) in
-          omega (arith, e, bytes, height);
-      above = stands_above side lo hi band new corner;
-      below = stands_below side lo hi band new corner;
-      goes_on = subst (λ p. GoesOn lo hi from p b.height (segments ++ segment_to o b ∷ [])) place
-          (subst (λ h. GoesOn lo hi from (o.place + (b.place - o.place)) h (segments ++ segment_to o b ∷ [])) height
-          (goes_to_corner side new path (band.ordered t new.fits) up corner));
+      rises = omega (arith, state.path.below, on, band.high_rises state.sight.apex.place b.place (omega (arith, later)) within);
+      above = omega (arith, on, band.ordered b.place within);
+      below = omega (arith, on);
+    }
+good_corner {limits} band Upper state {b} corner =
+    let near = corner.near in
+    let on = corner.on in
+    let within : b.place ≤ limits.n = omega (arith, near, state.crossing.not_past, state.fits) in
+    let up = band.high_rises o.place t (omega (arith, state.crossing.beyond)) state.fits in
+    let steep : (b.place - o.place) * o.height ≤ (b.place - o.place) * limits.hi t =
+    mul-le-mul_left (b.place - o.place) (omega (arith, state.path.below, up)) in
+    let lt : o.height < b.height = lt_of_mul-lt-mul_left (t - o.place) (omega (arith, corner.crossed, steep)) in
+    record {
+      rises = omega (arith, lt);
+      above = omega (arith, on);
+      below = omega (arith, on, band.ordered b.place within);
     }
   where
-    stands_above : (side : Side) (lo hi : ℕ → ℕ) → IsBand lo hi from n → IsNewPlace n t s o
-        → IsCorner side (curve_on lo hi side) (curve_on lo hi (other_side side)) (funnel_reach t s o) b
-        → lo b.place ≤ b.height
-    stands_above Lower lo hi band new corner =
-        let near = corner.near in let on = corner.on in let le =
-        band.ordered b.place (omega (arith, near, new.not_past, new.fits)) in omega (arith, on, le)
-    stands_above Upper lo hi band new corner = let on = corner.on in omega (arith, on)
+    open state use {sight.{apex as o, reach as t}}
 
-    stands_below : (side : Side) (lo hi : ℕ → ℕ) → IsBand lo hi from n → IsNewPlace n t s o
-        → IsCorner side (curve_on lo hi side) (curve_on lo hi (other_side side)) (funnel_reach t s o) b
-        → b.height ≤ hi b.place
-    stands_below Lower lo hi band new corner = let on = corner.on in omega (arith, on)
-    stands_below Upper lo hi band new corner =
-        let near = corner.near in let on = corner.on in let le =
-        band.ordered b.place (omega (arith, near, new.not_past, new.fits)) in omega (arith, on, le)
+-- the segment to a corner ends where the line turns
+turn_at : {limits : Limits} → IsBand limits → (state : Bending limits) {b : Point} → IsCorner (funnel_of state) b
+    → IsGoodCorner limits state.sight.apex b
+    → IsTurn state.side (start_at limits.lo limits.hi state.sight.apex.place state.sight.apex.height)
+    (segment_to state.sight.apex b)
+turn_at {limits} band state {b} corner good =
+    let later = corner.later in
+    let new = corner.before_new in
+    let end : o.place + (b.place - o.place) ≡ b.place = omega (arith, later) in
+    let far : o.place + (t - o.place) ≡ t = omega (arith, later, new) in
+    let crossed = ray_past side o b (on_curve curve t) good.rises corner.crossed in
+    record {
+      stays = segment_stays (leads side corner);
+      on = sym (high o b good.rises) ∙ (corner.on ∙ ap other (sym end));
+      far = t - o.place;
+      later = omega (arith, later, new);
+      leaves = subst (λ p. IsPast side (ray_at o b (on_curve curve t)) (curve p * (b.place - o.place))) (sym far) crossed;
+      free = λ i past upto.
+          let at : o.place + i - o.place ≡ i = omega arith in
+          subst (λ j. IsPast side (o.height * (b.place - o.place) + j * (b.height - o.height))
+          (other (o.place + i) * (b.place - o.place))) at
+          (elim (cases_lt s (o.place + i)) [
+            | inr seen ↦
+                ray_past side o b (on_curve other (o.place + i)) good.rises
+                (corner.others_after (o.place + i) (omega (arith, past, end)) seen)
+            | inl last ↦ (
+                let is : t ≡ o.place + i = omega (arith, last, state.crossing.newest, upto, far) in
+                subst (λ p. IsPast side (ray_at o b (on_curve other p)) (other p * (b.place - o.place))) is
+                (past_further side _ _ _ crossed
+                (ordered_times side limits t (b.place - o.place) (band.ordered t state.fits)))
+                )
+          ]);
+    }
+  where
+    open state use {side, sight.{apex as o, reach as t, other_reach as s}}
 
-pub path_rises : {lo hi : ℕ → ℕ} {from n : ℕ} {o : Point} {segments : List Segment} → IsBand lo hi from n
-    → o.place < n → IsPath lo hi from o segments → o.height ≤ hi n
-path_rises {lo} {from} {n} {o} band past path =
-    let up = band.high_rises o.place n (omega (arith, past)) (omega arith) in
+    curve : ℕ → ℕ
+    curve = curve_on limits.lo limits.hi side
+
+    other : ℕ → ℕ
+    other = curve_on limits.lo limits.hi (other_side side)
+
+    leads : (side : Side) → IsCorner (funnel_on limits.lo limits.hi side state.sight state.own state.others) b
+        → LeadsBetween limits.lo limits.hi o b
+    leads Lower corner = record {
+      later = corner.later;
+      rises = good.rises;
+      above = state.path.above;
+      below = state.path.below;
+      low_within = λ p after upto. corner.own_within p after (omega (arith, upto, corner.before_new));
+      high_within = corner.others_beyond;
+    }
+    leads Upper corner = record {
+      later = corner.later;
+      rises = good.rises;
+      above = state.path.above;
+      below = state.path.below;
+      low_within = corner.others_beyond;
+      high_within = λ p after upto. corner.own_within p after (omega (arith, upto, corner.before_new));
+    }
+
+-- the path goes on to the corner
+pub record PathBends {limits : Limits} (state : Bending limits) (b : Point) : Type 0 where
+  pub higher : state.sight.apex.height ≤ b.height
+  pub path : IsPath limits.lo limits.hi limits.from b (state.segments ++ segment_to state.sight.apex b ∷ [])
+
+pub path_bends : {limits : Limits} → IsBand limits → (state : Bending limits) {b : Point} → IsCorner (funnel_of state) b
+    → PathBends state b
+path_bends {limits} band state {b} corner =
+    let later = corner.later in
+    let good = good_corner band state.side state corner in
+    let turn = turn_at band state corner good in
+    let to = segment_to o b in
+    let slots = sum_by_push (λ (x : Segment). x.slots) segments to in
+    let bytes = sum_by_push (λ (x : Segment). x.bytes) segments to in
+    let place : o.place + to.slots ≡ b.place = omega (arith, later) in
+    let height : o.height + to.bytes ≡ b.height = omega (arith, good.rises) in
+    record {
+      higher = good.rises;
+      path = record {
+        slots = omega (arith, slots, path.slots, place);
+        bytes = omega (arith, bytes, path.bytes, height);
+        above = good.above;
+        below = good.below;
+        goes_on = subst (λ a. GoesOn a limits.from (segments ++ to ∷ []))
+            (same_start (start_at limits.lo limits.hi b.place b.height) place height) (record {
+              on = λ rest one runs.
+                  subst (RunsTaut (start_at limits.lo limits.hi 0 limits.from)) (sym (append_assoc segments (to ∷ []) rest))
+                  (path.goes_on.on (to ∷ rest) (turn_slope state.side turn)
+                  (turn.stays, turn_bends state.side rest turn one, runs));
+            });
+      };
+    }
+  where
+    open state use {sight.{apex as o}, segments, path}
+
+-- a path to an apex, and the chains from there
+pub record Reach : Type 0 where
+  pub apex : Point
+  pub segments : List Segment
+  pub lower : List Point
+  pub upper : List Point
+
+-- they are those of the places up to `slot`
+pub record IsReached (limits : Limits) (slot : ℕ) (reached : Reach) : Type 0 where
+  pub path : IsPath limits.lo limits.hi limits.from reached.apex reached.segments
+  pub funnel : IsFunnel Lower limits.lo limits.hi (funnel_reach slot slot reached.apex) reached.lower reached.upper
+  pub beyond : 0 < slot → reached.apex.place < slot
+
+-- the last segment, to the point where the curves meet
+pub record IsEnding (limits : Limits) (o : Point) (segments : List Segment) : Type 0 where
+  pub higher : o.height ≤ limits.hi limits.n
+  pub whole : IsTautPath limits.lo limits.hi limits.from limits.n
+      (segments ++ segment_to o (on_curve limits.hi limits.n) ∷ [])
+
+pub ends_at : {limits : Limits} {slot : ℕ} {reached : Reach} → IsBand limits → slot ≡ limits.n
+    → IsReached limits slot reached → IsEnding limits reached.apex reached.segments
+ends_at {limits} {reached} band same is =
+    let whole = subst (λ t. IsReached limits t reached) same is in
+    let path = whole.path in
+    let past : o.place < n = whole.beyond band.some in
     let below = path.below in
-    omega (arith, up, below)
-
--- the segments with the last one, to where the curves meet
-pub path_ends : {lo hi : ℕ → ℕ} {from n : ℕ} {o : Point} {segments : List Segment} → IsBand lo hi from n
-    → o.place < n → IsPath lo hi from o segments
-    → KeepsApart Upper hi lo (funnel_reach (n + 1) n o)
-    → IsTautPath lo hi from n (segments ++ segment_to o (on_curve hi n) ∷ [])
-path_ends {lo} {hi} {from} {n} {o} {segments} band past path keeps =
-    let up = band.high_rises o.place n (omega (arith, past)) (omega arith) in
-    let below = path.below in
-    let rises : o.height ≤ hi n = omega (arith, up, below) in
-    let d = n - o.place in
-    let end : o.place + d ≡ n = omega (arith, past) in
-    let s = segment_to o (on_curve hi n) in
-    let slots = path.slots in
-    let bytes = path.bytes in
-    let on_high : o.height + (hi n - o.height) ≡ hi (o.place + d) =
-    let e : o.height + (hi n - o.height) ≡ hi n = omega (arith, rises) in e ∙ ap hi (sym end) in
-    let on_low : o.height + (hi n - o.height) ≡ lo (o.place + d) = let e : o.height + (hi n - o.height) ≡ hi n =
-    omega (arith, rises) in e ∙ (sym band.meet ∙ ap lo (sym end)) in
-    let stays : StaysBetween lo hi o.place o.height s = segment_stays (record {
+    let rises : o.height ≤ hi n = omega (arith, below, band.high_rises o.place n (omega (arith, past)) (omega arith)) in
+    let to = segment_to o (on_curve hi n) in
+    let end : o.place + to.slots ≡ n = omega (arith, past) in
+    let height : o.height + to.bytes ≡ hi n = omega (arith, rises) in
+    let stays : StaysBetween (start_at lo hi o.place o.height) to = segment_stays (record {
       later = past;
       rises = rises;
       above = path.above;
       below = below;
-      low_within = λ p after upto. keeps.apart n p past (omega arith) after upto;
+      low_within = λ p after upto. whole.funnel.keeps.apart p n after (omega (arith, upto)) past (omega arith);
       high_within = λ p after upto.
           subst (λ h. IsWithin Lower o (record { place = n; height = h }) (on_curve hi p)) band.meet
-          (keeps.apart p n after (omega (arith, upto)) past (omega arith));
+          (whole.funnel.keeps.apart n p past (omega arith) after upto);
     }) in
+    let slots = sum_by_push (λ (x : Segment). x.slots) segments to in
+    let bytes = sum_by_push (λ (x : Segment). x.bytes) segments to in
     record {
-      slots = let e = sum_by_push (λ (x : Segment). x.slots) segments s in omega (arith, e, slots, end);
-      bytes = let e = sum_by_push (λ (x : Segment). x.bytes) segments s in omega (arith, e, bytes, rises);
-      runs =
-          path.goes_on.on (s ∷ []) (stays.some, end_meets_low stays on_low, end_meets_high stays on_high)
-          (stays, tt, tt);
+      higher = rises;
+      whole = record {
+        slots = omega (arith, slots, path.slots, end);
+        bytes = omega (arith, bytes, path.bytes, rises);
+        runs = path.goes_on.on (to ∷ []) (record {
+          some = stays.some;
+          lower = end_meets_low stays (height ∙ (sym band.meet ∙ ap lo (sym end)));
+          upper = end_meets_high stays (height ∙ ap hi (sym end));
+        }) (stays, tt, tt);
+      };
     }
+  where
+    open limits use {lo, hi, n}
+    open reached use {apex as o, segments}

@@ -12,40 +12,28 @@ chord first middle last = (last.place - middle.place) * first.height + (middle.p
 abbrev weight : Point → Point → Point → ℕ
 weight first middle last = (last.place - first.place) * middle.height
 
-split : (first middle last : Point) → first.place ≤ middle.place → middle.place ≤ last.place
+-- one after the other
+abbrev pub InOrder : Point → Point → Point → Type 0
+InOrder first middle last = (first.place ≤ middle.place) × (middle.place ≤ last.place)
+
+split : (first middle last : Point) → InOrder first middle last
     → (last.place - first.place) * first.height
     ≡ ((last.place - middle.place) + (middle.place - first.place)) * first.height
-split first middle last begins ends = ap (λ d. d * first.height) (omega arith)
-
-below : (first middle last : Point) → first.place ≤ middle.place → middle.place ≤ last.place
-    → weight first middle last < chord first middle last → IsInside Lower first middle last
-below first middle last begins ends lt = omega (arith, split first middle last begins ends, lt)
-
-not_below : (first middle last : Point) → first.place ≤ middle.place → middle.place ≤ last.place
-    → chord first middle last ≤ weight first middle last → IsWithin Lower first last middle
-not_below first middle last begins ends le = omega (arith, split first middle last begins ends, le)
-
-above : (first middle last : Point) → first.place ≤ middle.place → middle.place ≤ last.place
-    → chord first middle last < weight first middle last → IsInside Upper first middle last
-above first middle last begins ends lt = omega (arith, split first middle last begins ends, lt)
-
-not_above : (first middle last : Point) → first.place ≤ middle.place → middle.place ≤ last.place
-    → weight first middle last ≤ chord first middle last → IsWithin Upper first last middle
-not_above first middle last begins ends le = omega (arith, split first middle last begins ends, le)
+split first middle last order = ap (λ d. d * first.height) (omega (arith, order.0, order.1))
 
 untrue : (a b : ℕ) → (IsTrue false ↔ (a < b)) → b ≤ a
 untrue a b is = elim (cases_lt a b) [ inl lt ↦ absurd (false≢true (is.1 lt)) | inr le ↦ le ]
 
-pub lower_test : {r : Bool} (first middle last : Point) → first.place ≤ middle.place → middle.place ≤ last.place
+pub lower_test : {r : Bool} (first middle last : Point) → InOrder first middle last
     → (IsTrue r ↔ (weight first middle last < chord first middle last))
     → MatchBool r (IsInside Lower first middle last) (IsWithin Lower first last middle)
-lower_test {r = true} first middle last begins ends is = below first middle last begins ends (is.0 refl)
-lower_test {r = false} first middle last begins ends is =
-    not_below first middle last begins ends (untrue (weight first middle last) (chord first middle last) is)
+lower_test {r = true} first middle last order is = omega (arith, split first middle last order, is.0 refl)
+lower_test {r = false} first middle last order is =
+    omega (arith, split first middle last order, untrue (weight first middle last) (chord first middle last) is)
 
-pub upper_test : {r : Bool} (first middle last : Point) → first.place ≤ middle.place → middle.place ≤ last.place
+pub upper_test : {r : Bool} (first middle last : Point) → InOrder first middle last
     → (IsTrue r ↔ (chord first middle last < weight first middle last))
     → MatchBool r (IsInside Upper first middle last) (IsWithin Upper first last middle)
-upper_test {r = true} first middle last begins ends is = above first middle last begins ends (is.0 refl)
-upper_test {r = false} first middle last begins ends is =
-    not_above first middle last begins ends (untrue (chord first middle last) (weight first middle last) is)
+upper_test {r = true} first middle last order is = omega (arith, split first middle last order, is.0 refl)
+upper_test {r = false} first middle last order is =
+    omega (arith, split first middle last order, untrue (chord first middle last) (weight first middle last) is)

@@ -110,6 +110,15 @@ turns_at turn pos a b =
 abbrev offset : Point → Point → Point
 offset from p = record { place = p.place - from.place; height = p.height }
 
+-- two heights at one place are in order, or not level: the one curve's is not past the other's
+abbrev pub IsOrdered : Side → ℕ → ℕ → Type 0
+IsOrdered Lower a b = a ≤ b
+IsOrdered Upper a b = b ≤ a
+
+abbrev pub IsPast : Side → ℕ → ℕ → Type 0
+IsPast Lower a b = a < b
+IsPast Upper a b = b < a
+
 -- three points as one more sees them
 pub record Seen : Type 0 where
   pub from : Point

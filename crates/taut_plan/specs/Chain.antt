@@ -9,19 +9,30 @@ use Rattle.taut_plan.specs.Slopes.{IsWithin, IsInside, AllFit}
 abbrev pub on_curve : (ℕ → ℕ) → ℕ → Point
 on_curve curve j = record { place = j; height = curve j }
 
--- Seen from o, the point p of the curve is furthest out up to place `last`: all before it stand
+-- a side's curve, and the place up to which it is read
+pub record ReadCurve : Type 0 where
+  pub side : Side
+  pub curve : ℕ → ℕ
+  pub last : ℕ
+
+abbrev pub read_to : Side → (ℕ → ℕ) → ℕ → ReadCurve
+read_to side curve last = record { side = side; curve = curve; last = last }
+
+-- Seen from o, the point p of the curve is furthest out up to its last place: all before it stand
 -- within, all beyond it inside.
-pub record IsFurthest (side : Side) (curve : ℕ → ℕ) (last : ℕ) (o p : Point) : Type 0 where
+pub record IsFurthest (read : ReadCurve) (o p : Point) : Type 0 where
   pub later : o.place < p.place
-  pub near : p.place ≤ last
-  pub on : p.height ≡ curve p.place
-  pub before : (j : ℕ) → o.place < j → j ≤ p.place → IsWithin side o (on_curve curve j) p
-  pub beyond : (j : ℕ) → p.place < j → j ≤ last → IsInside side o (on_curve curve j) p
+  pub near : p.place ≤ read.last
+  pub on : p.height ≡ read.curve p.place
+  pub before : (j : ℕ) → o.place < j → j ≤ p.place
+      → IsWithin read.side o (on_curve read.curve j) p
+  pub beyond : (j : ℕ) → p.place < j → j ≤ read.last
+      → IsInside read.side o (on_curve read.curve j) p
 
 -- the chain from o to place `last`
 abbrev pub IsChain : Side → (ℕ → ℕ) → ℕ → Point → List Point → Type 0
 IsChain side curve last o [] = o.place ≡ last
-IsChain side curve last o (p ∷ rest) = IsFurthest side curve last o p
+IsChain side curve last o (p ∷ rest) = IsFurthest (read_to side curve last) o p
     × IsChain side curve last p rest
 
 -- the point beyond which the chain goes on

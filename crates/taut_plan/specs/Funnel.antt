@@ -13,15 +13,22 @@ abbrev pub curve_on : (ℕ → ℕ) → (ℕ → ℕ) → Side → ℕ → ℕ
 curve_on lo hi Lower = lo
 curve_on lo hi Upper = hi
 
--- Two curves over the places up to n that a plan may run between: they begin and end at one height
--- each, the lower one is nowhere above the upper one, and the upper one never falls.
-pub record IsBand (lo hi : ℕ → ℕ) (from n : ℕ) : Type 0 where
-  pub some : 0 < n
-  pub low_starts : lo 0 ≡ from
-  pub high_starts : hi 0 ≡ from
-  pub ordered : (j : ℕ) → j ≤ n → lo j ≤ hi j
-  pub high_rises : (i j : ℕ) → i ≤ j → j ≤ n → hi i ≤ hi j
-  pub meet : lo n ≡ hi n
+-- two curves over the places up to n, and the height at which they begin
+pub record Limits : Type 0 where
+  pub lo : ℕ → ℕ
+  pub hi : ℕ → ℕ
+  pub from : ℕ
+  pub n : ℕ
+
+-- A plan may run between the curves: they begin and end at one height each, the lower one is
+-- nowhere above the upper one, and the upper one never falls.
+pub record IsBand (limits : Limits) : Type 0 where
+  pub some : 0 < limits.n
+  pub low_starts : limits.lo 0 ≡ limits.from
+  pub high_starts : limits.hi 0 ≡ limits.from
+  pub ordered : (j : ℕ) → j ≤ limits.n → limits.lo j ≤ limits.hi j
+  pub high_rises : (i j : ℕ) → i ≤ j → j ≤ limits.n → limits.hi i ≤ limits.hi j
+  pub meet : limits.lo limits.n ≡ limits.hi limits.n
 
 -- from which apex the curves are seen, and up to which place each of them: that of the side that is
 -- spoken of, and the other one
@@ -40,16 +47,24 @@ pub record KeepsApart (side : Side) (curve other : ℕ → ℕ) (sight : FunnelR
       → sight.apex.place < j → j ≤ sight.other_reach
       → IsWithin side sight.apex (on_curve curve i) (on_curve other j)
 
+-- the funnel, seen from one side: its curve and the other one, and the chains along both
+pub record Funnel : Type 0 where
+  pub side : Side
+  pub curve : ℕ → ℕ
+  pub other : ℕ → ℕ
+  pub sight : FunnelReach
+  pub own : List Point
+  pub others : List Point
+
 -- While the point of the one curve's reach gives the other chain its corners: the one chain has
 -- that point, and the other one ends at the same place or one place before.
-pub record IsCrossing (side : Side) (curve other : ℕ → ℕ) (sight : FunnelReach)
-    (own_chain other_chain : List Point) : Type 0 where
-  pub newest : sight.reach ≤ sight.other_reach + 1
-  pub not_past : sight.other_reach ≤ sight.reach
-  pub beyond : sight.apex.place < sight.reach
-  pub own : IsChain side curve sight.reach sight.apex own_chain
-  pub others : IsChain (other_side side) other sight.other_reach sight.apex other_chain
-  pub apart : KeepsApart side curve other sight
+pub record IsCrossing (f : Funnel) : Type 0 where
+  pub newest : f.sight.reach ≤ f.sight.other_reach + 1
+  pub not_past : f.sight.other_reach ≤ f.sight.reach
+  pub beyond : f.sight.apex.place < f.sight.reach
+  pub own : IsChain f.side f.curve f.sight.reach f.sight.apex f.own
+  pub others : IsChain (other_side f.side) f.other f.sight.other_reach f.sight.apex f.others
+  pub apart : KeepsApart f.side f.curve f.other f.sight
 
 -- the first point of the other chain, where the point is outside of that chain
 pub record IsCrossed (side : Side) (o : Point) (chain : List Point) (point corner : Point)

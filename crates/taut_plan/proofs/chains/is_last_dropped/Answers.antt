@@ -28,4 +28,11 @@ is_passed-requires-clause-fits c =
 
 pub returns-in-Some : goal.returns-in-Some
 returns-in-Some c =
-    dropped_by c.is_passed.result c.args.side c.in-Some.ensures c.requires.ascend c.requires.rise c.is_passed.ensures
+    dropped_by c.is_passed.result (record {
+      apex = c.args.apex;
+      chain = c.args.chain.now;
+      link = c.in-Some.link;
+      last = c.in-Some.ensures;
+      ascend = c.requires.ascend;
+      rise = c.requires.rise;
+    }) c.is_passed.ensures

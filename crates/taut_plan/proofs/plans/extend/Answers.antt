@@ -1,21 +1,26 @@
-use Rattle.std.proofs.Common.{◌+◌, ◌≤◌, length, arith, sym, subst}
+use Rattle.std.proofs.Common.{◌+◌, ◌≤◌, List, [], ◌∷◌, length, arith, sym, subst}
+use Rattle.taut_plan.specs.declared.points.Point.{Point}
 use Rattle.taut_plan.specs.Slopes.{other_side}
-use Rattle.taut_plan.specs.Funnel.{IsCrossing, other_curve_reach, funnel_reach}
-use Rattle.taut_plan.specs.Path.{IsPath}
+use Rattle.taut_plan.specs.Chain.{IsChain}
+use Rattle.taut_plan.specs.Funnel.{FirstFits, other_curve_reach, funnel_reach}
 use Rattle.taut_plan.specs.CurveSides.{lower_of, upper_of, side_of}
-use Rattle.taut_plan.proofs.BandLemmas.{band_of_sound}
-use Rattle.taut_plan.proofs.PointRangeLemmas.{corner_fits, first_fits, point_fits}
-use Rattle.taut_plan.proofs.FunnelLemmas.{chain_beyond, crossing_starts, bends_at, crossing_ends, uncrossed_behind}
+use Rattle.taut_plan.proofs.BandLemmas.{limits_of, band_of_sound}
+use Rattle.taut_plan.proofs.BendLemmas.{funnel_on}
+use Rattle.taut_plan.proofs.CornerLemmas.{Bending}
+use Rattle.taut_plan.proofs.PointRangeLemmas.{corner_fits, furthest_fits, points_fit}
+use Rattle.taut_plan.proofs.FunnelLemmas.{chain_beyond, known, crossing_starts, bends_at, crossing_ends, uncrossed_behind}
 use Rattle.taut_plan.proofs.RiseLemmas.{apex_rises}
 use Rattle.taut_plan.proofs.plans.extend.Goals as goal
 
 pub loop-corner-init : goal.loop-corner-init
 loop-corner-init c =
     let curves = c.args.curves.now in
+    let sight = funnel_reach c.args.slot (other_curve_reach c.args.side c.args.slot) c.args.path.now.apex in
     record {
       path = c.requires.path;
       crossing = crossing_starts
-          c.requires.funnel c.in_ok-point.ensures.chain;
+          (funnel_on (lower_of curves) (upper_of curves) c.args.side sight c.args.own.now c.args.others.now)
+          c.requires.funnel (known c.args.side c.args.slot) c.in_ok-point.ensures.chain;
     }
 
 pub join-requires-clause-apex : goal.join-requires-clause-apex
@@ -25,29 +30,46 @@ join-requires-clause-apex c =
     let beyond =
     chain_beyond c.args.side (side_of curves c.args.side) c.args.slot c.args.path.now.apex c.args.own.now
     c.requires.funnel.own in
-    corner_fits c.requires.sound (omega (arith, beyond, slot)) c.requires.path.below
+    corner_fits c.requires.sound c.args.path.now.apex (omega (arith, beyond, slot), c.requires.path.below)
 
 pub crossing-requires-clause-fit : goal.crossing-requires-clause-fit
-crossing-requires-clause-fit c =
-    let curves = c.args.curves.now in
-    let slot = c.requires.slot in
-    let beyond = c.loop-corner.invariant.crossing.beyond in
-    let fits : c.args.slot + 1 ≤ length curves.low.items = omega (arith, slot) in
-    first_fits c.in_ok-point.ensures.point c.loop-corner.invariant.crossing fits
-    (corner_fits c.requires.sound (omega (arith, beyond, fits)) c.loop-corner.invariant.path.below)
-    (record {
-      own = point_fits c.args.side c.requires.sound;
-      others = point_fits (other_side c.args.side) c.requires.sound;
-    })
+crossing-requires-clause-fit c = first_fits c.loop-corner.others c.loop-corner.invariant.crossing.others
+  where
+    open c.args use {curves.{now as curves}, side, slot}
+
+    first_fits : (others : List Point)
+        → IsChain (other_side side) (side_of curves (other_side side)) (other_curve_reach side slot) c.loop-corner.path.apex
+        others
+        → FirstFits c.loop-corner.path.apex others c.in_ok-point.point
+    first_fits [] chain = tt
+    first_fits (b ∷ rest) chain =
+        let beyond = c.loop-corner.invariant.crossing.beyond in
+        let below = c.requires.slot in
+        let most = c.loop-corner.invariant.crossing.not_past in
+        record {
+          begins = corner_fits c.requires.sound c.loop-corner.path.apex
+              (omega (arith, beyond, below), c.loop-corner.invariant.path.below);
+          passes = furthest_fits chain.0
+              (λ j le. points_fit (other_side side) c.requires.sound j (omega (arith, le, most, below)));
+          ends = rw c.in_ok-point.ensures.point (points_fit side c.requires.sound (slot + 1) (omega (arith, below)));
+        }
 
 pub bend_at-requires-clause-higher : goal.bend_at-requires-clause-higher
 bend_at-requires-clause-higher c =
     let curves = c.args.curves.now in
-    let band = band_of_sound curves.from curves.low.items curves.up.items c.requires.sound in
-    let bent = bends_at band c.loop-corner.invariant.path c.loop-corner.invariant.crossing (record {
-      point = _;
+    let state : Bending (limits_of curves.from curves.low.items curves.up.items) = record {
+      side = c.args.side;
+      sight = funnel_reach (c.args.slot + 1) (other_curve_reach c.args.side c.args.slot) c.loop-corner.path.apex;
+      own = c.join.new.chain;
+      others = c.loop-corner.others;
+      segments = c.loop-corner.path.segments.items;
+      fits = let below = c.requires.slot in omega (arith, below);
+      path = c.loop-corner.invariant.path;
+      crossing = c.loop-corner.invariant.crossing;
+    } in
+    let bent = bends_at (band_of_sound curves.from curves.low.items curves.up.items c.requires.sound) state (record {
+      point = c.in_ok-point.point;
       point_is = c.in_ok-point.ensures.point;
-      fits = omega arith;
       crossed = c.in-Some.ensures;
       left_is = c.pop_first.ensures;
     }) in
@@ -56,38 +78,40 @@ bend_at-requires-clause-higher c =
 pub loop-corner-preserved : goal.loop-corner-preserved
 loop-corner-preserved c =
     let curves = c.args.curves.now in
-    let band = band_of_sound curves.from curves.low.items curves.up.items c.requires.sound in
-    let bent = bends_at band c.loop-corner.invariant.path c.loop-corner.invariant.crossing (record {
-      point = _;
+    let state : Bending (limits_of curves.from curves.low.items curves.up.items) = record {
+      side = c.args.side;
+      sight = funnel_reach (c.args.slot + 1) (other_curve_reach c.args.side c.args.slot) c.loop-corner.path.apex;
+      own = c.join.new.chain;
+      others = c.loop-corner.others;
+      segments = c.loop-corner.path.segments.items;
+      fits = let below = c.requires.slot in omega (arith, below);
+      path = c.loop-corner.invariant.path;
+      crossing = c.loop-corner.invariant.crossing;
+    } in
+    let bent = bends_at (band_of_sound curves.from curves.low.items curves.up.items c.requires.sound) state (record {
+      point = c.in_ok-point.point;
       point_is = c.in_ok-point.ensures.point;
-      fits = omega arith;
       crossed = c.in-Some.ensures;
       left_is = c.pop_first.ensures;
     }) in
-    let corner = c.in-Some.corner in
-    let known = other_curve_reach c.args.side c.args.slot in
     record {
-      path = subst (λ o. IsPath (lower_of curves) (upper_of curves) curves.from o
-          c.bend_at.new.self.segments.items) (sym c.in_ok-bend_at.ensures.apex)
-          (subst (λ segments. IsPath (lower_of curves) (upper_of curves) curves.from corner segments)
-          (sym c.in_ok-bend_at.ensures.segments) bent.path);
-      crossing = subst (λ o. IsCrossing c.args.side (side_of curves c.args.side)
-          (side_of curves (other_side c.args.side)) (funnel_reach (c.args.slot + 1) known o) c.join.new.chain
-          c.pop_first.new.self)
-          (sym c.in_ok-bend_at.ensures.apex) bent.crossing;
+      path = rw (c.in_ok-bend_at.ensures.apex, c.in_ok-bend_at.ensures.segments) bent.path;
+      crossing = rw c.in_ok-bend_at.ensures.apex bent.crossing;
     }
 
 pub returns-clause-funnel : goal.returns-clause-funnel
 returns-clause-funnel c =
-    let curves = c.args.curves.now in
-    crossing_ends c.in_ok-point.ensures.point
-    c.loop-corner.invariant.crossing c.in_default.ensures
+    crossing_ends c.in_ok-point.ensures.point c.loop-corner.invariant.crossing c.in_default.ensures
 
 pub returns-then-has_several-clause-funnel : goal.returns-then-has_several-clause-funnel
 returns-then-has_several-clause-funnel c =
-    let starts = crossing_starts c.requires.funnel c.in_ok-point.ensures.chain in
+    let curves = c.args.curves.now in
+    let sight = funnel_reach c.args.slot (other_curve_reach c.args.side c.args.slot) c.args.path.now.apex in
+    let starts = crossing_starts
+    (funnel_on (lower_of curves) (upper_of curves) c.args.side sight c.args.own.now c.args.others.now)
+    c.requires.funnel (known c.args.side c.args.slot) c.in_ok-point.ensures.chain in
     crossing_ends c.in_ok-point.ensures.point starts
-    (uncrossed_behind _ _ c.in_ok-point.ensures.point (c.has_several.ensures.0 c.if-has_several.true) starts)
+    (uncrossed_behind c.in_ok-point.ensures.point (c.has_several.ensures.0 c.if-has_several.true) starts)
 
 pub returns-then-has_several-clause-beyond : goal.returns-then-has_several-clause-beyond
 returns-then-has_several-clause-beyond c =

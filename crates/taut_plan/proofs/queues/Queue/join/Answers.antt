@@ -1,28 +1,17 @@
-use Rattle.std.proofs.Common.{◌≡◌, ◌-◌, length, take, drop, rules, arith, subst}
-use Rattle.taut_plan.specs.declared.points.Point.{Point}
-use Rattle.taut_plan.specs.Chain.{IsLastEdge, last_point}
-use Rattle.taut_plan.specs.Links.{points_of}
+use Rattle.std.proofs.Common.{◌≡◌, length, rules, arith}
 use Rattle.taut_plan.proofs.QueueLemmas.{edge_to_last}
 use Rattle.taut_plan.proofs.queues.Queue.join.Goals as goal
 
 pub new-link-requires-clause-later : goal.new-link-requires-clause-later
 new-link-requires-clause-later c =
-    let links = c.self.inside.links.items in
-    let all : c.len-count.result ≡ length links = search rules in
-    let first : Point = last_point c.args.point
-    (take (c.len-count.result - 1 - c.self.inside.passed) (drop c.self.inside.passed (points_of links))) in
-    let edge = edge_to_last {o = c.args.point} links c.self.inside.passed all
-    (omega (arith, c.if-self-count.true)) c.index.ensures in
-    (c.requires c.args.point first c.index.result.now.point
-    (subst (λ chain. IsLastEdge c.args.point chain first c.index.result.now.point) c.self.view_is edge)).0
+    let all : length c.self.inside.links.items ≡ c.len-count.result = search rules in
+    let edge = edge_to_last c.args.point c.index.result.now c.self.inside.links.items c.self.inside.passed
+    (omega (arith, all, c.if-self-count.true)) (rw all c.index.ensures) in
+    (c.requires c.args.point _ _ (rw c.self.view_is at edge)).0
 
 pub new-link-requires-clause-higher : goal.new-link-requires-clause-higher
 new-link-requires-clause-higher c =
-    let links = c.self.inside.links.items in
-    let all : c.len-count.result ≡ length links = search rules in
-    let first : Point = last_point c.args.point
-    (take (c.len-count.result - 1 - c.self.inside.passed) (drop c.self.inside.passed (points_of links))) in
-    let edge = edge_to_last {o = c.args.point} links c.self.inside.passed all
-    (omega (arith, c.if-self-count.true)) c.index.ensures in
-    (c.requires c.args.point first c.index.result.now.point
-    (subst (λ chain. IsLastEdge c.args.point chain first c.index.result.now.point) c.self.view_is edge)).1
+    let all : length c.self.inside.links.items ≡ c.len-count.result = search rules in
+    let edge = edge_to_last c.args.point c.index.result.now c.self.inside.links.items c.self.inside.passed
+    (omega (arith, all, c.if-self-count.true)) (rw all c.index.ensures) in
+    (c.requires c.args.point _ _ (rw c.self.view_is at edge)).1

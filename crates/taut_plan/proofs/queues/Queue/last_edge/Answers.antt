@@ -6,7 +6,7 @@ use Rattle.taut_plan.proofs.queues.Queue.last_edge.Goals as goal
 pub returns-then-count-self-ge2 : goal.returns-then-count-self-ge2
 returns-then-count-self-ge2 c =
     let links = c.self.inside.links.items in
-    let all : c.len-count.result ≡ length links = search rules in
+    let all : length links ≡ c.len-count.result = search rules in
     subst (λ chain. IsLastLink c.args.apex chain c.index-last.result.now) c.self.view_is
-    (link_of_two links c.self.inside.passed c.self.invariant.1 all (omega (arith, c.if-count-self-ge2.true))
-    c.index-last.ensures)
+    (link_of_two c.args.apex links c.self.inside.passed
+    (c.self.invariant.1, omega (arith, all, c.if-count-self-ge2.true)) (rw all c.index-last.ensures))

@@ -10,6 +10,6 @@ invariant_of-self-2 c =
     let passed = c.self.inside.passed in
     let is : c.push.new.self.items ≡ links ++ c.args.link ∷ [] = search rules in (
       omega (arith, ap length is, length-append links (c.args.link ∷ []), c.self.invariant.0),
-      linked_join links passed is c.self.invariant.1
-          (subst (λ chain. IsLinkedTo chain c.args.link) (sym c.self.view_is) c.requires),
+      rw is (linked_join links passed c.args.link c.self.invariant.1
+          (subst (λ chain. IsLinkedTo chain c.args.link) (sym c.self.view_is) c.requires)),
     )
