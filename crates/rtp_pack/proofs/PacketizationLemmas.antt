@@ -123,22 +123,24 @@ short-more [] at cut cuts less uncut = tt
 short-more (n ∷ slices) at cut cuts less uncut =
     (λ short. (inl less, uncut.0 short), short-more slices (at + n) cut cuts (omega (arith, less)) uncut.1)
 
-short-full : {at : ℕ} (slices : List ℕ) (start count : ℕ) (cuts : List ℕ) → start + MAX_PAYLOAD_BYTES * count ≤ at
-    → AreShortUncut at slices cuts → AreShortUncut at slices (full_ends start count ++ cuts)
-short-full {at} slices start zero cuts less uncut = uncut
-short-full {at} slices start (suc count) cuts less uncut =
+short-full : (at : ℕ) (cuts slices : List ℕ) (start count : ℕ)
+    → (start + MAX_PAYLOAD_BYTES * count ≤ at) × AreShortUncut at slices cuts
+    → AreShortUncut at slices (full_ends start count ++ cuts)
+short-full at cuts slices start zero known = known.1
+short-full at cuts slices start (suc count) known =
+    let less = known.0 in
     short-more slices at (start + MAX_PAYLOAD_BYTES) (full_ends (start + MAX_PAYLOAD_BYTES) count ++ cuts)
     (omega (arith, less))
-    (short-full slices (start + MAX_PAYLOAD_BYTES) count cuts (omega (arith, less)) uncut)
+    (short-full at cuts slices (start + MAX_PAYLOAD_BYTES) count (omega (arith, less), known.1))
 
 -- a short slice ends in the portion in which it begins
-short-rest : {goes : Bool} {f : OpenPacket} {n count : ℕ} (rest : List ℕ) → FullBefore goes f n count
-    → AreFrom (f.at + n) rest → n ≤ MAX_PAYLOAD_BYTES → IsUncut f.at (f.at + n)
-    (full_ends (start_of goes f) count ++ rest)
-short-rest {goes} {f} {n} {count} rest full after short =
-    let none : count ≡ 0 = none-full (le-leb n MAX_PAYLOAD_BYTES short) full in
+short-rest : {goes : Bool} {f : OpenPacket} {n count : ℕ} (rest : List ℕ)
+    → FullBefore goes f n count × (AreFrom (f.at + n) rest × (n ≤ MAX_PAYLOAD_BYTES))
+    → IsUncut f.at (f.at + n) (full_ends (start_of goes f) count ++ rest)
+short-rest {goes} {f} {n} {count} rest known =
+    let none : count ≡ 0 = none-full (le-leb n MAX_PAYLOAD_BYTES known.1.1) known.0 in
     let P : ℕ → Type 0 = λ k. IsUncut f.at (f.at + n) (full_ends (start_of goes f) k ++ rest) in
-    subst P (sym none) (uncut-from f.at (f.at + n) rest after)
+    subst P (sym none) (uncut-from f.at (f.at + n) rest known.1.0)
 
 pub short-uncut : (slices : List ℕ) (f : OpenPacket) (cuts : List ℕ) → f.from ≤ f.at → Cuts f slices cuts
     → AreShortUncut f.at slices cuts
@@ -150,8 +152,8 @@ short-uncut (n ∷ slices) f cuts order (inl x) =
     let full : FullBefore true f n x.1.full = record { goes_is = x.0; before = x.1.before } in
     let P : List ℕ → Type 0 = λ l. AreShortUncut f.at (n ∷ slices) l in
     subst P (sym x.1.filled) (
-      λ short. short-rest x.1.rest full after short,
-      short-full slices f.from x.1.full x.1.rest (omega (arith, x.1.before)) rest,
+      λ short. short-rest _ (full, (after, short)),
+      short-full _ _ slices f.from x.1.full (omega (arith, x.1.before), rest),
     )
 short-uncut (n ∷ slices) f cuts order (inr x) =
     let fills = x.1.1.1 in
@@ -162,9 +164,9 @@ short-uncut (n ∷ slices) f cuts order (inr x) =
     let P : List ℕ → Type 0 = λ l. AreShortUncut f.at (n ∷ slices) l in
     let Q : List ℕ → Type 0 = λ l. AreShortUncut f.at (n ∷ slices) (f.at ∷ l) in
     subst P (sym x.1.1.0) (subst Q (sym fills.filled) (
-      λ short. (inl (omega arith), short-rest fills.rest full after short),
+      λ short. (inl (omega arith), short-rest _ (full, (after, short))),
       short-more slices (f.at + n) f.at (full_ends f.at fills.full ++ fills.rest) (omega arith)
-          (short-full slices f.at fills.full fills.rest (omega (arith, fills.before)) rest),
+          (short-full _ _ slices f.at fills.full (omega (arith, fills.before), rest)),
     ))
 
 -- ---- the last fragment ends its portion

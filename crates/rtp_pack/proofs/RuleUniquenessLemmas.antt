@@ -2,8 +2,8 @@
 use Rattle.std.proofs.Common.{◌≡◌, ℕ, zero, suc, ◌+◌, ◌*◌, ◌<◌, ◌≤◌, ◌⊎◌, Bool, true, false, cond}
 use Rattle.std.proofs.Common.{eqb, leb, ◌||◌, List, [], ◌∷◌, ◌++◌, sum, refl, sym, ap, subst, ◌∙◌}
 use Rattle.std.proofs.Common.{arith, inl, inr}
-use Rattle.std.proofs.lemmas.Bool.{both_ways, cases_lt, cases_order, eq-eqb, ne_eqb, le-leb, lt-leb, leb-false}
-use Rattle.std.proofs.lemmas.Bool.{le-ltb, ltb-false, or_right}
+use Rattle.std.proofs.lemmas.Bool.{both_ways, cases_lt, eq-eqb, ne_eqb, le-leb, lt-leb, leb-false}
+use Rattle.std.proofs.lemmas.Bool.{le-ltb, ltb-false, or_from, or_right}
 use Rattle.rtp_pack.specs.declared.open_packet.TheConstants.{MAX_PAYLOAD_BYTES}
 use Rattle.mpeg_scan.specs.declared.units.Kind.TheVariants.{I}
 use Rattle.mpeg_scan.specs.declared.units.Unit.{Unit as PictureUnit}
@@ -21,28 +21,42 @@ use Rattle.rtp_pack.proofs.PacketizationLemmas.{short-uncut}
 
 -- ---- one list
 
+-- where cuts must be, which slices they leave whole, where they may be and why
+record Rules : Type 1 where
+  Must : ℕ → Type 0
+  Fits : ℕ → ℕ → Type 0
+  May : ℕ → ℕ → Type 0
+  start : ℕ
+  end : ℕ
+  reasons : (start cut : ℕ) → May start cut
+      → (cut ≡ start + MAX_PAYLOAD_BYTES)
+      ⊎ (Must cut ⊎ ((length : ℕ) × (Fits cut length × (start + MAX_PAYLOAD_BYTES < cut + length))))
+
+-- the rules from a cut on
+abbrev from_cut : Rules → ℕ → Rules
+from_cut rules cut = record {
+  Must = rules.Must;
+  Fits = rules.Fits;
+  May = rules.May;
+  start = cut;
+  end = rules.end;
+  reasons = rules.reasons;
+}
+
 -- what two lists are compared by, from the place on where a portion begins
-record Rest (Must : ℕ → Type 0) (Fits : ℕ → ℕ → Type 0) (May : ℕ → ℕ → Type 0) (start end : ℕ)
-    (cuts : List ℕ) : Type 0 where
-  portions : ArePortions start cuts end
-  short : (place length : ℕ) → Fits place length → IsUncut place (place + length) cuts
-  must : (place : ℕ) → start < place → Must place → is_among place cuts ≡ true
-  ends : MayAllEnd May start cuts
+record Rest (rules : Rules) (cuts : List ℕ) : Type 0 where
+  portions : ArePortions rules.start cuts rules.end
+  short : (place length : ℕ) → rules.Fits place length → IsUncut place (place + length) cuts
+  must : (place : ℕ) → rules.start < place → rules.Must place → is_among place cuts ≡ true
+  ends : MayAllEnd rules.May rules.start cuts
 
--- the reasons of an end
-abbrev Reasons : (ℕ → Type 0) → (ℕ → ℕ → Type 0) → (ℕ → ℕ → Type 0) → Type 0
-Reasons Must Fits May =
-    (start cut : ℕ) → May start cut
-    → (cut ≡ start + MAX_PAYLOAD_BYTES)
-    ⊎ (Must cut ⊎ ((length : ℕ) × (Fits cut length × (start + MAX_PAYLOAD_BYTES < cut + length))))
-
-portions-rise : {start : ℕ} (end first : ℕ) (cuts : List ℕ) → ArePortions start cuts end → first < start
-    → is_among first cuts ≡ true → ⊥
-portions-rise {start} end first [] portions less e = cc
-portions-rise {start} end first (cut ∷ cuts) portions less e =
-    let other : eqb first cut ≡ false = ne_eqb first cut (λ is. absurd (omega (arith, is, portions.0, less))) in
-    portions-rise {start = cut} end first cuts portions.1.1 (omega (arith, less, portions.0))
-    (sym (ap (λ b. b || is_among first cuts) other) ∙ e)
+portions-rise : (start end first : ℕ) (cuts : List ℕ) → ArePortions start cuts end → first < start
+    → is_among first cuts ≡ false
+portions-rise start end first [] portions less = refl
+portions-rise start end first (cut ∷ cuts) portions less =
+    or_from (eqb first cut) (is_among first cuts)
+    (ne_eqb first cut (λ is. absurd (omega (arith, is, portions.0, less))))
+    (portions-rise cut end first cuts portions.1.1 (omega (arith, less, portions.0)))
 
 portions-end : (start end : ℕ) (cuts : List ℕ) → ArePortions start cuts end → start ≤ end
 portions-end start end [] portions = omega (arith, portions)
@@ -59,68 +73,84 @@ ends-next : (May : ℕ → ℕ → Type 0) (start cut : ℕ) (cuts : List ℕ) �
 ends-next May start cut [] ends_ = tt
 ends-next May start cut (next ∷ cuts) ends_ = ends_.1
 
-rest-next : {Must : ℕ → Type 0} {Fits May : ℕ → ℕ → Type 0} {start end cut : ℕ} {cuts : List ℕ}
-    → Rest Must Fits May start end (cut ∷ cuts) → Rest Must Fits May cut end cuts
-rest-next {Fits} {May} {start} {end} {cut} {cuts} rest = record {
+rest-next : {rules : Rules} {cut : ℕ} {cuts : List ℕ} → Rest rules (cut ∷ cuts) → Rest (from_cut rules cut) cuts
+rest-next {rules} {cut} {cuts} rest = record {
   portions = rest.portions.1.1;
   short = λ place length fits. (rest.short place length fits).1;
   must = λ place after is. among-rest place cut cuts after (rest.must place (omega (arith, after, rest.portions.0)) is);
-  ends = ends-next May start cut cuts rest.ends;
+  ends = ends-next rules.May rules.start cut cuts rest.ends;
 }
 
-cut-inside : (c d length : ℕ) → (d ≤ c) ⊎ (c + length ≤ d) → c < d → d < c + length → ⊥
-cut-inside c d length (inl low) less inside = omega (arith, low, less)
-cut-inside c d length (inr high) less inside = omega (arith, high, inside)
+-- a first cut: it ends the list, or has a reason
+record IsCut (rules : Rules) (c : ℕ) : Type 0 where
+  some : rules.start < c
+  reason : (c ≡ rules.end) ⊎ rules.May rules.start c
 
--- a cut of one list is no place that the other passes over
-passed-by : {Must : ℕ → Type 0} {Fits May : ℕ → ℕ → Type 0} {start end c d : ℕ} {bs : List ℕ}
-    → Rest Must Fits May start end (d ∷ bs) → start < c → c < d
-    → (c ≡ start + MAX_PAYLOAD_BYTES)
-    ⊎ (Must c ⊎ ((length : ℕ) × (Fits c length × (start + MAX_PAYLOAD_BYTES < c + length)))) → ⊥
-passed-by {Fits} {May} {start} {end} {c} b some less (inl full) = omega (arith, full, less, b.portions.1.0)
-passed-by {Fits} {May} {start} {end} {c} {d} {bs} b some less (inr (inl must)) =
-    let there = b.must c some must in
-    let other : eqb c d ≡ false = ne_eqb c d (λ is. absurd (omega (arith, is, less))) in
-    portions-rise end c bs b.portions.1.1 less (sym (ap (λ e. e || is_among c bs) other) ∙ there)
-passed-by {Fits} {May} {start} {end} {c} {d} b some less (inr (inr fit)) =
-    cut-inside c d fit.0 (b.short c fit.0 fit.1.0).0 less (omega (arith, fit.1.1, b.portions.1.0))
+first-cut : {rules : Rules} {c : ℕ} (cs : List ℕ) → Rest rules (c ∷ cs) → IsCut rules c
+first-cut [] rest = record { some = rest.portions.0; reason = inl rest.portions.1.1 }
+first-cut (next ∷ cs) rest = record { some = rest.portions.0; reason = inr rest.ends.0 }
 
-passed : {Must : ℕ → Type 0} {Fits May : ℕ → ℕ → Type 0} {start end c d : ℕ} {cs bs : List ℕ}
-    → Reasons Must Fits May → Rest Must Fits May start end (c ∷ cs) → Rest Must Fits May start end (d ∷ bs) → c < d → ⊥
-passed {Fits} {May} {start} {end} {c} {d} {cs = []} {bs} reasons a b less =
-    omega (arith, a.portions.1.1, less, portions-end d end bs b.portions.1.1)
-passed {Must} {Fits} {May} {start} {end} {c} {cs = next ∷ cs} reasons a b less =
-    passed-by b (omega (arith, a.portions.0)) less (reasons start c a.ends.0)
-
-one-rest : {Must : ℕ → Type 0} {Fits May : ℕ → ℕ → Type 0} {start end : ℕ} {cs bs : List ℕ}
-    → Reasons Must Fits May → Rest Must Fits May start end cs → Rest Must Fits May start end bs → cs ≡ bs
-one-rest {Fits} {May} {start} {end} {cs = []} {bs = []} reasons a b = refl
-one-rest {Fits} {May} {start} {end} {cs = []} {bs = d ∷ bs} reasons a b =
-    absurd (omega (arith, a.portions, b.portions.0, portions-end d end bs b.portions.1.1))
-one-rest {Fits} {May} {start} {end} {cs = c ∷ cs} {bs = []} reasons a b =
-    absurd (omega (arith, b.portions, a.portions.0, portions-end c end cs a.portions.1.1))
-one-rest {Must} {Fits} {May} {start} {end} {cs = c ∷ cs} {bs = d ∷ bs} reasons a b = elim (cases_order c d) [
-  | inl same ↦ (let P : ℕ → Type 0 = λ s. Rest Must Fits May s end bs in
-      let rest = one-rest reasons (rest-next a) (subst P (sym same) (rest-next b)) in
-      ap (λ n. n ∷ cs) same ∙ ap (λ (l : List ℕ). d ∷ l) rest)
-  | inr (inl less) ↦ absurd (passed reasons a b less)
-  | inr (inr more) ↦ absurd (passed reasons b a more)
+-- no list passes over such a cut
+not-passed : {rules : Rules} {d : ℕ} {bs : List ℕ} → Rest rules (d ∷ bs) → (c : ℕ) → IsCut rules c → d ≤ c
+not-passed {rules} {d} {bs} b c cut = elim cut.reason [
+  | inl ends_ ↦ omega (arith, ends_, portions-end d rules.end bs b.portions.1.1)
+  | inr may ↦ elim (rules.reasons rules.start c may) [
+    | inl full ↦ omega (arith, full, b.portions.1.0)
+    | inr (inl must) ↦ elim (cases_lt c d) [
+      | inl less ↦ (
+          let other = ne_eqb c d (λ is. absurd (omega (arith, is, less))) in
+          let none = or_from (eqb c d) (is_among c bs) other
+          (portions-rise d rules.end c bs b.portions.1.1 less) in
+          absurd (both_ways (is_among c (d ∷ bs)) none (b.must c cut.some must))
+          )
+      | inr fine ↦ fine
+    ]
+    | inr (inr fit) ↦ elim (b.short c fit.0 fit.1.0).0 [
+      | inl low ↦ low
+      | inr high ↦ omega (arith, high, fit.1.1, b.portions.1.0)
+    ]
+  ]
 ]
+
+one-rest : {rules : Rules} {cs bs : List ℕ} → Rest rules cs → Rest rules bs → cs ≡ bs
+one-rest {cs = []} {bs = []} a b = refl
+one-rest {rules} {cs = []} {bs = d ∷ bs} a b =
+    absurd (omega (arith, a.portions, b.portions.0, portions-end d rules.end bs b.portions.1.1))
+one-rest {rules} {cs = c ∷ cs} {bs = []} a b =
+    absurd (omega (arith, b.portions, a.portions.0, portions-end c rules.end cs a.portions.1.1))
+one-rest {rules} {cs = c ∷ cs} {bs = d ∷ bs} a b =
+    let low = not-passed b c (first-cut cs a) in
+    let high = not-passed a d (first-cut bs b) in
+    let same : c ≡ d = omega (arith, low, high) in
+    let rest = one-rest (rest-next a) (subst (λ s. Rest (from_cut rules s) bs) (sym same) (rest-next b)) in
+    ap (λ n. n ∷ cs) same ∙ ap (λ (l : List ℕ). d ∷ l) rest
 
 -- a slice that is short
 abbrev Short : ℕ → List ℕ → ℕ → ℕ → Type 0
 Short headers_end slices place length = SliceAt headers_end slices place length × (length ≤ MAX_PAYLOAD_BYTES)
 
-the-reasons : (from headers_end : ℕ) (slices : List ℕ)
-    → Reasons (IsCutPlace from headers_end slices) (Short headers_end slices) (MayEnd from headers_end slices)
+the-reasons : (from headers_end : ℕ) (slices : List ℕ) (start cut : ℕ) → MayEnd from headers_end slices start cut
+    → (cut ≡ start + MAX_PAYLOAD_BYTES)
+    ⊎ (IsCutPlace from headers_end slices cut
+    ⊎ ((length : ℕ) × (Short headers_end slices cut length × (start + MAX_PAYLOAD_BYTES < cut + length))))
 the-reasons from headers_end slices start cut (inl full) = inl full
 the-reasons from headers_end slices start cut (inr (inl place)) = inr (inl place)
 the-reasons from headers_end slices start cut (inr (inr over)) =
     inr (inr (over.length, ((over.slice, over.short), over.over)))
 
+-- the rules of a unit
+abbrev unit_rules : ℕ → ℕ → List ℕ → Rules
+unit_rules from headers_end slices = record {
+  Must = IsCutPlace from headers_end slices;
+  Fits = Short headers_end slices;
+  May = MayEnd from headers_end slices;
+  start = from;
+  end = headers_end + sum slices;
+  reasons = the-reasons from headers_end slices;
+}
+
 the-rest : (from headers_end : ℕ) (slices cuts : List ℕ) → MeetsRules from headers_end slices cuts
-    → Rest (IsCutPlace from headers_end slices) (Short headers_end slices) (MayEnd from headers_end slices) from
-    (headers_end + sum slices) cuts
+    → Rest (unit_rules from headers_end slices) cuts
 the-rest from headers_end slices cuts meets = record {
   portions = meets.portions;
   short = λ place length is. meets.short place length is.0 is.1;
@@ -128,11 +158,10 @@ the-rest from headers_end slices cuts meets = record {
   ends = meets.ends;
 }
 
-pub one-meets : {from headers_end : ℕ} {slices one other : List ℕ} → MeetsRules from headers_end slices one
-    → MeetsRules from headers_end slices other → one ≡ other
-one-meets {from} {headers_end} {slices} {one} {other} a b =
-    one-rest (the-reasons from headers_end slices) (the-rest from headers_end slices one a)
-    (the-rest from headers_end slices other b)
+pub one-meets : (from headers_end : ℕ) (slices one other : List ℕ)
+    → MeetsRules from headers_end slices one × MeetsRules from headers_end slices other → one ≡ other
+one-meets from headers_end slices one other both =
+    one-rest (the-rest from headers_end slices one both.0) (the-rest from headers_end slices other both.1)
 
 -- ---- the packer's list meets them
 
@@ -225,18 +254,25 @@ end-by (n ∷ slices) at cuts ends_ start length (inr later) long =
 end-cut : (slices : List ℕ) (f : OpenPacket) (cuts : List ℕ) → Cuts f slices cuts → DoLongEnd f.at slices cuts
 end-cut slices f cuts cutting = end-by slices f.at cuts (long-ends slices f cuts cutting)
 
--- each portion ends where it may
-record Reads (Must : ℕ → Type 0) (Begins : ℕ → ℕ → Type 0) (f : OpenPacket) (slices : List ℕ) : Type 0 where
-  begins : (place length : ℕ) → SliceAt f.at slices place length → Begins place length
-  long : (place length : ℕ) → SliceAt f.at slices place length → MAX_PAYLOAD_BYTES < length
-      → (place ≡ f.at → goes_in f length ≡ false) → Must place
-  long_end : (start length : ℕ) → SliceAt f.at slices start length → MAX_PAYLOAD_BYTES < length → Must (start + length)
-  last : f.holds ≡ LastFragment → Must f.at
+-- where cuts must be, and where slices begin
+record Places : Type 1 where
+  Must : ℕ → Type 0
+  Begins : ℕ → ℕ → Type 0
 
-abbrev MayBy : (ℕ → Type 0) → (ℕ → ℕ → Type 0) → ℕ → ℕ → Type 0
-MayBy Must Begins start cut =
+-- each portion ends where it may
+record Reads (at : Places) (f : OpenPacket) (slices : List ℕ) : Type 0 where
+  some : AreSome slices
+  begins : (place length : ℕ) → SliceAt f.at slices place length → at.Begins place length
+  long : (place length : ℕ) → SliceAt f.at slices place length → MAX_PAYLOAD_BYTES < length
+      → (place ≡ f.at → goes_in f length ≡ false) → at.Must place
+  long_end : (start length : ℕ) → SliceAt f.at slices start length → MAX_PAYLOAD_BYTES < length
+      → at.Must (start + length)
+  last : f.holds ≡ LastFragment → at.Must f.at
+
+abbrev MayBy : Places → ℕ → ℕ → Type 0
+MayBy at start cut =
     (cut ≡ start + MAX_PAYLOAD_BYTES)
-    ⊎ (Must cut ⊎ ((length : ℕ) × (Begins cut length ×
+    ⊎ (at.Must cut ⊎ ((length : ℕ) × (at.Begins cut length ×
     ((length ≤ MAX_PAYLOAD_BYTES) × (start + MAX_PAYLOAD_BYTES < cut + length)))))
 
 may-cons : (May : ℕ → ℕ → Type 0) (start cut : ℕ) (cuts : List ℕ) → May start cut → MayAllEnd May cut cuts
@@ -244,40 +280,36 @@ may-cons : (May : ℕ → ℕ → Type 0) (start cut : ℕ) (cuts : List ℕ) �
 may-cons May start cut [] one rest = tt
 may-cons May start cut (next ∷ cuts) one rest = (one, rest)
 
-full-may : (Must : ℕ → Type 0) (Begins : ℕ → ℕ → Type 0) (start count : ℕ) (rest : List ℕ)
-    → MayAllEnd (MayBy Must Begins) (start + MAX_PAYLOAD_BYTES * count) rest
-    → MayAllEnd (MayBy Must Begins) start (full_ends start count ++ rest)
-full-may Must Begins start zero rest may = subst (λ s. MayAllEnd (MayBy Must Begins) s rest) (omega arith) may
-full-may Must Begins start (suc count) rest may =
-    may-cons (MayBy Must Begins) start (start + MAX_PAYLOAD_BYTES) (full_ends (start + MAX_PAYLOAD_BYTES) count ++ rest)
+full-may : (at : Places) (start count : ℕ) (rest : List ℕ)
+    → MayAllEnd (MayBy at) (start + MAX_PAYLOAD_BYTES * count) rest
+    → MayAllEnd (MayBy at) start (full_ends start count ++ rest)
+full-may at start zero rest may = subst (λ s. MayAllEnd (MayBy at) s rest) (omega arith) may
+full-may at start (suc count) rest may =
+    may-cons (MayBy at) start (start + MAX_PAYLOAD_BYTES) (full_ends (start + MAX_PAYLOAD_BYTES) count ++ rest)
     (inl refl)
-    (full-may Must Begins (start + MAX_PAYLOAD_BYTES) count rest
-    (subst (λ s. MayAllEnd (MayBy Must Begins) s rest) (omega arith) may))
+    (full-may at (start + MAX_PAYLOAD_BYTES) count rest
+    (subst (λ s. MayAllEnd (MayBy at) s rest) (omega arith) may))
 
 -- why a slice doesn't go in
-record BeginsShort (Begins : ℕ → ℕ → Type 0) (at n : ℕ) : Type 0 where
-  begins : Begins at n
-  short : n ≤ MAX_PAYLOAD_BYTES
-
-why-short : {at n : ℕ} {holds : PacketContents} {Begins : ℕ → ℕ → Type 0} (Must : ℕ → Type 0) (from : ℕ) →
-    BeginsShort Begins at n → (holds ≡ LastFragment → Must at) → goes_in_whole from at holds n ≡ false →
-    MayBy Must Begins from at
-why-short {at} {n} {holds = HeadersAlone} Must from slice last goes =
-    inr (inr (n, (slice.begins, (slice.short, leb-false (at + n) (from + MAX_PAYLOAD_BYTES) goes))))
-why-short {at} {n} {holds = Slices} Must from slice last goes =
-    inr (inr (n, (slice.begins, (slice.short, leb-false (at + n) (from + MAX_PAYLOAD_BYTES) goes))))
-why-short {at} {holds = LastFragment} Must from slice last goes = inr (inl (last refl))
-
-why : {Must : ℕ → Type 0} {Begins : ℕ → ℕ → Type 0} {f : OpenPacket} {n : ℕ} {slices : List ℕ}
-    → Reads Must Begins f (n ∷ slices) → goes_in f n ≡ false → MayBy Must Begins f.from f.at
-why {Must} {Begins} {f} {n} reads goes = elim (cases_lt MAX_PAYLOAD_BYTES n) [
+why : {at : Places} {f : OpenPacket} {n : ℕ} {slices : List ℕ} → Reads at f (n ∷ slices) → goes_in f n ≡ false
+    → MayBy at f.from f.at
+why {at} {f} {n} reads goes = elim (cases_lt MAX_PAYLOAD_BYTES n) [
   | inl long ↦ inr (inl (reads.long f.at n (inl (refl, refl)) long (λ _. goes)))
-  | inr short ↦ let slice : BeginsShort Begins f.at n =
-      record { begins = reads.begins f.at n (inl (refl, refl)); short = short } in
-      why-short Must f.from slice reads.last
+  | inr short ↦
+      where_short short f.holds reads.last
       (sym (ap (λ b. cond b (goes_in_whole f.from f.at f.holds n) (goes_in_cut f.from f.at f.holds))
       (le-leb n MAX_PAYLOAD_BYTES short)) ∙ goes)
 ]
+  where
+    over : n ≤ MAX_PAYLOAD_BYTES → leb (f.at + n) (f.from + MAX_PAYLOAD_BYTES) ≡ false → MayBy at f.from f.at
+    over short less =
+        inr (inr (n, (reads.begins f.at n (inl (refl, refl)), (short, leb-false (f.at + n) (f.from + MAX_PAYLOAD_BYTES) less))))
+
+    where_short : n ≤ MAX_PAYLOAD_BYTES → (holds : PacketContents) → (holds ≡ LastFragment → at.Must f.at)
+        → goes_in_whole f.from f.at holds n ≡ false → MayBy at f.from f.at
+    where_short short HeadersAlone last less = over short less
+    where_short short Slices last less = over short less
+    where_short short LastFragment last less = inr (inl (last refl))
 
 last-by : (b : Bool) (n : ℕ) → leb n MAX_PAYLOAD_BYTES ≡ b → cond b Slices LastFragment ≡ LastFragment
     → MAX_PAYLOAD_BYTES < n
@@ -287,41 +319,45 @@ last-by false n e is = leb-false n MAX_PAYLOAD_BYTES e
 last-long : (n : ℕ) → holds_after n ≡ LastFragment → MAX_PAYLOAD_BYTES < n
 last-long n is = last-by (leb n MAX_PAYLOAD_BYTES) n refl is
 
-reads-next : {Must : ℕ → Type 0} {Begins : ℕ → ℕ → Type 0} {f : OpenPacket} {n : ℕ} {slices : List ℕ} (last : ℕ)
-    → 0 < n → Reads Must Begins f (n ∷ slices) → Reads Must Begins (filling_after f n last) slices
-reads-next {Begins} {f} {n} {slices} last some reads = record {
+reads-next : {at : Places} {f : OpenPacket} {n : ℕ} {slices : List ℕ} (last : ℕ) → Reads at f (n ∷ slices)
+    → Reads at (filling_after f n last) slices
+reads-next {at} {f} {n} {slices} last reads = record {
+  some = reads.some.1;
   begins = λ place length is. reads.begins place length (inr is);
   long = λ place length is long goes. reads.long place length (inr is) long
-      (λ here. absurd (omega (arith, here, some, slice-after slices (f.at + n) place length is)));
+      (λ here. absurd (omega (arith, here, reads.some.0, slice-after slices (f.at + n) place length is)));
   long_end = λ start length is long. reads.long_end start length (inr is) long;
   last = λ is. reads.long_end f.at n (inl (refl, refl)) (last-long n is);
 }
 
-may-end : {Must : ℕ → Type 0} {Begins : ℕ → ℕ → Type 0} {slices : List ℕ} {f : OpenPacket} (cuts : List ℕ)
-    → AreSome slices → Reads Must Begins f slices → Cuts f slices cuts → MayAllEnd (MayBy Must Begins) f.from cuts
-may-end {Must} {Begins} {slices = []} {f} cuts some reads e =
-    subst (λ (l : List ℕ). MayAllEnd (MayBy Must Begins) f.from l) (sym e) tt
-may-end {Must} {Begins} {slices = n ∷ slices} {f} cuts some reads (inl x) =
+may-end : {at : Places} {slices : List ℕ} {f : OpenPacket} (cuts : List ℕ) → Reads at f slices → Cuts f slices cuts
+    → MayAllEnd (MayBy at) f.from cuts
+may-end {at} {slices = []} {f} cuts reads e =
+    subst (λ (l : List ℕ). MayAllEnd (MayBy at) f.from l) (sym e) tt
+may-end {at} {slices = n ∷ slices} {f} cuts reads (inl x) =
     let last = f.from + MAX_PAYLOAD_BYTES * x.1.full in
-    let rest = may-end {Must = Must} {Begins = Begins} {slices = slices} {f = filling_after f n last} x.1.rest
-    some.1 (reads-next {Must = Must} {Begins = Begins} {f = f} {n = n} {slices = slices} last some.0 reads)
+    let rest = may-end {at = at} {slices = slices} {f = filling_after f n last} x.1.rest (reads-next last reads)
     x.1.goes_on in
-    subst (λ (l : List ℕ). MayAllEnd (MayBy Must Begins) f.from l) (sym x.1.filled)
-    (full-may Must Begins f.from x.1.full x.1.rest rest)
-may-end {Must} {Begins} {slices = n ∷ slices} {f} cuts some reads (inr x) =
+    subst (λ (l : List ℕ). MayAllEnd (MayBy at) f.from l) (sym x.1.filled)
+    (full-may at f.from x.1.full x.1.rest rest)
+may-end {at} {slices = n ∷ slices} {f} cuts reads (inr x) =
     let fills = x.1.1.1 in
     let last = f.at + MAX_PAYLOAD_BYTES * fills.full in
-    let rest = may-end {Must = Must} {Begins = Begins} {slices = slices} {f = filling_after f n last} fills.rest
-    some.1 (reads-next {Must = Must} {Begins = Begins} {f = f} {n = n} {slices = slices} last some.0 reads)
+    let rest = may-end {at = at} {slices = slices} {f = filling_after f n last} fills.rest (reads-next last reads)
     fills.goes_on in
-    let tail : MayAllEnd (MayBy Must Begins) f.at x.1.0 =
-    subst (λ (l : List ℕ). MayAllEnd (MayBy Must Begins) f.at l) (sym fills.filled)
-    (full-may Must Begins f.at fills.full fills.rest rest) in
-    subst (λ (l : List ℕ). MayAllEnd (MayBy Must Begins) f.from l) (sym x.1.1.0)
-    (may-cons (MayBy Must Begins) f.from f.at x.1.0 (why reads x.0) tail)
+    let tail : MayAllEnd (MayBy at) f.at x.1.0 =
+    subst (λ (l : List ℕ). MayAllEnd (MayBy at) f.at l) (sym fills.filled)
+    (full-may at f.at fills.full fills.rest rest) in
+    subst (λ (l : List ℕ). MayAllEnd (MayBy at) f.from l) (sym x.1.1.0)
+    (may-cons (MayBy at) f.from f.at x.1.0 (why reads x.0) tail)
+
+-- those of a unit
+abbrev unit_places : ℕ → ℕ → List ℕ → Places
+unit_places from headers_end slices =
+    record { Must = IsCutPlace from headers_end slices; Begins = SliceAt headers_end slices }
 
 may-cs : (from headers_end : ℕ) (slices : List ℕ) (start cut : ℕ)
-    → MayBy (IsCutPlace from headers_end slices) (SliceAt headers_end slices) start cut
+    → MayBy (unit_places from headers_end slices) start cut
     → MayEnd from headers_end slices start cut
 may-cs from headers_end slices start cut (inl full) = inl full
 may-cs from headers_end slices start cut (inr (inl place)) = inr (inl place)
@@ -349,9 +385,10 @@ goes-headers from headers_end n long full =
     ap (λ b. cond b (goes_in_whole from headers_end HeadersAlone n) (goes_in_cut from headers_end HeadersAlone))
     (leb-not n long) ∙ le-ltb headers_end (from + MAX_PAYLOAD_BYTES) full
 
-first-reads : (from headers_end : ℕ) (slices : List ℕ)
-    → Reads (IsCutPlace from headers_end slices) (SliceAt headers_end slices) (first_portion from headers_end) slices
-first-reads from headers_end slices = record {
+first-reads : (from headers_end : ℕ) (slices : List ℕ) → AreSome slices
+    → Reads (unit_places from headers_end slices) (first_portion from headers_end) slices
+first-reads from headers_end slices some = record {
+  some = some;
   begins = λ place length is. is;
   long = λ place length is long goes. inl
       (record {
@@ -364,15 +401,6 @@ first-reads from headers_end slices = record {
       inr (record { start = start; length = length; slice = is; long = long; place_is = refl });
   last = λ is. cc;
 }
-
-long-cut : {from headers_end : ℕ} {slices : List ℕ} (cuts : List ℕ) → AreCutPoints from headers_end slices cuts
-    → (place : ℕ) → IsCutPlace from headers_end slices place → is_among place cuts ≡ true
-long-cut {from} {headers_end} {slices} cuts cutting place (inl b) =
-    begin-cut slices (first_portion from headers_end) cuts cutting place b.length b.slice b.long
-    (λ here. goes-headers from headers_end b.length b.long (b.apart here))
-long-cut {from} {headers_end} {slices} cuts cutting place (inr e) =
-    ap (λ p. is_among p cuts) e.place_is
-    ∙ end-cut slices (first_portion from headers_end) cuts cutting e.start e.length e.slice e.long
 
 -- a unit's headers of 1 to 1,380 bytes, and its slices
 pub record HeadersAndSlices (from headers_end : ℕ) (slices : List ℕ) : Type 0 where
@@ -388,11 +416,19 @@ cutting-meets {from} {headers_end} {slices} cuts unit cutting =
       portions = portions-cover slices f cuts (unit.some, unit.short) cutting;
       headers = headers-uncut from headers_end cuts (cuts-from slices f cuts order cutting);
       short = short-at slices headers_end cuts (short-uncut slices f cuts order cutting);
-      long = long-cut cuts cutting;
-      ends = may-map (MayBy (IsCutPlace from headers_end slices) (SliceAt headers_end slices))
-          (MayEnd from headers_end slices) from cuts (may-cs from headers_end slices)
-          (may-end cuts (some-bytes slices unit.have) (first-reads from headers_end slices) cutting);
+      long = long-cut;
+      ends = may-map (MayBy (unit_places from headers_end slices)) (MayEnd from headers_end slices) from cuts
+          (may-cs from headers_end slices)
+          (may-end cuts (first-reads from headers_end slices (some-bytes slices unit.have)) cutting);
     }
+  where
+    long-cut : (place : ℕ) → IsCutPlace from headers_end slices place → is_among place cuts ≡ true
+    long-cut place (inl b) =
+        begin-cut slices (first_portion from headers_end) cuts cutting place b.length b.slice b.long
+        (λ here. goes-headers from headers_end b.length b.long (b.apart here))
+    long-cut place (inr e) =
+        ap (λ p. is_among p cuts) e.place_is
+        ∙ end-cut slices (first_portion from headers_end) cuts cutting e.start e.length e.slice e.long
 
 no_unit : PictureUnit
 no_unit = record {
@@ -426,5 +462,5 @@ meets-cutting {from} {headers_end} {slices} cuts unit meets =
     let f = first_portion from headers_end in
     let made = ends (packets_from no_unit f slices) in
     let cutting = packets-cut no_unit slices f (omega (arith, unit.some)) (some-bytes slices unit.have) in
-    let same = one-meets (cutting-meets made unit cutting) meets in
+    let same = one-meets from headers_end slices made cuts (cutting-meets made unit cutting, meets) in
     subst (λ (l : List ℕ). AreCutPoints from headers_end slices l) same cutting

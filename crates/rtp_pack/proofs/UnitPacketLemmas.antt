@@ -50,7 +50,7 @@ packets-are starts unit laid =
           (long-some (unit_lengths starts unit)
           (lengths-long (unit_starts starts unit) unit.head_end unit.to laid.in_order));
       portions = flags (first-right unit (unit_starts starts unit) laid.head laid.in_order)
-          (record { starts = λ x h. refl; ends = λ x h. refl }) laid.in_order;
+          (record { order = laid.in_order; starts = λ x h. refl; ends = λ x h. refl });
     }
 
 lengths-sum : (starts : List ℕ) (at to : ℕ) → AreInOrder at starts to → at + sum (lengths_to to starts) ≡ to

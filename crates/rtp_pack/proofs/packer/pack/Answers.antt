@@ -1,6 +1,5 @@
-use Rattle.std.proofs.Common.{◌+◌, ◌-◌, drop, take, arith}
-use Rattle.rtp_pack.specs.Packets.{unit_packets}
-use Rattle.rtp_pack.proofs.PackerLemmas.{Remaining, SliceEnds, at-slice, put-last, put-slice}
+use Rattle.std.proofs.Common.{◌+◌, ◌-◌, ◌∙◌, drop, take, arith, refl}
+use Rattle.rtp_pack.proofs.PackerLemmas.{Packing, SliceEnds, at-slice, put-last, put-slice}
 use Rattle.rtp_pack.proofs.UnitPacketLemmas.{packed}
 use Rattle.rtp_pack.proofs.packer.pack.Goals as goal
 
@@ -18,26 +17,41 @@ loop-index-preserved c =
     let unit = c.args.unit.now in
     let starts =
     take (unit.first_slice + unit.slices - unit.first_slice) (drop unit.first_slice c.args.slice_starts.now) in
-    let remaining : Remaining unit starts c.loop-index.index c.loop-index.filling c.loop-index.packets.items
-    (unit_packets c.args.slice_starts.now unit) =
-    record { in_order = c.loop-index.invariant.in_order; packets = c.loop-index.invariant.packets } in
-    let ends : SliceEnds unit starts c.loop-index.index c.loop-index.filling c.slice_end-end.result
-    c.in_ok-filling.filling =
-    record {
+    let old : Packing = record {
+      index = c.loop-index.index;
+      filling = c.loop-index.filling;
+      out = c.loop-index.packets.items;
+    } in
+    let new : Packing = record {
+      index = c.loop-index.index + 1;
+      filling = c.in_ok-filling.filling;
+      out = c.put_slice.new.packets.items;
+    } in
+    let ends : SliceEnds unit starts old new = record {
+      end = c.slice_end-end.result;
       less = c.loop-index-test.true;
       at_end = c.slice_end-end.ensures;
+      at_index = refl;
       at_next = c.in_ok-filling.ensures.filling;
+      more = c.in_ok-filling.ensures.packets;
     } in
-    let put = put-slice remaining ends c.in_ok-filling.ensures.packets in
-    record { order = c.in_ok-filling.ensures.order; in_order = put.in_order; packets = put.packets }
+    let put = put-slice c.loop-index.invariant.in_order ends in
+    record {
+      order = c.in_ok-filling.ensures.order;
+      in_order = put.in_order;
+      packets = put.packets ∙ c.loop-index.invariant.packets;
+    }
 
 pub returns : goal.returns
 returns c =
     let unit = c.args.unit.now in
     let starts =
     take (unit.first_slice + unit.slices - unit.first_slice) (drop unit.first_slice c.args.slice_starts.now) in
-    let remaining : Remaining unit starts c.loop-index.index c.loop-index.filling c.loop-index.packets.items
-    (unit_packets c.args.slice_starts.now unit) =
-    record { in_order = c.loop-index.invariant.in_order; packets = c.loop-index.invariant.packets } in
+    let old : Packing = record {
+      index = c.loop-index.index;
+      filling = c.loop-index.filling;
+      out = c.loop-index.packets.items;
+    } in
     packed c.args.slice_starts.now unit c.close.new.packets.items c.requires
-    (put-last remaining c.loop-index-test.false c.in_ok-close.ensures)
+    (c.in_ok-close.ensures ∙ put-last unit starts old c.loop-index-test.false
+    ∙ c.loop-index.invariant.packets)
