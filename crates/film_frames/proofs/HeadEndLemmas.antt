@@ -12,7 +12,7 @@ use Rattle.film_frames.specs.FramedRuns.{FramedRun, piece_bytes}
 use Rattle.film_frames.specs.Tables.{IsCutPacket}
 use Rattle.film_frames.specs.Tracks.{HasHeads, IsHeadEnd, IsSplit, begin_of, zero_frames}
 use Rattle.film_frames.proofs.RunBytesLemmas.{piece-length}
-use Rattle.film_frames.proofs.TrackLemmas.{begin-le, begin-more}
+use Rattle.film_frames.proofs.TrackLemmas.{IsPart, begin-le, begin-more}
 
 -- a report has no such heads, and a frame has
 pub report-heads : (run : FramedRun) (frames octets : ℕ) (unit : PictureUnit)
@@ -32,31 +32,26 @@ frame-heads {unit} {packet} run frames octets cut = record {
   payload = omega (arith, piece-length run frames octets (Frame unit packet) cut, cut.some);
 }
 
--- bytes from a place on are of the piece of a number
-pub record IsPart (pieces : List (List ℕ)) (number at bytes : ℕ) : Type 0 where
-  pub among : number < length pieces
-  pub begins : begin_of pieces number ≤ at
-  pub ends : at + bytes ≤ begin_of pieces (number + 1)
-
--- a place within them, past their beginning, is in no other piece
-one-piece : {pieces : List (List ℕ)} {at k bytes place : ℕ} (number : ℕ) → IsPart pieces k at bytes → at < place
-    → place < at + bytes
-    → begin_of pieces number ≤ place → place ≤ begin_of pieces (number + 1) → number ≡ k
-one-piece {pieces} {k} number part past before from to =
+-- a place within a piece, past its beginning, is in no other piece
+one-piece : (pieces : List (List ℕ)) (k place number : ℕ)
+    → (begin_of pieces k < place) × (place < begin_of pieces (k + 1))
+    → (begin_of pieces number ≤ place) × (place ≤ begin_of pieces (number + 1)) → number ≡ k
+one-piece pieces k place number inside there =
     elim (cases_lt number k) [
-      | inl l ↦ absurd (omega (arith, begin-le pieces (number + 1) k (omega (arith, l)), part.begins, past, to))
+      | inl l ↦ absurd (omega (arith, begin-le pieces (number + 1) k (omega (arith, l)), inside.0, there.1))
       | inr g ↦ elim (cases_lt k number) [
-        | inl l ↦ absurd (omega (arith, begin-le pieces (k + 1) number (omega (arith, l)), part.ends, before, from))
+        | inl l ↦ absurd (omega (arith, begin-le pieces (k + 1) number (omega (arith, l)), inside.1, there.0))
         | inr h ↦ omega (arith, g, h)
       ]
     ]
 
-head-here : {pieces : List (List ℕ)} {at k bytes place : ℕ} → IsPart pieces k at bytes → at < place
-    → place < at + bytes → IsHeadEnd pieces place
-    → HasHeads (get_or pieces k []) × (place ≡ begin_of pieces k + FRAME_HEAD_BYTES)
-head-here {pieces} {place} part past before is =
-    let same = one-piece is.number part past before (omega (arith, is.place_is))
-    (omega (arith, is.place_is, is.frame.payload, begin-more pieces is.number is.among)) in (
+head-here : (pieces : List (List ℕ)) (k : ℕ) {place : ℕ} → (begin_of pieces k < place) × (place < begin_of pieces (k + 1))
+    → IsHeadEnd pieces place → HasHeads (get_or pieces k []) × (place ≡ begin_of pieces k + FRAME_HEAD_BYTES)
+head-here pieces k {place} inside is =
+    let same = one-piece pieces k place is.number inside (
+      omega (arith, is.place_is),
+      omega (arith, is.place_is, is.frame.payload, begin-more pieces is.number is.among),
+    ) in (
       subst (λ n. HasHeads (get_or pieces n [])) same is.frame,
       subst (λ n. place ≡ begin_of pieces n + FRAME_HEAD_BYTES) same is.place_is,
     )
@@ -65,7 +60,7 @@ head-here {pieces} {place} part past before is =
 pub frame-split : {pieces : List (List ℕ)} {at k : ℕ} (head payload : ℕ) → IsPart pieces k at (head + payload)
     → HasHeads (get_or pieces k [])
     → head ≡ FRAME_HEAD_BYTES - min (at - begin_of pieces k) FRAME_HEAD_BYTES → IsSplit pieces at head payload
-frame-split {k} head payload part heads is = record {
+frame-split {pieces} {k = k} head payload part heads is = record {
   ends = λ some more. record {
     number = k;
     among = part.among;
@@ -73,15 +68,21 @@ frame-split {k} head payload part heads is = record {
     place_is = omega (arith, is, part.begins, some);
   };
   only = λ place end past before.
-      omega (arith, (head-here part past (omega (arith, before)) end).1, is, part.begins, past);
+      omega (
+        arith,
+        (head-here pieces k (omega (arith, part.begins, past), omega (arith, part.ends, before)) end).1,
+        is,
+        part.begins,
+        past,
+      );
 }
 
 -- those of a report are all in the head
 pub report-split : {pieces : List (List ℕ)} {at k : ℕ} (head payload : ℕ) → IsPart pieces k at (head + payload)
     → (HasHeads (get_or pieces k []) → ⊥) → payload ≡ 0 → IsSplit pieces at head payload
-report-split head payload part none is = record {
+report-split {pieces} {k = k} head payload part none is = record {
   ends = λ some more. absurd (omega (arith, more, is));
-  only = λ place end past before. absurd (none (head-here part past (omega (arith, before)) end).0);
+  only = λ place end past before. absurd (none (head-here pieces k (omega (arith, part.begins, past), omega (arith, part.ends, before)) end).0);
 }
 
 -- zero bytes have no heads

@@ -1,6 +1,6 @@
 -- The next bytes of a run, from a place on.
 use Rattle.std.proofs.Common.{◌≡◌, ℕ, ◌+◌, ◌-◌, ◌<◌, ◌≤◌, List, [], ◌++◌, length, take, drop}
-use Rattle.std.proofs.Common.{get_or, sym, ap, ◌∙◌, arith, inl, inr, Some, slice_get, min, max}
+use Rattle.std.proofs.Common.{get_or, sym, subst, ap, ◌∙◌, arith, inl, inr, Some, slice_get, min, max}
 use Rattle.std.proofs.lemmas.Bool.{cases_lt}
 use Rattle.std.proofs.lemmas.List.{append-nil, drop-append-le, drop-drop, drop-take, length-drop}
 use Rattle.std.proofs.lemmas.List.{length-take-le, take_all}
@@ -13,7 +13,7 @@ use Rattle.film_frames.specs.Pieces.{frames_in, octets_in, wire_of}
 use Rattle.film_frames.specs.Tables.{IsSound}
 use Rattle.film_frames.specs.FramedRuns.{HaveEnded, FramedRun, payload, piece_bytes, run_pieces, pieces_in}
 use Rattle.film_frames.specs.Tracks.{IsBoundary, IsBoundaryAfter, IsNext, begin_of, framed_bytes}
-use Rattle.film_frames.proofs.TrackLemmas.{begin-all, begin-le, begin-more, next-found}
+use Rattle.film_frames.proofs.TrackLemmas.{IsPart, begin-all, begin-le, begin-more, next-found}
 use Rattle.film_frames.proofs.RunBytesLemmas.{blocks_from-at, blocks_from-count, piece-length}
 
 -- ---- where a place lies
@@ -63,7 +63,8 @@ rest-next {pieces} {at} {k} {bytes} have within are =
     let count : length (drop o piece) ≡ n = omega (arith, length-drop o piece, more, next, have.last) in
     let long : length bytes ≡ n = ap (λ (l : List ℕ). length l) are ∙ count in
     let whole : bytes ≡ take n (drop o piece) = are ∙ sym (take_all n (drop o piece) (omega (arith, count))) in
-    (next-found n inside have.last (omega (arith, next)) (omega (arith, next)) whole, omega (arith, long, next))
+    let part : IsPart pieces k at n = record { among = inside; begins = have.last; ends = omega (arith, next) } in
+    (subst (IsNext pieces at) (sym whole) (next-found part (omega (arith, next))), omega (arith, long, next))
 
 -- ---- the bytes of a report or a frame from a place on
 

@@ -26,7 +26,7 @@ use Rattle.film_frames.proofs.PieceLemmas.{AreSound, cover-le, pieces-cons, unit
 use Rattle.film_frames.proofs.FilmPieceLemmas.{AreUnits, later-units, units-le}
 use Rattle.film_frames.proofs.FilmPieceLemmas.{film-from, film-in_order, laid-film, units-wire}
 use Rattle.film_frames.proofs.RunBytesLemmas.{blocks_from-count}
-use Rattle.film_frames.proofs.RunPieceLemmas.{IsRun, between, run-begin}
+use Rattle.film_frames.proofs.RunPieceLemmas.{UnitSpan, IsRun, between, run-begin}
 
 -- ---- the bytes that pieces carry
 
@@ -185,14 +185,15 @@ run-sum film first_unit end_unit identity order within =
     let run = run_of film first_unit end_unit identity in
     let starts = film.slice_starts.items in
     let end = length film.bytes.items in
-    let is : IsRun film first_unit end_unit identity run =
-    record { view = refl; order = omega (arith, order); within = within } in
+    let span : UnitSpan =
+    record { film = film; first_unit = first_unit; end_unit = end_unit; identity = identity } in
+    let is : IsRun span run = record { view = refl; order = omega (arith, order); within = within } in
     let n = length (run_pieces run) in
     let laid = laid-take end starts (drop first_unit film.units.items) (end_unit - first_unit)
     (laid-drop end starts film.units.items first_unit (laid-film film)) in (
-      (between film first_unit end_unit identity run is).sound,
+      (between span run is).sound,
       sym (begin-all (run_pieces run))
-          ∙ run-begin first_unit end_unit identity run n is
+          ∙ run-begin span run n is
           ∙ ap (λ (l : List Piece). wire_in l)
           (take_all n (pieces_in run) (omega (arith, blocks_from-count run 0 0 (pieces_in run))))
           ∙ units-wire end starts run.units laid,

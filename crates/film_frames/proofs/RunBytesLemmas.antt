@@ -16,7 +16,7 @@ use Rattle.film_frames.specs.Tables.{IsSound}
 use Rattle.film_frames.specs.FramedRuns.{HaveEnded, FramedRun, count_ended, blocks_from, payload, piece_bytes}
 use Rattle.film_frames.specs.Tracks.{begin_of, framed_bytes}
 use Rattle.film_frames.proofs.PieceLemmas.{AreSound}
-use Rattle.film_frames.proofs.TrackLemmas.{AreEnds, begin-all, begin-le, begin-none}
+use Rattle.film_frames.proofs.TrackLemmas.{PieceEnds, IsSearched, begin-all, begin-le, begin-none}
 
 -- ---- what a piece takes
 
@@ -110,28 +110,26 @@ frames-le (Frame unit p ∷ pieces) = omega (arith, frames-le pieces, sum_by-con
 
 -- ---- the pieces that have ended
 
-pub have-count_ended : {base : ℕ} {pieces : List (List ℕ)} {ends : List ℕ} {at upto k : ℕ}
-    → AreEnds base pieces ends → k ≤ length ends → upto ≤ at → (upto < at → upto ≡ length (framed_bytes pieces))
-    → ((j : ℕ) → j < k → get_or ends j 0 < base + upto + 1)
-    → (k < length ends → base + upto + 1 ≤ get_or ends k 0) → HaveEnded pieces at k
-have-count_ended {base} {pieces} {ends} {at} {upto} {k} are among least cut below from = record {
-  among = omega (arith, among, are.count);
+pub have-count_ended : (e : PieceEnds) {at upto k : ℕ} → IsSearched e (upto + 1) k
+    → (upto ≤ at) × (upto < at → upto ≡ length (framed_bytes e.pieces)) → HaveEnded e.pieces at k
+have-count_ended e {at} {upto} {k} is cut = record {
+  among = omega (arith, is.count, are.count);
   last = elim (cases_lt 0 k) [
     | inl l ↦
-        let end = are.each (k - 1) (omega (arith, l, among)) in
+        let end = are.each (k - 1) (omega (arith, l, is.count)) in
         let same : begin_of pieces (k - 1 + 1) ≡ begin_of pieces k = ap (λ n. begin_of pieces n) (omega (arith, l)) in
-        omega (arith, below (k - 1) (omega (arith, l)), end, same, least)
+        omega (arith, is.below (k - 1) (omega (arith, l)), end, same, cut.0)
     | inr z ↦ omega (arith, begin-none pieces k (omega (arith, z)))
   ];
   next = λ h.
-      let within : k < length ends = omega (arith, h, are.count) in
+      let within : k < length e.ends = omega (arith, h, are.count) in
       let end = are.each k within in
-      let later = from within in
+      let later = is.from within in
       elim (cases_lt upto at) [
         | inl l ↦ absurd
             (omega (
               arith,
-              cut l,
+              cut.1 l,
               end,
               later,
               begin-le pieces (k + 1) (length pieces) (omega (arith, h)),
@@ -140,6 +138,8 @@ have-count_ended {base} {pieces} {ends} {at} {upto} {k} are among least cut belo
         | inr g ↦ omega (arith, g, end, later)
       ];
 }
+  where
+    open e use {pieces, are}
 
 pub begin-cons : (piece : List ℕ) (pieces : List (List ℕ)) (k : ℕ)
     → begin_of (piece ∷ pieces) (suc k) ≡ length piece + begin_of pieces k

@@ -19,23 +19,39 @@ use Rattle.film_frames.proofs.FilmPieceLemmas.{film-bound, film-sound, film-wire
 use Rattle.film_frames.proofs.FirstUnitLemmas.{front-back, front-front}
 use Rattle.film_frames.proofs.RunBytesLemmas.{blocks_from-begin, blocks_from-count}
 
+-- units of a film, from one on to another, that are sent under an identity
+pub record UnitSpan : Type 0 where
+  pub film : Film
+  pub first_unit : ℕ
+  pub end_unit : ℕ
+  pub identity : Identity
+
+abbrev pub span_run : UnitSpan → FramedRun
+span_run span = run_of span.film span.first_unit span.end_unit span.identity
+
+-- the pieces before the units, and up to their end
+abbrev pub before_span : UnitSpan → List Piece
+before_span span = front_pieces span.film span.first_unit
+
+abbrev pub upto_span : UnitSpan → List Piece
+upto_span span = front_pieces span.film span.end_unit
+
 -- a run of a film's units
-pub record IsRun (film : Film) (first_unit end_unit : ℕ) (identity : Identity) (run : FramedRun) : Type 0 where
-  pub view : run_of film first_unit end_unit identity ≡ run
-  pub order : first_unit ≤ end_unit
-  pub within : end_unit ≤ length film.units.items
+pub record IsRun (span : UnitSpan) (run : FramedRun) : Type 0 where
+  pub view : span_run span ≡ run
+  pub order : span.first_unit ≤ span.end_unit
+  pub within : span.end_unit ≤ length span.film.units.items
 
 -- its pieces lie between others
-pub record IsBetween (film : Film) (first_unit end_unit : ℕ) (run : FramedRun) : Type 0 where
+pub record IsBetween (span : UnitSpan) (run : FramedRun) : Type 0 where
   pub rest : List Piece
-  pub units : front_pieces film end_unit ≡ front_pieces film first_unit ++ pieces_in run
-  pub all : film_pieces film ≡ front_pieces film first_unit ++ (pieces_in run ++ rest)
+  pub units : upto_span span ≡ before_span span ++ pieces_in run
+  pub all : film_pieces span.film ≡ before_span span ++ (pieces_in run ++ rest)
   pub sound : AreSound run.film (pieces_in run)
 
-between-of : (film : Film) (first_unit end_unit : ℕ) (identity : Identity) → first_unit ≤ end_unit
-    → IsBetween film first_unit end_unit (run_of film first_unit end_unit identity)
-between-of film first_unit end_unit identity order =
-    let run = run_of film first_unit end_unit identity in
+between-of : (span : UnitSpan) → span.first_unit ≤ span.end_unit → IsBetween span (span_run span)
+between-of span order =
+    let run = span_run span in
     let starts = film.slice_starts.items in
     let rest = pieces_of starts (drop end_unit film.units.items) in
     let last : end_unit ≡ first_unit + (end_unit - first_unit) = omega (arith, order) in
@@ -56,34 +72,11 @@ between-of film first_unit end_unit identity order =
           (sound-right film.bytes.items (front_pieces film first_unit) (pieces_in run ++ rest)
           (subst P all (film-sound film)));
     }
-
-pub between : (film : Film) (first_unit end_unit : ℕ) (identity : Identity) (run : FramedRun)
-    → IsRun film first_unit end_unit identity run → IsBetween film first_unit end_unit run
-between film first_unit end_unit identity run is =
-    let P : FramedRun → Type 0 = λ r. IsBetween film first_unit end_unit r in
-    subst P is.view (between-of film first_unit end_unit identity is.order)
-
--- sums over the first pieces of the run and all before them
-record IsAmong (all before middle rest : List Piece) (k n : ℕ) : Type 0 where
-  split : all ≡ before ++ (middle ++ rest)
-  short : k ≤ length middle
-  is : n ≡ length before + k
-
-sum-between : {all before middle rest : List Piece} {k n : ℕ} (f : Piece → ℕ) → IsAmong all before middle rest k n
-    → sum_by f (take n all) ≡ sum_by f (take (length before) all) + sum_by f (take k middle)
-sum-between {all} {before} {middle} {rest} {k} f among =
-    let front_is : take (length before) all ≡ before =
-    ap (λ (l : List Piece). take (length before) l) split ∙ take_at before (middle ++ rest) (length before) refl in
-    let first : take (length before + k) (before ++ (middle ++ rest)) ≡ before ++ take k middle =
-    take-append-add before (middle ++ rest) k
-    ∙ ap (λ (l : List Piece). before ++ l) (take-append-le k middle rest short) in
-    ap (λ m. sum_by f (take m all)) is
-    ∙ ap (λ (l : List Piece). sum_by f (take (length before + k) l)) split
-    ∙ ap (λ (l : List Piece). sum_by f l) first
-    ∙ sum_by-append f before (take k middle)
-    ∙ ap (λ (l : List Piece). sum_by f l + sum_by f (take k middle)) (sym front_is)
   where
-    open among use {split, short, is}
+    open span use {film, first_unit, end_unit}
+
+pub between : (span : UnitSpan) (run : FramedRun) → IsRun span run → IsBetween span run
+between span run is = subst (λ r. IsBetween span r) is.view (between-of span is.order)
 
 get-after : (before after : List Piece) (k : ℕ) → slice_get (before ++ after) (length before + k) ≡ slice_get after k
 get-after [] after k = ap (λ n. slice_get after n) (let e : 0 + k ≡ k = omega arith in e)
@@ -100,102 +93,88 @@ pub all-short : (film : Film) → length (film_pieces film) ≤ 2 ^ 42
 all-short film = omega (arith, length-le-wire (film_pieces film), film-wire film, film-bound film)
 
 -- how many pieces there are
-pub run-count : (film : Film) (first_unit end_unit : ℕ) (identity : Identity) (run : FramedRun)
-    → IsRun film first_unit end_unit identity run
-    → (length (front_pieces film end_unit) ≡ length (front_pieces film first_unit) + length (pieces_in run))
-    × (length (front_pieces film end_unit) ≤ length (film_pieces film))
-run-count film first_unit end_unit identity run is =
-    let lies = between film first_unit end_unit identity run is in
-    let units : length (front_pieces film end_unit)
-    ≡ length (front_pieces film first_unit) + length (pieces_in run) =
-    ap (λ (l : List Piece). length l) lies.units ∙ length-append (front_pieces film first_unit) (pieces_in run) in
-    let all : length (film_pieces film)
-    ≡ length (front_pieces film first_unit) + (length (pieces_in run) + length lies.rest) =
+pub run-count : (span : UnitSpan) (run : FramedRun) → IsRun span run
+    → (length (upto_span span) ≡ length (before_span span) + length (pieces_in run))
+    × (length (upto_span span) ≤ length (film_pieces span.film))
+run-count span run is =
+    let lies = between span run is in
+    let units : length (upto_span span) ≡ length (before_span span) + length (pieces_in run) =
+    ap (λ (l : List Piece). length l) lies.units ∙ length-append (before_span span) (pieces_in run) in
+    let all : length (film_pieces span.film)
+    ≡ length (before_span span) + (length (pieces_in run) + length lies.rest) =
     ap (λ (l : List Piece). length l) lies.all
-    ∙ length-append (front_pieces film first_unit) (pieces_in run ++ lies.rest)
-    ∙ ap (λ n. length (front_pieces film first_unit) + n) (length-append (pieces_in run) lies.rest) in
+    ∙ length-append (before_span span) (pieces_in run ++ lies.rest)
+    ∙ ap (λ n. length (before_span span) + n) (length-append (pieces_in run) lies.rest) in
     (units, omega (arith, units, all))
 
-among-run : {film : Film} {first_unit end_unit k n : ℕ} {run : FramedRun}
-    (lies : IsBetween film first_unit end_unit run) → k ≤ length (pieces_in run)
-    → n ≡ length (front_pieces film first_unit) + k
-    → IsAmong (film_pieces film) (front_pieces film first_unit) (pieces_in run) lies.rest k n
-among-run lies short at = record { split = lies.all; short = short; is = at }
-
 -- a sum over the film's pieces up to one of the run, as over their bytes or frames
-pub sum-in-run : {film : Film} {first_unit end_unit : ℕ} {identity : Identity} {run : FramedRun} {n : ℕ}
-    (f : Piece → ℕ) (k : ℕ) → IsRun film first_unit end_unit identity run → k ≤ length (pieces_in run)
-    → n ≡ length (front_pieces film first_unit) + k
-    → sum_by f (take n (film_pieces film))
-    ≡ sum_by f (take (length (front_pieces film first_unit)) (film_pieces film)) + sum_by f (take k (pieces_in run))
-sum-in-run {film} {first_unit} {end_unit} {identity} {run} f k is short at =
-    let lies = between film first_unit end_unit identity run is in
-    sum-between f (among-run lies short at)
+pub sum-in-run : {span : UnitSpan} {run : FramedRun} (f : Piece → ℕ) (k : ℕ) → IsRun span run
+    → k ≤ length (pieces_in run)
+    → sum_by f (take (length (before_span span) + k) (film_pieces span.film))
+    ≡ sum_by f (take (length (before_span span)) (film_pieces span.film)) + sum_by f (take k (pieces_in run))
+sum-in-run {span} {run} f k is short =
+    let lies = between span run is in
+    let before = before_span span in
+    let middle = pieces_in run in
+    let split = lies.all in
+    let front_is : take (length before) (film_pieces span.film) ≡ before =
+    ap (λ (l : List Piece). take (length before) l) split ∙ take_at before (middle ++ lies.rest) (length before) refl in
+    let first : take (length before + k) (before ++ (middle ++ lies.rest)) ≡ before ++ take k middle =
+    take-append-add before (middle ++ lies.rest) k
+    ∙ ap (λ (l : List Piece). before ++ l) (take-append-le k middle lies.rest short) in
+    ap (λ (l : List Piece). sum_by f (take (length before + k) l)) split
+    ∙ ap (λ (l : List Piece). sum_by f l) first
+    ∙ sum_by-append f before (take k middle)
+    ∙ ap (λ (l : List Piece). sum_by f l + sum_by f (take k middle)) (sym front_is)
 
-pub run-begin : {film : Film} (first_unit end_unit : ℕ) (identity : Identity) (run : FramedRun) (k : ℕ)
-    → IsRun film first_unit end_unit identity run
+pub run-begin : (span : UnitSpan) (run : FramedRun) (k : ℕ) → IsRun span run
     → begin_of (run_pieces run) k ≡ wire_in (take k (pieces_in run))
-run-begin {film} first_unit end_unit identity run k is =
-    blocks_from-begin run 0 0 (pieces_in run) k (between film first_unit end_unit identity run is).sound
+run-begin span run k is = blocks_from-begin run 0 0 (pieces_in run) k (between span run is).sound
 
-pub run-piece : {film : Film} {first_unit end_unit : ℕ} {identity : Identity} {run : FramedRun} {n : ℕ} (k : ℕ)
-    → IsRun film first_unit end_unit identity run → k < length (pieces_in run)
-    → n ≡ length (front_pieces film first_unit) + k
-    → slice_get (film_pieces film) n ≡ slice_get (pieces_in run) k
-run-piece {film} {first_unit} {end_unit} {identity} {run} k is within at =
-    let lies = between film first_unit end_unit identity run is in
-    ap (λ m. slice_get (film_pieces film) m) at
-    ∙ ap (λ (l : List Piece). slice_get l (length (front_pieces film first_unit) + k)) lies.all
-    ∙ get-after (front_pieces film first_unit) (pieces_in run ++ lies.rest) k
+pub run-piece : {span : UnitSpan} {run : FramedRun} (k : ℕ) → IsRun span run → k < length (pieces_in run)
+    → slice_get (film_pieces span.film) (length (before_span span) + k) ≡ slice_get (pieces_in run) k
+run-piece {span} {run} k is within =
+    let lies = between span run is in
+    ap (λ (l : List Piece). slice_get l (length (before_span span) + k)) lies.all
+    ∙ get-after (before_span span) (pieces_in run ++ lies.rest) k
     ∙ get-front (pieces_in run) lies.rest k within
 
 -- the ends of the run's pieces
-pub run-ends : {film : Film} {first_unit end_unit : ℕ} {identity : Identity} {run : FramedRun} {first end base : ℕ}
-    {ends : List ℕ} → IsRun film first_unit end_unit identity run
-    → first ≡ length (front_pieces film first_unit) → end ≡ length (front_pieces film end_unit)
-    → base ≡ wire_in (take first (film_pieces film))
-    → length ends ≡ end - first
-    → ((k : ℕ) → k < end - first → get_or ends k 0 ≡ wire_in (take (first + k + 1) (film_pieces film)))
-    → AreEnds base (run_pieces run) ends
-run-ends {film} {first_unit} {end_unit} {identity} {run} {first} {end} {base} {ends}
-    is first_is end_is base_is count each =
-    let counts = run-count film first_unit end_unit identity run is in
+pub run-ends : {span : UnitSpan} {run : FramedRun} {ends : List ℕ} → IsRun span run
+    → length ends ≡ length (upto_span span) - length (before_span span)
+    → ((k : ℕ) → k < length (upto_span span) - length (before_span span)
+    → get_or ends k 0 ≡ wire_in (take (length (before_span span) + k + 1) (film_pieces span.film)))
+    → AreEnds (wire_in (take (length (before_span span)) (film_pieces span.film))) (run_pieces run) ends
+run-ends {span} {run} is count each =
+    let counts = run-count span run is in
     let pieces = blocks_from-count run 0 0 (pieces_in run) in
     record {
-      count = omega (arith, count, counts.0, first_is, end_is, pieces);
+      count = omega (arith, count, counts.0, pieces);
       each = λ k h.
-          let short : k + 1 ≤ length (pieces_in run) = omega (arith, h, count, counts.0, first_is, end_is) in
-          let sum = sum-in-run {film = film} {first_unit = first_unit} {end_unit = end_unit} {identity = identity}
-          {run = run} {n = first + k + 1} wire_of (k + 1) is short (omega (arith, first_is)) in
-          let from : base ≡ wire_in (take (length (front_pieces film first_unit)) (film_pieces film)) =
-          base_is ∙ ap (λ n. wire_in (take n (film_pieces film))) first_is in
-          omega (
-            arith,
-            each k (omega (arith, h, count)),
-            sum,
-            from,
-            run-begin first_unit end_unit identity run (k + 1) is,
-          );
+          let sum = sum-in-run wire_of (k + 1) is (omega (arith, h, count, counts.0)) in
+          let at : wire_in (take (length (before_span span) + k + 1) (film_pieces span.film))
+          ≡ wire_in (take (length (before_span span) + (k + 1)) (film_pieces span.film)) =
+          ap (λ n. wire_in (take n (film_pieces span.film))) (omega arith) in
+          omega (arith, each k (omega (arith, h, count)), at, sum, run-begin span run (k + 1) is);
     }
 
 -- the bytes of the run and all before it
-pub run-total : (film : Film) (first_unit end_unit : ℕ) (identity : Identity) (run : FramedRun)
-    → IsRun film first_unit end_unit identity run
-    → wire_in (take (length (front_pieces film first_unit)) (film_pieces film))
-    + length (framed_bytes (run_pieces run)) ≤ 2 ^ 42
-run-total film first_unit end_unit identity run is =
+pub run-total : (span : UnitSpan) (run : FramedRun) → IsRun span run
+    → wire_in (take (length (before_span span)) (film_pieces span.film)) + length (framed_bytes (run_pieces run))
+    ≤ 2 ^ 42
+run-total span run is =
     let n = length (pieces_in run) in
-    let sum = sum-in-run wire_of n is (omega arith) refl in
-    let some = sum_by-take-le wire_of (film_pieces film) (length (front_pieces film first_unit) + n) in
+    let sum = sum-in-run wire_of n is (omega arith) in
+    let some = sum_by-take-le wire_of (film_pieces span.film) (length (before_span span) + n) in
     let last : begin_of (run_pieces run) (length (run_pieces run)) ≡ begin_of (run_pieces run) n =
     ap (λ m. begin_of (run_pieces run) m) (blocks_from-count run 0 0 (pieces_in run)) in
     omega (
       arith,
       sum,
       some,
-      film-wire film,
-      film-bound film,
-      run-begin first_unit end_unit identity run n is,
+      film-wire span.film,
+      film-bound span.film,
+      run-begin span run n is,
       last,
       begin-all (run_pieces run),
     )

@@ -36,10 +36,9 @@ record AreSums (f : Piece → ℕ) (pieces : List Piece) (sums : List ℕ) : Typ
   count : length sums ≡ length pieces + 1
   each : (k : ℕ) → k ≤ length pieces → get_or sums k 0 ≡ sum_by f (take k pieces)
 
-sums-push : {f : Piece → ℕ} {pieces : List Piece} {sums : List ℕ} {sum : ℕ} (piece : Piece)
-    → AreSums f pieces sums → sum ≡ get_or sums (length pieces) 0 + f piece
-    → AreSums f (pieces ++ piece ∷ []) (sums ++ sum ∷ [])
-sums-push {f} {pieces} {sums} {sum} piece are is = record {
+sums-push : {f : Piece → ℕ} {pieces : List Piece} {sums : List ℕ} (piece : Piece) → AreSums f pieces sums
+    → AreSums f (pieces ++ piece ∷ []) (sums ++ (get_or sums (length pieces) 0 + f piece) ∷ [])
+sums-push {f} {pieces} {sums} piece are = let sum = get_or sums (length pieces) 0 + f piece in record {
   count = omega (arith, length_push sums sum, length_push pieces piece, are.count);
   each = λ k h. elim (cases_lt (length pieces) k) [
     | inl l ↦
@@ -50,7 +49,7 @@ sums-push {f} {pieces} {sums} {sum} piece are is = record {
         ∙ sum_by_push f pieces piece in
         let whole : get_or sums (length pieces) 0 ≡ sum_by f pieces =
         are.each (length pieces) (omega arith) ∙ ap (λ l. sum_by f l) (take_all (length pieces) pieces (omega arith)) in
-        omega (arith, get_or_push sums sum 0 k end, all, whole, is)
+        omega (arith, get_or_push sums sum 0 k end, all, whole)
     | inr g ↦
         let within : k < length sums = omega (arith, are.count, g) in
         get_or_append_left sums (sum ∷ []) 0 k within ∙ are.each k g
@@ -105,7 +104,8 @@ table-push {units} {pieces} {piece} {row} {old} {new} {end} is its places rows r
     let place : get_or old.places.items (length old.rows.items) 0 ≡ get_or old.places.items (length pieces) 0 =
     ap (λ n. get_or old.places.items n 0) last in
     let wires : AreSums wire_of pieces old.places.items = record { count = is.places_count; each = is.place } in
-    let w = sums-push piece wires (omega (arith, end_is, place)) in
+    let w : AreSums wire_of (pieces ++ piece ∷ []) (old.places.items ++ end ∷ []) = subst (λ n. AreSums wire_of (pieces ++ piece ∷ []) (old.places.items ++ n ∷ [])) (omega (arith, end_is, place))
+    (sums-push piece wires) in
     let P : List ℕ → Type 0 = λ l. AreSums wire_of (pieces ++ piece ∷ []) l in
     let R : List Row → Type 0 = λ l. AreRows units (pieces ++ piece ∷ []) l in
     let w_new = subst P (sym places) w in

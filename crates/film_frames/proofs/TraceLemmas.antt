@@ -8,7 +8,7 @@ use Rattle.std.proofs.lemmas.List.{get_or-set_same, get_or-set_other, drop-repli
 use Rattle.std.proofs.lemmas.List.{take-replicate}
 use Rattle.std.proofs.lemmas.List.Sums.{sum_by-cons, sum_by-take-le, sum_by_more, sum_by_more_le}
 use Rattle.std.proofs.lemmas.Bool.{cases_lt, cases_eq}
-use Rattle.film_frames.proofs.TrackLemmas.{AreEnds, begin-all, begin-none, begin-more, found-begins}
+use Rattle.film_frames.proofs.TrackLemmas.{PieceEnds, IsSearched, IsPart, AreEnds, begin-all, begin-none, begin-more}
 use Rattle.film_frames.proofs.TrackLemmas.{next-found}
 use Rattle.film_frames.specs.Tracks.{framed_bytes, begin_of, IsNext, AreRunningSums, zero_frames, differences}
 use Rattle.film_frames.specs.Tracks.{running_sums}
@@ -118,48 +118,42 @@ trace-total ends sizes seen is =
     ]
 
 -- the last end is the length of all
-pub trace-last-now : {kept ends sizes : List ℕ} → ends ≡ kept → differences 0 kept ≡ sizes → AreRunningSums kept
-    → 0 < length ends → get_or ends (length ends - 1) 0 ≡ length (framed_bytes (zero_frames sizes))
-trace-last-now {kept} {ends} {sizes} now seen is some =
-    let are = trace-track kept ends sizes now seen is in
+pub trace-last-now : (ends sizes : List ℕ) → AreEnds 0 (zero_frames sizes) ends → 0 < length ends
+    → get_or ends (length ends - 1) 0 ≡ length (framed_bytes (zero_frames sizes))
+trace-last-now ends sizes are some =
     let last = length ends - 1 in
     let same : begin_of (zero_frames sizes) (last + 1)
     ≡ begin_of (zero_frames sizes) (length (zero_frames sizes)) =
     ap (λ n. begin_of (zero_frames sizes) n) (omega (arith, some, are.count)) in
     omega (arith, are.each last (omega (arith, some)), same, begin-all (zero_frames sizes))
 
--- n zero bytes from a place on, up to the end of its frame at most: frame k, whose end is the first after the place
-pub record ZerosTaken (ends : List ℕ) (k at end n : ℕ) (bytes : List ℕ) : Type 0 where
-  pub within : k < length ends
-  pub below : (j : ℕ) → j < k → get_or ends j 0 < at + 1
-  pub is : end ≡ get_or ends k 0
-  pub later : at < end
-  pub some : 1 ≤ n
-  pub fits : at + n ≤ end
-  pub zeros : bytes ≡ replicate {A = ℕ} n 0
+-- the ends of a trace, as those of pieces
+abbrev pub trace_ends : (sizes ends : List ℕ) → AreEnds 0 (zero_frames sizes) ends → PieceEnds
+trace_ends sizes ends are = record { base = 0; pieces = zero_frames sizes; ends = ends; are = are }
 
--- they are next
-pub zeros-next : {ends : List ℕ} {k at end n : ℕ} {bytes : List ℕ} (sizes : List ℕ)
-    → AreEnds 0 (zero_frames sizes) ends → ZerosTaken ends k at end n bytes → IsNext (zero_frames sizes) at bytes
-zeros-next {k} {at} {n} sizes are taken =
+-- the frame of a place that a search finds
+pub record FrameFound (sizes ends : List ℕ) (at k : ℕ) : Type 0 where
+  pub are : AreEnds 0 (zero_frames sizes) ends
+  pub searched : IsSearched (trace_ends sizes ends are) at k
+  pub within : k < length ends
+
+-- zero bytes from a place on, up to the end of the frame that a search finds at most, are next
+pub zeros-next : (sizes : List ℕ) {k at n : ℕ} → IsPart (zero_frames sizes) k at n → 1 ≤ n
+    → IsNext (zero_frames sizes) at (replicate {A = ℕ} n 0)
+zeros-next sizes {k} {at} {n} part some =
     let pieces = zero_frames sizes in
-    let inside : k < length pieces = omega (arith, within, are.count) in
-    let begins = found-begins at k are within (λ j h. omega (arith, below j h)) in
     let piece : get_or pieces k [] ≡ replicate {A = ℕ} (get_or sizes k 0) 0 =
     get_or-map (λ size. replicate {A = ℕ} size 0) sizes k 0 []
-    (omega (arith, inside, length-map sizes (λ size. replicate {A = ℕ} size 0))) in
+    (omega (arith, part.among, length-map sizes (λ size. replicate {A = ℕ} size 0))) in
     let count : length (get_or pieces k []) ≡ get_or sizes k 0 =
     ap length piece ∙ length-replicate {A = ℕ} (get_or sizes k 0) 0 in
     let o = at - begin_of pieces k in
-    let more = begin-more pieces k inside in
-    let its = are.each k within in
+    let more = begin-more pieces k part.among in
     let same : take n (drop o (get_or pieces k [])) ≡ replicate {A = ℕ} n 0 =
     ap (λ (l : List ℕ). take n (drop o l)) piece
     ∙ ap (λ (l : List ℕ). take n l) (drop-replicate {X = ℕ} o (get_or sizes k 0) 0)
-    ∙ take-replicate {X = ℕ} n (get_or sizes k 0 - o) 0 (omega (arith, begins, more, its, is, fits, count)) in
-    next-found n inside begins some (omega (arith, its, is, fits)) (zeros ∙ sym same)
-  where
-    open taken use {within, below, is, later, some, fits, zeros}
+    ∙ take-replicate {X = ℕ} n (get_or sizes k 0 - o) 0 (omega (arith, part.begins, more, part.ends, count)) in
+    subst (IsNext pieces at) same (next-found part some)
 
 -- one more sum
 pub sum-more : (sizes : List ℕ) (k : ℕ) → k < length sizes

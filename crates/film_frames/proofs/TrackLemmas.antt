@@ -45,56 +45,64 @@ pub ends-rise : (base : ℕ) (pieces : List (List ℕ)) (ends : List ℕ) → Ar
 ends-rise base pieces ends are = IsNonDecreasingBy-from_default (λ x. x) ends 0 (λ i j h l.
     omega (arith, are.each i (omega (arith, h, l)), are.each j l, begin-le pieces (i + 1) (j + 1) (omega (arith, h))))
 
--- a search's answer is a piece's number, where not all ends lie below the place
-pub found : {base : ℕ} {pieces : List (List ℕ)} {ends : List ℕ} {k : ℕ} (at : ℕ) → AreEnds base pieces ends
-    → 0 < at → at ≤ length (framed_bytes pieces)
-    → k ≤ length ends → ((j : ℕ) → j < k → get_or ends j 0 < base + at) → k < length ends
-found {base} {pieces} {ends} {k} at are some within count below =
-    elim (cases_lt k (length ends)) [
+-- pieces with their ends
+pub record PieceEnds : Type 0 where
+  pub base : ℕ
+  pub pieces : List (List ℕ)
+  pub ends : List ℕ
+  pub are : AreEnds base pieces ends
+
+-- k is how many ends lie below a place
+pub record IsSearched (e : PieceEnds) (at k : ℕ) : Type 0 where
+  pub count : k ≤ length e.ends
+  pub below : (j : ℕ) → j < k → get_or e.ends j 0 < e.base + at
+  pub from : k < length e.ends → e.base + at ≤ get_or e.ends k 0
+
+-- that is a piece's number, where not all ends lie below the place
+pub found : (e : PieceEnds) {at k : ℕ} → IsSearched e at k → 0 < at → at ≤ length (framed_bytes e.pieces)
+    → k < length e.ends
+found e {at} {k} is some within =
+    elim (cases_lt k (length e.ends)) [
       | inl l ↦ l
       | inr g ↦
-          let all = begin-all pieces in
-          let same : k ≡ length pieces = omega (arith, g, count, are.count) in
+          let all = begin-all e.pieces in
+          let same : k ≡ length e.pieces = omega (arith, g, is.count, e.are.count) in
           elim (cases_lt 0 k) [
             | inl l ↦
-                let last = below (k - 1) (omega (arith, l)) in
-                let end = are.each (k - 1) (omega (arith, l, count)) in
-                let whole : begin_of pieces (k - 1 + 1) ≡ begin_of pieces (length pieces) =
-                ap (λ n. begin_of pieces n) (omega (arith, same, l)) in
+                let last = is.below (k - 1) (omega (arith, l)) in
+                let end = e.are.each (k - 1) (omega (arith, l, is.count)) in
+                let whole : begin_of e.pieces (k - 1 + 1) ≡ begin_of e.pieces (length e.pieces) =
+                ap (λ n. begin_of e.pieces n) (omega (arith, same, l)) in
                 omega (arith, last, end, whole, all, within)
             | inr z ↦
-                omega (arith, begin-none pieces (length pieces) (omega (arith, same, z)), all, within, some)
+                omega (arith, begin-none e.pieces (length e.pieces) (omega (arith, same, z)), all, within, some)
           ]
     ]
 
 -- the piece whose end is the first that isn't below a place ends at the least boundary that is at least it
-pub boundary-found : {base : ℕ} {pieces : List (List ℕ)} {ends : List ℕ} {at : ℕ} (k : ℕ)
-    → AreEnds base pieces ends → 0 < at → k < length ends
-    → ((j : ℕ) → j < k → get_or ends j 0 < base + at) → base + at ≤ get_or ends k 0
-    → IsBoundaryAfter pieces at (get_or ends k 0 - base)
-boundary-found {base} {pieces} {ends} {at} k are some within below from =
+pub boundary-found : (e : PieceEnds) {at k : ℕ} → IsSearched e at k → 0 < at → k < length e.ends
+    → IsBoundaryAfter e.pieces at (get_or e.ends k 0 - e.base)
+boundary-found e {at} {k} is some within =
     let end = are.each k within in
     record {
       boundary = record { number = k + 1; among = omega (arith, within, are.count); place_is = omega (arith, end) };
-      after = omega (arith, from);
+      after = let from = is.from within in omega (arith, from);
       least = λ other b h.
-          elim (cases_lt (b.number - 1) k) [
-            | inl l ↦ elim (cases_lt 0 b.number) [
-              | inl some_number ↦
-                  let before = below (b.number - 1) l in
+          elim (cases_lt 0 b.number) [
+            | inl some_number ↦ elim (cases_lt (b.number - 1) k) [
+              | inl l ↦
+                  let before = is.below (b.number - 1) l in
                   let its = are.each (b.number - 1) (omega (arith, l, within)) in
                   let same : begin_of pieces (b.number - 1 + 1) ≡ begin_of pieces b.number =
                   ap (λ n. begin_of pieces n) (omega (arith, some_number)) in
                   omega (arith, before, its, same, h, b.place_is)
-              | inr z ↦ omega (arith, begin-none pieces b.number (omega (arith, z)), h, b.place_is, some)
+              | inr g ↦ omega (arith, begin-le pieces (k + 1) b.number (omega (arith, g, some_number)), end, b.place_is)
             ]
-            | inr g ↦ elim (cases_lt 0 b.number) [
-              | inl some_number ↦
-                  omega (arith, begin-le pieces (k + 1) b.number (omega (arith, g, some_number)), end, b.place_is)
-              | inr z ↦ omega (arith, begin-none pieces b.number (omega (arith, z)), h, b.place_is, some)
-            ]
+            | inr z ↦ omega (arith, begin-none pieces b.number (omega (arith, z)), h, b.place_is, some)
           ];
     }
+  where
+    open e use {pieces, are}
 
 pub boundary-zero : (pieces : List (List ℕ)) → IsBoundaryAfter pieces 0 0
 boundary-zero pieces = record {
@@ -121,40 +129,44 @@ bytes-within pieces k o n within fits =
     ap (λ (l : List ℕ). take n l) (past ∙ drop-append-le o piece rest (omega (arith, fits)))
     ∙ take-append-le n (drop o piece) rest (omega (arith, fits, length-drop o piece))
 
--- bytes of the piece in which a place lies, from that place on, are next
-pub next-found : {pieces : List (List ℕ)} {k at : ℕ} {bytes : List ℕ} (n : ℕ) → k < length pieces
-    → begin_of pieces k ≤ at → 1 ≤ n → at + n ≤ begin_of pieces (k + 1)
-    → bytes ≡ take n (drop (at - begin_of pieces k) (get_or pieces k [])) → IsNext pieces at bytes
-next-found {pieces} {k} {at} {bytes} n within begins some ends are =
+-- bytes from a place on are of the piece of a number
+pub record IsPart (pieces : List (List ℕ)) (number at bytes : ℕ) : Type 0 where
+  pub among : number < length pieces
+  pub begins : begin_of pieces number ≤ at
+  pub ends : at + bytes ≤ begin_of pieces (number + 1)
+
+-- they are next
+pub next-found : {pieces : List (List ℕ)} {k at n : ℕ} → IsPart pieces k at n → 1 ≤ n
+    → IsNext pieces at (take n (drop (at - begin_of pieces k) (get_or pieces k [])))
+next-found {pieces} {k} {at} {n} part some =
     let o = at - begin_of pieces k in
-    let more = begin-more pieces k within in
-    let fits : o + n ≤ length (get_or pieces k []) = omega (arith, begins, ends, more) in
+    let bytes = take n (drop o (get_or pieces k [])) in
+    let more = begin-more pieces k part.among in
+    let fits : o + n ≤ length (get_or pieces k []) = omega (arith, part.begins, part.ends, more) in
     let count : length bytes ≡ n =
-    ap length are
-    ∙ length-take-le n (drop o (get_or pieces k [])) (omega (arith, fits, length-drop o (get_or pieces k []))) in
-    let place : begin_of pieces k + o ≡ at = omega (arith, begins) in
+    length-take-le n (drop o (get_or pieces k [])) (omega (arith, fits, length-drop o (get_or pieces k []))) in
+    let place : begin_of pieces k + o ≡ at = omega (arith, part.begins) in
     record {
       some = omega (arith, some, count);
-      bytes_are = are ∙ sym (bytes-within pieces k o n within fits)
+      bytes_are = sym (bytes-within pieces k o n part.among fits)
           ∙ ap (λ i. take n (drop i (framed_bytes pieces))) place
           ∙ ap (λ m. take m (drop at (framed_bytes pieces))) (sym count);
       one_piece = λ other b h.
           elim (cases_lt k b.number) [
-            | inl l ↦ omega (arith, begin-le pieces (k + 1) b.number (omega (arith, l)), b.place_is, ends, count)
-            | inr g ↦ omega (arith, begin-le pieces b.number k g, b.place_is, begins, h)
+            | inl l ↦ omega (arith, begin-le pieces (k + 1) b.number (omega (arith, l)), b.place_is, part.ends, count)
+            | inr g ↦ omega (arith, begin-le pieces b.number k g, b.place_is, part.begins, h)
           ];
     }
 
 -- where the piece begins that a search finds
-pub found-begins : {base : ℕ} {pieces : List (List ℕ)} {ends : List ℕ} (at k : ℕ) → AreEnds base pieces ends
-    → k < length ends
-    → ((j : ℕ) → j < k → get_or ends j 0 < base + at + 1) → begin_of pieces k ≤ at
-found-begins {base} {pieces} {ends} at k are within below =
+pub found-begins : (e : PieceEnds) {at k : ℕ} → IsSearched e (at + 1) k → k < length e.ends → begin_of e.pieces k ≤ at
+found-begins e {at} {k} is within =
     elim (cases_lt 0 k) [
       | inl l ↦
-          let last = below (k - 1) (omega (arith, l)) in
-          let end = are.each (k - 1) (omega (arith, l, within)) in
-          let same : begin_of pieces (k - 1 + 1) ≡ begin_of pieces k = ap (λ n. begin_of pieces n) (omega (arith, l)) in
+          let last = is.below (k - 1) (omega (arith, l)) in
+          let end = e.are.each (k - 1) (omega (arith, l, within)) in
+          let same : begin_of e.pieces (k - 1 + 1) ≡ begin_of e.pieces k =
+          ap (λ n. begin_of e.pieces n) (omega (arith, l)) in
           omega (arith, last, end, same)
-      | inr z ↦ omega (arith, begin-none pieces k (omega (arith, z)))
+      | inr z ↦ omega (arith, begin-none e.pieces k (omega (arith, z)))
     ]

@@ -3,7 +3,7 @@ use Rattle.film_frames.specs.FramedRuns.{run_pieces}
 use Rattle.film_frames.proofs.FramedRunFacts.{is-run-of, total-from}
 use Rattle.film_frames.proofs.RunBytesLemmas.{have-count_ended}
 use Rattle.film_frames.proofs.RunPieceLemmas.{run-ends}
-use Rattle.film_frames.proofs.TrackLemmas.{AreEnds, ends-rise}
+use Rattle.film_frames.proofs.TrackLemmas.{AreEnds, PieceEnds, ends-rise}
 use Rattle.film_frames.proofs.frames.Frames.count_ended.Goals as goal
 use Rattle.film_frames.proofs.frames.Frames.count_ended.Goals.{After-ends}
 
@@ -11,8 +11,10 @@ use Rattle.film_frames.proofs.frames.Frames.count_ended.Goals.{After-ends}
 ends-are : (c : After-ends) → AreEnds c.place.result (run_pieces c.args.self.now) c.ends.result.now
 ends-are c =
     let has = is-run-of c.self.inside c.args.self.now c.self.view_is c.self.invariant in
-    run-ends has.is
-    c.first_piece-first.ensures c.first_piece-end.ensures c.place.ensures c.ends.ensures.count c.ends.ensures.each
+    let first = c.first_piece-first.ensures in
+    let end = c.first_piece-end.ensures in
+    let place = rw first at c.place.ensures in
+    rw place (run-ends has.is (rw (first, end) at c.ends.ensures.count) (rw (first, end) at c.ends.ensures.each))
 
 pub place-requires : goal.place-requires
 place-requires c =
@@ -48,11 +50,17 @@ ends_below-requires c =
 
 pub returns-clause-count_ended : goal.returns-clause-count_ended
 returns-clause-count_ended c =
-    have-count_ended
-    (ends-are (goal.at.returns-clause-count_ended c).After-ends) c.ends_below.ensures.count
-    (omega (arith, c.min.ensures))
-    (λ cut. omega (arith, c.min.ensures, c.total.ensures, cut)) (λ j h. c.ends_below.ensures.below j h)
-    (λ h. c.ends_below.ensures.from c.ends_below.result (omega arith) h)
+    let e : PieceEnds = record {
+      base = c.place.result;
+      pieces = run_pieces c.args.self.now;
+      ends = c.ends.result.now;
+      are = ends-are (goal.at.returns-clause-count_ended c).After-ends;
+    } in
+    have-count_ended e {upto = c.min.result} (record {
+      count = c.ends_below.ensures.count;
+      below = λ j h. omega (arith, c.ends_below.ensures.below j h);
+      from = λ h. omega (arith, c.ends_below.ensures.from c.ends_below.result (omega arith) h);
+    }) (omega (arith, c.min.ensures), λ cut. omega (arith, c.min.ensures, c.total.ensures, cut))
 
 pub returns-clause-few : goal.returns-clause-few
 returns-clause-few c =

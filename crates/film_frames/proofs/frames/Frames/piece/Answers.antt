@@ -1,5 +1,5 @@
 use Rattle.std.proofs.Common.{◌+◌, arith, sym, ap, ◌∙◌}
-use Rattle.film_frames.proofs.FramedRunFacts.{is-run-of}
+use Rattle.film_frames.proofs.FramedRunFacts.{is-run-of, span_of}
 use Rattle.film_frames.proofs.RunPieceLemmas.{between, run-piece}
 use Rattle.film_frames.specs.FramedRuns.{pieces_in}
 use Rattle.film_frames.proofs.PieceLemmas.{sound-at}
@@ -17,10 +17,8 @@ piece-requires c =
 
 pub returns-clause-piece : goal.returns-clause-piece
 returns-clause-piece c =
-    let f = c.self.inside in
     let has = is-run-of c.self.inside c.args.self.now c.self.view_is c.self.invariant in
-    sym (run-piece c.args.number has.is c.requires (ap (λ n. n + c.args.number) c.first_piece.ensures))
-    ∙ c.piece.ensures
+    sym (rw c.first_piece.ensures (run-piece c.args.number has.is c.requires)) ∙ c.piece.ensures
 
 pub returns-clause-sound : goal.returns-clause-sound
 returns-clause-sound c =
@@ -28,4 +26,4 @@ returns-clause-sound c =
     let run = c.args.self.now in
     let has = is-run-of c.self.inside c.args.self.now c.self.view_is c.self.invariant in
     sound-at run.film (pieces_in run) c.args.number c.piece.result (returns-clause-piece c)
-    (between f.stored.now.film f.first_unit f.end_unit f.identity run has.is).sound
+    (between (span_of f) run has.is).sound

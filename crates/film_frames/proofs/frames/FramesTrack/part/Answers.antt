@@ -6,7 +6,8 @@ use Rattle.film_frames.specs.declared.pieces.Piece.TheVariants.{Report, Frame}
 use Rattle.film_frames.specs.Pieces.{octets_in}
 use Rattle.film_frames.specs.FramedRuns.{payload, run_pieces, pieces_in}
 use Rattle.film_frames.specs.Tracks.{HasHeads, begin_of}
-use Rattle.film_frames.proofs.HeadEndLemmas.{IsPart, frame-heads, frame-split, report-heads, report-split}
+use Rattle.film_frames.proofs.TrackLemmas.{IsPart}
+use Rattle.film_frames.proofs.HeadEndLemmas.{frame-heads, frame-split, report-heads, report-split}
 use Rattle.film_frames.proofs.RunBytesLemmas.{count_ended-is}
 use Rattle.film_frames.proofs.NextBytesLemmas.{InFrame, IsIn, count-among, ends-boundary, frame-part, is-in}
 use Rattle.film_frames.proofs.NextBytesLemmas.{report-rest, rest-next}
