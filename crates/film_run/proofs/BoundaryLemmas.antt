@@ -1,11 +1,12 @@
 -- The boundaries of a run don't hang on its identity.
-use Rattle.std.proofs.Common.{ℕ, ◌≤◌, length, refl, sym, ◌∙◌, arith}
+use Rattle.std.proofs.Common.{◌≡◌, ℕ, ◌≤◌, length, take, refl, sym, ◌∙◌, arith}
 use Rattle.mpeg_scan.specs.declared.films.Film.{Film}
 use Rattle.rtp_pack.specs.declared.reports.Identity.{Identity}
-use Rattle.film_frames.specs.Tracks.{IsBoundary}
+use Rattle.film_frames.specs.Pieces.{wire_in}
+use Rattle.film_frames.specs.Tracks.{IsBoundary, begin_of}
 use Rattle.film_frames.specs.FramedRuns.{run_of, pieces_in, run_pieces}
 use Rattle.film_frames.proofs.RunBytesLemmas.{blocks_from-count}
-use Rattle.film_frames.proofs.RunPieceLemmas.{run-begin}
+use Rattle.film_frames.proofs.RunPieceLemmas.{UnitSpan, run-begin}
 
 -- units of a film, from one on up to another
 pub record FilmPart : Type 0 where
@@ -21,10 +22,8 @@ pub same-boundaries : {place : ℕ} (part : FilmPart) (one other : Identity)
 same-boundaries {place} part one other b =
     let a_run = run_of film first end one in
     let b_run = run_of film first end other in
-    let a = run-begin {film = film} first end one a_run b.number
-    (record { view = refl; order = order; within = within }) in
-    let c = run-begin {film = film} first end other b_run b.number
-    (record { view = refl; order = order; within = within }) in
+    let a = begins one b.number in
+    let c = begins other b.number in
     record {
       number = b.number;
       among = omega (
@@ -37,3 +36,9 @@ same-boundaries {place} part one other b =
     }
   where
     open part use {film, first, end, order, within}
+
+    begins : (identity : Identity) (k : ℕ) → begin_of (run_pieces (run_of film first end identity)) k
+        ≡ wire_in (take k (pieces_in (run_of film first end identity)))
+    begins identity k =
+        let span : UnitSpan = record { film = film; first_unit = first; end_unit = end; identity = identity } in
+        run-begin span (run_of film first end identity) k (record { view = refl; order = order; within = within })

@@ -32,11 +32,21 @@ total-of-rest sizes playback run is =
     )
 
 -- a run has what its curves ask
-pub limits : {sizes : List ℕ} {playback : Playback} {run : Run} → IsPlayback playback → IsRun sizes run
-    → Fits playback.buffer run
-    → length sizes ≤ MAX_FILM_PICTURES → sum sizes ≤ MAX_BYTES
+pub record IsPlayable (sizes : List ℕ) (playback : Playback) (run : Run) : Type 0 where
+  pub plays : IsPlayback playback
+  pub is : IsRun sizes run
+  pub fits : Fits playback.buffer run
+  pub few : length sizes ≤ MAX_FILM_PICTURES
+  pub small : sum sizes ≤ MAX_BYTES
+
+pub limits : {sizes : List ℕ} {playback : Playback} {run : Run} → IsPlayable sizes playback run
     → IsWithinLimits (rest_sizes sizes run) (timing_of playback run)
-limits {sizes} {playback} {run} plays is fits few small =
+limits {sizes} {playback} {run} can =
+    let plays = can.plays in
+    let is = can.is in
+    let fits = can.fits in
+    let few = can.few in
+    let small = can.small in
     let count = length-between sizes run.from_unit run.end_unit is.within in
     let all = total-of-rest sizes playback run is in
     let most = bytes-most sizes run.first_unit run.end_unit (omega (arith, is.order, is.rest)) in
@@ -67,29 +77,15 @@ up-is sizes timing curves are =
     fill_by_all (up_at sizes timing) curves.up.items (slot_count sizes timing) 0 are.up_slots are.up_is
 
 pub taut-for : {sizes : List ℕ} {timing : Timing} {curves : Curves} {plan : List Segment}
-    → IsAccepted sizes timing → AreFilmCurves sizes timing curves
+    → IsAccepted sizes timing × AreFilmCurves sizes timing curves
     → IsTaut curves.from curves.low.items curves.up.items plan → IsTautFor sizes timing plan
-taut-for {sizes} {timing} {curves} {plan} ok are taut = record {
-  accepted = ok;
+taut-for {sizes} {timing} {curves} {plan} known taut = let are = known.1 in record {
+  accepted = known.0;
   taut =
       subst (λ up. IsTaut timing.sent (low_curve sizes timing) up plan) (up-is sizes timing curves are)
       (subst (λ low. IsTaut timing.sent low curves.up.items plan) (low-is sizes timing curves are)
       (subst (λ from. IsTaut from curves.low.items curves.up.items plan) are.from_is taut));
 }
-
--- the same of equal pictures and times
-pub taut-for-both : {sizes rest : List ℕ} {timing its : Timing} {curves : Curves} {plan : List Segment}
-    → sizes ≡ rest → timing ≡ its
-    → IsAccepted sizes timing → AreFilmCurves sizes timing curves
-    → IsTaut curves.from curves.low.items curves.up.items plan → IsTautFor rest its plan
-taut-for-both {rest} {timing} {plan} same_sizes same_timing ok are taut =
-    subst (λ t. IsTautFor rest t plan) same_timing
-    (subst (λ l. IsTautFor l timing plan) same_sizes (taut-for ok are taut))
-
-pub limits-both : {sizes rest : List ℕ} {timing its : Timing} → sizes ≡ rest → timing ≡ its
-    → IsWithinLimits rest its → IsWithinLimits sizes timing
-limits-both {rest} {timing} same_sizes same_timing within =
-    subst (λ l. IsWithinLimits l timing) (sym same_sizes) (subst (λ t. IsWithinLimits rest t) (sym same_timing) within)
 
 -- the curves' numbers
 pub low-at-slot : (sizes : List ℕ) (timing : Timing) (t : ℕ) → t < slot_count sizes timing

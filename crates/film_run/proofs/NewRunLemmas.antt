@@ -21,9 +21,11 @@ pub record BeginsAt (first end : ℕ) (run : Run) : Type 0 where
   pub sent_is : run.sent ≡ 0
   pub played_is : run.played ≡ 0
 
-pub new-run : {sizes : List ℕ} {first end : ℕ} {run : Run} → first < end → end ≤ length sizes → BeginsAt first end run
-    → IsNewRun sizes first end run
-new-run {sizes} {first} {end} {run} some within begins =
+pub new-run : {sizes : List ℕ} {first end : ℕ} {run : Run} → (first < end) × (end ≤ length sizes)
+    → BeginsAt first end run → IsNewRun sizes first end run
+new-run {sizes} {first} {end} {run} units begins =
+    let some = units.0 in
+    let within = units.1 in
     let first_is = begins.first_is in
     let end_is = begins.end_is in
     let from_is = begins.from_is in
@@ -104,7 +106,7 @@ asks_for_run {film} {from} {to} {run} {picture_units} {first} {end} units_are ti
       begins = of_film.begins;
       ends = of_film.ends;
       new =
-          new-run (omega arith) (omega (arith, of_film.within, count))
+          new-run (omega arith, omega (arith, of_film.within, count))
           (record {
             first_is = refl;
             end_is = refl;

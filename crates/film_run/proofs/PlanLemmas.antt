@@ -5,7 +5,7 @@ use Rattle.wire_curve.specs.FilmCurves.{IsWithinLimits, due_slot}
 use Rattle.wire_curve.proofs.SlotUsageLemmas.{due_in_range, due_rises}
 use Rattle.film_run.specs.declared.runs.Run.{Run}
 use Rattle.film_run.specs.declared.plans.Playback.{Playback}
-use Rattle.film_run.specs.Runs.{bytes_between}
+use Rattle.film_run.specs.Runs.{IsRun, bytes_between}
 use Rattle.film_run.specs.Plans.{IsBestPlanOf, rest_sizes, timing_of}
 use Rattle.film_run.specs.Laws.{AreInTime, DoesFit, IsOnlyPlan, IsSending}
 use Rattle.film_run.proofs.SumLemmas.{bytes-first, bytes-join, length-between}
@@ -17,7 +17,13 @@ pub sending-limits : (sizes : List ℕ) (playback : Playback) (run : Run) (plan 
     → IsWithinLimits (rest_sizes sizes run) (timing_of playback run)
 sending-limits sizes playback run plan is =
     let can = is.can_play in
-    limits can.playback_is can.run_is can.fits can.sizes_are.few can.sizes_are.small
+    limits (record {
+      plays = can.playback_is;
+      is = can.run_is;
+      fits = can.fits;
+      few = can.sizes_are.few;
+      small = can.sizes_are.small;
+    })
 
 pub sending-keeps : (sizes : List ℕ) (playback : Playback) (run : Run) (plan : List Segment)
     → IsSending sizes playback run plan
@@ -37,16 +43,13 @@ pub sending-one : (sizes : List ℕ) (playback : Playback) (run : Run) (plan : L
 sending-one sizes playback run plan is = λ other its. (sending-best sizes playback run plan is).only other its.taut
 
 -- the bytes of a run up to an unplayed unit
-front-bytes : {sizes : List ℕ} {playback : Playback} {run : Run} {plan : List Segment} (end : ℕ)
-    → IsSending sizes playback run plan
-    → run.from_unit ≤ end → end ≤ run.end_unit
+front-bytes : {sizes : List ℕ} {run : Run} (end : ℕ) → IsRun sizes run → run.from_unit ≤ end → end ≤ run.end_unit
     → bytes_between sizes run.first_unit end ≡ run.played + sum (take (end - run.from_unit) (rest_sizes sizes run))
 front-bytes {sizes} {run} end is order within =
-    let its = is.can_play.run_is in
     let first = bytes-first sizes run.from_unit run.end_unit (end - run.from_unit) (omega arith) in
     let same : run.from_unit + (end - run.from_unit) ≡ end = omega arith in
     let place = ap (bytes_between sizes run.from_unit) same in
-    omega (arith, first, place, its.played_is, bytes-join sizes run.first_unit run.from_unit end its.order order)
+    omega (arith, first, place, is.played_is, bytes-join sizes run.first_unit run.from_unit end is.order order)
 
 pub sending-in-time : (sizes : List ℕ) (playback : Playback) (run : Run) (plan : List Segment)
     → IsSending sizes playback run plan
@@ -65,7 +68,7 @@ sending-in-time sizes playback run plan is = λ unit at.
       used = λ j less. omega (arith, due_rises timing j k some (omega arith));
     } in
     let least = used-least its in
-    let front = front-bytes (unit + 1) is (omega (arith, at.from)) (omega (arith, at.before_end)) in
+    let front = front-bytes (unit + 1) is.can_play.run_is (omega (arith, at.from)) (omega (arith, at.before_end)) in
     let same : (unit + 1) - run.from_unit ≡ k + 1 = omega (arith, at.from) in
     let place = ap (λ n. sum (take n rest)) same in
     omega (arith, above, least, front, place)
@@ -84,5 +87,5 @@ sending-fits sizes playback run plan is = λ slot unit inside at before.
     let unused : IsUnusedFrom rest timing slot k =
     record { some = some; fits = omega (arith, count, at.from, at.before_end); unused = before } in
     let most = used-most unused in
-    let front = front-bytes unit is at.from (omega (arith, at.before_end)) in
+    let front = front-bytes unit is.can_play.run_is at.from (omega (arith, at.before_end)) in
     omega (arith, below, most, front)

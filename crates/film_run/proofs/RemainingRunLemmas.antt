@@ -14,7 +14,7 @@ use Rattle.film_run.specs.Pauses.{IsHalt, IsRemainingRun, IsStop, ReachesAt}
 use Rattle.film_run.specs.Laws.{ContinuesThePlan, IsSending, LeavesRun}
 use Rattle.film_run.proofs.SumLemmas.{length-between}
 use Rattle.film_run.proofs.CurveLemmas.{total-of-rest}
-use Rattle.film_run.proofs.HaltLemmas.{IsHalting, left-run}
+use Rattle.film_run.proofs.HaltLemmas.{HaltedPlay, IsHalting, left-run}
 use Rattle.film_run.proofs.PlanLemmas.{sending-keeps}
 
 reaches-once : (plan : List Segment) (bytes one other : ℕ) → ReachesAt plan bytes one → ReachesAt plan bytes other
@@ -26,25 +26,15 @@ reaches-once plan bytes one other is its =
     ]
 
 -- there is one slot of the stop
-pub stop-one : {one other : ℕ} (plan : List Segment) (last : Option ℕ) (keep : ℕ) → IsStop plan last keep one
-    → IsStop plan last keep other → one ≡ other
-stop-one {one} {other} plan None keep is its = is ∙ sym its
-stop-one {one} {other} plan (Some last) keep is its =
+pub stop-one : {one other : ℕ} (plan : List Segment) (last : Option ℕ) (keep : ℕ)
+    → IsStop plan last keep one × IsStop plan last keep other → one ≡ other
+stop-one plan None keep both = both.0 ∙ sym both.1
+stop-one {one} {other} plan (Some last) keep both =
+    let is = both.0 in
+    let its = both.1 in
     let below = reaches-once plan keep is.0 its.0 is.1.0 its.1.0 in
     let above = reaches-once plan keep its.0 is.0 its.1.0 is.1.0 in
     omega (arith, below, above, is.1.1, its.1.1)
-
-from-once : {sizes : List ℕ} {playback : Playback} {run left other : Run} {plan : List Segment} {last : Option ℕ}
-    {keep : ℕ}
-    → IsRemainingRun sizes playback run plan last keep left → IsRemainingRun sizes playback run plan last keep other
-    → left.from_unit ≤ other.from_unit
-from-once {left} {other} {plan} {last} {keep} is its =
-    let stops = stop-one plan last keep is.stop_is its.stop_is in
-    elim (cases_lt other.from_unit left.from_unit) [
-      | inl less ↦ let used = is.used other.from_unit its.not_back less in
-          absurd (omega (arith, used, its.unused, stops))
-      | inr more ↦ more
-    ]
 
 abbrev run-with : ℕ → ℕ → ℕ → ℕ → ℕ → Run
 run-with first end from sent played =
@@ -68,11 +58,20 @@ pub left-one : {sizes : List ℕ} {playback : Playback} {run left other : Run} {
     → IsRemainingRun sizes playback run plan last keep left → IsRemainingRun sizes playback run plan last keep other →
     other ≡ left
 left-one {sizes} {playback} {run} {plan} {last} {keep} is its =
-    let stops = stop-one plan last keep its.stop_is is.stop_is in
+    let stops = stop-one plan last keep (its.stop_is, is.stop_is) in
     let below = from-once is its in
     let above = from-once its is in
     run-same (its.first_is ∙ sym is.first_is) (its.end_is ∙ sym is.end_is) (omega arith) (its.sent_is ∙ sym is.sent_is)
     (its.played_is ∙ ap (used_before (rest_sizes sizes run) (timing_of playback run)) stops ∙ sym is.played_is)
+  where
+    from-once : {a b : Run} → IsRemainingRun sizes playback run plan last keep a
+        → IsRemainingRun sizes playback run plan last keep b → a.from_unit ≤ b.from_unit
+    from-once {a} {b} is its =
+        let stops = stop-one plan last keep (is.stop_is, its.stop_is) in
+        elim (cases_lt b.from_unit a.from_unit) [
+          | inl less ↦ let used = is.used b.from_unit its.not_back less in absurd (omega (arith, used, its.unused, stops))
+          | inr more ↦ more
+        ]
 
 -- a plan of some slots has sent all its bytes by the end of the last one
 record HasSentAll (plan : List Segment) : Type 0 where
@@ -80,10 +79,12 @@ record HasSentAll (plan : List Segment) : Type 0 where
   pub end : total_bytes plan ≤ sum_through plan (total_slots plan - 1)
 
 -- the slot of the stop is one of the plan
-stop-inside : {stop : ℕ} (plan : List Segment) (last : Option ℕ) (keep : ℕ) → HasSentAll plan → IsHalt plan last keep
-    → IsStop plan last keep stop → stop < total_slots plan
-stop-inside {stop} plan None keep all halt is = omega (arith, all.some)
-stop-inside {stop} plan (Some last) keep all halt is =
+stop-inside : {stop : ℕ} (plan : List Segment) (last : Option ℕ) (keep : ℕ) → HasSentAll plan
+    → IsHalt plan last keep × IsStop plan last keep stop → stop < total_slots plan
+stop-inside plan None keep all stops = omega (arith, all.some, stops.1)
+stop-inside {stop} plan (Some last) keep all stops =
+    let halt = stops.0 in
+    let is = stops.1 in
     elim (cases_lt (total_slots plan - 1) is.0) [
       | inl past ↦ let h = is.1.0.not_before (total_slots plan - 1) past in absurd (omega (arith, h, all.end, halt.2))
       | inr within ↦ omega (arith, halt.0, is.1.1)
@@ -108,7 +109,7 @@ halted-plays sizes playback run plan is = λ last keep left halt its.
     let sum_at = ap (sum_through plan) last_slot in
     let end : total_bytes plan ≤ sum_through plan (total_slots plan - 1) =
     omega (arith, above, whole_use, use_at, sum_at, keeps.bytes) in
-    let inside = stop-inside plan last keep (record { some = some; end = end }) halt its.stop_is in
+    let inside = stop-inside plan last keep (record { some = some; end = end }) (halt, its.stop_is) in
     let within : left.from_unit < run.end_unit =
     elim (cases_lt left.from_unit run.end_unit) [
       | inl less ↦ less
@@ -118,12 +119,16 @@ halted-plays sizes playback run plan is = λ last keep left halt its.
           let same = ap (due_slot timing) last_picture in
           absurd (omega (arith, used, same, keeps.slots, inside))
     ] in
-    let h : IsHalting sizes playback run plan last keep = record {
-      plays = can.playback_is;
-      is = can.run_is;
-      fits = can.fits;
-      few = can.sizes_are.few;
-      small = can.sizes_are.small;
+    let play : HaltedPlay =
+    record { sizes = sizes; playback = playback; run = run; plan = plan; last = last; keep = keep } in
+    let h : IsHalting play = record {
+      can = record {
+        plays = can.playback_is;
+        is = can.run_is;
+        fits = can.fits;
+        few = can.sizes_are.few;
+        small = can.sizes_are.small;
+      };
       planned = is.plan_is;
       halt = halt;
     } in

@@ -10,11 +10,13 @@ use Rattle.film_run.proofs.pauses.run_after.Goals as goal
 pub loop-left-init : goal.loop-left-init
 loop-left-init g c = record {
   halting = record {
-    plays = c.requires.playback;
-    is = c.requires.run;
-    fits = c.requires.fits;
-    few = c.count-count.ensures.few;
-    small = c.count-count.ensures.small;
+    can = record {
+      plays = c.requires.playback;
+      is = c.requires.run;
+      fits = c.requires.fits;
+      few = c.count-count.ensures.few;
+      small = c.count-count.ensures.small;
+    };
     planned = c.requires.plan;
     halt = c.requires.halt;
   };
@@ -49,7 +51,7 @@ loop-left-preserved g c =
       from = omega arith;
       rest =
           goes-on c.loop-left.left.from_unit c.loop-left.invariant.halting
-          c.loop-left.invariant.from c.loop-left.invariant.rest c.stop_slot-stop.ensures.inside used;
+          c.loop-left.invariant.from c.loop-left.invariant.rest (omega (arith, c.stop_slot-stop.ensures.inside, used));
       played = omega (arith, more, c.loop-left.invariant.played, c.wire_size.ensures);
       used = λ unit from less.
           elim (cases_lt unit c.loop-left.left.from_unit) [
@@ -84,7 +86,7 @@ returns g c =
       sent_is = ap (λ s. s + c.args.keep) c.loop-left.invariant.sent_is;
       stop = c.stop_slot-stop.result;
       stop_is = c.stop_slot-stop.ensures.stop;
-      played_is = c.loop-left.invariant.played ∙ played-by c.requires.playback c.requires.run to;
+      played_is = c.loop-left.invariant.played ∙ played-by c.loop-left.invariant.halting to;
       not_back = c.loop-left.invariant.from;
       used = c.loop-left.invariant.used;
       unused = unused;

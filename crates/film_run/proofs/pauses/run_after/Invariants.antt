@@ -7,7 +7,14 @@ use Rattle.film_run.proofs.pauses.run_after.Given as goal
 
 abbrev pub invariant-loop-left : goal.invariant-loop-left
 invariant-loop-left g l = record {
-  halting : IsHalting (g.U.Units.sizes l.units) l.playback l.run l.plan l.fn.last l.keep;
+  halting : IsHalting (record {
+    sizes = g.U.Units.sizes l.units;
+    playback = l.playback;
+    run = l.run;
+    plan = l.plan;
+    last = l.fn.last;
+    keep = l.keep;
+  });
   first_is : l.left.first_unit ≡ l.run.first_unit;
   end_is : l.left.end_unit ≡ l.run.end_unit;
   sent_is : l.left.sent ≡ l.run.sent;
