@@ -1,6 +1,6 @@
 -- Boundaries as numbers, and the invariant of a step.
 use Rattle.std.proofs.Common.{◌≡◌, ℕ, zero, suc, ◌+◌, ◌-◌, ◌^◌, ◌<◌, ◌≤◌, List, [], ◌∷◌, length, take, sum, min, max}
-use Rattle.std.proofs.Common.{drop, Option, Bool, true, false, cond, refl, sym, ap, subst, ◌∙◌, arith, inl, inr}
+use Rattle.std.proofs.Common.{drop, Option, Bool, true, false, cond, eqb, refl, sym, ap, subst, ◌∙◌, arith, inl, inr}
 use Rattle.std.proofs.lemmas.List.{length-append, length-take, take-take}
 use Rattle.std.proofs.lemmas.List.Concat.{flat_map-cons}
 use Rattle.std.proofs.lemmas.List.Sums.{sum_by-take-le}
@@ -22,43 +22,6 @@ framed-cons : (piece : List ℕ) (pieces : List (List ℕ))
 framed-cons piece pieces =
     ap length (flat_map-cons (λ (p : List ℕ). p) piece pieces) ∙ length-append piece (framed_bytes pieces)
 
--- the least boundary past a first piece
-least-cons : {pieces : List (List ℕ)} {at other : ℕ} (piece : List ℕ) (place : ℕ) → 0 < at
-    → ((x : ℕ) → IsBoundary pieces x → at - length piece ≤ x → place ≤ x)
-    → IsBoundary (piece ∷ pieces) other → at ≤ other → length piece + place ≤ other
-least-cons {pieces} {at} {other} piece place some least boundary after =
-    numbered boundary.number boundary.among boundary.place_is
-  where
-    numbered : (number : ℕ) → number ≤ length (piece ∷ pieces) → other ≡ begin_of (piece ∷ pieces) number
-        → length piece + place ≤ other
-    numbered zero among is = absurd (omega (arith, some, is, after))
-    numbered (suc k) among is =
-        let begins = begin-cons piece pieces k in
-        let h = least (begin_of pieces k) (record { number = k; among = omega (arith, among); place_is = refl })
-        (omega (arith, begins, is, after)) in
-        omega (arith, h, begins, is)
-
--- the choice between the place and what the rest of the pieces give
-boundary-cons : {piece : List ℕ} {pieces : List (List ℕ)} {at : ℕ} {b : Bool} → (b ≡ true → at ≡ 0)
-    → (b ≡ false → 0 < at)
-    → IsBoundaryAfter pieces (at - length piece) (boundary_from pieces (at - length piece))
-    → IsBoundaryAfter (piece ∷ pieces) at (cond b 0 (length piece + boundary_from pieces (at - length piece)))
-boundary-cons {piece} {pieces} {at} {b = true} none some rest =
-    let P : ℕ → Type 0 = λ n. IsBoundaryAfter (piece ∷ pieces) n 0 in
-    subst P (sym (none refl)) (boundary-zero (piece ∷ pieces))
-boundary-cons {piece} {pieces} {at} {b = false} none some rest =
-    let place = boundary_from pieces (at - length piece) in
-    let its : IsBoundary pieces place = rest.boundary in
-    record {
-      boundary = record {
-        number = suc its.number;
-        among = omega (arith, its.among);
-        place_is = ap (λ n. length piece + n) its.place_is ∙ sym (begin-cons piece pieces its.number);
-      };
-      after = omega (arith, rest.after);
-      least = λ other b h. least-cons piece place (some refl) rest.least b h;
-    }
-
 pub boundary-from : (pieces : List (List ℕ)) (at : ℕ) → at ≤ length (framed_bytes pieces)
     → IsBoundaryAfter pieces at (boundary_from pieces at)
 boundary-from [] at within = record {
@@ -67,8 +30,39 @@ boundary-from [] at within = record {
   least = λ other b h. omega arith;
 }
 boundary-from (piece ∷ pieces) at within =
-    boundary-cons (eqb-true at 0) (λ no. let h : at ≡ 0 → ⊥ = eqb-false at 0 no in omega arith)
-    (boundary-from pieces (at - length piece) (omega (arith, within, framed-cons piece pieces)))
+    by-case (eqb at 0) refl (boundary-from pieces (at - length piece) (omega (arith, within, framed-cons piece pieces)))
+  where
+    place : ℕ
+    place = boundary_from pieces (at - length piece)
+
+    -- the least boundary past the first piece
+    least : 0 < at → IsBoundaryAfter pieces (at - length piece) place → (other number : ℕ)
+        → other ≡ begin_of (piece ∷ pieces) number → (number ≤ length (piece ∷ pieces)) × (at ≤ other)
+        → length piece + place ≤ other
+    least some rest other zero is known = absurd (omega (arith, some, is, known.1))
+    least some rest other (suc k) is known =
+        let begins = begin-cons piece pieces k in
+        let h = rest.least (begin_of pieces k)
+        (record { number = k; among = omega (arith, known.0); place_is = refl }) (omega (arith, begins, is, known.1)) in
+        omega (arith, h, begins, is)
+
+    by-case : (b : Bool) → eqb at 0 ≡ b → IsBoundaryAfter pieces (at - length piece) place
+        → IsBoundaryAfter (piece ∷ pieces) at (cond b 0 (length piece + place))
+    by-case true e rest =
+        subst (λ n. IsBoundaryAfter (piece ∷ pieces) n 0) (sym (eqb-true at 0 e)) (boundary-zero (piece ∷ pieces))
+    by-case false e rest =
+        let its : IsBoundary pieces place = rest.boundary in
+        let none = eqb-false at 0 e in
+        let some : 0 < at = omega (arith, none) in
+        record {
+          boundary = record {
+            number = suc its.number;
+            among = omega (arith, its.among);
+            place_is = ap (λ n. length piece + n) its.place_is ∙ sym (begin-cons piece pieces its.number);
+          };
+          after = omega (arith, rest.after);
+          least = λ other b h. least some rest other b.number b.place_is (b.among, h);
+        }
 
 -- it is the only one
 pub boundary-is : (pieces : List (List ℕ)) (at place : ℕ) → at ≤ length (framed_bytes pieces)

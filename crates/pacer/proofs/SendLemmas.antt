@@ -12,57 +12,51 @@ use Rattle.pacer.specs.Boundaries.{IsSeam, bytes_between}
 use Rattle.pacer.specs.PartialSends.{HasStopped}
 
 -- bytes, and further ones
-pub sends-more : {middle new : Option (List IoEvent)} (old : Option (List IoEvent)) (a b : List ℕ)
-    → middle ≡ told_more old (sends a) → new ≡ told_more middle (sends b)
-    → new ≡ told_more old (sends (a ++ b))
-sends-more {new} old a b first then =
-    then ∙ ap (λ (t : Option (List IoEvent)). told_more t (sends b)) first ∙ told_more-append old (sends a) (sends b)
-    ∙ ap (λ (l : List IoEvent). told_more old l) (sym (map-append Sent a b))
+pub sends-more : (old : Option (List IoEvent)) (a b : List ℕ)
+    → told_more (told_more old (sends a)) (sends b) ≡ told_more old (sends (a ++ b))
+sends-more old a b =
+    told_more-append old (sends a) (sends b) ∙ ap (λ (l : List IoEvent). told_more old l) (sym (map-append Sent a b))
 
 -- the first bytes of a head and of the payload after it, so many in all
-pub record AreFirst (most : ℕ) (head payload first then : List ℕ) : Type 0 where
+pub record FirstBytes : Type 0 where
+  pub most : ℕ
+  pub head : List ℕ
+  pub payload : List ℕ
+  pub first : List ℕ
+  pub then : List ℕ
   pub of_head : first ≡ take most head
   pub of_payload : then ≡ take (most - length first) payload
 
-take-first : {c d : List ℕ} (most : ℕ) (a b : List ℕ) → c ≡ take most a → d ≡ take (most - length c) b
-    → take most (a ++ b) ≡ c ++ d
-take-first {c} most a b first then =
-    elim (cases_lt (length a) most) [
+abbrev pub first_of : FirstBytes → List ℕ
+first_of f = take f.most (f.head ++ f.payload)
+
+pub take-both : (f : FirstBytes) → first_of f ≡ f.first ++ f.then
+take-both f =
+    elim (cases_lt (length head) most) [
       | inl l ↦
-          let whole : take most a ≡ a = take_all most a (omega arith) in
-          let same : c ≡ a = first ∙ whole in
-          let count : most ≡ length a + (most - length c) = omega (arith, ap length same, l) in
-          ap (λ n. take n (a ++ b)) count ∙ take-append-add a b (most - length c)
-          ∙ ap (λ (l : List ℕ). l ++ take (most - length c) b) (sym same) ∙ ap (λ (l : List ℕ). c ++ l) (sym then)
+          let same : first ≡ head = f.of_head ∙ take_all most head (omega arith) in
+          let count : most ≡ length head + (most - length first) = omega (arith, ap length same, l) in
+          ap (λ n. take n (head ++ payload)) count ∙ take-append-add head payload (most - length first)
+          ∙ ap (λ (l : List ℕ). l ++ take (most - length first) payload) (sym same)
+          ∙ ap (λ (l : List ℕ). first ++ l) (sym f.of_payload)
       | inr g ↦
-          let count : most - length c ≡ 0 = omega (arith, ap length first, length-take most a, g) in
-          take-append-le most a b g ∙ sym first ∙ sym (append-nil c) ∙ ap (λ n. c ++ take n b) (sym count)
-          ∙ ap (λ (l : List ℕ). c ++ l) (sym then)
+          let count : most - length first ≡ 0 = omega (arith, ap length f.of_head, length-take most head, g) in
+          take-append-le most head payload g ∙ sym f.of_head ∙ sym (append-nil first)
+          ∙ ap (λ n. first ++ take n payload) (sym count) ∙ ap (λ (l : List ℕ). first ++ l) (sym f.of_payload)
     ]
+  where
+    open f use {most, head, payload, first}
 
-pub take-both : {most : ℕ} {head payload first then : List ℕ} → AreFirst most head payload first then
-    → take most (head ++ payload) ≡ first ++ then
-take-both {most} {head} {payload} are = take-first most head payload are.of_head are.of_payload
-
-take-size : {most : ℕ} {head payload first then : List ℕ} → AreFirst most head payload first then
-    → length (take most (head ++ payload)) ≡ length first + length then
-take-size {first} {then} are = ap length (take-both are) ∙ length-append first then
-
--- bytes in two sends
-pub both-sent : {middle new : Option (List IoEvent)} {all : List ℕ} (old : Option (List IoEvent))
-    (first then : List ℕ) → all ≡ first ++ then → middle ≡ told_more old (sends first)
-    → new ≡ told_more middle (sends then) → new ≡ told_more old (sends all)
-both-sent {new} {all} old first then are one other =
-    sends-more old first then one other ∙ ap (λ (l : List ℕ). told_more old (sends l)) (sym are)
+take-size : (f : FirstBytes) → length (first_of f) ≡ length f.first + length f.then
+take-size f = ap length (take-both f) ∙ length-append f.first f.then
 
 -- the head's send failed
-pub head-stopped : {old new : Option (List IoEvent)} {most : ℕ} {head payload first then : List ℕ}
-    → AreFirst most head payload first then → IsSentPrefix old new first → 0 < length first
-    → HasStopped (λ place. place ≡ length head) (take most (head ++ payload)) old new 0
-head-stopped {old} {most} {head} {payload} {first} {then} are front some =
+pub head-stopped : {old new : Option (List IoEvent)} (f : FirstBytes) → IsSentPrefix old new f.first → 0 < length f.first
+    → HasStopped (λ place. place ≡ length f.head) (first_of f) old new 0
+head-stopped {old} f front some =
     let out = front.0 in
-    let size = take-size are in
-    let within : length first ≤ length head = omega (arith, ap length are.of_head, length-take most head) in
+    let size = take-size f in
+    let within : length f.first ≤ length f.head = omega (arith, ap length f.of_head, length-take f.most f.head) in
     record {
       before_end = omega (arith, size, some);
       out = out;
@@ -71,36 +65,35 @@ head-stopped {old} {most} {head} {payload} {first} {then} are front some =
       one_send = λ seam is less. omega (arith, is, front.1.0, within);
       told = front.1.1
           ∙ ap (λ (l : List ℕ). told_more old (sends l))
-          (sym (take-append-le out first then front.1.0) ∙ ap (λ (l : List ℕ). take out l) (sym (take-both are)));
+          (sym (take-append-le out f.first f.then front.1.0) ∙ ap (λ (l : List ℕ). take out l) (sym (take-both f)));
     }
 
 -- the payload's send failed: then the head was sent to its end
-pub payload-stopped : {old middle new : Option (List IoEvent)} {most : ℕ} {head payload first then : List ℕ}
-    → AreFirst most head payload first then → middle ≡ told_more old (sends first)
-    → IsSentPrefix middle new then → 0 < length then
-    → HasStopped (λ place. place ≡ length head) (take most (head ++ payload)) old new (length first)
-payload-stopped {old} {most} {head} {payload} {first} {then} are one front some =
+pub payload-stopped : {old new : Option (List IoEvent)} (f : FirstBytes)
+    → IsSentPrefix (told_more old (sends f.first)) new f.then → 0 < length f.then
+    → HasStopped (λ place. place ≡ length f.head) (first_of f) old new (length f.first)
+payload-stopped {old} f front some =
     let out = front.0 in
-    let size = take-size are in
-    let all : length head ≤ length first =
+    let size = take-size f in
+    let all : length f.head ≤ length f.first =
     omega (
       arith,
       some,
-      ap length are.of_head,
-      length-take most head,
-      ap length are.of_payload,
-      length-take (most - length first) payload,
+      ap length f.of_head,
+      length-take f.most f.head,
+      ap length f.of_payload,
+      length-take (f.most - length f.first) f.payload,
     ) in
     record {
       before_end = omega (arith, size, some);
-      out = length first + out;
+      out = length f.first + out;
       out_least = omega arith;
       out_most = omega (arith, front.1.0, size);
       one_send = λ seam is less. absurd (omega (arith, is, less, all));
-      told = sends-more old first (take out then) one front.1.1
+      told = front.1.1 ∙ sends-more old f.first (take out f.then)
           ∙ ap (λ (l : List ℕ). told_more old (sends l))
-          (sym (take-append-add first then out)
-          ∙ ap (λ (l : List ℕ). take (length first + out) l) (sym (take-both are)));
+          (sym (take-append-add f.first f.then out)
+          ∙ ap (λ (l : List ℕ). take (length f.first + out) l) (sym (take-both f)));
     }
 
 -- ---- bytes of a track
@@ -143,33 +136,33 @@ next-are pieces at most next is =
           same ∙ take-take most (length next) rest g ∙ ap (λ n. take n rest) (sym (span ∙ least))
     ]
 
--- one part more was sent
-pub more-sent : {pieces : List (List ℕ)} {at : ℕ} {next : List ℕ} {middle new : Option (List IoEvent)} {from : ℕ}
-    (most : ℕ) (old : Option (List IoEvent)) → IsNext pieces at next → from ≤ at
-    → middle ≡ told_more old (sends (bytes_between pieces from at)) → new ≡ told_more middle (sends (take most next))
-    → new ≡ told_more old (sends (bytes_between pieces from (at + min (length next) most)))
-more-sent {pieces} {at} {next} {new} {from} most old is order first then =
-    sends-more old (bytes_between pieces from at) (take most next) first then
-    ∙ ap (λ (l : List ℕ). told_more old (sends l))
-    (ap (λ (l : List ℕ). bytes_between pieces from at ++ l) (next-are pieces at most next is)
-    ∙ between-join pieces from at (at + min (length next) most) order (omega arith))
-
 -- where a track's bytes go out from one place to another, and were sent up to `at`, its part there: the
 -- head and the payload that come next
-pub record IsPartAt (pieces : List (List ℕ)) (from to at : ℕ) (head payload : List ℕ) : Type 0 where
-  pub order : from ≤ at
-  pub before_end : at ≤ to
-  pub within : to ≤ length (framed_bytes pieces)
-  pub next : IsNext pieces at (head ++ payload)
-  pub split : IsSplit pieces at (length head) (length payload)
+pub record TrackPart : Type 0 where
+  pub pieces : List (List ℕ)
+  pub from : ℕ
+  pub to : ℕ
+  pub at : ℕ
+  pub head : List ℕ
+  pub payload : List ℕ
+
+pub record IsPartAt (p : TrackPart) : Type 0 where
+  pub order : p.from ≤ p.at
+  pub before_end : p.at ≤ p.to
+  pub within : p.to ≤ length (framed_bytes p.pieces)
+  pub next : IsNext p.pieces p.at (p.head ++ p.payload)
+  pub split : IsSplit p.pieces p.at (length p.head) (length p.payload)
+
+-- what is to go out of it
+abbrev pub part_bytes : TrackPart → List ℕ
+part_bytes p = take (p.to - p.at) (p.head ++ p.payload)
 
 -- what went out of a part that failed, after the bytes before it
-part-out : {pieces : List (List ℕ)} {from to at : ℕ} {head payload : List ℕ} (out : ℕ)
-    → IsPartAt pieces from to at head payload → out ≤ length (take (to - at) (head ++ payload))
-    → bytes_between pieces from at ++ take out (take (to - at) (head ++ payload))
-    ≡ take (at - from + out) (bytes_between pieces from to)
-part-out {pieces} {from} {to} {at} {head} {payload} out part within =
-    let next = head ++ payload in
+part-out : (p : TrackPart) (out : ℕ) → IsPartAt p → out ≤ length (part_bytes p)
+    → bytes_between p.pieces p.from p.at ++ take out (part_bytes p)
+    ≡ take (p.at - p.from + out) (bytes_between p.pieces p.from p.to)
+part-out p out part within =
+    let next = p.head ++ p.payload in
     let most = to - at in
     let end = at + min (length next) most in
     let order : from ≤ at = part.order in
@@ -183,59 +176,57 @@ part-out {pieces} {from} {to} {at} {head} {payload} out part within =
     ∙ between-join pieces from at (at + out) order (omega arith)
     ∙ ap (λ n. take n (drop from (framed_bytes pieces))) (omega (arith, order))
     ∙ sym (take-take (at - from + out) (to - from) (drop from (framed_bytes pieces)) (omega (arith, order, then, size)))
-
--- where a part failed, it is within one send
-part-one_send : {pieces : List (List ℕ)} {from to at whole : ℕ} {head payload : List ℕ}
-    {middle new : Option (List IoEvent)} → IsPartAt pieces from to at head payload
-    → (stopped : HasStopped (λ place. place ≡ length head) (take (to - at) (head ++ payload)) middle new whole)
-    → (place : ℕ) → IsSeam pieces (from + place) → at - from + whole < place → at - from + stopped.out ≤ place
-part-one_send {from} {to} {at} {head} {payload} part stopped place (inl boundary) less =
-    let order : from ≤ at = part.order in
-    omega (
-      arith,
-      part.next.one_piece (from + place) boundary (omega (arith, order, less)),
-      stopped.out_most,
-      length-take (to - at) (head ++ payload),
-      order,
-    )
-part-one_send {from} {to} {at} {head} {payload} part stopped place (inr end) less =
-    let order : from ≤ at = part.order in
-    elim (cases_lt (from + place) (at + length head + length payload)) [
-      | inl l ↦
-          let here : from + place ≡ at + length head =
-          part.split.only (from + place) end (omega (arith, order, less)) l in
-          omega (arith, here, order, stopped.one_send (length head) refl (omega (arith, here, order, less)))
-      | inr g ↦
-          let next = head ++ payload in
-          omega (
-            arith,
-            g,
-            order,
-            length-append head payload,
-            stopped.out_most,
-            length-take (to - at) next,
-          )
-    ]
+  where
+    open p use {pieces, from, to, at}
 
 -- a part failed
-pub part-stopped : {pieces : List (List ℕ)} {from to at : ℕ} {head payload : List ℕ}
-    {old middle new : Option (List IoEvent)} {whole : ℕ} → IsPartAt pieces from to at head payload
-    → middle ≡ told_more old (sends (bytes_between pieces from at))
-    → HasStopped (λ place. place ≡ length head) (take (to - at) (head ++ payload)) middle new whole
-    → HasStopped (λ place. IsSeam pieces (from + place)) (bytes_between pieces from to) old new (at - from + whole)
-part-stopped {pieces} {from} {to} {at} {head} {payload} {old} part first stopped =
-    let sent = take (to - at) (head ++ payload) in
-    let size : length sent ≤ to - at = omega (arith, length-take (to - at) (head ++ payload)) in
+pub part-stopped : {p : TrackPart} {old new : Option (List IoEvent)} {whole : ℕ} → IsPartAt p
+    → HasStopped (λ place. place ≡ length p.head) (part_bytes p)
+    (told_more old (sends (bytes_between p.pieces p.from p.at))) new whole
+    → HasStopped (λ place. IsSeam p.pieces (p.from + place)) (bytes_between p.pieces p.from p.to) old new
+    (p.at - p.from + whole)
+part-stopped {p} {old} {new} {whole} part stopped =
+    let size : length (part_bytes p) ≤ to - at = omega (arith, length-take (to - at) (head ++ payload)) in
     let order : from ≤ at = part.order in
     let then : at ≤ to = part.before_end in
     let all = between-length pieces from to (omega (arith, order, then)) part.within in
-    let out = stopped.out in
     record {
       before_end = omega (arith, stopped.before_end, size, all, order, then);
-      out = at - from + out;
+      out = at - from + stopped.out;
       out_least = omega (arith, stopped.out_least);
       out_most = omega (arith, stopped.out_most, size, all, order, then);
-      one_send = part-one_send part stopped;
-      told = sends-more old (bytes_between pieces from at) (take out sent) first stopped.told
-          ∙ ap (λ (l : List ℕ). told_more old (sends l)) (part-out out part stopped.out_most);
+      one_send = one_send;
+      told = stopped.told ∙ sends-more old (bytes_between pieces from at) (take stopped.out (part_bytes p))
+          ∙ ap (λ (l : List ℕ). told_more old (sends l)) (part-out p stopped.out part stopped.out_most);
     }
+  where
+    open p use {pieces, from, to, at, head, payload}
+
+    -- where it failed, it is within one send
+    one_send : (place : ℕ) → IsSeam pieces (from + place) → at - from + whole < place → at - from + stopped.out ≤ place
+    one_send place (inl boundary) less =
+        let order : from ≤ at = part.order in
+        omega (
+          arith,
+          part.next.one_piece (from + place) boundary (omega (arith, order, less)),
+          stopped.out_most,
+          length-take (to - at) (head ++ payload),
+          order,
+        )
+    one_send place (inr end) less =
+        let order : from ≤ at = part.order in
+        elim (cases_lt (from + place) (at + length head + length payload)) [
+          | inl l ↦
+              let here : from + place ≡ at + length head =
+              part.split.only (from + place) end (omega (arith, order, less)) l in
+              omega (arith, here, order, stopped.one_send (length head) refl (omega (arith, here, order, less)))
+          | inr g ↦
+              omega (
+                arith,
+                g,
+                order,
+                length-append head payload,
+                stopped.out_most,
+                length-take (to - at) (head ++ payload),
+              )
+        ]
