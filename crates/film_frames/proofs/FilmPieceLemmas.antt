@@ -61,22 +61,18 @@ pub record AreUnits (end : ℕ) (starts : List ℕ) (units : List PictureUnit) (
   pub laid : AreLaid end starts units
   pub chained : AreChained from units to
 
-pub later-units : {end : ℕ} {starts : List ℕ} {unit : PictureUnit} {units : List PictureUnit} {from to : ℕ}
-    → AreUnits end starts (unit ∷ units) from to → AreUnits end starts units unit.to to
-later-units are = record { laid = are.laid.1; chained = are.chained.1 }
-
 pub units-le : {end : ℕ} {starts : List ℕ} {units : List PictureUnit} {from to : ℕ} → AreUnits end starts units from to
     → from ≤ to
 units-le {units = []} are = omega (arith, are.chained)
 units-le {starts} {units = unit ∷ units} are =
-    omega (arith, are.chained.0, unit-le starts unit are.laid.0.1, units-le {units = units} (later-units are))
+    omega (arith, are.chained.0, unit-le starts unit are.laid.0.1, units-le {units = units} (record { laid = are.laid.1; chained = are.chained.1 }))
 
 pub units-bound : {end : ℕ} {starts : List ℕ} {units : List PictureUnit} {from to : ℕ}
     → AreUnits end starts units from to
     → sum (map (λ u. wire_size starts u) units) + 2 * from ≤ 2 * to + 112 * length units
 units-bound {units = []} are = omega (arith, are.chained)
 units-bound {starts} {units = unit ∷ units} are =
-    let rest = units-bound {units = units} (later-units are) in
+    let rest = units-bound {units = units} (record { laid = are.laid.1; chained = are.chained.1 }) in
     omega (
       arith,
       rest,

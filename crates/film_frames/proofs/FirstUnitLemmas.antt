@@ -71,57 +71,66 @@ pub packets-begun : (film : Film) (number : ℕ) (unit : PictureUnit) (packets :
     → front_pieces film number ++ unit_reports unit ≡ before_packet film number unit packets 0
 packets-begun film number unit packets = sym (append-nil (front_pieces film number ++ unit_reports unit))
 
-pub packets-more : {i : ℕ} (film : Film) (number : ℕ) (unit : PictureUnit) (packets : List Packet)
-    (some : Packet) → i < length packets
-    → before_packet film number unit packets i ++ Frame unit (get_or packets i some) ∷ []
-    ≡ before_packet film number unit packets (i + 1)
-packets-more {i} film number unit packets some h =
-    append_assoc (front_pieces film number ++ unit_reports unit) (map (λ p. Frame unit p) (take i packets))
-    (Frame unit (get_or packets i some) ∷ [])
-    ∙ ap (λ l. (front_pieces film number ++ unit_reports unit) ++ l)
-    (sym (map_more (λ p. Frame unit p) packets i some h))
+-- a unit of a film, with its packets
+pub record PackedUnit : Type 0 where
+  pub film : Film
+  pub number : ℕ
+  pub unit : PictureUnit
+  pub packets : List Packet
+  pub at : slice_get film.units.items number ≡ Some unit
+  pub is : packets ≡ unit_packets film.slice_starts.items unit
 
-pub packets-all : {unit : PictureUnit} {packets : List Packet} (film : Film) (number i : ℕ)
-    → slice_get film.units.items number ≡ Some unit → packets ≡ unit_packets film.slice_starts.items unit
-    → length packets ≤ i → before_packet film number unit packets i ≡ front_pieces film (number + 1)
-packets-all {unit} {packets} film number i at is h =
+abbrev pub before_its : PackedUnit → ℕ → List Piece
+before_its u i = before_packet u.film u.number u.unit u.packets i
+
+pub packets-more : (u : PackedUnit) (i : ℕ) (some : Packet) → i < length u.packets
+    → before_its u i ++ Frame u.unit (get_or u.packets i some) ∷ [] ≡ before_its u (i + 1)
+packets-more u i some h =
+    append_assoc (front_pieces u.film u.number ++ unit_reports u.unit) (map (λ p. Frame u.unit p) (take i u.packets))
+    (Frame u.unit (get_or u.packets i some) ∷ [])
+    ∙ ap (λ l. (front_pieces u.film u.number ++ unit_reports u.unit) ++ l)
+    (sym (map_more (λ p. Frame u.unit p) u.packets i some h))
+
+pub packets-all : (u : PackedUnit) (i : ℕ) → length u.packets ≤ i → before_its u i ≡ front_pieces u.film (u.number + 1)
+packets-all u i h =
     ap (λ (l : List Packet). (front_pieces film number ++ unit_reports unit) ++ map (λ p. Frame unit p) l)
-    (take_all i packets h ∙ is)
+    (take_all i packets h ∙ u.is)
     ∙ append_assoc (front_pieces film number) (unit_reports unit)
     (map (λ p. Frame unit p) (unit_packets film.slice_starts.items unit))
-    ∙ sym (front-more film number unit at)
+    ∙ sym (front-more film number unit u.at)
+  where
+    open u use {film, number, unit, packets}
 
-pub packets-bound : {unit : PictureUnit} {packets : List Packet} (film : Film) (number i : ℕ)
-    → slice_get film.units.items number ≡ Some unit → packets ≡ unit_packets film.slice_starts.items unit
-    → wire_in (before_packet film number unit packets i) ≤ 2 ^ 42
-packets-bound {unit} {packets} film number i at is =
+pub packets-bound : (u : PackedUnit) (i : ℕ) → wire_in (before_its u i) ≤ 2 ^ 42
+packets-bound u i =
     let rest = map (λ p. Frame unit p) (drop i packets) in
-    let all : before_packet film number unit packets i ++ rest
-    ≡ before_packet film number unit packets (length packets) =
+    let all : before_its u i ++ rest ≡ before_its u (length packets) =
     append_assoc (front_pieces film number ++ unit_reports unit) (map (λ p. Frame unit p) (take i packets)) rest
     ∙ ap (λ l. (front_pieces film number ++ unit_reports unit) ++ l)
     (sym (map-append (λ p. Frame unit p) (take i packets) (drop i packets))
     ∙ ap (λ (l : List Packet). map (λ p. Frame unit p) l)
     (take-append-drop i packets ∙ sym (take_all (length packets) packets (omega arith)))) in
-    let wire : wire_in (before_packet film number unit packets i ++ rest) ≡ wire_in (front_pieces film (number + 1)) =
-    ap (λ l. wire_in l) (all ∙ packets-all film number (length packets) at is (omega arith)) in
-    omega (arith, wire, wire-append (before_packet film number unit packets i) rest, front-bound film (number + 1))
+    let wire : wire_in (before_its u i ++ rest) ≡ wire_in (front_pieces film (number + 1)) =
+    ap (λ l. wire_in l) (all ∙ packets-all u (length packets) (omega arith)) in
+    omega (arith, wire, wire-append (before_its u i) rest, front-bound film (number + 1))
+  where
+    open u use {film, number, unit, packets}
 
-pub packet-sound : {unit : PictureUnit} {packets : List Packet} {i : ℕ} (film : Film) (number : ℕ)
-    (some : Packet) → slice_get film.units.items number ≡ Some unit
-    → packets ≡ unit_packets film.slice_starts.items unit → i < length packets
-    → IsSound film.bytes.items (Frame unit (get_or packets i some))
-packet-sound {unit} {packets} {i} film number some at is h =
-    let laid = laid-at (length film.bytes.items) film.slice_starts.items film.units.items number at (laid-film film) in
+pub packet-sound : (u : PackedUnit) (i : ℕ) (some : Packet) → i < length u.packets
+    → IsSound u.film.bytes.items (Frame u.unit (get_or u.packets i some))
+packet-sound u i some h =
+    let starts = film.slice_starts.items in
+    let laid = laid-at (length film.bytes.items) starts film.units.items u.number u.at (laid-film film) in
     let sound = sound-right film.bytes.items (unit_reports unit)
-    (map (λ p. Frame unit p) (unit_packets film.slice_starts.items unit))
-    (unit-sound film.bytes.items film.slice_starts.items unit laid.1 laid.0) in
+    (map (λ p. Frame unit p) (unit_packets starts unit)) (unit-sound film.bytes.items starts unit laid.1 laid.0) in
     let P : List Packet → Type 0 = λ l. AreSound film.bytes.items (map (λ p. Frame unit p) l) in
     let found : slice_get (map (λ p. Frame unit p) packets) i ≡ Some (Frame unit (get_or packets i some)) =
     let mapped = slice_get-map (λ p. Frame unit p) packets i in
     let got = slice_get-get_or packets i some h in cc in
     sound-at film.bytes.items (map (λ p. Frame unit p) packets) i (Frame unit (get_or packets i some)) found
-    (subst P (sym is) sound)
+    (subst P (sym u.is) sound)
+  where
+    open u use {film, unit, packets}
 
 -- ---- the report of a unit
 

@@ -1,6 +1,6 @@
 -- The next bytes of a run, from a place on.
 use Rattle.std.proofs.Common.{◌≡◌, ℕ, ◌+◌, ◌-◌, ◌<◌, ◌≤◌, List, [], ◌++◌, length, take, drop}
-use Rattle.std.proofs.Common.{get_or, sym, subst, ap, ◌∙◌, arith, inl, inr, Some, slice_get, min, max}
+use Rattle.std.proofs.Common.{get_or, refl, sym, subst, ap, ◌∙◌, arith, inl, inr, Some, slice_get, min, max}
 use Rattle.std.proofs.lemmas.Bool.{cases_lt}
 use Rattle.std.proofs.lemmas.List.{append-nil, drop-append-le, drop-drop, drop-take, length-drop}
 use Rattle.std.proofs.lemmas.List.{length-take-le, take_all}
@@ -35,36 +35,33 @@ pub count-among : (run : FramedRun) (at k : ℕ) → HaveEnded (run_pieces run) 
 count-among run at k have within =
     omega (arith, count_ended-within (run_pieces run) at k have within, blocks_from-count run 0 0 (pieces_in run))
 
-pub boundary-count_ended : {pieces : List (List ℕ)} {at k place : ℕ} → HaveEnded pieces (at - 1) k → 0 < at
-    → at ≤ length (framed_bytes pieces) → place ≡ begin_of pieces (k + 1) → IsBoundaryAfter pieces at place
-boundary-count_ended {pieces} {at} {k} {place} have some within is =
+pub boundary-count_ended : (pieces : List (List ℕ)) (at k : ℕ) → HaveEnded pieces (at - 1) k → 0 < at
+    → at ≤ length (framed_bytes pieces) → IsBoundaryAfter pieces at (begin_of pieces (k + 1))
+boundary-count_ended pieces at k have some within =
     let inside = count_ended-within pieces (at - 1) k have (omega (arith, some, within)) in
     record {
-      boundary = record { number = k + 1; among = omega (arith, inside); place_is = is };
-      after = omega (arith, have.next inside, is, some);
+      boundary = record { number = k + 1; among = omega (arith, inside); place_is = refl };
+      after = omega (arith, have.next inside, some);
       least = λ other b h.
           elim (cases_lt k b.number) [
-            | inl l ↦ omega (arith, begin-le pieces (k + 1) b.number (omega (arith, l)), b.place_is, is)
+            | inl l ↦ omega (arith, begin-le pieces (k + 1) b.number (omega (arith, l)), b.place_is)
             | inr g ↦ absurd (omega (arith, begin-le pieces b.number k g, b.place_is, have.last, h, some))
           ];
     }
 
--- the rest of the piece in which a place lies is next, and ends at a boundary
-pub rest-next : {pieces : List (List ℕ)} {at k : ℕ} {bytes : List ℕ} → HaveEnded pieces at k
-    → at < length (framed_bytes pieces) → bytes ≡ drop (at - begin_of pieces k) (get_or pieces k [])
-    → IsNext pieces at bytes × (at + length bytes ≡ begin_of pieces (k + 1))
-rest-next {pieces} {at} {k} {bytes} have within are =
+-- the rest of the piece in which a place lies is next
+pub rest-next : (pieces : List (List ℕ)) (at k : ℕ) → HaveEnded pieces at k → at < length (framed_bytes pieces)
+    → IsNext pieces at (drop (at - begin_of pieces k) (get_or pieces k []))
+rest-next pieces at k have within =
     let inside = count_ended-within pieces at k have within in
     let more = begin-more pieces k inside in
     let next = have.next inside in
-    let o = at - begin_of pieces k in
-    let piece = get_or pieces k [] in
+    let rest = drop (at - begin_of pieces k) (get_or pieces k []) in
     let n = begin_of pieces (k + 1) - at in
-    let count : length (drop o piece) ≡ n = omega (arith, length-drop o piece, more, next, have.last) in
-    let long : length bytes ≡ n = ap (λ (l : List ℕ). length l) are ∙ count in
-    let whole : bytes ≡ take n (drop o piece) = are ∙ sym (take_all n (drop o piece) (omega (arith, count))) in
+    let count : length rest ≡ n =
+    omega (arith, length-drop (at - begin_of pieces k) (get_or pieces k []), more, next, have.last) in
     let part : IsPart pieces k at n = record { among = inside; begins = have.last; ends = omega (arith, next) } in
-    (subst (IsNext pieces at) (sym whole) (next-found part (omega (arith, next))), omega (arith, long, next))
+    subst (IsNext pieces at) (take_all n rest (omega (arith, count))) (next-found part (omega (arith, next)))
 
 -- ---- the bytes of a report or a frame from a place on
 

@@ -23,7 +23,7 @@ use Rattle.film_frames.specs.FramedRuns.{pieces_in}
 use Rattle.film_frames.specs.Tracks.{framed_bytes}
 use Rattle.film_frames.proofs.TrackLemmas.{begin-all}
 use Rattle.film_frames.proofs.PieceLemmas.{AreSound, cover-le, pieces-cons, unit-le}
-use Rattle.film_frames.proofs.FilmPieceLemmas.{AreUnits, later-units, units-le}
+use Rattle.film_frames.proofs.FilmPieceLemmas.{AreUnits, units-le}
 use Rattle.film_frames.proofs.FilmPieceLemmas.{film-from, film-in_order, laid-film, units-wire}
 use Rattle.film_frames.proofs.RunBytesLemmas.{blocks_from-count}
 use Rattle.film_frames.proofs.RunPieceLemmas.{UnitSpan, IsRun, between, run-begin}
@@ -97,7 +97,7 @@ units-carry : {end : ℕ} {starts : List ℕ} {units : List PictureUnit} {from t
 unfolding carried
 units-carry {units = []} {from} {to} film are = range-none film from to are.chained
 units-carry {end} {starts} {units = unit ∷ units} {from} {to} film are =
-    let later = later-units are in
+    let later : AreUnits end starts units unit.to to = record { laid = are.laid.1; chained = are.chained.1 } in
     ap (λ (l : List Piece). carried film l) (pieces-cons starts unit units)
     ∙ carried-append film (unit_pieces starts unit) (pieces_of starts units)
     ∙ ap (λ (l : List ℕ). l ++ carried film (pieces_of starts units)) (unit-carries film starts unit are.laid.0.1)

@@ -18,7 +18,7 @@ use Rattle.film_frames.specs.Pieces.{count_of, film_pieces, frames_in, from_of, 
 use Rattle.film_frames.specs.Pieces.{unit_pieces, unit_reports, wire_in, wire_of}
 use Rattle.film_frames.proofs.PieceLemmas.{pieces-cons}
 use Rattle.film_frames.proofs.ReportIndexLemmas.{frames-few}
-use Rattle.film_frames.proofs.FilmPieceLemmas.{AreUnits, later-units, units-film, units-le}
+use Rattle.film_frames.proofs.FilmPieceLemmas.{AreUnits, units-film, units-le}
 use Rattle.film_frames.proofs.FilmPieceLemmas.{film-bound, film-from, film-in_order, film-wire}
 
 -- where the payload of a piece ends; a report has none
@@ -71,7 +71,7 @@ units-following {units = []} are = are.chained
 units-following {starts} {units = unit ∷ units} {to} are =
     let both : DoBothFollow unit.from unit.to to (unit_pieces starts unit) (pieces_of starts units) = record {
       one = unit-following starts unit are.laid.0.1;
-      other = units-following {units = units} (later-units are);
+      other = units-following {units = units} (record { laid = are.laid.1; chained = are.chained.1 });
     } in
     subst (λ n. AreFollowing n (pieces_of starts (unit ∷ units)) to) are.chained.0
     (subst (λ l. AreFollowing unit.from l to) (sym (pieces-cons starts unit units)) (following-append both))

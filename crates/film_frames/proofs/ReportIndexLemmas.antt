@@ -84,13 +84,11 @@ frames-below number (Frame unit p ∷ pieces) (suc k) count h are =
       sum_by-cons count_of (Frame unit p) (take k pieces),
     )
 
-pub reports-count : {numbers : List ℕ} {k count : ℕ} (pieces : List Piece) → numbers ≡ report_numbers 0 pieces
-    → k ≤ length pieces → AreBelow numbers k count
-    → frames_in (take k pieces) + count ≡ k
-reports-count {k} {count} pieces same h are =
+pub reports-count : {k count : ℕ} (pieces : List Piece) → k ≤ length pieces
+    → AreBelow (report_numbers 0 pieces) k count → frames_in (take k pieces) + count ≡ k
+reports-count {k} {count} pieces h are =
     let place : k ≡ 0 + k = omega arith in
-    frames-below 0 pieces k count h
-    (subst (λ n. AreBelow (report_numbers 0 pieces) n count) place (subst (λ l. AreBelow l k count) same are))
+    frames-below 0 pieces k count h (subst (λ n. AreBelow (report_numbers 0 pieces) n count) place are)
 
 pub frames-few : (pieces : List Piece) (k : ℕ) → frames_in (take k pieces) ≤ k
 frames-few pieces zero = omega arith

@@ -18,5 +18,7 @@ begin_of-requires c =
     )
 
 pub returns : goal.returns
-returns c = boundary-count_ended c.count_ended.ensures.count_ended (omega (arith, c.if-at-eq0.false)) c.requires
-    c.begin_of.ensures.begin
+returns c =
+    rw c.begin_of.ensures.begin
+    (boundary-count_ended (run_pieces c.args.self.now) c.args.at c.count_ended.result
+    c.count_ended.ensures.count_ended (omega (arith, c.if-at-eq0.false)) c.requires)

@@ -5,7 +5,7 @@ use Rattle.rtp_pack.specs.declared.sizes.TheConstants.{FRAME_HEAD_BYTES}
 use Rattle.film_frames.specs.declared.pieces.Piece.TheVariants.{Report, Frame}
 use Rattle.film_frames.specs.Pieces.{octets_in}
 use Rattle.film_frames.specs.FramedRuns.{payload, run_pieces, pieces_in}
-use Rattle.film_frames.specs.Tracks.{HasHeads, begin_of}
+use Rattle.film_frames.specs.Tracks.{HasHeads, IsNext, begin_of}
 use Rattle.film_frames.proofs.TrackLemmas.{IsPart}
 use Rattle.film_frames.proofs.HeadEndLemmas.{frame-heads, frame-split, report-heads, report-split}
 use Rattle.film_frames.proofs.RunBytesLemmas.{count_ended-is}
@@ -87,9 +87,8 @@ returns-in-Report-clause-bytes c =
     let same : drop o c.report.result ≡ drop (c.args.at - begin_of (run_pieces run) k) (get_or (run_pieces run) k []) =
     ap (λ (l : List ℕ). drop o l) (c.report.ensures ∙ sym lies.bytes)
     ∙ ap (λ n. drop (c.args.at - n) (get_or (run_pieces run) k [])) c.begin_of.ensures.begin in
-    (rest-next {pieces = run_pieces run} {at = c.args.at} {k = k}
-    {bytes = take (REPORT_BYTES - o) (drop o c.report.result) ++ []} c.count_ended-number.ensures.count_ended
-    c.requires (rest ∙ same)).0
+    subst (IsNext (run_pieces run) c.args.at) (sym (rest ∙ same))
+    (rest-next (run_pieces run) c.args.at k c.count_ended-number.ensures.count_ended c.requires)
 
 pub returns-in-Report-clause-heads : goal.returns-in-Report-clause-heads
 returns-in-Report-clause-heads c =
@@ -122,9 +121,8 @@ returns-in-Frame-clause-bytes c =
     ≡ drop (c.args.at - begin_of (run_pieces run) k) (get_or (run_pieces run) k []) =
     ap (λ (l : List ℕ). drop o l) (whole ∙ sym lies.bytes)
     ∙ ap (λ n. drop (c.args.at - n) (get_or (run_pieces run) k [])) c.begin_of.ensures.begin in
-    (rest-next {pieces = run_pieces run} {at = c.args.at} {k = k}
-    {bytes = take (FRAME_HEAD_BYTES - c.min.result) (drop c.min.result block) ++ c.payload.result.now}
-    c.count_ended-number.ensures.count_ended c.requires (part.0 ∙ same)).0
+    subst (IsNext (run_pieces run) c.args.at) (sym (part.0 ∙ same))
+    (rest-next (run_pieces run) c.args.at k c.count_ended-number.ensures.count_ended c.requires)
 
 pub returns-in-Frame-clause-heads : goal.returns-in-Frame-clause-heads
 returns-in-Frame-clause-heads c =

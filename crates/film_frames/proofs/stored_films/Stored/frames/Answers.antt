@@ -2,7 +2,7 @@ use Rattle.std.proofs.Common.{◌≡◌, List, ℕ, arith, subst, sym, ◌∙◌
 use Rattle.std.specs.List.Sorted.{IsNonDecreasing}
 use Rattle.film_frames.specs.Pieces.{film_pieces}
 use Rattle.film_frames.specs.Tables.{report_numbers}
-use Rattle.film_frames.proofs.ReportIndexLemmas.{reports-count, reports-rise}
+use Rattle.film_frames.proofs.ReportIndexLemmas.{AreBelow, reports-count, reports-rise}
 use Rattle.film_frames.proofs.stored_films.Stored.frames.Goals as goal
 
 pub ends_below-reports-requires : goal.ends_below-reports-requires
@@ -18,10 +18,9 @@ overflow_sub-result c =
     let same : c.reports.result.now ≡ report_numbers 0 pieces =
     c.reports.ensures ∙ c.args.self.now.table_is.pieces.reports in
     let below = c.ends_below-reports.ensures in
-    omega (
-      arith,
-      reports-count pieces same c.requires (record { few = below.count; below = below.below; from = below.from }),
-    )
+    let are : AreBelow c.reports.result.now c.args.piece c.ends_below-reports.result =
+    record { few = below.count; below = below.below; from = below.from } in
+    omega (arith, reports-count pieces c.requires (rw same at are))
 
 pub returns : goal.returns
 returns c =
@@ -29,7 +28,6 @@ returns c =
     let same : c.reports.result.now ≡ report_numbers 0 pieces =
     c.reports.ensures ∙ c.args.self.now.table_is.pieces.reports in
     let below = c.ends_below-reports.ensures in
-    omega (
-      arith,
-      reports-count pieces same c.requires (record { few = below.count; below = below.below; from = below.from }),
-    )
+    let are : AreBelow c.reports.result.now c.args.piece c.ends_below-reports.result =
+    record { few = below.count; below = below.below; from = below.from } in
+    omega (arith, reports-count pieces c.requires (rw same at are))

@@ -4,7 +4,7 @@ use Rattle.rtp_pack.specs.declared.payloads.Packet.{Packet}
 use Rattle.film_frames.specs.declared.pieces.Piece.{Piece}
 use Rattle.film_frames.specs.Tables.{IsTable}
 use Rattle.film_frames.proofs.FilmPieceLemmas.{film-few}
-use Rattle.film_frames.proofs.FirstUnitLemmas.{before_packet, packet-sound, packets-all, packets-begun}
+use Rattle.film_frames.proofs.FirstUnitLemmas.{PackedUnit, before_packet, packet-sound, packets-all, packets-begun}
 use Rattle.film_frames.proofs.FirstUnitLemmas.{packets-bound, packets-more, room}
 use Rattle.film_frames.proofs.tables.FrameTable.put_frames.Goals as goal
 
@@ -32,8 +32,15 @@ put-requires-clause-room c =
     let unit = c.index-unit.result.now in
     let at = slice_get_read film.units.items (length film.units.items) c.args.number unit refl c.requires.within
     c.index-unit.ensures in
-    room film.units.items _ c.loop-packet.self c.loop-packet.invariant.table
-    (packets-bound film c.args.number c.loop-packet.packet-index at (c.requires.packets unit at))
+    let u : PackedUnit = record {
+      film = film;
+      number = c.args.number;
+      unit = unit;
+      packets = c.args.packets.now;
+      at = at;
+      is = c.requires.packets unit at;
+    } in
+    room film.units.items _ c.loop-packet.self c.loop-packet.invariant.table (packets-bound u c.loop-packet.packet-index)
 
 pub put-requires-clause-sound : goal.put-requires-clause-sound
 unfolding none
@@ -42,7 +49,15 @@ put-requires-clause-sound c =
     let unit = c.index-unit.result.now in
     let at = slice_get_read film.units.items (length film.units.items) c.args.number unit refl c.requires.within
     c.index-unit.ensures in
-    (film.bytes.items, packet-sound film c.args.number none at (c.requires.packets unit at) c.loop-packet-test.true)
+    let u : PackedUnit = record {
+      film = film;
+      number = c.args.number;
+      unit = unit;
+      packets = c.args.packets.now;
+      at = at;
+      is = c.requires.packets unit at;
+    } in
+    (film.bytes.items, packet-sound u c.loop-packet.packet-index none c.loop-packet-test.true)
 
 pub loop-packet-preserved : goal.loop-packet-preserved
 unfolding none
@@ -53,12 +68,20 @@ loop-packet-preserved c =
     let i = c.loop-packet.packet-index in
     let at = slice_get_read film.units.items (length film.units.items) c.args.number unit refl c.requires.within
     c.index-unit.ensures in
-    let sound = packet-sound film c.args.number none at (c.requires.packets unit at) c.loop-packet-test.true in
+    let u : PackedUnit = record {
+      film = film;
+      number = c.args.number;
+      unit = unit;
+      packets = c.args.packets.now;
+      at = at;
+      is = c.requires.packets unit at;
+    } in
+    let sound = packet-sound u i none c.loop-packet-test.true in
     let P : List Piece → Type 0 = λ l. IsTable film.units.items l c.put.new.self in
     let table = c.in_ok-put.ensures.table film.bytes.items film.units.items
     (before_packet film c.args.number unit packets i) sound at c.loop-packet.invariant.table in
     record {
-      table = subst P (packets-more film c.args.number unit packets none c.loop-packet-test.true) table;
+      table = subst P (packets-more u i none c.loop-packet-test.true) table;
       firsts = c.in_ok-put.ensures.firsts ∙ c.loop-packet.invariant.firsts;
     }
 
@@ -68,6 +91,13 @@ returns-clause-table c =
     let unit = c.index-unit.result.now in
     let at = slice_get_read film.units.items (length film.units.items) c.args.number unit refl c.requires.within
     c.index-unit.ensures in
+    let u : PackedUnit = record {
+      film = film;
+      number = c.args.number;
+      unit = unit;
+      packets = c.args.packets.now;
+      at = at;
+      is = c.requires.packets unit at;
+    } in
     let P : List Piece → Type 0 = λ l. IsTable film.units.items l c.loop-packet.self in
-    subst P (packets-all film c.args.number c.loop-packet.packet-index at (c.requires.packets unit at)
-    c.loop-packet-test.false) c.loop-packet.invariant.table
+    subst P (packets-all u c.loop-packet.packet-index c.loop-packet-test.false) c.loop-packet.invariant.table
