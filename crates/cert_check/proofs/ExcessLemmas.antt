@@ -1,5 +1,5 @@
 -- How much a list of numbers goes over an integer threshold, and over a rate.
-use Rattle.std.proofs.Common.{◌≡◌, ◌≤◌, ◌+◌, ◌-◌, ◌*◌, ℕ, List, [], ◌∷◌, All, length, sum, sum_by, arith, refl, ap}
+use Rattle.std.proofs.Common.{◌≡◌, ◌≤◌, ◌+◌, ◌-◌, ◌*◌, ℕ, List, [], ◌∷◌, All, length, sum, sum_by, arith, refl}
 use Rattle.std.proofs.Common.{◌∙◌, inl, inr, subst}
 use Rattle.std.proofs.Math.Nat.{le_antisymm, mul-le-mul_left}
 use Rattle.std.proofs.lemmas.Bool.{cases_lt}

@@ -1,16 +1,15 @@
 -- A walk along the line, slot by slot, against the exact line at a place.
-use Rattle.std.proofs.Common.{◌≡◌, ◌≢◌, ◌<◌, ◌≤◌, ◌+◌, ◌*◌, ℕ, false, List, length, take, slice_index, nat_eq, is_some}
+use Rattle.std.proofs.Common.{◌≡◌, ◌<◌, ◌≤◌, ◌+◌, ◌*◌, ℕ, false, List, length, take, nat_eq, is_some}
 use Rattle.std.proofs.Common.{Option, Some, None, MatchOption, inl, inr, arith, refl, sym, ap, subst, ◌∙◌, eq-eqb}
 use Rattle.std.proofs.Common.{ne_eqb, below_more}
 use Rattle.std.proofs.lemmas.Bool.{cases_eq, cond-true, cond-false, cases_lt, true≢false}
 use Rattle.std.proofs.lemmas.List.{take_all}
 use Rattle.plan_cert.specs.declared.Segment.{Segment}
-use Rattle.plan_cert.specs.PlanSlots.{total_slots, total_bytes}
+use Rattle.plan_cert.specs.PlanSlots.{total_slots}
 use Rattle.cert_check.specs.declared.walk.Walk.{Walk}
 use Rattle.cert_check.specs.First.{IsFirst}
-use Rattle.cert_check.specs.CertFaults.{IsBelowLow, IsAboveUp}
-use Rattle.cert_check.specs.ExactLine.{segment_at, line_top, line_under, end_place, end_height}
-use Rattle.cert_check.specs.CheckerSteps.{AddsUp, IsWalkAt, next_walk}
+use Rattle.cert_check.specs.ExactLine.{segment_at, line_top, line_under, end_place}
+use Rattle.cert_check.specs.CheckerSteps.{IsWalkAt, next_walk}
 use Rattle.cert_check.proofs.ExactLineLemmas.{LineIn, line_in}
 use Rattle.cert_check.proofs.SegmentEnds.{end_place_is, end_height_is}
 

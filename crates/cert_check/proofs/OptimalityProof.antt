@@ -1,18 +1,17 @@
 -- A taut list of segments is best: the parts put together.
 use Rattle.std.proofs.Common.{◌≡◌, ◌<◌, ◌≤◌, ◌+◌, ◌-◌, ◌*◌, ◌/◌, ◌%◌, ℕ, List, []}
-use Rattle.std.proofs.Common.{◌∷◌, All, length, take, sum, slice_index, inl, inr, arith, refl, sym, ap, subst, ◌∙◌}
+use Rattle.std.proofs.Common.{◌∷◌, All, take, sum, inl, inr, arith, refl, sym, ap, subst, ◌∙◌}
 use Rattle.std.proofs.Math.Nat.{mul-le-mul_left, one-mul}
 use Rattle.std.proofs.lemmas.Nat.{div-add-mod', mod_below}
 use Rattle.std.proofs.lemmas.Bool.{cases_lt}
 use Rattle.std.proofs.lemmas.List.Elements.{All-nil, All-cons}
 use Rattle.plan_cert.specs.declared.Segment.{Segment}
-use Rattle.plan_cert.specs.PlanSlots.{plan_slots, total_slots, total_bytes}
+use Rattle.plan_cert.specs.PlanSlots.{plan_slots}
 use Rattle.plan_cert.specs.Feasibility.{IsFeasible, IsFeasibleIn, excess}
 use Rattle.plan_cert.proofs.SlotSums.{length-plan_slots}
 use Rattle.wire_curve.specs.SoundCurves.{bound_at}
 use Rattle.cert_check.specs.TautRecursion.{Start, after, RunsTaut}
-use Rattle.cert_check.specs.CertFaults.{IsTaut, IsFirstFault}
-use Rattle.cert_check.specs.declared.CertFault.{CertFault}
+use Rattle.cert_check.specs.CertFaults.{IsTaut}
 use Rattle.cert_check.specs.Optimality.{IsBestPlan}
 use Rattle.cert_check.proofs.ExcessLemmas.{over, over_peak, peak_from_over, excess-one, excess-between}
 use Rattle.cert_check.proofs.SlotExcess.{line_over, over-plan_slots}

@@ -1,5 +1,5 @@
 -- Taut between two lists of numbers, in both forms.
-use Rattle.std.proofs.Common.{◌≡◌, ◌≢◌, ◌<◌, ◌≤◌, ◌+◌, ◌-◌, ◌*◌, ℕ, List, inl, inr, length, take, slice_index, arith}
+use Rattle.std.proofs.Common.{◌≡◌, ◌≢◌, ◌<◌, ◌+◌, ◌-◌, ◌*◌, ℕ, List, inl, inr, length, take, slice_index, arith}
 use Rattle.std.proofs.Common.{sym, ap, subst, ◌∙◌, add-one}
 use Rattle.std.proofs.lemmas.Bool.{cases_lt, cases_eq}
 use Rattle.plan_cert.specs.declared.Segment.{Segment}

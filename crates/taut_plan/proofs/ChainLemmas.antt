@@ -2,7 +2,6 @@
 use Rattle.std.proofs.Common.{◌≡◌, ℕ, ◌+◌, ◌<◌, ◌≤◌, List, [], ◌∷◌, ◌++◌, arith, sym, refl, subst, inl, inr}
 use Rattle.std.proofs.lemmas.Bool.{cases_lt}
 use Rattle.taut_plan.specs.declared.points.Point.{Point}
-use Rattle.taut_plan.specs.declared.points.Side.{Side}
 use Rattle.taut_plan.specs.Slopes.{IsWithin, IsInside}
 use Rattle.taut_plan.specs.Chain.{on_curve, ReadCurve, read_to, IsFurthest, IsChain, last_point}
 use Rattle.taut_plan.proofs.SlopeLemmas.{Seen, SeenCorner, within_within, within_itself, inside_weaker, turns_on}

@@ -5,7 +5,7 @@ use Rattle.std.proofs.Math.Nat.{mul-le-mul_left, mul-le-mul_right, lt_of_mul-lt-
 use Rattle.std.proofs.lemmas.Bool.{cases_lt}
 use Rattle.std.proofs.lemmas.List.Sums.{sum_by_push}
 use Rattle.plan_cert.specs.declared.Segment.{Segment}
-use Rattle.cert_check.specs.TautRecursion.{Start, start_at, StaysBetween, RunsTaut}
+use Rattle.cert_check.specs.TautRecursion.{start_at, StaysBetween, RunsTaut}
 use Rattle.cert_check.proofs.SegmentUniqueness.{end_meets_high, end_meets_low, same_start}
 use Rattle.taut_plan.specs.declared.points.Point.{Point}
 use Rattle.taut_plan.specs.declared.points.Side.{Side}

@@ -1,12 +1,11 @@
 -- One step of the funnel: the point joins, corners leave the other chain, and the curves are apart again.
 use Rattle.std.proofs.Common.{◌≡◌, ℕ, ◌+◌, ◌<◌, ◌≤◌, length, List, [], ◌∷◌, ◌++◌, drop, arith, sym, subst, ap, ◌∙◌}
-use Rattle.plan_cert.specs.declared.Segment.{Segment}
 use Rattle.taut_plan.specs.declared.points.Point.{Point}
 use Rattle.taut_plan.specs.declared.points.Side.{Side}
 use Rattle.taut_plan.specs.declared.points.Side.TheVariants.{Lower, Upper}
-use Rattle.taut_plan.specs.Slopes.{IsWithin, IsInside, other_side}
+use Rattle.taut_plan.specs.Slopes.{IsWithin, other_side}
 use Rattle.taut_plan.specs.Chain.{ReadCurve, on_curve, read_to, IsFurthest, IsChain}
-use Rattle.taut_plan.specs.Funnel.{Limits, IsBand, Funnel, FunnelReach, IsCrossing, IsCrossed, IsUncrossed, IsFunnel}
+use Rattle.taut_plan.specs.Funnel.{Limits, IsBand, Funnel, IsCrossing, IsCrossed, IsUncrossed, IsFunnel}
 use Rattle.taut_plan.specs.Funnel.{curve_on, other_curve_reach, funnel_reach}
 use Rattle.taut_plan.specs.Path.{IsPath, segment_to}
 use Rattle.taut_plan.proofs.SlopeLemmas.{IsOrdered, Seen, within_within, inside_weaker}

@@ -1,5 +1,5 @@
 -- The list of all segments is a plan, and it is taut.
-use Rattle.std.proofs.Common.{◌≡◌, ℕ, ◌<◌, ◌≤◌, List, [], ◌∷◌, ◌++◌, length, arith, sym, subst, ◌∙◌}
+use Rattle.std.proofs.Common.{ℕ, List, length, arith, ◌∙◌}
 use Rattle.wire_curve.specs.SoundCurves.{AreSound, bound_at}
 use Rattle.plan_cert.specs.declared.Segment.{Segment}
 use Rattle.plan_cert.specs.Plan.{IsPlan}

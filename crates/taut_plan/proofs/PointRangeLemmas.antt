@@ -1,5 +1,5 @@
 -- The points of the chains are of a plan, so that no product of the test overflows.
-use Rattle.std.proofs.Common.{◌≡◌, ℕ, ◌+◌, ◌≤◌, List, [], ◌∷◌, ◌++◌, length, arith, sym, subst}
+use Rattle.std.proofs.Common.{ℕ, ◌+◌, ◌≤◌, List, [], ◌∷◌, ◌++◌, length, arith, sym, subst}
 use Rattle.vod_base.specs.declared.limits.TheConstants.{MAX_BYTES}
 use Rattle.wire_curve.specs.SoundCurves.{AreSound, bound_at}
 use Rattle.cert_check.proofs.TautFormLemmas.{bound_end}

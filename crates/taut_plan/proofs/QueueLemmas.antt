@@ -1,10 +1,10 @@
 -- The points of a queue, by the list that holds them.
 use Rattle.std.proofs.Common.{◌≡◌, ℕ, ◌+◌, ◌-◌, ◌<◌, ◌≤◌, List, [], ◌∷◌, ◌++◌, length, take, drop, get_or, arith}
-use Rattle.std.proofs.Common.{refl, sym, ap, ◌∙◌, subst, inl, inr}
+use Rattle.std.proofs.Common.{sym, ap, ◌∙◌, subst, inl, inr}
 use Rattle.std.proofs.Math.ListN.{get_or-map, get_or-append}
 use Rattle.std.proofs.lemmas.Bool.{cases_lt}
 use Rattle.std.proofs.lemmas.List.{get_or_push, length-append}
-use Rattle.std.proofs.lemmas.List.{get_or-drop, drop_more, get_or_default, length-map, length-drop, take_all, take_more}
+use Rattle.std.proofs.lemmas.List.{get_or-drop, drop_more, get_or_default, length-map, length-drop}
 use Rattle.taut_plan.specs.declared.points.Point.{Point}
 use Rattle.taut_plan.specs.declared.points.Link.{Link}
 use Rattle.taut_plan.specs.Chain.{IsLastEdge, IsFirstPoint, last_point}

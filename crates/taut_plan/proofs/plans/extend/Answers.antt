@@ -1,4 +1,4 @@
-use Rattle.std.proofs.Common.{◌+◌, ◌≤◌, List, [], ◌∷◌, length, arith, sym, subst}
+use Rattle.std.proofs.Common.{◌+◌, List, [], ◌∷◌, arith}
 use Rattle.taut_plan.specs.declared.points.Point.{Point}
 use Rattle.taut_plan.specs.Slopes.{other_side}
 use Rattle.taut_plan.specs.Chain.{IsChain}

@@ -1,6 +1,5 @@
-use Rattle.std.proofs.Common.{◌≡◌, ℕ}
 use Rattle.taut_plan.proofs.BandLemmas.{limits_of}
-use Rattle.taut_plan.proofs.CornerLemmas.{IsReached, Reach}
+use Rattle.taut_plan.proofs.CornerLemmas.{IsReached}
 use Rattle.taut_plan.proofs.plans.taut_segments.Given as goal
 
 abbrev pub invariant-loop-slot : goal.invariant-loop-slot
