@@ -90,33 +90,39 @@ stop-inside {stop} plan (Some last) keep all stops =
       | inr within ↦ omega (arith, halt.0, is.1.1)
     ]
 
+-- what is to be sent of a playable run's plan: all of it, in as many slots as the rest of the run has
+all-sent : {sizes : List ℕ} {playback : Playback} {run : Run} {plan : List Segment}
+    → IsSending sizes playback run plan → HasSentAll plan
+all-sent {sizes} {playback} {run} {plan} is =
+    let rest = rest_sizes sizes run in
+    let timing = timing_of playback run in
+    let keeps = sending-keeps sizes playback run plan is in
+    let n = slot_count rest timing in
+    let above = keeps.above (n - 1) (omega arith) in
+    let last_slot : n - 1 ≡ total_slots plan - 1 = omega (arith, keeps.slots) in
+    let whole_use =
+    used_before-all rest timing is.can_play.playback_is.some_slot_units is.plan_is.accepted.some_picture in
+    let last_place : n - 1 + 1 ≡ n = omega arith in
+    let use_at = ap (used_before rest timing) last_place in
+    let sum_at = ap (sum_through plan) last_slot in
+    record { some = omega (arith, keeps.slots); end = omega (arith, above, whole_use, use_at, sum_at, keeps.bytes) }
+
 pub halted-plays : (sizes : List ℕ) (playback : Playback) (run : Run) (plan : List Segment)
     → IsSending sizes playback run plan
     → LeavesRun sizes playback run plan
 halted-plays sizes playback run plan is = λ last keep left halt its.
     let can = is.can_play in
     let rest = rest_sizes sizes run in
-    let timing = timing_of playback run in
     let keeps = sending-keeps sizes playback run plan is in
     let count = length-between sizes run.from_unit run.end_unit can.run_is.within in
-    let n = slot_count rest timing in
-    let above = keeps.above (n - 1) (omega arith) in
-    let last_slot : n - 1 ≡ total_slots plan - 1 = omega (arith, keeps.slots) in
-    let some : 0 < total_slots plan = omega (arith, keeps.slots) in
-    let whole_use = used_before-all rest timing can.playback_is.some_slot_units is.plan_is.accepted.some_picture in
-    let last_place : n - 1 + 1 ≡ n = omega arith in
-    let use_at = ap (used_before rest timing) last_place in
-    let sum_at = ap (sum_through plan) last_slot in
-    let end : total_bytes plan ≤ sum_through plan (total_slots plan - 1) =
-    omega (arith, above, whole_use, use_at, sum_at, keeps.bytes) in
-    let inside = stop-inside plan last keep (record { some = some; end = end }) (halt, its.stop_is) in
+    let inside = stop-inside plan last keep (all-sent is) (halt, its.stop_is) in
     let within : left.from_unit < run.end_unit =
     elim (cases_lt left.from_unit run.end_unit) [
       | inl less ↦ less
       | inr past ↦
           let used = its.used (run.end_unit - 1) (omega (arith, can.run_is.rest)) (omega (arith, can.run_is.rest)) in
           let last_picture : (run.end_unit - 1) - run.from_unit ≡ length rest - 1 = omega (arith, count) in
-          let same = ap (due_slot timing) last_picture in
+          let same = ap (due_slot (timing_of playback run)) last_picture in
           absurd (omega (arith, used, same, keeps.slots, inside))
     ] in
     let play : HaltedPlay =
