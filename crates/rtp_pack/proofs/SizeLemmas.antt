@@ -36,75 +36,89 @@ record SliceFills (f : OpenPacket) (n full : ℕ) (short goes : Bool) : Type 0 w
   before : cond goes f.from f.at + MAX_PAYLOAD_BYTES * full < f.at + n
   within : f.at + n ≤ cond goes f.from f.at + MAX_PAYLOAD_BYTES * full + MAX_PAYLOAD_BYTES
 
+-- such a slice's measure keeps the bounds
+abbrev KeepsFilled : Measure → ℕ → Bool → Bool → Type 0
+KeepsFilled m n short goes = (full : ℕ) → SliceFills m.filling n full short goes
+    → Kept (record {
+      portions = m.portions + (cond goes 0 1 + full);
+      filling = record {
+        from = cond goes m.filling.from m.filling.at + MAX_PAYLOAD_BYTES * full;
+        at = m.filling.at + n;
+        holds = cond short Slices LastFragment;
+      };
+    })
+
+-- where a short slice begins the next portion there is room for one more head
+room : (m : Measure) (n : ℕ) → Kept m → goes_in_whole m.filling.from m.filling.at m.filling.holds n ≡ false
+    → FRAME_HEAD_BYTES * m.portions ≤ m.filling.at + n
+room m n kept e = by-contents f.holds e kept.last
+  where
+    open m use {portions, filling as f}
+
+    by-contents : (holds : PacketContents) → goes_in_whole f.from f.at holds n ≡ false
+        → (holds ≡ LastFragment → FRAME_HEAD_BYTES * portions ≤ f.at) → FRAME_HEAD_BYTES * portions ≤ f.at + n
+    by-contents HeadersAlone e last = omega (arith, leb-false (f.at + n) (f.from + MAX_PAYLOAD_BYTES) e, kept.ended)
+    by-contents Slices e last = omega (arith, leb-false (f.at + n) (f.from + MAX_PAYLOAD_BYTES) e, kept.ended)
+    by-contents LastFragment e last = omega (arith, last refl)
+
+keeps-short : (m : Measure) (n : ℕ) → Kept m → (goes : Bool) → KeepsFilled m n true goes
+keeps-short m n kept true full fills =
+    let fits = whole-fits m.filling.from m.filling.at n m.filling.holds fills.goes_is in
+    let none : full ≡ 0 = omega (arith, fits, fills.before) in
+    record {
+      some = fills.before;
+      portions = omega (arith, none, kept.portions);
+      whole = omega (arith, none, kept.whole);
+      ended = omega (arith, none, kept.ended);
+      last = λ e. cc;
+    }
+keeps-short m n kept false full fills =
+    let none : full ≡ 0 = omega (arith, leb-true n MAX_PAYLOAD_BYTES fills.short_is, fills.before) in
+    record {
+      some = fills.before;
+      portions = omega (arith, none, kept.portions, kept.some);
+      whole = omega (arith, none, room m n kept fills.goes_is);
+      ended = omega (arith, none, kept.whole);
+      last = λ e. cc;
+    }
+
+keeps-long : (m : Measure) (n : ℕ) → Kept m → (goes : Bool) → KeepsFilled m n false goes
+keeps-long m n kept true full fills =
+    let long = leb-false n MAX_PAYLOAD_BYTES fills.short_is in
+    let some : 0 < full = omega (arith, kept.some, long, fills.within) in
+    record {
+      some = fills.before;
+      portions = omega (arith, kept.portions);
+      whole = omega (arith, some, kept.ended, fills.before);
+      ended = omega (arith, kept.ended);
+      last = λ e. omega (arith, some, kept.ended, fills.before);
+    }
+keeps-long m n kept false full fills =
+    let long = leb-false n MAX_PAYLOAD_BYTES fills.short_is in
+    let some : 0 < full = omega (arith, long, fills.within) in
+    record {
+      some = fills.before;
+      portions = omega (arith, kept.portions, kept.some);
+      whole = omega (arith, some, kept.whole, fills.before);
+      ended = omega (arith, kept.whole);
+      last = λ e. omega (arith, some, kept.whole, fills.before);
+    }
+
 pub keeps-slice : (m : Measure) (n : ℕ) → Kept m → 4 ≤ n → Kept (with_slice m n)
 keeps-slice m n kept least =
+    let f = m.filling in
     let less = start-less f n (goes_in f n) (omega (arith, kept.some)) (omega arith) in
     let start = start_of (goes_in f n) f in
-    by-case (leb n MAX_PAYLOAD_BYTES) (goes_in f n) (full_before start (f.at + n)) (record {
+    by-size (leb n MAX_PAYLOAD_BYTES) (full_before start (f.at + n)) (record {
       short_is = refl;
       goes_is = refl;
       before = full_before-less start (f.at + n) less;
       within = full_before-within start (f.at + n) less;
     })
   where
-    open m use {portions, filling as f}
-
-    -- where a short slice begins the next portion there is room for one more head
-    room : (holds : PacketContents) → (holds ≡ LastFragment → FRAME_HEAD_BYTES * portions ≤ f.at)
-        → goes_in_whole f.from f.at holds n ≡ false → FRAME_HEAD_BYTES * portions ≤ f.at + n
-    room HeadersAlone last e = omega (arith, leb-false (f.at + n) (f.from + MAX_PAYLOAD_BYTES) e, kept.ended)
-    room Slices last e = omega (arith, leb-false (f.at + n) (f.from + MAX_PAYLOAD_BYTES) e, kept.ended)
-    room LastFragment last e = omega (arith, last refl)
-
-    -- a short slice or a longer one, in the portion or in the next
-    by-case : (short goes : Bool) (full : ℕ) → SliceFills f n full short goes
-        → Kept (record {
-          portions = portions + (cond goes 0 1 + full);
-          filling = record {
-            from = cond goes f.from f.at + MAX_PAYLOAD_BYTES * full;
-            at = f.at + n;
-            holds = cond short Slices LastFragment;
-          };
-        })
-    by-case true true full fills =
-        let fits = whole-fits f.from f.at n f.holds fills.goes_is in
-        let none : full ≡ 0 = omega (arith, fits, fills.before) in
-        record {
-          some = fills.before;
-          portions = omega (arith, none, kept.portions);
-          whole = omega (arith, none, kept.whole);
-          ended = omega (arith, none, kept.ended);
-          last = λ e. cc;
-        }
-    by-case true false full fills =
-        let none : full ≡ 0 = omega (arith, leb-true n MAX_PAYLOAD_BYTES fills.short_is, fills.before) in
-        record {
-          some = fills.before;
-          portions = omega (arith, none, kept.portions, kept.some);
-          whole = omega (arith, none, room f.holds kept.last fills.goes_is);
-          ended = omega (arith, none, kept.whole);
-          last = λ e. cc;
-        }
-    by-case false true full fills =
-        let long = leb-false n MAX_PAYLOAD_BYTES fills.short_is in
-        let some : 0 < full = omega (arith, kept.some, long, fills.within) in
-        record {
-          some = fills.before;
-          portions = omega (arith, kept.portions);
-          whole = omega (arith, some, kept.ended, fills.before);
-          ended = omega (arith, kept.ended);
-          last = λ e. omega (arith, some, kept.ended, fills.before);
-        }
-    by-case false false full fills =
-        let long = leb-false n MAX_PAYLOAD_BYTES fills.short_is in
-        let some : 0 < full = omega (arith, long, fills.within) in
-        record {
-          some = fills.before;
-          portions = omega (arith, kept.portions, kept.some);
-          whole = omega (arith, some, kept.whole, fills.before);
-          ended = omega (arith, kept.whole);
-          last = λ e. omega (arith, some, kept.whole, fills.before);
-        }
+    by-size : (short : Bool) → KeepsFilled m n short (goes_in m.filling n)
+    by-size true = keeps-short m n kept (goes_in m.filling n)
+    by-size false = keeps-long m n kept (goes_in m.filling n)
 
 pub keeps-measure : (m : Measure) (n : ℕ) → IsMeasure m → 4 ≤ n → m.filling.at + n ≤ 2 ^ 40 → IsMeasure (with_slice m n)
 keeps-measure m n is least most =
