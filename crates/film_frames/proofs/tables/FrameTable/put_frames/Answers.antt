@@ -7,9 +7,25 @@ use Rattle.film_frames.proofs.FilmPieceLemmas.{film-few}
 use Rattle.film_frames.proofs.FirstUnitLemmas.{PackedUnit, before_packet, packet-sound, packets-all, packets-begun}
 use Rattle.film_frames.proofs.FirstUnitLemmas.{packets-bound, packets-more, room}
 use Rattle.film_frames.proofs.tables.FrameTable.put_frames.Goals as goal
+use Rattle.film_frames.proofs.tables.FrameTable.put_frames.Goals.{After-index-unit}
 
 none : Packet
 none = record { from = 0; to = 0; marker = false; begin = false; end = false; sequence_header = false }
+
+-- the unit with its packets
+abbrev unit-in : After-index-unit → PackedUnit
+unit-in c =
+    let units = c.args.film.now.units.items in
+    let unit = c.index-unit.result.now in
+    let at = slice_get_read units (length units) c.args.number unit refl c.requires.within c.index-unit.ensures in
+    record {
+      film = c.args.film.now;
+      number = c.args.number;
+      unit = unit;
+      packets = c.args.packets.now;
+      at = at;
+      is = c.requires.packets unit at;
+    }
 
 pub overflow_cast-number : goal.overflow_cast-number
 overflow_cast-number c = omega (arith, film-few c.args.film.now, c.requires.within)
@@ -29,57 +45,26 @@ loop-packet-init c =
 pub put-requires-clause-room : goal.put-requires-clause-room
 put-requires-clause-room c =
     let film = c.args.film.now in
-    let unit = c.index-unit.result.now in
-    let at = slice_get_read film.units.items (length film.units.items) c.args.number unit refl c.requires.within
-    c.index-unit.ensures in
-    let u : PackedUnit = record {
-      film = film;
-      number = c.args.number;
-      unit = unit;
-      packets = c.args.packets.now;
-      at = at;
-      is = c.requires.packets unit at;
-    } in
+    let u = unit-in (goal.at.put-requires-clause-room c).After-index-unit in
     room film.units.items _ c.loop-packet.self c.loop-packet.invariant.table (packets-bound u c.loop-packet.packet-index)
 
 pub put-requires-clause-sound : goal.put-requires-clause-sound
 unfolding none
 put-requires-clause-sound c =
     let film = c.args.film.now in
-    let unit = c.index-unit.result.now in
-    let at = slice_get_read film.units.items (length film.units.items) c.args.number unit refl c.requires.within
-    c.index-unit.ensures in
-    let u : PackedUnit = record {
-      film = film;
-      number = c.args.number;
-      unit = unit;
-      packets = c.args.packets.now;
-      at = at;
-      is = c.requires.packets unit at;
-    } in
+    let u = unit-in (goal.at.put-requires-clause-sound c).After-index-unit in
     (film.bytes.items, packet-sound u c.loop-packet.packet-index none c.loop-packet-test.true)
 
 pub loop-packet-preserved : goal.loop-packet-preserved
 unfolding none
 loop-packet-preserved c =
     let film = c.args.film.now in
-    let unit = c.index-unit.result.now in
-    let packets = c.args.packets.now in
     let i = c.loop-packet.packet-index in
-    let at = slice_get_read film.units.items (length film.units.items) c.args.number unit refl c.requires.within
-    c.index-unit.ensures in
-    let u : PackedUnit = record {
-      film = film;
-      number = c.args.number;
-      unit = unit;
-      packets = c.args.packets.now;
-      at = at;
-      is = c.requires.packets unit at;
-    } in
+    let u = unit-in (goal.at.loop-packet-preserved c).After-index-unit in
     let sound = packet-sound u i none c.loop-packet-test.true in
     let P : List Piece → Type 0 = λ l. IsTable film.units.items l c.put.new.self in
     let table = c.in_ok-put.ensures.table film.bytes.items film.units.items
-    (before_packet film c.args.number unit packets i) sound at c.loop-packet.invariant.table in
+    (before_packet film c.args.number u.unit c.args.packets.now i) sound u.at c.loop-packet.invariant.table in
     record {
       table = subst P (packets-more u i none c.loop-packet-test.true) table;
       firsts = c.in_ok-put.ensures.firsts ∙ c.loop-packet.invariant.firsts;
@@ -88,16 +73,6 @@ loop-packet-preserved c =
 pub returns-clause-table : goal.returns-clause-table
 returns-clause-table c =
     let film = c.args.film.now in
-    let unit = c.index-unit.result.now in
-    let at = slice_get_read film.units.items (length film.units.items) c.args.number unit refl c.requires.within
-    c.index-unit.ensures in
-    let u : PackedUnit = record {
-      film = film;
-      number = c.args.number;
-      unit = unit;
-      packets = c.args.packets.now;
-      at = at;
-      is = c.requires.packets unit at;
-    } in
+    let u = unit-in (goal.at.returns-clause-table c).After-index-unit in
     let P : List Piece → Type 0 = λ l. IsTable film.units.items l c.loop-packet.self in
     subst P (packets-all u c.loop-packet.packet-index c.loop-packet-test.false) c.loop-packet.invariant.table
