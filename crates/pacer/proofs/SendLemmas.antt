@@ -1,5 +1,5 @@
 -- Bytes that are sent in several sends.
-use Rattle.std.proofs.Common.{◌≡◌, ℕ, ◌+◌, ◌-◌, ◌<◌, ◌≤◌, List, ◌++◌, length, take, drop, min, Option}
+use Rattle.std.proofs.Common.{◌≡◌, ℕ, ◌+◌, ◌-◌, ◌<◌, ◌≤◌, List, ◌++◌, ◌⊎◌, length, take, drop, min, Option}
 use Rattle.std.proofs.Common.{refl, sym, ap, ◌∙◌, arith, inl, inr}
 use Rattle.std.proofs.lemmas.List.{append-nil, take-append-le, take-take, take_all, length-take}
 use Rattle.std.proofs.lemmas.List.{length-append, length-drop, drop-drop, map-append}
@@ -179,6 +179,19 @@ part-out p out part within =
   where
     open p use {pieces, from, to, at}
 
+-- a seam past the part's place is where its head ends, or is past all that is to go out of it
+part-seam : (p : TrackPart) (place : ℕ) → IsPartAt p → IsSeam p.pieces place → p.at < place
+    → (place ≡ p.at + length p.head) ⊎ (p.at + length (part_bytes p) ≤ place)
+part-seam p place part (inl boundary) less =
+    let size = length-take (p.to - p.at) (p.head ++ p.payload) in
+    inr (omega (arith, size, part.next.one_piece place boundary less))
+part-seam p place part (inr end) less =
+    let size = length-take (p.to - p.at) (p.head ++ p.payload) in
+    elim (cases_lt place (p.at + length p.head + length p.payload)) [
+      | inl l ↦ inl (part.split.only place end less l)
+      | inr g ↦ inr (omega (arith, g, size, length-append p.head p.payload))
+    ]
+
 -- a part failed
 pub part-stopped : {p : TrackPart} {old new : Option (List IoEvent)} {whole : ℕ} → IsPartAt p
     → HasStopped (λ place. place ≡ length p.head) (part_bytes p)
@@ -195,38 +208,12 @@ part-stopped {p} {old} {new} {whole} part stopped =
       out = at - from + stopped.out;
       out_least = omega (arith, stopped.out_least);
       out_most = omega (arith, stopped.out_most, size, all, order, then);
-      one_send = one_send;
+      one_send = λ place seam less. elim (part-seam p (from + place) part seam (omega (arith, order, less))) [
+        | inl here ↦ omega (arith, here, order, stopped.one_send (length head) refl (omega (arith, here, order, less)))
+        | inr past ↦ omega (arith, past, order, stopped.out_most)
+      ];
       told = stopped.told ∙ sends-more old (bytes_between pieces from at) (take stopped.out (part_bytes p))
           ∙ ap (λ (l : List ℕ). told_more old (sends l)) (part-out p stopped.out part stopped.out_most);
     }
   where
     open p use {pieces, from, to, at, head, payload}
-
-    -- where it failed, it is within one send
-    one_send : (place : ℕ) → IsSeam pieces (from + place) → at - from + whole < place → at - from + stopped.out ≤ place
-    one_send place (inl boundary) less =
-        let order : from ≤ at = part.order in
-        omega (
-          arith,
-          part.next.one_piece (from + place) boundary (omega (arith, order, less)),
-          stopped.out_most,
-          length-take (to - at) (head ++ payload),
-          order,
-        )
-    one_send place (inr end) less =
-        let order : from ≤ at = part.order in
-        elim (cases_lt (from + place) (at + length head + length payload)) [
-          | inl l ↦
-              let here : from + place ≡ at + length head =
-              part.split.only (from + place) end (omega (arith, order, less)) l in
-              omega (arith, here, order, stopped.one_send (length head) refl (omega (arith, here, order, less)))
-          | inr g ↦
-              omega (
-                arith,
-                g,
-                order,
-                length-append head payload,
-                stopped.out_most,
-                length-take (to - at) (head ++ payload),
-              )
-        ]
