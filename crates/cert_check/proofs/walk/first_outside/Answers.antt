@@ -4,19 +4,27 @@ use Rattle.std.proofs.lemmas.Bool.{both_ways}
 use Rattle.cert_check.specs.CertFaults.{IsAboveUp}
 use Rattle.cert_check.proofs.LineWalkLemmas.{Goes, goes_on, height_at, first_kept, first_found}
 use Rattle.cert_check.proofs.walk.first_outside.Goals as goal
+use Rattle.cert_check.proofs.walk.first_outside.Goals.{After-next_walk-walk}
 use Rattle.cert_check.proofs.walk.first_outside.Goals.{then-is_none+then-height-from-2, else-is_none}
 use Rattle.cert_check.proofs.walk.first_outside.Goals.{else-is_none-via-then-is_none+else-height-from-2}
 use Rattle.cert_check.proofs.walk.first_outside.Goals.{else-is_none-via-else-is_none}
 
+-- the slot is one of the curves
+few-in : (c : After-next_walk-walk) → c.loop-t.t < length c.args.curves.now.low.items
+few-in c =
+    rw c.as_slice-low.ensures.value at (let short : c.loop-t.t < length c.as_slice-low.result.now = omega arith in short)
+
+-- the walk goes on over it
+goes-in : (c : After-next_walk-walk)
+    → Goes c.args.curves.now.from c.args.segments.now (c.loop-t.t + 1) c.next_walk-walk.result
+goes-in c =
+    rw c.next_walk-walk.ensures
+    (goes_on c.loop-t.invariant.stands (c.requires.some, omega (arith, few-in c, c.requires.slots)))
+
 pub returns-then-height-from : goal.returns-then-height-from
 returns-then-height-from c =
-    let curves = c.args.curves.now in
-    let segments = c.args.segments.now in
-    let few : c.loop-t.t < length curves.low.items =
-    rw c.as_slice-low.ensures.value at (let short : c.loop-t.t < length c.as_slice-low.result.now = omega arith in short) in
-    let goes : Goes curves.from segments (c.loop-t.t + 1) c.next_walk-walk.result =
-    rw c.next_walk-walk.ensures
-    (goes_on c.loop-t.invariant.stands (c.requires.some, omega (arith, few, c.requires.slots))) in
+    let few = few-in (goal.at.returns-then-height-from c).After-next_walk-walk in
+    let goes = goes-in (goal.at.returns-then-height-from c).After-next_walk-walk in
     let at = height_at goes in
     let under = rw (c.from.ensures, c.from-in-loop-t.ensures, c.as_slice-low.ensures.value) at c.if-height-from.true in
     record {
@@ -27,15 +35,11 @@ returns-then-height-from c =
 pub loop-t-preserved : goal.loop-t-preserved
 loop-t-preserved c =
     let curves = c.args.curves.now in
-    let segments = c.args.segments.now in
-    let few : c.loop-t.t < length curves.low.items =
-    rw c.as_slice-low.ensures.value at (let short : c.loop-t.t < length c.as_slice-low.result.now = omega arith in short) in
-    let goes : Goes curves.from segments (c.loop-t.t + 1) c.next_walk-walk.result =
-    rw c.next_walk-walk.ensures
-    (goes_on c.loop-t.invariant.stands (c.requires.some, omega (arith, few, c.requires.slots))) in
+    let few = few-in (goal.at.loop-t-preserved c).After-next_walk-walk in
+    let goes = goes-in (goal.at.loop-t-preserved c).After-next_walk-walk in
     let at = height_at goes in
     let scaled = c.scaled_height-height.ensures in
-    let Above = IsAboveUp curves.from curves.up.items segments in
+    let Above = IsAboveUp curves.from curves.up.items c.args.segments.now in
     let up_is = c.as_slice-up.ensures.value in
     record {
       stands = goes.stands;
