@@ -147,6 +147,26 @@ good_corner {limits} band Upper state {b} corner =
   where
     open state use {sight.{apex as o, reach as t}}
 
+leads_to : {limits : Limits} (side : Side) (state : Bending limits) {b : Point}
+    → IsCorner (funnel_on limits.lo limits.hi side state.sight state.own state.others) b
+    → IsGoodCorner limits state.sight.apex b → LeadsBetween limits.lo limits.hi state.sight.apex b
+leads_to Lower state corner good = record {
+  later = corner.later;
+  rises = good.rises;
+  above = state.path.above;
+  below = state.path.below;
+  low_within = λ p after upto. corner.own_within p after (omega (arith, upto, corner.before_new));
+  high_within = corner.others_beyond;
+}
+leads_to Upper state corner good = record {
+  later = corner.later;
+  rises = good.rises;
+  above = state.path.above;
+  below = state.path.below;
+  low_within = corner.others_beyond;
+  high_within = λ p after upto. corner.own_within p after (omega (arith, upto, corner.before_new));
+}
+
 -- the segment to a corner ends where the line turns
 turn_at : {limits : Limits} → IsBand limits → (state : Bending limits) {b : Point} → IsCorner (funnel_of state) b
     → IsGoodCorner limits state.sight.apex b
@@ -159,7 +179,7 @@ turn_at {limits} band state {b} corner good =
     let far : o.place + (t - o.place) ≡ t = omega (arith, later, new) in
     let crossed = ray_past side o b (on_curve curve t) good.rises corner.crossed in
     record {
-      stays = segment_stays (leads side corner);
+      stays = segment_stays (leads_to side state corner good);
       on = sym (high o b good.rises) ∙ (corner.on ∙ ap other (sym end));
       far = t - o.place;
       later = omega (arith, later, new);
@@ -188,25 +208,6 @@ turn_at {limits} band state {b} corner good =
 
     other : ℕ → ℕ
     other = curve_on limits.lo limits.hi (other_side side)
-
-    leads : (side : Side) → IsCorner (funnel_on limits.lo limits.hi side state.sight state.own state.others) b
-        → LeadsBetween limits.lo limits.hi o b
-    leads Lower corner = record {
-      later = corner.later;
-      rises = good.rises;
-      above = state.path.above;
-      below = state.path.below;
-      low_within = λ p after upto. corner.own_within p after (omega (arith, upto, corner.before_new));
-      high_within = corner.others_beyond;
-    }
-    leads Upper corner = record {
-      later = corner.later;
-      rises = good.rises;
-      above = state.path.above;
-      below = state.path.below;
-      low_within = corner.others_beyond;
-      high_within = λ p after upto. corner.own_within p after (omega (arith, upto, corner.before_new));
-    }
 
 -- the path goes on to the corner
 pub record PathBends {limits : Limits} (state : Bending limits) (b : Point) : Type 0 where

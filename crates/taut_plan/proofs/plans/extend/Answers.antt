@@ -8,9 +8,10 @@ use Rattle.taut_plan.proofs.BandLemmas.{limits_of, band_of_sound}
 use Rattle.taut_plan.proofs.BendLemmas.{funnel_on}
 use Rattle.taut_plan.proofs.CornerLemmas.{Bending}
 use Rattle.taut_plan.proofs.PointRangeLemmas.{corner_fits, furthest_fits, points_fit}
-use Rattle.taut_plan.proofs.FunnelLemmas.{chain_beyond, known, crossing_starts, bends_at, crossing_ends, uncrossed_behind}
+use Rattle.taut_plan.proofs.FunnelLemmas.{IsBent, chain_beyond, known, crossing_starts, bends_at, crossing_ends, uncrossed_behind}
 use Rattle.taut_plan.proofs.RiseLemmas.{apex_rises}
 use Rattle.taut_plan.proofs.plans.extend.Goals as goal
+use Rattle.taut_plan.proofs.plans.extend.Goals.{After-pop_first}
 
 pub loop-corner-init : goal.loop-corner-init
 loop-corner-init c =
@@ -54,46 +55,36 @@ crossing-requires-clause-fit c = first_fits c.loop-corner.others c.loop-corner.i
           ends = rw c.in_ok-point.ensures.point (points_fit side c.requires.sound (slot + 1) (omega (arith, below)));
         }
 
-pub bend_at-requires-clause-higher : goal.bend_at-requires-clause-higher
-bend_at-requires-clause-higher c =
+-- the path and the funnel at the corner that the new point is past
+abbrev bending-in : (c : After-pop_first)
+    → Bending (limits_of c.args.curves.now.from c.args.curves.now.low.items c.args.curves.now.up.items)
+bending-in c = record {
+  side = c.args.side;
+  sight = funnel_reach (c.args.slot + 1) (other_curve_reach c.args.side c.args.slot) c.loop-corner.path.apex;
+  own = c.join.new.chain;
+  others = c.loop-corner.others;
+  segments = c.loop-corner.path.segments.items;
+  fits = let below = c.requires.slot in omega (arith, below);
+  path = c.loop-corner.invariant.path;
+  crossing = c.loop-corner.invariant.crossing;
+}
+
+bent-in : (c : After-pop_first) → IsBent (bending-in c) c.in-Some.corner c.pop_first.new.self
+bent-in c =
     let curves = c.args.curves.now in
-    let state : Bending (limits_of curves.from curves.low.items curves.up.items) = record {
-      side = c.args.side;
-      sight = funnel_reach (c.args.slot + 1) (other_curve_reach c.args.side c.args.slot) c.loop-corner.path.apex;
-      own = c.join.new.chain;
-      others = c.loop-corner.others;
-      segments = c.loop-corner.path.segments.items;
-      fits = let below = c.requires.slot in omega (arith, below);
-      path = c.loop-corner.invariant.path;
-      crossing = c.loop-corner.invariant.crossing;
-    } in
-    let bent = bends_at (band_of_sound curves.from curves.low.items curves.up.items c.requires.sound) state (record {
+    bends_at (band_of_sound curves.from curves.low.items curves.up.items c.requires.sound) (bending-in c) (record {
       point = c.in_ok-point.point;
       point_is = c.in_ok-point.ensures.point;
       crossed = c.in-Some.ensures;
       left_is = c.pop_first.ensures;
-    }) in
-    bent.higher
+    })
+
+pub bend_at-requires-clause-higher : goal.bend_at-requires-clause-higher
+bend_at-requires-clause-higher c = (bent-in (goal.at.bend_at-requires-clause-higher c).After-pop_first).higher
 
 pub loop-corner-preserved : goal.loop-corner-preserved
 loop-corner-preserved c =
-    let curves = c.args.curves.now in
-    let state : Bending (limits_of curves.from curves.low.items curves.up.items) = record {
-      side = c.args.side;
-      sight = funnel_reach (c.args.slot + 1) (other_curve_reach c.args.side c.args.slot) c.loop-corner.path.apex;
-      own = c.join.new.chain;
-      others = c.loop-corner.others;
-      segments = c.loop-corner.path.segments.items;
-      fits = let below = c.requires.slot in omega (arith, below);
-      path = c.loop-corner.invariant.path;
-      crossing = c.loop-corner.invariant.crossing;
-    } in
-    let bent = bends_at (band_of_sound curves.from curves.low.items curves.up.items c.requires.sound) state (record {
-      point = c.in_ok-point.point;
-      point_is = c.in_ok-point.ensures.point;
-      crossed = c.in-Some.ensures;
-      left_is = c.pop_first.ensures;
-    }) in
+    let bent = bent-in (goal.at.loop-corner-preserved c).After-pop_first in
     record {
       path = rw (c.in_ok-bend_at.ensures.apex, c.in_ok-bend_at.ensures.segments) bent.path;
       crossing = rw c.in_ok-bend_at.ensures.apex bent.crossing;
