@@ -134,14 +134,6 @@ short-full at cuts slices start (suc count) known =
     (short-full at cuts slices (start + MAX_PAYLOAD_BYTES) count (omega (arith, less), known.1))
 
 -- a short slice ends in the portion in which it begins
-short-rest : {goes : Bool} {f : OpenPacket} {n count : ℕ} (rest : List ℕ)
-    → FullBefore goes f n count × (AreFrom (f.at + n) rest × (n ≤ MAX_PAYLOAD_BYTES))
-    → IsUncut f.at (f.at + n) (full_ends (start_of goes f) count ++ rest)
-short-rest {goes} {f} {n} {count} rest known =
-    let none : count ≡ 0 = none-full (le-leb n MAX_PAYLOAD_BYTES known.1.1) known.0 in
-    let P : ℕ → Type 0 = λ k. IsUncut f.at (f.at + n) (full_ends (start_of goes f) k ++ rest) in
-    subst P (sym none) (uncut-from f.at (f.at + n) rest known.1.0)
-
 pub short-uncut : (slices : List ℕ) (f : OpenPacket) (cuts : List ℕ) → f.from ≤ f.at → Cuts f slices cuts
     → AreShortUncut f.at slices cuts
 short-uncut [] f cuts order e = tt
@@ -152,7 +144,9 @@ short-uncut (n ∷ slices) f cuts order (inl x) =
     let full : FullBefore true f n x.1.full = record { goes_is = x.0; before = x.1.before } in
     let P : List ℕ → Type 0 = λ l. AreShortUncut f.at (n ∷ slices) l in
     subst P (sym x.1.filled) (
-      λ short. short-rest _ (full, (after, short)),
+      λ short.
+          subst (λ k. IsUncut f.at (f.at + n) (full_ends f.from k ++ x.1.rest))
+          (sym (none-full (le-leb n MAX_PAYLOAD_BYTES short) full)) (uncut-from f.at (f.at + n) x.1.rest after),
       short-full _ _ slices f.from x.1.full (omega (arith, x.1.before), rest),
     )
 short-uncut (n ∷ slices) f cuts order (inr x) =
@@ -164,7 +158,11 @@ short-uncut (n ∷ slices) f cuts order (inr x) =
     let P : List ℕ → Type 0 = λ l. AreShortUncut f.at (n ∷ slices) l in
     let Q : List ℕ → Type 0 = λ l. AreShortUncut f.at (n ∷ slices) (f.at ∷ l) in
     subst P (sym x.1.1.0) (subst Q (sym fills.filled) (
-      λ short. (inl (omega arith), short-rest _ (full, (after, short))),
+      λ short. (
+        inl (omega arith),
+        subst (λ k. IsUncut f.at (f.at + n) (full_ends f.at k ++ fills.rest))
+            (sym (none-full (le-leb n MAX_PAYLOAD_BYTES short) full)) (uncut-from f.at (f.at + n) fills.rest after),
+      ),
       short-more slices (f.at + n) f.at (full_ends f.at fills.full ++ fills.rest) (omega arith)
           (short-full _ _ slices f.at fills.full (omega (arith, fills.before), rest)),
     ))
