@@ -25,17 +25,6 @@ reaches-once plan bytes one other is its =
       | inr more ↦ more
     ]
 
--- there is one slot of the stop
-pub stop-one : {one other : ℕ} (plan : List Segment) (last : Option ℕ) (keep : ℕ)
-    → IsStop plan last keep one × IsStop plan last keep other → one ≡ other
-stop-one plan None keep both = both.0 ∙ sym both.1
-stop-one {one} {other} plan (Some last) keep both =
-    let is = both.0 in
-    let its = both.1 in
-    let below = reaches-once plan keep is.0 its.0 is.1.0 its.1.0 in
-    let above = reaches-once plan keep its.0 is.0 its.1.0 is.1.0 in
-    omega (arith, below, above, is.1.1, its.1.1)
-
 abbrev run-with : ℕ → ℕ → ℕ → ℕ → ℕ → Run
 run-with first end from sent played =
     record { first_unit = first; end_unit = end; from_unit = from; sent = sent; played = played }
@@ -58,16 +47,24 @@ pub left-one : {sizes : List ℕ} {playback : Playback} {run left other : Run} {
     → IsRemainingRun sizes playback run plan last keep left → IsRemainingRun sizes playback run plan last keep other →
     other ≡ left
 left-one {sizes} {playback} {run} {plan} {last} {keep} is its =
-    let stops = stop-one plan last keep (its.stop_is, is.stop_is) in
+    let stops = stop-one last its.stop_is is.stop_is in
     let below = from-once is its in
     let above = from-once its is in
     run-same (its.first_is ∙ sym is.first_is) (its.end_is ∙ sym is.end_is) (omega arith) (its.sent_is ∙ sym is.sent_is)
     (its.played_is ∙ ap (used_before (rest_sizes sizes run) (timing_of playback run)) stops ∙ sym is.played_is)
   where
+    -- there is one slot of the stop
+    stop-one : (last : Option ℕ) {one other : ℕ} → IsStop plan last keep one → IsStop plan last keep other → one ≡ other
+    stop-one None is its = is ∙ sym its
+    stop-one (Some last) is its =
+        let below = reaches-once plan keep is.0 its.0 is.1.0 its.1.0 in
+        let above = reaches-once plan keep its.0 is.0 its.1.0 is.1.0 in
+        omega (arith, below, above, is.1.1, its.1.1)
+
     from-once : {a b : Run} → IsRemainingRun sizes playback run plan last keep a
         → IsRemainingRun sizes playback run plan last keep b → a.from_unit ≤ b.from_unit
     from-once {a} {b} is its =
-        let stops = stop-one plan last keep (is.stop_is, its.stop_is) in
+        let stops = stop-one last is.stop_is its.stop_is in
         elim (cases_lt b.from_unit a.from_unit) [
           | inl less ↦ let used = is.used b.from_unit its.not_back less in absurd (omega (arith, used, its.unused, stops))
           | inr more ↦ more
