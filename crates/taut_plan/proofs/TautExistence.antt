@@ -79,19 +79,26 @@ record IsExtended (limits : Limits) (side : Side) (t s : ℕ) : Type 0 where
   funnel : Stands (funnel_on limits.lo limits.hi side (funnel_reach t s apex) own others)
   after : apex.place < t
 
-crosses : {limits : Limits} → IsBand limits → (others : List Point) (state : Bending limits) → state.others ≡ others
+-- where no corner is crossed, the path and the funnel are extended
+ends_here : {limits : Limits} (state : Bending limits)
+    → IsUncrossed state.side state.sight.apex state.others
+    (on_curve (curve_on limits.lo limits.hi state.side) state.sight.reach)
     → IsExtended limits state.side state.sight.reach state.sight.other_reach
-crosses {limits} band [] state is = record {
+ends_here state within = record {
   apex = state.sight.apex;
   segments = state.segments;
   own = state.own;
   others = state.others;
   path = state.path;
-  funnel = crossing_ends refl state.crossing
-      (subst (λ l. IsUncrossed state.side state.sight.apex l (on_curve
-      (curve_on limits.lo limits.hi state.side) state.sight.reach)) (sym is) tt);
+  funnel = crossing_ends refl state.crossing within;
   after = state.crossing.beyond;
 }
+
+crosses : {limits : Limits} → IsBand limits → (others : List Point) (state : Bending limits) → state.others ≡ others
+    → IsExtended limits state.side state.sight.reach state.sight.other_reach
+crosses {limits} band [] state is =
+    ends_here state (subst (λ l. IsUncrossed state.side state.sight.apex l
+    (on_curve (curve_on limits.lo limits.hi state.side) state.sight.reach)) (sym is) tt)
 crosses {limits} band (corner ∷ rest) state is =
     let point = on_curve (curve_on limits.lo limits.hi state.side) state.sight.reach in
     elim (further state.side state.sight.apex corner point) [
@@ -114,16 +121,7 @@ crosses {limits} band (corner ∷ rest) state is =
             crossing = bent.crossing;
           }) refl
           )
-      | inr within ↦ record {
-        apex = state.sight.apex;
-        segments = state.segments;
-        own = state.own;
-        others = state.others;
-        path = state.path;
-        funnel = crossing_ends refl state.crossing
-            (subst (λ l. IsUncrossed state.side state.sight.apex l point) (sym is) within);
-        after = state.crossing.beyond;
-      }
+      | inr within ↦ ends_here state (subst (λ l. IsUncrossed state.side state.sight.apex l point) (sym is) within)
     ]
 
 -- what is reached, seen from one side
