@@ -9,7 +9,7 @@ use Rattle.rtp_pack.specs.declared.open_packet.OpenPacket.{OpenPacket}
 use Rattle.rtp_pack.specs.declared.open_packet.PacketContents.{PacketContents}
 use Rattle.rtp_pack.specs.declared.open_packet.PacketContents.TheVariants.{Slices, LastFragment}
 use Rattle.rtp_pack.specs.Packetization.{Cuts, filling_after, full_ends, goes_in, goes_in_cut}
-use Rattle.rtp_pack.specs.Packetization.{goes_in_whole, holds_after, start_of}
+use Rattle.rtp_pack.specs.Packetization.{goes_in_whole, holds_after}
 use Rattle.rtp_pack.specs.Laws.{ArePortions, AreShortUncut, DoLongEndPortions, IsUncut}
 use Rattle.rtp_pack.specs.Packets.{is_among}
 use Rattle.rtp_pack.proofs.SliceFlagLemmas.{FullBefore, none-full, start-room}
