@@ -87,7 +87,7 @@ stop-inside {stop} plan (Some last) keep all stops =
       | inr within ↦ omega (arith, halt.0, is.1.1)
     ]
 
--- what is to be sent of a playable run's plan: all of it, in as many slots as the rest of the run has
+-- the plan of a playable run has sent all its bytes by the end of its last slot
 all-sent : {sizes : List ℕ} {playback : Playback} {run : Run} {plan : List Segment}
     → IsSending sizes playback run plan → HasSentAll plan
 all-sent {sizes} {playback} {run} {plan} is =

@@ -36,7 +36,7 @@ record SliceFills (f : OpenPacket) (n full : ℕ) (short goes : Bool) : Type 0 w
   before : cond goes f.from f.at + MAX_PAYLOAD_BYTES * full < f.at + n
   within : f.at + n ≤ cond goes f.from f.at + MAX_PAYLOAD_BYTES * full + MAX_PAYLOAD_BYTES
 
--- such a slice's measure keeps the bounds
+-- with such a slice a measure keeps its bounds
 abbrev KeepsFilled : Measure → ℕ → Bool → Bool → Type 0
 KeepsFilled m n short goes = (full : ℕ) → SliceFills m.filling n full short goes
     → Kept (record {
