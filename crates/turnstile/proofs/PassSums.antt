@@ -30,3 +30,10 @@ pub tickets_total : (views : List View) → total ticket_count views ≤ total p
 tickets_total [] = omega arith
 tickets_total (v ∷ rest) = let e = tickets_total rest in let b : ticket_count v ≤ pass_count v =
     cond_below v.spent (has_ticket v.stage) (ticket_small v.stage) in omega arith
+
+pub one_or_none : (v : View) → pass_count v ≤ 1
+one_or_none v = below v.spent
+  where
+    below : (b : Bool) → Rattle.std.proofs.Common.cond b 0 1 ≤ 1
+    below true = omega arith
+    below false = omega arith

@@ -18,7 +18,7 @@ pub prefix_longer : {A : Type 0} (xs ys more : List A) → IsPrefix xs ys → Is
 prefix_longer xs ys more p = prefix_trans xs ys (ys ++ more) p (more, refl)
 
 -- of two beginnings of one list the shorter begins the longer
-pub prefix_shorter : {A : Type 0} (xs ys zs : List A) → IsPrefix xs zs → IsPrefix ys zs → length xs ≤ length ys
+pub prefix_shorter : (xs ys zs : List Entry) → IsPrefix xs zs → IsPrefix ys zs → length xs ≤ length ys
     → IsPrefix xs ys
 prefix_shorter [] ys zs p q le = (ys, refl)
 prefix_shorter (x ∷ xs) [] zs p q le = absurd (omega arith)
@@ -77,25 +77,28 @@ made_nothing maker xs log p none =
     nothing_first (entries_by maker xs) (made_from (0 + length xs) maker p.0)
     (sym (made_more maker 0 xs p.0) ∙ (ap (entries_by maker) p.1 ∙ none))
 
-no_more : {A : Type 0} (xs ys : List A) → xs ++ ys ≡ xs → ys ≡ []
-no_more xs ys e = append_cancel_left xs ys [] (e ∙ sym (append-nil xs))
-
 nothing_last : {A : Type 0} (xs ys : List A) → xs ++ ys ≡ [] → ys ≡ []
 nothing_last [] ys e = e
 nothing_last (x ∷ xs) ys e = absurd cc
 
+-- two lists that were seen of a log, the first of them with all that this number made
+pub record AreSeen (number : ℕ) (xs ys log : List Entry) : Type 0 where
+  pub first : IsPrefix xs log
+  pub second : IsPrefix ys log
+  pub own : entries_by number xs ≡ entries_by number log
+
 -- who has made as much at the end as at the beginning has made that much in between
-pub made_between : {ys log : List Entry} (maker : ℕ) (xs : List Entry) → IsPrefix xs ys → IsPrefix ys log
-    → entries_by maker xs ≡ entries_by maker log → entries_by maker ys ≡ entries_by maker log
-made_between {ys} {log} maker xs p q same =
+pub made_between : (maker : ℕ) (xs : List Entry) {ys log : List Entry} → AreSeen maker xs ys log → IsPrefix xs ys
+    → entries_by maker ys ≡ entries_by maker log
+made_between maker xs {ys} {log} seen p =
     let a : List PlacedEntry = made_from (0 + length xs) maker p.0 in
-    let b : List PlacedEntry = made_from (0 + length ys) maker q.0 in
+    let b : List PlacedEntry = made_from (0 + length ys) maker seen.second.0 in
     let mid : entries_by maker ys ≡ entries_by maker xs ++ a = ap (entries_by maker) (sym p.1) ∙ made_more maker 0 xs
     p.0 in
-    let end : entries_by maker log ≡ entries_by maker ys ++ b = ap (entries_by maker) (sym q.1) ∙ made_more maker 0 ys
-    q.0 in
-    let both : entries_by maker xs ++ (a ++ b) ≡ entries_by maker xs =
-    sym (append_assoc (entries_by maker xs) a b) ∙ (ap (λ (zs : List PlacedEntry). zs ++ b) (sym mid) ∙ (sym end ∙ sym
-    same)) in
-    let none : b ≡ [] = nothing_last a b (no_more (entries_by maker xs) (a ++ b) both) in
+    let end : entries_by maker log ≡ entries_by maker ys ++ b =
+    ap (entries_by maker) (sym seen.second.1) ∙ made_more maker 0 ys seen.second.0 in
+    let both : entries_by maker xs ++ (a ++ b) ≡ entries_by maker xs ++ [] =
+    sym (append_assoc (entries_by maker xs) a b) ∙ (ap (λ (zs : List PlacedEntry). zs ++ b) (sym mid) ∙ (sym end ∙ (sym
+    seen.own ∙ sym (append-nil (entries_by maker xs))))) in
+    let none : b ≡ [] = nothing_last a b (append_cancel_left (entries_by maker xs) (a ++ b) [] both) in
     sym (end ∙ (ap (λ (zs : List PlacedEntry). entries_by maker ys ++ zs) none ∙ append-nil (entries_by maker ys)))

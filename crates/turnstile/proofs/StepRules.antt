@@ -10,7 +10,7 @@ use native.Mathlib.Decide.{ℕ_discrete}
 use lib.ListN.{get_elem?}
 use lib.Seq.{set-get_or}
 use Rattle.atomic_table.specs.Table.{State, Me, put_back, rest, keeps, takes, gives, Allows}
-use Rattle.atomic_table.proofs.Lists.{set_here, set_else, set_again, one_turn}
+use Rattle.atomic_table.proofs.Lists.{set_again, one_turn}
 use Rattle.admission.specs.declared.entries.Entry.{Entry}
 use Rattle.turnstile.specs.declared.view.Joined.{Joined}
 use Rattle.turnstile.specs.declared.view.PassStage.{PassStage}
@@ -18,17 +18,26 @@ use Rattle.turnstile.specs.declared.view.PassStage.TheVariants.{Idle, Waits, Hol
 use Rattle.turnstile.specs.declared.view.Terms.{Terms}
 use Rattle.turnstile.specs.declared.view.View.{View}
 use Rattle.admission.specs.Makers.{entries_by}
-use Rattle.turnstile.specs.TurnRule.{total, pass_count, ticket_count, has_ticket, IsLive, IsTicket, InTurn, Fits}
+use Rattle.turnstile.specs.TurnRule.{pass_count, ticket_count, IsTicket, InTurn, Fits}
 use Rattle.turnstile.specs.TurnRule.{Apart, IsAway, IsHome, IsRuled}
 use Rattle.turnstile.specs.TableSeats.{IsFree}
-use Rattle.turnstile.specs.Steps.{HasTaken, IsTurn, Knows, slot_list}
+use Rattle.turnstile.specs.Steps.{HasDrawn, HasLooked, HasCounted, HasLeft, HasTaken, HasRead, IsTurn, IsWaiting, slot_list}
 use Rattle.turnstile.proofs.Prefixes.{prefix_self, prefix_trans, prefix_longer, made_other}
-use Rattle.turnstile.proofs.PassSums.{total_set, tickets_total}
-use Rattle.turnstile.proofs.LivePasses.{lives, waits_in, ticket_or, Free, idle_free, waits_free, ticket_low, turn_more}
-use Rattle.turnstile.proofs.LivePasses.{turn_next, at_inside, apart_both, one_at, restage, refit}
-use Rattle.turnstile.proofs.LivePasses.{first_set, live_set, FreeChange, Waiter, Holder, EmptyWaiter, GrownHolder, longer_list}
+use Rattle.turnstile.proofs.PassSums.{total_set, tickets_total, one_or_none}
+use Rattle.turnstile.proofs.LivePasses.{lives, tickets_of, ticket_or, Free, idle_free, waits_free, ticket_low, turn_more}
+use Rattle.turnstile.proofs.LivePasses.{turn_next, apart_both, one_at, Live, holder_of, not_holder, Both}
+use Rattle.turnstile.proofs.LivePasses.{first_set, live_set, live_here, live_else}
 
-module _ {B : Type 0} (entries : B → List Entry) (terms_of : B → Terms) (terms : Terms) where
+-- what a turnstile reads of the values that it keeps, and what stays of its own
+pub record KeptValue : Type 1 where
+  pub B : Type 0
+  pub entries : B → List Entry
+  pub terms_of : B → Terms
+  pub terms : Terms
+
+module _ (kept : KeptValue) where
+  open kept use {B, entries, terms_of, terms}
+
   abbrev pub St : Type 0
   St = State (Option B) View
 
@@ -41,223 +50,261 @@ module _ {B : Type 0} (entries : B → List Entry) (terms_of : B → Terms) (ter
   abbrev pub Place : List Entry → St → Type 0
   Place log s = IsHome entries terms_of terms log s ⊎ IsAway log s
 
-  -- one pass has changed, and with it the words, the homes and the list
-  pub record Change (s : St) (r : Rule s) : Type 0 where
-    pub id : ℕ
-    pub old : View
+  -- a live pass of a state that has the invariant
+  pub record Pass : Type 0 where
+    pub state : St
+    pub rule : Rule state
+    pub live : Live state.views
+    pub open live use *
+
+  -- it and another pass stand apart
+  pub apart_of : (p : Pass) (o : Live p.state.views) → o.id ≢ p.id → Both p.view o.view
+  apart_of p o other = (
+    p.rule.apart p.id o.id p.view o.view (λ e. other (sym e)) p.is_live o.is_live,
+    p.rule.apart o.id p.id o.view p.view other o.is_live p.is_live,
+  )
+
+  -- the state after a step of the pass, which leaves it with another view
+  pub record Next (p : Pass) : Type 0 where
     pub new : View
-    pub live : IsLive s.views id old
-    pub left : new.spent ≡ false
-    pub same : new.number ≡ old.number
-    pub joined : new.joined ≡ old.joined
     pub log : List Entry
+    pub count : ℕ
     pub drawn : ℕ
     pub served : ℕ
     pub words : List ℕ
     pub homes : Homes
     pub words_are : words ≡ drawn % 2 ^ 64 ∷ served % 2 ^ 64 ∷ length log % 2 ^ 64 ∷ []
-    pub queue : served + total ticket_count (set s.views id new) ≡ drawn
-    pub makers : (m : ℕ) → r.count < m → entries_by m log ≡ []
-    pub fits : Fits terms log r.count served drawn new
-    pub others : (j : ℕ) (u : View) → j ≢ id → IsLive s.views j u → Fits terms log r.count served drawn u
-    pub tickets : (j : ℕ) (u : View) → j ≢ id → IsLive s.views j u
-        → (t : ℕ) → IsTicket new.stage t → IsTicket u.stage t → ⊥
-    pub place : Place log record { words = words; homes = homes; views = set s.views id new }
+    pub few : (count < 2 ^ 32) × (p.rule.count ≤ count)
+    pub queue : served + ticket_count new + p.rule.drawn ≡ drawn + p.rule.served + ticket_count p.view
+    pub makers : (m : ℕ) → count < m → entries_by m log ≡ []
+    pub fits : new.spent ≡ false → Fits terms log count served drawn new
+    pub others : (o : Live p.state.views) → o.id ≢ p.id → Fits terms log count served drawn o.view
+    pub place : Place log record { words = words; homes = homes; views = set p.state.views p.id new }
 
-  -- the pass that has changed stands apart from each other one
-  apart_others : (s : St) (r : Rule s) (c : Change s r) (j : ℕ) (u : View) → j ≢ c.id → IsLive s.views j u
-      → Apart c.new u × Apart u c.new
-  apart_others s r c j u other l =
-      let a = r.apart c.id j c.old u (λ e. other (sym e)) c.live l in
-      let b = r.apart j c.id u c.old other l c.live in
-      apart_both {w = c.new} {u = u} (λ e. a.numbers (sym c.same ∙ e)) (c.tickets j u other l)
-      (λ k past at. a.past k past (sym (ap (λ (js : List Joined). get_elem? js k) c.joined) ∙ at))
-      (λ k past at e. b.past k past at (e ∙ c.same))
+  abbrev pub next_state : {p : Pass} → Next p → St
+  next_state {p} n = record { words = n.words; homes = n.homes; views = set p.state.views p.id n.new }
 
-  pub changes : (s : St) (r : Rule s) (c : Change s r)
-      → Rule record { words = c.words; homes = c.homes; views = set s.views c.id c.new }
-  changes s r c = record {
-    log = log;
-    count = r.count;
-    drawn = drawn;
-    served = served;
-    words = words_are;
-    few = r.few;
-    queue = queue;
+  -- it has the invariant, if the pass stands apart from each other one still
+  unfoldable pub changes : (p : Pass) (n : Next p)
+      → (n.new.spent ≡ false → (o : Live p.state.views) → o.id ≢ p.id → Both n.new o.view)
+      → (p.view.number ≡ 0 → (n.new.spent ≡ false) × (n.new.number ≡ 0)) → Rule (next_state n)
+  changes p n apart keeps_first = record {
+    log = n.log;
+    count = n.count;
+    drawn = n.drawn;
+    served = n.served;
+    words = n.words_are;
+    few = n.few.0;
+    queue =
+        (let e = total_set ticket_count views id v w p.is_live.0 in let old = r.queue in let new = n.queue in
+        omega arith);
     passes =
-        (let e = total_set pass_count s.views id v w live.0 in let a = lives v live.1 in let b =
-        lives w left in let p = r.passes in omega arith);
-    makers = makers;
-    each = live_set (λ _ u. Fits terms log r.count served drawn u) s.views id w fits others;
-    apart = λ i j x y ne lx ly. live_set (λ i x. i ≢ j → Apart x y) s.views id w
-        (λ ne. live_set (λ j y. id ≢ j → Apart w y) s.views id w (λ same. absurd (same refl))
-        (λ j y other l _. (apart_others s r c j y other l).0) j y ly ne)
-        (λ i x other l ne. live_set (λ j y. i ≢ j → Apart x y) s.views id w (λ _. (apart_others s r c i x other l).1)
+        (let e = total_set pass_count views id v w p.is_live.0 in let a = lives v p.is_live.1 in
+        let b = one_or_none w in let old = r.passes in let more = n.few.1 in omega arith);
+    makers = n.makers;
+    each = live_set (λ _ u. Fits terms n.log n.count n.served n.drawn u) views id w n.fits
+        (λ j u other l. n.others (record { id = j; view = u; is_live = l }) other);
+    apart = λ i j x y ne lx ly. live_set (λ i x. i ≢ j → Apart x y) views id w
+        (λ left ne. live_set (λ j y. id ≢ j → Apart w y) views id w (λ _ same. absurd (same refl))
+        (λ j y other l _. (apart left (record { id = j; view = y; is_live = l }) other).0) j y ly ne)
+        (λ i x other l ne. live_set (λ j y. i ≢ j → Apart x y) views id w
+        (λ left _. (apart left (record { id = i; view = x; is_live = l }) other).1)
         (λ j y _ k ne. r.apart i j x y ne l k) j y ly ne)
         i x lx ne;
-    first_pass = first_set id w live left same r.first_pass;
-    where_is = place;
+    first_pass = first_set p.live w keeps_first r.first_pass;
+    where_is = n.place;
   }
     where
-      open c use {id, old as v, new as w, live, left, same, log, drawn, served, words_are, queue, makers, fits, others, place}
+      open p use {id, view as v, rule as r, state.views}
+      open n use {new as w}
 
-  pub place_other : (log : List Entry) (s : St) (c : FreeChange s.views) (words : List ℕ) → Place log s
-      → Place log record { words = words; homes = s.homes; views = set s.views c.id c.new }
-  place_other log s c words (inl h) = inl record {
-    value = h.value;
-    home = h.home;
-    log_is = h.log_is;
-    terms_are = h.terms_are;
-    free = live_set (λ _ u. Free u.stage) s.views id w next (λ j u _ l. h.free j u l);
+  -- a step of a pass that stays, with its number
+  pub record Stays (p : Pass) (n : Next p) : Type 0 where
+    pub left : n.new.spent ≡ false
+    pub number : n.new.number ≡ p.view.number
+    pub joined : n.new.joined ≡ p.view.joined
+    pub tickets : (o : Live p.state.views) → o.id ≢ p.id
+        → (t : ℕ) → IsTicket n.new.stage t → IsTicket o.view.stage t → ⊥
+
+  unfoldable pub steps : (p : Pass) (n : Next p) → Stays p n → Rule (next_state n)
+  steps p n it = changes p n
+      (λ _ o other. apart_both n.new (apart_of p o other) (it.number, it.joined) (it.tickets o other))
+      (λ zero. (it.left, it.number ∙ zero))
+
+  -- another pass of the same state
+  abbrev pub at : (p : Pass) → Live p.state.views → Pass
+  at p o = record { state = p.state; rule = p.rule; live = o }
+
+  pub fits_of : (p : Pass) → Fits terms p.rule.log p.rule.count p.rule.served p.rule.drawn p.view
+  fits_of p = p.rule.each p.id p.view p.is_live
+
+  -- a pass at another stage, or when other tickets are out
+  pub restage : (p : Pass) (served drawn : ℕ) (st : PassStage) → InTurn served drawn st
+      → Fits terms p.rule.log p.rule.count served drawn (record p.view { stage = st })
+  restage p served drawn st turn = let f = fits_of p in record {
+    terms_are = f.terms_are;
+    told_terms = f.told_terms;
+    seen = f.seen;
+    told = f.told;
+    mine = f.mine;
+    own = f.own;
+    past = f.past;
+    few = f.few;
+    first = f.first;
+    others = f.others;
+    turn = turn;
   }
-    where
-      open c use {id, new as w, new_free as next}
-  place_other log s c words (inr a) =
-      let other : a.place ≢ id =
-      λ e. idle a.ticket (ap (λ (u : View). u.stage) (one_at s.views live.0 a.live.0 e) ∙ a.holds) in inr record {
+
+  -- a pass once the list has an entry more, of another
+  longer_list : (p : Pass) (e : Entry) → e.maker ≢ p.view.number
+      → ((k : ℕ) (j : Joined) → get_elem? p.view.joined k ≡ some j → e.maker ≢ j.number)
+      → Fits terms (p.rule.log ++ e ∷ []) p.rule.count p.rule.served p.rule.drawn p.view
+  longer_list p e other past = let f = fits_of p in let log = p.rule.log in record {
+    terms_are = f.terms_are;
+    told_terms = f.told_terms;
+    seen = prefix_longer p.view.seen log (e ∷ []) f.seen;
+    told = f.told;
+    mine = f.mine ∙ sym (made_other p.view.number log e other);
+    own = f.own;
+    past = λ k j at. let p = f.past k j at in
+        record { mine = p.mine ∙ sym (made_other j.number log e (past k j at)); few = p.few; other = p.other };
+    few = f.few;
+    first = f.first;
+    others = f.others;
+    turn = f.turn;
+  }
+
+  -- the value stays where it is when a pass changes that has the lock neither before nor after
+  pub place_other : (p : Pass) (w : View) → Free p.view.stage → Free w.stage → (words : List ℕ)
+      → Place p.rule.log record { words = words; homes = p.state.homes; views = set p.state.views p.id w }
+  place_other p w idle next words = ⊎_elim
+      (λ (h : IsHome entries terms_of terms p.rule.log p.state). inl (record {
+        value = h.value;
+        home = h.home;
+        log_is = h.log_is;
+        terms_are = h.terms_are;
+        free = live_set (λ _ u. Free u.stage) p.state.views p.id w (λ _. next) (λ j u _ l. h.free j u l);
+      }))
+      (λ (a : IsAway p.rule.log p.state).
+      let moved = live_else (holder_of a).live p.id w (not_holder (holder_of a) p.live idle) in inr (record {
         home = a.home;
         place = a.place;
         holder = a.holder;
         ticket = a.ticket;
-        live = (set_else s.views id a.place w other ∙ a.live.0, a.live.1);
+        live = moved.is_live;
         holds = a.holds;
         all = a.all;
-      }
-    where
-      open c use {id, old as v, new as w, live, old_free as idle}
+      }))
+      p.rule.where_is
 
-  pub unmoved : (s : St) → Rule s → (i id : ℕ) (v : View) → get_elem? s.views id ≡ some v
-      → Rule record { words = set s.words i (get_or s.words i 0); homes = s.homes; views = set s.views id v }
-  unmoved s r i id v at = subst (λ (x : List ℕ × List View). Rule record { words = x.0; homes = s.homes; views = x.1 })
-      (λ k. (sym (set-get_or s.words i 0) k, sym (set_again s.views id v at) k)) r
+  unmoved : (p : Pass) (i : ℕ)
+      → Rule record {
+        words = set p.state.words i (get_or p.state.words i 0);
+        homes = p.state.homes;
+        views = set p.state.views p.id p.view;
+      }
+  unmoved p i = let s = p.state in
+      subst (λ (x : List ℕ × List View). Rule record { words = x.0; homes = s.homes; views = x.1 })
+      (λ k. (sym (set-get_or s.words i 0) k, sym (set_again s.views p.id p.view p.is_live.0) k)) p.rule
 
   pub reads : (id slots : ℕ) (me : Me (Option B) View) → me.0.spent ≡ false
-      → Allows Rule slots id me 0 (λ n. n) (λ n next. (next ≡ me) × Knows me.0)
-  reads id slots me left s r deep at low = let f = r.each id me.0 (at, left) in (
-    me.0,
-    keeps,
-    tt,
-    unmoved s r 0 id me.0 at,
-    (refl, record { own = f.own; told = f.told; terms = f.told_terms ∙ sym f.terms_are }),
-  )
+      → Allows Rule slots id me 0 (λ n. n) (HasRead me)
+  reads id slots me left s r deep here low =
+      let p : Pass = record { state = s; rule = r; live = record { id = id; view = me.0; is_live = (here, left) } } in
+      let f = fits_of p in (
+        me.0,
+        keeps,
+        tt,
+        unmoved p 0,
+        (refl, record { own = f.own; told = f.told; terms = f.told_terms ∙ sym f.terms_are }),
+      )
 
-  -- a pass that rests draws the next ticket, and the value stays where it is
-  place_drawn : (s : St) (r : Rule s) (id : ℕ) (v : View) → IsLive s.views id v → v.stage ≡ Idle → (words : List ℕ)
-      → Place r.log record { words = words; homes = s.homes; views = set s.views id (record v { stage = Waits r.drawn }) }
-  place_drawn s r id v live idle words = place_other r.log s
-      (record {
-        id = id;
-        old = v;
-        new = record v { stage = Waits r.drawn };
-        live = live;
-        old_free = idle_free v.stage idle;
-        new_free = waits_free (Waits r.drawn) r.drawn refl;
-      })
-      words r.where_is
-
-  drew : (s : St) (r : Rule s) (id : ℕ) (v : View) → IsLive s.views id v → v.stage ≡ Idle
-      → Rule record {
-        words = set s.words 0 ((get_or s.words 0 0 + 1) % 2 ^ 64);
-        homes = s.homes;
-        views = set s.views id (record v { stage = Waits r.drawn });
-      }
-  drew s r id v live idle =
+  -- a pass that rests draws the next ticket
+  abbrev drew : (p : Pass) → p.view.stage ≡ Idle → Next p
+  drew p idle =
+      let q0 : ticket_count v ≡ 0 = tickets_of v left idle in
       let w : View = record v { stage = Waits r.drawn } in
-      let q0 : ticket_count v ≡ 0 = waits_in v live.1 ∙ ap has_ticket idle in
-      let q1 : ticket_count w ≡ 1 = waits_in w live.1 in
-      let sums = total_set ticket_count s.views id v w live.0 in
-      let queue = r.queue in
-      changes s r (record {
-        id = id;
-        old = v;
+      let q1 : ticket_count w ≡ 1 = tickets_of w {st = Waits r.drawn} left refl in record {
         new = w;
-        live = live;
-        left = live.1;
-        same = refl;
-        joined = refl;
         log = r.log;
+        count = r.count;
         drawn = r.drawn + 1;
         served = r.served;
         words = set s.words 0 ((get_or s.words 0 0 + 1) % 2 ^ 64);
         homes = s.homes;
         words_are = ap (λ (ws : List ℕ). set ws 0 ((get_or ws 0 0 + 1) % 2 ^ 64)) r.words
             ∙ ap (λ (k : ℕ). k ∷ r.served % 2 ^ 64 ∷ length r.log % 2 ^ 64 ∷ []) (omega arith);
+        few = (r.few, omega arith);
         queue = omega arith;
         makers = r.makers;
-        fits = restage (r.each id v live) (omega arith, omega arith);
-        others = λ j u other l. let g = r.each j u l in refit g (turn_more r.served r.drawn u.stage g.turn);
-        tickets = λ j u other l t here there. let h = ticket_low r.served r.drawn t u.stage (r.each j u l).turn there in
-            let e : r.drawn ≡ t = here in let z = h.1 in omega arith;
-        place = place_drawn s r id v live idle (set s.words 0 ((get_or s.words 0 0 + 1) % 2 ^ 64));
-      })
+        fits = λ _. restage p r.served (r.drawn + 1) (Waits r.drawn) (let q = r.queue in omega arith, omega arith);
+        others = λ o other.
+            restage (at p o) r.served (r.drawn + 1) o.view.stage
+            (turn_more r.served r.drawn o.view.stage (fits_of (at p o)).turn);
+        place = place_other p w (idle_free v.stage idle)
+            (waits_free (Waits r.drawn) r.drawn refl) (set s.words 0 ((get_or s.words 0 0 + 1) % 2 ^ 64));
+      }
+    where
+      open p use {state as s, rule as r, view as v, is_live.1 as left}
 
   pub draws : (id slots : ℕ) (me : Me (Option B) View) → IsFree me
-      → Allows Rule slots id me 0 (λ n. (n + 1) % 2 ^ 64)
-      (λ n next. (t : ℕ) × (n ≡ t % 2 ^ 64) × (next.0 ≡ record me.0 { stage = Waits t }) × (next.1 ≡ []))
-  draws id slots me it s r deep at low = (
-    record me.0 { stage = Waits r.drawn },
-    keeps,
-    tt,
-    drew s r id me.0 (at, it.left) it.idle,
-    (r.drawn, ap (λ (ws : List ℕ). get_or ws 0 0) r.words, refl, it.empty),
-  )
+      → Allows Rule slots id me 0 (λ n. (n + 1) % 2 ^ 64) (HasDrawn me)
+  draws id slots me it s r deep here low =
+      let p : Pass = record { state = s; rule = r; live = record { id = id; view = me.0; is_live = (here, it.left) } } in (
+        record me.0 { stage = Waits r.drawn },
+        keeps,
+        tt,
+        steps p (drew p it.idle) record {
+          left = it.left;
+          number = refl;
+          joined = refl;
+          tickets = λ o other t here there.
+              let h = ticket_low r.served r.drawn t o.view.stage (fits_of (at p o)).turn there in
+              let e : r.drawn ≡ t = here in let z = h.1 in omega arith;
+        },
+        (r.drawn, ap (λ (ws : List ℕ). get_or ws 0 0) r.words, refl, it.empty),
+      )
+
+  -- the ticket of who has the lock is served
+  served_here : (p : Pass) {t : ℕ} → p.view.stage ≡ Holds t → (t ≡ p.rule.served) × (t < p.rule.drawn)
+  served_here p holds = subst (InTurn p.rule.served p.rule.drawn) holds (fits_of p).turn
+
+  served_ticket : (p : Pass) {t : ℕ} → p.view.stage ≡ Holds t → IsTicket p.view.stage p.rule.served
+  served_ticket p holds = subst (λ (st : PassStage). IsTicket st p.rule.served) (sym holds) (served_here p holds).0
 
   -- who holds a ticket that is served finds the value at home, while nobody has the lock
-  at_home : (s : St) (r : Rule s) (waiter : Waiter s.views) → waiter.ticket ≡ r.served
-      → IsHome entries terms_of terms r.log s
-  at_home s r waiter now = ⊎_elim (λ (h : IsHome entries terms_of terms r.log s). h)
-      (λ (a : IsAway r.log s).
-      let other : id ≢ a.place =
-      λ e. waits_free v.stage t is a.ticket (ap (λ (u : View). u.stage) (one_at s.views live.0 a.live.0 (sym e))
-      ∙ a.holds) in
-      let apart = r.apart id a.place v a.holder other live a.live in
-      let turn : InTurn r.served r.drawn (Holds a.ticket) =
-      subst (InTurn r.served r.drawn) a.holds (r.each a.place a.holder a.live).turn in
-      absurd (apart.tickets r.served (subst (λ (st : PassStage). IsTicket st r.served) (sym is) now)
-      (subst (λ (st : PassStage). IsTicket st r.served) (sym a.holds) turn.0)))
-      r.where_is
-    where
-      open waiter use {id, view as v, live, ticket as t, waits as is}
+  at_home : (p : Pass) {t : ℕ} → p.view.stage ≡ Waits t → t ≡ p.rule.served
+      → IsHome entries terms_of terms p.rule.log p.state
+  at_home p {t} is now = ⊎_elim (λ (h : IsHome entries terms_of terms p.rule.log p.state). h)
+      (λ (a : IsAway p.rule.log p.state).
+      let holder = holder_of a in
+      absurd ((apart_of p holder.live (not_holder holder p.live (waits_free p.view.stage t is))).0.tickets p.rule.served
+      (subst (λ (st : PassStage). IsTicket st p.rule.served) (sym is) now) (served_ticket (at p holder.live) a.holds)))
+      p.rule.where_is
 
-  -- the value is away with the pass that has the lock and has seen the complete list
-  away_with : {log : List Entry} {words : List ℕ} {homes : Homes} {views : List View} (holder : Holder views)
-      → homes ≡ none ∷ [] → holder.view.seen ≡ log
-      → Place log record { words = words; homes = homes; views = views }
-  away_with holder home all = inr record {
-    home = home;
-    place = holder.id;
-    holder = holder.view;
-    ticket = holder.ticket;
-    live = holder.live;
-    holds = holder.holds;
-    all = all;
-  }
+  -- who has the lock is the holder of the value that is away
+  pub holder_here : (p : Pass) {t : ℕ} → p.view.stage ≡ Holds t
+      → (p.state.homes ≡ none ∷ []) × (p.view.seen ≡ p.rule.log)
+  holder_here p {t} is = ⊎_elim
+      (λ (h : IsHome entries terms_of terms p.rule.log p.state). absurd (h.free p.id p.view p.is_live t is))
+      (λ (a : IsAway p.rule.log p.state).
+      let holder = holder_of a in let same : holder.id ≡ p.id =
+      dite (ℕ_discrete holder.id p.id) (λ e. e)
+      (λ (ne : holder.id ≢ p.id). absurd ((apart_of p holder.live ne).0.tickets p.rule.served (served_ticket p is)
+      (served_ticket (at p holder.live) a.holds))) in
+      (a.home, ap (λ (u : View). u.seen) (one_at p.live holder.live same) ∙ a.all))
+      p.rule.where_is
 
-  -- a live pass that has the lock once it has changed
-  abbrev holder_set : (views : List View) (id : ℕ) {v : View} (w : View) (t : ℕ) → IsLive views id v → w.spent ≡ false
-      → w.stage ≡ Holds t → Holder (set views id w)
-  holder_set views id {v} w t live left holds = record {
-    id = id;
-    view = w;
-    live = (set_here views id w (at_inside views id v live.0), left);
-    ticket = t;
-    holds = holds;
-  }
-
-  -- the pass as it takes the value
-  abbrev taken : {views : List View} → Waiter views → B → View
-  taken waiter value = record waiter.view { stage = Holds waiter.ticket; seen = entries value }
-
-  took_fits : (s : St) (r : Rule s) (waiter : Waiter s.views) (h : IsHome entries terms_of terms r.log s)
-      → waiter.ticket ≡ r.served → Fits terms r.log r.count r.served r.drawn (taken waiter h.value)
-  took_fits s r waiter h now =
-      let f = r.each id v live in
-      let low : (r.served ≤ t) × (t < r.drawn) =
-      ticket_low r.served r.drawn t v.stage f.turn (subst (λ (st : PassStage). IsTicket st t) (sym is) refl) in record {
+  took_fits : (p : Pass) {t : ℕ} → p.view.stage ≡ Waits t → t ≡ p.rule.served
+      → (h : IsHome entries terms_of terms p.rule.log p.state)
+      → Fits terms p.rule.log p.rule.count p.rule.served p.rule.drawn
+      (record p.view { stage = Holds t; seen = entries h.value })
+  took_fits p {t} is now h =
+      let f = fits_of p in let v = p.view in let low = subst (InTurn p.rule.served p.rule.drawn) is f.turn in record {
         terms_are = f.terms_are;
         told_terms = f.told_terms;
-        seen = subst (λ (l : List Entry). IsPrefix l r.log) (sym h.log_is) (prefix_self r.log);
-        told = subst (IsPrefix v.told) (sym h.log_is) (prefix_trans v.told v.seen r.log f.told f.seen);
+        seen = subst (λ (l : List Entry). IsPrefix l p.rule.log) (sym h.log_is) (prefix_self p.rule.log);
+        told = subst (IsPrefix v.told) (sym h.log_is) (prefix_trans v.told v.seen p.rule.log f.told f.seen);
         mine = f.mine;
         own = f.mine ∙ ap (entries_by v.number) (sym h.log_is);
         past = f.past;
@@ -266,282 +313,228 @@ module _ {B : Type 0} (entries : B → List Entry) (terms_of : B → Terms) (ter
         others = f.others;
         turn = (now, low.1);
       }
-    where
-      open waiter use {id, view as v, live, ticket as t, waits as is}
 
-  took : (s : St) (r : Rule s) (waiter : Waiter s.views) (h : IsHome entries terms_of terms r.log s)
-      → waiter.ticket ≡ r.served
-      → Rule record {
-        words = set s.words 1 (get_or s.words 1 0);
-        homes = set s.homes 0 none;
-        views = set s.views waiter.id (taken waiter h.value);
-      }
-  took s r waiter h now =
-      let w : View = taken waiter h.value in
-      let q0 : ticket_count v ≡ 1 = waits_in v live.1 ∙ ap has_ticket is in
-      let q1 : ticket_count w ≡ 1 = waits_in w live.1 in
-      let sums = total_set ticket_count s.views id v w live.0 in
-      let queue = r.queue in
-      changes s r (record {
-        id = id;
-        old = v;
+  -- a pass whose ticket is served takes the lock and the value
+  abbrev took : (p : Pass) {t : ℕ} → p.view.stage ≡ Waits t → t ≡ p.rule.served
+      → IsHome entries terms_of terms p.rule.log p.state → Next p
+  took p {t} is now h =
+      let w : View = record v { stage = Holds t; seen = entries h.value } in
+      let q0 : ticket_count v ≡ 1 = tickets_of v left is in
+      let q1 : ticket_count w ≡ 1 = tickets_of w {st = Holds t} left refl in record {
         new = w;
-        live = live;
-        left = live.1;
-        same = refl;
-        joined = refl;
         log = r.log;
+        count = r.count;
         drawn = r.drawn;
         served = r.served;
         words = set s.words 1 (get_or s.words 1 0);
         homes = set s.homes 0 none;
         words_are = set-get_or s.words 1 0 ∙ r.words;
+        few = (r.few, omega arith);
         queue = omega arith;
         makers = r.makers;
-        fits = took_fits s r waiter h now;
-        others = λ j u _ l. r.each j u l;
-        tickets = λ j u other l x here. (r.apart id j v u (λ e. other (sym e)) live l).tickets x
-            (subst (λ (st : PassStage). IsTicket st x) (sym is) here);
-        place = away_with (holder_set s.views id w t live live.1 refl) (ap (λ (hs : Homes). set hs 0 none) h.home) h.log_is;
-      })
+        fits = λ _. took_fits p is now h;
+        others = λ o _. fits_of (at p o);
+        place = inr record {
+          home = ap (λ (hs : Homes). set hs 0 none) h.home;
+          place = p.id;
+          holder = w;
+          ticket = t;
+          live = (live_here p.live w left).is_live;
+          holds = refl;
+          all = h.log_is;
+        };
+      }
     where
-      open waiter use {id, view as v, live, ticket as t, waits as is}
+      open p use {state as s, rule as r, view as v, is_live.1 as left}
 
-  -- what the pass has taken once its ticket is served
-  has_taken : (s : St) (r : Rule s) (id : ℕ) (me : Me (Option B) View) (it : EmptyWaiter me) → IsLive s.views id me.0
-      → (h : IsHome entries terms_of terms r.log s)
-      → HasTaken entries terms_of it.ticket me
-      (record me.0 { stage = Holds it.ticket; seen = entries h.value }, (0, Some h.value) ∷ me.1)
-  has_taken s r id me it live h = let f = r.each id me.0 live in record {
-    value = h.value;
-    view = refl;
-    slot = ap (λ (cs : List (ℕ × Option B)). (0, Some h.value) ∷ cs) it.empty;
-    terms = h.terms_are ∙ sym f.terms_are;
-    longer = subst (IsPrefix me.0.seen) (sym h.log_is) f.seen;
-    own = f.mine ∙ ap (entries_by me.0.number) (sym h.log_is);
-  }
-
-  pub looks : (id slots : ℕ) (me : Me (Option B) View) → EmptyWaiter me
-      → Allows Rule slots id me 1 (λ n. n) (λ n next. (u : ℕ) → me.0.stage ≡ Waits u
-      → (n ≡ u % 2 ^ 64 → HasTaken entries terms_of u me next) × (n ≢ u % 2 ^ 64 → next ≡ me))
-  looks id slots me it s r deep at low =
-      let v = me.0 in let f = r.each id v (at, left) in
-      let word : get_or s.words 1 0 ≡ r.served % 2 ^ 64 = ap (λ (ws : List ℕ). get_or ws 1 0) r.words in
-      let here : (r.served ≤ t) × (t < r.drawn) =
-      ticket_low r.served r.drawn t v.stage f.turn (subst (λ (st : PassStage). IsTicket st t) (sym is) refl) in
-      let queue = r.queue in let few = r.few in let passes = r.passes in let less = tickets_total s.views in
-      let first = here.0 in let drawn = here.1 in
-      let one_ticket : (u : ℕ) → v.stage ≡ Waits u → t ≡ u = λ u is'. ap ticket_or (sym is ∙ is') in
-      dite (ℕ_discrete (get_or s.words 1 0) (t % 2 ^ 64))
+  pub looks : (id slots : ℕ) (me : Me (Option B) View) {ticket : ℕ} → IsWaiting me ticket
+      → Allows Rule slots id me 1 (λ n. n) (HasLooked entries terms_of me)
+  looks id slots me it s r deep here low = dite (ℕ_discrete (get_or s.words 1 0) (t % 2 ^ 64))
       (λ (hit : get_or s.words 1 0 ≡ t % 2 ^ 64).
-      let same : r.served ≡ t = one_turn r.served t (2 ^ 64) first (omega arith) (sym word ∙ hit) in
-      let waiter : Waiter s.views = record { id = id; view = v; live = (at, left); ticket = t; waits = is } in
-      let h = at_home s r waiter (sym same) in
-      let w : View = record v { stage = Holds t; seen = entries h.value } in (
-        w,
+      let turn = subst (InTurn r.served r.drawn) is f.turn in
+      let same : r.served ≡ t = one_turn r.served t (2 ^ 64) turn.0
+      (let queue = r.queue in let few = r.few in let passes = r.passes in let less = tickets_total s.views in
+      let drawn = turn.1 in omega arith)
+      (sym (ap (λ (ws : List ℕ). get_or ws 1 0) r.words) ∙ hit) in
+      let h = at_home p is (sym same) in
+      let next : Me (Option B) View = (record v { stage = Holds t; seen = entries h.value }, (0, Some h.value) ∷ me.1) in
+      let taken : HasTaken entries terms_of t me next = record {
+        value = h.value;
+        view = refl;
+        slot = ap (λ (cs : List (ℕ × Option B)). (0, Some h.value) ∷ cs) it.empty;
+        terms = h.terms_are ∙ sym f.terms_are;
+        longer = subst (IsPrefix v.seen) (sym h.log_is) f.seen;
+        own = f.mine ∙ ap (entries_by v.number) (sym h.log_is);
+      } in (
+        next.0,
         takes 0 (Some h.value),
         ap (λ (hs : Homes). get_elem? hs 0) h.home,
-        took s r waiter h (sym same),
+        steps p (took p is (sym same) h) record {
+          left = left;
+          number = refl;
+          joined = refl;
+          tickets = λ o other x here. (apart_of p o other).0.tickets x
+              (subst (λ (st : PassStage). IsTicket st x) (sym is) here);
+        },
         λ u is'. let e = one_ticket u is' in (
-          (λ _. subst (λ (x : ℕ). HasTaken entries terms_of x me (w, (0, Some h.value) ∷ me.1)) e
-              (has_taken s r id me it (at, left) h)),
-          (λ miss. absurd {A = (w, (0, Some h.value) ∷ me.1) ≡ me} (miss (hit ∙ ap (λ (x : ℕ). x % 2 ^ 64) e))),
+          (λ _. subst (λ (x : ℕ). HasTaken entries terms_of x me next) e taken),
+          (λ miss. absurd {A = next ≡ me} (miss (hit ∙ ap (λ (x : ℕ). x % 2 ^ 64) e))),
         ),
       ))
       (λ (miss : get_or s.words 1 0 ≢ t % 2 ^ 64). (
         v,
         keeps,
         tt,
-        unmoved s r 1 id v at,
+        unmoved p 1,
         λ u is'.
             ((λ hit. absurd (miss (hit ∙ ap (λ (x : ℕ). x % 2 ^ 64) (sym (one_ticket u is'))))), (λ _. refl)),
       ))
     where
-      open it use {ticket as t, left, waits as is}
+      open it use {number as t, left, stage as is}
 
-  -- who has the lock is the holder of the value that is away
-  pub holder_here : (s : St) (r : Rule s) (holder : Holder s.views)
-      → (s.homes ≡ none ∷ []) × (holder.view.seen ≡ r.log) × (holder.ticket ≡ r.served) × (holder.ticket < r.drawn)
-  holder_here s r holder =
-      let turn : InTurn r.served r.drawn (Holds t) = subst (InTurn r.served r.drawn) is (r.each id v live).turn in
-      ⊎_elim
-      (λ (h : IsHome entries terms_of terms r.log s). absurd (h.free id v live t is))
-      (λ (a : IsAway r.log s).
-      let theirs : InTurn r.served r.drawn (Holds a.ticket) =
-      subst (InTurn r.served r.drawn) a.holds (r.each a.place a.holder a.live).turn in
-      let same : a.place ≡ id =
-      dite (ℕ_discrete a.place id) (λ e. e)
-      (λ (ne : a.place ≢ id). absurd ((r.apart a.place id a.holder v ne a.live live).tickets r.served
-      (subst (λ (st : PassStage). IsTicket st r.served) (sym a.holds) theirs.0)
-      (subst (λ (st : PassStage). IsTicket st r.served) (sym is) turn.0))) in
-      (a.home, ap (λ (u : View). u.seen) (one_at s.views live.0 a.live.0 same) ∙ a.all, turn.0, turn.1))
-      r.where_is
-    where
-      open holder use {id, view as v, live, ticket as t, holds as is}
+      v : View
+      v = me.0
 
-  -- the pass as it counts an entry of its own
-  abbrev noted : {views : List View} → Holder views → Entry → View
-  noted holder e = record holder.view
-      { seen = holder.view.seen ++ e ∷ []; mine = entries_by holder.view.number (holder.view.seen ++ e ∷ []) }
+      p : Pass
+      p = record { state = s; rule = r; live = record { id = id; view = v; is_live = (here, left) } }
 
-  counted_fits : (s : St) (r : Rule s) (holder : Holder s.views) (e : Entry) → e.maker ≡ holder.view.number
-      → Fits terms (r.log ++ e ∷ []) r.count r.served r.drawn (noted holder e)
-  counted_fits s r holder e own =
-      let f = r.each id v live in
-      let log : List Entry = r.log ++ e ∷ [] in
-      let all : v.seen ++ e ∷ [] ≡ log = ap (λ (l : List Entry). l ++ e ∷ []) (holder_here s r holder).1 in record {
-        terms_are = f.terms_are;
-        told_terms = f.told_terms;
-        seen = subst (λ (l : List Entry). IsPrefix l log) (sym all) (prefix_self log);
-        told = prefix_longer v.told v.seen (e ∷ []) f.told;
-        mine = ap (entries_by v.number) all;
-        own = refl;
-        past = λ k j at. let p =
-            f.past k j at in
-            record {
-              mine = p.mine ∙ sym (made_other j.number r.log e (λ same. p.other (sym same ∙ own)));
-              few = p.few;
-              other = p.other;
-            };
-        few = f.few;
-        first = f.first;
-        others = f.others;
-        turn = f.turn;
-      }
-    where
-      open holder use {id, view as v, live}
+      f : Fits terms r.log r.count r.served r.drawn v
+      f = fits_of p
 
-  counted : (s : St) (r : Rule s) (holder : Holder s.views) (e : Entry) → e.maker ≡ holder.view.number
-      → Rule record {
-        words = set s.words 2 ((get_or s.words 2 0 + 1) % 2 ^ 64);
-        homes = s.homes;
-        views = set s.views holder.id (noted holder e);
-      }
-  counted s r holder e own =
-      let w : View = noted holder e in let f = r.each id v live in let h = holder_here s r holder in
-      let queue = r.queue in let q0 : ticket_count v ≡ ticket_count w = refl in
-      let sums = total_set ticket_count s.views id v w live.0 in
-      changes s r (record {
-        id = id;
-        old = v;
-        new = w;
-        live = live;
-        left = live.1;
-        same = refl;
-        joined = refl;
-        log = r.log ++ e ∷ [];
-        drawn = r.drawn;
-        served = r.served;
-        words = set s.words 2 ((get_or s.words 2 0 + 1) % 2 ^ 64);
-        homes = s.homes;
-        words_are = ap (λ (ws : List ℕ). set ws 2 ((get_or ws 2 0 + 1) % 2 ^ 64)) r.words
-            ∙ ap (λ (k : ℕ). r.drawn % 2 ^ 64 ∷ r.served % 2 ^ 64 ∷ k ∷ []) (let n = length-append r.log (e ∷ []) in
-            omega arith);
-        queue = omega arith;
-        makers = λ m more. made_other m r.log e (λ same. let few = f.few in omega arith) ∙ r.makers m more;
-        fits = counted_fits s r holder e own;
-        others = λ j u other l. let a = r.apart id j v u (λ z. other (sym z)) live l in
-            let b = r.apart j id u v other l live in
-            longer_list e (r.each j u l) (λ same. a.numbers (sym own ∙ same)) (λ k j' at same. b.past k j' at (sym same ∙ own));
-        tickets = λ j u other l. (r.apart id j v u (λ z. other (sym z)) live l).tickets;
-        place = away_with (holder_set s.views id w t live live.1 is) h.0 (ap (λ (l : List Entry). l ++ e ∷ []) h.1);
-      })
-    where
-      open holder use {id, view as v, live, ticket as t, holds as is}
+      one_ticket : (u : ℕ) → v.stage ≡ Waits u → t ≡ u
+      one_ticket u is' = ap ticket_or (sym is ∙ is')
 
-  pub counts_entry : (id slots : ℕ) (me : Me (Option B) View) → GrownHolder entries me
-      → Allows Rule slots id me 2 (λ n. (n + 1) % 2 ^ 64)
-      (λ n next. (next.0
-      ≡ record me.0 { seen = slot_list entries me.1; mine = entries_by me.0.number (slot_list entries me.1) })
-      × (next.1 ≡ me.1))
-  counts_entry id slots me it s r deep at low = (
-    record me.0 { seen = me.0.seen ++ e ∷ []; mine = entries_by me.0.number (me.0.seen ++ e ∷ []) },
-    keeps,
-    tt,
-    counted s r (record { id = id; view = me.0; live = (at, left); ticket = t; holds = is }) e own,
-    (
-      ap (λ (l : List Entry). let w : View = record me.0 { seen = l; mine = entries_by me.0.number l } in w)
-          (sym list),
-      refl,
-    ),
-  )
-    where
-      open it use {ticket as t, entry as e, left, holds as is, own, list_is as list}
-
-  -- no other pass has the ticket that is served
-  not_now : (s : St) (r : Rule s) (holder : Holder s.views) (j : ℕ) (u : View) → j ≢ holder.id → IsLive s.views j u
-      → IsTicket u.stage r.served → ⊥
-  not_now s r holder j u other l there = (r.apart j holder.id u holder.view other l holder.live).tickets r.served there
-      (subst (λ (st : PassStage). IsTicket st r.served) (sym holder.holds) (holder_here s r holder).2)
-
-  -- the value is back in its slot, and nobody has the lock
-  home_again : (s : St) (r : Rule s) (holder : Holder s.views) (words : List ℕ) (homes : Homes) (value : B)
-      → homes ≡ some (Some value) ∷ [] → entries value ≡ r.log → terms_of value ≡ terms
-      → Place r.log record { words = words; homes = homes; views = set s.views holder.id (record holder.view { stage = Idle }) }
-  home_again s r holder words homes value home list same = inl record {
-    value = value;
-    home = home;
-    log_is = list;
-    terms_are = same;
-    free = live_set (λ _ u. Free u.stage) s.views holder.id (record holder.view { stage = Idle }) (idle_free Idle refl)
-        (λ j u other l x holds. let theirs : InTurn r.served r.drawn (Holds x) =
-        subst (InTurn r.served r.drawn) holds (r.each j u l).turn in
-        not_now s r holder j u other l (subst (λ (st : PassStage). IsTicket st r.served) (sym holds) theirs.0));
+  -- who has the lock counts an entry of its own
+  abbrev counted : (p : Pass) {t : ℕ} → p.view.stage ≡ Holds t → (e : Entry) → e.maker ≡ p.view.number → Next p
+  counted p {t} is e own = record {
+    new = w;
+    log = log;
+    count = r.count;
+    drawn = r.drawn;
+    served = r.served;
+    words = set s.words 2 ((get_or s.words 2 0 + 1) % 2 ^ 64);
+    homes = s.homes;
+    words_are = ap (λ (ws : List ℕ). set ws 2 ((get_or ws 2 0 + 1) % 2 ^ 64)) r.words
+        ∙ ap (λ (k : ℕ). r.drawn % 2 ^ 64 ∷ r.served % 2 ^ 64 ∷ k ∷ []) (let n = length-append r.log (e ∷ []) in
+        omega arith);
+    few = (r.few, omega arith);
+    queue = omega arith;
+    makers = λ m more. made_other m r.log e (λ same. let few = f.few in omega arith) ∙ r.makers m more;
+    fits = λ _. record {
+      terms_are = f.terms_are;
+      told_terms = f.told_terms;
+      seen = subst (λ (l : List Entry). IsPrefix l log) (sym all) (prefix_self log);
+      told = prefix_longer v.told v.seen (e ∷ []) f.told;
+      mine = ap (entries_by v.number) all;
+      own = refl;
+      past = λ k j at. let p = f.past k j at in record {
+        mine = p.mine ∙ sym (made_other j.number r.log e (λ same. p.other (sym same ∙ own)));
+        few = p.few;
+        other = p.other;
+      };
+      few = f.few;
+      first = f.first;
+      others = f.others;
+      turn = f.turn;
+    };
+    others = λ o other. let both = apart_of p o other in
+        longer_list (at p o) e (λ same. both.0.numbers (sym own ∙ same))
+        (λ k j there same. both.1.past k j there (sym same ∙ own));
+    place = inr record {
+      home = (holder_here p is).0;
+      place = p.id;
+      holder = w;
+      ticket = t;
+      live = (live_here p.live w p.is_live.1).is_live;
+      holds = is;
+      all = all;
+    };
   }
+    where
+      open p use {state as s, rule as r, view as v}
 
-  left_with : (s : St) (r : Rule s) (holder : Holder s.views) (homes : Homes) (value : B)
-      → homes ≡ some (Some value) ∷ [] → entries value ≡ holder.view.seen → terms_of value ≡ holder.view.terms
-      → Rule record {
-        words = set s.words 1 ((get_or s.words 1 0 + 1) % 2 ^ 64);
-        homes = homes;
-        views = set s.views holder.id (record holder.view { stage = Idle });
-      }
-  left_with s r holder homes value home list same =
-      let w : View = record v { stage = Idle } in let f = r.each id v live in let h = holder_here s r holder in
-      let q0 : ticket_count v ≡ 1 = waits_in v live.1 ∙ ap has_ticket is in
-      let q1 : ticket_count w ≡ 0 = waits_in w live.1 in
-      let sums = total_set ticket_count s.views id v w live.0 in
-      let queue = r.queue in
-      let words : List ℕ = set s.words 1 ((get_or s.words 1 0 + 1) % 2 ^ 64) in
-      changes s r (record {
-        id = id;
-        old = v;
+      w : View
+      w = record v { seen = v.seen ++ e ∷ []; mine = entries_by v.number (v.seen ++ e ∷ []) }
+
+      log : List Entry
+      log = r.log ++ e ∷ []
+
+      f : Fits terms r.log r.count r.served r.drawn v
+      f = fits_of p
+
+      all : v.seen ++ e ∷ [] ≡ log
+      all = ap (λ (l : List Entry). l ++ e ∷ []) (holder_here p is).1
+
+  pub counts_entry : (id slots : ℕ) (me : Me (Option B) View) → (value : B) × IsTurn me (Some value)
+      → (e : Entry) × (slot_list entries me.1 ≡ me.0.seen ++ e ∷ []) × (e.maker ≡ me.0.number)
+      → Allows Rule slots id me 2 (λ n. (n + 1) % 2 ^ 64) (HasCounted entries me)
+  counts_entry id slots me turn one s r deep here low =
+      let it = turn.1 in let e = one.0 in
+      let p : Pass = record { state = s; rule = r; live = record { id = id; view = me.0; is_live = (here, it.left) } } in
+      let n = counted p it.stage e one.2 in (
+        n.new,
+        keeps,
+        tt,
+        steps p n
+            record { left = it.left; number = refl; joined = refl; tickets = λ o other. (apart_of p o other).0.tickets },
+        (
+          ap (λ (l : List Entry). let w : View = record me.0 { seen = l; mine = entries_by me.0.number l } in w)
+              (sym one.1),
+          refl,
+        ),
+      )
+
+  -- who has the lock gives the value back, which is at home again, and passes the lock on
+  abbrev gave_back : (p : Pass) (held : List (ℕ × Option B))
+      → (value : B) × IsTurn (p.view, held) (Some value) × (entries value ≡ p.view.seen) × (terms_of value ≡ p.view.terms)
+      → Next p
+  gave_back p held turn =
+      let w : View = record v { stage = Idle } in let is = turn.1.stage in
+      let q0 : ticket_count v ≡ 1 = tickets_of v left is in
+      let q1 : ticket_count w ≡ 0 = tickets_of w {st = Idle} left refl in record {
         new = w;
-        live = live;
-        left = live.1;
-        same = refl;
-        joined = refl;
         log = r.log;
+        count = r.count;
         drawn = r.drawn;
         served = r.served + 1;
-        words = words;
-        homes = homes;
+        words = set s.words 1 ((get_or s.words 1 0 + 1) % 2 ^ 64);
+        homes = put_back s.homes held;
         words_are = ap (λ (ws : List ℕ). set ws 1 ((get_or ws 1 0 + 1) % 2 ^ 64)) r.words
             ∙ ap (λ (k : ℕ). r.drawn % 2 ^ 64 ∷ k ∷ length r.log % 2 ^ 64 ∷ []) (omega arith);
+        few = (r.few, omega arith);
         queue = omega arith;
         makers = r.makers;
-        fits = restage f tt;
-        others = λ j u other l. let g = r.each j u l in
-            refit g (turn_next r.served r.drawn u.stage g.turn (not_now s r holder j u other l));
-        tickets = λ j u other l x here there. absurd here;
-        place = home_again s r holder words homes value home (list ∙ h.1) (same ∙ f.terms_are);
-      })
+        fits = λ _. restage p (r.served + 1) r.drawn Idle tt;
+        others = λ o other.
+            restage (at p o) (r.served + 1) r.drawn o.view.stage
+            (turn_next r.served r.drawn o.view.stage (fits_of (at p o)).turn (not_now o other));
+        place = inl record {
+          value = turn.0;
+          home = ap (put_back s.homes) turn.1.held
+              ∙ ap (λ (hs : Homes). set hs 0 (some (Some turn.0))) (holder_here p is).0;
+          log_is = turn.2 ∙ (holder_here p is).1;
+          terms_are = turn.3 ∙ (fits_of p).terms_are;
+          free = live_set (λ _ u. Free u.stage) s.views p.id w (λ _. idle_free Idle refl)
+              (λ j u other l x holds. let o : Live s.views = record { id = j; view = u; is_live = l } in
+              not_now o other (served_ticket (at p o) holds));
+        };
+      }
     where
-      open holder use {id, view as v, live, holds as is}
+      open p use {state as s, rule as r, view as v, is_live.1 as left}
 
-  pub leaves : (id slots : ℕ) (me : Me (Option B) View) {value : B} → IsTurn me (Some value)
-      → entries value ≡ me.0.seen → terms_of value ≡ me.0.terms
-      → Allows Rule slots id me 1 (λ n. (n + 1) % 2 ^ 64) (λ n next. (next.0 ≡ record me.0 { stage = Idle })
-      × (next.1 ≡ []))
-  leaves id slots me {value} it list same s r deep at low =
-      let holder : Holder s.views =
-      record { id = id; view = me.0; live = (at, it.left); ticket = it.number; holds = it.stage } in (
+      not_now : (o : Live s.views) → o.id ≢ p.id → IsTicket o.view.stage r.served → ⊥
+      not_now o other = (apart_of p o other).0.tickets r.served (served_ticket p turn.1.stage)
+
+  pub leaves : (id slots : ℕ) (me : Me (Option B) View)
+      → (value : B) × IsTurn me (Some value) × (entries value ≡ me.0.seen) × (terms_of value ≡ me.0.terms)
+      → Allows Rule slots id me 1 (λ n. (n + 1) % 2 ^ 64) (HasLeft me)
+  leaves id slots me turn s r deep here low =
+      let p : Pass =
+      record { state = s; rule = r; live = record { id = id; view = me.0; is_live = (here, turn.1.left) } } in (
         record me.0 { stage = Idle },
         gives,
         tt,
-        left_with s r holder (put_back s.homes me.1) value
-            (ap (put_back s.homes) it.held
-            ∙ ap (λ (hs : Homes). set hs 0 (some (Some value))) (holder_here s r holder).0)
-            list same,
-        (refl, ap rest it.held),
+        steps p (gave_back p me.1 turn)
+            record { left = turn.1.left; number = refl; joined = refl; tickets = λ o other x here there. absurd here },
+        (refl, ap rest turn.1.held),
       )

@@ -3,9 +3,9 @@ use Rattle.turnstile.proofs.StepRules.{reads}
 use Rattle.turnstile.proofs.steps.read_view.Goals as goal
 
 pub load-requires : goal.load-requires
-load-requires g c = let seat = c.requires.seat in let words = seat.sized.words in (
+load-requires g c = let seat = c.requires.seat in let words = seat.sized.words in let place = c.args.place.now in (
   seat.here,
   omega arith,
-  reads g.B.Kept.entries g.B.Kept.terms (g.B.Kept.terms c.args.shared.now.key.value) c.args.place.now.id
-      c.args.shared.now.table_id.slots c.args.place.now.me c.requires.left,
+  reads (record { B = g.row.B.Denot; entries = g.B.Kept.entries; terms_of = g.B.Kept.terms; terms = g.B.Kept.terms c.args.shared.now.key.value })
+      place.id c.args.shared.now.table_id.slots place.me c.requires.left,
 )

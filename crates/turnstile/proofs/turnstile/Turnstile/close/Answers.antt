@@ -1,8 +1,10 @@
 use Rattle.std.proofs.Common.{◌≡◌, ap, sym, ◌∙◌, Option, Some, None, subst}
 use Rattle.std.specs.Prelude.{is_some}
-use Rattle.turnstile.specs.Passes.{IsWholeList}
+use mathlib.Core.Option.{some-injective}
+use Rattle.turnstile.specs.Passes.{AllJoined, IsWholeList, PassState}
 use Rattle.turnstile.specs.PassSeats.{state_of_view}
-use Rattle.turnstile.proofs.LastView.{IsLast, closes, has_all}
+use Rattle.turnstile.proofs.StepRules.{KeptValue}
+use Rattle.turnstile.proofs.LastView.{IsLast, closes}
 use Rattle.turnstile.proofs.turnstile.Turnstile.close.Goals as goal
 use Rattle.turnstile.proofs.turnstile.Turnstile.close.Goals.{After-take-slot}
 
@@ -10,16 +12,31 @@ abbrev value_or : {A : Type 0} → A → Option A → A
 value_or d None = d
 value_or d (Some x) = x
 
+abbrev kept_by : (g : _) → After-take-slot g → KeptValue
+kept_by g c = record {
+  B = g.row.B.Denot;
+  entries = g.B.Kept.entries;
+  terms_of = g.B.Kept.terms;
+  terms = g.B.Kept.terms c.self.inside.table.shared.key.value;
+}
+
 -- what the slot has that was taken out of the closed table
 last : (g : _) (c : After-take-slot g)
-    → IsLast g.B.Kept.entries g.B.Kept.terms (g.B.Kept.terms c.self.inside.table.shared.key.value)
-    c.take_seat.result.table_id c.take_seat.result.me.0 c.take-slot.result
-last g c =
-    let seat = c.take_seat in
-    closes g.B.Kept.entries g.B.Kept.terms (g.B.Kept.terms c.self.inside.table.shared.key.value)
-    seat.result.table_id seat.result.id
-    (has_all seat.ensures.free seat.ensures.old c.requires.first c.requires.all) _ _
-    c.close_with-closed.ensures.values.2 c.take-slot.ensures.value
+    → IsLast (kept_by g c) c.take_seat.result.table_id c.take_seat.result.me.0 c.take-slot.result
+last g c = let seat = c.take_seat in let closed = c.close_with-closed.ensures.values.2 in closes (kept_by g c)
+    (record {
+      state = closed.0;
+      rule = closed.1.0;
+      live =
+          record { id = seat.result.id; view = seat.result.me.0; is_live = (closed.1.1, seat.ensures.free.left) };
+    })
+    (record {
+      idle = seat.ensures.free.idle;
+      first = ap (λ (p : PassState). p.number) (sym seat.ensures.old) ∙ c.requires.first;
+      all = subst (λ (p : PassState). AllJoined p.splits p.joined) seat.ensures.old c.requires.all;
+    })
+    seat.result.table_id
+    (λ value home. some-injective _ _ (sym c.take-slot.ensures.value ∙ closed.4 0 value home))
 
 pub unwrap-requires : goal.unwrap-requires
 unwrap-requires g c = ap is_some (last g (goal.at.unwrap-requires g c).After-take-slot).slot_is

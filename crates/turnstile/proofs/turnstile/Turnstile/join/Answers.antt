@@ -10,9 +10,23 @@ join_seat-requires g c =
       sym (ap (λ p. p.id) c.take_seat-theirs.ensures.old) ∙ (c.requires.other ∙ sym (ap (λ x. x.id) c.self.view_is)),
       theirs.empty,
       omega arith,
-      joins g.B.Kept.entries g.B.Kept.terms (g.B.Kept.terms c.self.inside.table.shared.key.value)
-          c.take_seat-place.result.id c.take_seat-place.result.me.0
-          c.take_seat-theirs.result.id c.take_seat-theirs.result.me.0 record { left = free.left; idle = free.idle }
-          record { left = theirs.left; idle = theirs.idle }
+      joins (record {
+        B = g.row.B.Denot;
+        entries = g.B.Kept.entries;
+        terms_of = g.B.Kept.terms;
+        terms = g.B.Kept.terms c.self.inside.table.shared.key.value;
+      })
+          (record {
+            id = c.take_seat-place.result.id;
+            view = c.take_seat-place.result.me.0;
+            left = free.left;
+            idle = free.idle;
+          })
+          (record {
+            id = c.take_seat-theirs.result.id;
+            view = c.take_seat-theirs.result.me.0;
+            left = theirs.left;
+            idle = theirs.idle;
+          })
           (λ first. c.requires.not_first (ap (λ p. p.number) c.take_seat-theirs.ensures.old ∙ first)),
     )

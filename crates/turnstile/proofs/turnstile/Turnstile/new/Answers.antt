@@ -15,5 +15,5 @@ new-requires g c =
     one_item {A = Option g.row.B.Denot} (Some c.args.kept) c.push_reserved.ensures.items c.in_ok-slots.ensures.items in
     subst (λ (xs : List (Option g.row.B.Denot)). IsRuled g.B.Kept.entries g.B.Kept.terms terms
     (opening (0 ∷ 0 ∷ 0 ∷ []) xs (first_view terms))) (sym items)
-    (starts g.B.Kept.entries g.B.Kept.terms terms c.args.kept c.requires
+    (starts (record { B = g.row.B.Denot; entries = g.B.Kept.entries; terms_of = g.B.Kept.terms; terms = terms }) c.args.kept c.requires
     (ap g.B.Kept.terms (sym c.of-about.ensures)))

@@ -9,7 +9,16 @@ split_seat-other-requires g c =
     let words = c.self.invariant.words in let count = view.splits_is in let few = c.requires.few in (
       sym (ap (λ p. p.id) old) ∙ (c.requires.own ∙ sym (ap (λ x. x.id) c.self.view_is)),
       omega arith,
-      splits g.B.Kept.entries g.B.Kept.terms (g.B.Kept.terms c.self.inside.table.shared.key.value)
-          c.take_seat-place.result.id c.take_seat-place.result.me.0
-          record { left = free.left; idle = free.idle } (view.number_is ∙ c.requires.first) (omega arith),
+      splits (record {
+        B = g.row.B.Denot;
+        entries = g.B.Kept.entries;
+        terms_of = g.B.Kept.terms;
+        terms = g.B.Kept.terms c.self.inside.table.shared.key.value;
+      })
+          (record {
+            id = c.take_seat-place.result.id;
+            view = c.take_seat-place.result.me.0;
+            left = free.left;
+            idle = free.idle;
+          }) (view.number_is ∙ c.requires.first) (omega arith),
     )
