@@ -66,10 +66,9 @@ none-admitted steps entries more legal halts = λ k d inside.
     admits-none steps (state_after (take i (entries ++ more))) (get_or more k d).command
     (get_or more k d).answer is (halts k d inside)
 
-pub halts-fit : {steps : List CapStep} (entries more : List Entry) (limit : ℕ) → IsLegal steps (entries ++ more)
-    → All (λ (e : Entry). is_halt e.command ≡ true) more → places_taken entries ≤ limit
-    → length (entries ++ more) ≤ limit
-halts-fit {steps} entries more limit legal halts few =
+pub halts-fit : {steps : List CapStep} (entries more : List Entry) → IsLegal steps (entries ++ more)
+    → All (λ (e : Entry). is_halt e.command ≡ true) more → length (entries ++ more) ≤ places_taken entries
+halts-fit {steps} entries more legal halts =
     let front : take (length entries) (entries ++ more) ≡ entries =
     take-append-le (length entries) entries more (omega arith) ∙ take_all (length entries) entries (omega arith) in
     let first : IsLegal steps entries =
@@ -85,4 +84,4 @@ halts-fit {steps} entries more limit legal halts few =
     sum_by-append (λ (e : Entry). cond (is_halt e.command) 1 0) entries more in
     let admitted : admissions_of (entries ++ more) ≡ admissions_of entries + admissions_of more =
     sum_by-append (λ (e : Entry). cond (is_admission e.answer) 1 0) entries more in
-    omega (arith, before, after, all, none, halted, admitted, few, length-append entries more)
+    omega (arith, before, after, all, none, halted, admitted, length-append entries more)

@@ -8,10 +8,12 @@ use Rattle.std.proofs.lemmas.List.{take_more}
 use Rattle.plan_cert.specs.declared.Segment.{Segment}
 use Rattle.slot_calendar.specs.declared.profiles.CapStep.{CapStep}
 use Rattle.admission.specs.declared.entries.Entry.{Entry}
+use Rattle.admission.specs.declared.entries.Command.{Command}
 use Rattle.admission.specs.declared.entries.Command.TheVariants.{Look}
+use Rattle.admission.specs.declared.entries.Answer.{Answer}
 use Rattle.admission.specs.declared.entries.Answer.TheVariants.{Halted}
-use Rattle.admission.specs.Machine.{State, beginning, next_state}
-use Rattle.admission.specs.Histories.{IsAdmission, IsAnswered, IsLegal, state_after, state_from}
+use Rattle.admission.specs.Machine.{State, IsAnswer, beginning, next_state}
+use Rattle.admission.specs.Histories.{IsAdmission, IsAnswered, IsHalt, IsLegal, state_after, state_from}
 
 -- a list that has no entry i
 pub no_entry : Entry
@@ -25,11 +27,61 @@ pub record Machine : Type 0 where
 abbrev pub machine_after : List CapStep → List Entry → Machine
 machine_after steps entries = record { steps = steps; state = state_after entries }
 
--- a legal history has admitted this play
-pub record PlayAdmitted (steps : List CapStep) (entries : List Entry) (number start : ℕ)
-    (segments : List Segment) : Type 0 where
+-- a legal history
+pub record LegalHistory : Type 0 where
+  pub steps : List CapStep
+  pub entries : List Entry
   pub legal : IsLegal steps entries
+
+-- it has admitted this play
+pub record PlayAdmitted : Type 0 where
+  pub history : LegalHistory
+  pub open history use *
+  pub number : ℕ
+  pub start : ℕ
+  pub segments : List Segment
   pub admission : IsAdmission entries number start segments
+
+abbrev pub play_admitted_in : (h : LegalHistory) {number start : ℕ} {segments : List Segment}
+    → IsAdmission h.entries number start segments → PlayAdmitted
+play_admitted_in h {number} {start} {segments} admission =
+    record { history = h; number = number; start = start; segments = segments; admission = admission }
+
+-- its entry at a place halts a play
+pub record HaltStep : Type 0 where
+  pub history : LegalHistory
+  pub open history use *
+  pub place : ℕ
+  pub number : ℕ
+  pub keep : ℕ
+  pub halt : IsHalt entries place number keep
+
+abbrev pub halt_in : (h : LegalHistory) {place number keep : ℕ} → IsHalt h.entries place number keep → HaltStep
+halt_in h {place} {number} {keep} halt =
+    record { history = h; place = place; number = number; keep = keep; halt = halt }
+
+-- its entry at a place
+pub record PlacedAnswer : Type 0 where
+  pub history : LegalHistory
+  pub open history use *
+  pub place : ℕ
+  pub none : Entry
+  pub inside : place < length entries
+
+abbrev pub placed : (h : LegalHistory) (none : Entry) {place : ℕ} → place < length h.entries → PlacedAnswer
+placed h none {place} inside = record { history = h; place = place; none = none; inside = inside }
+
+abbrev pub entry_at : PlacedAnswer → Entry
+entry_at p = get_or p.entries p.place p.none
+
+-- its answer is the machine's to its command
+pub told : (p : PlacedAnswer) {command : Command} {answer : Answer}
+    → ((entry_at p).command ≡ command) × ((entry_at p).answer ≡ answer)
+    → IsAnswer p.steps (state_after (take p.place p.entries)) command answer
+told p {command} {answer} (c, a) =
+    let state = state_after (take p.place p.entries) in
+    subst (IsAnswer p.steps state command) a
+    (subst (λ (k : Command). IsAnswer p.steps state k (entry_at p).answer) c (p.legal.each p.place p.none p.inside))
 
 abbrev pub next_of : State → ℕ → Entry → State
 next_of state place e = next_state state place e.command e.answer

@@ -6,7 +6,6 @@ use Rattle.plan_cert.specs.declared.Segment.{Segment}
 use Rattle.slot_calendar.specs.declared.profiles.CapStep.{CapStep}
 use Rattle.slot_calendar.specs.Calendars.{CalendarState}
 use Rattle.admission.specs.declared.entries.Entry.{Entry}
-use Rattle.admission.specs.declared.entries.Full.{Full}
 use Rattle.admission.specs.declared.entries.Noted.{Noted}
 use Rattle.admission.specs.declared.entries.Command.{Command}
 use Rattle.admission.specs.declared.entries.Command.TheVariants.{Play, Halt}
@@ -15,7 +14,7 @@ use Rattle.admission.specs.declared.entries.Answer.TheVariants.{Admitted, Overfl
 use Rattle.admission.specs.Machine.{State, AdmittedPlay, CanHalt, IsAnswer, halted_play, next_state, live}
 use Rattle.admission.specs.Machine.{admitted_play}
 use Rattle.admission.specs.Histories.{IsAnswered, IsLegal, is_admission, open_count, state_after}
-use Rattle.admission.specs.Books.{IsFull, IsNoted, Journal}
+use Rattle.admission.specs.Books.{IsNoted, Journal}
 use Rattle.admission.specs.BookInvariant.{MatchesState, IsBookKept}
 use Rattle.admission.proofs.HistoryPrefixes.{Machine, legal-push, next_of, state-push}
 use Rattle.admission.proofs.Halts.{halting, split}
@@ -65,15 +64,6 @@ pub record HasGrown (calendar new : CalendarState) (xs ys : List Entry) (e : Ent
 pub record AreCounted (xs : List Entry) (e : Entry) (limit more : ℕ) : Type 0 where
   pub more_is : more ≡ live (next_of (state_after xs) (length xs) e)
   pub fits : length xs + 1 + more ≤ limit
-
--- what a book reports of its counts, by its fields
-pub counts-kept : {calendar : CalendarState} {xs : List Entry} {journal : Journal} {full : Full} {limit count room : ℕ}
-    → IsBookKept calendar xs limit count room → xs ≡ journal.entries → IsFull journal full
-    → (full.entries ≡ length xs) × (full.live ≡ count)
-counts-kept kept same full = (
-  full.entries_are ∙ ap length (sym same),
-  full.open_is ∙ ap open_count (sym same) ∙ sym kept.count_is,
-)
 
 pub kept-push : {calendar new : CalendarState} {xs ys : List Entry} {e : Entry} {limit count more room wide : ℕ}
     → IsBookKept calendar xs limit count room → HasGrown calendar new xs ys e → AreCounted xs e limit more

@@ -5,26 +5,22 @@ use Rattle.std.proofs.Common.{inr, eq-eqb}
 use Rattle.std.proofs.lemmas.Bool.{cases_Bool, cond-true, cond-false, eqb-true}
 use Rattle.std.proofs.lemmas.List.{get_or_default}
 use Rattle.std.proofs.lemmas.List.Elements.{All-nil, All-cons, All-head, All-tail, All-weaker}
-use Rattle.slot_calendar.specs.declared.profiles.CapStep.{CapStep}
 use Rattle.slot_calendar.specs.Plays.{whole_play}
-use Rattle.admission.specs.declared.entries.Command.{Command}
-use Rattle.admission.specs.declared.entries.Command.TheVariants.{Play, Halt, Look}
 use Rattle.admission.specs.declared.entries.Entry.{Entry}
-use Rattle.admission.specs.Machine.{CanHalt}
-use Rattle.admission.specs.Histories.{Halts, IsHalt, IsLegal, IsStillOpen, play_admitted, state_after}
+use Rattle.admission.specs.Histories.{Halts, IsStillOpen, play_admitted}
 use Rattle.admission.specs.Makers.{PlacedEntry, made_from, entries_by, AreHaltsOwn, IsOpenAmong}
 use Rattle.admission.proofs.HistoryPrefixes.{no_entry}
-use Rattle.admission.proofs.OpenPlays.{still-open}
+use Rattle.admission.proofs.OpenPlays.{halt_at}
 
 -- ---- a maker's entries are entries of the history
-record IsMade (place maker : ℕ) (xs : List Entry) (p : PlacedEntry) : Type 0 where
-  at : ℕ
-  inside : at < length xs
-  place_is : p.place ≡ place + at
-  entry_is : p.entry ≡ get_or xs at no_entry
-  maker_is : p.entry.maker ≡ maker
+pub record IsMade (place maker : ℕ) (xs : List Entry) (p : PlacedEntry) : Type 0 where
+  pub at : ℕ
+  pub inside : at < length xs
+  pub place_is : p.place ≡ place + at
+  pub entry_is : p.entry ≡ get_or xs at no_entry
+  pub maker_is : p.entry.maker ≡ maker
 
-all-made : (place maker : ℕ) (xs : List Entry) → All (IsMade place maker xs) (made_from place maker xs)
+pub all-made : (place maker : ℕ) (xs : List Entry) → All (IsMade place maker xs) (made_from place maker xs)
 all-made place maker [] = All-nil (IsMade place maker [])
 all-made place maker (e ∷ rest) =
     let P = IsMade place maker (e ∷ rest) in
@@ -119,16 +115,10 @@ one-made {maker} P place (e ∷ rest) (suc i) all made =
     let Q : ℕ → Type 0 = λ n. P (record { place = n; entry = get_or rest i no_entry }) in
     subst Q at (one-made P (place + 1) rest i later (record { inside = omega (arith, made.inside); own = made.own }))
 
--- ---- a command that halts a play
-pub halt_is : (number : ℕ) (command : Command) → Halts number command → (keep : ℕ) × (command ≡ Halt number keep)
-halt_is number (Halt that keep) same = (keep, ap (λ n. Halt n keep) same)
-halt_is number (Play slot segments) same = absurd same
-halt_is number (Look slot) same = absurd same
-
 -- a play that is open among its maker's entries is open in the history
-pub open-own : {xs : List Entry} {number keep : ℕ} (steps : List CapStep) (maker : ℕ) → AreHaltsOwn xs
+pub open-own : {xs : List Entry} {number keep : ℕ} (maker : ℕ) → AreHaltsOwn xs
     → IsOpenAmong (entries_by maker xs) number keep → IsStillOpen xs number keep
-open-own {xs} {number} steps maker own open_ =
+open-own {xs} {number} maker own open_ =
     let none : PlacedEntry = record { place = 0; entry = no_entry } in
     let made = all-made 0 maker xs open_.index none open_.inside in
     let admits = open_.admission none in
@@ -150,18 +140,10 @@ open-own {xs} {number} steps maker own open_ =
         each = λ i d within halts. (
             let H : Entry → Type 0 = λ e. Halts number e.command in
             let halts' = subst H (get_or_default xs i d no_entry within) halts in
-            let is = halt_is number (get_or xs i no_entry).command halts' in
-            let C : Entry → Type 0 = λ e. e.command ≡ Halt number is.0 in
-            let halt : IsHalt xs i number is.0 =
-            record { inside = within; command_is = λ f. subst C (get_or_default xs i no_entry f within) is.1 } in
+            let halt = halt_at {i = i} no_entry within halts' in
             one-made (λ p. ¬ Halts number p.entry.command) 0 xs i open_.unhalted
-            (record { inside = within; own = own.each i number is.0 no_entry halt ∙ maker_is }) halts'
+            (record { inside = within; own = own.each i number halt.0 no_entry halt.1 ∙ maker_is }) halts'
             );
       };
       small = open_.small;
     }
-
-pub can-own : {steps : List CapStep} {xs : List Entry} (maker number keep : ℕ) → IsLegal steps xs → AreHaltsOwn xs
-    → IsOpenAmong (entries_by maker xs) number keep → CanHalt (state_after xs) number keep
-can-own {steps} {xs} maker number keep legal own open_ =
-    still-open steps xs number keep legal (open-own steps maker own open_)

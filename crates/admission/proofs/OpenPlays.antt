@@ -1,5 +1,5 @@
 -- A play is open from the entry that admits it to the entry that halts it.
-use Rattle.std.proofs.Common.{◌≡◌, ◌≤◌, ◌<◌, ℕ, zero, suc, Bool, true, false, List, [], ◌∷◌, ◌++◌, max, length}
+use Rattle.std.proofs.Common.{◌≡◌, ◌≤◌, ◌<◌, ◌+◌, ◌-◌, ℕ, zero, suc, Bool, true, false, List, [], ◌∷◌, ◌++◌, length}
 use Rattle.std.proofs.Common.{get_or, take, All, Option, Some, IsSomeAnd}
 use Rattle.std.proofs.Common.{arith, refl, sym, ap, subst, ◌∙◌, inl, inr}
 use Rattle.std.proofs.lemmas.Bool.{cases_order}
@@ -14,16 +14,16 @@ use Rattle.admission.specs.declared.entries.Command.{Command}
 use Rattle.admission.specs.declared.entries.Command.TheVariants.{Play, Halt, Look}
 use Rattle.admission.specs.declared.entries.Answer.{Answer}
 use Rattle.admission.specs.declared.entries.Answer.TheVariants.{Admitted, Overflow, Halted, Looked}
-use Rattle.admission.specs.Machine.{State, AdmittedPlay, CanHalt, IsAnswer, halted_play, with_halted, play_numbered}
+use Rattle.admission.specs.Machine.{State, AdmittedPlay, CanHalt, IsAnswer, halted_play, play_numbered}
 use Rattle.admission.specs.Machine.{next_state}
 use Rattle.admission.specs.Machine.{admitted_play}
 use Rattle.admission.specs.Histories.{Halts, IsAdmission, IsHalt, IsLegal, IsStillOpen, IsUnhalted, play_admitted}
 use Rattle.admission.specs.Histories.{state_after}
-use Rattle.admission.proofs.HistoryPrefixes.{Machine, PlayAdmitted, machine_after, legal-at, legal-take, no_entry}
+use Rattle.admission.proofs.HistoryPrefixes.{HaltStep, PlayAdmitted, halt_in, legal-take, next_of, no_entry, play_admitted_in, told}
 use Rattle.admission.proofs.HistoryPrefixes.{state-next}
 use Rattle.admission.proofs.HistoryPrefixes.{state-push}
-use Rattle.admission.proofs.Halts.{halting, holds-of, split}
-use Rattle.admission.proofs.CapacityBounds.{IsWhole, sound-after}
+use Rattle.admission.proofs.Halts.{Halting, halting, holds-of, split}
+use Rattle.admission.proofs.CapacityBounds.{sound-after, whole-play}
 use Rattle.admission.proofs.Admissions.{IsKnown, admission-of, known-after, known-at, open-inside}
 use Rattle.admission.proofs.PlayLookup.{found-closed, found-new, found-next}
 
@@ -34,66 +34,64 @@ numbers-below steps xs n legal few =
     All-weaker (IsKnown xs n) (λ h. h.number < n) (λ h known. known.inside) (state_after (take n xs)).held
     (known-at steps xs n legal few)
 
-opened-here : {steps : List CapStep} {xs : List Entry} {number start : ℕ} {segments : List Segment}
-    → PlayAdmitted steps xs number start segments
-    → play_numbered number (state_after (take (suc number) xs)).held ≡ Some (admitted_play number start segments)
-opened-here {steps} {xs} {number} {start} {segments} admitted =
-    let admission = admitted.admission in
-    let e = get_or xs number no_entry in
-    let state = state_after (take number xs) in
-    let found = admission-of e.command e.answer start segments (admission.admitted no_entry) in
-    let next : state_after (take (suc number) xs) ≡ next_state state number (Play found.0 segments) (Admitted start) =
-    state-next xs number admission.inside ∙ ap (λ k. next_state state number k e.answer) found.1.0
-    ∙ ap (next_state state number (Play found.0 segments)) found.1.1 in
-    ap (λ (s : State). play_numbered number s.held) next
-    ∙ found-new number start segments state.held
-    (numbers-below steps xs number admitted.legal (omega (arith, admission.inside)))
+opened-here : (a : PlayAdmitted)
+    → play_numbered a.number (state_after (take (suc a.number) a.entries)).held
+    ≡ Some (admitted_play a.number a.start a.segments)
+opened-here a =
+    let e = get_or a.entries a.number no_entry in
+    let state = state_after (take a.number a.entries) in
+    let found = admission-of e.command e.answer a.start a.segments (a.admission.admitted no_entry) in
+    let next : state_after (take (suc a.number) a.entries)
+    ≡ next_state state a.number (Play found.0 a.segments) (Admitted a.start) =
+    state-next a.entries a.number a.admission.inside ∙ ap (λ k. next_state state a.number k e.answer) found.1.0
+    ∙ ap (next_state state a.number (Play found.0 a.segments)) found.1.1 in
+    ap (λ (s : State). play_numbered a.number s.held) next
+    ∙ found-new a.number a.start a.segments state.held
+    (numbers-below a.steps a.entries a.number a.legal (omega (arith, a.admission.inside)))
 
-pub stays-open : {steps : List CapStep} {xs : List Entry} {number start : ℕ} {segments : List Segment} (k : ℕ)
-    → PlayAdmitted steps xs number start segments → IsUnhalted xs number → number < k → k ≤ length xs
-    → play_numbered number (state_after (take k xs)).held ≡ Some (admitted_play number start segments)
-stays-open {steps} {number} {start} zero admitted unhalted less few = absurd (omega (arith, less))
-stays-open {steps} {xs} {number} {start} {segments} (suc j) admitted unhalted less few = elim (cases_order j number) [
+stays-open : (k : ℕ) (a : PlayAdmitted) → IsUnhalted a.entries a.number → a.number < k → k ≤ length a.entries
+    → play_numbered a.number (state_after (take k a.entries)).held ≡ Some (admitted_play a.number a.start a.segments)
+stays-open zero a unhalted less few = absurd (omega (arith, less))
+stays-open (suc j) a unhalted less few = elim (cases_order j a.number) [
   | inl same ↦ (
       let H : ℕ → Type 0 =
-      λ n. play_numbered number (state_after (take (suc n) xs)).held ≡ Some (admitted_play number start segments) in
-      subst H (sym same) (opened-here admitted)
+      λ n. play_numbered a.number (state_after (take (suc n) a.entries)).held
+      ≡ Some (admitted_play a.number a.start a.segments) in
+      subst H (sym same) (opened-here a)
       )
   | inr (inl before) ↦ absurd (omega (arith, less, before))
   | inr (inr after) ↦ (
-      let inside : j < length xs = omega (arith, few) in
-      let e = get_or xs j no_entry in
-      ap (λ (s : State). play_numbered number s.held) (state-next xs j inside)
+      let inside : j < length a.entries = omega (arith, few) in
+      let e = get_or a.entries j no_entry in
+      ap (λ (s : State). play_numbered a.number s.held) (state-next a.entries j inside)
       ∙ found-next j e.command e.answer
       (record {
-        is = stays-open j admitted unhalted after (omega (arith, few));
+        is = stays-open j a unhalted after (omega (arith, few));
         unhalted = unhalted.each j no_entry inside;
       })
       )
 ]
 
-pub whole-after : {steps : List CapStep} {xs : List Entry} {number start : ℕ} {segments : List Segment}
-    → PlayAdmitted steps xs number start segments → IsUnhalted xs number
-    → play_numbered number (state_after xs).held ≡ Some (admitted_play number start segments)
-whole-after {xs} {number} {start} {segments} admitted unhalted =
+pub whole-after : (a : PlayAdmitted) → IsUnhalted a.entries a.number
+    → play_numbered a.number (state_after a.entries).held ≡ Some (admitted_play a.number a.start a.segments)
+whole-after a unhalted =
     let S : List Entry → Type 0 =
-    λ l. play_numbered number (state_after l).held ≡ Some (admitted_play number start segments) in
-    subst S (take_all (length xs) xs (omega arith))
-    (stays-open (length xs) admitted unhalted admitted.admission.inside (omega arith))
+    λ l. play_numbered a.number (state_after l).held ≡ Some (admitted_play a.number a.start a.segments) in
+    subst S (take_all (length a.entries) a.entries (omega arith))
+    (stays-open (length a.entries) a unhalted a.admission.inside (omega arith))
 
-can-halt : {number keep : ℕ} (held : List AdmittedPlay) (start : ℕ) (segments : List Segment) (now : ℕ) →
-    play_numbered number held ≡ Some (admitted_play number start segments) → keep ≤ total_bytes segments →
-    CanHalt (record { now = now; held = held }) number keep
-can-halt {number} {keep} held start segments now is small =
+can-halt : (state : State) (number keep : ℕ) {h : AdmittedPlay} → play_numbered number state.held ≡ Some h
+    → (h.is_open ≡ true) × (keep ≤ total_bytes h.play.segments) → CanHalt state number keep
+can-halt state number keep is can =
     let P : Option AdmittedPlay → Type 0 =
     λ o. IsSomeAnd o (λ (h : AdmittedPlay). (h.is_open ≡ true) × (keep ≤ total_bytes h.play.segments)) in
-    subst P (sym is) (refl, small)
+    subst P (sym is) can
 
 pub still-open : (steps : List CapStep) (xs : List Entry) (number keep : ℕ) → IsLegal steps xs
     → IsStillOpen xs number keep → CanHalt (state_after xs) number keep
-still-open steps xs number keep legal still =
-    can-halt (state_after xs).held still.start still.segments (state_after xs).now
-    (whole-after (record { legal = legal; admission = still.admission }) still.unhalted) still.small
+still-open steps xs number keep legal still = can-halt (state_after xs) number keep
+    (whole-after (play_admitted_in (record { steps = steps; entries = xs; legal = legal }) still.admission) still.unhalted)
+    (refl, still.small)
 
 -- and in the history that its entry ends
 pub opened-last : {steps : List CapStep} {xs : List Entry} {keep : ℕ} (maker slot start : ℕ)
@@ -107,8 +105,7 @@ opened-last {steps} {xs} {keep} maker slot start segments legal small =
     (numbers-below steps xs (length xs) legal (omega arith)) in
     let C : State → Type 0 = λ s. CanHalt s (length xs) keep in
     subst C (sym (state-push xs e))
-    (can-halt ((state_after xs).held ++ admitted_play (length xs) start segments ∷ []) start segments
-    (max (state_after xs).now slot) (found-new (length xs) start segments (state_after xs).held below) small)
+    (can-halt (next_of (state_after xs) (length xs) e) (length xs) keep (found-new (length xs) start segments (state_after xs).held below) (refl, small))
 
 -- ---- it is closed from its halt on
 record IsClosed (number : ℕ) (state : State) : Type 0 where
@@ -116,76 +113,99 @@ record IsClosed (number : ℕ) (state : State) : Type 0 where
   is : play_numbered number state.held ≡ Some held
   closed_is : held.is_open ≡ false
 
-closed-here : {number : ℕ} (m : Machine) (place : ℕ) (command : Command) (answer : Answer)
-    → IsAnswer m.steps m.state command answer → Halts number command
-    → IsClosed number (next_state m.state place command answer)
-closed-here {number} m place (Halt that keep) Halted is same =
-    let h = halting m.state that keep is in
-    let here : play_numbered that (with_halted that keep m.state.held) ≡ Some (halted_play keep h.held) =
-    found-closed that keep m.state.held h.held h.is in
-    record {
-      held = halted_play keep h.held;
-      is = ap (λ n. play_numbered n (with_halted that keep m.state.held)) (sym same) ∙ here;
+abbrev pub state_before : HaltStep → State
+state_before h = state_after (take h.place h.entries)
+
+-- what the state is then, where the play could be halted
+pub record IsHalted (h : HaltStep) : Type 0 where
+  pub can : CanHalt (state_before h) h.number h.keep
+  pub next : state_after (take (suc h.place) h.entries) ≡ next_state (state_before h) h.place (Halt h.number h.keep) Halted
+
+pub halts-there : (h : HaltStep) → IsHalted h
+halts-there h = record {
+  can = subst (IsAnswer h.steps (state_before h) (Halt h.number h.keep)) (halted e.answer answered) answered;
+  next = state-next h.entries h.place h.halt.inside
+      ∙ ap (λ c. next_state (state_before h) h.place c e.answer) (h.halt.command_is no_entry)
+      ∙ ap (next_state (state_before h) h.place (Halt h.number h.keep)) (halted e.answer answered);
+}
+  where
+    e : Entry
+    e = get_or h.entries h.place no_entry
+
+    answered : IsAnswer h.steps (state_before h) (Halt h.number h.keep) e.answer
+    answered = told
+        (record { history = h.history; place = h.place; none = no_entry; inside = h.halt.inside })
+        (h.halt.command_is no_entry, refl)
+
+    halted : (answer : Answer) → IsAnswer h.steps (state_before h) (Halt h.number h.keep) answer → answer ≡ Halted
+    halted Halted is = refl
+    halted (Admitted start) is = absurd is
+    halted (Overflow over booked asked) is = absurd is
+    halted (Looked now at booked) is = absurd is
+
+-- a command that halts a play
+pub halt_is : (number : ℕ) (command : Command) → Halts number command → (keep : ℕ) × (command ≡ Halt number keep)
+halt_is number (Halt that keep) same = (keep, ap (λ n. Halt n keep) same)
+halt_is number (Play slot segments) same = absurd same
+halt_is number (Look slot) same = absurd same
+
+pub halt_at : {xs : List Entry} {i number : ℕ} (d : Entry) → i < length xs → Halts number (get_or xs i d).command
+    → (keep : ℕ) × IsHalt xs i number keep
+halt_at {xs} {i} {number} d inside halts =
+    let is = halt_is number (get_or xs i d).command halts in (
+      is.0,
+      record { inside = inside; command_is = λ n. ap (λ (e : Entry). e.command) (get_or_default xs i n d inside) ∙ is.1 },
+    )
+
+closed-here : (h : HaltStep) → IsClosed h.number (state_after (take (suc h.place) h.entries))
+closed-here h =
+    let is = halts-there h in let p = halting (state_before h) h.number h.keep is.can in record {
+      held = halted_play h.keep p.held;
+      is = ap (λ (s : State). play_numbered h.number s.held) is.next
+          ∙ found-closed h.number h.keep (state_before h).held p.held p.is;
       closed_is = refl;
     }
-closed-here {number} m place (Halt that keep) (Admitted start) is same = absurd is
-closed-here {number} m place (Halt that keep) (Overflow over booked asked) is same = absurd is
-closed-here {number} m place (Halt that keep) (Looked now at booked) is same = absurd is
-closed-here {number} m place (Play slot segments) answer is same = absurd same
-closed-here {number} m place (Look slot) answer is same = absurd same
 
--- what is closed isn't halted
-halted-once : {state : State} {number : ℕ} (steps : List CapStep) (command : Command) (answer : Answer)
-    → IsAnswer steps state command answer → IsClosed number state → Halts number command → ⊥
-halted-once {state} {number} steps (Halt that keep) Halted is was same =
-    let h = halting state that keep is in
-    let both : Some h.held ≡ Some was.held = sym h.is ∙ ap (λ n. play_numbered n state.held) same ∙ was.is in
+-- what is closed can't be halted
+closed-cannot : (state : State) (number keep : ℕ) → IsClosed number state → CanHalt state number keep → ⊥
+closed-cannot state number keep was can =
+    let h = halting state number keep can in
+    let both : Some h.held ≡ Some was.held = sym h.is ∙ was.is in
     let one : h.held ≡ was.held = cc in
     let bad : true ≡ false = sym h.is_open ∙ ap (λ (x : AdmittedPlay). x.is_open) one ∙ was.closed_is in
     cc
-halted-once {number} steps (Halt that keep) (Admitted start) is was same = absurd is
-halted-once {number} steps (Halt that keep) (Overflow over booked asked) is was same = absurd is
-halted-once {number} steps (Halt that keep) (Looked now at booked) is was same = absurd is
-halted-once {number} steps (Play slot segments) answer is was same = same
-halted-once {number} steps (Look slot) answer is was same = same
 
 -- so it stays as it is
-closed-rest : {steps : List CapStep} {xs : List Entry} {number from : ℕ} (k : ℕ) → IsLegal steps xs
-    → (closed : IsClosed number (state_after (take from xs))) → from ≤ k → k ≤ length xs
-    → play_numbered number (state_after (take k xs)).held ≡ Some closed.held
-closed-rest {steps} {xs} {number} {from} k legal closed later few = elim (cases_order from k) [
-  | inl same ↦
-      (let H : ℕ → Type 0 = λ n. play_numbered number (state_after (take n xs)).held ≡ Some closed.held in
-      subst H same closed.is)
-  | inr (inl before) ↦ closed-more steps xs number from k legal closed before few
-  | inr (inr after) ↦ (let bad : ⊥ = omega (arith, later, after) in absurd bad)
-]
-  where
-    closed-more : (steps : List CapStep) (xs : List Entry) (number from k : ℕ) → IsLegal steps xs →
-        (closed : IsClosed number (state_after (take from xs))) →
-        from < k → k ≤ length xs → play_numbered number (state_after (take k xs)).held ≡ Some closed.held
-    closed-more steps xs number from zero legal closed less few = let bad : ⊥ = omega (arith, less) in absurd bad
-    closed-more steps xs number from (suc j) legal closed less few =
-        let e = get_or xs j no_entry in
-        let H : ℕ → Type 0 = λ n. play_numbered number (state_after (take n xs)).held ≡ Some closed.held in
-        let was : H j = elim (cases_order from j) [
-          | inl same ↦ subst H same closed.is
-          | inr (inl before) ↦ closed-more steps xs number from j legal closed before (omega (arith, few))
-          | inr (inr after) ↦ (let bad : ⊥ = omega (arith, less, after) in absurd bad)
-        ] in
-        let still : IsClosed number (state_after (take j xs)) =
-        record { held = closed.held; is = was; closed_is = closed.closed_is } in
-        let apart = halted-once steps e.command e.answer (legal-at steps xs j legal (omega (arith, few))) still in
-        ap (λ (s : State). play_numbered number s.held) (state-next xs j (omega (arith, few)))
-        ∙ found-next j e.command e.answer (record { is = was; unhalted = apart })
+closed-rest : (h : HaltStep) (closed : IsClosed h.number (state_after (take (suc h.place) h.entries))) (more : ℕ)
+    → suc h.place + more ≤ length h.entries
+    → play_numbered h.number (state_after (take (suc h.place + more) h.entries)).held ≡ Some closed.held
+closed-rest h closed zero few =
+    let at : suc h.place ≡ suc h.place + 0 = omega arith in
+    ap (λ n. play_numbered h.number (state_after (take n h.entries)).held) (sym at) ∙ closed.is
+closed-rest h closed (suc more) few =
+    let n = suc h.place + more in
+    let at : suc h.place + suc more ≡ suc n = omega arith in
+    let inside : n < length h.entries = omega (arith, few) in
+    let e = get_or h.entries n no_entry in
+    let was = closed-rest h closed more (omega (arith, few)) in
+    ap (λ k. play_numbered h.number (state_after (take k h.entries)).held) at
+    ∙ ap (λ (s : State). play_numbered h.number s.held) (state-next h.entries n inside)
+    ∙ found-next n e.command e.answer (record {
+      is = was;
+      unhalted = λ halts. let again = halt_at no_entry inside halts in
+          closed-cannot (state_after (take n h.entries)) h.number again.0
+          (record { held = closed.held; is = was; closed_is = closed.closed_is })
+          (halts-there (halt_in h.history again.1)).can;
+    })
 
-closed-after : {steps : List CapStep} {xs : List Entry} {number i : ℕ} → IsLegal steps xs → i < length xs
-    → (closed : IsClosed number (state_after (take (suc i) xs)))
-    → play_numbered number (state_after xs).held ≡ Some closed.held
-closed-after {steps} {xs} {number} {i} legal inside closed =
-    let S : List Entry → Type 0 = λ l. play_numbered number (state_after l).held ≡ Some closed.held in
-    subst S (take_all (length xs) xs (omega arith))
-    (closed-rest {from = suc i} (length xs) legal closed (omega (arith, inside)) (omega arith))
+closed-after : (h : HaltStep) (closed : IsClosed h.number (state_after (take (suc h.place) h.entries)))
+    → play_numbered h.number (state_after h.entries).held ≡ Some closed.held
+closed-after h closed =
+    let more = length h.entries - suc h.place in
+    let at : suc h.place + more ≡ length h.entries = omega (arith, h.halt.inside) in
+    ap (λ l. play_numbered h.number (state_after l).held)
+    (sym (take_all (length h.entries) h.entries (omega arith)) ∙ ap (λ n. take n h.entries) (sym at))
+    ∙ closed-rest h closed more (omega (arith, at))
 
 pub was-admitted : (steps : List CapStep) (xs : List Entry) (number : ℕ) (h : AdmittedPlay) → IsLegal steps xs →
     play_numbered number (state_after xs).held ≡ Some h →
@@ -196,25 +216,13 @@ was-admitted steps xs number h legal is =
     subst N (split number (state_after xs).held h is).number_is
     (record { inside = known.inside; admitted = known.admitted })
 
-open-unhalted : {steps : List CapStep} {xs : List Entry} {number : ℕ} {h : AdmittedPlay} → IsLegal steps xs
-    → play_numbered number (state_after xs).held ≡ Some h → h.is_open ≡ true → IsUnhalted xs number
-open-unhalted {steps} {xs} {number} {h} legal is is_open = record {
+open-unhalted : {steps : List CapStep} {xs : List Entry} {number : ℕ} (keep : ℕ) → IsLegal steps xs
+    → CanHalt (state_after xs) number keep → IsUnhalted xs number
+open-unhalted {steps} {xs} {number} keep legal can = record {
   each = λ i none inside halts. (
-      let e = get_or xs i no_entry in
-      let H : Entry → Type 0 = λ x. Halts number x.command in
-      let here = closed-here (machine_after steps (take i xs)) i e.command e.answer
-      (legal-at steps xs i legal inside) (subst H (get_or_default xs i none no_entry inside) halts) in
-      let closed : IsClosed number (state_after (take (suc i) xs)) =
-      record {
-        held = here.held;
-        is = ap (λ (s : State). play_numbered number s.held) (state-next xs i inside) ∙ here.is;
-        closed_is = here.closed_is;
-      } in
-      let later = closed-after {i = i} legal inside closed in
-      let both : Some h ≡ Some here.held = sym is ∙ later in
-      let one : h ≡ here.held = cc in
-      let bad : true ≡ false = sym is_open ∙ ap (λ (x : AdmittedPlay). x.is_open) one ∙ here.closed_is in
-      cc
+      let step = halt_in (record { steps = steps; entries = xs; legal = legal }) (halt_at none inside halts).1 in
+      let closed = closed-here step in
+      closed-cannot (state_after xs) number keep (record { held = closed.held; is = closed-after step closed; closed_is = closed.closed_is }) can
       );
 }
 
@@ -226,85 +234,54 @@ can-still steps xs number keep legal can =
       start = h.held.play.start;
       segments = h.held.play.segments;
       admission = was-admitted steps xs number h.held legal h.is;
-      unhalted = open-unhalted legal h.is h.is_open;
+      unhalted = open-unhalted keep legal can;
       small = h.small;
     }
 
 -- ---- a play that was halted
 -- the play that a halt may close is the one that was admitted, with all its bytes
-halted-whole : {steps : List CapStep} {xs : List Entry} {number start : ℕ} {segments : List Segment} {h : AdmittedPlay}
-    (n : ℕ) → PlayAdmitted steps xs number start segments → n ≤ length xs →
-    play_numbered number (state_after (take n xs)).held ≡ Some h → h.is_open ≡ true → h ≡ admitted_play number start
-    segments
-halted-whole {steps} {xs} {number} {start} {segments} {h} n admitted few is is_open =
-    let legal = admitted.legal in
-    let state = state_after (take n xs) in
-    let number_is = (split number state.held h is).number_is in
-    let known = holds-of (IsKnown xs n) number state.held h (known-at steps xs n legal few) is in
-    let whole = (holds-of IsWhole number state.held h
-    (sound-after steps (take n xs) (legal-take steps xs n legal)).whole is).whole is_open in
+halted-whole : (a : PlayAdmitted) (n : ℕ) {keep : ℕ} → n ≤ length a.entries
+    → (h : Halting (state_after (take n a.entries)) a.number keep)
+    → h.held ≡ admitted_play a.number a.start a.segments
+unfolding whole-play
+halted-whole a n few h =
+    let held = h.held in
+    let state = state_after (take n a.entries) in
+    let number_is = (split a.number state.held held h.is).number_is in
+    let known = holds-of (IsKnown a.entries n) a.number state.held held (known-at a.steps a.entries n a.legal few) h.is in
+    let whole =
+    (whole-play (sound-after a.steps (take n a.entries) (legal-take a.steps a.entries n a.legal)).whole h).play_is in
     let P : ℕ → Type 0 =
-    λ k. play_admitted (get_or xs k no_entry).command (get_or xs k no_entry).answer
-    ≡ Some (whole_play h.play.start h.play.segments) in
-    let both : Some (whole_play h.play.start h.play.segments) ≡ Some (whole_play start segments) =
-    sym (subst P number_is (known.admitted no_entry)) ∙ admitted.admission.admitted no_entry in
-    let same : whole_play h.play.start h.play.segments ≡ whole_play start segments = cc in
-    let K : ℕ → Booked = λ k. record { start = h.play.start; segments = h.play.segments; keep = k } in
-    let play_is : h.play ≡ whole_play start segments = ap K whole ∙ same in
-    let A : ℕ → AdmittedPlay = λ k. record { number = k; play = h.play; is_open = h.is_open } in
-    let B : Booked → AdmittedPlay = λ p. record { number = number; play = p; is_open = h.is_open } in
-    let C : Bool → AdmittedPlay = λ b. record { number = number; play = whole_play start segments; is_open = b } in
-    ap A number_is ∙ ap B play_is ∙ ap C is_open
+    λ k. play_admitted (get_or a.entries k no_entry).command (get_or a.entries k no_entry).answer
+    ≡ Some (whole_play held.play.start held.play.segments) in
+    let both : Some (whole_play held.play.start held.play.segments) ≡ Some (whole_play a.start a.segments) =
+    sym (subst P number_is (known.admitted no_entry)) ∙ a.admission.admitted no_entry in
+    let same : whole_play held.play.start held.play.segments ≡ whole_play a.start a.segments = cc in
+    let A : ℕ → AdmittedPlay = λ k. record { number = k; play = held.play; is_open = held.is_open } in
+    let B : Booked → AdmittedPlay = λ p. record { number = a.number; play = p; is_open = held.is_open } in
+    let C : Bool → AdmittedPlay = λ b. record { number = a.number; play = whole_play a.start a.segments; is_open = b } in
+    ap A number_is ∙ ap B (whole ∙ same) ∙ ap C h.is_open
 
-cut-here : {steps : List CapStep} {xs : List Entry} {number start keep : ℕ} {segments : List Segment} (i : ℕ)
-    → PlayAdmitted steps xs number start segments → i < length xs → {command : Command} (answer : Answer)
-    → command ≡ Halt number keep → IsAnswer steps (state_after (take i xs)) command answer
-    → play_numbered number (next_state (state_after (take i xs)) i command answer).held
-    ≡ Some (halted_play keep (admitted_play number start segments))
-cut-here {steps} {xs} {number} {start} {keep} {segments} i admitted inside answer same is =
-    let state = state_after (take i xs) in
-    let I : Command → Type 0 = λ c. IsAnswer steps state c answer in
-    ap (λ c. play_numbered number (next_state state i c answer).held) same ∙ closing answer (subst I same is)
-  where
-    closing : (answer : Answer) → IsAnswer steps (state_after (take i xs)) (Halt number keep) answer →
-        play_numbered number (next_state (state_after (take i xs)) i (Halt number keep) answer).held
-        ≡ Some (halted_play keep (admitted_play number start segments))
-    closing Halted can =
-        let state = state_after (take i xs) in
-        let h = halting state number keep can in
-        let whole : h.held ≡ admitted_play number start segments =
-        halted-whole i admitted (omega (arith, inside)) h.is h.is_open in
-        found-closed number keep state.held h.held h.is ∙ ap (λ (x : AdmittedPlay). Some (halted_play keep x)) whole
-    closing (Admitted from) can = absurd can
-    closing (Overflow over booked asked) can = absurd can
-    closing (Looked now at booked) can = absurd can
-
-pub cut-after : {steps : List CapStep} {xs : List Entry} {number start keep i : ℕ} {segments : List Segment}
-    → PlayAdmitted steps xs number start segments → IsHalt xs i number keep
-    → play_numbered number (state_after xs).held ≡ Some (halted_play keep (admitted_play number start segments))
-cut-after {steps} {xs} {number} {start} {keep} {i} {segments} admitted halt =
-    let e = get_or xs i no_entry in
-    let closed : IsClosed number (state_after (take (suc i) xs)) = record {
-      held = halted_play keep (admitted_play number start segments);
-      is = ap (λ (s : State). play_numbered number s.held) (state-next xs i halt.inside)
-          ∙ cut-here i admitted halt.inside e.answer (halt.command_is no_entry)
-          (legal-at steps xs i admitted.legal halt.inside);
+pub cut-after : (a : PlayAdmitted) {i keep : ℕ} → IsHalt a.entries i a.number keep
+    → play_numbered a.number (state_after a.entries).held
+    ≡ Some (halted_play keep (admitted_play a.number a.start a.segments))
+cut-after a {i} {keep} halt =
+    let step = halt_in a.history halt in
+    let is = halts-there step in
+    let h = halting (state_before step) a.number keep is.can in
+    closed-after step (record {
+      held = halted_play keep (admitted_play a.number a.start a.segments);
+      is = ap (λ (s : State). play_numbered a.number s.held) is.next
+          ∙ found-closed a.number keep (state_before step).held h.held h.is
+          ∙ ap (λ (x : AdmittedPlay). Some (halted_play keep x)) (halted-whole a i (omega (arith, halt.inside)) h);
       closed_is = refl;
-    } in
-    closed-after {i = i} admitted.legal halt.inside closed
+    })
 
 -- a halt stands after the entry that admitted its play
-pub halt-later : {steps : List CapStep} {xs : List Entry} {number keep i : ℕ} → IsLegal steps xs
-    → IsHalt xs i number keep → number < i
-halt-later {steps} {xs} {number} {keep} {i} legal halt =
-    let e = get_or xs i no_entry in
-    let A : Command → Type 0 = λ c. IsAnswer steps (state_after (take i xs)) c e.answer in
-    let can = can_halt e.answer (subst A (halt.command_is no_entry) (legal-at steps xs i legal halt.inside)) in
-    omega (arith, open-inside steps (take i xs) number keep (legal-take steps xs i legal) can, length-take i xs)
-  where
-    can_halt : (answer : Answer) → IsAnswer steps (state_after (take i xs)) (Halt number keep) answer
-        → CanHalt (state_after (take i xs)) number keep
-    can_halt Halted is = is
-    can_halt (Admitted start) is = absurd is
-    can_halt (Overflow over booked asked) is = absurd is
-    can_halt (Looked now at booked) is = absurd is
+pub halt-later : (h : HaltStep) → h.number < h.place
+halt-later h = omega (
+  arith,
+  open-inside h.steps (take h.place h.entries) h.number h.keep (legal-take h.steps h.entries h.place h.legal)
+      (halts-there h).can,
+  length-take h.place h.entries,
+)

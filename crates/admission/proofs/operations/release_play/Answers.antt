@@ -4,7 +4,8 @@ use Rattle.plan_cert.specs.PlanSlots.{total_bytes}
 use Rattle.slot_calendar.specs.Plays.{whole_play}
 use Rattle.admission.specs.Histories.{state_after}
 use Rattle.admission.proofs.Admissions.{IsOpenEntry, open-entry, open-inside}
-use Rattle.admission.proofs.Calendars.{HoldsWhole, cut-allowed, stands-halted}
+use Rattle.admission.proofs.Calendars.{cut-allowed, stands-halted}
+use Rattle.admission.proofs.Halts.{WholePlay}
 use Rattle.admission.proofs.operations.release_play.Goals as goal
 use Rattle.admission.proofs.operations.release_play.Goals.{After-law_booked_plan_can_be_released}
 
@@ -21,13 +22,18 @@ found c open_ =
     c.unwrap-start.ensures (c.admission_of.ensures _ _ _ open_.command_is open_.answer_is)
 
 -- the play has all its bytes, as its entry admitted it
-whole : (c : After-law_booked_plan_can_be_released)
-    → HoldsWhole (state_after c.args.entries.now) c.args.number c.unwrap-start.result.1 c.unwrap-start.result.0.now
+abbrev whole : After-law_booked_plan_can_be_released → WholePlay
 whole c =
-    let open_ = open-entry c.requires.legal c.requires.can c.index-entries-number.is in
+    let open_ = open-entry (record { steps = _; entries = _; legal = c.requires.legal }) c.requires.can c.index-entries-number.is in
     let play = open_.held.play in let is = found c open_ in record {
-      held = open_.held;
-      is = open_.is;
+      found = record {
+        state = state_after c.args.entries.now;
+        number = c.args.number;
+        held = open_.held;
+        is = open_.is;
+      };
+      start = c.unwrap-start.result.1;
+      segments = c.unwrap-start.result.0.now;
       play_is = open_.play_is ∙ ap (λ s. whole_play s play.segments) (sym is.1)
           ∙ ap (λ p. whole_play c.unwrap-start.result.1 p) (sym is.0);
     }
@@ -46,12 +52,12 @@ bounds-entries-number c =
 
 pub unwrap-start-requires : goal.unwrap-start-requires
 unwrap-start-requires c =
-    let open_ = open-entry c.requires.legal c.requires.can c.index-entries-number.is in
+    let open_ = open-entry (record { steps = _; entries = _; legal = c.requires.legal }) c.requires.can c.index-entries-number.is in
     some_there c.admission_of.result _ (c.admission_of.ensures _ _ _ open_.command_is open_.answer_is)
 
 pub release-requires-clause-keep : goal.release-requires-clause-keep
 release-requires-clause-keep c =
-    let open_ = open-entry c.requires.legal c.requires.can c.index-entries-number.is in
+    let open_ = open-entry (record { steps = _; entries = _; legal = c.requires.legal }) c.requires.can c.index-entries-number.is in
     let is = found (goal.at.release-requires-clause-keep c).After-law_booked_plan_can_be_released open_ in
     omega (arith, open_.small, ap total_bytes is.0)
 

@@ -1,11 +1,10 @@
-use Rattle.std.proofs.Common.{ℕ, arith, refl, ap, subst}
+use Rattle.std.proofs.Common.{ℕ, arith, refl, sym, subst, ◌∙◌}
 use Rattle.admission.specs.declared.entries.Answer.TheVariants.{Looked}
 use Rattle.admission.specs.declared.entries.Command.TheVariants.{Look}
-use Rattle.admission.specs.Books.{IsNoted, Journal}
+use Rattle.admission.specs.Books.{IsFull, IsNoted, Journal}
 use Rattle.admission.specs.Histories.{state_after}
 use Rattle.admission.specs.Machine.{IsAnswer}
-use Rattle.admission.proofs.Calendars.{look-answer}
-use Rattle.admission.proofs.Journals.{counts-kept, kept-push, noted-push}
+use Rattle.admission.proofs.Journals.{kept-push, noted-push}
 use Rattle.admission.proofs.book.Book.look.Goals as goal
 use Rattle.admission.proofs.book.Book.look.Goals.{After-note}
 
@@ -13,13 +12,15 @@ answered : (c : After-note)
     → IsAnswer c.self.inside.calendar.steps (state_after c.self.inside.entries.items) (Look c.min-slot.result)
     (Looked c.now-now.result c.max-at.result c.booked-booked.result)
 answered c =
-    look-answer c.self.inside.calendar.steps c.min-slot.result
-    c.self.invariant.follows c.now-now.ensures.value c.max-at.ensures c.booked-booked.ensures.value
+    let follows = c.self.invariant.follows in let now = c.now-now.ensures.value in let at = c.max-at.ensures in (
+      now ∙ follows.now,
+      omega (arith, at, now, follows.now),
+      c.booked-booked.ensures.value ∙ follows.stands.each c.max-at.result (omega (arith, at, now)),
+    )
 
 pub invariant_of-self : goal.invariant_of-self
 invariant_of-self c =
-    let counts = counts-kept c.self.invariant
-    (ap (λ (j : Journal). j.entries) c.self.view_is) c.counts-full.ensures.full in
+    let counts = subst (λ (j : Journal). IsFull j c.counts-full.result) (sym c.self.view_is) c.counts-full.ensures.full in
     kept-push c.self.invariant (record {
       entries_are = c.note.ensures.items;
       answered = answered (goal.at.invariant_of-self c).After-note;
@@ -27,7 +28,7 @@ invariant_of-self c =
       follows = c.self.invariant.follows;
     }) (record {
       more_is = c.self.invariant.count_is;
-      fits = omega (arith, c.if-full-self.false, counts.0, counts.1);
+      fits = omega (arith, c.if-full-self.false, counts.entries_are, counts.open_is, c.self.invariant.count_is);
     }) c.note.ensures.room
 
 pub returns-clause-noted : goal.returns-clause-noted

@@ -4,10 +4,10 @@ use Rattle.admission.specs.declared.entries.Answer.TheVariants.{Admitted}
 use Rattle.admission.specs.declared.entries.Command.TheVariants.{Play}
 use Rattle.admission.specs.declared.entries.Entry.{Entry}
 use Rattle.admission.specs.Machine.{CanHalt, IsAnswer}
-use Rattle.admission.specs.Books.{IsNoted, Journal}
+use Rattle.admission.specs.Books.{IsFull, IsNoted, Journal}
 use Rattle.admission.specs.Histories.{state_after}
 use Rattle.admission.proofs.HistoryPrefixes.{Machine}
-use Rattle.admission.proofs.Journals.{counts-kept, kept-push, noted-push, open-asked, opens-most}
+use Rattle.admission.proofs.Journals.{kept-push, noted-push, open-asked, opens-most}
 use Rattle.admission.proofs.OpenPlays.{opened-last}
 use Rattle.admission.proofs.CapacityBounds.{sound-after}
 use Rattle.admission.proofs.book.Book.play.Goals as goal
@@ -25,8 +25,7 @@ pub invariant_of-self : goal.invariant_of-self
 invariant_of-self c =
     let book = c.self.inside in
     let state = state_after book.entries.items in
-    let counts = counts-kept c.self.invariant
-    (ap (λ (j : Journal). j.entries) c.self.view_is) c.counts-full.ensures.full in
+    let counts = subst (λ (j : Journal). IsFull j c.counts-full.result) (sym c.self.view_is) c.counts-full.ensures.full in
     let answer = answered (goal.at.invariant_of-self c).After-note in
     let machine : Machine = record { steps = book.calendar.steps; state = state } in
     let asked = open-asked machine
@@ -41,8 +40,9 @@ invariant_of-self c =
       fits = omega (
         arith,
         c.if-full-self.false,
-        counts.0,
-        counts.1,
+        counts.entries_are,
+        counts.open_is,
+        c.self.invariant.count_is,
         c.opened_count.ensures,
         opens-most c.admit-answer.result,
       );
