@@ -9,15 +9,16 @@ use Rattle.admission.specs.declared.entries.Noted.{Noted}
 use Rattle.admission.specs.Books.{IsNoted, Journal}
 use Rattle.admission.specs.Histories.{state_after}
 use Rattle.admission.specs.Machine.{IsAnswer, State}
-use Rattle.station.specs.Ledgers.{IsEntered}
+use Rattle.admission.proofs.HistoryPrefixes.{Machine}
 
-admits : (steps : List CapStep) (state : State) (slot : ℕ) (plan : List Segment) (answer : Answer)
-    → IsAnswer steps state (Play slot plan) answer
+-- a play that no slot refuses is admitted
+pub admits : (m : Machine) (slot : ℕ) (plan : List Segment) (answer : Answer)
+    → IsAnswer m.steps m.state (Play slot plan) answer
     → ((over booked asked : ℕ) → answer ≢ Overflow over booked asked) → (start : ℕ) × (answer ≡ Admitted start)
-admits steps state slot plan (Admitted start) is fits = (start, refl)
-admits steps state slot plan (Overflow over booked asked) is fits = absurd (fits over booked asked refl)
-admits steps state slot plan Halted is fits = absurd is
-admits steps state slot plan (Looked now at booked) is fits = absurd is
+admits m slot plan (Admitted start) is fits = (start, refl)
+admits m slot plan (Overflow over booked asked) is fits = absurd (fits over booked asked refl)
+admits m slot plan Halted is fits = absurd is
+admits m slot plan (Looked now at booked) is fits = absurd is
 
 looks : (steps : List CapStep) (state : State) (slot : ℕ) (answer : Answer) → IsAnswer steps state (Look slot) answer
     → (now : ℕ) × (at : ℕ) × (booked : ℕ) × (answer ≡ Looked now at booked)
@@ -25,13 +26,6 @@ looks steps state slot (Admitted start) is = absurd is
 looks steps state slot (Overflow over booked asked) is = absurd is
 looks steps state slot Halted is = absurd is
 looks steps state slot (Looked now at booked) is = (now, at, booked, refl)
-
--- a play that no slot refuses is admitted
-pub play_admitted : {old new : Journal} {maker more slot place : ℕ} {plan : List Segment} {answer : Answer}
-    → IsEntered old new maker more (Play slot plan) place answer
-    → ((over booked asked : ℕ) → answer ≢ Overflow over booked asked) → (start : ℕ) × (answer ≡ Admitted start)
-play_admitted {old} {slot} {plan} {answer} made fits =
-    admits old.steps (state_after old.entries) slot plan answer made.noted.answer_is fits
 
 pub look_answered : {old new : Journal} {maker slot : ℕ} {noted : Noted} → IsNoted old maker (Look slot) noted new
     → (now : ℕ) × (at : ℕ) × (booked : ℕ) × (noted.answer ≡ Looked now at booked)

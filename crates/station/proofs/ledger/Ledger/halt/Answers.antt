@@ -24,6 +24,6 @@ pub invariant_of-self : goal.invariant_of-self
 invariant_of-self c =
     let open_ = subst (λ (j : Journal). IsOpenAmong (entries_by c.args.maker j.entries) c.args.number c.args.keep)
     (sym c.self.view_is) c.requires in
-    halts_noted c.halt.ensures.noted c.self.invariant
+    halts_noted (record { old = _; new = _; maker = _; command = _ }) c.halt.ensures.noted c.self.invariant
     (λ number keep none e. sym (maker_of c.self.inside.book.entries c.args.maker c.args.number c.args.keep none open_)
     ∙ ap (λ (k : ℕ). (get_or c.self.inside.book.entries k none).maker) (ap (halted_or 0) e))

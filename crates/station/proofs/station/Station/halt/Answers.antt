@@ -4,24 +4,36 @@ use Rattle.admission.specs.declared.entries.Command.TheVariants.{Halt}
 use Rattle.station.specs.Answers.{HasMadeEntry}
 use Rattle.station.specs.Bookings.{Booking}
 use Rattle.station.specs.Inside.{seat_of}
-use Rattle.station.proofs.SeatTurns.{IsVisit, entered_longer, visit, visit_made, visit_same}
+use Rattle.station.proofs.SeatTurns.{Visit, entered_longer, visit, visit_made, visit_same}
 use Rattle.station.proofs.station.Station.halt.Goals as goal
 use Rattle.station.proofs.station.Station.halt.Goals.{After-leave}
 
-visited : (g : _) (c : After-leave g)
-    → IsVisit c.args.seat.now c.leave.new.pass c.value.result.now c.halt-place.new.self c.number-maker.result
-visited g c =
-    let turn = c.enter-turn.ensures in
-    visit c.seat.inside.pass c.seat.view_is
-    (record { pass = turn.pass; longer = turn.longer; own = turn.own; terms = turn.terms })
-    (record { left = c.leave.ensures; last_is = c.value-2.ensures.value; lent_is = c.value.ensures.value })
-    (c.number-maker.ensures ∙ turn.number)
+abbrev visited : (g : _) → After-leave g → Visit
+visited g c = let turn = c.enter-turn.ensures in visit {turn = record {
+  taken = c.enter-turn.result.pass;
+  old = c.enter-turn.result.value;
+  pass = turn.pass;
+  longer = turn.longer;
+  own = turn.own;
+  terms = turn.terms;
+}}
+    (record {
+      back = c.leave.new.pass;
+      lent = c.value.result.now;
+      last = _;
+      new = c.halt-place.new.self;
+      maker = c.number-maker.result;
+      left = c.leave.ensures;
+      last_is = c.value-2.ensures.value;
+      lent_is = c.value.ensures.value;
+      maker_is = c.number-maker.ensures ∙ turn.number;
+    }) c.seat.view_is
 
 pub returns-clause-same : goal.returns-clause-same
 returns-clause-same g c =
     let is = visited g (goal.at.returns-clause-same g c).After-leave in
     visit_same is
-    (entered_longer c.halt-place.ensures)
+    (entered_longer is c.halt-place.ensures)
 
 pub returns-clause-made : goal.returns-clause-made
 returns-clause-made g c =
