@@ -26,25 +26,17 @@ use Rattle.station.specs.Seats.{IsSameSeat, SeatState}
 use Rattle.station.proofs.EntryLemmas.{IsAt, seat_after}
 
 -- a pass took the lock, and `old` is the book as it was then
-pub record TakenTurn (p : PassState) : Type 0 where
-  pub taken : PassState
-  pub old : Journal
+pub record HasTakenTurn (p taken : PassState) (old : Journal) : Type 0 where
   pub pass : taken ≡ record p { seen = old.entries }
   pub longer : IsPrefix p.seen old.entries
   pub own : p.mine ≡ entries_by p.number old.entries
   pub terms : (let t : Terms = record { steps = old.steps; limit = old.limit } in t) ≡ p.terms
 
 -- it was lent the book and gave the lock back, with the book as it is now
-pub record GivenBack {p : PassState} (turn : TakenTurn p) : Type 0 where
-  pub back : PassState
-  pub lent : Journal
-  pub last : Journal
-  pub new : Journal
-  pub maker : ℕ
-  pub left : back ≡ record turn.taken { seen = last.entries; mine = entries_by turn.taken.number last.entries }
+pub record HasGivenBack (taken back : PassState) (old lent last new : Journal) : Type 0 where
+  pub left : back ≡ record taken { seen = last.entries; mine = entries_by taken.number last.entries }
   pub last_is : last ≡ new
-  pub lent_is : lent ≡ turn.old
-  pub maker_is : maker ≡ p.number
+  pub lent_is : lent ≡ old
 
 -- an entire call: the seat took the lock, was lent the book, and gave it back
 pub record Visit : Type 0 where
@@ -57,14 +49,14 @@ pub record Visit : Type 0 where
   pub back_is : seat_of back ≡ seat_after seat new
   pub maker_is : maker ≡ seat.number
 
-abbrev pub visit : {p : PassState} {turn : TakenTurn p} (given : GivenBack turn) {seat : SeatState} → seat_of p ≡ seat
-    → Visit
-visit {p} {turn} given {seat} is = record {
+abbrev pub visit : {p taken back : PassState} {seat : SeatState} {old lent last new : Journal} {maker : ℕ}
+    → HasTakenTurn p taken old → HasGivenBack taken back old lent last new → maker ≡ p.number → seat_of p ≡ seat → Visit
+visit {p} {back} {seat} {lent} {last} {new} {maker} turn given maker_is is = record {
   seat = seat;
-  back = given.back;
-  lent = given.lent;
-  new = given.new;
-  maker = given.maker;
+  back = back;
+  lent = lent;
+  new = new;
+  maker = maker;
   at = subst (λ (x : SeatState × Journal). IsAt x.0 x.1) (λ i. (is i, sym given.lent_is i)) (record {
     steps = ap (λ (t : Terms). t.steps) turn.terms;
     limit = ap (λ (t : Terms). t.limit) turn.terms;
@@ -72,10 +64,10 @@ visit {p} {turn} given {seat} is = record {
     own = turn.own;
   });
   back_is = ap seat_of given.left
-      ∙ (ap (λ (x : PassState). seat_of
-      (record x { seen = given.last.entries; mine = entries_by x.number given.last.entries })) turn.pass
-      ∙ (ap (seat_after (seat_of p)) given.last_is ∙ ap (λ (s : SeatState). seat_after s given.new) is));
-  maker_is = given.maker_is ∙ ap (λ (s : SeatState). s.number) is;
+      ∙ (ap (λ (x : PassState). seat_of (record x { seen = last.entries; mine = entries_by x.number last.entries }))
+      turn.pass
+      ∙ (ap (seat_after (seat_of p)) given.last_is ∙ ap (λ (s : SeatState). seat_after s new) is));
+  maker_is = maker_is ∙ ap (λ (s : SeatState). s.number) is;
 }
 
 pub visit_same : (v : Visit) → IsPrefix v.lent.entries v.new.entries → IsSameSeat v.seat (seat_of v.back)

@@ -9,25 +9,10 @@ use Rattle.station.proofs.station.Station.look.Goals as goal
 use Rattle.station.proofs.station.Station.look.Goals.{After-leave}
 
 abbrev visited : (g : _) → After-leave g → Visit
-visited g c = let turn = c.enter-turn.ensures in visit {turn = record {
-  taken = c.enter-turn.result.pass;
-  old = c.enter-turn.result.value;
-  pass = turn.pass;
-  longer = turn.longer;
-  own = turn.own;
-  terms = turn.terms;
-}}
-    (record {
-      back = c.leave.new.pass;
-      lent = c.value.result.now;
-      last = _;
-      new = c.look-told.new.self;
-      maker = c.number-maker.result;
-      left = c.leave.ensures;
-      last_is = c.value-2.ensures.value;
-      lent_is = c.value.ensures.value;
-      maker_is = c.number-maker.ensures ∙ turn.number;
-    }) c.seat.view_is
+visited g c = let turn = c.enter-turn.ensures in visit
+    (record { pass = turn.pass; longer = turn.longer; own = turn.own; terms = turn.terms })
+    (record { left = c.leave.ensures; last_is = c.value-2.ensures.value; lent_is = c.value.ensures.value })
+    (c.number-maker.ensures ∙ turn.number) c.seat.view_is
 
 pub returns-clause-same : goal.returns-clause-same
 returns-clause-same g c =
