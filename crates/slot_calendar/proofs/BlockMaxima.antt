@@ -14,36 +14,39 @@ pub block-in : (p : ℕ) → p < ring_slots → p / 1024 < 1024
 block-in p inside = omega (arith, inside)
 
 -- a place of a ring, and the number to which its own rises
-record Raise (places tops : List ℕ) (stale : Option ℕ) : Type 0 where
+pub record Raise : Type 0 where
+  pub places : List ℕ
+  pub tops : List ℕ
+  pub stale : Option ℕ
   pub place : ℕ
   pub value : ℕ
   pub maxima : AreBlockMaxima places tops stale
   pub inside : place < ring_slots
   pub rises : get_or places place 0 ≤ value
 
-abbrev raised : {places tops : List ℕ} {stale : Option ℕ} → Raise places tops stale → List ℕ
-raised {places} raise = set places raise.place raise.value
+abbrev pub raised : Raise → List ℕ
+raised raise = set raise.places raise.place raise.value
 
-abbrev raised_top : {places tops : List ℕ} {stale : Option ℕ} → Raise places tops stale → ℕ
-raised_top {tops} raise = max (get_or tops (raise.place / 1024) 0) raise.value
+abbrev pub raised_top : Raise → ℕ
+raised_top raise = max (get_or raise.tops (raise.place / 1024) 0) raise.value
 
-abbrev raised_tops : {places tops : List ℕ} {stale : Option ℕ} → Raise places tops stale → List ℕ
-raised_tops {tops} raise = set tops (raise.place / 1024) (raised_top raise)
+abbrev pub raised_tops : Raise → List ℕ
+raised_tops raise = set raise.tops (raise.place / 1024) (raised_top raise)
 
-raise_here : {places tops : List ℕ} {stale : Option ℕ} (raise : Raise places tops stale)
+raise_here : (raise : Raise)
     → get_or (raised raise) raise.place 0 ≡ raise.value
-raise_here {places} raise =
-    get_or-set_same places raise.place raise.value 0 (omega (arith, raise.maxima.places_are, raise.inside))
+raise_here raise =
+    get_or-set_same raise.places raise.place raise.value 0 (omega (arith, raise.maxima.places_are, raise.inside))
 
-raise_top : {places tops : List ℕ} {stale : Option ℕ} (raise : Raise places tops stale)
+raise_top : (raise : Raise)
     → get_or (raised_tops raise) (raise.place / 1024) 0 ≡ raised_top raise
-raise_top {tops} raise = get_or-set_same tops (raise.place / 1024) (raised_top raise) 0
+raise_top raise = get_or-set_same raise.tops (raise.place / 1024) (raised_top raise) 0
     (omega (arith, raise.maxima.tops_are, block-in raise.place raise.inside))
 
 -- the new greatest number bounds each number of the block, and the other blocks are as before
-raise_bounded : {places tops : List ℕ} {stale : Option ℕ} (raise : Raise places tops stale) (i : ℕ) → i < ring_slots
+raise_bounded : (raise : Raise) (i : ℕ) → i < ring_slots
     → get_or (raised raise) i 0 ≤ get_or (raised_tops raise) (i / 1024) 0
-raise_bounded {places} {tops} raise i less = elim (cases_eq i p) [
+raise_bounded raise i less = elim (cases_eq i p) [
   | inl is ↦ (
       let value : get_or (set places p v) i 0 ≡ v = ap (λ k. get_or (set places p v) k 0) is ∙ raise_here raise in
       let bound : get_or (set tops block top) (i / 1024) 0 ≡ top =
@@ -69,7 +72,7 @@ raise_bounded {places} {tops} raise i less = elim (cases_eq i p) [
       )
 ]
   where
-    open raise use {place as p, value as v}
+    open raise use {places, tops, place as p, value as v}
 
     block : ℕ
     block = p / 1024
@@ -78,10 +81,10 @@ raise_bounded {places} {tops} raise i less = elim (cases_eq i p) [
     top = max (get_or tops (p / 1024) 0) v
 
 -- some place of its block holds the new greatest number
-raise_in_block : {places tops : List ℕ} {stale : Option ℕ} (raise : Raise places tops stale) (b : ℕ)
-    → b ≡ raise.place / 1024 → IsReached places b (get_or tops b 0)
+raise_in_block : (raise : Raise) (b : ℕ)
+    → b ≡ raise.place / 1024 → IsReached raise.places b (get_or raise.tops b 0)
     → IsReached (raised raise) b (get_or (raised_tops raise) b 0)
-raise_in_block {places} {tops} raise b is old =
+raise_in_block raise b is old =
     let bound : get_or (set tops block top) b 0 ≡ top =
     ap (λ k. get_or (set tops block top) k 0) is ∙ raise_top raise in
     elim (cases_lt v (get_or tops block 0)) [
@@ -106,7 +109,7 @@ raise_in_block {places} {tops} raise b is old =
       }
     ]
   where
-    open raise use {place as p, value as v}
+    open raise use {places, tops, place as p, value as v}
 
     block : ℕ
     block = p / 1024
@@ -115,34 +118,32 @@ raise_in_block {places} {tops} raise b is old =
     top = max (get_or tops (p / 1024) 0) v
 
 -- in another block some place still holds the greatest number
-raise_elsewhere : {places tops : List ℕ} {stale : Option ℕ} (raise : Raise places tops stale) (b : ℕ)
-    → b ≢ raise.place / 1024 → IsReached places b (get_or tops b 0)
+raise_elsewhere : (raise : Raise) (b : ℕ)
+    → b ≢ raise.place / 1024 → IsReached raise.places b (get_or raise.tops b 0)
     → IsReached (raised raise) b (get_or (raised_tops raise) b 0)
-raise_elsewhere {places} {tops} raise b apart old =
+raise_elsewhere raise b apart old =
     let other : old.place ≢ raise.place = λ e. apart (sym old.of_block ∙ ap (λ k. k / 1024) e) in record {
       place = old.place;
       inside = old.inside;
       of_block = old.of_block;
-      holds = get_or-set_other places raise.place old.place raise.value 0 other ∙ old.holds
-          ∙ sym (get_or-set_other tops (raise.place / 1024) b (raised_top raise) 0 apart);
+      holds = get_or-set_other raise.places raise.place old.place raise.value 0 other ∙ old.holds
+          ∙ sym (get_or-set_other raise.tops (raise.place / 1024) b (raised_top raise) 0 apart);
     }
 
 -- a place whose number rises
-pub topped-raise : {places tops : List ℕ} {stale : Option ℕ} (p v : ℕ) → AreBlockMaxima places tops stale →
-    p < ring_slots → get_or places p 0 ≤ v →
-    AreBlockMaxima (set places p v) (set tops (p / 1024) (max (get_or tops (p / 1024) 0) v)) stale
-topped-raise {places} {tops} {stale} p v topped inside rises =
-    let raise : Raise places tops stale =
-    record { place = p; value = v; maxima = topped; inside = inside; rises = rises } in record {
-      places_are = length-set places p v ∙ topped.places_are;
-      tops_are = length-set tops (p / 1024) (raised_top raise) ∙ topped.tops_are;
-      bounded = raise_bounded raise;
-      reached = λ b less exact. elim (cases_eq b (p / 1024)) [
-        | inl is ↦ raise_in_block raise b is (topped.reached b less exact)
-        | inr apart ↦ raise_elsewhere raise b apart (topped.reached b less exact)
-      ];
-      stale_in = topped.stale_in;
-    }
+pub topped-raise : (raise : Raise) → AreBlockMaxima (raised raise) (raised_tops raise) raise.stale
+topped-raise raise = record {
+  places_are = length-set places p value ∙ maxima.places_are;
+  tops_are = length-set tops (p / 1024) (raised_top raise) ∙ maxima.tops_are;
+  bounded = raise_bounded raise;
+  reached = λ b less exact. elim (cases_eq b (p / 1024)) [
+    | inl is ↦ raise_in_block raise b is (maxima.reached b less exact)
+    | inr apart ↦ raise_elsewhere raise b apart (maxima.reached b less exact)
+  ];
+  stale_in = maxima.stale_in;
+}
+  where
+    open raise use {places, tops, place as p, value, maxima}
 
 -- a place of the stale block whose number falls
 pub topped-lower : {places tops : List ℕ} (p v : ℕ) → AreBlockMaxima places tops (Some (p / 1024)) → p < ring_slots →
@@ -181,35 +182,38 @@ topped-lower {places} {tops} p v topped inside falls = record {
     some_in x y less is = let same : x ≡ y = cc in omega (arith, same, less)
 
 -- the stale block, and its greatest number as it is read again
-record Settle (places tops : List ℕ) (stale : Option ℕ) : Type 0 where
+pub record Settle : Type 0 where
+  pub places : List ℕ
+  pub tops : List ℕ
+  pub stale : Option ℕ
   pub block : ℕ
   pub top : ℕ
   pub maxima : AreBlockMaxima places tops stale
   pub is : stale ≡ Some block
   pub greatest : IsGreatest (take 1024 (drop (block * 1024) places)) top
 
-settle_length : {places tops : List ℕ} {stale : Option ℕ} (settle : Settle places tops stale)
-    → length (take 1024 (drop (settle.block * 1024) places)) ≡ 1024
-settle_length {places} settle = length-take-le 1024 (drop (settle.block * 1024) places)
+settle_length : (settle : Settle)
+    → length (take 1024 (drop (settle.block * 1024) settle.places)) ≡ 1024
+settle_length settle = length-take-le 1024 (drop (settle.block * 1024) settle.places)
     (omega (
       arith,
-      length-drop (settle.block * 1024) places,
+      length-drop (settle.block * 1024) settle.places,
       settle.maxima.places_are,
       settle.maxima.stale_in settle.block settle.is,
     ))
 
-settle_here : {places tops : List ℕ} {stale : Option ℕ} (settle : Settle places tops stale)
-    → get_or (set tops settle.block settle.top) settle.block 0 ≡ settle.top
-settle_here {tops} settle = get_or-set_same tops settle.block settle.top 0
+settle_here : (settle : Settle)
+    → get_or (set settle.tops settle.block settle.top) settle.block 0 ≡ settle.top
+settle_here settle = get_or-set_same settle.tops settle.block settle.top 0
     (omega (arith, settle.maxima.tops_are, settle.maxima.stale_in settle.block settle.is))
 
 at_block : (places : List ℕ) (b r : ℕ) → r < 1024
     → get_or (take 1024 (drop (b * 1024) places)) r 0 ≡ get_or places (b * 1024 + r) 0
 at_block places b r low = get_or-take 1024 (drop (b * 1024) places) r 0 low ∙ get_or-drop (b * 1024) places r 0
 
-settle_bounded : {places tops : List ℕ} {stale : Option ℕ} (settle : Settle places tops stale) (i : ℕ)
-    → i < ring_slots → get_or places i 0 ≤ get_or (set tops settle.block settle.top) (i / 1024) 0
-settle_bounded {places} {tops} settle i less = elim (cases_eq (i / 1024) b) [
+settle_bounded : (settle : Settle) (i : ℕ)
+    → i < ring_slots → get_or settle.places i 0 ≤ get_or (set settle.tops settle.block settle.top) (i / 1024) 0
+settle_bounded settle i less = elim (cases_eq (i / 1024) b) [
   | inl same ↦ (
       let r = i - b * 1024 in
       let parts : i / 1024 * 1024 + i % 1024 ≡ i = div-add-mod' i 1024 in
@@ -230,11 +234,11 @@ settle_bounded {places} {tops} settle i less = elim (cases_eq (i / 1024) b) [
       )
 ]
   where
-    open settle use {block as b, top}
+    open settle use {places, tops, block as b, top}
 
-settle_reached : {places tops : List ℕ} {stale : Option ℕ} (settle : Settle places tops stale) (k : ℕ)
-    → k < 1024 → IsReached places k (get_or (set tops settle.block settle.top) k 0)
-settle_reached {places} {tops} {stale} settle k less = elim (cases_eq k b) [
+settle_reached : (settle : Settle) (k : ℕ)
+    → k < 1024 → IsReached settle.places k (get_or (set settle.tops settle.block settle.top) k 0)
+settle_reached settle k less = elim (cases_eq k b) [
   | inl same ↦ (
       let low : greatest.index < 1024 = omega (arith, greatest.inside, settle_length settle) in
       let new : get_or (set tops b top) k 0 ≡ top =
@@ -259,21 +263,17 @@ settle_reached {places} {tops} {stale} settle k less = elim (cases_eq k b) [
       )
 ]
   where
-    open settle use {block as b, top, is, greatest}
+    open settle use {places, tops, stale, block as b, top, is, greatest}
 
 -- the stale block is read again
-pub topped-settle : {places tops : List ℕ} {stale : Option ℕ} {b top : ℕ} → AreBlockMaxima places tops stale
-    → stale ≡ Some b →
-    IsGreatest (take 1024 (drop (b * 1024) places)) top → AreBlockMaxima places (set tops b top) None
-topped-settle {places} {tops} {stale} {b} {top} topped is greatest =
-    let settle : Settle places tops stale =
-    record { block = b; top = top; maxima = topped; is = is; greatest = greatest } in record {
-      places_are = topped.places_are;
-      tops_are = length-set tops b top ∙ topped.tops_are;
-      bounded = settle_bounded settle;
-      reached = λ k less exact. settle_reached settle k less;
-      stale_in = λ k e. absurd (none-some k e);
-    }
+pub topped-settle : (settle : Settle) → AreBlockMaxima settle.places (set settle.tops settle.block settle.top) None
+topped-settle settle = record {
+  places_are = settle.maxima.places_are;
+  tops_are = length-set settle.tops settle.block settle.top ∙ settle.maxima.tops_are;
+  bounded = settle_bounded settle;
+  reached = λ k less exact. settle_reached settle k less;
+  stale_in = λ k e. absurd (none-some k e);
+}
 
 -- all places and all blocks hold 0
 pub topped-zeros : (places tops : List ℕ) → AreZeros places ring_slots → AreZeros tops 1024 → AreBlockMaxima places tops

@@ -135,7 +135,12 @@ pub front-next : (segments : List Segment) (i : ℕ) (s : Segment) → i < lengt
 front-next segments i s inside is = take_more segments i s inside ∙ ap (λ x. take i segments ++ x ∷ []) (sym is)
 
 -- segment i of a plan that begins in slot `start`, and the slot in which it begins
-pub record IsSegmentFrom (segments : List Segment) (i : ℕ) (s : Segment) (start from : ℕ) : Type 0 where
+pub record SegmentFrom : Type 0 where
+  pub segments : List Segment
+  pub i : ℕ
+  pub s : Segment
+  pub start : ℕ
+  pub from : ℕ
   pub inside : i < length segments
   pub segment_is : s ≡ get_or segments i s
   pub from_is : from ≡ start + total_slots (take i segments)
@@ -143,40 +148,44 @@ pub record IsSegmentFrom (segments : List Segment) (i : ℕ) (s : Segment) (star
 abbrev pub no_segment : Segment
 no_segment = record { slots = 0; bytes = 0 }
 
-pub segment-at : {start from : ℕ} (segments : List Segment) (i : ℕ) → i < length segments
-    → from ≡ start + total_slots (take i segments) → IsSegmentFrom segments i (get_or segments i no_segment) start from
-segment-at segments i inside from_is = record {
+abbrev pub segment-at : (start : ℕ) {from : ℕ} (segments : List Segment) (i : ℕ) → i < length segments
+    → from ≡ start + total_slots (take i segments) → SegmentFrom
+segment-at start {from} segments i inside from_is = record {
+  segments = segments;
+  i = i;
+  s = get_or segments i no_segment;
+  start = start;
+  from = from;
   inside = inside;
   segment_is = get_or_default segments i no_segment (get_or segments i no_segment) inside;
   from_is = from_is;
 }
 
 -- the slot in which the segment after it begins
-pub from-next : {segments : List Segment} {i : ℕ} {s : Segment} {start from : ℕ} → IsSegmentFrom segments i s start from
-    → from + s.slots ≡ start + total_slots (take (i + 1) segments)
-from-next {segments} {i} {s} at =
-    let slots : total_slots (take (i + 1) segments) ≡ total_slots (take i segments) + s.slots =
-    ap total_slots (front-next segments i s at.inside at.segment_is)
-    ∙ sum_by-append (λ x. x.slots) (take i segments) (s ∷ [])
-    ∙ ap (λ n. total_slots (take i segments) + n) (one-slots s) in
+pub from-next : (at : SegmentFrom) → at.from + at.s.slots ≡ at.start + total_slots (take (at.i + 1) at.segments)
+from-next at =
+    let front = take at.i at.segments in
+    let slots : total_slots (take (at.i + 1) at.segments) ≡ total_slots front + at.s.slots =
+    ap total_slots (front-next at.segments at.i at.s at.inside at.segment_is)
+    ∙ sum_by-append (λ x. x.slots) front (at.s ∷ []) ∙ ap (λ n. total_slots front + n) (one-slots at.s) in
     omega (arith, slots, at.from_is)
 
-pub bytes-next : {segments : List Segment} {i : ℕ} {s : Segment} {start from : ℕ}
-    → IsSegmentFrom segments i s start from
-    → total_bytes (take (i + 1) segments) ≡ total_bytes (take i segments) + s.bytes
-bytes-next {segments} {i} {s} at =
-    ap total_bytes (front-next segments i s at.inside at.segment_is)
-    ∙ sum_by-append (λ x. x.bytes) (take i segments) (s ∷ [])
-    ∙ ap (λ n. total_bytes (take i segments) + n) (one-bytes s)
+pub bytes-next : (at : SegmentFrom)
+    → total_bytes (take (at.i + 1) at.segments) ≡ total_bytes (take at.i at.segments) + at.s.bytes
+bytes-next at =
+    let front = take at.i at.segments in
+    ap total_bytes (front-next at.segments at.i at.s at.inside at.segment_is)
+    ∙ sum_by-append (λ x. x.bytes) front (at.s ∷ []) ∙ ap (λ n. total_bytes front + n) (one-bytes at.s)
 
 -- the first i + 1 segments ask for what the first i do and what segment i does
-pub asked-next : {segments : List Segment} {i : ℕ} {s : Segment} {start from : ℕ} (t : ℕ)
-    → IsSegmentFrom segments i s start from
-    → asked_at (take (i + 1) segments) start t ≡ asked_at (take i segments) start t + asked_at (s ∷ []) from t
-asked-next {segments} {i} {s} {start} t at =
-    ap (λ l. asked_at l start t) (front-next segments i s at.inside at.segment_is)
-    ∙ asked-append (take i segments) (s ∷ []) start t
-    ∙ ap (λ n. asked_at (take i segments) start t + asked_at (s ∷ []) n t) (sym at.from_is)
+pub asked-next : (t : ℕ) (at : SegmentFrom)
+    → asked_at (take (at.i + 1) at.segments) at.start t
+    ≡ asked_at (take at.i at.segments) at.start t + asked_at (at.s ∷ []) at.from t
+asked-next t at =
+    let front = take at.i at.segments in
+    ap (λ l. asked_at l at.start t) (front-next at.segments at.i at.s at.inside at.segment_is)
+    ∙ asked-append front (at.s ∷ []) at.start t
+    ∙ ap (λ n. asked_at front at.start t + asked_at (at.s ∷ []) n t) (sym at.from_is)
 
 -- the first segments of a plan ask for no more than all of it
 pub asked-front : (segments : List Segment) (i start t : ℕ) →
@@ -187,17 +196,16 @@ asked-front segments i start t =
     ∙ asked-append (take i segments) (drop i segments) start t
 
 -- a slot of segment i
-pub asked-in : {segments : List Segment} {i : ℕ} {s : Segment} {start from : ℕ} (t : ℕ)
-    → IsSegmentFrom segments i s start from
-    → from ≤ t → t < from + s.slots → asked_at segments start t ≡ asked_at (s ∷ []) from t
-asked-in {segments} {i} {s} {start} t at begun ends =
-    let split = asked-front segments (i + 1) start t in
+pub asked-in : (t : ℕ) (at : SegmentFrom) → at.from ≤ t → t < at.from + at.s.slots
+    → asked_at at.segments at.start t ≡ asked_at (at.s ∷ []) at.from t
+asked-in t at begun ends =
+    let split = asked-front at.segments (at.i + 1) at.start t in
     let front = asked-next t at in
-    let after : asked_at (drop (i + 1) segments) (start + total_slots (take (i + 1) segments)) t ≡ 0 =
-    asked-before (drop (i + 1) segments) (start + total_slots (take (i + 1) segments)) t
-    (omega (arith, from-next at, ends)) in
-    let before : asked_at (take i segments) start t ≡ 0 =
-    asked-after (take i segments) start t (omega (arith, at.from_is, begun)) in
+    let rest = at.start + total_slots (take (at.i + 1) at.segments) in
+    let after : asked_at (drop (at.i + 1) at.segments) rest t ≡ 0 =
+    asked-before (drop (at.i + 1) at.segments) rest t (omega (arith, from-next at, ends)) in
+    let before : asked_at (take at.i at.segments) at.start t ≡ 0 =
+    asked-after (take at.i at.segments) at.start t (omega (arith, at.from_is, begun)) in
     omega (arith, split, front, after, before)
 
 -- ---- the bytes after the first `keep`
@@ -205,64 +213,54 @@ pub all-front : (segments : List Segment) (i : ℕ) → All (λ s. 1 ≤ s.slots
     → All (λ s. 1 ≤ s.slots) (take i segments)
 all-front segments i some = All-take (λ s. 1 ≤ s.slots) i segments some
 
--- the first segments of a play that begins in slot `start` and keeps `keep` bytes: where they end,
--- and what they leave of these
-pub record IsFrontOf (xs : List Segment) (start keep from left : ℕ) : Type 0 where
-  pub some : All (λ s. 1 ≤ s.slots) xs
-  pub from_is : from ≡ start + total_slots xs
-  pub left_is : left ≡ keep - total_bytes xs
-
-pub over-append : {xs : List Segment} {start keep from left : ℕ} (ys : List Segment) (t : ℕ)
-    → IsFrontOf xs start keep from left →
-    sent_before (xs ++ ys) start t - keep ≡ (sent_before xs start t - keep) + (sent_before ys from t - left)
-over-append {xs} {start} {keep} {from} ys t front =
+-- what a plan sends beyond `keep` bytes, by its first segments and by the others
+over-append : (xs ys : List Segment) (start keep t : ℕ) → All (λ s. 1 ≤ s.slots) xs
+    → sent_before (xs ++ ys) start t - keep
+    ≡ (sent_before xs start t - keep) + (sent_before ys (start + total_slots xs) t - (keep - total_bytes xs))
+over-append xs ys start keep t some =
+    let from = start + total_slots xs in
     let whole : sent_before (xs ++ ys) start t ≡ sent_before xs start t + sent_before ys from t =
-    sent-append xs ys start t ∙ ap (λ n. sent_before xs start t + sent_before ys n t) (sym front.from_is) in
+    sent-append xs ys start t in
     elim (cases_lt t from) [
-      | inl before ↦ (
-          let none : sent_before ys from t ≡ 0 = sent-none ys from t (omega arith) in
-          omega (arith, whole, none)
-          )
+      | inl before ↦ (let none : sent_before ys from t ≡ 0 = sent-none ys from t (omega arith) in omega (arith, whole, none))
       | inr past ↦ (
-          let all : sent_before xs start t ≡ total_bytes xs =
-          sent-all xs start t front.some (omega (arith, front.from_is, past)) in
-          omega (arith, whole, all, front.left_is)
+          let all : sent_before xs start t ≡ total_bytes xs = sent-all xs start t some (omega (arith, past)) in
+          omega (arith, whole, all)
           )
     ]
 
-pub cut-append : {xs : List Segment} {start keep from left : ℕ} (ys : List Segment) (t : ℕ)
-    → IsFrontOf xs start keep from left →
-    released_at (xs ++ ys) start keep t ≡ released_at xs start keep t + released_at ys from left t
-cut-append {xs} {start} {keep} {from} {left} ys t front =
+pub cut-append : (xs ys : List Segment) (start keep t : ℕ) → All (λ s. 1 ≤ s.slots) xs
+    → released_at (xs ++ ys) start keep t
+    ≡ released_at xs start keep t + released_at ys (start + total_slots xs) (keep - total_bytes xs) t
+cut-append xs ys start keep t some =
+    let from = start + total_slots xs in let left = keep - total_bytes xs in
     let x = sent-rises xs start t (t + 1) (omega arith) in
     let y = sent-rises ys from t (t + 1) (omega arith) in
-    let here = over-append ys t front in
-    let next = over-append ys (t + 1) front in
     sum-parts (sent_before (xs ++ ys) start t - keep) (sent_before (xs ++ ys) start (t + 1) - keep)
     (sent_before xs start t - keep) (sent_before xs start (t + 1) - keep) (sent_before ys from t - left)
     (sent_before ys from (t + 1) - left)
-    here next (omega (arith, x)) (omega (arith, y))
+    (over-append xs ys start keep t some) (over-append xs ys start keep (t + 1) some) (omega (arith, x))
+    (omega (arith, y))
   where
     sum-parts : (a b c d e f : ℕ) → a ≡ c + e → b ≡ d + f → c ≤ d → e ≤ f → b - a ≡ (d - c) + (f - e)
     sum-parts a b c d e f p q r s = omega arith
 
-pub cut-next : {segments : List Segment} {i : ℕ} {s : Segment} {start from left : ℕ} (keep t : ℕ)
-    → All (λ x. 1 ≤ x.slots) segments → IsSegmentFrom segments i s start from
-    → left ≡ keep - total_bytes (take i segments)
-    → released_at (take (i + 1) segments) start keep t ≡ released_at (take i segments) start keep t + released_at (s ∷
-    []) from left t
-cut-next {segments} {i} {s} {start} keep t some at rest =
-    ap (λ l. released_at l start keep t) (front-next segments i s at.inside at.segment_is)
-    ∙ cut-append (s ∷ []) t (record { some = all-front segments i some; from_is = at.from_is; left_is = rest })
+pub cut-next : (at : SegmentFrom) {left : ℕ} (keep t : ℕ) → All (λ x. 1 ≤ x.slots) at.segments
+    → left ≡ keep - total_bytes (take at.i at.segments)
+    → released_at (take (at.i + 1) at.segments) at.start keep t
+    ≡ released_at (take at.i at.segments) at.start keep t + released_at (at.s ∷ []) at.from left t
+cut-next at keep t some rest =
+    let front = take at.i at.segments in
+    ap (λ l. released_at l at.start keep t) (front-next at.segments at.i at.s at.inside at.segment_is)
+    ∙ cut-append front (at.s ∷ []) at.start keep t (all-front at.segments at.i some)
+    ∙ ap (λ (x : ℕ × ℕ). released_at front at.start keep t + released_at (at.s ∷ []) x.0 x.1 t)
+    (λ k. (sym at.from_is k, sym rest k))
 
 pub cut-front : (segments : List Segment) (i start keep t : ℕ) → All (λ x. 1 ≤ x.slots) segments
     → released_at (take i segments) start keep t ≤ released_at segments start keep t
 cut-front segments i start keep t some =
-    let whole : released_at segments start keep t
-    ≡ released_at (take i segments) start keep t
-    + released_at (drop i segments) (start + total_slots (take i segments)) (keep - total_bytes (take i segments)) t =
-    ap (λ l. released_at l start keep t) (sym (take-append-drop i segments))
-    ∙ cut-append (drop i segments) t (record { some = all-front segments i some; from_is = refl; left_is = refl }) in
+    let whole = ap (λ l. released_at l start keep t) (sym (take-append-drop i segments))
+    ∙ cut-append (take i segments) (drop i segments) start keep t (all-front segments i some) in
     omega (arith, whole)
 
 pub cut-before : (segments : List Segment) (start keep t : ℕ) → t < start → released_at segments start keep t ≡ 0
@@ -304,26 +302,24 @@ asked-most s from c t pos most =
 pub one-some : (s : Segment) → IsPlan (s ∷ []) → 0 < s.slots
 one-some s plan = All-head (λ x. 1 ≤ x.slots) s [] plan.no_empty
 
-pub asked-here : {before sent : ℕ} (segments : List Segment) (from j : ℕ) →
-    before ≡ sent_before segments from (from + j) → sent_before segments from (from + (j + 1)) ≡ sent →
-    asked_at segments from (from + j) ≡ sent - before
-asked-here {sent} segments from j was is =
-    let next : sent_before segments from (from + j + 1) ≡ sent =
-    ap (sent_before segments from) (let e : from + j + 1 ≡ from + (j + 1) = omega arith in e) ∙ is in
-    omega (arith, was, next)
+pub asked-here : (segments : List Segment) (from j : ℕ)
+    → asked_at segments from (from + j)
+    ≡ sent_before segments from (from + (j + 1)) - sent_before segments from (from + j)
+asked-here segments from j =
+    let next : from + j + 1 ≡ from + (j + 1) = omega arith in
+    ap (λ n. sent_before segments from n - sent_before segments from (from + j)) next
 
-pub cut-here : {before over : ℕ} (segments : List Segment) (from keep j : ℕ)
-    → before ≡ sent_before segments from (from + j) - keep → over ≡ sent_before segments from (from + (j + 1)) - keep
-    → released_at segments from keep (from + j) ≡ over - before
-cut-here segments from keep j was is =
-    let next : sent_before segments from (from + j + 1) ≡ sent_before segments from (from + (j + 1)) =
-    ap (sent_before segments from) (omega arith) in
-    omega (arith, was, next, is)
+pub cut-here : (segments : List Segment) (from keep j : ℕ)
+    → released_at segments from keep (from + j)
+    ≡ (sent_before segments from (from + (j + 1)) - keep) - (sent_before segments from (from + j) - keep)
+cut-here segments from keep j =
+    let next : from + j + 1 ≡ from + (j + 1) = omega arith in
+    ap (λ n. (sent_before segments from n - keep) - (sent_before segments from (from + j) - keep)) next
 
-pub sent-step : {before sent : ℕ} (segments : List Segment) (from j : ℕ)
-    → before ≡ sent_before segments from (from + j) → sent_before segments from (from + (j + 1)) ≡ sent → before ≤ sent
-sent-step segments from j was is =
-    omega (arith, was, is, sent-rises segments from (from + j) (from + (j + 1)) (omega arith))
+-- and what it has sent rises
+pub sent-next : (segments : List Segment) (from j : ℕ)
+    → sent_before segments from (from + j) ≤ sent_before segments from (from + (j + 1))
+sent-next segments from j = sent-rises segments from (from + j) (from + (j + 1)) (omega arith)
 
 -- no slot of a segment has more than its bytes over its slots, rounded up
 pub ceil-most : (b n c : ℕ) → 0 < n → c ≡ b / n + min 1 (b % n) → b ≤ c * n

@@ -10,7 +10,6 @@ use Rattle.plan_cert.specs.PlanSlots.{total_bytes}
 use Rattle.slot_calendar.specs.Plays.{Play, sent_before, asked_at, released_at, whole_play, truncated_play, share_at}
 use Rattle.slot_calendar.specs.Plays.{booked_by}
 use Rattle.slot_calendar.specs.Calendars.{CalendarState, booked_at, Represents}
-use Rattle.plan_cert.specs.Plan.{IsPlan}
 use Rattle.slot_calendar.proofs.PlanSlots.{sent-none, sent-rises, sent-most}
 
 share-parts : (a b k : ℕ) → a ≤ b → min b k - min a k + ((b - k) - (a - k)) ≡ b - a
@@ -86,11 +85,11 @@ booked-cut before after play t =
     open play use {start, segments, keep}
 
 -- ---- calendars and the lists of plays that they represent
-pub stands-push : {old new : CalendarState} {plays : List Play} {segments : List Segment} (start : ℕ) →
-    IsPlan segments → new.first ≡ old.first →
+pub stands-push : {old new : CalendarState} {plays : List Play} (segments : List Segment) (start : ℕ) →
+    new.first ≡ old.first →
     ((t : ℕ) → old.first ≤ t → booked_at new t ≡ booked_at old t + asked_at segments start t) → Represents old plays →
     Represents new (plays ++ whole_play start segments ∷ [])
-stands-push {old} {new} {plays} {segments} start plan first totals stands = record {
+stands-push {old} {new} {plays} segments start first totals stands = record {
   each = λ t from. (
       let since : old.first ≤ t = omega (arith, first, from) in
       totals t since ∙ ap (λ n. n + asked_at segments start t) (stands.each t since)
@@ -99,23 +98,20 @@ stands-push {old} {new} {plays} {segments} start plan first totals stands = reco
 }
 
 -- a calendar after a play was stopped early
-pub record HasCut (old new : CalendarState) (play : Play) : Type 0 where
+pub record HasCut : Type 0 where
+  pub old : CalendarState
+  pub new : CalendarState
+  pub play : Play
   pub first_is : new.first ≡ old.first
   pub totals : (t : ℕ) → old.first ≤ t → booked_at new t + released_at play.segments play.start play.keep t ≡ booked_at
       old t
 
-pub stands-cut : {old new : CalendarState} (before after : List Play) (play : Play) → HasCut old new play →
-    Represents old (before ++ whole_play play.start play.segments ∷ after) → Represents new (before ++ play ∷ after)
-stands-cut {old} {new} before after play cut stands = record {
+pub stands-cut : (cut : HasCut) (before after : List Play)
+    → Represents cut.old (before ++ whole_play cut.play.start cut.play.segments ∷ after)
+    → Represents cut.new (before ++ cut.play ∷ after)
+stands-cut cut before after stands = record {
   each = λ t from. (
-      let since : old.first ≤ t = omega (arith, cut.first_is, from) in
-      omega (arith, cut.totals t since, stands.each t since, booked-cut before after play t)
+      let since : cut.old.first ≤ t = omega (arith, cut.first_is, from) in
+      omega (arith, cut.totals t since, stands.each t since, booked-cut before after cut.play t)
       );
 }
-
--- what a play that books all its bytes may give back
-pub cut-booked : {calendar : CalendarState} {t : ℕ} (before after : List Play) (play : Play) →
-    Represents calendar (before ++ whole_play play.start play.segments ∷ after) → calendar.first ≤ t
-    → released_at play.segments play.start play.keep t ≤ booked_at calendar t
-cut-booked {t} before after play stands from =
-    omega (arith, stands.each t from, booked-cut before after play t)

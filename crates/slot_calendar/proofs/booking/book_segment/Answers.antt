@@ -1,15 +1,15 @@
 use Rattle.std.proofs.Common.{◌≡◌, ◌+◌, ◌-◌, [], ◌∷◌, arith, sym, ◌∙◌, inl, inr}
 use Rattle.std.proofs.lemmas.Bool.{cases_lt}
 use Rattle.slot_calendar.specs.Plays.{asked_at}
-use Rattle.slot_calendar.proofs.PlanSlots.{asked-after, asked-here, one-slots, sent-step}
+use Rattle.slot_calendar.proofs.PlanSlots.{asked-after, asked-here, one-slots, sent-next}
 use Rattle.slot_calendar.proofs.SlotChanges.{OneSlotMore, changed-next, unchanged-next}
 use Rattle.slot_calendar.proofs.booking.book_segment.Goals as goal
 
 pub overflow_sub-sent : goal.overflow_sub-sent
 overflow_sub-sent c =
     let i = c.loop-passed in
-    sent-step (c.args.segment ∷ []) c.args.from i.passed i.invariant.before_is
-    (c.sent_through-sent.ensures.sent c.args.from)
+    let sent = c.sent_through-sent.ensures.sent c.args.from in
+    omega (arith, sent-next (c.args.segment ∷ []) c.args.from i.passed, i.invariant.before_is, sent)
 
 pub loop-passed-preserved : goal.loop-passed-preserved
 loop-passed-preserved c =
@@ -17,8 +17,9 @@ loop-passed-preserved c =
     let segments = c.args.segment ∷ [] in
     let place = c.args.from + i.passed in
     let by = c.sent_through-sent.result - i.before in
+    let sent = c.sent_through-sent.ensures.sent c.args.from in
     let asked : asked_at segments c.args.from place ≡ by =
-    asked-here segments c.args.from i.passed i.invariant.before_is (c.sent_through-sent.ensures.sent c.args.from) in
+    omega (arith, asked-here segments c.args.from i.passed, i.invariant.before_is, sent) in
     let step : OneSlotMore = record {
       place = place;
       old = c.args.ring.now;

@@ -8,7 +8,7 @@ book_segment-requires-clause-fits c = λ t from. (
     let i = c.loop-segment in
     let segments = c.args.segments.now in
     let since : c.args.ring.now.first ≤ t = omega (arith, from, i.invariant.first_is) in
-    let at = segment-at segments i.segment-index (omega arith) i.invariant.from_is in
+    let at = segment-at c.args.start segments i.segment-index (omega arith) i.invariant.from_is in
     let next = asked-next t at in
     omega (
       arith,
@@ -23,7 +23,7 @@ pub loop-segment-preserved : goal.loop-segment-preserved
 loop-segment-preserved c =
     let i = c.loop-segment in
     let segments = c.args.segments.now in
-    let at = segment-at segments i.segment-index (omega arith) i.invariant.from_is in
+    let at = segment-at c.args.start segments i.segment-index (omega arith) i.invariant.from_is in
     record {
       from_is = from-next at;
       first_is = c.book_segment.ensures.now ∙ i.invariant.first_is;

@@ -2,7 +2,7 @@ use Rattle.std.proofs.Common.{◌≡◌, ◌<◌, ◌+◌, ◌-◌, [], ◌∷�
 use Rattle.std.proofs.lemmas.Bool.{cases_lt}
 use Rattle.slot_calendar.specs.Plays.{asked_at}
 use Rattle.slot_calendar.specs.Totals.{total_at}
-use Rattle.slot_calendar.proofs.PlanSlots.{asked-here, sent-step}
+use Rattle.slot_calendar.proofs.PlanSlots.{asked-here, sent-next}
 use Rattle.slot_calendar.proofs.booking.overflow_among.Goals as goal
 use Rattle.slot_calendar.proofs.booking.overflow_among.Goals.{then-booked-capacity-via-then-booked-capacity}
 use Rattle.slot_calendar.proofs.booking.overflow_among.Goals.{then-booked-capacity-via-else-booked-capacity+then-asked-capacity}
@@ -10,16 +10,17 @@ use Rattle.slot_calendar.proofs.booking.overflow_among.Goals.{then-booked-capaci
 pub overflow_sub-asked : goal.overflow_sub-asked
 overflow_sub-asked c =
     let i = c.loop-passed in
-    sent-step (c.args.segment ∷ []) c.args.from i.passed i.invariant.before_is
-    (c.sent_through-sent.ensures.sent c.args.from)
+    let sent = c.sent_through-sent.ensures.sent c.args.from in
+    omega (arith, sent-next (c.args.segment ∷ []) c.args.from i.passed, i.invariant.before_is, sent)
 
 pub returns-then-booked-capacity : goal.returns-then-booked-capacity
 returns-then-booked-capacity c =
     let i = c.loop-passed in
     let segments = c.args.segment ∷ [] in
     let place = c.args.from + i.passed in
+    let sent = c.sent_through-sent.ensures.sent c.args.from in
     let asked : asked_at segments c.args.from place ≡ c.sent_through-sent.result - i.before =
-    asked-here segments c.args.from i.passed i.invariant.before_is (c.sent_through-sent.ensures.sent c.args.from) in
+    omega (arith, asked-here segments c.args.from i.passed, i.invariant.before_is, sent) in
     let over : c.args.capacity < c.total-booked.result + (c.sent_through-sent.result - i.before) =
     elim c.then-booked-capacity.branch [
       | then-booked-capacity-via-then-booked-capacity w ↦ omega arith
@@ -41,8 +42,9 @@ loop-passed-preserved c =
     let i = c.loop-passed in
     let segments = c.args.segment ∷ [] in
     let place = c.args.from + i.passed in
+    let sent = c.sent_through-sent.ensures.sent c.args.from in
     let asked : asked_at segments c.args.from place ≡ c.sent_through-sent.result - i.before =
-    asked-here segments c.args.from i.passed i.invariant.before_is (c.sent_through-sent.ensures.sent c.args.from) in
+    omega (arith, asked-here segments c.args.from i.passed, i.invariant.before_is, sent) in
     record {
       before_is = sym (c.sent_through-sent.ensures.sent c.args.from);
       fits = λ u from less. elim (cases_lt u place) [

@@ -1,7 +1,7 @@
-use Rattle.std.proofs.Common.{◌≡◌, ◌≤◌, ◌+◌, ◌-◌, [], ◌∷◌, arith, refl, sym, ap, ◌∙◌, inl, inr}
+use Rattle.std.proofs.Common.{◌≡◌, ◌≤◌, ◌+◌, ◌-◌, [], ◌∷◌, arith, sym, ap, ◌∙◌, inl, inr}
 use Rattle.std.proofs.lemmas.Bool.{cases_lt}
 use Rattle.slot_calendar.specs.Plays.{released_at}
-use Rattle.slot_calendar.proofs.PlanSlots.{cut-after, cut-here, one-slots, sent-step}
+use Rattle.slot_calendar.proofs.PlanSlots.{cut-after, cut-here, one-slots, sent-next}
 use Rattle.slot_calendar.proofs.SlotChanges.{OneSlotMore, changed-next, unchanged-next}
 use Rattle.slot_calendar.proofs.booking.release_segment.Goals as goal
 
@@ -9,17 +9,17 @@ pub overflow_sub-over : goal.overflow_sub-over
 overflow_sub-over c =
     let i = c.loop-passed in
     let segments = c.args.segment ∷ [] in
-    let more = sent-step segments c.args.from i.passed refl (c.sent_through.ensures.sent c.args.from) in
-    omega (arith, more, i.invariant.before_is, c.saturating_sub-over.ensures)
+    let sent = c.sent_through.ensures.sent c.args.from in let over = c.saturating_sub-over.ensures in
+    omega (arith, sent-next segments c.args.from i.passed, sent, i.invariant.before_is, over)
 
 pub release_slot-requires : goal.release_slot-requires
 release_slot-requires c = λ from. (
     let i = c.loop-passed in
     let segments = c.args.segment ∷ [] in
     let place = c.args.from + i.passed in
+    let sent = c.sent_through.ensures.sent c.args.from in let over = c.saturating_sub-over.ensures in
     let cut : released_at segments c.args.from c.args.keep place ≡ c.saturating_sub-over.result - i.before =
-    cut-here segments c.args.from c.args.keep i.passed i.invariant.before_is
-    (c.saturating_sub-over.ensures ∙ ap (λ n. n - c.args.keep) (sym (c.sent_through.ensures.sent c.args.from))) in
+    omega (arith, cut-here segments c.args.from c.args.keep i.passed, i.invariant.before_is, over, sent) in
     let since : c.args.ring.now.first ≤ place = omega (arith, from, i.invariant.first_is) in
     omega (arith, cut, c.requires.booked place since, i.invariant.rest place since (omega arith))
     )
@@ -30,9 +30,9 @@ loop-passed-preserved c =
     let segments = c.args.segment ∷ [] in
     let place = c.args.from + i.passed in
     let by = c.saturating_sub-over.result - i.before in
+    let sent = c.sent_through.ensures.sent c.args.from in let over = c.saturating_sub-over.ensures in
     let cut : released_at segments c.args.from c.args.keep place ≡ by =
-    cut-here segments c.args.from c.args.keep i.passed i.invariant.before_is
-    (c.saturating_sub-over.ensures ∙ ap (λ n. n - c.args.keep) (sym (c.sent_through.ensures.sent c.args.from))) in
+    omega (arith, cut-here segments c.args.from c.args.keep i.passed, i.invariant.before_is, over, sent) in
     let step : OneSlotMore = record {
       place = place;
       old = c.args.ring.now;

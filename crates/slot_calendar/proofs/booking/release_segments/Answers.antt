@@ -7,8 +7,8 @@ release_segment-requires-clause-booked c = λ t from. (
     let i = c.loop-segment in
     let segments = c.args.segments.now in
     let since : c.args.ring.now.first ≤ t = omega (arith, from, i.invariant.first_is) in
-    let at = segment-at segments i.segment-index (omega arith) i.invariant.from_is in
-    let next = cut-next c.args.keep t c.requires.plan.no_empty at i.invariant.left_is in
+    let at = segment-at c.args.start segments i.segment-index (omega arith) i.invariant.from_is in
+    let next = cut-next at c.args.keep t c.requires.plan.no_empty i.invariant.left_is in
     omega (
       arith,
       next,
@@ -22,7 +22,7 @@ pub loop-segment-preserved : goal.loop-segment-preserved
 loop-segment-preserved c =
     let i = c.loop-segment in
     let segments = c.args.segments.now in
-    let at = segment-at segments i.segment-index (omega arith) i.invariant.from_is in
+    let at = segment-at c.args.start segments i.segment-index (omega arith) i.invariant.from_is in
     record {
       from_is = from-next at;
       left_is = omega (
@@ -33,7 +33,7 @@ loop-segment-preserved c =
       );
       first_is = c.release_segment.ensures.now ∙ i.invariant.first_is;
       totals = λ t since. (
-          let next = cut-next c.args.keep t c.requires.plan.no_empty at i.invariant.left_is in
+          let next = cut-next at c.args.keep t c.requires.plan.no_empty i.invariant.left_is in
           let taken = c.release_segment.ensures.totals t (omega (arith, since, i.invariant.first_is)) in
           omega (arith, next, taken, i.invariant.totals t since)
           );

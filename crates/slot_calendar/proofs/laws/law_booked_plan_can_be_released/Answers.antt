@@ -1,7 +1,8 @@
+use Rattle.std.proofs.Common.{arith}
 use Rattle.slot_calendar.specs.Plays.{truncated_play}
-use Rattle.slot_calendar.proofs.PlayShares.{cut-booked}
+use Rattle.slot_calendar.proofs.PlayShares.{booked-cut}
 use Rattle.slot_calendar.proofs.laws.law_booked_plan_can_be_released.Goals as goal
 
 pub returns : goal.returns
 returns c = λ calendar before after segments start keep stands t from.
-    cut-booked before after (truncated_play start segments keep) stands from
+    omega (arith, stands.each t from, booked-cut before after (truncated_play start segments keep) t)

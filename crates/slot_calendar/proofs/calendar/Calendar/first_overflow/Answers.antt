@@ -1,12 +1,13 @@
-use Rattle.std.proofs.Common.{◌≡◌, ◌+◌, List, [], ◌∷◌, get_or, take, arith, ap, subst}
+use Rattle.std.proofs.Common.{◌≡◌, ◌+◌, List, [], ◌∷◌, get_or, take, arith, ap, subst, inl, inr}
+use Rattle.std.proofs.lemmas.Bool.{cases_lt}
 use Rattle.std.proofs.lemmas.List.{take_all}
 use Rattle.plan_cert.specs.declared.Segment.{Segment}
 use Rattle.plan_cert.specs.PlanSlots.{total_slots}
 use Rattle.slot_calendar.specs.Profiles.{capacity_at}
 use Rattle.slot_calendar.specs.Calendars.{CalendarState, booked_at, IsCalendar, FitsIn, HasRoom, IsOverflowIn}
 use Rattle.slot_calendar.specs.Calendars.{IsFirstOverflow}
-use Rattle.slot_calendar.proofs.PlanSlots.{from-next, no_segment, segment-at}
-use Rattle.slot_calendar.proofs.SegmentRoom.{fits-next, first-overflow, room-all}
+use Rattle.slot_calendar.proofs.PlanSlots.{asked-after, from-next, no_segment, segment-at}
+use Rattle.slot_calendar.proofs.SegmentRoom.{fits-next, first-overflow}
 use Rattle.slot_calendar.proofs.calendar.Calendar.first_overflow.Goals as goal
 
 pub returns-in-Some : goal.returns-in-Some
@@ -16,13 +17,13 @@ returns-in-Some c =
     let segments = c.segments-segments.result.now in
     let s : Segment = get_or segments i.segment-index no_segment in
     let over = c.in-Some.over in
-    let at = segment-at segments i.segment-index (omega arith) i.invariant.from_is in
+    let at = segment-at c.args.start segments i.segment-index (omega arith) i.invariant.from_is in
     let Q : CalendarState → Type 0 =
     λ e. IsOverflowIn i.from (i.from + s.slots) (booked_at e) (capacity_at e.steps) i.from (s ∷ []) over in
     let P : List Segment → Type 0 =
     λ l. IsFirstOverflow old.first (booked_at old) (capacity_at old.steps) c.args.start l over in
     subst P c.segments-segments.ensures.value
-    (first-overflow at (omega (arith, i.invariant.from_is, c.requires.after)) i.invariant.fits
+    (first-overflow old at (omega (arith, i.invariant.from_is, c.requires.after)) i.invariant.fits
     (subst Q c.self.view_is c.in-Some.ensures))
 
 pub loop-segment-preserved : goal.loop-segment-preserved
@@ -31,12 +32,12 @@ loop-segment-preserved c =
     let old : CalendarState = c.args.self.now in
     let segments = c.segments-segments.result.now in
     let s : Segment = get_or segments i.segment-index no_segment in
-    let at = segment-at segments i.segment-index (omega arith) i.invariant.from_is in
+    let at = segment-at c.args.start segments i.segment-index (omega arith) i.invariant.from_is in
     let Q : CalendarState → Type 0 =
     λ e. FitsIn i.from (i.from + s.slots) (booked_at e) (capacity_at e.steps) i.from (s ∷ []) in
     record {
       from_is = from-next at;
-      fits = fits-next old.first (booked_at old) (capacity_at old.steps) at i.invariant.fits
+      fits = fits-next old at i.invariant.fits
           (subst Q c.self.view_is c.in_default.ensures);
     }
 
@@ -50,4 +51,12 @@ returns c =
     ap total_slots (take_all i.segment-index segments c.loop-segment-test.false) in
     let P : List Segment → Type 0 = λ l. HasRoom old.first (booked_at old) (capacity_at old.steps) c.args.start l in
     subst P c.segments-segments.ensures.value
-    (room-all is (omega (arith, i.invariant.from_is, all)) i.invariant.fits)
+    (record {
+      each = λ u from. elim (cases_lt u i.from) [
+        | inl before ↦ i.invariant.fits u from before
+        | inr after ↦ (
+            let none = asked-after segments c.args.start u (omega (arith, i.invariant.from_is, all, after)) in
+            omega (arith, none, is.within u from)
+            )
+      ];
+    })

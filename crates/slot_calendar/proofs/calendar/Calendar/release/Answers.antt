@@ -17,8 +17,10 @@ returns-then-saturating_sub-lt-RING_SLOTS-clause-stands c = λ before after stan
     ≡ total_at c.release_segments.new.ring.first c.release_segments.new.ring.totals t =
     λ t. ap (λ n. total_at n c.settle.new.self.totals t) c.settle.ensures.now
     ∙ ap (λ l. total_at c.release_segments.new.ring.first l t) c.settle.ensures.totals in
-    let play : Play = truncated_play c.args.start c.args.plan.now c.args.keep in
-    let cut : HasCut old new play = record {
+    let cut : HasCut = record {
+      old = old;
+      new = new;
+      play = truncated_play c.args.start c.args.plan.now c.args.keep;
       first_is = c.settle.ensures.now ∙ c.release_segments.ensures.now ∙ first;
       totals = λ t from. ap (λ n. n + released_at c.args.plan.now c.args.start c.args.keep t) (settled t)
           ∙ ap (λ s. total_at c.release_segments.new.ring.first c.release_segments.new.ring.totals t
@@ -26,7 +28,7 @@ returns-then-saturating_sub-lt-RING_SLOTS-clause-stands c = λ before after stan
           ∙ c.release_segments.ensures.totals t (omega (arith, from, first))
           ∙ ap (λ e. booked_at e t) c.self.view_is;
     } in
-    stands-cut before after play cut stands
+    stands-cut cut before after stands
     )
 
 pub returns-else-saturating_sub-lt-RING_SLOTS-clause-stands :
@@ -40,9 +42,12 @@ returns-else-saturating_sub-lt-RING_SLOTS-clause-stands c = λ before after stan
     omega (arith, first, c.now.ensures.value, c.saturating_sub.ensures, c.if-saturating_sub-lt-RING_SLOTS.false) in
     let play : Play = truncated_play c.args.start c.args.plan.now c.args.keep in
     let past_all : IsPastEnd old play = record { after = past_end; past = past; booked = c.requires.booked } in
-    let cut : HasCut old old play = record {
+    let cut : HasCut = record {
+      old = old;
+      new = old;
+      play = play;
       first_is = refl;
       totals = λ t from. (let none = cut-none t past_all from in omega (arith, none));
     } in
-    stands-cut before after play cut stands
+    stands-cut cut before after stands
     )
