@@ -22,7 +22,8 @@ use Rattle.admission.proofs.Admissions.{admission-of}
 use Rattle.admission.proofs.PlayCounts.{tally}
 use Rattle.admission.proofs.Halts.{Found, booked-halted, play_of}
 use Rattle.admission.proofs.OpenPlays.{can-still, whole-after}
-use Rattle.admission.proofs.HistoryPrefixes.{PlacedAnswer, PlayAdmitted, entry_at, legal-take, no_entry, placed, state-push}
+use Rattle.admission.proofs.HistoryPrefixes.{PlacedAnswer, PlayAdmitted, entry_at, legal-take}
+use Rattle.admission.proofs.HistoryPrefixes.{no_entry, placed, state-push}
 use Rattle.admission.proofs.HistoryPrefixes.{told}
 
 abbrev entry_of : ℕ → Command → Answer → Entry
@@ -43,7 +44,8 @@ booked-admitted xs maker slot start t segments =
     ∙ booked-push (plays_of state) segments start t
 
 pub booked_halted : (maker keep t : ℕ) (a : PlayAdmitted) → CanHalt (state_after a.entries) a.number keep
-    → booked_after (a.entries ++ entry_of maker (Halt a.number keep) Halted ∷ []) t + released_at a.segments a.start keep t
+    → booked_after (a.entries ++ entry_of maker
+    (Halt a.number keep) Halted ∷ []) t + released_at a.segments a.start keep t
     ≡ booked_after a.entries t
 booked_halted maker keep t a can =
     let found : Found = record {

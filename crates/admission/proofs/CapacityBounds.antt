@@ -42,7 +42,8 @@ pub record IsSound (steps : List CapStep) (state : State) : Type 0 where
   pub within : IsNeverOverbooked steps state
 
 -- a play that can be halted has all its bytes
-unfoldable pub whole-play : {state : State} {number keep : ℕ} → All IsWhole state.held → Halting state number keep → WholePlay
+unfoldable pub whole-play : {state : State} {number keep : ℕ} → All IsWhole state.held
+    → Halting state number keep → WholePlay
 whole-play {state} {number} all h =
     let play = h.held.play in
     let K : ℕ → Booked = λ k. record { start = play.start; segments = play.segments; keep = k } in

@@ -14,7 +14,8 @@ use Rattle.admission.specs.declared.entries.Command.{Command}
 use Rattle.admission.specs.declared.entries.Command.TheVariants.{Play, Halt, Look}
 use Rattle.admission.specs.declared.entries.Answer.{Answer}
 use Rattle.admission.specs.declared.entries.Answer.TheVariants.{Admitted, Overflow, Halted, Looked}
-use Rattle.admission.specs.Machine.{State, AdmittedPlay, play_numbered, with_halted, halted_play, admitted_play, CanHalt}
+use Rattle.admission.specs.Machine.{State, AdmittedPlay, play_numbered, with_halted, halted_play}
+use Rattle.admission.specs.Machine.{admitted_play, CanHalt}
 use Rattle.admission.specs.Machine.{IsAnswer, booked_in, next_state, plays_of}
 use Rattle.admission.specs.Histories.{IsAnswered, play_admitted}
 use Rattle.admission.proofs.HistoryPrefixes.{Machine, next_of}

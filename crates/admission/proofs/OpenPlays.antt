@@ -19,7 +19,8 @@ use Rattle.admission.specs.Machine.{next_state}
 use Rattle.admission.specs.Machine.{admitted_play}
 use Rattle.admission.specs.Histories.{Halts, IsAdmission, IsHalt, IsLegal, IsStillOpen, IsUnhalted, play_admitted}
 use Rattle.admission.specs.Histories.{state_after}
-use Rattle.admission.proofs.HistoryPrefixes.{HaltStep, PlayAdmitted, halt_in, legal-take, next_of, no_entry, play_admitted_in, told}
+use Rattle.admission.proofs.HistoryPrefixes.{HaltStep, PlayAdmitted, halt_in, legal-take, next_of}
+use Rattle.admission.proofs.HistoryPrefixes.{no_entry, play_admitted_in, told}
 use Rattle.admission.proofs.HistoryPrefixes.{state-next}
 use Rattle.admission.proofs.HistoryPrefixes.{state-push}
 use Rattle.admission.proofs.Halts.{Halting, halting, holds-of, split}
@@ -90,7 +91,8 @@ can-halt state number keep is can =
 pub still-open : (steps : List CapStep) (xs : List Entry) (number keep : ℕ) → IsLegal steps xs
     → IsStillOpen xs number keep → CanHalt (state_after xs) number keep
 still-open steps xs number keep legal still = can-halt (state_after xs) number keep
-    (whole-after (play_admitted_in (record { steps = steps; entries = xs; legal = legal }) still.admission) still.unhalted)
+    (whole-after (play_admitted_in
+    (record { steps = steps; entries = xs; legal = legal }) still.admission) still.unhalted)
     (refl, still.small)
 
 -- and in the history that its entry ends
@@ -105,7 +107,8 @@ opened-last {steps} {xs} {keep} maker slot start segments legal small =
     (numbers-below steps xs (length xs) legal (omega arith)) in
     let C : State → Type 0 = λ s. CanHalt s (length xs) keep in
     subst C (sym (state-push xs e))
-    (can-halt (next_of (state_after xs) (length xs) e) (length xs) keep (found-new (length xs) start segments (state_after xs).held below) (refl, small))
+    (can-halt (next_of (state_after xs) (length xs) e) (length xs) keep
+    (found-new (length xs) start segments (state_after xs).held below) (refl, small))
 
 -- ---- it is closed from its halt on
 record IsClosed (number : ℕ) (state : State) : Type 0 where
@@ -119,7 +122,8 @@ state_before h = state_after (take h.place h.entries)
 -- what the state is then, where the play could be halted
 pub record IsHalted (h : HaltStep) : Type 0 where
   pub can : CanHalt (state_before h) h.number h.keep
-  pub next : state_after (take (suc h.place) h.entries) ≡ next_state (state_before h) h.place (Halt h.number h.keep) Halted
+  pub next : state_after (take (suc h.place) h.entries)
+      ≡ next_state (state_before h) h.place (Halt h.number h.keep) Halted
 
 pub halts-there : (h : HaltStep) → IsHalted h
 halts-there h = record {
@@ -154,7 +158,11 @@ pub halt_at : {xs : List Entry} {i number : ℕ} (d : Entry) → i < length xs �
 halt_at {xs} {i} {number} d inside halts =
     let is = halt_is number (get_or xs i d).command halts in (
       is.0,
-      record { inside = inside; command_is = λ n. ap (λ (e : Entry). e.command) (get_or_default xs i n d inside) ∙ is.1 },
+      record {
+        inside = inside;
+        command_is = λ n. ap (λ (e : Entry). e.command)
+            (get_or_default xs i n d inside) ∙ is.1;
+      },
     )
 
 closed-here : (h : HaltStep) → IsClosed h.number (state_after (take (suc h.place) h.entries))
@@ -222,7 +230,12 @@ open-unhalted {steps} {xs} {number} keep legal can = record {
   each = λ i none inside halts. (
       let step = halt_in (record { steps = steps; entries = xs; legal = legal }) (halt_at none inside halts).1 in
       let closed = closed-here step in
-      closed-cannot (state_after xs) number keep (record { held = closed.held; is = closed-after step closed; closed_is = closed.closed_is }) can
+      closed-cannot (state_after xs) number keep
+      (record {
+        held = closed.held;
+        is = closed-after step closed;
+        closed_is = closed.closed_is;
+      }) can
       );
 }
 
@@ -248,7 +261,8 @@ halted-whole a n few h =
     let held = h.held in
     let state = state_after (take n a.entries) in
     let number_is = (split a.number state.held held h.is).number_is in
-    let known = holds-of (IsKnown a.entries n) a.number state.held held (known-at a.steps a.entries n a.legal few) h.is in
+    let known = holds-of (IsKnown a.entries n) a.number state.held held
+    (known-at a.steps a.entries n a.legal few) h.is in
     let whole =
     (whole-play (sound-after a.steps (take n a.entries) (legal-take a.steps a.entries n a.legal)).whole h).play_is in
     let P : ℕ → Type 0 =
@@ -259,7 +273,8 @@ halted-whole a n few h =
     let same : whole_play held.play.start held.play.segments ≡ whole_play a.start a.segments = cc in
     let A : ℕ → AdmittedPlay = λ k. record { number = k; play = held.play; is_open = held.is_open } in
     let B : Booked → AdmittedPlay = λ p. record { number = a.number; play = p; is_open = held.is_open } in
-    let C : Bool → AdmittedPlay = λ b. record { number = a.number; play = whole_play a.start a.segments; is_open = b } in
+    let C : Bool → AdmittedPlay =
+    λ b. record { number = a.number; play = whole_play a.start a.segments; is_open = b } in
     ap A number_is ∙ ap B (whole ∙ same) ∙ ap C h.is_open
 
 pub cut-after : (a : PlayAdmitted) {i keep : ℕ} → IsHalt a.entries i a.number keep

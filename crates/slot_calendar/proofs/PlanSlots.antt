@@ -1,6 +1,6 @@
 -- What plans send slot by slot: a plan's slots are those of its segments, one after the other.
 use Rattle.std.proofs.Common.{◌≡◌, ◌≢◌, ◌<◌, ◌≤◌, ◌+◌, ◌-◌, ◌*◌, ◌/◌, ◌%◌, ℕ, min, List, [], ◌∷◌, ◌++◌, All, length}
-use Rattle.std.proofs.Common.{get_or, take, drop, sum, arith, refl, sym}
+use Rattle.std.proofs.Common.{get_or, take, drop, sum, arith, sym}
 use Rattle.std.proofs.Common.{ap, ◌∙◌, inl, inr}
 use Rattle.std.proofs.Math.Seq.{take-append-add}
 use Rattle.std.proofs.Math.Nat.{add-mul-div_right, mod-lt}
@@ -222,7 +222,8 @@ over-append xs ys start keep t some =
     let whole : sent_before (xs ++ ys) start t ≡ sent_before xs start t + sent_before ys from t =
     sent-append xs ys start t in
     elim (cases_lt t from) [
-      | inl before ↦ (let none : sent_before ys from t ≡ 0 = sent-none ys from t (omega arith) in omega (arith, whole, none))
+      | inl before ↦ (let none : sent_before ys from t ≡ 0 = sent-none ys from t (omega arith) in
+          omega (arith, whole, none))
       | inr past ↦ (
           let all : sent_before xs start t ≡ total_bytes xs = sent-all xs start t some (omega (arith, past)) in
           omega (arith, whole, all)

@@ -13,7 +13,8 @@ use Rattle.slot_calendar.proofs.PlanSlots.{SegmentFrom, asked-in, cut-before}
 pub fits-next : (calendar : CalendarState) (at : SegmentFrom)
     → FitsIn calendar.first at.from (booked_at calendar) (capacity_at calendar.steps) at.start at.segments
     → FitsIn at.from (at.from + at.s.slots) (booked_at calendar) (capacity_at calendar.steps) at.from (at.s ∷ [])
-    → FitsIn calendar.first (at.from + at.s.slots) (booked_at calendar) (capacity_at calendar.steps) at.start at.segments
+    → FitsIn calendar.first (at.from + at.s.slots) (booked_at calendar)
+    (capacity_at calendar.steps) at.start at.segments
 fits-next calendar at before here = λ u since less.
     elim (cases_lt u at.from) [
       | inl earlier ↦ before u since earlier

@@ -24,7 +24,9 @@ pub halts_push : {steps : List CapStep} {xs : List Entry} {e : Entry} → IsOwnN
     → AreHaltsOwn (xs ++ e ∷ [])
 halts_push {steps} {xs} {e} next = record {
   each = λ i number keep none halt.
-      let earlier : number < i = halt-later (halt_in (record { steps = steps; entries = xs ++ e ∷ []; legal = next.legal }) halt) in
+      let earlier : number < i =
+      halt-later (halt_in
+      (record { steps = steps; entries = xs ++ e ∷ []; legal = next.legal }) halt) in
       let inside = halt.inside in
       let long : length (xs ++ e ∷ []) ≡ length xs + 1 = length-append xs (e ∷ []) in
       let front : number < length xs = omega arith in

@@ -1,5 +1,6 @@
 -- A seat that took the lock and gave it back.
-use Rattle.std.proofs.Common.{◌++◌, length, arith, ◌≡◌, ℕ, List, [], ◌∷◌, refl, sym, ap, subst, ◌∙◌, Result, Ok, Err, IfOk, IfErr}
+use Rattle.std.proofs.Common.{◌++◌, length, arith, ◌≡◌, ℕ, List, [], ◌∷◌, refl, sym, ap, subst, ◌∙◌}
+use Rattle.std.proofs.Common.{Result, Ok, Err, IfOk, IfErr}
 use mathlib.Core.List.{IsPrefix}
 use Rattle.plan_cert.specs.declared.Segment.{Segment}
 use Rattle.admission.specs.declared.entries.Answer.{Answer}
@@ -93,7 +94,8 @@ visit_made v {more} {command} {place} {answer} made =
       before = old;
       place_is = e.noted.place_is;
       seen = entries;
-      answer_is = subst (λ (s : List CapStep). IsAnswer s (state_after old) command answer) v.at.steps e.noted.answer_is;
+      answer_is = subst (λ (s : List CapStep). IsAnswer s
+          (state_after old) command answer) v.at.steps e.noted.answer_is;
       mine = ap (entries_by v.seat.number) entries ∙ (made_own v.seat.number old last refl
           ∙ (ap (λ (xs : List PlacedEntry). xs ++ record { place = length old; entry = last } ∷ []) (sym v.at.own)
           ∙ ap (λ (k : ℕ). let p : PlacedEntry = record { place = k; entry = last } in v.seat.mine ++ p ∷ [])

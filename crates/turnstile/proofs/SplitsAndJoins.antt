@@ -176,11 +176,22 @@ module _ (kept : KeptValue) where
       → Splits Rule it.id it.view (view_after_split it.view) (split_view it.view)
   unfolding step.changes step.steps
   splits it head few s r at =
-      let p : step.Pass kept = record { state = s; rule = r; live = record { id = id; view = v; is_live = (at, it.left) } } in
+      let p : step.Pass kept =
+      record {
+        state = s;
+        rule = r;
+        live = record { id = id; view = v; is_live = (at, it.left) };
+      } in
       let f = step.fits_of kept p in let count = f.first head in
       let w : View = view_after_split v in let x : View = split_view v in let views : List View = set s.views id w in
       let r' = step.steps kept p (numbered p it.idle head few)
-      record { left = it.left; number = refl; joined = refl; tickets = λ o other. (step.apart_of kept p o other).0.tickets } in
+      record {
+        left = it.left;
+        number = refl;
+        joined = refl;
+        tickets = λ o other.
+            (step.apart_of kept p o other).0.tickets;
+      } in
       let none : entries_by (v.splits + 1) r.log ≡ [] = r.makers (v.splits + 1) (omega arith) in
       let fresh : (j : ℕ) (u : View) → IsLive views j u → Both x u =
       live_set (λ _ u. Both x u) s.views id w
@@ -258,7 +269,11 @@ module _ (kept : KeptValue) where
   fits_join p o other =
       let f = step.fits_of kept p in let g = step.fits_of kept (step.at kept p o) in
       let theirs = (step.apart_of kept p o other).1 in let v = p.view in let w = o.view in
-      let h = longer_seen v.number v.seen w.seen record { first = f.seen; second = g.seen; own = sym f.own ∙ f.mine } in record {
+      let h = longer_seen v.number v.seen w.seen record {
+        first = f.seen;
+        second = g.seen;
+        own = sym f.own ∙ f.mine;
+      } in record {
         terms_are = f.terms_are;
         told_terms = g.terms_are;
         seen = h.0;
@@ -275,11 +290,17 @@ module _ (kept : KeptValue) where
       }
 
   pub joins : (rest other_rest : Resting) → other_rest.view.number ≢ 0
-      → Joins Rule rest.id rest.view other_rest.id other_rest.view (view_after_join rest.view other_rest.view) spent_view
+      → Joins Rule rest.id rest.view other_rest.id other_rest.view
+      (view_after_join rest.view other_rest.view) spent_view
   unfolding step.changes
   joins rest other_rest not_first s r at apart wat =
       let b : View = view_after_join v w in
-      let p : step.Pass kept = record { state = s; rule = r; live = record { id = id; view = v; is_live = (at, rest.left) } } in
+      let p : step.Pass kept =
+      record {
+        state = s;
+        rule = r;
+        live = record { id = id; view = v; is_live = (at, rest.left) };
+      } in
       let o : Live s.views =
       record { id = other; view = w; is_live = (sym (set_else s.views id other b apart) ∙ wat, other_rest.left) } in
       let without = step.changes kept (step.at kept p o) (gone (step.at kept p o) other_rest.idle)

@@ -21,10 +21,12 @@ use Rattle.admission.specs.Makers.{entries_by}
 use Rattle.turnstile.specs.TurnRule.{pass_count, ticket_count, IsTicket, InTurn, Fits}
 use Rattle.turnstile.specs.TurnRule.{Apart, IsAway, IsHome, IsRuled}
 use Rattle.turnstile.specs.TableSeats.{IsFree}
-use Rattle.turnstile.specs.Steps.{HasDrawn, HasLooked, HasCounted, HasLeft, HasTaken, HasRead, IsTurn, IsWaiting, slot_list}
+use Rattle.turnstile.specs.Steps.{HasDrawn, HasLooked, HasCounted, HasLeft, HasTaken, HasRead}
+use Rattle.turnstile.specs.Steps.{IsTurn, IsWaiting, slot_list}
 use Rattle.turnstile.proofs.Prefixes.{prefix_self, prefix_trans, prefix_longer, made_other}
 use Rattle.turnstile.proofs.PassSums.{total_set, tickets_total, one_or_none}
-use Rattle.turnstile.proofs.LivePasses.{lives, tickets_of, ticket_or, Free, idle_free, waits_free, ticket_low, turn_more}
+use Rattle.turnstile.proofs.LivePasses.{lives, tickets_of, ticket_or, Free, idle_free, waits_free}
+use Rattle.turnstile.proofs.LivePasses.{ticket_low, turn_more}
 use Rattle.turnstile.proofs.LivePasses.{turn_next, apart_both, one_at, Live, holder_of, not_holder, Both}
 use Rattle.turnstile.proofs.LivePasses.{first_set, live_set, live_here, live_else}
 
@@ -34,6 +36,11 @@ pub record KeptValue : Type 1 where
   pub entries : B → List Entry
   pub terms_of : B → Terms
   pub terms : Terms
+
+-- by one of the values, whose own it keeps
+abbrev pub kept_by : {B : Type 0} (entries : B → List Entry) (terms_of : B → Terms) → B → KeptValue
+kept_by {B} entries terms_of value =
+    record { B = B; entries = entries; terms_of = terms_of; terms = terms_of value }
 
 module _ (kept : KeptValue) where
   open kept use {B, entries, terms_of, terms}
@@ -250,7 +257,11 @@ module _ (kept : KeptValue) where
   pub draws : (id slots : ℕ) (me : Me (Option B) View) → IsFree me
       → Allows Rule slots id me 0 (λ n. (n + 1) % 2 ^ 64) (HasDrawn me)
   draws id slots me it s r deep here low =
-      let p : Pass = record { state = s; rule = r; live = record { id = id; view = me.0; is_live = (here, it.left) } } in (
+      let p : Pass = record {
+        state = s;
+        rule = r;
+        live = record { id = id; view = me.0; is_live = (here, it.left) };
+      } in (
         record me.0 { stage = Waits r.drawn },
         keeps,
         tt,
@@ -357,7 +368,8 @@ module _ (kept : KeptValue) where
       let drawn = turn.1 in omega arith)
       (sym (ap (λ (ws : List ℕ). get_or ws 1 0) r.words) ∙ hit) in
       let h = at_home p is (sym same) in
-      let next : Me (Option B) View = (record v { stage = Holds t; seen = entries h.value }, (0, Some h.value) ∷ me.1) in
+      let next : Me (Option B) View =
+      (record v { stage = Holds t; seen = entries h.value }, (0, Some h.value) ∷ me.1) in
       let taken : HasTaken entries terms_of t me next = record {
         value = h.value;
         view = refl;
@@ -470,13 +482,23 @@ module _ (kept : KeptValue) where
       → Allows Rule slots id me 2 (λ n. (n + 1) % 2 ^ 64) (HasCounted entries me)
   counts_entry id slots me turn one s r deep here low =
       let it = turn.1 in let e = one.0 in
-      let p : Pass = record { state = s; rule = r; live = record { id = id; view = me.0; is_live = (here, it.left) } } in
+      let p : Pass = record {
+        state = s;
+        rule = r;
+        live = record { id = id; view = me.0; is_live = (here, it.left) };
+      } in
       let n = counted p it.stage e one.2 in (
         n.new,
         keeps,
         tt,
         steps p n
-            record { left = it.left; number = refl; joined = refl; tickets = λ o other. (apart_of p o other).0.tickets },
+            record {
+              left = it.left;
+              number = refl;
+              joined = refl;
+              tickets = λ o other.
+                  (apart_of p o other).0.tickets;
+            },
         (
           ap (λ (l : List Entry). let w : View = record me.0 { seen = l; mine = entries_by me.0.number l } in w)
               (sym one.1),
@@ -486,7 +508,8 @@ module _ (kept : KeptValue) where
 
   -- who has the lock gives the value back, which is at home again, and passes the lock on
   abbrev gave_back : (p : Pass) (held : List (ℕ × Option B))
-      → (value : B) × IsTurn (p.view, held) (Some value) × (entries value ≡ p.view.seen) × (terms_of value ≡ p.view.terms)
+      → (value : B) × IsTurn (p.view, held) (Some value) × (entries value ≡ p.view.seen) ×
+      (terms_of value ≡ p.view.terms)
       → Next p
   gave_back p held turn =
       let w : View = record v { stage = Idle } in let is = turn.1.stage in

@@ -9,7 +9,9 @@ pub loop-later-preserved : goal.loop-later-preserved
 loop-later-preserved c = (
   ap length c.push_reserved.ensures.items ∙ length_push c.loop-later.tried.items _ ∙ ap
       (λ n. n + 1) c.loop-later.invariant.0,
-  rw c.push_reserved.ensures.items (refusals_more (request c.args.calendar.now.first (booked_at c.args.calendar.now) (capacity_at c.args.calendar.now.steps) c.args.plan.now c.args.first) c.loop-later.invariant.1
+  rw c.push_reserved.ensures.items
+      (refusals_more (request c.args.calendar.now.first (booked_at c.args.calendar.now)
+      (capacity_at c.args.calendar.now.steps) c.args.plan.now c.args.first) c.loop-later.invariant.1
       (ap (λ n. c.args.first + n) (sym c.loop-later.invariant.0)) c.in-Some.ensures),
   search rules,
 )

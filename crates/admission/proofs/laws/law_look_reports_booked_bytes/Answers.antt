@@ -10,7 +10,8 @@ returns-clause-now c = λ steps entries place slot now at booked none legal insi
 
 pub returns-clause-at : goal.returns-clause-at
 returns-clause-at c = λ steps entries place slot now at booked none legal inside command_is answer_is.
-    let is = told (placed (record { steps = steps; entries = entries; legal = legal }) none inside) (command_is, answer_is) in omega (arith, is.0, is.1)
+    let is = told (placed (record { steps = steps; entries = entries; legal = legal }) none inside)
+    (command_is, answer_is) in omega (arith, is.0, is.1)
 
 pub returns-clause-booked : goal.returns-clause-booked
 returns-clause-booked c = λ steps entries place slot now at booked none legal inside command_is answer_is.

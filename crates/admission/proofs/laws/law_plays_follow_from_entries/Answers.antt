@@ -7,11 +7,13 @@ returns-clause-admitted c = was-admitted
 
 pub returns-clause-whole : goal.returns-clause-whole
 returns-clause-whole c =
-    λ steps xs number start segments legal admission. whole-after (play_admitted_in (record { steps = steps; entries = xs; legal = legal }) admission)
+    λ steps xs number start segments legal admission. whole-after
+    (play_admitted_in (record { steps = steps; entries = xs; legal = legal }) admission)
 
 pub returns-clause-cut : goal.returns-clause-cut
 returns-clause-cut c =
-    λ steps xs number start keep i segments legal admission. cut-after (play_admitted_in (record { steps = steps; entries = xs; legal = legal }) admission)
+    λ steps xs number start keep i segments legal admission. cut-after
+    (play_admitted_in (record { steps = steps; entries = xs; legal = legal }) admission)
 
 pub returns-clause-earlier : goal.returns-clause-earlier
 returns-clause-earlier c = λ steps xs number keep i legal halt. halt-later

@@ -11,7 +11,9 @@ returns-clause-until c = λ from first start booked capacity segments found is s
     sym (start_as (request from booked capacity segments first) is same).1
 
 pub returns-clause-all : goal.returns-clause-all
-returns-clause-all c = λ from first booked capacity segments found is same. start_as (request from booked capacity segments first) is same
+returns-clause-all c =
+    λ from first booked capacity segments found is same. start_as
+    (request from booked capacity segments first) is same
 
 pub returns-clause-booked : goal.returns-clause-booked
 returns-clause-booked c = λ from first i booked capacity segments found none is inside.

@@ -1,11 +1,11 @@
 use Rattle.std.proofs.Common.{arith}
-use Rattle.turnstile.proofs.StepRules.{leaves}
+use Rattle.turnstile.proofs.StepRules.{kept_by, leaves}
 use Rattle.turnstile.proofs.steps.give_back.Goals as goal
 
 pub fetch_add-requires : goal.fetch_add-requires
 fetch_add-requires g c = let seat = c.requires.seat in let words = seat.sized.words in let place = c.args.place.now in (
   seat.here,
   omega arith,
-  leaves (record { B = g.row.B.Denot; entries = g.B.Kept.entries; terms_of = g.B.Kept.terms; terms = g.B.Kept.terms c.args.shared.now.key.value })
+  leaves (kept_by g.B.Kept.entries g.B.Kept.terms c.args.shared.now.key.value)
       place.id c.args.shared.now.table_id.slots place.me c.requires.turn,
 )

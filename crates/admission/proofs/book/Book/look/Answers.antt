@@ -20,7 +20,8 @@ answered c =
 
 pub invariant_of-self : goal.invariant_of-self
 invariant_of-self c =
-    let counts = subst (λ (j : Journal). IsFull j c.counts-full.result) (sym c.self.view_is) c.counts-full.ensures.full in
+    let counts = subst (λ (j : Journal). IsFull j c.counts-full.result)
+    (sym c.self.view_is) c.counts-full.ensures.full in
     kept-push c.self.invariant (record {
       entries_are = c.note.ensures.items;
       answered = answered (goal.at.invariant_of-self c).After-note;

@@ -25,7 +25,8 @@ pub invariant_of-self : goal.invariant_of-self
 invariant_of-self c =
     let book = c.self.inside in
     let state = state_after book.entries.items in
-    let counts = subst (λ (j : Journal). IsFull j c.counts-full.result) (sym c.self.view_is) c.counts-full.ensures.full in
+    let counts = subst (λ (j : Journal). IsFull j c.counts-full.result)
+    (sym c.self.view_is) c.counts-full.ensures.full in
     let answer = answered (goal.at.invariant_of-self c).After-note in
     let machine : Machine = record { steps = book.calendar.steps; state = state } in
     let asked = open-asked machine

@@ -12,7 +12,7 @@ returns-clause-totals c = λ t since. (
     ap (total_at d.first (rotation (d.first % ring_slots) d.places.items)) first
     ∙ ap (λ s. total_at s.first s.totals c.args.self.now.first) c.self.view_is ∙ c.empty_first.ensures.none in
     let later : c.args.self.now.first < t = omega (arith, first, since) in
-    total-next d.first t (record { some = omega arith; length_is = c.self.invariant.maxima.places_are }) none since
+    total-next d.first t (record { length_is = c.self.invariant.maxima.places_are }) none since
     ∙ ap (λ s. total_at s.first s.totals t) c.self.view_is
     ∙ c.empty_first.ensures.others t (omega arith) (λ e. omega (arith, e, later))
     )
@@ -27,7 +27,7 @@ invariant_of-self c =
     record {
       maxima = c.self.invariant.maxima;
       empty = λ u since late.
-          total-next d.first u (record { some = omega arith; length_is = c.self.invariant.maxima.places_are }) none
+          total-next d.first u (record { length_is = c.self.invariant.maxima.places_are }) none
           since
           ∙ c.self.invariant.empty u (omega (arith, since)) late;
     }

@@ -1,5 +1,5 @@
 use Rattle.std.proofs.Common.{◌≡◌, arith, ap, ◌∙◌}
-use Rattle.slot_calendar.specs.Totals.{ring_slots, total_at}
+use Rattle.slot_calendar.specs.Totals.{total_at}
 use Rattle.slot_calendar.proofs.RingRotation.{HasPlaces, empty-places, total-zeros}
 use Rattle.slot_calendar.proofs.ring.Ring.jump.Goals as goal
 
@@ -7,8 +7,7 @@ pub invariant_of-self : goal.invariant_of-self
 invariant_of-self c =
     let d = c.self.inside in
     let first : d.first ≡ c.args.self.now.first = ap (λ s. s.first) c.self.view_is in
-    let places : HasPlaces ring_slots d.places.items =
-    record { some = omega arith; length_is = c.self.invariant.maxima.places_are } in
+    let places : HasPlaces d.places.items = record { length_is = c.self.invariant.maxima.places_are } in
     let none = empty-places d.first places (λ t from.
     ap (λ s. total_at s.first s.totals t) c.self.view_is
     ∙ c.requires t (omega (arith, first, from)) (omega (arith, first, from))) in
@@ -21,8 +20,7 @@ pub returns-clause-empty : goal.returns-clause-empty
 returns-clause-empty c = λ u from late. (
     let d = c.self.inside in
     let first : d.first ≡ c.args.self.now.first = ap (λ s. s.first) c.self.view_is in
-    let places : HasPlaces ring_slots d.places.items =
-    record { some = omega arith; length_is = c.self.invariant.maxima.places_are } in
+    let places : HasPlaces d.places.items = record { length_is = c.self.invariant.maxima.places_are } in
     let none = empty-places d.first places (λ t begun.
     ap (λ s. total_at s.first s.totals t) c.self.view_is
     ∙ c.requires t (omega (arith, first, begun)) (omega (arith, first, begun))) in

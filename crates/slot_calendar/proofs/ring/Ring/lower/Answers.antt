@@ -11,8 +11,8 @@ use Rattle.slot_calendar.proofs.BlockMaxima.{topped-lower}
 use Rattle.slot_calendar.proofs.ring.Ring.lower.Goals as goal
 
 -- the slot is one of the ring, since something is booked in it
-in_ring : {xs : List ℕ} (first slot : ℕ) → HasPlaces ring_slots xs → first ≤ slot
-    → 0 < total_at first (rotation (first % ring_slots) xs) slot → IsInTurn ring_slots first slot
+in_ring : {xs : List ℕ} (first slot : ℕ) → HasPlaces xs → first ≤ slot
+    → 0 < total_at first (rotation (first % ring_slots) xs) slot → IsInTurn first slot
 in_ring first slot places from booked = record {
   from = from;
   inside = elim (cases_lt slot (first + ring_slots)) [
@@ -39,8 +39,7 @@ invariant_of-self c =
     let T : List ℕ → Type 0 = λ ts. AreBlockMaxima (set d.places.items p less) ts (Some (p / 1024)) in
     let first : d.first ≡ c.args.self.now.first = ap (λ s. s.first) c.self.view_is in
     let old = ap (λ s. total_at s.first s.totals c.args.slot) c.self.view_is in
-    let places : HasPlaces ring_slots d.places.items =
-    record { some = omega arith; length_is = c.self.invariant.maxima.places_are } in
+    let places : HasPlaces d.places.items = record { length_is = c.self.invariant.maxima.places_are } in
     let from : d.first ≤ c.args.slot = omega (arith, first, c.requires.from_now) in
     let turn = in_ring d.first c.args.slot places from (omega (arith, old, c.requires.some, c.requires.booked)) in
     let held : c.args.slot < d.last + 1 = elim (cases_lt c.args.slot (d.last + 1)) [
@@ -62,8 +61,7 @@ returns-clause-at c =
     let p = c.args.slot % ring_slots in
     let first : d.first ≡ c.args.self.now.first = ap (λ s. s.first) c.self.view_is in
     let old = ap (λ s. total_at s.first s.totals c.args.slot) c.self.view_is in
-    let places : HasPlaces ring_slots d.places.items =
-    record { some = omega arith; length_is = c.self.invariant.maxima.places_are } in
+    let places : HasPlaces d.places.items = record { length_is = c.self.invariant.maxima.places_are } in
     let from : d.first ≤ c.args.slot = omega (arith, first, c.requires.from_now) in
     let turn = in_ring d.first c.args.slot places from (omega (arith, old, c.requires.some, c.requires.booked)) in
     let inside : p < ring_slots = mod_below c.args.slot ring_slots (omega arith) in
@@ -79,8 +77,7 @@ returns-clause-others c = λ t since other. (
     let d = c.self.inside in
     let first : d.first ≡ c.args.self.now.first = ap (λ s. s.first) c.self.view_is in
     let old = ap (λ s. total_at s.first s.totals c.args.slot) c.self.view_is in
-    let places : HasPlaces ring_slots d.places.items =
-    record { some = omega arith; length_is = c.self.invariant.maxima.places_are } in
+    let places : HasPlaces d.places.items = record { length_is = c.self.invariant.maxima.places_are } in
     let turn = in_ring d.first c.args.slot places (omega (arith, first, c.requires.from_now))
     (omega (arith, old, c.requires.some, c.requires.booked)) in
     set-there (c.index_mut.result.now - c.args.by) places turn (omega (arith, first, since)) other

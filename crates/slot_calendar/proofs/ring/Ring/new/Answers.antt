@@ -1,4 +1,3 @@
-use Rattle.std.proofs.Common.{arith}
 use Rattle.slot_calendar.proofs.RingRotation.{total-zeros}
 use Rattle.slot_calendar.proofs.BlockMaxima.{topped-zeros}
 use Rattle.slot_calendar.proofs.ring.Ring.new.Goals as goal
@@ -7,5 +6,5 @@ pub invariant_of-result : goal.invariant_of-result
 invariant_of-result c = record {
   maxima = topped-zeros c.in_ok-places.places.items c.in_ok-tops.tops.items c.in_ok-places.ensures c.in_ok-tops.ensures;
   empty = λ u from late. total-zeros 0 u
-      (record { some = omega arith; length_is = c.in_ok-places.ensures.count_is }) c.in_ok-places.ensures.each;
+      (record { length_is = c.in_ok-places.ensures.count_is }) c.in_ok-places.ensures.each;
 }

@@ -23,9 +23,8 @@ invariant_of-self c =
     let top : c.max.result ≡ max (get_or d.tops.items (p / 1024) 0) v = c.max.ensures ∙ ap (λ x. max x v) old in
     let P : ℕ → Type 0 = λ x. AreBlockMaxima (set d.places.items p v) (set d.tops.items (p / 1024) x) d.stale in
     let first : d.first ≡ c.args.self.now.first = ap (λ s. s.first) c.self.view_is in
-    let places : HasPlaces ring_slots d.places.items =
-    record { some = omega arith; length_is = c.self.invariant.maxima.places_are } in
-    let turn : IsInTurn ring_slots d.first c.args.slot =
+    let places : HasPlaces d.places.items = record { length_is = c.self.invariant.maxima.places_are } in
+    let turn : IsInTurn d.first c.args.slot =
     record { from = omega (arith, first, c.requires.from_now); inside = omega (arith, first, c.requires.within) } in
     record {
       maxima = subst P (sym top) (topped-raise (record {
@@ -54,9 +53,8 @@ returns-clause-at c =
     let value : c.index.result.now ≡ get_or d.places.items p 0 =
     get_or_read d.places.items p c.index.result.now
     (omega (arith, inside, c.self.invariant.maxima.places_are)) c.index.ensures 0 in
-    let places : HasPlaces ring_slots d.places.items =
-    record { some = omega arith; length_is = c.self.invariant.maxima.places_are } in
-    let turn : IsInTurn ring_slots d.first c.args.slot =
+    let places : HasPlaces d.places.items = record { length_is = c.self.invariant.maxima.places_are } in
+    let turn : IsInTurn d.first c.args.slot =
     record { from = omega (arith, first, c.requires.from_now); inside = omega (arith, first, c.requires.within) } in
     let now = set-here (c.index.result.now + c.args.by) places turn in
     let was = total-in places turn in
@@ -67,9 +65,8 @@ pub returns-clause-others : goal.returns-clause-others
 returns-clause-others c = λ t from other. (
     let d = c.self.inside in
     let first : d.first ≡ c.args.self.now.first = ap (λ s. s.first) c.self.view_is in
-    let places : HasPlaces ring_slots d.places.items =
-    record { some = omega arith; length_is = c.self.invariant.maxima.places_are } in
-    let turn : IsInTurn ring_slots d.first c.args.slot =
+    let places : HasPlaces d.places.items = record { length_is = c.self.invariant.maxima.places_are } in
+    let turn : IsInTurn d.first c.args.slot =
     record { from = omega (arith, first, c.requires.from_now); inside = omega (arith, first, c.requires.within) } in
     set-there (c.index.result.now + c.args.by) places turn (omega (arith, first, from)) other
     ∙ ap (λ s. total_at s.first s.totals t) c.self.view_is

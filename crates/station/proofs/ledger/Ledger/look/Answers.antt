@@ -10,7 +10,12 @@ use Rattle.station.proofs.ledger.Ledger.look.Goals.{After-look}
 told : (c : After-look) → AreHaltsOwn c.look.new.self.entries
 told c =
     let call : HaltlessCall = record {
-      call = record { old = c.self.inside.book; new = c.look.new.self; maker = c.args.maker; command = Look (min c.args.slot LATEST_SLOT) };
+      call = record {
+        old = c.self.inside.book;
+        new = c.look.new.self;
+        maker = c.args.maker;
+        command = Look (min c.args.slot LATEST_SLOT);
+      };
       no_halt = refl;
     } in
     halts_told c.look.result call c.look.ensures.noted c.look.ensures.left c.self.invariant

@@ -3,7 +3,7 @@ use Rattle.std.specs.Prelude.{is_some}
 use mathlib.Core.Option.{some-injective}
 use Rattle.turnstile.specs.Passes.{AllJoined, IsWholeList, PassState}
 use Rattle.turnstile.specs.PassSeats.{state_of_view}
-use Rattle.turnstile.proofs.StepRules.{KeptValue}
+use Rattle.turnstile.proofs.StepRules.{kept_by}
 use Rattle.turnstile.proofs.LastView.{IsLast, closes}
 use Rattle.turnstile.proofs.turnstile.Turnstile.close.Goals as goal
 use Rattle.turnstile.proofs.turnstile.Turnstile.close.Goals.{After-take-slot}
@@ -12,18 +12,12 @@ abbrev value_or : {A : Type 0} → A → Option A → A
 value_or d None = d
 value_or d (Some x) = x
 
-abbrev kept_by : (g : _) → After-take-slot g → KeptValue
-kept_by g c = record {
-  B = g.row.B.Denot;
-  entries = g.B.Kept.entries;
-  terms_of = g.B.Kept.terms;
-  terms = g.B.Kept.terms c.self.inside.table.shared.key.value;
-}
-
 -- what the slot has that was taken out of the closed table
 last : (g : _) (c : After-take-slot g)
-    → IsLast (kept_by g c) c.take_seat.result.table_id c.take_seat.result.me.0 c.take-slot.result
-last g c = let seat = c.take_seat in let closed = c.close_with-closed.ensures.values.2 in closes (kept_by g c)
+    → IsLast (kept_by g.B.Kept.entries g.B.Kept.terms c.self.inside.table.shared.key.value)
+    c.take_seat.result.table_id c.take_seat.result.me.0 c.take-slot.result
+last g c = let seat = c.take_seat in let closed = c.close_with-closed.ensures.values.2 in
+    closes (kept_by g.B.Kept.entries g.B.Kept.terms c.self.inside.table.shared.key.value)
     (record {
       state = closed.0;
       rule = closed.1.0;

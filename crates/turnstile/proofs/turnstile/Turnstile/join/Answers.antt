@@ -1,4 +1,5 @@
 use Rattle.std.proofs.Common.{arith, ap, sym, ◌∙◌}
+use Rattle.turnstile.proofs.StepRules.{kept_by}
 use Rattle.turnstile.proofs.SplitsAndJoins.{joins}
 use Rattle.turnstile.proofs.turnstile.Turnstile.join.Goals as goal
 
@@ -10,12 +11,7 @@ join_seat-requires g c =
       sym (ap (λ p. p.id) c.take_seat-theirs.ensures.old) ∙ (c.requires.other ∙ sym (ap (λ x. x.id) c.self.view_is)),
       theirs.empty,
       omega arith,
-      joins (record {
-        B = g.row.B.Denot;
-        entries = g.B.Kept.entries;
-        terms_of = g.B.Kept.terms;
-        terms = g.B.Kept.terms c.self.inside.table.shared.key.value;
-      })
+      joins (kept_by g.B.Kept.entries g.B.Kept.terms c.self.inside.table.shared.key.value)
           (record {
             id = c.take_seat-place.result.id;
             view = c.take_seat-place.result.me.0;

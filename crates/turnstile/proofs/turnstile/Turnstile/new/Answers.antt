@@ -2,6 +2,7 @@ use Rattle.std.proofs.Common.{◌≡◌, ap, sym, ◌∙◌, [], ◌∷◌, ◌+
 use Rattle.atomic_table.specs.Table.{opening}
 use Rattle.turnstile.specs.TurnRule.{IsRuled}
 use Rattle.turnstile.specs.Steps.{first_view}
+use Rattle.turnstile.proofs.StepRules.{kept_by}
 use Rattle.turnstile.proofs.SplitsAndJoins.{starts}
 use Rattle.turnstile.proofs.turnstile.Turnstile.new.Goals as goal
 
@@ -15,5 +16,5 @@ new-requires g c =
     one_item {A = Option g.row.B.Denot} (Some c.args.kept) c.push_reserved.ensures.items c.in_ok-slots.ensures.items in
     subst (λ (xs : List (Option g.row.B.Denot)). IsRuled g.B.Kept.entries g.B.Kept.terms terms
     (opening (0 ∷ 0 ∷ 0 ∷ []) xs (first_view terms))) (sym items)
-    (starts (record { B = g.row.B.Denot; entries = g.B.Kept.entries; terms_of = g.B.Kept.terms; terms = terms }) c.args.kept c.requires
+    (starts (kept_by g.B.Kept.entries g.B.Kept.terms c.of-about.result.value) c.args.kept c.requires
     (ap g.B.Kept.terms (sym c.of-about.ensures)))

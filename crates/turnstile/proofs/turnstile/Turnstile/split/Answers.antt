@@ -1,4 +1,5 @@
 use Rattle.std.proofs.Common.{arith, ap, sym, ◌∙◌}
+use Rattle.turnstile.proofs.StepRules.{kept_by}
 use Rattle.turnstile.proofs.SplitsAndJoins.{splits}
 use Rattle.turnstile.proofs.turnstile.Turnstile.split.Goals as goal
 
@@ -9,12 +10,7 @@ split_seat-other-requires g c =
     let words = c.self.invariant.words in let count = view.splits_is in let few = c.requires.few in (
       sym (ap (λ p. p.id) old) ∙ (c.requires.own ∙ sym (ap (λ x. x.id) c.self.view_is)),
       omega arith,
-      splits (record {
-        B = g.row.B.Denot;
-        entries = g.B.Kept.entries;
-        terms_of = g.B.Kept.terms;
-        terms = g.B.Kept.terms c.self.inside.table.shared.key.value;
-      })
+      splits (kept_by g.B.Kept.entries g.B.Kept.terms c.self.inside.table.shared.key.value)
           (record {
             id = c.take_seat-place.result.id;
             view = c.take_seat-place.result.me.0;
