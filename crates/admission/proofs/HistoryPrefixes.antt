@@ -33,6 +33,9 @@ pub record LegalHistory : Type 0 where
   pub entries : List Entry
   pub legal : IsLegal steps entries
 
+abbrev pub legal_history : {steps : List CapStep} {entries : List Entry} → IsLegal steps entries → LegalHistory
+legal_history {steps} {entries} legal = record { steps = steps; entries = entries; legal = legal }
+
 -- it has admitted this play
 pub record PlayAdmitted : Type 0 where
   pub history : LegalHistory

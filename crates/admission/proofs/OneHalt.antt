@@ -7,7 +7,7 @@ use Rattle.slot_calendar.specs.declared.profiles.CapStep.{CapStep}
 use Rattle.admission.specs.declared.entries.Entry.{Entry}
 use Rattle.admission.specs.declared.entries.Command.{Command}
 use Rattle.admission.specs.Histories.{Halts, IsAdmission, IsHalt, IsLegal, IsUnhalted, open_count, state_after}
-use Rattle.admission.proofs.HistoryPrefixes.{HaltStep, LegalHistory, halt_in, legal-take, no_entry}
+use Rattle.admission.proofs.HistoryPrefixes.{legal_history, HaltStep, halt_in, legal-take, no_entry}
 use Rattle.admission.proofs.Journals.{open-halted}
 use Rattle.admission.proofs.OpenPlays.{can-still, halts-there, still-open}
 
@@ -27,15 +27,12 @@ once-before later {i} one less =
 pub halts-once : (steps : List CapStep) (xs : List Entry) (number keep kept i j : ℕ) → IsLegal steps xs
     → IsHalt xs i number keep → IsHalt xs j number kept → i ≡ j
 halts-once steps xs number keep kept i j legal one other = elim (cases_lt i j) [
-  | inl less ↦ absurd (once-before (halt_in history other) one less)
+  | inl less ↦ absurd (once-before (halt_in (legal_history legal) other) one less)
   | inr more ↦ elim (cases_lt j i) [
-    | inl less ↦ absurd (once-before (halt_in history one) other less)
+    | inl less ↦ absurd (once-before (halt_in (legal_history legal) one) other less)
     | inr most ↦ omega (arith, more, most)
   ]
 ]
-  where
-    history : LegalHistory
-    history = record { steps = steps; entries = xs; legal = legal }
 
 -- where no play is open each is halted
 pub closed-halted : (steps : List CapStep) (xs : List Entry) (number start : ℕ) (segments : List Segment)

@@ -19,7 +19,7 @@ use Rattle.admission.specs.Machine.{next_state}
 use Rattle.admission.specs.Machine.{admitted_play}
 use Rattle.admission.specs.Histories.{Halts, IsAdmission, IsHalt, IsLegal, IsStillOpen, IsUnhalted, play_admitted}
 use Rattle.admission.specs.Histories.{state_after}
-use Rattle.admission.proofs.HistoryPrefixes.{HaltStep, PlayAdmitted, halt_in, legal-take, next_of}
+use Rattle.admission.proofs.HistoryPrefixes.{legal_history, HaltStep, PlayAdmitted, halt_in, legal-take, next_of}
 use Rattle.admission.proofs.HistoryPrefixes.{no_entry, play_admitted_in, told}
 use Rattle.admission.proofs.HistoryPrefixes.{state-next}
 use Rattle.admission.proofs.HistoryPrefixes.{state-push}
@@ -91,8 +91,7 @@ can-halt state number keep is can =
 pub still-open : (steps : List CapStep) (xs : List Entry) (number keep : ℕ) → IsLegal steps xs
     → IsStillOpen xs number keep → CanHalt (state_after xs) number keep
 still-open steps xs number keep legal still = can-halt (state_after xs) number keep
-    (whole-after (play_admitted_in
-    (record { steps = steps; entries = xs; legal = legal }) still.admission) still.unhalted)
+    (whole-after (play_admitted_in (legal_history legal) still.admission) still.unhalted)
     (refl, still.small)
 
 -- and in the history that its entry ends
@@ -228,7 +227,7 @@ open-unhalted : {steps : List CapStep} {xs : List Entry} {number : ℕ} (keep : 
     → CanHalt (state_after xs) number keep → IsUnhalted xs number
 open-unhalted {steps} {xs} {number} keep legal can = record {
   each = λ i none inside halts. (
-      let step = halt_in (record { steps = steps; entries = xs; legal = legal }) (halt_at none inside halts).1 in
+      let step = halt_in (legal_history legal) (halt_at none inside halts).1 in
       let closed = closed-here step in
       closed-cannot (state_after xs) number keep
       (record {

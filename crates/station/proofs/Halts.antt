@@ -10,7 +10,7 @@ use Rattle.admission.specs.declared.entries.Command.TheVariants.{Halt}
 use Rattle.admission.specs.declared.entries.Entry.{Entry}
 use Rattle.admission.specs.Histories.{Halts, IsHalt, IsLegal}
 use Rattle.admission.specs.Makers.{AreHaltsOwn, PlacedEntry, Admits, IsOpenAmong}
-use Rattle.admission.proofs.HistoryPrefixes.{halt_in}
+use Rattle.admission.proofs.HistoryPrefixes.{legal_history, halt_in}
 use Rattle.admission.proofs.OpenPlays.{halt-later}
 
 -- one more entry of a legal history, which halts a play of its own maker, or none
@@ -26,7 +26,7 @@ halts_push {steps} {xs} {e} next = record {
   each = λ i number keep none halt.
       let earlier : number < i =
       halt-later (halt_in
-      (record { steps = steps; entries = xs ++ e ∷ []; legal = next.legal }) halt) in
+      (legal_history next.legal) halt) in
       let inside = halt.inside in
       let long : length (xs ++ e ∷ []) ≡ length xs + 1 = length-append xs (e ∷ []) in
       let front : number < length xs = omega arith in

@@ -9,7 +9,7 @@ use Rattle.admission.specs.declared.entries.Entry.{Entry}
 use Rattle.admission.specs.Books.{Journal}
 use Rattle.admission.specs.Histories.{Halts, IsLegal}
 use Rattle.admission.specs.Makers.{Admits, IsOpenAmong, PlacedEntry, entries_by}
-use Rattle.admission.proofs.HistoryPrefixes.{LegalHistory, halt_in, legal-take, no_entry}
+use Rattle.admission.proofs.HistoryPrefixes.{legal_history, LegalHistory, halt_in, legal-take, no_entry}
 use Rattle.admission.proofs.Makers.{IsMade, all-made}
 use Rattle.admission.proofs.OpenPlays.{halt-later, halt_at}
 use Rattle.turnstile.proofs.Prefixes.{made_own}
@@ -57,7 +57,7 @@ visit_open v heard plan {number} {start} entered keep small =
       admission = λ none. subst (λ (q : PlacedEntry). Admits q number start plan)
           (sym (get_or_push mine p none (length mine) refl)) record { place_is = sym place; admitted = refl };
       unhalted = All-push (λ (q : PlacedEntry). Halts number q.entry.command → ⊥) mine p
-          (none_halts (record { steps = new.steps; entries = old.entries; legal = legal }) maker number (omega arith))
+          (none_halts (legal_history legal) maker number (omega arith))
           (λ halts. absurd halts);
       small = small;
     }

@@ -1,4 +1,4 @@
-use Rattle.admission.proofs.HistoryPrefixes.{play_admitted_in}
+use Rattle.admission.proofs.HistoryPrefixes.{legal_history, play_admitted_in}
 use Rattle.admission.proofs.BookedBytes.{booked-admitted, booked_halted, booked-other}
 use Rattle.admission.proofs.laws.law_entry_changes_booked_bytes.Goals as goal
 
@@ -7,7 +7,7 @@ returns-clause-admitted c = booked-admitted
 
 pub returns-clause-halted : goal.returns-clause-halted
 returns-clause-halted c = λ steps xs maker number keep start t segments legal admission.
-    booked_halted maker keep t (play_admitted_in (record { steps = steps; entries = xs; legal = legal }) admission)
+    booked_halted maker keep t (play_admitted_in (legal_history legal) admission)
 
 pub returns-clause-others : goal.returns-clause-others
 returns-clause-others c = booked-other

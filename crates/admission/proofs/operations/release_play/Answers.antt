@@ -1,3 +1,4 @@
+use Rattle.admission.proofs.HistoryPrefixes.{legal_history}
 use Rattle.std.proofs.Common.{◌≡◌, Option, None, Some, arith, refl, sym, ap, subst, ◌∙◌}
 use Rattle.std.specs.Prelude.{IsSome, IsSomeAnd}
 use Rattle.plan_cert.specs.PlanSlots.{total_bytes}
@@ -24,12 +25,7 @@ found c open_ =
 -- the play has all its bytes, as its entry admitted it
 abbrev whole : After-law_booked_plan_can_be_released → WholePlay
 whole c =
-    let open_ = open-entry
-    (record {
-      steps = _;
-      entries = _;
-      legal = c.requires.legal;
-    }) c.requires.can c.index-entries-number.is in
+    let open_ = open-entry (legal_history c.requires.legal) c.requires.can c.index-entries-number.is in
     let play = open_.held.play in let is = found c open_ in record {
       found = record {
         state = state_after c.args.entries.now;
@@ -57,22 +53,12 @@ bounds-entries-number c =
 
 pub unwrap-start-requires : goal.unwrap-start-requires
 unwrap-start-requires c =
-    let open_ = open-entry
-    (record {
-      steps = _;
-      entries = _;
-      legal = c.requires.legal;
-    }) c.requires.can c.index-entries-number.is in
+    let open_ = open-entry (legal_history c.requires.legal) c.requires.can c.index-entries-number.is in
     some_there c.admission_of.result _ (c.admission_of.ensures _ _ _ open_.command_is open_.answer_is)
 
 pub release-requires-clause-keep : goal.release-requires-clause-keep
 release-requires-clause-keep c =
-    let open_ = open-entry
-    (record {
-      steps = _;
-      entries = _;
-      legal = c.requires.legal;
-    }) c.requires.can c.index-entries-number.is in
+    let open_ = open-entry (legal_history c.requires.legal) c.requires.can c.index-entries-number.is in
     let is = found (goal.at.release-requires-clause-keep c).After-law_booked_plan_can_be_released open_ in
     omega (arith, open_.small, ap total_bytes is.0)
 
