@@ -1,6 +1,6 @@
 -- A journal that goes on by halts alone.
-use Rattle.std.proofs.Common.{◌≡◌, ◌≤◌, ◌+◌, ◌-◌, ℕ, Bool, true, false, cond, List, [], ◌∷◌, ◌++◌, length, get_or}
-use Rattle.std.proofs.Common.{take, arith, refl, ap, subst, ◌∙◌}
+use Rattle.std.proofs.Common.{◌≡◌, ◌≤◌, ◌+◌, ◌-◌, ◌*◌, ℕ, Bool, true, false, cond, List, [], ◌∷◌, ◌++◌, length, get_or}
+use Rattle.std.proofs.Common.{count_by, take, arith, refl, ap, subst, ◌∙◌}
 use Rattle.std.specs.List.{All, AllByRecursion as ByRecursion}
 use Rattle.std.proofs.lemmas.Bool.{false≢true}
 use Rattle.std.proofs.lemmas.List.{get_or-append_right, length-append, take-append-le, take_all}
@@ -33,23 +33,15 @@ admits-none steps state (Look slot) (Admitted start) is halt = absurd is
 admits-none steps state (Look slot) (Overflow over booked asked) is halt = absurd is
 admits-none steps state (Look slot) Halted is halt = absurd is
 
-all-counted : (more : List Entry) → ByRecursion (λ (e : Entry). is_halt e.command ≡ true) more
-    → halts_of more ≡ length more
-all-counted [] all = refl
-all-counted (e ∷ more) all =
-    let first : cond {A = ℕ} (is_halt e.command) 1 0 ≡ 1 = ap (λ (b : Bool). cond {A = ℕ} b 1 0) all.0 in
-    let step : halts_of (e ∷ more) ≡ cond {A = ℕ} (is_halt e.command) 1 0 + halts_of more =
-    sum_by-cons (λ (x : Entry). cond (is_halt x.command) 1 0) e more in
-    omega (arith, first, step, all-counted more all.1)
-
-none-counted : (more : List Entry) → ByRecursion (λ (e : Entry). is_admission e.answer ≡ false) more
-    → admissions_of more ≡ 0
-none-counted [] all = refl
-none-counted (e ∷ more) all =
-    let first : cond {A = ℕ} (is_admission e.answer) 1 0 ≡ 0 = ap (λ (b : Bool). cond {A = ℕ} b 1 0) all.0 in
-    let step : admissions_of (e ∷ more) ≡ cond {A = ℕ} (is_admission e.answer) 1 0 + admissions_of more =
-    sum_by-cons (λ (x : Entry). cond (is_admission x.answer) 1 0) e more in
-    omega (arith, first, step, none-counted more all.1)
+counted : (p : Entry → Bool) (b : Bool) (xs : List Entry) → ByRecursion (λ (e : Entry). p e ≡ b) xs
+    → count_by p xs ≡ cond b 1 0 * length xs
+counted p b [] all = omega arith
+counted p b (e ∷ xs) all = omega (
+  arith,
+  ap (λ (x : Bool). cond {A = ℕ} x 1 0) all.0,
+  sum_by-cons (λ (x : Entry). cond (p x) 1 0) e xs,
+  counted p b xs all.1,
+)
 
 none-admitted : (steps : List CapStep) (entries more : List Entry) → IsLegal steps (entries ++ more)
     → All (λ (e : Entry). is_halt e.command ≡ true) more → All (λ (e : Entry). is_admission e.answer ≡ false) more
@@ -74,10 +66,9 @@ halts-fit {steps} entries more legal halts =
     let first : IsLegal steps entries =
     subst (IsLegal steps) front (legal-take steps (entries ++ more) (length entries) legal) in
     let before = (tally steps entries first).0 in let after = (tally steps (entries ++ more) legal).0 in
-    let all : halts_of more ≡ length more =
-    all-counted more (recursion_from_All (λ (e : Entry). is_halt e.command ≡ true) more halts) in
-    let none : admissions_of more ≡ 0 =
-    none-counted more
+    let all = counted (λ (e : Entry). is_halt e.command) true more
+    (recursion_from_All (λ (e : Entry). is_halt e.command ≡ true) more halts) in
+    let none = counted (λ (e : Entry). is_admission e.answer) false more
     (recursion_from_All (λ (e : Entry). is_admission e.answer ≡ false) more
     (none-admitted steps entries more legal halts)) in
     let halted : halts_of (entries ++ more) ≡ halts_of entries + halts_of more =
