@@ -11,7 +11,6 @@ use Rattle.listener_gate.specs.declared.histories.PartHistory.{PartHistory}
 use Rattle.listener_gate.specs.declared.histories.PartNote.{PartNote}
 use Rattle.listener_gate.specs.declared.histories.GateNote.{GateNote}
 use Rattle.listener_gate.specs.declared.histories.GateNote.TheVariants.{Opened, NotOpened, Split, CameBack}
-use Rattle.listener_gate.specs.GateCalls.{LeavesGate}
 use Rattle.listener_gate.specs.Histories.{part_noted, part_after, Shared, shared_noted, shared_after, split_noted}
 use Rattle.listener_gate.specs.Histories.{splits_after, none_shared, content_with, told_if}
 
@@ -27,7 +26,7 @@ shared-append : {P : Type 0} (part_of : P → Part) (s : Shared) (ns : List (Opt
 shared-append part_of s [] n = refl
 shared-append part_of s (m ∷ ms) n = shared-append part_of (shared_noted part_of s m) ms n
 
-pub splits-append : {P : Type 0} (count : ℕ) (ns : List (Option P × GateNote)) (n : Option P × GateNote)
+splits-append : {P : Type 0} (count : ℕ) (ns : List (Option P × GateNote)) (n : Option P × GateNote)
     → splits_after count (ns ++ n ∷ []) ≡ split_noted (splits_after count ns) n
 splits-append count [] n = refl
 splits-append count (m ∷ ms) n = splits-append (split_noted count m) ms n
@@ -53,11 +52,11 @@ told_by : (tells : Bool) (f : Content → Content) (old new : Content) → new �
 told_by true f old new e = ap Some e
 told_by false f old new e = refl
 
--- the same where the premise needs what is exposed
-told_where : (tells : Bool) (f : Content → Content) (P : Content → Type 0) (old new : Content) → (P old → new ≡ f old)
-    → IfSome (told_if tells old) P → told_if tells new ≡ option_map f (told_if tells old)
-told_where true f P old new step holds = ap Some (step holds)
-told_where false f P old new step holds = refl
+-- the same of a part that is split off where that is possible
+told_part : (tells : Bool) (old part : Content) → (MaySplit old → part ≡ new_part old) →
+    IfSome (told_if tells old) MaySplit → told_if tells part ≡ option_map new_part (told_if tells old)
+told_part true old part step may = ap Some (step may)
+told_part false old part step may = refl
 
 told_joined : (tells : Bool) (part old new : Content) → new ≡ after_rejoin part.own old
     → told_if tells new ≡ told_rejoined (told_if tells part) (told_if tells old)
@@ -90,99 +89,64 @@ content_of v s = content_with (shared_after (part_of v) none_shared s.history) (
 abbrev pub exposed : {C : Type 0} → View C → GateState C → Option Content
 exposed v s = told_if v.tells (content_of v s)
 
--- one more note on the gate
-pub record NotesGate {C : Type 0} (old new : GateState C) : Type 0 where
+-- one more note on the gate, which does this to what the gate exposes
+pub record NotesGate {C : Type 0} (v : View C) (f : Content → Content) (old : GateState C)
+    (new : List (Option (PartHistory C) × GateNote)) : Type 0 where
   pub note : Option (PartHistory C) × GateNote
-  pub history : new.history ≡ old.history ++ note ∷ []
-  pub own : new.own ≡ old.own
+  pub history : new ≡ old.history ++ note ∷ []
+  pub step : (s : Shared) (own : Part) → content_with (shared_noted (part_of v) s note) own ≡ f (content_with s own)
 
-pub gate_told : {C : Type 0} (v : View C) (f : Content → Content) (old new : GateState C) (r : NotesGate old new)
-    → ((s : Shared) (own : Part) → content_with (shared_noted (part_of v) s r.note) own ≡ f (content_with s own))
-    → exposed v new ≡ option_map f (exposed v old)
-gate_told v f old new r step =
+pub gate_told : {C : Type 0} (v : View C) (f : Content → Content) (old : GateState C)
+    {new : List (Option (PartHistory C) × GateNote)} → NotesGate v f old new
+    → exposed v (record old { history = new }) ≡ option_map f (exposed v old)
+gate_told v f old {new} r =
     let own = part_of v old.own in
-    told_by v.tells f (content_of v old) (content_of v new)
-    (ap (λ o. content_with (shared_after (part_of v) none_shared new.history) (part_of v o)) r.own
-    ∙ ap (λ (l : List _). content_with (shared_after (part_of v) none_shared l) own) r.history
+    told_by v.tells f (content_of v old) (content_of v (record old { history = new }))
+    (ap (λ (l : List _). content_with (shared_after (part_of v) none_shared l) own) r.history
     ∙ ap (λ (s : Shared). content_with s own) (shared-append (part_of v) none_shared old.history r.note)
-    ∙ step (shared_after (part_of v) none_shared old.history) own)
+    ∙ r.step (shared_after (part_of v) none_shared old.history) own)
 
--- one more note on the gate's own connections
-pub record NotesPart {C : Type 0} (note : Option C × PartNote) (old new : GateState C) : Type 0 where
-  pub history : new.history ≡ old.history
-  pub number : new.own.number ≡ old.own.number
-  pub notes : new.own.notes.items ≡ old.own.notes.items ++ note ∷ []
+-- one more note on the gate's own connections, which does this
+pub record NotesPart {C : Type 0} (v : View C) (f : Content → Content) (old : GateState C) (new : PartHistory C)
+    : Type 0 where
+  pub note : Option C × PartNote
+  pub number : new.number ≡ old.own.number
+  pub notes : new.notes.items ≡ old.own.notes.items ++ note ∷ []
+  pub step : (s : Shared) (p : Part) → content_with s (part_noted v.faults v.told p note) ≡ f (content_with s p)
 
--- a note after a call that leaves the gate
-module _ {L C : Type 0} {G : Ghosts L C} {K : LinkGhosts C} where
-  pub note_after : {old mid : ListenerGate L C G K} {own : PartHistory C} → LeavesGate old mid →
-      (note : Option C × PartNote) → own.number ≡ mid.own.number →
-      own.notes.items ≡ mid.own.notes.items ++ note ∷ [] →
-      NotesPart note (state_of old) (record { history = mid.history.items; own = own })
-  note_after same note number notes = record {
-    history = ap (λ h. h.items) same.history;
-    number = number ∙ ap (λ o. o.number) same.own;
-    notes = notes ∙ ap (λ o. o.notes.items ++ note ∷ []) same.own;
-  }
-
-pub part_told : {C : Type 0} (v : View C) (f : Content → Content) {note : Option C × PartNote} (old new : GateState C)
-    → NotesPart note old new
-    → ((s : Shared) (p : Part) → content_with s (part_noted v.faults v.told p note) ≡ f (content_with s p))
-    → exposed v new ≡ option_map f (exposed v old)
-part_told v f {note} old new r step =
+pub part_told : {C : Type 0} (v : View C) (f : Content → Content) (old : GateState C) {new : PartHistory C}
+    → NotesPart v f old new → exposed v (record old { own = new }) ≡ option_map f (exposed v old)
+part_told v f old {new} r =
     let s = shared_after (part_of v) none_shared old.history in
-    told_by v.tells f (content_of v old) (content_of v new)
-    (ap (λ (l : List _). content_with (shared_after (part_of v) none_shared l) (part_of v new.own)) r.history
-    ∙ ap (λ (k : ℕ). content_with s (part_after v.faults v.told (fresh_part k) new.own.notes.items)) r.number
+    told_by v.tells f (content_of v old) (content_of v (record old { own = new }))
+    (ap (λ (k : ℕ). content_with s (part_after v.faults v.told (fresh_part k) new.notes.items)) r.number
     ∙ ap (λ (l : List _). content_with s (part_after v.faults v.told (fresh_part old.own.number) l)) r.notes
-    ∙ ap (content_with s) (part-append v.faults v.told (fresh_part old.own.number) old.own.notes.items note)
-    ∙ step s (part_of v old.own))
+    ∙ ap (content_with s) (part-append v.faults v.told (fresh_part old.own.number) old.own.notes.items r.note)
+    ∙ r.step s (part_of v old.own))
 
 -- a part that was split off
-pub new_part_told : {C : Type 0} (v : View C) (old new : GateState C) → new.history ≡ []
-    → new.own.notes.items ≡ [] → IfSome (exposed v old) MaySplit
-    → new.own.number ≡ min (splits_after 0 old.history) (2 ^ 32 - 1)
-    → exposed v new ≡ option_map new_part (exposed v old)
-new_part_told v old new no_history no_notes may number_is =
-    told_where v.tells new_part MaySplit (content_of v old) (content_of v new) (λ may.
+pub new_part_told : {C : Type 0} (v : View C) (old : GateState C) (number : ℕ) → IfSome (exposed v old) MaySplit
+    → number ≡ min (splits_after 0 old.history) (2 ^ 32 - 1)
+    → told_if v.tells (content_with none_shared (fresh_part number)) ≡ option_map new_part (exposed v old)
+new_part_told v old number may number_is =
+    told_part v.tells (content_of v old) (content_with none_shared (fresh_part number)) (λ may.
     let parts = splits_are_parts (part_of v) none_shared old.history in
     let room = may.1 in
-    let right : new.own.number ≡ length (shared_after (part_of v) none_shared old.history).parts =
+    let right : number ≡ length (shared_after (part_of v) none_shared old.history).parts =
     omega (arith, number_is, parts, room) in
-    ap (λ (l : List _). content_with (shared_after (part_of v) none_shared l) (part_of v new.own)) no_history
-    ∙ ap (λ (l : List _). content_with none_shared (part_after v.faults v.told (fresh_part new.own.number) l))
-    no_notes
-    ∙ ap (λ (k : ℕ). content_with none_shared (fresh_part k)) right) may
+    ap (λ (k : ℕ). content_with none_shared (fresh_part k)) right) may
 
 -- a part that came back
-pub rejoin_told : {C : Type 0} (v : View C) (part old new : GateState C)
-    → new.history ≡ old.history ++ (Some part.own, CameBack) ∷ [] → new.own ≡ old.own
-    → exposed v new ≡ told_rejoined (exposed v part) (exposed v old)
-rejoin_told v part old new is own =
-    told_joined v.tells (content_of v part) (content_of v old) (content_of v new)
-    (ap (λ o. content_with (shared_after (part_of v) none_shared new.history) (part_of v o)) own
-    ∙ ap (λ (l : List _). content_with (shared_after (part_of v) none_shared l) (part_of v old.own)) is
+pub rejoin_told : {C : Type 0} (v : View C) (part old : GateState C) {new : List (Option (PartHistory C) × GateNote)}
+    → new ≡ old.history ++ (Some part.own, CameBack) ∷ []
+    → exposed v (record old { history = new }) ≡ told_rejoined (exposed v part) (exposed v old)
+rejoin_told v part old {new} is =
+    told_joined v.tells (content_of v part) (content_of v old) (content_of v (record old { history = new }))
+    (ap (λ (l : List _). content_with (shared_after (part_of v) none_shared l) (part_of v old.own)) is
     ∙ ap (λ (s : Shared). content_with s (part_of v old.own))
     (shared-append (part_of v) none_shared old.history (Some part.own, CameBack)))
 
 -- the count of splits after a note
-pub splits_stay : {P : Type 0} (splits : ℕ) (old new : List (Option P × GateNote)) (p : Option P) →
-    splits ≡ min (splits_after 0 old) (2 ^ 32 - 1) → new ≡ old ++ (p, CameBack) ∷ []
-    → splits ≡ min (splits_after 0 new) (2 ^ 32 - 1)
-splits_stay splits old new p counted is =
-    counted ∙ ap (λ (k : ℕ). min k (2 ^ 32 - 1)) (sym (ap (splits_after 0) is ∙ splits-append 0 old (p, CameBack)))
-
-pub splits_more : {P : Type 0} (splits more : ℕ) (old new : List (Option P × GateNote)) (p : Option P) →
-    splits ≡ min (splits_after 0 old) (2 ^ 32 - 1) → new ≡ old ++ (p, Split) ∷ []
-    → more ≡ min (splits + 1) (2 ^ 32 - 1)
-    → more ≡ min (splits_after 0 new) (2 ^ 32 - 1)
-splits_more splits more old new p counted is sum =
-    let e : splits_after 0 new ≡ splits_after 0 old + 1 = ap (splits_after 0) is ∙ splits-append 0 old (p, Split) in
-    omega (arith, counted, sum, e)
-
--- none, where the gate was opened or a call failed to open it
-pub no_splits : {P : Type 0} (old new : List (Option P × GateNote)) (n : Option P × GateNote) → new ≡ old ++ n ∷ []
-    → split_noted (splits_after 0 old) n ≡ 0 → 0 ≡ min (splits_after 0 new) (2 ^ 32 - 1)
-no_splits old new n is none =
-    let e : splits_after 0 new ≡ 0 = ap (splits_after 0) is ∙ splits-append 0 old n ∙ none in
-    omega (arith, e)
+pub splits_noted : {P : Type 0} (old : List (Option P × GateNote)) {new : List (Option P × GateNote)}
+    (n : Option P × GateNote) → new ≡ old ++ n ∷ [] → splits_after 0 new ≡ split_noted (splits_after 0 old) n
+splits_noted old n is = ap (splits_after 0) is ∙ splits-append 0 old n

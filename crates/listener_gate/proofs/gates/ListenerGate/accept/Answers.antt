@@ -1,5 +1,7 @@
-use Rattle.std.proofs.Common.{◌∙◌, arith}
-use Rattle.listener_gate.proofs.Tries.{tried_more}
+use Rattle.std.proofs.Common.{ℕ, ◌+◌, ◌++◌, ◌∷◌, [], List, sym, ap, ◌∙◌, arith, append_assoc, length-append}
+use Rattle.listener_gate.specs.declared.listeners.ListenerDoing.{ListenerDoing}
+use Rattle.listener_gate.specs.Accepts.{failed_tries, failed_try, wait_after}
+use Rattle.listener_gate.proofs.Tries.{failed_tries-append, wait_after_tries-append}
 use Rattle.listener_gate.proofs.gates.ListenerGate.accept.Goals as goal
 
 pub loop-n-preserved : goal.loop-n-preserved
@@ -8,6 +10,11 @@ loop-n-preserved g c =
     let now = c.in-Ok-None.ensures in
     let failed = now.failed c.in-Ok-None.field-0-is in
     let rose = now.count in
+    let t = failed.0 in
+    let tries = held.tried.tries in
+    let ms = c.args.self.now.wait in
+    let wait = c.loop-n.self.wait in
+    let before = g.L.Listener.did c.args.self.now.listener in
     record {
       same = record {
         faults = now.same.faults ∙ held.same.faults;
@@ -19,6 +26,13 @@ loop-n-preserved g c =
         history = now.same.history ∙ held.same.history;
       };
       count = omega (arith, held.count, rose);
-      tried = tried_more c.try_accept.new.self.wait (g.L.Listener.did c.loop-n.self.listener)
-          (g.L.Listener.did c.try_accept.new.self.listener) failed.0 held.tried failed.1.0 failed.1.1;
+      tried = record {
+        tries = tries ++ t ∷ [];
+        number = length-append tries (t ∷ []) ∙ ap (λ n. n + 1) held.tried.number;
+        waits = failed.1.0 ∙ ap (wait_after t) held.tried.waits ∙ sym (wait_after_tries-append ms tries t);
+        did = λ tells. failed.1.1 tells ∙ ap (λ (l : List ListenerDoing). l ++ failed_try wait t) (held.tried.did tells)
+            ∙ append_assoc before (failed_tries ms tries) (failed_try wait t)
+            ∙ ap (λ (w : ℕ). before ++ (failed_tries ms tries ++ failed_try w t)) held.tried.waits
+            ∙ ap (λ (l : List ListenerDoing). before ++ l) (sym (failed_tries-append ms tries t));
+      };
     }

@@ -5,12 +5,7 @@ use Rattle.listener_gate.proofs.gates.ListenerGateGate.give_back.Goals as goal
 
 pub returns-in-Some-clause-back : goal.returns-in-Some-clause-back
 returns-in-Some-clause-back g c =
-    let old = state_of c.args.self.now in
-    part_told
-    (view_of g.L.Listener g.L.Conn.Link)
-    (after_return (record {
-      faults = g.L.Conn.Link.faults c.args.conn;
-      told = g.L.Conn.Link.told c.args.conn;
-    })) old
-    (record old { own = c.note.new.self })
-    (record { history = refl; number = c.note.ensures.number; notes = c.note.ensures.notes }) (λ s p. refl)
+    part_told (view_of g.L.Listener g.L.Conn.Link)
+    (after_return (record { faults = g.L.Conn.Link.faults c.args.conn; told = g.L.Conn.Link.told c.args.conn }))
+    (state_of c.args.self.now)
+    (record { note = _; number = c.note.ensures.number; notes = c.note.ensures.notes; step = λ s p. refl })
