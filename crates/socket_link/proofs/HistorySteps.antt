@@ -1,6 +1,6 @@
 -- How the history of a link goes on following the calls of its socket, step by step.
-use Rattle.std.proofs.Common.{◌≡◌, ℕ, Bool, true, false, List, [], ◌∷◌, ◌++◌, Option, refl, sym, ap, ◌∙◌, append_assoc}
-use Rattle.std.proofs.Common.{slice_get, Some, if◌then◌else◌}
+use Rattle.std.proofs.Common.{◌≡◌, ℕ, Bool, true, false, List, [], ◌∷◌, ◌++◌, refl, sym, ap, ◌∙◌, append_assoc}
+use Rattle.std.proofs.Common.{IsTrue, slice_get, if◌then◌else◌}
 use Rattle.std.proofs.lemmas.List.{append-nil}
 use Rattle.vod_base.specs.Links.{IoEvent, HeardSlot, sends}
 use Rattle.vod_base.specs.MemoryLinks.{sent_of}
@@ -37,6 +37,15 @@ state_of {S} {G} link = record {
 abbrev pub FollowsAt : ℕ → LinkState → Type 0
 FollowsAt units s = Follows units s.watch s.calls s.waiting s.doings
 
+-- a link whose history follows the calls of its socket
+pub record Followed : Type 0 where
+  pub units : ℕ
+  pub state : LinkState
+  pub follows : FollowsAt units state
+
+abbrev pub followed : {S : Type 0} {G : Ghosts S} (link : SocketLink S G) → IsTrue G.tells → Followed
+followed link tells = record { units = link.slot_units; state = state_of link; follows = link.follows tells }
+
 -- what one step adds
 pub record Adds (units : ℕ) (old new : LinkState) : Type 0 where
   pub calls : List SocketCall
@@ -48,24 +57,24 @@ pub record Adds (units : ℕ) (old new : LinkState) : Type 0 where
   pub slots : slots_heard (slots_heard [] old.doings) doings ≡ slots_due units (slots_heard [] old.doings) calls
   pub watch : new.watch ≡ watch_of old.watch calls
 
-pub follows_on : (units : ℕ) (old new : LinkState) → FollowsAt units old → Adds units old new → FollowsAt units new
-follows_on units old new (bytes, heard, slots, watch) adds = (
+pub follows_on : (link : Followed) (new : LinkState) → Adds link.units link.state new → FollowsAt link.units new
+follows_on link new adds = let units = link.units in let old = link.state in (
   ap sent_of adds.doings_are ∙ sent_of-append old.doings adds.doings
-      ∙ ap (λ (b : List ℕ). b ++ sent_of adds.doings) bytes
+      ∙ ap (λ (b : List ℕ). b ++ sent_of adds.doings) link.follows.0
       ∙ append_assoc (taken_of old.calls) old.waiting (sent_of adds.doings)
       ∙ ap (λ (b : List ℕ). taken_of old.calls ++ b) adds.bytes
       ∙ sym (append_assoc (taken_of old.calls) (taken_of adds.calls) new.waiting)
       ∙ ap (λ (b : List ℕ). b ++ new.waiting)
       (sym (ap taken_of adds.calls_are ∙ taken_of-append old.calls adds.calls)),
   ap heard_of adds.doings_are ∙ heard_of-append old.doings adds.doings
-      ∙ ap (λ (b : List (List ℕ)). b ++ heard_of adds.doings) heard
+      ∙ ap (λ (b : List (List ℕ)). b ++ heard_of adds.doings) link.follows.1
       ∙ ap (λ (b : List (List ℕ)). arrivals_of old.calls ++ b) adds.heard
       ∙ sym (ap arrivals_of adds.calls_are ∙ arrivals_of-append old.calls adds.calls),
   ap (slots_heard []) adds.doings_are ∙ slots_heard-append [] old.doings adds.doings
       ∙ adds.slots
-      ∙ ap (λ (s : List ℕ). slots_due units s adds.calls) slots
+      ∙ ap (λ (s : List ℕ). slots_due units s adds.calls) link.follows.2
       ∙ sym (ap (slots_due units []) adds.calls_are ∙ slots_due-append units [] old.calls adds.calls),
-  adds.watch ∙ ap (λ (w : Watch). watch_of w adds.calls) watch
+  adds.watch ∙ ap (λ (w : Watch). watch_of w adds.calls) link.follows.3
       ∙ sym (ap (watch_of no_watch) adds.calls_are ∙ watch_of-append no_watch old.calls adds.calls),
 )
 
@@ -78,9 +87,9 @@ pub record AddsCall (units : ℕ) (call : SocketCall) (old new : LinkState) : Ty
   pub no_bytes : arrival_of call ≡ []
   pub no_slot : (slots : List ℕ) → slots_after units slots call ≡ slots
 
-pub follows_call : (units : ℕ) (call : SocketCall) (old new : LinkState) → FollowsAt units old →
-    AddsCall units call old new → FollowsAt units new
-follows_call units call old new follows adds = follows_on units old new follows (record {
+pub follows_call : (link : Followed) (call : SocketCall) (new : LinkState) →
+    AddsCall link.units call link.state new → FollowsAt link.units new
+follows_call link call new adds = let old = link.state in follows_on link new (record {
   calls = call ∷ [];
   doings = [];
   calls_are = adds.calls;
@@ -107,30 +116,19 @@ silent_adds units (GaveBytes bytes) old now silent is = absurd silent
 silent_adds units GaveEnd old now silent is = absurd silent
 silent_adds units (TookBytes bytes) old now silent is = absurd silent
 silent_adds units (ReadClock purpose time) old now silent is = absurd silent
-silent_adds units GaveNothing old now silent is =
-    record { calls = is; doings = refl; waiting = refl; watch = refl; no_bytes = refl; no_slot = λ slots. refl }
-silent_adds units TookNothing old now silent is =
-    record { calls = is; doings = refl; waiting = refl; watch = refl; no_bytes = refl; no_slot = λ slots. refl }
-silent_adds units WasInterrupted old now silent is =
-    record { calls = is; doings = refl; waiting = refl; watch = refl; no_bytes = refl; no_slot = λ slots. refl }
-silent_adds units (Waited most) old now silent is =
-    record { calls = is; doings = refl; waiting = refl; watch = refl; no_bytes = refl; no_slot = λ slots. refl }
-silent_adds units ShutDown old now silent is =
+silent_adds units _ old now silent is =
     record { calls = is; doings = refl; waiting = refl; watch = refl; no_bytes = refl; no_slot = λ slots. refl }
 
-pub follows_silent : (units : ℕ) (call : SocketCall) (old : LinkState) {now : List SocketCall} → IsSilent call →
-    FollowsAt units old → now ≡ old.calls ++ call ∷ [] → FollowsAt units (record old { calls = now })
-follows_silent units call old {now} silent follows is =
-    follows_call units call old (record old { calls = now }) follows (silent_adds units call old now silent is)
+pub follows_silent : (link : Followed) (call : SocketCall) {now : List SocketCall} → IsSilent call →
+    now ≡ link.state.calls ++ call ∷ [] → FollowsAt link.units (record link.state { calls = now })
+follows_silent link call {now} silent is =
+    follows_call link call (record link.state { calls = now }) (silent_adds link.units call link.state now silent is)
 
 -- a reading of the clock that doesn't count for slots
 pub slots_after-other : (units : ℕ) (purpose : Purpose) (time : ℕ) (slots : List ℕ) → is_for_slots purpose ≡ false →
     slots_after units slots (ReadClock purpose time) ≡ slots
-slots_after-other units Accept time slots other = refl
 slots_after-other units Slot time slots other = cc
-slots_after-other units Idle time slots other = refl
-slots_after-other units Patience time slots other = refl
-slots_after-other units End time slots other = refl
+slots_after-other units _ time slots other = refl
 
 -- an event of bytes, or the end: one read, and one doing
 pub record AddsRead (units : ℕ) (call : SocketCall) (doing : IoEvent) (old new : LinkState) : Type 0 where
@@ -143,9 +141,9 @@ pub record AddsRead (units : ℕ) (call : SocketCall) (doing : IoEvent) (old new
   pub heard : heard_of (doing ∷ []) ≡ arrivals_of (call ∷ [])
   pub slots : (slots : List ℕ) → slots_heard slots (doing ∷ []) ≡ slots_after units slots call
 
-pub follows_read : (units : ℕ) (call : SocketCall) (doing : IoEvent) (old new : LinkState) → FollowsAt units old →
-    AddsRead units call doing old new → FollowsAt units new
-follows_read units call doing old new follows adds = follows_on units old new follows (record {
+pub follows_read : (link : Followed) (call : SocketCall) (doing : IoEvent) (new : LinkState) →
+    AddsRead link.units call doing link.state new → FollowsAt link.units new
+follows_read link call doing new adds = let old = link.state in follows_on link new (record {
   calls = call ∷ [];
   doings = doing ∷ [];
   calls_are = adds.calls;
@@ -158,11 +156,12 @@ follows_read units call doing old new follows adds = follows_on units old new fo
 })
 
 -- bytes that are given to `send`
-pub follows_put : (units : ℕ) (old : LinkState) {left : List ℕ} {doings : List IoEvent} (bytes : List ℕ) →
-    FollowsAt units old → left ≡ old.waiting ++ bytes → doings ≡ old.doings ++ sends bytes →
-    FollowsAt units (record old { waiting = left; doings = doings })
-follows_put units old {left} {doings} bytes follows left_is doings_are =
-    follows_on units old (record old { waiting = left; doings = doings }) follows (record {
+pub follows_put : (link : Followed) {left : List ℕ} {doings : List IoEvent} (bytes : List ℕ) →
+    left ≡ link.state.waiting ++ bytes → doings ≡ link.state.doings ++ sends bytes →
+    FollowsAt link.units (record link.state { waiting = left; doings = doings })
+follows_put link {left} {doings} bytes left_is doings_are =
+    let old = link.state in
+    follows_on link (record old { waiting = left; doings = doings }) (record {
       calls = [];
       doings = sends bytes;
       calls_are = sym (append-nil old.calls);
@@ -173,66 +172,45 @@ follows_put units old {left} {doings} bytes follows left_is doings_are =
       watch = refl;
     })
 
--- a reading of the clock for slots, and the slot that was reported last before it
-pub record ReadsSlot (units : ℕ) (old new : LinkState) : Type 0 where
+-- a reading of the clock for slots, and whether a newer slot begins by it
+pub record ReadsSlot (link : Followed) (newer : Bool) (new : LinkState) : Type 0 where
   pub time : ℕ
-  pub slot : ℕ
-  pub last : Option ℕ
-  pub calls : new.calls ≡ old.calls ++ slot_reading time ∷ []
-  pub waiting : new.waiting ≡ old.waiting
-  pub watch : new.watch ≡ watched old.watch (slot_reading time)
-  pub last_is : last ≡ slice_get (slots_heard [] old.doings) 0
-  pub slot_is : slot ≡ slot_of units time
+  pub calls : new.calls ≡ link.state.calls ++ slot_reading time ∷ []
+  pub waiting : new.waiting ≡ link.state.waiting
+  pub watch : new.watch ≡ watched link.state.watch (slot_reading time)
+  pub newer_is : is_newer (slice_get (slots_heard [] link.state.doings) 0) (slot_of link.units time) ≡ newer
+  pub doings : new.doings ≡ link.state.doings ++ (if newer then HeardSlot (slot_of link.units time) ∷ [] else [])
 
--- whether a newer slot begins by the reading
-newer_is : {units : ℕ} {old new : LinkState} (r : ReadsSlot units old new) (newer : Bool) →
-    is_newer r.last r.slot ≡ newer →
-    is_newer (slice_get (slots_heard [] old.doings) 0) (slot_of units r.time) ≡ newer
-newer_is {units} r newer is =
-    ap (λ (l : Option ℕ). is_newer l (slot_of units r.time)) (sym r.last_is)
-    ∙ ap (λ s. is_newer r.last s) (sym r.slot_is) ∙ is
+-- the event of a slot, or none
+record Reports (doings : List IoEvent) (slots now : List ℕ) : Type 0 where
+  bytes : sent_of doings ≡ []
+  heard : heard_of doings ≡ []
+  reported : slots_heard slots doings ≡ now
 
-pub follows_slot : (units : ℕ) (old new : LinkState) → FollowsAt units old → (r : ReadsSlot units old new) →
-    new.doings ≡ old.doings ++ HeardSlot r.slot ∷ [] → is_newer r.last r.slot ≡ true → FollowsAt units new
-follows_slot units old new follows r doings_are newer =
+reports : (newer : Bool) (slot : ℕ) (slots : List ℕ) →
+    Reports (if newer then HeardSlot slot ∷ [] else []) slots (if newer then slot ∷ slots else slots)
+reports true slot slots = record { bytes = refl; heard = refl; reported = refl }
+reports false slot slots = record { bytes = refl; heard = refl; reported = refl }
+
+pub follows_slot : (link : Followed) (newer : Bool) (new : LinkState) → ReadsSlot link newer new →
+    FollowsAt link.units new
+follows_slot link newer new r =
+    let old = link.state in
     let slots = slots_heard [] old.doings in
-    follows_on units old new follows (record {
+    let slot = slot_of link.units r.time in
+    let event = reports newer slot slots in
+    follows_on link new (record {
       calls = slot_reading r.time ∷ [];
-      doings = HeardSlot r.slot ∷ [];
+      doings = if newer then HeardSlot slot ∷ [] else [];
       calls_are = r.calls;
-      doings_are = doings_are;
-      bytes = append-nil old.waiting ∙ sym r.waiting;
-      heard = refl;
-      slots = ap (λ s. s ∷ slots) r.slot_is
-          ∙ sym (ap (λ b. if b then slot_of units r.time ∷ slots else slots) (newer_is r true newer));
+      doings_are = r.doings;
+      bytes = ap (λ (b : List ℕ). old.waiting ++ b) event.bytes ∙ append-nil old.waiting ∙ sym r.waiting;
+      heard = event.heard;
+      slots = event.reported ∙ sym (ap (λ b. if b then slot ∷ slots else slots) r.newer_is);
       watch = r.watch;
     })
 
-pub follows_no_slot : (units : ℕ) (old new : LinkState) → FollowsAt units old → (r : ReadsSlot units old new) →
-    new.doings ≡ old.doings → is_newer r.last r.slot ≡ false → FollowsAt units new
-follows_no_slot units old new follows r doings_are newer =
-    let slots = slots_heard [] old.doings in
-    follows_on units old new follows (record {
-      calls = slot_reading r.time ∷ [];
-      doings = [];
-      calls_are = r.calls;
-      doings_are = doings_are ∙ sym (append-nil old.doings);
-      bytes = append-nil old.waiting ∙ sym r.waiting;
-      heard = refl;
-      slots = sym (ap (λ b. if b then slot_of units r.time ∷ slots else slots) (newer_is r false newer));
-      watch = r.watch;
-    })
-
--- the slot that was reported last stays, or is the new one
-pub newest_same : (slot : Option ℕ) (old new doings : List IoEvent) → slot ≡ slice_get (slots_heard [] old) 0 →
-    new ≡ old ++ doings → ((slots : List ℕ) → slots_heard slots doings ≡ slots) → slot ≡ slice_get (slots_heard [] new)
-    0
-newest_same slot old new doings is new_is same =
-    is ∙ ap (λ (s : List ℕ). slice_get s 0)
-    (sym (ap (slots_heard []) new_is ∙ slots_heard-append [] old doings ∙ same (slots_heard [] old)))
-
-pub newest_slot : (slot : ℕ) (old new : List IoEvent) → new ≡ old ++ HeardSlot slot ∷ [] →
-    Some slot ≡ slice_get (slots_heard [] new) 0
-newest_slot slot old new new_is =
-    ap (λ (s : List ℕ). slice_get s 0) (sym (ap (slots_heard []) new_is ∙ slots_heard-append [] old (HeardSlot slot ∷
-    [])))
+-- the slots that were reported, after further events
+pub newest_on : (old doings : List IoEvent) {new : List IoEvent} → new ≡ old ++ doings →
+    slots_heard [] new ≡ slots_heard (slots_heard [] old) doings
+newest_on old doings is = ap (slots_heard []) is ∙ slots_heard-append [] old doings

@@ -21,67 +21,30 @@ record SameIdle (w v : Watch) : Type 0 where
 
 quiet_call : (w : Watch) (call : SocketCall) → IsQuiet call → SameIdle w (watched w call)
 quiet_call w (GaveBytes bytes) quiet = absurd quiet
-quiet_call w GaveNothing quiet = record { active = refl; unanswered = refl }
-quiet_call w GaveEnd quiet = record { active = refl; unanswered = refl }
 quiet_call w (TookBytes bytes) quiet = absurd quiet
-quiet_call w TookNothing quiet = record { active = refl; unanswered = refl }
-quiet_call w WasInterrupted quiet = record { active = refl; unanswered = refl }
 quiet_call w (ReadClock Accept time) quiet = absurd quiet
-quiet_call w (ReadClock Slot time) quiet = record { active = refl; unanswered = refl }
-quiet_call w (ReadClock Idle time) quiet = record { active = refl; unanswered = refl }
-quiet_call w (ReadClock Patience time) quiet = record { active = refl; unanswered = refl }
-quiet_call w (ReadClock End time) quiet = record { active = refl; unanswered = refl }
-quiet_call w (Waited most) quiet = record { active = refl; unanswered = refl }
-quiet_call w ShutDown quiet = record { active = refl; unanswered = refl }
+quiet_call w _ quiet = record { active = refl; unanswered = refl }
 
 -- a call that takes nothing leaves the accept that waits for an answer
 same_unanswered : (w : Watch) (call : SocketCall) → TakesNothing call → (watched w call).unanswered ≡ w.unanswered
-same_unanswered w (GaveBytes bytes) none = refl
-same_unanswered w GaveNothing none = refl
-same_unanswered w GaveEnd none = refl
 same_unanswered w (TookBytes bytes) none = absurd none
-same_unanswered w TookNothing none = refl
-same_unanswered w WasInterrupted none = refl
 same_unanswered w (ReadClock Accept time) none = absurd none
-same_unanswered w (ReadClock Slot time) none = refl
-same_unanswered w (ReadClock Idle time) none = refl
-same_unanswered w (ReadClock Patience time) none = refl
-same_unanswered w (ReadClock End time) none = refl
-same_unanswered w (Waited most) none = refl
-same_unanswered w ShutDown none = refl
+same_unanswered w _ none = refl
 
 -- and the time since which writes take nothing, once there is one
 same_stuck : (w : Watch) (call : SocketCall) (first : ℕ) → TakesNothing call → w.stuck ≡ Some first →
     (watched w call).stuck ≡ Some first
-same_stuck w (GaveBytes bytes) first none is = is
-same_stuck w GaveNothing first none is = is
-same_stuck w GaveEnd first none is = is
 same_stuck w (TookBytes bytes) first none is = absurd none
-same_stuck w TookNothing first none is = is
-same_stuck w WasInterrupted first none is = is
 same_stuck w (ReadClock Accept time) first none is = absurd none
-same_stuck w (ReadClock Slot time) first none is = is
-same_stuck w (ReadClock Idle time) first none is = is
 same_stuck w (ReadClock Patience time) first none is = ap (λ (o : Option ℕ). Some (unwrap_or o time)) is
-same_stuck w (ReadClock End time) first none is = is
-same_stuck w (Waited most) first none is = is
-same_stuck w ShutDown first none is = is
+same_stuck w _ first none is = is
 
 -- before a patience reading there is none
 not_stuck : (w : Watch) (call : SocketCall) → IsBeforePatience call → w.stuck ≡ None → (watched w call).stuck ≡ None
-not_stuck w (GaveBytes bytes) none is = is
-not_stuck w GaveNothing none is = is
-not_stuck w GaveEnd none is = is
 not_stuck w (TookBytes bytes) none is = absurd none
-not_stuck w TookNothing none is = is
-not_stuck w WasInterrupted none is = is
 not_stuck w (ReadClock Accept time) none is = absurd none
-not_stuck w (ReadClock Slot time) none is = is
-not_stuck w (ReadClock Idle time) none is = is
 not_stuck w (ReadClock Patience time) none is = absurd none
-not_stuck w (ReadClock End time) none is = is
-not_stuck w (Waited most) none is = is
-not_stuck w ShutDown none is = is
+not_stuck w _ none is = is
 
 -- ---- several calls
 

@@ -7,6 +7,5 @@ use Rattle.socket_link.specs.Steps.{NoneIsDue, IsInOrder, IsNoSlot}
 
 pub in_order : (units : ℕ) (last : Option ℕ) (heard : Heard) (calls : List SocketCall) → IsNoSlot heard →
     NoneIsDue units last calls → IsInOrder units last heard calls
-in_order units last (Bytes n) calls other none = none
 in_order units last (Slot slot) calls other none = absurd other
-in_order units last End calls other none = none
+in_order units last _ calls other none = none

@@ -2,6 +2,7 @@
 use Rattle.std.proofs.Common.{◌≡◌, ℕ, ◌+◌, ◌-◌, ◌^◌, ◌<◌, ◌≤◌, Result, Ok, Err, IsTrue, length, refl, ap, ◌∙◌}
 use Rattle.std.proofs.Common.{subst, arith, false, [], ◌∷◌, ◌++◌, None}
 use Rattle.std.specs.Result.{IsErr}
+use Rattle.vod_base.specs.declared.errors.LinkFault.{LinkFault}
 use Rattle.socket_link.specs.declared.links.SocketLink.{SocketLink}
 use Rattle.socket_link.specs.declared.sockets.Socket.{Ghosts}
 use Rattle.socket_link.specs.Calls.{SocketCall}
@@ -9,12 +10,12 @@ use Rattle.socket_link.specs.Limits.{no_watch, reaches_limit, watch_of}
 use Rattle.socket_link.specs.LinkCalls.{CallsSocket, LeavesHistory}
 use Rattle.socket_link.specs.Steps.{HasServed}
 use Rattle.socket_link.specs.Waits.{last_from, WaitFits}
-use Rattle.socket_link.proofs.Steps.{served_none, served_call, served_on, served_longer, cause_before, cause_rounds}
+use Rattle.socket_link.proofs.Steps.{served_none, reached_after, served_on, served_longer, cause_before, cause_rounds}
 use Rattle.socket_link.proofs.Steps.{on_ok_map, on_err_map}
 
 -- Rounds of a loop, in each of which the socket was called. None of these calls failed.
 pub record IsRound {S : Type 0} {G : Ghosts S} (rounds : ℕ) (old new : SocketLink S G) : Type 0 where
-  pub calls : CallsSocket {A = Unit {0}} {E = Unit {0}} (Ok tt) old new
+  pub calls : CallsSocket {A = Unit {0}} {E = LinkFault} (Ok tt) old new
   pub longer : IsTrue G.tells → rounds + length (G.did old.socket) ≤ length (G.did new.socket)
 
 module _ {S : Type 0} {G : Ghosts S} where
@@ -26,24 +27,28 @@ module _ {S : Type 0} {G : Ghosts S} where
   history_on a b = record { doings = b.doings ∙ a.doings; slot = b.slot ∙ a.slot }
 
   -- one call of the socket, which doesn't show that a limit is reached
-  pub calls_once : {A E : Type 0} {answer : A} {old new : SocketLink S G} (call : SocketCall) →
+  pub calls_once : {A : Type 0} {answer : A} {old new : SocketLink S G} (call : SocketCall) →
       new.slot_units ≡ old.slot_units → new.faults ≡ old.faults → G.faults old.socket ≤ G.faults new.socket →
       (IsTrue G.tells → G.did new.socket ≡ G.did old.socket ++ call ∷ []) →
       (IsTrue G.tells → reaches_limit (watch_of no_watch (G.did old.socket)) call ≡ false) →
       (IsTrue G.tells → WaitFits old.slot_units (last_from None (G.did old.socket)) call) →
-      CallsSocket {E = E} (Ok answer) old new
+      CallsSocket {E = LinkFault} (Ok answer) old new
   calls_once {old} {new} call units faults count made early fits = record {
     units = units;
     faults = faults;
     count = count;
-    served = λ tells. served_call old.slot_units (G.did old.socket) (G.did new.socket) call (made tells) (early tells)
-        (fits tells);
+    served = λ tells. record {
+      more = call ∷ [];
+      now_is = made tells;
+      within = reached_after (G.did old.socket) call (made tells) (early tells);
+      waits = (fits tells, tt);
+    };
     cause = tt;
   }
 
   -- a call after one that succeeded
-  pub calls_on : {A B D E : Type 0} {first : A} {result : Result B E} {old mid new : SocketLink S G} →
-      CallsSocket {E = D} (Ok first) old mid → CallsSocket result mid new → CallsSocket result old new
+  pub calls_on : {A B : Type 0} {first : A} {result : Result B LinkFault} {old mid new : SocketLink S G} →
+      CallsSocket {E = LinkFault} (Ok first) old mid → CallsSocket result mid new → CallsSocket result old new
   calls_on {result} {old} {mid} {new} a b = record {
     units = b.units ∙ a.units;
     faults = b.faults ∙ a.faults;
@@ -60,11 +65,11 @@ module _ {S : Type 0} {G : Ghosts S} where
   }
 
   -- the same calls with another answer
-  pub calls_ok : {A B D E : Type 0} {first : A} {answer : B} {old new : SocketLink S G} →
-      CallsSocket {E = D} (Ok first) old new → CallsSocket {E = E} (Ok answer) old new
+  pub calls_ok : {A B : Type 0} {first : A} {answer : B} {old new : SocketLink S G} →
+      CallsSocket {E = LinkFault} (Ok first) old new → CallsSocket {E = LinkFault} (Ok answer) old new
   calls_ok a = record { units = a.units; faults = a.faults; count = a.count; served = a.served; cause = tt }
 
-  pub calls_err : {A B E : Type 0} {error : E} {result : Result B E} {old new : SocketLink S G} →
+  pub calls_err : {A B : Type 0} {error : LinkFault} {result : Result B LinkFault} {old new : SocketLink S G} →
       IsErr result → CallsSocket {A = A} (Err error) old new → CallsSocket result old new
   calls_err {result = Ok answer} is a = cc
   calls_err {result = Err error} is a = record {
@@ -87,8 +92,8 @@ module _ {S : Type 0} {G : Ghosts S} where
     longer = λ tells. omega arith;
   }
 
-  pub round_on : {A E : Type 0} {answer : A} {rounds : ℕ} {old mid new : SocketLink S G} → IsRound rounds old mid →
-      CallsSocket {E = E} (Ok answer) mid new → (IsTrue G.tells → length (G.did mid.socket) < length (G.did new.socket)) →
+  pub round_on : {A : Type 0} {answer : A} {rounds : ℕ} {old mid new : SocketLink S G} → IsRound rounds old mid →
+      CallsSocket {E = LinkFault} (Ok answer) mid new → (IsTrue G.tells → length (G.did mid.socket) < length (G.did new.socket)) →
       IsRound (rounds + 1) old new
   round_on {rounds} {old} {mid} {new} r calls longer = record {
     calls = calls_ok (calls_on r.calls calls);
@@ -98,8 +103,8 @@ module _ {S : Type 0} {G : Ghosts S} where
   }
 
   -- a further step of the same round
-  pub round_more : {A E : Type 0} {answer : A} {rounds : ℕ} {old mid new : SocketLink S G} → IsRound rounds old mid →
-      CallsSocket {E = E} (Ok answer) mid new → IsRound rounds old new
+  pub round_more : {A : Type 0} {answer : A} {rounds : ℕ} {old mid new : SocketLink S G} → IsRound rounds old mid →
+      CallsSocket {E = LinkFault} (Ok answer) mid new → IsRound rounds old new
   round_more {rounds} {old} {mid} {new} r calls = record {
     calls = calls_ok (calls_on r.calls calls);
     longer = λ tells.
@@ -131,7 +136,7 @@ module _ {S : Type 0} {G : Ghosts S} where
       let longer : rounds + 1 + length (G.did old.socket) ≤ length (G.did new.socket) = r.longer tells in omega arith
 
   -- where the rounds are over
-  pub round_end : {A E : Type 0} {error : E} {rounds : ℕ} {old new : SocketLink S G} → IsRound rounds old new →
+  pub round_end : {A : Type 0} {error : LinkFault} {rounds : ℕ} {old new : SocketLink S G} → IsRound rounds old new →
       2 ^ 64 - 1 ≤ rounds → CallsSocket {A = A} (Err error) old new
   round_end {rounds} {old} {new} r all = record {
     units = r.calls.units;

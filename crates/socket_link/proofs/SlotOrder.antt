@@ -26,19 +26,8 @@ with_newer (last ∷ earlier) slot falling = elim (cases_Bool (nat_lt last slot)
     subst_to same is = subst AreFalling same is
 
 after_call : (units : ℕ) (slots : List ℕ) (call : SocketCall) → AreFalling slots → AreFalling (slots_after units slots call)
-after_call units slots (GaveBytes bytes) is = is
-after_call units slots GaveNothing is = is
-after_call units slots GaveEnd is = is
-after_call units slots (TookBytes bytes) is = is
-after_call units slots TookNothing is = is
-after_call units slots WasInterrupted is = is
-after_call units slots (ReadClock Accept time) is = is
 after_call units slots (ReadClock Slot time) is = with_newer slots (slot_of units time) is
-after_call units slots (ReadClock Idle time) is = is
-after_call units slots (ReadClock Patience time) is = is
-after_call units slots (ReadClock End time) is = is
-after_call units slots (Waited most) is = is
-after_call units slots ShutDown is = is
+after_call units slots _ is = is
 
 falling_after : (units : ℕ) (slots : List ℕ) (calls : List SocketCall) → AreFalling slots →
     AreFalling (slots_due units slots calls)

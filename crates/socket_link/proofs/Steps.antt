@@ -4,36 +4,29 @@ use Rattle.std.proofs.Common.{Option, Some, None, refl, sym, ap, ◌∙◌, appe
 use Rattle.std.proofs.Common.{if◌then◌else◌, Result, Ok, Err, OnOk, OnErr, subst, ◌==◌}
 use Rattle.std.proofs.lemmas.Bool.{eqb-false}
 use Rattle.std.proofs.lemmas.List.{append-nil}
+use Rattle.vod_base.specs.declared.errors.LinkFault.{LinkFault}
 use Rattle.socket_link.specs.declared.limits.Watch.{Watch}
 use Rattle.socket_link.specs.Calls.{SocketCall}
-use Rattle.socket_link.specs.Purposes.{slot_reading}
-use Rattle.socket_link.specs.Slots.{slot_of, is_newer}
-use Rattle.socket_link.specs.Waits.{last_from, WaitFits, WaitsFit}
+use Rattle.socket_link.specs.Waits.{last_from, WaitsFit}
 use Rattle.socket_link.specs.Limits.{no_watch, watch_of, reaches_limit, reached_limit}
 use Rattle.socket_link.specs.Histories.{IsCause}
-use Rattle.socket_link.specs.Steps.{HasServed, HasCalled, HasLooked, IsChecked, IsDue, NoneIsDue, if_newer}
+use Rattle.socket_link.specs.Steps.{HasServed, HasCalled}
 use Rattle.socket_link.proofs.Appends.{last_from-append, waits_fit-append, reached_limit-append}
 
-or-false : (b : Bool) → (b || (false || false)) ≡ b
-or-false true = refl
-or-false false = refl
+or-more : (b reached : Bool) → (b || (reached || false)) ≡ (if reached then true else b)
+or-more true true = refl
+or-more true false = refl
+or-more false true = refl
+or-more false false = refl
 
-or-true : (b : Bool) → (b || (true || false)) ≡ true
-or-true true = refl
-or-true false = refl
-
--- one call that doesn't show that a limit is reached
-pub served_call : (units : ℕ) (was now : List SocketCall) (call : SocketCall) → now ≡ was ++ call ∷ [] →
-    reaches_limit (watch_of no_watch was) call ≡ false → WaitFits units (last_from None was) call → HasServed units was
-    now
-served_call units was now call now_is not_reached fits = record {
-  more = call ∷ [];
-  now_is = now_is;
-  within = ap (reached_limit no_watch) now_is ∙ reached_limit-append no_watch was (call ∷ [])
-      ∙ ap (λ b. reached_limit no_watch was || (b || false)) not_reached
-      ∙ or-false (reached_limit no_watch was);
-  waits = (fits, tt);
-}
+-- whether a limit is reached after one more call
+pub reached_after : (was : List SocketCall) (call : SocketCall) {now : List SocketCall} {reached : Bool} →
+    now ≡ was ++ call ∷ [] → reaches_limit (watch_of no_watch was) call ≡ reached →
+    reached_limit no_watch now ≡ (if reached then true else reached_limit no_watch was)
+reached_after was call now_is is =
+    ap (reached_limit no_watch) now_is ∙ reached_limit-append no_watch was (call ∷ [])
+    ∙ ap (λ b. reached_limit no_watch was || (b || false)) is
+    ∙ or-more (reached_limit no_watch was) _
 
 pub longer_call : (was now : List SocketCall) (call : SocketCall) → now ≡ was ++ call ∷ [] → length was < length now
 longer_call was now call now_is =
@@ -69,14 +62,6 @@ served_longer units was now s =
     was s.more in
     omega (arith, len)
 
--- one call that does
-pub cause_call : (old new : ℕ) (was now : List SocketCall) (call : SocketCall) → now ≡ was ++ call ∷ [] →
-    reaches_limit (watch_of no_watch was) call ≡ true → IsCause old new now
-cause_call old new was now call now_is reached =
-    inr (inl (ap (reached_limit no_watch) now_is ∙ reached_limit-append no_watch was (call ∷ [])
-    ∙ ap (λ b. reached_limit no_watch was || (b || false)) reached
-    ∙ or-true (reached_limit no_watch was)))
-
 -- whether a call shows it, by the times that the link keeps
 pub reached_by : (watch : Watch) (was : List SocketCall) (call : SocketCall) {reached : Bool} →
     watch ≡ watch_of no_watch was → reaches_limit watch call ≡ reached →
@@ -93,35 +78,19 @@ pub cause_rounds : (old new rounds : ℕ) (calls : List SocketCall) → 2 ^ 64 -
     IsCause old new calls
 cause_rounds old new rounds calls all long = inr (inr (omega arith))
 
--- what was due by the reading
-pub due_newer : (units : ℕ) (last : Option ℕ) (time slot : ℕ) → slot ≡ slot_of units time → is_newer last slot ≡ true →
-    Some slot ≡ if_newer last (slot_of units time)
-due_newer units last time slot slot_is newer =
-    sym (ap (λ s. if_newer last s) (sym slot_is) ∙ ap (λ (b : Bool). if b then Some slot else None) newer)
-
-pub due_none : (units : ℕ) (last : Option ℕ) (time slot : ℕ) → slot ≡ slot_of units time → is_newer last slot ≡ false →
-    None ≡ if_newer last (slot_of units time)
-due_none units last time slot slot_is newer =
-    sym (ap (λ s. if_newer last s) (sym slot_is) ∙ ap (λ (b : Bool). if b then Some slot else None) newer)
-
 pub one_call : (was now : List SocketCall) (call : SocketCall) → now ≡ was ++ call ∷ [] → HasCalled was now
 one_call was now call is = record { call = call; now_is = is }
-
-pub looked : (units : ℕ) (last due : Option ℕ) (time : ℕ) (was now : List SocketCall) → now ≡ was ++ slot_reading time
-    ∷ [] →
-    due ≡ if_newer last (slot_of units time) → HasLooked units last due time was now
-looked units last due time was now now_is due_is = record { now_is = now_is; due_is = due_is }
 
 -- what follows from a clause on a result
 pub on_err : {A E : Type 0} {P : Type 0} (r : Result A E) → P → OnErr r P
 on_err (Ok x) p = tt
 on_err (Err e) p = p
 
-pub on_ok_map : {A E : Type 0} {P Q : Type 0} (r : Result A E) → OnOk r P → (P → Q) → OnOk r Q
+pub on_ok_map : {A : Type 0} {P Q : Type 0} (r : Result A LinkFault) → OnOk r P → (P → Q) → OnOk r Q
 on_ok_map (Ok x) p f = f p
 on_ok_map (Err e) p f = tt
 
-pub on_err_map : {A E : Type 0} {P Q : Type 0} (r : Result A E) → OnErr r P → (P → Q) → OnErr r Q
+pub on_err_map : {A : Type 0} {P Q : Type 0} (r : Result A LinkFault) → OnErr r P → (P → Q) → OnErr r Q
 on_err_map (Ok x) p f = tt
 on_err_map (Err e) p f = f p
 
@@ -132,31 +101,3 @@ some_left buffer waiting empty is tested isnt =
     let ne : length waiting ≡ 0 → ⊥ = eqb-false (length waiting) 0 (sym tested ∙ isnt) in
     let some : 0 < length waiting = omega arith in
     let P : List ℕ → Type 0 = λ l. 0 < length l in subst P is some
-
--- a slot that is due, by the last call
-pub in_order_slot : (units : ℕ) (last : Option ℕ) (slot time : ℕ) (was now : List SocketCall) → IsChecked was →
-    HasLooked units last (Some slot) time was now → IsDue units last slot now
-in_order_slot units last slot time was now checked l = record {
-  before = was;
-  time = time;
-  calls_are = l.now_is;
-  checked = checked;
-  due_is = l.due_is;
-}
-
--- no slot is due, and one more call was made
-pub in_order_call : (units : ℕ) (last : Option ℕ) (time : ℕ) {was mid now : List SocketCall} → IsChecked was →
-    HasLooked units last None time was mid → HasCalled mid now → NoneIsDue units last now
-in_order_call units last time {was} checked l called = record {
-  before = was;
-  time = time;
-  call = called.call;
-  calls_are = called.now_is ∙ ap (λ (c : List SocketCall). c ++ called.call ∷ []) l.now_is;
-  checked = checked;
-  due_is = l.due_is;
-}
-
-pub last_looked : (units : ℕ) (last due : Option ℕ) (time : ℕ) (was now : List SocketCall) → HasLooked units last due
-    time was now →
-    last_from None now ≡ Some (slot_reading time)
-last_looked units last due time was now l = last_call was now (slot_reading time) l.now_is

@@ -1,15 +1,15 @@
-use Rattle.std.proofs.Common.{refl, sym, ◌∙◌}
+use Rattle.std.proofs.Common.{refl, sym, ◌∙◌, inl, inr}
 use Rattle.socket_link.specs.Calls.{ReadClock}
-use Rattle.socket_link.proofs.HistorySteps.{follows_call, slots_after-other, state_of}
+use Rattle.socket_link.proofs.HistorySteps.{followed, follows_call, slots_after-other, state_of}
 use Rattle.socket_link.proofs.Rounds.{calls_once}
-use Rattle.socket_link.proofs.Steps.{longer_call, cause_call, reached_by}
+use Rattle.socket_link.proofs.Steps.{longer_call, reached_after, reached_by}
 use Rattle.socket_link.proofs.links.SocketLink.check.Goals as goal
 
 pub invariant_of-self-clause-follows : goal.invariant_of-self-clause-follows
 invariant_of-self-clause-follows g c = λ tells.
     let old = state_of c.args.self.now in
-    follows_call c.args.self.now.slot_units (ReadClock c.args.purpose c.in-Ok.time) old
-    (record old { watch = _; calls = _ }) (c.args.self.now.follows tells) (record {
+    follows_call (followed c.args.self.now tells) (ReadClock c.args.purpose c.in-Ok.time)
+    (record old { watch = _; calls = _ }) (record {
       calls = c.in-Ok.ensures.read tells;
       doings = refl;
       waiting = refl;
@@ -24,10 +24,10 @@ returns-then-overdue-clause-calls g c = record {
   faults = refl;
   count = c.in-Ok.ensures.count;
   served = tt;
-  cause = λ tells. cause_call _ _ _ _ (ReadClock c.args.purpose c.in-Ok.time) (c.in-Ok.ensures.read tells)
+  cause = λ tells. inr (inl (reached_after _ (ReadClock c.args.purpose c.in-Ok.time) (c.in-Ok.ensures.read tells)
       (reached_by c.args.self.now.watch (g.S.Socket.did c.args.self.now.socket)
       (ReadClock c.args.purpose c.in-Ok.time) ((c.args.self.now.follows tells).3)
-      (sym c.is_overdue-overdue.ensures ∙ c.if-overdue.true));
+      (sym c.is_overdue-overdue.ensures ∙ c.if-overdue.true))));
 }
 
 pub returns-else-overdue-clause-calls : goal.returns-else-overdue-clause-calls

@@ -21,12 +21,11 @@ returns-clause-cause g c =
 pub returns-clause-closed : goal.returns-clause-closed
 returns-clause-closed g c =
     on_ok_map c.linger.result c.linger.ensures.ended
-    (λ ended tells. closed {old = c.args.self.now} {written = c.write_everything.new.self} {shut = c.shut_down.new.self}
-    {now = c.linger.new.self} tells (record {
+    (λ ended tells. closed {old = c.args.self.now} {now = c.linger.new.self} tells (record {
+      written = c.write_everything.new.self;
       history = c.write_everything.ensures.history;
       all = c.in_ok-write_everything.ensures.written tells;
-      shut_is = c.in_ok-shut_down.ensures.shut tells;
-      lingered = ended tells;
+      lingered = rw (c.in_ok-shut_down.ensures.shut tells) at (ended tells);
     }))
 
 pub returns-in_err-shut_down-clause-cause : goal.returns-in_err-shut_down-clause-cause

@@ -7,13 +7,12 @@ use Rattle.socket_link.proofs.links.SocketLink.gather.Goals as goal
 pub loop-init : goal.loop-init
 loop-init g c = record {
   round = round_first c.args.self.now;
-  part = part_first c.args.self.now.history.doings c.args.bytes.now;
+  part = part_first _;
 }
 
 pub returns-then-is_empty-clause-whole : goal.returns-then-is_empty-clause-whole
 returns-then-is_empty-clause-whole g c =
-    part_whole _ _ _ _ c.is_empty.result
-    (part_on _ _ _ _ _ c.put-count.result c.loop.invariant.part c.put-count.ensures.told) c.is_empty.ensures
+    part_whole (part_on c.put-count.result c.loop.invariant.part c.put-count.ensures.told) c.is_empty.ensures
     c.if-is_empty.true
 
 pub returns-then-is_empty-clause-calls : goal.returns-then-is_empty-clause-calls
@@ -22,8 +21,8 @@ returns-then-is_empty-clause-calls g c =
 
 pub returns-in_err-make_room-clause-front : goal.returns-in_err-make_room-clause-front
 returns-in_err-make_room-clause-front g c =
-    on_err _ (part_front _ _ _ _
-    (part_on _ _ _ _ _ c.put-count.result c.loop.invariant.part (c.make_room.ensures.history.doings ∙
+    on_err _ (part_front
+    (part_on c.put-count.result c.loop.invariant.part (c.make_room.ensures.history.doings ∙
     c.put-count.ensures.told)))
 
 pub returns-in_err-make_room-clause-calls : goal.returns-in_err-make_room-clause-calls
@@ -38,12 +37,12 @@ loop-preserved g c =
     let r = round_same c.loop.invariant.round put.socket put.units put.faults in
     record {
       round = round_on r c.in_ok-make_room.ensures.calls c.in_ok-make_room.ensures.longer;
-      part = part_on _ _ _ _ _ c.put-count.result c.loop.invariant.part (c.make_room.ensures.history.doings ∙
+      part = part_on c.put-count.result c.loop.invariant.part (c.make_room.ensures.history.doings ∙
           c.put-count.ensures.told);
     }
 
 pub returns-clause-front : goal.returns-clause-front
-returns-clause-front g c = part_front _ _ _ _ c.loop.invariant.part
+returns-clause-front g c = part_front c.loop.invariant.part
 
 pub returns-clause-calls : goal.returns-clause-calls
 returns-clause-calls g c = round_end c.loop.invariant.round c.loop-test.false

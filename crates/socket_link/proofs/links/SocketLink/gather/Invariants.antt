@@ -5,5 +5,6 @@ use Rattle.socket_link.proofs.links.SocketLink.gather.Given as goal
 abbrev pub invariant-loop : goal.invariant-loop
 invariant-loop g l = record {
   round : IsRound l.counter l.initial.self l.self;
-  part : IsPart l.initial.self.history.doings l.self.history.doings l.fn.bytes l.rest;
+  part : IsPart (record { doings = l.initial.self.history.doings; bytes = l.fn.bytes })
+      (record { doings = l.self.history.doings; bytes = l.rest });
 }

@@ -1,8 +1,9 @@
-use Rattle.std.proofs.Common.{◌∙◌}
+use Rattle.std.proofs.Common.{◌∙◌, List, [], ◌∷◌, ◌++◌, ap}
+use Rattle.socket_link.specs.Calls.{SocketCall}
 use Rattle.socket_link.proofs.Orders.{in_order}
 use Rattle.socket_link.proofs.Rounds.{calls_ok, calls_on, history_none, history_on, round_first, round_more}
 use Rattle.socket_link.proofs.Rounds.{round_on}
-use Rattle.socket_link.proofs.Steps.{last_looked, last_call, in_order_slot, in_order_call}
+use Rattle.socket_link.proofs.Steps.{last_call}
 use Rattle.socket_link.proofs.links.SocketLink.hear.Goals as goal
 
 pub loop-init : goal.loop-init
@@ -16,7 +17,7 @@ returns-in-Some-clause-calls g c =
 
 pub read_or_wait-requires-clause-fits : goal.read_or_wait-requires-clause-fits
 read_or_wait-requires-clause-fits g c = λ tells.
-    rw (last_looked _ _ _ _ _ _ (c.in_ok-slot.ensures.looked tells)) c.rest_of_slot-rest.ensures
+    rw (last_call _ _ _ (c.in_ok-slot.ensures.looked tells).now_is) c.rest_of_slot-rest.ensures
 
 pub returns-in-Some-2-clause-calls : goal.returns-in-Some-2-clause-calls
 returns-in-Some-2-clause-calls g c =
@@ -42,8 +43,13 @@ returns-in-Some-clause-order g c =
     let units = c.check.ensures.calls.units ∙ c.write_out.ensures.calls.units ∙ c.loop.invariant.round.calls.units in
     let slot = c.check.ensures.history.slot ∙ c.write_out.ensures.history.slot ∙ c.loop.invariant.history.slot in
     let looked = rw (units, slot, c.in-Some.is) at c.in_ok-slot.ensures.looked in
-    λ tells. in_order_slot _ _ _ _ _ _ (record { idle = _; last_is = last_call _ _ _ (c.in_ok-check.ensures.read tells) })
-    (looked tells)
+    λ tells. record {
+      before = _;
+      time = _;
+      calls_are = (looked tells).now_is;
+      checked = record { idle = _; last_is = last_call _ _ _ (c.in_ok-check.ensures.read tells) };
+      due_is = (looked tells).due_is;
+    }
 
 pub returns-in-Some-2-clause-order : goal.returns-in-Some-2-clause-order
 returns-in-Some-2-clause-order g c =
@@ -51,6 +57,11 @@ returns-in-Some-2-clause-order g c =
     let slot = c.check.ensures.history.slot ∙ c.write_out.ensures.history.slot ∙ c.loop.invariant.history.slot in
     let looked = rw (units, slot, c.in_default.is) at c.in_ok-slot.ensures.looked in
     let event = rw c.in-Some-2.is at c.in_ok-heard.ensures.event in
-    λ tells. in_order _ _ _ _ event
-    (in_order_call _ _ _ (record { idle = _; last_is = last_call _ _ _ (c.in_ok-check.ensures.read tells) })
-    (looked tells) (c.in_ok-heard.ensures.called tells))
+    λ tells. let called = c.in_ok-heard.ensures.called tells in in_order _ _ _ _ event (record {
+      before = _;
+      time = _;
+      call = called.call;
+      calls_are = called.now_is ∙ ap (λ (l : List SocketCall). l ++ called.call ∷ []) (looked tells).now_is;
+      checked = record { idle = _; last_is = last_call _ _ _ (c.in_ok-check.ensures.read tells) };
+      due_is = (looked tells).due_is;
+    })

@@ -1,6 +1,7 @@
-use Rattle.std.proofs.Common.{◌∙◌, arith, inl, inr, ◌≤◌, ◌-◌, ap, Some}
+use Rattle.std.proofs.Common.{◌∙◌, arith, inl, inr, ◌≤◌, ◌-◌, ap, Some, List, [], ◌∷◌, ◌++◌, append_assoc}
+use Rattle.socket_link.specs.Calls.{SocketCall}
+use Rattle.socket_link.specs.Purposes.{end_reading}
 use Rattle.socket_link.specs.declared.limits.TheConstants.{LINGER}
-use Rattle.socket_link.proofs.Ends.{lasted}
 use Rattle.socket_link.proofs.Rounds.{calls_err, calls_ok, calls_on, round_end, round_first, round_more, round_on}
 use Rattle.socket_link.proofs.Steps.{last_call}
 use Rattle.socket_link.proofs.links.SocketLink.linger.Goals as goal
@@ -28,9 +29,17 @@ returns-then-waited-ge-LINGER-clause-calls g c =
 pub returns-then-waited-ge-LINGER-clause-ended : goal.returns-then-waited-ge-LINGER-clause-ended
 returns-then-waited-ge-LINGER-clause-ended g c =
     let long : LINGER ≤ c.check-in-loop.new.self.watch.latest - c.check.new.self.watch.latest = omega arith in
-    λ tells. inr (lasted _ LINGER c.check.new.self.watch.latest c.check-in-loop.new.self.watch.latest _ _ _ _
-    (c.in_ok-check.ensures.read tells) (c.loop.invariant.round.calls.served tells) (c.in_ok-check-2.ensures.read tells)
-    long)
+    λ tells. let served = c.loop.invariant.round.calls.served tells in
+    let first = c.in_ok-check.ensures.read tells in
+    inr (record {
+      begun = c.check.new.self.watch.latest;
+      latest = c.check-in-loop.new.self.watch.latest;
+      between = served.more;
+      now_is = rw (c.in_ok-check-2.ensures.read tells, served.now_is, first)
+          (ap (λ (l : List SocketCall). l ++ end_reading c.check-in-loop.new.self.watch.latest ∷ [])
+          (append_assoc _ (end_reading c.check.new.self.watch.latest ∷ []) served.more));
+      span_is = long;
+    })
 
 pub returns-in-Some-End-clause-calls : goal.returns-in-Some-End-clause-calls
 returns-in-Some-End-clause-calls g c =

@@ -1,25 +1,23 @@
-use Rattle.std.proofs.Common.{◌∙◌, sym, refl, ap}
+use Rattle.std.proofs.Common.{◌∙◌, sym, refl, ap, true, false, [], ◌∷◌}
+use Rattle.std.proofs.lemmas.List.{append-nil}
+use Rattle.vod_base.specs.Links.{HeardSlot}
 use Rattle.socket_link.specs.declared.limits.Watch.{Watch}
 use Rattle.socket_link.specs.Purposes.{slot_reading}
-use Rattle.socket_link.proofs.HistorySteps.{follows_slot, follows_no_slot, newest_slot, state_of}
+use Rattle.socket_link.proofs.HistorySteps.{followed, follows_slot, newest_on, state_of}
 use Rattle.socket_link.proofs.Rounds.{calls_once}
-use Rattle.socket_link.proofs.Steps.{due_newer, due_none, looked}
 use Rattle.socket_link.proofs.links.SocketLink.new_slot.Goals as goal
 
 pub invariant_of-self-clause-follows : goal.invariant_of-self-clause-follows
 invariant_of-self-clause-follows g c = λ tells.
     let old = state_of c.args.self.now in
-    follows_no_slot c.args.self.now.slot_units old (record old { watch = _; calls = _ })
-    (c.args.self.now.follows tells) (record {
+    follows_slot (followed c.args.self.now tells) false (record old { watch = _; calls = _ }) (record {
       time = c.in-Ok.time;
-      slot = c.slot_at-slot.result;
-      last = c.args.self.now.slot;
       calls = c.in-Ok.ensures.read tells;
       waiting = refl;
       watch = c.at-self.ensures;
-      last_is = c.args.self.now.newest;
-      slot_is = c.slot_at-slot.ensures;
-    }) refl (sym c.is_newer.ensures ∙ c.if-not-is_newer.true)
+      newer_is = rw (← c.args.self.now.newest, ← c.slot_at-slot.ensures) (sym c.is_newer.ensures ∙ c.if-not-is_newer.true);
+      doings = sym (append-nil old.doings);
+    })
 
 pub returns-then-not-is_newer-clause-calls : goal.returns-then-not-is_newer-clause-calls
 returns-then-not-is_newer-clause-calls g c =
@@ -27,30 +25,25 @@ returns-then-not-is_newer-clause-calls g c =
     (λ tells. tt)
 
 pub returns-then-not-is_newer-clause-looked : goal.returns-then-not-is_newer-clause-looked
-returns-then-not-is_newer-clause-looked g c = let latest = ap (λ (w : Watch). w.latest) c.at-self.ensures in λ tells. rw
-    latest
-    (looked c.args.self.now.slot_units c.args.self.now.slot _ c.in-Ok.time _ _ (c.in-Ok.ensures.read tells)
-    (due_none c.args.self.now.slot_units c.args.self.now.slot c.in-Ok.time c.slot_at-slot.result c.slot_at-slot.ensures
-    (sym c.is_newer.ensures ∙ c.if-not-is_newer.true)))
+returns-then-not-is_newer-clause-looked g c =
+    let newer = sym c.is_newer.ensures ∙ c.if-not-is_newer.true in λ tells.
+    rw (ap (λ (w : Watch). w.latest) c.at-self.ensures)
+    (record { now_is = c.in-Ok.ensures.read tells; due_is = rw (← c.slot_at-slot.ensures, newer) refl })
 
 pub invariant_of-self-in-Ok-clause-follows : goal.invariant_of-self-in-Ok-clause-follows
 invariant_of-self-in-Ok-clause-follows g c = λ tells.
     let old = state_of c.args.self.now in
-    follows_slot c.args.self.now.slot_units old (record old { watch = _; calls = _; doings = _ })
-    (c.args.self.now.follows tells) (record {
+    follows_slot (followed c.args.self.now tells) true (record old { watch = _; calls = _; doings = _ }) (record {
       time = c.in-Ok.time;
-      slot = c.slot_at-slot.result;
-      last = c.args.self.now.slot;
       calls = c.in-Ok.ensures.read tells;
       waiting = refl;
       watch = c.at-self.ensures;
-      last_is = c.args.self.now.newest;
-      slot_is = c.slot_at-slot.ensures;
-    }) c.then-self.ensures (sym c.is_newer.ensures ∙ c.if-not-is_newer.false)
+      newer_is = rw (← c.args.self.now.newest, ← c.slot_at-slot.ensures) (sym c.is_newer.ensures ∙ c.if-not-is_newer.false);
+      doings = rw c.slot_at-slot.ensures at c.then-self.ensures;
+    })
 
 pub invariant_of-self-in-Ok-clause-newest : goal.invariant_of-self-in-Ok-clause-newest
-invariant_of-self-in-Ok-clause-newest g c = newest_slot c.slot_at-slot.result c.args.self.now.history.doings _
-    c.then-self.ensures
+invariant_of-self-in-Ok-clause-newest g c = rw (newest_on _ (HeardSlot _ ∷ []) c.then-self.ensures) refl
 
 pub returns-else-not-is_newer-clause-calls : goal.returns-else-not-is_newer-clause-calls
 returns-else-not-is_newer-clause-calls g c =
@@ -58,8 +51,7 @@ returns-else-not-is_newer-clause-calls g c =
     (λ tells. tt)
 
 pub returns-else-not-is_newer-clause-looked : goal.returns-else-not-is_newer-clause-looked
-returns-else-not-is_newer-clause-looked g c = let latest = ap (λ (w : Watch). w.latest) c.at-self.ensures in λ tells. rw
-    latest
-    (looked c.args.self.now.slot_units c.args.self.now.slot _ c.in-Ok.time _ _ (c.in-Ok.ensures.read tells)
-    (due_newer c.args.self.now.slot_units c.args.self.now.slot c.in-Ok.time c.slot_at-slot.result c.slot_at-slot.ensures
-    (sym c.is_newer.ensures ∙ c.if-not-is_newer.false)))
+returns-else-not-is_newer-clause-looked g c =
+    let newer = sym c.is_newer.ensures ∙ c.if-not-is_newer.false in λ tells.
+    rw (ap (λ (w : Watch). w.latest) c.at-self.ensures)
+    (record { now_is = c.in-Ok.ensures.read tells; due_is = rw (← c.slot_at-slot.ensures, newer) refl })

@@ -1,7 +1,7 @@
 use Rattle.std.proofs.Common.{refl, take, ◌∷◌, []}
 use Rattle.vod_base.specs.Links.{HeardBytes, HeardEnd}
 use Rattle.socket_link.specs.Calls.{GaveBytes, GaveNothing, GaveEnd, WasInterrupted}
-use Rattle.socket_link.proofs.HistorySteps.{follows_silent, follows_read, newest_same, state_of}
+use Rattle.socket_link.proofs.HistorySteps.{followed, follows_silent, follows_read, newest_on, state_of}
 use Rattle.socket_link.proofs.Rounds.{calls_once}
 use Rattle.socket_link.proofs.links.SocketLink.read_or_wait.Goals as goal
 
@@ -10,8 +10,8 @@ invariant_of-self-clause-follows g c =
     let gave = rw c.in-Ok-Bytes.field-0-is at c.in-Ok-Bytes.ensures.gave in
     let bytes = take c.in-Ok-Bytes.count c.read.new.into in
     let old = state_of c.args.self.now in λ tells.
-    follows_read c.args.self.now.slot_units (GaveBytes bytes) (HeardBytes bytes) old
-    (record old { watch = _; calls = _; doings = _ }) (c.args.self.now.follows tells) (record {
+    follows_read (followed c.args.self.now tells) (GaveBytes bytes) (HeardBytes bytes)
+    (record old { watch = _; calls = _; doings = _ }) (record {
       calls = gave tells;
       doings = c.then-self.ensures;
       waiting = refl;
@@ -24,9 +24,7 @@ invariant_of-self-clause-follows g c =
 
 pub invariant_of-self-clause-newest : goal.invariant_of-self-clause-newest
 invariant_of-self-clause-newest g c =
-    newest_same c.args.self.now.slot c.args.self.now.history.doings _
-    (HeardBytes (take c.in-Ok-Bytes.count c.read.new.into) ∷ []) c.args.self.now.newest c.then-self.ensures (λ slots.
-    refl)
+    rw (newest_on _ (HeardBytes _ ∷ []) c.then-self.ensures) c.args.self.now.newest
 
 pub returns-in-Ok-Bytes-clause-calls : goal.returns-in-Ok-Bytes-clause-calls
 returns-in-Ok-Bytes-clause-calls g c =
@@ -52,8 +50,8 @@ pub invariant_of-self-in-Ok-End-clause-follows : goal.invariant_of-self-in-Ok-En
 invariant_of-self-in-Ok-End-clause-follows g c =
     let gave = rw c.in-Ok-End.field-0-is at c.in-Ok-End.ensures.gave in
     let old = state_of c.args.self.now in λ tells.
-    follows_read c.args.self.now.slot_units GaveEnd HeardEnd old (record old { calls = _; doings = _ })
-    (c.args.self.now.follows tells) (record {
+    follows_read (followed c.args.self.now tells) GaveEnd HeardEnd (record old { calls = _; doings = _ })
+    (record {
       calls = gave tells;
       doings = c.then-self-in-Ok-End.ensures;
       waiting = refl;
@@ -66,17 +64,16 @@ invariant_of-self-in-Ok-End-clause-follows g c =
 
 pub invariant_of-self-in-Ok-End-clause-newest : goal.invariant_of-self-in-Ok-End-clause-newest
 invariant_of-self-in-Ok-End-clause-newest g c =
-    newest_same c.args.self.now.slot c.args.self.now.history.doings _
-    (HeardEnd ∷ []) c.args.self.now.newest c.then-self-in-Ok-End.ensures (λ slots. refl)
+    rw (newest_on _ (HeardEnd ∷ []) c.then-self-in-Ok-End.ensures) c.args.self.now.newest
 
 pub invariant_of-self-in-Ok-Nothing-clause-follows : goal.invariant_of-self-in-Ok-Nothing-clause-follows
 invariant_of-self-in-Ok-Nothing-clause-follows g c =
     let gave = rw c.in-Ok-Nothing.field-0-is at c.in-Ok-Nothing.ensures.gave in λ tells.
-    follows_silent c.args.self.now.slot_units GaveNothing (state_of c.args.self.now) tt
-    (c.args.self.now.follows tells) (gave tells)
+    follows_silent (followed c.args.self.now tells) GaveNothing tt
+    (gave tells)
 
 pub invariant_of-self-in-Ok-Interrupted-clause-follows : goal.invariant_of-self-in-Ok-Interrupted-clause-follows
 invariant_of-self-in-Ok-Interrupted-clause-follows g c =
     let gave = rw c.in-Ok-Interrupted.field-0-is at c.in-Ok-Interrupted.ensures.gave in λ tells.
-    follows_silent c.args.self.now.slot_units WasInterrupted (state_of c.args.self.now) tt
-    (c.args.self.now.follows tells) (gave tells)
+    follows_silent (followed c.args.self.now tells) WasInterrupted tt
+    (gave tells)

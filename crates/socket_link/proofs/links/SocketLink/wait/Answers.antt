@@ -1,14 +1,14 @@
 use Rattle.std.proofs.Common.{refl}
 use Rattle.socket_link.specs.Calls.{Waited}
-use Rattle.socket_link.proofs.HistorySteps.{follows_silent, state_of}
+use Rattle.socket_link.proofs.HistorySteps.{followed, follows_silent}
 use Rattle.socket_link.proofs.Rounds.{calls_once}
 use Rattle.socket_link.proofs.Steps.{longer_call, one_call}
 use Rattle.socket_link.proofs.links.SocketLink.wait.Goals as goal
 
 pub invariant_of-self-clause-follows : goal.invariant_of-self-clause-follows
 invariant_of-self-clause-follows g c = λ tells.
-    follows_silent c.args.self.now.slot_units (Waited c.args.most) (state_of c.args.self.now) tt
-    (c.args.self.now.follows tells) (c.in-Ok.ensures.waited tells)
+    follows_silent (followed c.args.self.now tells) (Waited c.args.most) tt
+    (c.in-Ok.ensures.waited tells)
 
 pub returns-in-Ok-clause-calls : goal.returns-in-Ok-clause-calls
 returns-in-Ok-clause-calls g c =

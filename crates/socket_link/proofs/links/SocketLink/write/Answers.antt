@@ -1,7 +1,7 @@
 use Rattle.std.proofs.Common.{refl, sym, ◌∙◌, ap, take, ◌++◌, List, ℕ}
 use Rattle.std.proofs.lemmas.List.{take-append-drop}
 use Rattle.socket_link.specs.Calls.{TookBytes, TookNothing, WasInterrupted}
-use Rattle.socket_link.proofs.HistorySteps.{follows_call, follows_silent, state_of}
+use Rattle.socket_link.proofs.HistorySteps.{followed, follows_call, follows_silent, state_of}
 use Rattle.socket_link.proofs.Rounds.{calls_once}
 use Rattle.socket_link.proofs.links.SocketLink.write.Goals as goal
 
@@ -10,8 +10,8 @@ invariant_of-self-clause-follows g c =
     let count = c.in-Ok-Bytes.count in
     let old = state_of c.args.self.now in
     let took = rw (c.in-Ok-Bytes.field-0-is, c.waiting_bytes.ensures) at c.in-Ok-Bytes.ensures.took in λ tells.
-    follows_call c.args.self.now.slot_units (TookBytes (take count old.waiting)) old
-    (record old { watch = _; calls = _; waiting = _ }) (c.args.self.now.follows tells) (record {
+    follows_call (followed c.args.self.now tells) (TookBytes (take count old.waiting))
+    (record old { watch = _; calls = _; waiting = _ }) (record {
       calls = took tells;
       doings = refl;
       waiting = sym (ap (λ (l : List ℕ). take count old.waiting ++ l) c.drop_front.ensures
@@ -39,11 +39,11 @@ returns-in-Ok-Interrupted-clause-calls g c =
 pub invariant_of-self-in-Ok-Nothing-clause-follows : goal.invariant_of-self-in-Ok-Nothing-clause-follows
 invariant_of-self-in-Ok-Nothing-clause-follows g c =
     let took = rw c.in-Ok-Nothing.field-0-is at c.in-Ok-Nothing.ensures.took in λ tells.
-    follows_silent c.args.self.now.slot_units TookNothing (state_of c.args.self.now) tt
-    (c.args.self.now.follows tells) (took tells)
+    follows_silent (followed c.args.self.now tells) TookNothing tt
+    (took tells)
 
 pub invariant_of-self-in-Ok-Interrupted-clause-follows : goal.invariant_of-self-in-Ok-Interrupted-clause-follows
 invariant_of-self-in-Ok-Interrupted-clause-follows g c =
     let took = rw c.in-Ok-Interrupted.field-0-is at c.in-Ok-Interrupted.ensures.took in λ tells.
-    follows_silent c.args.self.now.slot_units WasInterrupted (state_of c.args.self.now) tt
-    (c.args.self.now.follows tells) (took tells)
+    follows_silent (followed c.args.self.now tells) WasInterrupted tt
+    (took tells)

@@ -1,6 +1,8 @@
-use Rattle.std.proofs.Common.{arith, inl, inr, ◌≤◌, ◌-◌}
+use Rattle.std.proofs.Common.{arith, inl, inr, ◌≤◌, ◌-◌, List, [], ◌∷◌, ◌++◌, append_assoc, ap}
+use Rattle.socket_link.specs.Calls.{SocketCall}
+use Rattle.socket_link.specs.Purposes.{end_reading}
 use Rattle.socket_link.specs.declared.limits.TheConstants.{STUCK_LIMIT}
-use Rattle.socket_link.proofs.Ends.{lasted, none_left}
+use Rattle.socket_link.proofs.Ends.{none_left}
 use Rattle.socket_link.proofs.Rounds.{calls_err, calls_ok, calls_on, history_none, history_on, round_end, round_first}
 use Rattle.socket_link.proofs.Rounds.{round_more, round_on}
 use Rattle.socket_link.proofs.Steps.{last_call}
@@ -44,8 +46,17 @@ pub returns-then-waited-ge-STUCK_LIMIT-clause-written : goal.returns-then-waited
 returns-then-waited-ge-STUCK_LIMIT-clause-written g c =
     let written = round_more c.loop.invariant.round c.in_ok-write_out.ensures.calls in
     let long : STUCK_LIMIT ≤ c.check-in-loop.new.self.watch.latest - c.check.new.self.watch.latest = omega arith in
-    λ tells. inr (lasted _ STUCK_LIMIT c.check.new.self.watch.latest c.check-in-loop.new.self.watch.latest _ _ _ _
-    (c.in_ok-check.ensures.read tells) (written.calls.served tells) (c.in_ok-check-2.ensures.read tells) long)
+    λ tells. let served = written.calls.served tells in
+    let first = c.in_ok-check.ensures.read tells in
+    inr (record {
+      begun = c.check.new.self.watch.latest;
+      latest = c.check-in-loop.new.self.watch.latest;
+      between = served.more;
+      now_is = rw (c.in_ok-check-2.ensures.read tells, served.now_is, first)
+          (ap (λ (l : List SocketCall). l ++ end_reading c.check-in-loop.new.self.watch.latest ∷ [])
+          (append_assoc _ (end_reading c.check.new.self.watch.latest ∷ []) served.more));
+      span_is = long;
+    })
 
 pub returns-in_err-write_out-clause-calls : goal.returns-in_err-write_out-clause-calls
 returns-in_err-write_out-clause-calls g c =
