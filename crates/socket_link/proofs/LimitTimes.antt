@@ -15,9 +15,9 @@ use Rattle.socket_link.proofs.Appends.{watch_of-append}
 -- ---- one call
 
 -- a quiet call changes neither time that idle readings look at
-record SameIdle (w v : Watch) : Type 0 where
-  active : v.active ≡ w.active
-  unanswered : v.unanswered ≡ w.unanswered
+pub record SameIdle (w v : Watch) : Type 0 where
+  pub active : v.active ≡ w.active
+  pub unanswered : v.unanswered ≡ w.unanswered
 
 quiet_call : (w : Watch) (call : SocketCall) → IsQuiet call → SameIdle w (watched w call)
 quiet_call w (GaveBytes bytes) quiet = absurd quiet
@@ -48,28 +48,28 @@ not_stuck w _ none is = is
 
 -- ---- several calls
 
-quiet_calls : (w : Watch) (calls : List SocketCall) → All IsQuiet calls → SameIdle w (watch_of w calls)
+pub quiet_calls : (w : Watch) (calls : List SocketCall) → All IsQuiet calls → SameIdle w (watch_of w calls)
 quiet_calls w [] quiet = record { active = refl; unanswered = refl }
 quiet_calls w (call ∷ calls) quiet =
     let first = quiet_call w call (All-head IsQuiet call calls quiet) in
     let rest = quiet_calls (watched w call) calls (All-tail IsQuiet call calls quiet) in
     record { active = rest.active ∙ first.active; unanswered = rest.unanswered ∙ first.unanswered }
 
-unanswered_after : (w : Watch) (calls : List SocketCall) → All TakesNothing calls →
+pub unanswered_after : (w : Watch) (calls : List SocketCall) → All TakesNothing calls →
     (watch_of w calls).unanswered ≡ w.unanswered
 unanswered_after w [] none = refl
 unanswered_after w (call ∷ calls) none =
     unanswered_after (watched w call) calls (All-tail TakesNothing call calls none)
     ∙ same_unanswered w call (All-head TakesNothing call calls none)
 
-stuck_after : (w : Watch) (calls : List SocketCall) (first : ℕ) → All TakesNothing calls → w.stuck ≡ Some first →
+pub stuck_after : (w : Watch) (calls : List SocketCall) (first : ℕ) → All TakesNothing calls → w.stuck ≡ Some first →
     (watch_of w calls).stuck ≡ Some first
 stuck_after w [] first none is = is
 stuck_after w (call ∷ calls) first none is =
     stuck_after (watched w call) calls first (All-tail TakesNothing call calls none)
     (same_stuck w call first (All-head TakesNothing call calls none) is)
 
-not_stuck_after : (w : Watch) (calls : List SocketCall) → All IsBeforePatience calls → w.stuck ≡ None →
+pub not_stuck_after : (w : Watch) (calls : List SocketCall) → All IsBeforePatience calls → w.stuck ≡ None →
     (watch_of w calls).stuck ≡ None
 not_stuck_after w [] none is = is
 not_stuck_after w (call ∷ calls) none is =
@@ -79,56 +79,21 @@ not_stuck_after w (call ∷ calls) none is =
 -- ---- what an idle reading finds
 
 -- whether it ends a connection with these times
-abbrev idle_of : Option ℕ → ℕ → ℕ → Bool
+abbrev pub idle_of : Option ℕ → ℕ → ℕ → Bool
 idle_of unanswered active time =
     has_passed (15 * 10 ^ 9) unanswered time || has_passed (3600 * 10 ^ 9) (Some active) time
 
-idle_is : (w : Watch) (unanswered : Option ℕ) (active time : ℕ) → w.unanswered ≡ unanswered → w.active ≡ active →
+pub idle_is : (w : Watch) (unanswered : Option ℕ) (active time : ℕ) → w.unanswered ≡ unanswered → w.active ≡ active →
     is_overdue w Idle time ≡ idle_of unanswered active time
 idle_is w unanswered active time one other =
     ap (λ (u : Option ℕ). idle_of u w.active time) one ∙ ap (λ (a : ℕ). idle_of unanswered a time) other
 
-latest_is : (v : Watch) (purpose : Purpose) (time : ℕ) → (clocked v purpose time).latest ≡ time
+pub latest_is : (v : Watch) (purpose : Purpose) (time : ℕ) → (clocked v purpose time).latest ≡ time
 latest_is v Accept time = refl
 latest_is v Slot time = refl
 latest_is v Idle time = refl
 latest_is v Patience time = refl
 latest_is v End time = refl
-
-pub idle-taken : (before quiet : List SocketCall) (purpose : Purpose) (bytes : List ℕ) (last time : ℕ) →
-    All IsQuiet quiet →
-    is_overdue (watch_of no_watch (before ++ (ReadClock purpose last ∷ (TookBytes bytes ∷ quiet)))) Idle time
-    ≡ nat_le (3600 * 10 ^ 9) (time - last)
-idle-taken before quiet purpose bytes last time all =
-    let was = watch_of no_watch before in
-    let w = watched (clocked was purpose last) (TookBytes bytes) in
-    let same = quiet_calls w quiet all in
-    let latest : w.active ≡ last = latest_is was purpose last in
-    ap (λ (v : Watch). is_overdue v Idle time)
-    (watch_of-append no_watch before (ReadClock purpose last ∷ (TookBytes bytes ∷ quiet)))
-    ∙ idle_is (watch_of w quiet) None last time same.unanswered (same.active ∙ latest)
-
-pub idle-came : (before between quiet : List SocketCall) (purpose : Purpose) (taken bytes : List ℕ) (last time : ℕ) →
-    All TakesNothing (between ++ ReadClock purpose last ∷ []) → All IsQuiet quiet →
-    is_overdue (watch_of no_watch (before ++ ((TookBytes taken ∷ between)
-    ++ (ReadClock purpose last ∷ (GaveBytes bytes ∷ quiet))))) Idle time
-    ≡ nat_le (3600 * 10 ^ 9) (time - last)
-idle-came before between quiet purpose taken bytes last time none all =
-    let was = watch_of no_watch before in
-    let took = watched was (TookBytes taken) in
-    let mid = watch_of took between in
-    let read = clocked mid purpose last in
-    let w = watched read (GaveBytes bytes) in
-    let rest = ReadClock purpose last ∷ (GaveBytes bytes ∷ quiet) in
-    let same = quiet_calls w quiet all in
-    let silent : read.unanswered ≡ None =
-    ap (λ (v : Watch). v.unanswered) (sym (watch_of-append took between (ReadClock purpose last ∷ [])))
-    ∙ unanswered_after took (between ++ ReadClock purpose last ∷ []) none in
-    ap (λ (v : Watch). is_overdue v Idle time)
-    (watch_of-append no_watch before ((TookBytes taken ∷ between) ++ rest)
-    ∙ watch_of-append took between rest)
-    ∙ idle_is (watch_of w quiet) None last time (same.unanswered ∙ silent)
-    (same.active ∙ latest_is mid purpose last)
 
 pub idle-first-send : (before after : List SocketCall) (accept time : ℕ) → All TakesNothing after →
     15 * 10 ^ 9 ≤ time - accept →
@@ -155,24 +120,3 @@ idle-early before quiet accept time all early =
     ∙ idle_is (watch_of was quiet) (Some accept) accept time same.unanswered same.active
     ∙ or_from (nat_le (15 * 10 ^ 9) (time - accept)) (nat_le (3600 * 10 ^ 9) (time - accept))
     (not_yet (15 * 10 ^ 9) (time - accept) early) (not_yet (3600 * 10 ^ 9) (time - accept) (omega (arith, early)))
-
--- ---- what a patience reading finds
-abbrev patience_of : Option ℕ → ℕ → Bool
-patience_of stuck time = has_passed (60 * 10 ^ 9) stuck time
-
-pub patience-is : (before between after : List SocketCall) (taken : List ℕ) (first time : ℕ) →
-    All IsBeforePatience between → All TakesNothing after →
-    is_overdue (watch_of no_watch (before ++ ((TookBytes taken ∷ between)
-    ++ (ReadClock Patience first ∷ after)))) Patience time ≡ nat_le (60 * 10 ^ 9) (time - first)
-patience-is before between after taken first time none all =
-    let was = watch_of no_watch before in
-    let took = watched was (TookBytes taken) in
-    let mid = watch_of took between in
-    let read = clocked mid Patience first in
-    let rest = ReadClock Patience first ∷ after in
-    let begun : read.stuck ≡ Some first =
-    ap (λ (o : Option ℕ). Some (unwrap_or o first)) (not_stuck_after took between none refl) in
-    ap (λ (v : Watch). is_overdue v Patience time)
-    (watch_of-append no_watch before ((TookBytes taken ∷ between) ++ rest)
-    ∙ watch_of-append took between rest)
-    ∙ ap (λ (o : Option ℕ). patience_of o time) (stuck_after read after first all begun)

@@ -130,11 +130,6 @@ module _ {S : Type 0} {G : Ghosts S} where
         longer = rw did r.longer;
       }
 
-  pub round_longer : (rounds : ℕ) {old new : SocketLink S G} → IsRound (rounds + 1) old new → IsTrue G.tells →
-      length (G.did old.socket) < length (G.did new.socket)
-  round_longer rounds {old} {new} r tells =
-      let longer : rounds + 1 + length (G.did old.socket) ≤ length (G.did new.socket) = r.longer tells in omega arith
-
   -- where the rounds are over
   pub round_end : {A : Type 0} {error : LinkFault} {rounds : ℕ} {old new : SocketLink S G} → IsRound rounds old new →
       2 ^ 64 - 1 ≤ rounds → CallsSocket {A = A} (Err error) old new

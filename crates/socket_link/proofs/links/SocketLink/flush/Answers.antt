@@ -1,5 +1,6 @@
+use Rattle.std.proofs.Common.{arith}
 use Rattle.socket_link.proofs.Rounds.{calls_on, calls_ok, calls_err, history_none, history_on, round_end, round_first}
-use Rattle.socket_link.proofs.Rounds.{round_longer, round_on}
+use Rattle.socket_link.proofs.Rounds.{round_on}
 use Rattle.socket_link.proofs.Steps.{some_left, last_call}
 use Rattle.socket_link.proofs.links.SocketLink.flush.Goals as goal
 
@@ -27,7 +28,8 @@ returns-then-is_empty-clause-calls g c =
 
 pub returns-then-is_empty-clause-longer : goal.returns-then-is_empty-clause-longer
 returns-then-is_empty-clause-longer g c =
-    round_longer _ (round_on c.loop.invariant.round c.in_ok-write.ensures.calls c.in_ok-write.ensures.longer)
+    let r = round_on c.loop.invariant.round c.in_ok-write.ensures.calls c.in_ok-write.ensures.longer in
+    λ tells. let longer = r.longer tells in omega (arith, longer)
 
 pub returns-in-Nothing-clause-calls : goal.returns-in-Nothing-clause-calls
 returns-in-Nothing-clause-calls g c =
@@ -37,7 +39,8 @@ returns-in-Nothing-clause-calls g c =
 pub returns-in-Nothing-clause-longer : goal.returns-in-Nothing-clause-longer
 returns-in-Nothing-clause-longer g c =
     let r = round_on c.loop.invariant.round c.in_ok-write.ensures.calls c.in_ok-write.ensures.longer in
-    round_longer _ (round_on r c.in_ok-check.ensures.calls c.in_ok-check.ensures.longer)
+    let checked = round_on r c.in_ok-check.ensures.calls c.in_ok-check.ensures.longer in
+    λ tells. let longer = checked.longer tells in omega (arith, longer)
 
 pub returns-in-Nothing-clause-stuck : goal.returns-in-Nothing-clause-stuck
 returns-in-Nothing-clause-stuck g c = λ is tells. last_call _ _ _ (c.in_ok-check.ensures.read tells)
