@@ -78,29 +78,6 @@ follows_on link new adds = let units = link.units in let old = link.state in (
       ∙ sym (ap (watch_of no_watch) adds.calls_are ∙ watch_of-append no_watch old.calls adds.calls),
 )
 
--- a call of the socket that is no event
-pub record AddsCall (units : ℕ) (call : SocketCall) (old new : LinkState) : Type 0 where
-  pub calls : new.calls ≡ old.calls ++ call ∷ []
-  pub doings : new.doings ≡ old.doings
-  pub waiting : old.waiting ≡ bytes_taken call ++ new.waiting
-  pub watch : new.watch ≡ watched old.watch call
-  pub no_bytes : arrival_of call ≡ []
-  pub no_slot : (slots : List ℕ) → slots_after units slots call ≡ slots
-
-pub follows_call : (link : Followed) (call : SocketCall) (new : LinkState) →
-    AddsCall link.units call link.state new → FollowsAt link.units new
-follows_call link call new adds = let old = link.state in follows_on link new (record {
-  calls = call ∷ [];
-  doings = [];
-  calls_are = adds.calls;
-  doings_are = adds.doings ∙ sym (append-nil old.doings);
-  bytes = append-nil old.waiting ∙ adds.waiting
-      ∙ ap (λ (b : List ℕ). b ++ new.waiting) (sym (append-nil (bytes_taken call)));
-  heard = sym (append-nil (arrival_of call) ∙ adds.no_bytes);
-  slots = sym (adds.no_slot (slots_heard [] old.doings));
-  watch = adds.watch;
-})
-
 -- a call that gives and takes no byte, and reads no clock
 abbrev pub IsSilent : SocketCall → Type 0
 IsSilent GaveNothing = Unit {0}
@@ -111,49 +88,32 @@ IsSilent ShutDown = Unit {0}
 IsSilent _ = ⊥
 
 silent_adds : (units : ℕ) (call : SocketCall) (old : LinkState) (now : List SocketCall) → IsSilent call →
-    now ≡ old.calls ++ call ∷ [] → AddsCall units call old (record old { calls = now })
+    now ≡ old.calls ++ call ∷ [] → Adds units old (record old { calls = now })
 silent_adds units (GaveBytes bytes) old now silent is = absurd silent
 silent_adds units GaveEnd old now silent is = absurd silent
 silent_adds units (TookBytes bytes) old now silent is = absurd silent
 silent_adds units (ReadClock purpose time) old now silent is = absurd silent
-silent_adds units _ old now silent is =
-    record { calls = is; doings = refl; waiting = refl; watch = refl; no_bytes = refl; no_slot = λ slots. refl }
+silent_adds units call old now silent is = record {
+  calls = call ∷ [];
+  doings = [];
+  calls_are = is;
+  doings_are = sym (append-nil old.doings);
+  bytes = append-nil old.waiting;
+  heard = refl;
+  slots = refl;
+  watch = refl;
+}
 
 pub follows_silent : (link : Followed) (call : SocketCall) {now : List SocketCall} → IsSilent call →
     now ≡ link.state.calls ++ call ∷ [] → FollowsAt link.units (record link.state { calls = now })
 follows_silent link call {now} silent is =
-    follows_call link call (record link.state { calls = now }) (silent_adds link.units call link.state now silent is)
+    follows_on link (record link.state { calls = now }) (silent_adds link.units call link.state now silent is)
 
 -- a reading of the clock that doesn't count for slots
 pub slots_after-other : (units : ℕ) (purpose : Purpose) (time : ℕ) (slots : List ℕ) → is_for_slots purpose ≡ false →
     slots_after units slots (ReadClock purpose time) ≡ slots
 slots_after-other units Slot time slots other = cc
 slots_after-other units _ time slots other = refl
-
--- an event of bytes, or the end: one read, and one doing
-pub record AddsRead (units : ℕ) (call : SocketCall) (doing : IoEvent) (old new : LinkState) : Type 0 where
-  pub calls : new.calls ≡ old.calls ++ call ∷ []
-  pub doings : new.doings ≡ old.doings ++ doing ∷ []
-  pub waiting : new.waiting ≡ old.waiting
-  pub watch : new.watch ≡ watched old.watch call
-  pub none_taken : bytes_taken call ≡ []
-  pub none_sent : sent_of (doing ∷ []) ≡ []
-  pub heard : heard_of (doing ∷ []) ≡ arrivals_of (call ∷ [])
-  pub slots : (slots : List ℕ) → slots_heard slots (doing ∷ []) ≡ slots_after units slots call
-
-pub follows_read : (link : Followed) (call : SocketCall) (doing : IoEvent) (new : LinkState) →
-    AddsRead link.units call doing link.state new → FollowsAt link.units new
-follows_read link call doing new adds = let old = link.state in follows_on link new (record {
-  calls = call ∷ [];
-  doings = doing ∷ [];
-  calls_are = adds.calls;
-  doings_are = adds.doings;
-  bytes = ap (λ (b : List ℕ). old.waiting ++ b) adds.none_sent ∙ append-nil old.waiting ∙ sym adds.waiting
-      ∙ ap (λ (b : List ℕ). (b ++ []) ++ new.waiting) (sym adds.none_taken);
-  heard = adds.heard;
-  slots = adds.slots (slots_heard [] old.doings);
-  watch = adds.watch;
-})
 
 -- bytes that are given to `send`
 pub follows_put : (link : Followed) {left : List ℕ} {doings : List IoEvent} (bytes : List ℕ) →

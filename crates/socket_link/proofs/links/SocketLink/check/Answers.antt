@@ -1,6 +1,7 @@
-use Rattle.std.proofs.Common.{refl, sym, ◌∙◌, inl, inr}
+use Rattle.std.proofs.Common.{refl, sym, ◌∙◌, inl, inr, [], ◌∷◌}
+use Rattle.std.proofs.lemmas.List.{append-nil}
 use Rattle.socket_link.specs.Calls.{ReadClock}
-use Rattle.socket_link.proofs.HistorySteps.{followed, follows_call, slots_after-other, state_of}
+use Rattle.socket_link.proofs.HistorySteps.{followed, follows_on, slots_after-other, state_of}
 use Rattle.socket_link.proofs.Rounds.{calls_once}
 use Rattle.socket_link.proofs.Steps.{longer_call, reached_after, reached_by}
 use Rattle.socket_link.proofs.links.SocketLink.check.Goals as goal
@@ -8,14 +9,15 @@ use Rattle.socket_link.proofs.links.SocketLink.check.Goals as goal
 pub invariant_of-self-clause-follows : goal.invariant_of-self-clause-follows
 invariant_of-self-clause-follows g c = λ tells.
     let old = state_of c.args.self.now in
-    follows_call (followed c.args.self.now tells) (ReadClock c.args.purpose c.in-Ok.time)
-    (record old { watch = _; calls = _ }) (record {
-      calls = c.in-Ok.ensures.read tells;
-      doings = refl;
-      waiting = refl;
+    follows_on (followed c.args.self.now tells) (record old { watch = _; calls = _ }) (record {
+      calls = ReadClock c.args.purpose c.in-Ok.time ∷ [];
+      doings = [];
+      calls_are = c.in-Ok.ensures.read tells;
+      doings_are = sym (append-nil old.doings);
+      bytes = append-nil old.waiting;
+      heard = refl;
+      slots = sym (slots_after-other c.args.self.now.slot_units c.args.purpose c.in-Ok.time _ c.requires);
       watch = c.at-self.ensures;
-      no_bytes = refl;
-      no_slot = λ slots. slots_after-other c.args.self.now.slot_units c.args.purpose c.in-Ok.time slots c.requires;
     })
 
 pub returns-then-overdue-clause-calls : goal.returns-then-overdue-clause-calls

@@ -1,7 +1,8 @@
 use Rattle.std.proofs.Common.{refl, take, ◌∷◌, []}
+use Rattle.std.proofs.lemmas.List.{append-nil}
 use Rattle.vod_base.specs.Links.{HeardBytes, HeardEnd}
 use Rattle.socket_link.specs.Calls.{GaveBytes, GaveNothing, GaveEnd, WasInterrupted}
-use Rattle.socket_link.proofs.HistorySteps.{followed, follows_silent, follows_read, newest_on, state_of}
+use Rattle.socket_link.proofs.HistorySteps.{followed, follows_silent, follows_on, newest_on, state_of}
 use Rattle.socket_link.proofs.Rounds.{calls_once}
 use Rattle.socket_link.proofs.links.SocketLink.read_or_wait.Goals as goal
 
@@ -10,16 +11,15 @@ invariant_of-self-clause-follows g c =
     let gave = rw c.in-Ok-Bytes.field-0-is at c.in-Ok-Bytes.ensures.gave in
     let bytes = take c.in-Ok-Bytes.count c.read.new.into in
     let old = state_of c.args.self.now in λ tells.
-    follows_read (followed c.args.self.now tells) (GaveBytes bytes) (HeardBytes bytes)
-    (record old { watch = _; calls = _; doings = _ }) (record {
-      calls = gave tells;
-      doings = c.then-self.ensures;
-      waiting = refl;
-      watch = c.received-self.ensures;
-      none_taken = refl;
-      none_sent = refl;
+    follows_on (followed c.args.self.now tells) (record old { watch = _; calls = _; doings = _ }) (record {
+      calls = GaveBytes bytes ∷ [];
+      doings = HeardBytes bytes ∷ [];
+      calls_are = gave tells;
+      doings_are = c.then-self.ensures;
+      bytes = append-nil old.waiting;
       heard = refl;
-      slots = λ slots. refl;
+      slots = refl;
+      watch = c.received-self.ensures;
     })
 
 pub invariant_of-self-clause-newest : goal.invariant_of-self-clause-newest
@@ -50,16 +50,16 @@ pub invariant_of-self-in-Ok-End-clause-follows : goal.invariant_of-self-in-Ok-En
 invariant_of-self-in-Ok-End-clause-follows g c =
     let gave = rw c.in-Ok-End.field-0-is at c.in-Ok-End.ensures.gave in
     let old = state_of c.args.self.now in λ tells.
-    follows_read (followed c.args.self.now tells) GaveEnd HeardEnd (record old { calls = _; doings = _ })
+    follows_on (followed c.args.self.now tells) (record old { calls = _; doings = _ })
     (record {
-      calls = gave tells;
-      doings = c.then-self-in-Ok-End.ensures;
-      waiting = refl;
-      watch = refl;
-      none_taken = refl;
-      none_sent = refl;
+      calls = GaveEnd ∷ [];
+      doings = HeardEnd ∷ [];
+      calls_are = gave tells;
+      doings_are = c.then-self-in-Ok-End.ensures;
+      bytes = append-nil old.waiting;
       heard = refl;
-      slots = λ slots. refl;
+      slots = refl;
+      watch = refl;
     })
 
 pub invariant_of-self-in-Ok-End-clause-newest : goal.invariant_of-self-in-Ok-End-clause-newest

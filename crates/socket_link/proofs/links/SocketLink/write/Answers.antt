@@ -1,7 +1,7 @@
-use Rattle.std.proofs.Common.{refl, sym, ◌∙◌, ap, take, ◌++◌, List, ℕ}
-use Rattle.std.proofs.lemmas.List.{take-append-drop}
+use Rattle.std.proofs.Common.{refl, sym, ◌∙◌, ap, take, drop, ◌++◌, List, ℕ, [], ◌∷◌}
+use Rattle.std.proofs.lemmas.List.{append-nil, take-append-drop}
 use Rattle.socket_link.specs.Calls.{TookBytes, TookNothing, WasInterrupted}
-use Rattle.socket_link.proofs.HistorySteps.{followed, follows_call, follows_silent, state_of}
+use Rattle.socket_link.proofs.HistorySteps.{followed, follows_on, follows_silent, state_of}
 use Rattle.socket_link.proofs.Rounds.{calls_once}
 use Rattle.socket_link.proofs.links.SocketLink.write.Goals as goal
 
@@ -10,15 +10,18 @@ invariant_of-self-clause-follows g c =
     let count = c.in-Ok-Bytes.count in
     let old = state_of c.args.self.now in
     let took = rw (c.in-Ok-Bytes.field-0-is, c.waiting_bytes.ensures) at c.in-Ok-Bytes.ensures.took in λ tells.
-    follows_call (followed c.args.self.now tells) (TookBytes (take count old.waiting))
-    (record old { watch = _; calls = _; waiting = _ }) (record {
-      calls = took tells;
-      doings = refl;
-      waiting = sym (ap (λ (l : List ℕ). take count old.waiting ++ l) c.drop_front.ensures
+    follows_on (followed c.args.self.now tells) (record old { watch = _; calls = _; waiting = _ }) (record {
+      calls = TookBytes (take count old.waiting) ∷ [];
+      doings = [];
+      calls_are = took tells;
+      doings_are = sym (append-nil old.doings);
+      bytes = append-nil old.waiting
+          ∙ sym (ap (λ (l : List ℕ). (take count old.waiting ++ []) ++ l) c.drop_front.ensures
+          ∙ ap (λ (l : List ℕ). l ++ drop count old.waiting) (append-nil (take count old.waiting))
           ∙ take-append-drop count old.waiting);
+      heard = refl;
+      slots = refl;
       watch = c.sent-self.ensures;
-      no_bytes = refl;
-      no_slot = λ slots. refl;
     })
 
 pub returns-in-Ok-Bytes-clause-calls : goal.returns-in-Ok-Bytes-clause-calls

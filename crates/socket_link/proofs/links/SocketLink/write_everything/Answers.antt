@@ -52,9 +52,7 @@ returns-then-waited-ge-STUCK_LIMIT-clause-written g c =
       begun = c.check.new.self.watch.latest;
       latest = c.check-in-loop.new.self.watch.latest;
       between = served.more;
-      now_is = rw (c.in_ok-check-2.ensures.read tells, served.now_is, first)
-          (ap (λ (l : List SocketCall). l ++ end_reading c.check-in-loop.new.self.watch.latest ∷ [])
-          (append_assoc _ (end_reading c.check.new.self.watch.latest ∷ []) served.more));
+      now_is = rw (c.in_ok-check-2.ensures.read tells, served.now_is, first) (simp append_assoc);
       span_is = long;
     })
 
