@@ -7,7 +7,7 @@ use Rattle.vod_base.specs.MemoryLinks.{sent_of}
 use Rattle.socket_link.specs.declared.links.SocketLink.{SocketLink}
 use Rattle.socket_link.specs.declared.sockets.Socket.{Ghosts}
 use Rattle.socket_link.specs.declared.limits.TheConstants.{STUCK_LIMIT, LINGER}
-use Rattle.socket_link.specs.Calls.{SocketCall, ShutDown, taken_of}
+use Rattle.socket_link.specs.Calls.{ShutDown, taken_of}
 use Rattle.socket_link.specs.LinkCalls.{LeavesHistory}
 use Rattle.socket_link.specs.Steps.{HasLasted, HasFoundEnd, HasClosed}
 use Rattle.socket_link.proofs.Parts.{no_bytes}

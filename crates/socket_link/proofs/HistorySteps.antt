@@ -1,20 +1,19 @@
 -- How the history of a link goes on following the calls of its socket, step by step.
-use Rattle.std.proofs.Common.{◌≡◌, ℕ, Bool, true, false, List, [], ◌∷◌, ◌++◌, refl, sym, ap, ◌∙◌, append_assoc}
-use Rattle.std.proofs.Common.{IsTrue, slice_get, if◌then◌else◌}
+use Rattle.std.proofs.Common.{◌≡◌, ℕ, false, List, [], ◌∷◌, ◌++◌, refl, sym, ap, ◌∙◌, append_assoc}
+use Rattle.std.proofs.Common.{IsTrue}
 use Rattle.std.proofs.lemmas.List.{append-nil}
-use Rattle.vod_base.specs.Links.{IoEvent, HeardSlot, sends}
+use Rattle.vod_base.specs.Links.{IoEvent, sends}
 use Rattle.vod_base.specs.MemoryLinks.{sent_of}
 use Rattle.socket_link.specs.declared.limits.Watch.{Watch}
 use Rattle.socket_link.specs.declared.links.SocketLink.{SocketLink}
 use Rattle.socket_link.specs.declared.sockets.Purpose.{Purpose}
-use Rattle.socket_link.specs.declared.sockets.Purpose.TheVariants.{Accept, Slot, Idle, Patience, End}
+use Rattle.socket_link.specs.declared.sockets.Purpose.TheVariants.{Slot}
 use Rattle.socket_link.specs.declared.sockets.Socket.{Ghosts}
 use Rattle.socket_link.specs.Calls.{SocketCall, GaveBytes, GaveNothing, GaveEnd, TookBytes, TookNothing, WasInterrupted}
-use Rattle.socket_link.specs.Calls.{ReadClock, Waited, ShutDown, bytes_taken, taken_of, arrival_of, arrivals_of}
-use Rattle.socket_link.specs.Slots.{slot_of, is_newer, slots_due, slots_after, is_for_slots}
-use Rattle.socket_link.specs.Limits.{no_watch, watched, watch_of}
+use Rattle.socket_link.specs.Calls.{ReadClock, Waited, ShutDown, taken_of, arrivals_of}
+use Rattle.socket_link.specs.Slots.{slots_due, slots_after, is_for_slots}
+use Rattle.socket_link.specs.Limits.{no_watch, watch_of}
 use Rattle.socket_link.specs.Histories.{heard_of, slots_heard, Follows}
-use Rattle.socket_link.specs.Purposes.{slot_reading}
 use Rattle.socket_link.proofs.Appends.{taken_of-append, arrivals_of-append, slots_due-append, watch_of-append}
 use Rattle.socket_link.proofs.Appends.{sent_of-append, heard_of-append, slots_heard-append, sent_of-sends}
 use Rattle.socket_link.proofs.Appends.{heard_of-sends, slots_heard-sends}
@@ -130,44 +129,6 @@ follows_put link {left} {doings} bytes left_is doings_are =
       heard = heard_of-sends bytes;
       slots = slots_heard-sends (slots_heard [] old.doings) bytes;
       watch = refl;
-    })
-
--- a reading of the clock for slots, and whether a newer slot begins by it
-pub record ReadsSlot (link : Followed) (newer : Bool) (new : LinkState) : Type 0 where
-  pub time : ℕ
-  pub calls : new.calls ≡ link.state.calls ++ slot_reading time ∷ []
-  pub waiting : new.waiting ≡ link.state.waiting
-  pub watch : new.watch ≡ watched link.state.watch (slot_reading time)
-  pub newer_is : is_newer (slice_get (slots_heard [] link.state.doings) 0) (slot_of link.units time) ≡ newer
-  pub doings : new.doings ≡ link.state.doings ++ (if newer then HeardSlot (slot_of link.units time) ∷ [] else [])
-
--- the event of a slot, or none
-record Reports (doings : List IoEvent) (slots now : List ℕ) : Type 0 where
-  bytes : sent_of doings ≡ []
-  heard : heard_of doings ≡ []
-  reported : slots_heard slots doings ≡ now
-
-reports : (newer : Bool) (slot : ℕ) (slots : List ℕ) →
-    Reports (if newer then HeardSlot slot ∷ [] else []) slots (if newer then slot ∷ slots else slots)
-reports true slot slots = record { bytes = refl; heard = refl; reported = refl }
-reports false slot slots = record { bytes = refl; heard = refl; reported = refl }
-
-pub follows_slot : (link : Followed) (newer : Bool) (new : LinkState) → ReadsSlot link newer new →
-    FollowsAt link.units new
-follows_slot link newer new r =
-    let old = link.state in
-    let slots = slots_heard [] old.doings in
-    let slot = slot_of link.units r.time in
-    let event = reports newer slot slots in
-    follows_on link new (record {
-      calls = slot_reading r.time ∷ [];
-      doings = if newer then HeardSlot slot ∷ [] else [];
-      calls_are = r.calls;
-      doings_are = r.doings;
-      bytes = ap (λ (b : List ℕ). old.waiting ++ b) event.bytes ∙ append-nil old.waiting ∙ sym r.waiting;
-      heard = event.heard;
-      slots = event.reported ∙ sym (ap (λ b. if b then slot ∷ slots else slots) r.newer_is);
-      watch = r.watch;
     })
 
 -- the slots that were reported, after further events

@@ -1,13 +1,13 @@
 -- The times that limits count from, after calls of which some move no byte.
 use Rattle.std.proofs.Common.{◌≡◌, ℕ, ◌-◌, ◌^◌, ◌*◌, ◌<◌, ◌≤◌, List, [], ◌∷◌, ◌++◌, All, Option, Some, None, Bool, true}
-use Rattle.std.proofs.Common.{false, ◌||◌, nat_le, unwrap_or, refl, sym, ap, ◌∙◌, arith}
+use Rattle.std.proofs.Common.{false, ◌||◌, nat_le, unwrap_or, refl, ap, ◌∙◌, arith}
 use Rattle.std.proofs.lemmas.Bool.{false_from_ne_true, le-leb, leb-true, or_from, or_left}
 use Rattle.std.proofs.lemmas.List.Elements.{All-head, All-tail}
 use Rattle.socket_link.specs.declared.sockets.Purpose.{Purpose}
 use Rattle.socket_link.specs.declared.sockets.Purpose.TheVariants.{Accept, Slot, Idle, Patience, End}
 use Rattle.socket_link.specs.declared.limits.Watch.{Watch}
-use Rattle.socket_link.specs.Calls.{SocketCall, GaveBytes, GaveNothing, GaveEnd, TookBytes, TookNothing, WasInterrupted}
-use Rattle.socket_link.specs.Calls.{ReadClock, Waited, ShutDown}
+use Rattle.socket_link.specs.Calls.{SocketCall, GaveBytes, TookBytes}
+use Rattle.socket_link.specs.Calls.{ReadClock}
 use Rattle.socket_link.specs.Limits.{clocked, has_passed, is_overdue, no_watch, watched, watch_of}
 use Rattle.socket_link.specs.QuietCalls.{IsBeforePatience, IsQuiet, TakesNothing}
 use Rattle.socket_link.proofs.Appends.{watch_of-append}

@@ -1,7 +1,7 @@
 -- Which events are in order.
 use Rattle.std.proofs.Common.{ℕ, List, Option}
 use Rattle.vod_base.specs.declared.links.Heard.{Heard}
-use Rattle.vod_base.specs.declared.links.Heard.TheVariants.{Bytes, Slot, End}
+use Rattle.vod_base.specs.declared.links.Heard.TheVariants.{Slot}
 use Rattle.socket_link.specs.Calls.{SocketCall}
 use Rattle.socket_link.specs.Steps.{NoneIsDue, IsInOrder, IsNoSlot}
 

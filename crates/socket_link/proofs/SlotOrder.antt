@@ -3,9 +3,9 @@ use Rattle.std.proofs.Common.{◌≡◌, ℕ, ◌<◌, List, [], ◌∷◌, ◌+
 use Rattle.std.proofs.Common.{◌∙◌, inl, inr, subst, arith}
 use Rattle.std.proofs.lemmas.Bool.{cases_Bool, cond-true, cond-false, lt-ltb, ltb-true}
 use Rattle.std.proofs.lemmas.List.Elements.{All-nil, All-cons, All-head, All-weaker}
-use Rattle.socket_link.specs.declared.sockets.Purpose.TheVariants.{Accept, Slot, Idle, Patience, End}
-use Rattle.socket_link.specs.Calls.{SocketCall, GaveBytes, GaveNothing, GaveEnd, TookBytes, TookNothing, WasInterrupted}
-use Rattle.socket_link.specs.Calls.{ReadClock, Waited, ShutDown}
+use Rattle.socket_link.specs.declared.sockets.Purpose.TheVariants.{Slot}
+use Rattle.socket_link.specs.Calls.{SocketCall}
+use Rattle.socket_link.specs.Calls.{ReadClock}
 use Rattle.socket_link.specs.Slots.{AreFalling, slot_of, slots_after, slots_due, with_slot}
 use Rattle.socket_link.proofs.Appends.{slots_due-append}
 

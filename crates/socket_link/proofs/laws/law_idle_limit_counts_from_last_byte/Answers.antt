@@ -1,4 +1,4 @@
-use Rattle.std.proofs.Common.{◌≡◌, ℕ, List, [], ◌∷◌, ◌++◌, Option, None, sym, ap, ◌∙◌}
+use Rattle.std.proofs.Common.{◌≡◌, [], ◌∷◌, ◌++◌, None, sym, ap, ◌∙◌}
 use Rattle.socket_link.specs.declared.limits.Watch.{Watch}
 use Rattle.socket_link.specs.declared.sockets.Purpose.TheVariants.{Idle}
 use Rattle.socket_link.specs.Calls.{GaveBytes, ReadClock, TookBytes}

@@ -1,4 +1,4 @@
-use Rattle.std.proofs.Common.{ℕ, ◌≡◌, ◌*◌, ◌^◌, List, ◌∷◌, ◌++◌, Option, Some, refl, ap, ◌∙◌, unwrap_or}
+use Rattle.std.proofs.Common.{ℕ, ◌≡◌, ◌*◌, ◌^◌, ◌∷◌, ◌++◌, Option, Some, refl, ap, ◌∙◌, unwrap_or}
 use Rattle.socket_link.specs.declared.limits.Watch.{Watch}
 use Rattle.socket_link.specs.declared.sockets.Purpose.TheVariants.{Patience}
 use Rattle.socket_link.specs.Calls.{ReadClock, TookBytes}

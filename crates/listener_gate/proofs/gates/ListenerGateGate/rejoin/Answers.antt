@@ -1,4 +1,3 @@
-use Rattle.std.proofs.Common.{refl}
 use Rattle.listener_gate.proofs.Noting.{rejoin_told, splits_noted, state_of, view_of}
 use Rattle.listener_gate.proofs.gates.ListenerGateGate.rejoin.Goals as goal
 

@@ -1,6 +1,4 @@
-use Rattle.std.proofs.Common.{◌∙◌, arith, inl, inr, ◌≤◌, ◌-◌, ap, Some, List, [], ◌∷◌, ◌++◌, append_assoc}
-use Rattle.socket_link.specs.Calls.{SocketCall}
-use Rattle.socket_link.specs.Purposes.{end_reading}
+use Rattle.std.proofs.Common.{◌∙◌, arith, inl, inr, ◌≤◌, ◌-◌, ap, Some, append_assoc}
 use Rattle.socket_link.specs.declared.limits.TheConstants.{LINGER}
 use Rattle.socket_link.proofs.Rounds.{calls_err, calls_ok, calls_on, round_end, round_first, round_more, round_on}
 use Rattle.socket_link.proofs.Steps.{last_call}

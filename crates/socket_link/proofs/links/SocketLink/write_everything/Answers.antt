@@ -1,6 +1,4 @@
-use Rattle.std.proofs.Common.{arith, inl, inr, ◌≤◌, ◌-◌, List, [], ◌∷◌, ◌++◌, append_assoc, ap}
-use Rattle.socket_link.specs.Calls.{SocketCall}
-use Rattle.socket_link.specs.Purposes.{end_reading}
+use Rattle.std.proofs.Common.{arith, inl, inr, ◌≤◌, ◌-◌, append_assoc}
 use Rattle.socket_link.specs.declared.limits.TheConstants.{STUCK_LIMIT}
 use Rattle.socket_link.proofs.Ends.{none_left}
 use Rattle.socket_link.proofs.Rounds.{calls_err, calls_ok, calls_on, history_none, history_on, round_end, round_first}
