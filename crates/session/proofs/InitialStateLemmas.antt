@@ -25,6 +25,10 @@ pub record HeardMessage : Type 0 where
   pub ask : Ask
   pub hears : Hears old message ask new
 
+abbrev pub heard_by : {old new : SessionState} {message : List ℕ} {ask : Ask} → Hears old message ask new → HeardMessage
+heard_by {old} {new} {message} {ask} hears =
+    record { old = old; new = new; message = message; ask = ask; hears = hears }
+
 -- a message that the same session received twice
 pub record TwoHearings : Type 0 where
   pub old : SessionState

@@ -1,5 +1,5 @@
 -- The codes of replies: none of the session's own is 453 or 503, and 500 is out of memory.
-use Rattle.std.proofs.Common.{◌≡◌, ℕ, ◌<◌, ◌++◌, List, [], Option, Some, refl, sym, ap, subst, ◌∙◌, arith}
+use Rattle.std.proofs.Common.{◌≡◌, ℕ, ◌<◌, ◌++◌, List, [], Option, Some, Err, refl, sym, ap, subst, ◌∙◌, arith}
 use Rattle.std.specs.Prelude.{Bool, true, false, not, ◌==◌, ◌&&◌}
 use Rattle.std.proofs.lemmas.Fmt.{decimal_injective}
 use Rattle.std.specs.Fmt.{digits}
@@ -15,11 +15,19 @@ use Rattle.rtsp_methods.specs.declared.refusals.Refusal.TheVariants.{Parameter, 
 use Rattle.session.specs.RequestEffects.{HasCode, IsNoRefusal, RefusesNone}
 use Rattle.session.specs.RequestSteps.{Hears}
 use Rattle.session.specs.Laws.{Is500, IsOutOfMemory, MayRunOutOfMemory, NeverLacks}
-use Rattle.rtsp_replies.specs.Replies.{code_of, refusal_text}
+use Rattle.rtsp_replies.specs.Replies.{code_of, refusal_text, session_text}
+use Rattle.rtsp_text.specs.Fields.{first_sequence}
+use Rattle.rtsp_methods.specs.Refusals.{fault_refusal}
+use Rattle.rtsp_methods.specs.RequiredOptions.{option_of}
+use Rattle.session.specs.Methods.{IsRefused, IsReplied}
+use Rattle.session.specs.RefusalOrder.{IsJudged}
 use Rattle.session.specs.SessionStates.{SessionState}
-use Rattle.session.proofs.RequestCaseAnalysis.{ComesTo, Lacks, Refuses, Says, SettlesSetup, AsksForPlay, AsksForHalt}
-use Rattle.session.proofs.RequestCaseAnalysis.{AsksForLook}
-use Rattle.session.proofs.RequestCaseAnalysis.{AsksForOffer, comes_to}
+use Rattle.session.proofs.InitialStateLemmas.{HeardMessage, heard_by}
+use Rattle.session.proofs.RequestUniqueness.{first_sequence_is}
+use Rattle.session.proofs.RequestCaseAnalysis.{Answer, Replies, SetsUp, StartsPlay, HaltsPlay, StopsPlay, EndsSession}
+use Rattle.session.proofs.RequestCaseAnalysis.{TakesLook, SeeksOffer, OwnReply, ToFault, ToRefused, ToDeclined, ToAsked}
+use Rattle.session.proofs.RequestCaseAnalysis.{ToDescribed, ToConfirmed, ToEmpty, answer_to, fault_refuses, may_lack}
+use Rattle.session.proofs.RequestCaseAnalysis.{reply_of}
 
 -- a reply has one code
 pub one_code : {c d : ℕ} (text : List ℕ) → c < 1000 → d < 1000 → HasCode c text → HasCode d text → c ≡ d
@@ -136,62 +144,113 @@ found_front sequence fields rest = record {
       omega (arith, same);
 }
 
--- what is shown of a reply's text
-of_text : {text : List ℕ} {ask : Ask} (old new : SessionState) → ask ≡ Reply → new.text ≡ text → IsNoRefusal text
-    → RefusesNone ask new
-of_text {text} {ask} old new reply is refuses =
-    subst (λ a. RefusesNone a new) (sym reply) (subst IsNoRefusal (sym is) refuses)
+-- what the session replies by itself is neither, and 500 is out of memory
+own_plain : (h : HeardMessage) (reply : OwnReply h) → IsNoRefusal (reply_of h reply)
+own_plain h (ToFault fault is) = refusal_plain (first_sequence h.message) (fault_refusal fault) []
+own_plain h (ToRefused request refusal read judged) =
+    refusal_plain (Some request.sequence) refusal (option_of request.head.now)
+own_plain h (ToDeclined request refusal read cause) = refusal_plain (Some request.sequence) refusal []
+own_plain h (ToAsked taken) = ok_plain (Some taken.request.sequence) _ []
+own_plain h (ToDescribed asked taken stored at) = ok_plain (Some taken.request.sequence) _ _
+own_plain h (ToConfirmed asked taken) = ok_plain (Some taken.request.sequence) _ []
+own_plain h (ToEmpty taken) = ok_plain (Some taken.request.sequence) [] []
 
-comes_text : (old new : SessionState) (message : List ℕ) (ask : Ask) → ComesTo old message ask new → RefusesNone ask new
-comes_text old new message ask (Lacks may is) =
-    of_text old new is.0 (ap (λ (s : SessionState). s.text) is.1) (refusal_plain _ Memory [])
-comes_text old new message ask (Refuses sequence refusal option other is) =
-    of_text old new is.0 (ap (λ (s : SessionState). s.text) is.1) (refusal_plain sequence refusal option)
-comes_text old new message ask (Says sequence fields body tearing by command is) =
-    of_text old new command (ap (λ (s : SessionState). s.text) is) (ok_plain (Some sequence) fields body)
-comes_text old new message ask (SettlesSetup sequence setup init ranges command is) =
-    of_text old new command (ap (λ (s : SessionState). s.text) is) (ok_plain (Some sequence) _ [])
-comes_text old new message ask
-    (AsksForPlay stored setup paused range planned sequence authority ready planned_is command is) =
-    subst (λ a. RefusesNone a new) (sym command)
-    (λ rest. subst (λ (t : List ℕ). IsNoRefusal (t ++ rest)) (sym (ap (λ (s : SessionState). s.text) is))
-    (plain_front (Some sequence) _ rest))
-comes_text old new message ask (AsksForHalt sequence setup play next playing told by halts) =
-    subst (λ a. RefusesNone a new) (sym halts.command)
-    (subst IsNoRefusal (sym (ap (λ (s : SessionState). s.text) halts.state)) (ok_plain (Some sequence) _ []))
-comes_text old new message ask (AsksForLook sequence look) = subst (λ a. RefusesNone a new) (sym look.command) tt
-comes_text old new message ask (AsksForOffer sequence wait planned asks) =
-    subst (λ a. RefusesNone a new) (sym asks.command) tt
+-- what is shown of a reply's text
+of_text : {text : List ℕ} (h : HeardMessage) → h.ask ≡ Reply → h.new.text ≡ text → IsNoRefusal text
+    → RefusesNone h.ask h.new
+of_text h reply is refuses =
+    subst (λ a. RefusesNone a h.new) (sym reply) (subst IsNoRefusal (sym is) refuses)
+
+halt_text : (h : HeardMessage) (sequence keep : ℕ) → h.ask ≡ AskHalt keep
+    → h.new.text ≡ session_text sequence h.old.id → RefusesNone h.ask h.new
+halt_text h sequence keep command is =
+    subst (λ a. RefusesNone a h.new) (sym command) (subst IsNoRefusal (sym is) (ok_plain (Some sequence) _ []))
+
+answer_text : (h : HeardMessage) → Answer h → RefusesNone h.ask h.new
+answer_text h (Replies reply is) = of_text h is.0 (ap (λ (s : SessionState). s.text) is.1) (own_plain h reply)
+answer_text h (SetsUp film taken setup asks is) =
+    of_text h is.0 (ap (λ (s : SessionState). s.text) is.1) (ok_plain (Some taken.request.sequence) _ [])
+answer_text h (StartsPlay play planned asks planned_is) =
+    subst (λ a. RefusesNone a h.new) (sym asks.command)
+    (λ rest. subst (λ (t : List ℕ). IsNoRefusal (t ++ rest)) (sym (ap (λ (s : SessionState). s.text) asks.state))
+    (plain_front (Some play.taken.request.sequence) _ rest))
+answer_text h (HaltsPlay taken hand is) =
+    halt_text h taken.request.sequence is.asks.keep is.asks.command (ap (λ (s : SessionState). s.text) is.asks.state)
+answer_text h (StopsPlay taken hand is) =
+    halt_text h taken.request.sequence is.keep is.command (ap (λ (s : SessionState). s.text) is.state)
+answer_text h (EndsSession taken resting is) =
+    of_text h is.0 (ap (λ (s : SessionState). s.text) is.1) (ok_plain (Some taken.request.sequence) _ [])
+answer_text h (TakesLook taken look) = subst (λ a. RefusesNone a h.new) (sym look.command) tt
+answer_text h (SeeksOffer offer planned is asks) = subst (λ a. RefusesNone a h.new) (sym asks.command) tt
 
 pub hears_text : (old new : SessionState) (message : List ℕ) (ask : Ask) → Hears old message ask new → RefusesNone ask
     new
-hears_text old new message ask hears = comes_text old new message ask (comes_to old message ask new hears)
+hears_text old new message ask hears =
+    let h : HeardMessage = heard_by {old = old} {new = new} {message = message} {ask = ask} hears in
+    answer_text h (answer_to h)
+
+-- memory ran out for a message, as it may
+abbrev RunsOut : HeardMessage → Type 0
+RunsOut h = MayRunOutOfMemory h.old h.message × IsOutOfMemory h.old h.message h.ask h.new
+
+ok_found : (h : HeardMessage) (sequence : Option ℕ) (fields : List Field) (body : List ℕ)
+    → h.new.text ≡ reply_text 200 sequence fields body → HasCode 500 h.new.text → RunsOut h
+ok_found h sequence fields body is code =
+    absurd ((subst IsFound (sym is) (found_text sequence fields body)).found code)
+
+-- a refusal of the code 500 is out of memory
+refused_memory : (h : HeardMessage) (sequence : Option ℕ) (refusal : Refusal) (option : List ℕ)
+    → IsRefused h.old sequence refusal option h.ask h.new → HasCode 500 h.new.text → refusal ≡ Memory
+refused_memory h sequence refusal option is code =
+    let text = refusal_text sequence refusal option in
+    let its = subst (λ (t : List ℕ). HasCode 500 t) (ap (λ (s : SessionState). s.text) is.1) code in
+    let own = own_code refusal in
+    own.memory (one_code text own.small (omega arith) (refusal_code sequence refusal option) its)
+
+own_500 : (h : HeardMessage) (reply : OwnReply h) → IsReplied h.old (reply_of h reply) h.ask h.new
+    → HasCode 500 h.new.text → RunsOut h
+own_500 h (ToFault fault is_fault) is code =
+    absurd (fault_refuses fault (refused_memory h (first_sequence h.message) (fault_refusal fault) [] is code))
+own_500 h (ToRefused request refusal read judged) is code =
+    let memory : refusal ≡ Memory =
+    refused_memory h (Some request.sequence) refusal (option_of request.head.now) is code in
+    absurd (subst (λ r. IsJudged h.old.films h.old.id h.old.state request (Err r)) memory judged)
+own_500 h (ToDeclined request refusal read cause) is code =
+    let memory : refusal ≡ Memory = refused_memory h (Some request.sequence) refusal [] is code in
+    (
+      may_lack cause memory,
+      subst (λ n. IsRefused h.old n Memory [] h.ask h.new)
+          (sym (first_sequence_is h.message request.sequence read.sequence_is))
+          (subst (λ r. IsRefused h.old (Some request.sequence) r [] h.ask h.new) memory is),
+    )
+own_500 h (ToAsked taken) is code =
+    ok_found h (Some taken.request.sequence) _ [] (ap (λ (s : SessionState). s.text) is.1) code
+own_500 h (ToDescribed asked taken stored at) is code =
+    ok_found h (Some taken.request.sequence) _ _ (ap (λ (s : SessionState). s.text) is.1) code
+own_500 h (ToConfirmed asked taken) is code =
+    ok_found h (Some taken.request.sequence) _ [] (ap (λ (s : SessionState). s.text) is.1) code
+own_500 h (ToEmpty taken) is code =
+    ok_found h (Some taken.request.sequence) [] [] (ap (λ (s : SessionState). s.text) is.1) code
 
 -- a reply of 500 is that to a message for which memory is wanting, as it may be for it
-comes_500 : (old new : SessionState) (message : List ℕ) → ComesTo old message Reply new → HasCode 500 new.text
-    → MayRunOutOfMemory old message × IsOutOfMemory old message Reply new
-comes_500 old new message (Lacks may is) code = (may, is)
-comes_500 old new message (Refuses sequence refusal option other is) code =
-    let text = refusal_text sequence refusal option in
-    let own = own_code refusal in
-    let its = subst (λ (t : List ℕ). HasCode 500 t) (ap (λ (s : SessionState). s.text) is.1) code in
-    absurd (other (own.memory (one_code text own.small (omega arith) (refusal_code sequence refusal option) its)))
-comes_500 old new message (Says sequence fields body tearing by command is) code =
-    absurd ((subst IsFound (sym (ap (λ (s : SessionState). s.text) is))
-    (found_text (Some sequence) fields body)).found code)
-comes_500 old new message (SettlesSetup sequence setup init ranges command is) code =
-    absurd ((subst IsFound (sym (ap (λ (s : SessionState). s.text) is)) (found_text (Some sequence) _ [])).found code)
-comes_500 old new message
-    (AsksForPlay stored setup paused range planned sequence authority ready planned_is command is) code =
-    absurd (let no : ⊥ = cc in no)
-comes_500 old new message (AsksForHalt sequence setup play next playing told by halts) code =
-    absurd (let no : ⊥ = cc (halts.command) in no)
-comes_500 old new message (AsksForLook sequence look) code = absurd (let no : ⊥ = cc (look.command) in no)
-comes_500 old new message (AsksForOffer sequence wait planned asks) code = absurd (let no : ⊥ = cc (asks.command) in no)
+answer_500 : (h : HeardMessage) → h.ask ≡ Reply → HasCode 500 h.new.text → Answer h → RunsOut h
+answer_500 h reply code (Replies own is) = own_500 h own is code
+answer_500 h reply code (SetsUp film taken setup asks is) =
+    ok_found h (Some taken.request.sequence) _ [] (ap (λ (s : SessionState). s.text) is.1) code
+answer_500 h reply code (StartsPlay play planned asks planned_is) =
+    absurd (let no : ⊥ = cc (asks.command, reply) in no)
+answer_500 h reply code (HaltsPlay taken hand is) = absurd (let no : ⊥ = cc (is.asks.command, reply) in no)
+answer_500 h reply code (StopsPlay taken hand is) = absurd (let no : ⊥ = cc (is.command, reply) in no)
+answer_500 h reply code (EndsSession taken resting is) =
+    ok_found h (Some taken.request.sequence) _ [] (ap (λ (s : SessionState). s.text) is.1) code
+answer_500 h reply code (TakesLook taken look) = absurd (let no : ⊥ = cc (look.command, reply) in no)
+answer_500 h reply code (SeeksOffer offer planned is asks) = absurd (let no : ⊥ = cc (asks.command, reply) in no)
 
 hears_wanting : (old new : SessionState) (message : List ℕ) (ask : Ask) → Hears old message ask new → Is500 ask new
     → MayRunOutOfMemory old message × IsOutOfMemory old message ask new
-hears_wanting old new message Reply hears code = comes_500 old new message (comes_to old message Reply new hears) code
+hears_wanting old new message Reply hears code =
+    let h : HeardMessage = heard_by {old = old} {new = new} {message = message} {ask = Reply} hears in
+    answer_500 h refl code (answer_to h)
 hears_wanting old new message (AskPlay plan) hears code = absurd code
 hears_wanting old new message (AskHalt keep) hears code = absurd code
 hears_wanting old new message (AskLook slot) hears code = absurd code
@@ -206,25 +265,26 @@ pub hears_may : (old new : SessionState) (message : List ℕ) (ask : Ask) → He
 hears_may old new message ask hears code = (hears_wanting old new message ask hears code).0
 
 -- a request that begins a play at the station did not run out of memory
-comes_never : (old new : SessionState) (message : List ℕ) (ask : Ask) → ComesTo old message ask new → NeverLacks ask new
-comes_never old new message ask (Lacks may is) = subst (λ a. NeverLacks a new) (sym is.0) tt
-comes_never old new message ask (Refuses sequence refusal option other is) = subst (λ a. NeverLacks a new) (sym is.0) tt
-comes_never old new message ask (Says sequence fields body tearing by command is) =
-    subst (λ a. NeverLacks a new) (sym command) tt
-comes_never old new message ask (SettlesSetup sequence setup init ranges command is) =
-    subst (λ a. NeverLacks a new) (sym command) tt
-comes_never old new message ask
-    (AsksForPlay stored setup paused range planned sequence authority ready planned_is command is) =
-    subst (λ a. NeverLacks a new) (sym command)
-    (λ rest. (subst (λ (t : List ℕ). IsFound (t ++ rest)) (sym (ap (λ (s : SessionState). s.text) is))
-    (found_front (Some sequence) _ rest)).found)
-comes_never old new message ask (AsksForHalt sequence setup play next playing told by halts) =
-    subst (λ a. NeverLacks a new) (sym halts.command)
-    (subst IsFound (sym (ap (λ (s : SessionState). s.text) halts.state)) (found_text (Some sequence) _ [])).found
-comes_never old new message ask (AsksForLook sequence look) = subst (λ a. NeverLacks a new) (sym look.command) tt
-comes_never old new message ask (AsksForOffer sequence wait planned asks) =
-    subst (λ a. NeverLacks a new) (sym asks.command) tt
+answer_never : (h : HeardMessage) → Answer h → NeverLacks h.ask h.new
+answer_never h (Replies reply is) = subst (λ a. NeverLacks a h.new) (sym is.0) tt
+answer_never h (SetsUp film taken setup asks is) = subst (λ a. NeverLacks a h.new) (sym is.0) tt
+answer_never h (StartsPlay play planned asks planned_is) =
+    subst (λ a. NeverLacks a h.new) (sym asks.command)
+    (λ rest. (subst (λ (t : List ℕ). IsFound (t ++ rest)) (sym (ap (λ (s : SessionState). s.text) asks.state))
+    (found_front (Some play.taken.request.sequence) _ rest)).found)
+answer_never h (HaltsPlay taken hand is) =
+    subst (λ a. NeverLacks a h.new) (sym is.asks.command)
+    (subst IsFound (sym (ap (λ (s : SessionState). s.text) is.asks.state))
+    (found_text (Some taken.request.sequence) _ [])).found
+answer_never h (StopsPlay taken hand is) =
+    subst (λ a. NeverLacks a h.new) (sym is.command)
+    (subst IsFound (sym (ap (λ (s : SessionState). s.text) is.state)) (found_text (Some taken.request.sequence) _ [])).found
+answer_never h (EndsSession taken resting is) = subst (λ a. NeverLacks a h.new) (sym is.0) tt
+answer_never h (TakesLook taken look) = subst (λ a. NeverLacks a h.new) (sym look.command) tt
+answer_never h (SeeksOffer offer planned is asks) = subst (λ a. NeverLacks a h.new) (sym asks.command) tt
 
 pub hears_never : (old new : SessionState) (message : List ℕ) (ask : Ask) → Hears old message ask new → NeverLacks ask
     new
-hears_never old new message ask hears = comes_never old new message ask (comes_to old message ask new hears)
+hears_never old new message ask hears =
+    let h : HeardMessage = heard_by {old = old} {new = new} {message = message} {ask = ask} hears in
+    answer_never h (answer_to h)

@@ -1,91 +1,278 @@
--- What a message comes to: the one analysis of it by cases, above which the laws stand.
-use Rattle.std.proofs.Common.{◌≡◌, ◌≢◌, ℕ, ◌<◌, ◌≤◌, ◌⊎◌, Bool, true, false, List, [], length}
-use Rattle.std.proofs.Common.{Option, Some, None, Result, Ok, Err, codes, refl, sym, subst, inl}
-use Rattle.std.proofs.Common.{inr, arith}
+-- What a session answers to a message: the one analysis of it by cases, above which the laws stand.
+use Rattle.std.proofs.Common.{◌≡◌, ◌≢◌, ℕ, ◌<◌, ◌≤◌, ◌⊎◌, false, List, [], length, Option, Some, None, Result, Ok}
+use Rattle.std.proofs.Common.{Err, codes, string_bytes, refl, sym, subst, inl, inr, arith}
 use Rattle.std.proofs.lemmas.Option.{slice_get_within}
 use Rattle.film_frames.specs.declared.stored_films.Stored.{Stored}
 use Rattle.film_run.specs.declared.runs.Run.{Run}
 use Rattle.rtsp_text.specs.Fields.{first_sequence, header_value}
-use Rattle.rtsp_text.specs.Replies.{Field, reply_text}
+use Rattle.rtsp_text.specs.Requests.{IsFault}
 use Rattle.rtsp_text.specs.declared.requests.Request.{Request}
 use Rattle.rtsp_text.specs.declared.requests.RequestFault.{RequestFault}
 use Rattle.rtsp_text.specs.declared.requests.RequestFault.TheVariants.{BadLine, BadVersion, BadHeader, NoSequenceNumber}
 use Rattle.rtsp_text.specs.declared.requests.RequestFault.TheVariants.{BadLength}
-use Rattle.session.specs.declared.commands.Ask.{Ask}
-use Rattle.session.specs.declared.commands.Ask.TheVariants.{Reply, Play as AskPlay}
+use Rattle.rtsp_methods.specs.Methods.{IsTopic, IsWord}
+use Rattle.rtsp_methods.specs.Refusals.{fault_refusal}
+use Rattle.rtsp_methods.specs.RequiredOptions.{option_of}
 use Rattle.rtsp_methods.specs.declared.topics.Topic.{Topic}
 use Rattle.rtsp_methods.specs.declared.topics.Topic.TheVariants.{Nothing as NoTopic, Booked, Offer as OfferTopic}
 use Rattle.rtsp_methods.specs.declared.topics.Topic.TheVariants.{Unknown}
-use Rattle.session.specs.declared.plans.Planned.{Planned}
 use Rattle.rtsp_methods.specs.declared.refusals.Refusal.{Refusal}
 use Rattle.rtsp_methods.specs.declared.refusals.Refusal.TheVariants.{BadRequest, Version, Method}
 use Rattle.rtsp_methods.specs.declared.refusals.Refusal.TheVariants.{Option as Required, Session, Film}
 use Rattle.rtsp_methods.specs.declared.refusals.Refusal.TheVariants.{State as NotNow, Transport}
 use Rattle.rtsp_methods.specs.declared.refusals.Refusal.TheVariants.{Parameter, Buffer, Range, Memory}
-use Rattle.session.specs.declared.refusals.Task.{Task}
-use Rattle.session.specs.declared.refusals.Task.TheVariants.{Options as ToOptions}
-use Rattle.session.specs.declared.refusals.Task.TheVariants.{Describe as ToDescribe}
-use Rattle.session.specs.declared.refusals.Task.TheVariants.{Setup as ToSetup, Play as ToPlay}
-use Rattle.session.specs.declared.refusals.Task.TheVariants.{Pause as ToPause}
-use Rattle.session.specs.declared.refusals.Task.TheVariants.{Teardown as ToTeardown}
-use Rattle.session.specs.declared.refusals.Task.TheVariants.{GetParameter as ToGetParameter}
+use Rattle.rtsp_replies.specs.Replies.{describe_text, plain_text, public_text, refusal_text, session_text}
+use Rattle.film_streams.specs.Films.{IsFilmAt, length_ms}
+use Rattle.film_streams.specs.SettingRanges.{AreSettings, IsSetup}
+use Rattle.film_streams.specs.Setups.{AsksForSetup, IsChosen, IsSetupRead}
 use Rattle.film_streams.specs.declared.settings.Settings.{Settings}
-use Rattle.session.specs.declared.states.Awaited.TheVariants.{Play}
-use Rattle.session.specs.declared.states.AfterHalt.{AfterHalt}
-use Rattle.session.specs.declared.states.AfterHalt.TheVariants.{Paused, Torn}
-use Rattle.session.specs.declared.states.Play.{Play as Played}
+use Rattle.film_streams.specs.declared.films.Asked.{Asked}
 use Rattle.film_streams.specs.declared.setups.Setup.{Setup}
+use Rattle.session.specs.declared.plans.Planned.{Planned}
+use Rattle.session.specs.declared.refusals.Task.{Task}
+use Rattle.session.specs.declared.refusals.Task.TheVariants.{Options as ToOptions, Describe as ToDescribe}
+use Rattle.session.specs.declared.refusals.Task.TheVariants.{Setup as ToSetup, Play as ToPlay, Pause as ToPause}
+use Rattle.session.specs.declared.refusals.Task.TheVariants.{Teardown as ToTeardown, GetParameter as ToGetParameter}
+use Rattle.session.specs.declared.states.AfterHalt.TheVariants.{Torn}
 use Rattle.session.specs.declared.states.State.{State}
 use Rattle.session.specs.declared.states.State.TheVariants.{Init, Ready, Playing, Stopping}
-use Rattle.session.specs.Laws.{IsTeardown}
-use Rattle.session.specs.RequestSteps.{Hears, is_answered, is_torn}
-use Rattle.session.specs.RefusalOrder.{IsJudged, IsReadAs}
-use Rattle.rtsp_methods.specs.RequiredOptions.{option_of}
-use Rattle.rtsp_methods.specs.Methods.{IsTopic, IsWord}
-use Rattle.rtsp_methods.specs.Refusals.{fault_refusal}
-use Rattle.session.specs.Laws.{IsOfMethod, IsOutOfMemory, MayRunOutOfMemory}
-use Rattle.session.specs.Methods.{AsksHalt, AsksLook, AsksOffer, AsksOfferOr, AsksPlayOr, Gets, play_call}
-use Rattle.session.specs.Methods.{GetsOffer, IsRefused, IsReplied, IsSetUp, Looks, Pauses, Plays}
-use Rattle.session.specs.Methods.{Takes, TearsDown, play_front, prepared_of}
+use Rattle.session.specs.Laws.{IsTeardown, MayRunOutOfMemory}
+use Rattle.session.specs.Methods.{AsksHalt, AsksLook, AsksOffer, AsksOfferOr, AsksPlay, AsksPlayOr, Ends, Gets}
+use Rattle.session.specs.Methods.{GetsOffer, HasWait, IsReplied, IsSetUp, Looks, Pauses, PausesPlay, Plays, Takes}
+use Rattle.session.specs.Methods.{TearsDown, play_call}
+use Rattle.session.specs.RefusalOrder.{IsJudged, IsReadAs, IsTaken}
 use Rattle.session.specs.RequestedPlans.{IsPlanned, IsPlannedRun}
-use Rattle.film_streams.specs.SettingRanges.{AreSettings, IsSetup}
-use Rattle.rtsp_replies.specs.Replies.{setup_text}
-use Rattle.film_streams.specs.Setups.{IsSetupRead}
-use Rattle.film_streams.specs.Setups.{AsksForSetup, IsChosen}
-use Rattle.session.specs.SessionStates.{IsReadyIn, SessionState, has_session_in, with_reply}
+use Rattle.session.specs.SessionStates.{IsReadyIn, SessionState, has_session_in, is_playing_in}
+use Rattle.session.proofs.InitialStateLemmas.{HeardMessage, PlayInHand}
 use Rattle.session.proofs.ResumedPlayLemmas.{of_film}
-use Rattle.session.proofs.RequestUniqueness.{first_sequence_is}
 
-pub data ComesTo (old : SessionState) (message : List ℕ) (ask : Ask) (new : SessionState) : Type 0 where
-  -- memory is wanting
-  Lacks : MayRunOutOfMemory old message → IsOutOfMemory old message ask new → ComesTo old message ask new
-  Refuses : (sequence : Option ℕ) (refusal : Refusal) (option : List ℕ) → refusal ≢ Memory
-      → IsRefused old sequence refusal option ask new → ComesTo old message ask new
-  -- a 200 that changes nothing, or that a TEARDOWN is answered
-  Says : (sequence : ℕ) (fields : List Field) (body : List ℕ) (tearing : Bool)
-      → (tearing ≡ old.tearing) ⊎ IsTeardown message → ask ≡ Reply
-      → new ≡ record old { text = reply_text 200 (Some sequence) fields body; waits = true; tearing = tearing }
-      → ComesTo old message ask new
-  SettlesSetup : (sequence : ℕ) (setup : Setup) → old.state ≡ Init
-      → (AreSettings old.settings → IsSetup (length old.films) setup) → ask ≡ Reply
-      → new ≡ record (with_reply old (setup_text sequence setup.media setup.control old.source.ssrc old.id))
-      { state = Ready setup None }
-      → ComesTo old message ask new
-  AsksForPlay : (stored : Stored) (setup : Setup) (paused : Option Run) (range : Option (List ℕ))
-      (planned : Planned) (sequence : ℕ)
-      (authority : List ℕ) → old.state ≡ Ready setup paused → IsPlannedRun old stored setup paused range planned
-      → ask ≡ AskPlay planned.plan
-      → new ≡ record old {
-        awaited = Play (prepared_of old stored setup planned sequence);
-        text = play_front old stored setup planned sequence authority;
-      } → ComesTo old message ask new
-  AsksForHalt : (sequence : ℕ) (setup : Setup) (play : Played) (next : AfterHalt) → old.state ≡ Playing setup play
-      → is_answered next ≡ true → (is_torn next ≡ false) ⊎ IsTeardown message
-      → AsksHalt old sequence setup play next ask new
-      → ComesTo old message ask new
-  AsksForLook : (sequence : ℕ) → AsksLook old sequence ask new → ComesTo old message ask new
-  AsksForOffer : (sequence wait : ℕ) (planned : Planned) → AsksOffer old sequence wait planned ask new
-      → ComesTo old message ask new
+-- a request that is processed, with the task that it is judged to ask for
+pub record TakenTask (h : HeardMessage) (task : Task) : Type 0 where
+  pub request : Request
+  pub is_request : IsReadAs h.message request
+  pub judged : IsTaken h.old.films h.old.id h.old.state request task
+
+-- a PLAY that is received in Ready
+pub record ReadyPlay (h : HeardMessage) : Type 0 where
+  pub asked : Asked
+  pub taken : TakenTask h (ToPlay asked)
+  pub setup : Setup
+  pub paused : Option Run
+  pub ready : h.old.state ≡ Ready setup paused
+
+-- a request for an offer, with the wait that it names, that is received in Ready
+pub record ReadyOffer (h : HeardMessage) : Type 0 where
+  pub taken : TakenTask h ToGetParameter
+  pub body : IsWord (codes "x-Offer") taken.request.body.now
+  pub setup : Setup
+  pub paused : Option Run
+  pub ready : h.old.state ≡ Ready setup paused
+  pub wait : ℕ
+  pub has_wait : HasWait taken.request.head.now wait
+
+-- why a method refuses a request by itself
+pub data OwnCause (h : HeardMessage) (request : Request) (refusal : Refusal) : Type 0 where
+  NoSetup : (film : ℕ) → IsSetupRead h.old.settings request.head.now film (Err refusal) → OwnCause h request refusal
+  NoPlan : (setup : Setup) (paused : Option Run) (range : Option (List ℕ))
+      → IsPlanned h.old setup paused range (Err refusal) → MayRunOutOfMemory h.old h.message
+      → OwnCause h request refusal
+  NoMemory : refusal ≡ Memory → MayRunOutOfMemory h.old h.message → OwnCause h request refusal
+  NoSession : refusal ≡ Session → h.old.state ≡ Init → OwnCause h request refusal
+  NotInPlaying : refusal ≡ NotNow → OwnCause h request refusal
+  NoParameter : refusal ≡ Parameter → OwnCause h request refusal
+
+-- what a session replies by itself, where nothing else changes
+pub data OwnReply (h : HeardMessage) : Type 0 where
+  ToFault : (fault : RequestFault) → IsFault h.message fault → OwnReply h
+  ToRefused : (request : Request) (refusal : Refusal) → IsReadAs h.message request
+      → IsJudged h.old.films h.old.id h.old.state request (Err refusal) → OwnReply h
+  ToDeclined : (request : Request) (refusal : Refusal) → IsReadAs h.message request → OwnCause h request refusal
+      → OwnReply h
+  ToAsked : TakenTask h ToOptions → OwnReply h
+  ToDescribed : (asked : Asked) → TakenTask h (ToDescribe asked) → (stored : Stored)
+      → IsFilmAt h.old.films asked.film stored → OwnReply h
+  ToConfirmed : (asked : Asked) → TakenTask h (ToPlay asked) → OwnReply h
+  ToEmpty : TakenTask h ToGetParameter → OwnReply h
+
+abbrev pub reply_of : (h : HeardMessage) → OwnReply h → List ℕ
+reply_of h (ToFault fault is) = refusal_text (first_sequence h.message) (fault_refusal fault) []
+reply_of h (ToRefused request refusal read judged) =
+    refusal_text (Some request.sequence) refusal (option_of request.head.now)
+reply_of h (ToDeclined request refusal read cause) = refusal_text (Some request.sequence) refusal []
+reply_of h (ToAsked taken) = public_text taken.request.sequence
+reply_of h (ToDescribed asked taken stored at) =
+    describe_text taken.request.sequence asked.authority.now (string_bytes stored.name) (length_ms stored.film)
+reply_of h (ToConfirmed asked taken) = session_text taken.request.sequence h.old.id
+reply_of h (ToEmpty taken) = plain_text taken.request.sequence
+
+pub data Answer (h : HeardMessage) : Type 0 where
+  Replies : (reply : OwnReply h) → IsReplied h.old (reply_of h reply) h.ask h.new → Answer h
+  SetsUp : (film : ℕ) (taken : TakenTask h (ToSetup film)) (setup : Setup)
+      → AsksForSetup h.old.settings taken.request.head.now film setup
+      → IsSetUp h.old taken.request.sequence (Ok setup) h.ask h.new → Answer h
+  StartsPlay : (play : ReadyPlay h) (planned : Planned)
+      (asks : AsksPlay h.old play.taken.request.sequence play.asked.authority.now play.setup planned h.ask h.new)
+      → IsPlannedRun h.old asks.stored play.setup play.paused
+      (header_value play.taken.request.head.now (codes "Range")) planned → Answer h
+  HaltsPlay : (taken : TakenTask h ToPause) (hand : PlayInHand h.old)
+      → PausesPlay h.old taken.request.sequence hand.setup hand.play h.ask h.new → Answer h
+  StopsPlay : (taken : TakenTask h ToTeardown) (hand : PlayInHand h.old)
+      → AsksHalt h.old taken.request.sequence hand.setup hand.play Torn h.ask h.new → Answer h
+  EndsSession : (taken : TakenTask h ToTeardown) → is_playing_in h.old.state ≡ false
+      → Ends h.old taken.request.sequence h.ask h.new → Answer h
+  TakesLook : (taken : TakenTask h ToGetParameter) → AsksLook h.old taken.request.sequence h.ask h.new → Answer h
+  SeeksOffer : (offer : ReadyOffer h) (planned : Planned) → IsPlanned h.old offer.setup offer.paused None (Ok planned)
+      → AsksOffer h.old offer.taken.request.sequence offer.wait planned h.ask h.new → Answer h
+
+ready_in : {setup : Setup} {paused : Option Run} (old : SessionState) → old.state ≡ Ready setup paused
+    → IsReadyIn old.state setup
+ready_in {setup} old is = subst (λ (s : State). IsReadyIn s setup) (sym is) refl
+
+may_play : (h : HeardMessage) → ReadyPlay h → MayRunOutOfMemory h.old h.message
+may_play h play =
+    let t = play.taken in
+    inl (record {
+      setup = play.setup;
+      ready = ready_in h.old play.ready;
+      play = record { request = t.request; is_request = t.is_request; method_is = t.judged.talk.spoken.named };
+    })
+
+may_offer : (h : HeardMessage) → ReadyOffer h → MayRunOutOfMemory h.old h.message
+may_offer h offer =
+    let t = offer.taken in
+    inr (inl (record {
+      setup = offer.setup;
+      request = t.request;
+      ready = ready_in h.old offer.ready;
+      offer = record { is_request = t.is_request; method = t.judged.talk.spoken.named; body = offer.body };
+    }))
+
+sets_up : (h : HeardMessage) (film : ℕ) (taken : TakenTask h (ToSetup film)) (read : Result Setup Refusal)
+    → IsSetupRead h.old.settings taken.request.head.now film read
+    → IsSetUp h.old taken.request.sequence read h.ask h.new → Answer h
+sets_up h film taken (Ok setup) is done = SetsUp film taken setup is done
+sets_up h film taken (Err refusal) is done =
+    Replies (ToDeclined taken.request refusal taken.is_request (NoSetup film is)) done
+
+starts_play : (h : HeardMessage) (play : ReadyPlay h) (planned : Result Planned Refusal)
+    → IsPlanned h.old play.setup play.paused (header_value play.taken.request.head.now (codes "Range")) planned
+    → AsksPlayOr h.old (play_call play.taken.request.sequence play.asked.authority.now play.setup) planned h.ask h.new
+    → Answer h
+starts_play h play (Ok planned) is (inl asks) =
+    let range = header_value play.taken.request.head.now (codes "Range") in
+    StartsPlay play planned asks (of_film h.old.films play.setup.film is.0
+    (λ s. IsPlannedRun h.old s play.setup play.paused range planned) is.1.at is.1 asks.stored asks.at)
+starts_play h play (Ok planned) is (inr refused) =
+    Replies (ToDeclined play.taken.request Memory play.taken.is_request (NoMemory refl (may_play h play))) refused
+starts_play h play (Err refusal) is refused =
+    Replies (ToDeclined play.taken.request refusal play.taken.is_request
+    (NoPlan play.setup play.paused _ is (may_play h play))) refused
+
+plays : (h : HeardMessage) (asked : Asked) (taken : TakenTask h (ToPlay asked)) (state : State) → h.old.state ≡ state
+    → Plays state h.old taken.request asked.authority.now h.ask h.new → Answer h
+plays h asked taken Init same is = absurd is
+plays h asked taken (Ready setup paused) same is =
+    starts_play h (record { asked = asked; taken = taken; setup = setup; paused = paused; ready = same }) is.planned
+    is.is_planned is.asks
+plays h asked taken (Playing setup play) same is = Replies (ToConfirmed asked taken) is
+plays h asked taken (Stopping setup stop) same is = Replies (ToConfirmed asked taken) is
+
+pauses : (h : HeardMessage) (taken : TakenTask h ToPause) (state : State) → h.old.state ≡ state
+    → Pauses state h.old taken.request.sequence h.ask h.new → Answer h
+pauses h taken Init same is = absurd is
+pauses h taken (Ready setup paused) same is = absurd is
+pauses h taken (Playing setup play) same is =
+    HaltsPlay taken (record { setup = setup; play = play; playing = same }) is
+pauses h taken (Stopping setup stop) same is = absurd is
+
+tears : (h : HeardMessage) (taken : TakenTask h ToTeardown) (state : State) → h.old.state ≡ state
+    → TearsDown state h.old taken.request.sequence h.ask h.new → Answer h
+tears h taken Init same is = EndsSession taken (subst (λ s. is_playing_in s ≡ false) (sym same) refl) is
+tears h taken (Ready setup paused) same is =
+    EndsSession taken (subst (λ s. is_playing_in s ≡ false) (sym same) refl) is
+tears h taken (Playing setup play) same is =
+    StopsPlay taken (record { setup = setup; play = play; playing = same }) is
+tears h taken (Stopping setup stop) same is =
+    EndsSession taken (subst (λ s. is_playing_in s ≡ false) (sym same) refl) is
+
+seeks_offer : (h : HeardMessage) (offer : ReadyOffer h) (planned : Result Planned Refusal)
+    → IsPlanned h.old offer.setup offer.paused None planned
+    → AsksOfferOr h.old offer.taken.request.sequence offer.wait planned h.ask h.new → Answer h
+seeks_offer h offer (Ok planned) is (inl asks) = SeeksOffer offer planned is asks
+seeks_offer h offer (Ok planned) is (inr refused) =
+    Replies (ToDeclined offer.taken.request Memory offer.taken.is_request (NoMemory refl (may_offer h offer))) refused
+seeks_offer h offer (Err refusal) is refused =
+    Replies (ToDeclined offer.taken.request refusal offer.taken.is_request
+    (NoPlan offer.setup offer.paused None is (may_offer h offer))) refused
+
+gets_offer : (h : HeardMessage) (taken : TakenTask h ToGetParameter) → IsWord (codes "x-Offer") taken.request.body.now
+    → (state : State) → h.old.state ≡ state → GetsOffer state h.old taken.request h.ask h.new → Answer h
+gets_offer h taken body Init same is =
+    Replies (ToDeclined taken.request Session taken.is_request (NoSession refl same)) is
+gets_offer h taken body (Ready setup paused) same (inl short) =
+    Replies (ToDeclined taken.request Parameter taken.is_request (NoParameter refl)) short.refused
+gets_offer h taken body (Ready setup paused) same (inr offers) =
+    seeks_offer h (record {
+      taken = taken;
+      body = body;
+      setup = setup;
+      paused = paused;
+      ready = same;
+      wait = offers.wait;
+      has_wait = offers.has_wait;
+    }) offers.offers.planned offers.offers.is_planned offers.offers.asks
+gets_offer h taken body (Playing setup play) same is =
+    Replies (ToDeclined taken.request NotNow taken.is_request (NotInPlaying refl)) is
+gets_offer h taken body (Stopping setup stop) same is =
+    Replies (ToDeclined taken.request NotNow taken.is_request (NotInPlaying refl)) is
+
+looks : (h : HeardMessage) (taken : TakenTask h ToGetParameter) → IsWord (codes "x-Booked") taken.request.body.now
+    → Looks h.old taken.request.sequence h.ask h.new → Answer h
+looks h taken body (inl look) = TakesLook taken look
+looks h taken body (inr short) =
+    Replies (ToDeclined taken.request Memory taken.is_request (NoMemory refl (inr (inr (record {
+      look = record {
+        request = taken.request;
+        is_request = taken.is_request;
+        method = taken.judged.talk.spoken.named;
+        body = body;
+      };
+      none = short.later;
+    }))))) short.refused
+
+gets : (h : HeardMessage) (taken : TakenTask h ToGetParameter) (topic : Topic) → IsTopic taken.request.body.now topic
+    → Gets h.old taken.request topic h.ask h.new → Answer h
+gets h taken NoTopic about is = Replies (ToEmpty taken) is
+gets h taken Booked about is = looks h taken about is
+gets h taken OfferTopic about is = gets_offer h taken about h.old.state refl is
+gets h taken Unknown about is =
+    Replies (ToDeclined taken.request Parameter taken.is_request (NoParameter refl)) is
+
+does : (h : HeardMessage) (task : Task) (taken : TakenTask h task) → Takes h.old taken.request (Ok task) h.ask h.new
+    → Answer h
+does h ToOptions taken is = Replies (ToAsked taken) is
+does h (ToDescribe asked) taken is = Replies (ToDescribed asked taken is.stored is.at) is.reply
+does h (ToSetup film) taken is = sets_up h film taken is.read is.is_read is.done
+does h (ToPlay asked) taken is = plays h asked taken h.old.state refl is
+does h ToPause taken is = pauses h taken h.old.state refl is
+does h ToTeardown taken is = tears h taken h.old.state refl is
+does h ToGetParameter taken is = gets h taken is.topic is.is_topic is.gets
+
+takes : (h : HeardMessage) (request : Request) (judgement : Result Task Refusal) → IsReadAs h.message request
+    → IsJudged h.old.films h.old.id h.old.state request judgement → Takes h.old request judgement h.ask h.new
+    → Answer h
+takes h request (Ok task) read judged is =
+    does h task (record { request = request; is_request = read; judged = judged }) is
+takes h request (Err refusal) read judged is = Replies (ToRefused request refusal read judged) is
+
+-- every answer to a message is one of the ways of `Answer`
+pub answer_to : (h : HeardMessage) → Answer h
+answer_to h = elim h.hears [
+  | inl fault ↦ Replies (ToFault fault.fault fault.is_fault) fault.refused
+  | inr whole ↦ takes h whole.request whole.hears.judgement whole.is_request whole.hears.judged whole.hears.takes
+]
+
+-- ---- what an answer says
 
 pub is_memory : (refusal : Refusal) → (refusal ≡ Memory) ⊎ (refusal ≢ Memory)
 is_memory Memory = inl refl
@@ -101,7 +288,7 @@ is_memory Parameter = inr (λ same. cc)
 is_memory (Buffer least) = inr (λ same. cc)
 is_memory Range = inr (λ same. cc)
 
-fault_refuses : (fault : RequestFault) → fault_refusal fault ≢ Memory
+pub fault_refuses : (fault : RequestFault) → fault_refusal fault ≢ Memory
 fault_refuses BadLine = λ same. cc
 fault_refuses BadVersion = λ same. cc
 fault_refuses (BadHeader line) = λ same. cc
@@ -137,200 +324,31 @@ init_of (Ready setup paused) none = absurd (let no : ⊥ = cc in no)
 init_of (Playing setup play) none = absurd (let no : ⊥ = cc in no)
 init_of (Stopping setup stop) none = absurd (let no : ⊥ = cc in no)
 
--- a SETUP of a film that the session has, which is received in Init
-record SetupHeard (old : SessionState) (message : List ℕ) (request : Request) (film : ℕ) : Type 0 where
-  number : first_sequence message ≡ Some request.sequence
-  init : old.state ≡ Init
-  within : film < length old.films
+pub is_teardown : {h : HeardMessage} → TakenTask h ToTeardown → IsTeardown h.message
+is_teardown taken = record {
+  request = taken.request;
+  is_request = taken.is_request;
+  method_is = taken.judged.talk.spoken.named;
+}
 
--- a PLAY that is received in Ready
-record PlayHeard (old : SessionState) (message : List ℕ) : Type 0 where
-  sequence : ℕ
-  authority : List ℕ
-  setup : Setup
-  paused : Option Run
-  range : Option (List ℕ)
-  number : first_sequence message ≡ Some sequence
-  ready : old.state ≡ Ready setup paused
-  play : IsOfMethod (codes "PLAY") message
+-- what a SETUP settles, in Init, is in its ranges
+pub settled_init : {h : HeardMessage} {film : ℕ} → TakenTask h (ToSetup film) → h.old.state ≡ Init
+settled_init {h} taken = init_of h.old.state taken.judged.state
 
--- a GET_PARAMETER that is received
-record ParameterHeard (old : SessionState) (message : List ℕ) (request : Request) : Type 0 where
-  read : IsReadAs message request
-  method : request.method.now ≡ codes "GET_PARAMETER"
-  number : first_sequence message ≡ Some request.sequence
+pub settled_ranges : {h : HeardMessage} {film : ℕ} {setup : Setup} (taken : TakenTask h (ToSetup film))
+    → AsksForSetup h.old.settings taken.request.head.now film setup → AreSettings h.old.settings
+    → IsSetup (length h.old.films) setup
+settled_ranges {h} {film} taken asks =
+    let named = taken.judged.film.1.named.film in
+    setup_ranges asks (slice_get_within h.old.films film named.stored named.at)
 
-module _ (old : SessionState) (message : List ℕ) (ask : Ask) (new : SessionState) where
-  abbrev Comes : Type 0
-  Comes = ComesTo old message ask new
-
-  lacks : (sequence : ℕ) → first_sequence message ≡ Some sequence → MayRunOutOfMemory old message
-      → IsRefused old (Some sequence) Memory [] ask new → Comes
-  lacks sequence number may is = Lacks may (subst (λ s. IsRefused old s Memory [] ask new) (sym number) is)
-
-  -- a refusal, or out of memory where it may be
-  refuses : (sequence : ℕ) (refusal : Refusal) → first_sequence message ≡ Some sequence
-      → (refusal ≡ Memory → MayRunOutOfMemory old message)
-      → IsRefused old (Some sequence) refusal [] ask new → Comes
-  refuses sequence refusal number may is =
-      elim (is_memory refusal) [
-        | inl memory ↦ lacks sequence number (may memory)
-            (subst (λ r. IsRefused old (Some sequence) r [] ask new) memory is)
-        | inr other ↦ Refuses (Some sequence) refusal [] other is
-      ]
-
-  ready_in : (setup : Setup) (paused : Option Run) → old.state ≡ Ready setup paused → IsReadyIn old.state setup
-  ready_in setup paused same = subst (λ (s : State). IsReadyIn s setup) (sym same) refl
-
-  says : (sequence : ℕ) (fields : List Field) (body : List ℕ)
-      → IsReplied old (reply_text 200 (Some sequence) fields body) ask new → Comes
-  says sequence fields body is = Says sequence fields body old.tearing (inl refl) is.0 is.1
-
-  looks_to : (request : Request) → ParameterHeard old message request → IsWord (codes "x-Booked") request.body.now
-      → Looks old request.sequence ask new → Comes
-  looks_to request heard booked (inl look) = AsksForLook request.sequence look
-  looks_to request heard booked (inr short) =
-      lacks request.sequence heard.number (inr (inr (record {
-        look = record {
-          request = request;
-          is_request = heard.read;
-          method = heard.method;
-          body =
-              booked;
-        };
-        none = short.later;
-      }))) short.refused
-
-  asks_offer_to : (sequence wait : ℕ) (planned : Result Planned Refusal) → first_sequence message ≡ Some sequence
-      → MayRunOutOfMemory old message → AsksOfferOr old sequence wait planned ask new → Comes
-  asks_offer_to sequence wait (Ok planned) number may (inl asks) = AsksForOffer sequence wait planned asks
-  asks_offer_to sequence wait (Ok planned) number may (inr refused) = lacks sequence number may refused
-  asks_offer_to sequence wait (Err refusal) number may refused = refuses sequence refusal number (λ memory. may) refused
-
-  gets_offer_to : (state : State) (request : Request) → ParameterHeard old message request
-      → IsWord (codes "x-Offer") request.body.now
-      → old.state ≡ state → GetsOffer state old request ask new → Comes
-  gets_offer_to Init request heard offer same is = Refuses (Some request.sequence) Session [] (λ memory. cc) is
-  gets_offer_to (Ready setup paused) request heard offer same (inl short) =
-      Refuses (Some request.sequence) Parameter [] (λ memory. cc) short.refused
-  gets_offer_to (Ready setup paused) request heard offer same (inr offers) =
-      asks_offer_to request.sequence offers.wait offers.offers.planned heard.number (inr (inl (record {
-        setup = setup;
-        request = request;
-        ready = ready_in setup paused same;
-        offer = record { is_request = heard.read; method = heard.method; body = offer };
-      }))) offers.offers.asks
-  gets_offer_to (Playing setup play) request heard offer same is =
-      Refuses (Some request.sequence) NotNow [] (λ memory. cc) is
-  gets_offer_to (Stopping setup stop) request heard offer same is =
-      Refuses (Some request.sequence) NotNow [] (λ memory. cc) is
-
-  gets_to : (request : Request) (topic : Topic) → ParameterHeard old message request → IsTopic request.body.now topic
-      → Gets old request topic ask new → Comes
-  gets_to request NoTopic heard topic is = says request.sequence [] [] is
-  gets_to request Booked heard topic is = looks_to request heard topic is
-  gets_to request OfferTopic heard topic is = gets_offer_to old.state request heard topic refl is
-  gets_to request Unknown heard topic is = Refuses (Some request.sequence) Parameter [] (λ memory. cc) is
-
-  set_up_to : (request : Request) (film : ℕ) (read : Result Setup Refusal) → SetupHeard old message request film
-      → IsSetupRead old.settings request.head.now film read → IsSetUp old request.sequence read ask new → Comes
-  set_up_to request film (Ok setup) heard read is =
-      SettlesSetup request.sequence setup heard.init (setup_ranges read heard.within) is.0 is.1
-  set_up_to request film (Err refusal) heard read is =
-      refuses request.sequence refusal heard.number
-      (λ memory. absurd (subst (λ r. IsSetupRead old.settings request.head.now film (Err r)) memory read)) is
-
-  may_play : PlayHeard old message → MayRunOutOfMemory old message
-  may_play heard =
-      inl (record {
-        setup = heard.setup;
-        ready = ready_in heard.setup heard.paused heard.ready;
-        play = heard.play;
-      })
-
-  asks_play_to : (heard : PlayHeard old message) (planned : Result Planned Refusal)
-      → IsPlanned old heard.setup heard.paused heard.range planned
-      → AsksPlayOr old (play_call heard.sequence heard.authority heard.setup) planned ask new → Comes
-  asks_play_to heard (Ok planned) is (inl asks) =
-      AsksForPlay asks.stored setup paused range planned sequence authority ready
-      (of_film old.films setup.film is.0 (λ s.
-      IsPlannedRun old s setup paused range planned) is.1.at is.1 asks.stored asks.at)
-      asks.command asks.state
-    where
-      open heard use {sequence, authority, setup, paused, range, ready}
-  asks_play_to heard (Ok planned) is (inr refused) = lacks heard.sequence heard.number (may_play heard) refused
-  asks_play_to heard (Err refusal) is refused =
-      refuses heard.sequence refusal heard.number (λ memory. may_play heard) refused
-
-  plays_to : (state : State) (request : Request) (authority : List ℕ) → first_sequence message ≡ Some request.sequence
-      → IsOfMethod (codes "PLAY") message → old.state ≡ state → Plays state old request authority ask new → Comes
-  plays_to Init request authority number play same is = absurd is
-  plays_to (Ready setup paused) request authority number play same is =
-      asks_play_to (record {
-        sequence = request.sequence;
-        authority = authority;
-        setup = setup;
-        paused = paused;
-        range = header_value request.head.now (codes "Range");
-        number = number;
-        ready = same;
-        play = play;
-      }) is.planned is.is_planned is.asks
-  plays_to (Playing setup going) request authority number play same is = says request.sequence _ [] is
-  plays_to (Stopping setup stop) request authority number play same is = says request.sequence _ [] is
-
-  pauses_to : (state : State) (sequence : ℕ) → old.state ≡ state → Pauses state old sequence ask new → Comes
-  pauses_to Init sequence same is = absurd is
-  pauses_to (Ready setup paused) sequence same is = absurd is
-  pauses_to (Playing setup play) sequence same is =
-      AsksForHalt sequence setup play (Paused is.left) same refl (inl refl) is.asks
-  pauses_to (Stopping setup stop) sequence same is = absurd is
-
-  tears_to : (state : State) (sequence : ℕ) → IsTeardown message → old.state ≡ state
-      → TearsDown state old sequence ask new → Comes
-  tears_to Init sequence torn same is = Says sequence _ [] true (inr torn) is.0 is.1
-  tears_to (Ready setup paused) sequence torn same is = Says sequence _ [] true (inr torn) is.0 is.1
-  tears_to (Playing setup play) sequence torn same is = AsksForHalt sequence setup play Torn same refl (inr torn) is
-  tears_to (Stopping setup stop) sequence torn same is = Says sequence _ [] true (inr torn) is.0 is.1
-
-  takes_to : (request : Request) (judgement : Result Task Refusal) → IsReadAs message request
-      → first_sequence message ≡ Some request.sequence
-      → IsJudged old.films old.id old.state request judgement → Takes old request judgement ask new → Comes
-  takes_to request (Ok ToOptions) read number judged takes = says request.sequence _ [] takes
-  takes_to request (Ok (ToDescribe asked)) read number judged takes = says request.sequence _ _ takes.reply
-  takes_to request (Ok (ToSetup film)) read number judged takes =
-      let named = judged.film.1.named.film in
-      set_up_to request film takes.read (record {
-        number = number;
-        init = init_of old.state judged.state;
-        within = slice_get_within old.films film named.stored named.at;
-      }) takes.is_read takes.done
-  takes_to request (Ok (ToPlay asked)) read number judged takes =
-      plays_to old.state request asked.authority.now number
-      (record { request = request; is_request = read; method_is = judged.talk.spoken.named }) refl takes
-  takes_to request (Ok ToPause) read number judged takes = pauses_to old.state request.sequence refl takes
-  takes_to request (Ok ToTeardown) read number judged takes = tears_to old.state request.sequence
-      (record { request = request; is_request = read; method_is = judged.talk.spoken.named }) refl takes
-  takes_to request (Ok ToGetParameter) read number judged takes =
-      gets_to request takes.topic
-      (record {
-        read = read;
-        method = judged.talk.spoken.named;
-        number =
-            number;
-      }) takes.is_topic takes.gets
-  takes_to request (Err refusal) read number judged takes =
-      elim (is_memory refusal) [
-        | inl memory ↦
-            absurd (subst (λ r. IsJudged old.films old.id old.state request (Err r)) memory judged)
-        | inr other ↦ Refuses (Some request.sequence) refusal (option_of request.head.now) other takes
-      ]
-
-  -- every answer to a message is one of the ways of `ComesTo`
-  pub comes_to : Hears old message ask new → Comes
-  comes_to (inl fault) =
-      Refuses (first_sequence message) (fault_refusal fault.fault) [] (fault_refuses fault.fault) fault.refused
-  comes_to (inr whole) =
-      takes_to whole.request whole.hears.judgement whole.is_request
-      (first_sequence_is message whole.request.sequence whole.is_request.sequence_is)
-      whole.hears.judged whole.hears.takes
+-- memory may run out for a request that a method refuses for it
+pub may_lack : {h : HeardMessage} {request : Request} {refusal : Refusal} → OwnCause h request refusal
+    → refusal ≡ Memory → MayRunOutOfMemory h.old h.message
+may_lack {h} {request} (NoSetup film read) memory =
+    absurd (subst (λ r. IsSetupRead h.old.settings request.head.now film (Err r)) memory read)
+may_lack (NoPlan setup paused range is may) memory = may
+may_lack (NoMemory same may) memory = may
+may_lack (NoSession same init) memory = absurd (let no : ⊥ = cc in no)
+may_lack (NotInPlaying same) memory = absurd (let no : ⊥ = cc in no)
+may_lack (NoParameter same) memory = absurd (let no : ⊥ = cc in no)

@@ -16,6 +16,8 @@ use Rattle.session.specs.declared.refusals.Task.TheVariants.{Setup as ToSetup, P
 use Rattle.session.specs.declared.refusals.Task.TheVariants.{Pause as ToPause}
 use Rattle.session.specs.declared.refusals.Task.TheVariants.{Teardown as ToTeardown}
 use Rattle.session.specs.declared.refusals.Task.TheVariants.{GetParameter as ToGetParameter}
+use Rattle.session.specs.declared.states.AfterHalt.{AfterHalt}
+use Rattle.session.specs.declared.states.AfterHalt.TheVariants.{Paused, Torn}
 use Rattle.session.specs.declared.states.Awaited.TheVariants.{Play}
 use Rattle.film_streams.specs.declared.setups.Setup.{Setup}
 use Rattle.session.specs.declared.states.State.{State}
@@ -26,14 +28,14 @@ use Rattle.session.specs.RequestEffects.{IsSameContext}
 use Rattle.session.specs.RequestSteps.{Hears}
 use Rattle.session.specs.RefusalOrder.{IsJudged}
 use Rattle.session.specs.Laws.{AsksNoHalt}
+use Rattle.session.specs.Methods.{AsksHalt}
 use Rattle.session.specs.Methods.{AsksPlayOr, IsRefused, IsReplied, Plays, Takes, play_call, play_front, prepared_of}
 use Rattle.session.specs.RequestedPlans.{IsPlanned, IsPlannedRun}
 use Rattle.session.specs.SessionStates.{SessionState}
-use Rattle.session.proofs.InitialStateLemmas.{TakenRequest}
+use Rattle.session.proofs.InitialStateLemmas.{HeardMessage, PlayInHand, TakenRequest, heard_by}
 use Rattle.session.proofs.ResumedPlayLemmas.{of_film}
-use Rattle.session.proofs.RequestCaseAnalysis.{ComesTo, Lacks, Refuses, Says, SettlesSetup, AsksForPlay, AsksForHalt}
-use Rattle.session.proofs.RequestCaseAnalysis.{AsksForLook}
-use Rattle.session.proofs.RequestCaseAnalysis.{AsksForOffer, comes_to, is_memory}
+use Rattle.session.proofs.RequestCaseAnalysis.{Answer, Replies, SetsUp, StartsPlay, HaltsPlay, StopsPlay, EndsSession}
+use Rattle.session.proofs.RequestCaseAnalysis.{TakesLook, SeeksOffer, answer_to, is_memory, settled_ranges}
 
 abbrev pub Changes : Ask → SessionState → SessionState → Type 0
 Changes ask old new = IsSameContext old new × ChangesState ask old new
@@ -78,72 +80,80 @@ play_asked {new} {stored} {setup} {paused} {range} {planned} sequence authority 
   command = refl;
 }
 
-comes_changes : (old new : SessionState) (message : List ℕ) (ask : Ask) → ComesTo old message ask new → Changes ask old
-    new
-comes_changes old new message ask (Lacks may is) = replied_changes old _ ask new is
-comes_changes old new message ask (Refuses sequence refusal option other is) = replied_changes old _ ask new is
-comes_changes old new message ask (Says sequence fields body tearing by command is) =
-    changed command is
-    (record { films = refl; settings = refl; source = refl; counts = refl; heard = refl; plays = refl })
-    (inl (state_of is))
-comes_changes old new message ask (SettlesSetup sequence setup init ranges command is) =
-    changed command is
-    (record { films = refl; settings = refl; source = refl; counts = refl; heard = refl; plays = refl })
-    (inr (record { setup = setup; state = state_of is; ranges = ranges }))
-comes_changes old new message ask
-    (AsksForPlay stored setup paused range planned sequence authority ready planned_is command is) =
-    changed command is
-    (record { films = refl; settings = refl; source = refl; counts = refl; heard = refl; plays = refl })
-    (state_of is, play_asked sequence authority ready planned_is is)
-comes_changes old new message ask (AsksForHalt sequence setup play next playing told by halts) =
-    changed halts.command halts.state
+-- a halt that is asked for
+halt_changes : {sequence : ℕ} {next : AfterHalt} (h : HeardMessage) (hand : PlayInHand h.old)
+    → AsksHalt h.old sequence hand.setup hand.play next h.ask h.new → Changes h.ask h.old h.new
+halt_changes {next} h hand is =
+    changed is.command is.state
     (record { films = refl; settings = refl; source = refl; counts = refl; heard = refl; plays = refl })
     (record {
-      setup = setup;
-      play = play;
-      keep = halts.keep;
+      setup = hand.setup;
+      play = hand.play;
+      keep = is.keep;
       next = next;
-      was = playing;
-      keep_is = halts.keep_is;
-      now = state_of halts.state;
-      awaited = ap (λ (s : SessionState). s.awaited) halts.state;
+      was = hand.playing;
+      keep_is = is.keep_is;
+      now = state_of is.state;
+      awaited = ap (λ (s : SessionState). s.awaited) is.state;
     })
-comes_changes old new message ask (AsksForLook sequence look) =
+
+answer_changes : (h : HeardMessage) → Answer h → Changes h.ask h.old h.new
+answer_changes h (Replies reply is) = replied_changes h.old _ h.ask h.new is
+answer_changes h (SetsUp film taken setup asks is) =
+    changed is.0 is.1
+    (record { films = refl; settings = refl; source = refl; counts = refl; heard = refl; plays = refl })
+    (inr (record { setup = setup; state = state_of is.1; ranges = settled_ranges taken asks }))
+answer_changes h (StartsPlay play planned asks planned_is) =
+    changed asks.command asks.state
+    (record { films = refl; settings = refl; source = refl; counts = refl; heard = refl; plays = refl })
+    (
+      state_of asks.state,
+      play_asked play.taken.request.sequence play.asked.authority.now play.ready planned_is asks.state,
+    )
+answer_changes h (HaltsPlay taken hand is) = halt_changes h hand is.asks
+answer_changes h (StopsPlay taken hand is) = halt_changes h hand is
+answer_changes h (EndsSession taken resting is) =
+    changed is.0 is.1
+    (record { films = refl; settings = refl; source = refl; counts = refl; heard = refl; plays = refl })
+    (inl (state_of is.1))
+answer_changes h (TakesLook taken look) =
     changed look.command look.state
     (record { films = refl; settings = refl; source = refl; counts = refl; heard = refl; plays = refl })
     (state_of look.state)
-comes_changes old new message ask (AsksForOffer sequence wait planned asks) =
+answer_changes h (SeeksOffer offer planned is asks) =
     changed asks.command asks.state
     (record { films = refl; settings = refl; source = refl; counts = refl; heard = refl; plays = refl })
     (state_of asks.state)
 
 pub hears_ground : (old new : SessionState) (message : List ℕ) (ask : Ask) → Hears old message ask new
     → IsSameContext old new
-hears_ground old new message ask hears = (comes_changes old new message ask (comes_to old message ask new hears)).0
+hears_ground old new message ask hears =
+    let h : HeardMessage = heard_by {old = old} {new = new} {message = message} {ask = ask} hears in
+    (answer_changes h (answer_to h)).0
 
 pub hears_state : (old new : SessionState) (message : List ℕ) (ask : Ask) → Hears old message ask new
     → ChangesState ask old new
-hears_state old new message ask hears = (comes_changes old new message ask (comes_to old message ask new hears)).1
+hears_state old new message ask hears =
+    let h : HeardMessage = heard_by {old = old} {new = new} {message = message} {ask = ask} hears in
+    (answer_changes h (answer_to h)).1
 
 -- a PAUSE or a TEARDOWN waits for no halt but the one that it asks for
-comes_unstopped : {old new : SessionState} {message : List ℕ} {ask : Ask} → AsksNoHalt ask → AwaitsNoStop old
-    → ComesTo old message ask new → AwaitsNoStop new
-comes_unstopped free none (Lacks may is) = subst AwaitsNoStop (sym is.1) none
-comes_unstopped free none (Refuses sequence refusal option other is) = subst AwaitsNoStop (sym is.1) none
-comes_unstopped free none (Says sequence fields body tearing by command is) = subst AwaitsNoStop (sym is) none
-comes_unstopped free none (SettlesSetup sequence setup init ranges command is) = subst AwaitsNoStop (sym is) none
-comes_unstopped free none
-    (AsksForPlay stored setup paused range planned sequence authority ready planned_is command is) =
-    subst AwaitsNoStop (sym is) refl
-comes_unstopped free none (AsksForHalt sequence setup play next playing told by halts) =
-    absurd (subst AsksNoHalt halts.command free)
-comes_unstopped free none (AsksForLook sequence look) = subst AwaitsNoStop (sym look.state) refl
-comes_unstopped free none (AsksForOffer sequence wait planned asks) = subst AwaitsNoStop (sym asks.state) refl
+answer_unstopped : (h : HeardMessage) → AsksNoHalt h.ask → AwaitsNoStop h.old → Answer h → AwaitsNoStop h.new
+answer_unstopped h free none (Replies reply is) = subst AwaitsNoStop (sym is.1) none
+answer_unstopped h free none (SetsUp film taken setup asks is) = subst AwaitsNoStop (sym is.1) none
+answer_unstopped h free none (StartsPlay play planned asks planned_is) = subst AwaitsNoStop (sym asks.state) refl
+answer_unstopped h free none (HaltsPlay taken hand is) = absurd (subst AsksNoHalt is.asks.command free)
+answer_unstopped h free none (StopsPlay taken hand is) = absurd (subst AsksNoHalt is.command free)
+answer_unstopped h free none (EndsSession taken resting is) = subst AwaitsNoStop (sym is.1) none
+answer_unstopped h free none (TakesLook taken look) = subst AwaitsNoStop (sym look.state) refl
+answer_unstopped h free none (SeeksOffer offer planned is asks) = subst AwaitsNoStop (sym asks.state) refl
 
 pub hears_unstopped : (old new : SessionState) (message : List ℕ) (ask : Ask) → Hears old message ask new → AsksNoHalt
     ask
     → AwaitsNoStop old → AwaitsNoStop new
-hears_unstopped old new message ask hears free none = comes_unstopped free none (comes_to old message ask new hears)
+hears_unstopped old new message ask hears free none =
+    let h : HeardMessage = heard_by {old = old} {new = new} {message = message} {ask = ask} hears in
+    answer_unstopped h free none (answer_to h)
 
 -- a request in Ready that is a PLAY to which no refusal applies
 record ReadyPlay (old : SessionState) (request : Request) : Type 0 where

@@ -1,5 +1,5 @@
 -- A message has one answer, if memory is found for it.
-use Rattle.std.proofs.Common.{◌≡◌, ℕ, string_bytes, ◌⊎◌, List, [], Option, Some}
+use Rattle.std.proofs.Common.{◌≡◌, ℕ, string_bytes, List, [], Option, Some}
 use Rattle.std.proofs.Common.{None, Result, Ok, Err, codes, refl, sym, ap, subst, ◌∙◌, inl, inr}
 use Rattle.std.proofs.Common.{arith}
 use Rattle.film_frames.specs.declared.stored_films.Stored.{Stored}
@@ -12,8 +12,7 @@ use Rattle.early_start.specs.declared.Tried.{Tried}
 use Rattle.pacer.specs.PacerStates.{next_boundary, slots_through}
 use Rattle.rtsp_text.specs.Fields.{first_sequence, header_value}
 use Rattle.rtsp_text.specs.declared.requests.Request.{Request}
-use Rattle.rtsp_text.proofs.MessageUniqueness.{fault_once, no_fault, request_once}
-use Rattle.session.specs.declared.commands.Ask.{Ask}
+use Rattle.rtsp_text.proofs.MessageUniqueness.{fault_once, no_fault}
 use Rattle.session.specs.declared.commands.Ask.TheVariants.{Halt as AskHalt, Offer as AskOffer}
 use Rattle.rtsp_methods.specs.declared.methods.Method.{Method}
 use Rattle.rtsp_methods.specs.declared.methods.Method.TheVariants.{Options, Describe, Setup as SetupMethod}
@@ -25,12 +24,6 @@ use Rattle.session.specs.declared.plans.Planned.{Planned}
 use Rattle.rtsp_methods.specs.declared.refusals.Refusal.{Refusal}
 use Rattle.rtsp_methods.specs.declared.refusals.Refusal.TheVariants.{Session, State as NotNow, Parameter, Memory}
 use Rattle.session.specs.declared.refusals.Task.{Task}
-use Rattle.session.specs.declared.refusals.Task.TheVariants.{Options as ToOptions}
-use Rattle.session.specs.declared.refusals.Task.TheVariants.{Describe as ToDescribe}
-use Rattle.session.specs.declared.refusals.Task.TheVariants.{Setup as ToSetup, Play as ToPlay}
-use Rattle.session.specs.declared.refusals.Task.TheVariants.{Pause as ToPause}
-use Rattle.session.specs.declared.refusals.Task.TheVariants.{Teardown as ToTeardown}
-use Rattle.session.specs.declared.refusals.Task.TheVariants.{GetParameter as ToGetParameter}
 use Rattle.session.specs.declared.states.Awaited.TheVariants.{Play, Halt}
 use Rattle.session.specs.declared.states.AfterHalt.{AfterHalt}
 use Rattle.session.specs.declared.states.AfterHalt.TheVariants.{Paused, Torn}
@@ -39,26 +32,28 @@ use Rattle.film_streams.specs.declared.setups.Setup.{Setup}
 use Rattle.session.specs.declared.states.State.{State}
 use Rattle.session.specs.declared.states.State.TheVariants.{Init, Ready, Playing, Stopping}
 use Rattle.film_streams.specs.Films.{Names, length_ms}
-use Rattle.session.specs.RequestSteps.{AnswersGoodRequest, Hears}
-use Rattle.session.specs.RefusalOrder.{IsJudged, IsTaskOf, method_of}
+use Rattle.session.specs.RequestSteps.{Hears}
+use Rattle.session.specs.RefusalOrder.{IsJudged, method_of}
 use Rattle.rtsp_methods.specs.RequiredOptions.{option_of}
 use Rattle.rtsp_methods.specs.Methods.{IsTopic}
 use Rattle.rtsp_methods.specs.Refusals.{fault_refusal}
 use Rattle.session.specs.Laws.{IsOneAnswer}
-use Rattle.session.specs.Methods.{AsksHalt, AsksOffer, AsksOfferOr, AsksPlay, AsksPlayOr, Describes, play_call}
-use Rattle.session.specs.Methods.{Gets, GetsOffer, GetsParameter, HasWait, IsRefused, IsReplied}
+use Rattle.session.specs.Methods.{AsksHalt, AsksOfferOr, AsksPlayOr, Describes, play_call}
+use Rattle.session.specs.Methods.{Gets, GetsOffer, HasWait, IsRefused, IsReplied}
 use Rattle.session.specs.Methods.{IsSetUp, Looks, OffersReady, Pauses, PausesPlay, Plays, SetsUp}
 use Rattle.session.specs.Methods.{Takes, TearsDown, prepared_of, play_front}
 use Rattle.session.specs.RequestedPlans.{IsPlanned}
 use Rattle.session.specs.RunRequests.{playback_of}
-use Rattle.film_streams.specs.SettingRanges.{AreFilms}
 use Rattle.rtsp_replies.specs.Replies.{describe_text, plain_text, public_text, refusal_text, session_text}
 use Rattle.film_streams.specs.Setups.{IsSetupRead}
-use Rattle.session.specs.SessionStates.{SessionState, with_reply}
-use Rattle.session.proofs.InitialStateLemmas.{TwoHearings, TakenRequest}
+use Rattle.session.specs.SessionStates.{with_reply}
+use Rattle.session.specs.RefusalOrder.{IsReadAs}
+use Rattle.session.proofs.InitialStateLemmas.{HeardMessage, TwoHearings}
+use Rattle.session_laws.proofs.RequestReadings.{Does, does_task, reading_of, refused_in, taken_up}
+use Rattle.session.proofs.RequestUniqueness.{AreSameNames}
 use Rattle.session_laws.proofs.PlanUniqueness.{film_at_once, planned_once}
 use Rattle.session.proofs.RequestUniqueness.{first_sequence_is, names_once, read_once, topic_once, wait_once}
-use Rattle.session_laws.proofs.VerdictUniqueness.{AreAlike, method_once, not_both, refusal_once, turned}
+use Rattle.session_laws.proofs.VerdictUniqueness.{AreAlike, passes_of}
 
 -- the slots that were stepped
 through_once : (one other : Option ℕ) → slots_through other ≡ slots_through one → other ≡ one
@@ -74,326 +69,275 @@ found_once one other wait start tried =
     ap (λ w. F w other.start other.tried) wait ∙ ap (λ s. F one.wait s other.tried) start ∙ ap
     (λ t. F one.wait one.start t) tried
 
-module _ (old : SessionState) (message : List ℕ) (ask again : Ask) (one other : SessionState) where
-  abbrev Agree : Type 0
-  Agree = IsOneAnswer old message ask one again other
+abbrev Agree : TwoHearings → Type 0
+Agree w = IsOneAnswer w.old w.message w.ask w.one w.again w.other
 
-  same : again ≡ ask → other ≡ one → Agree
-  same command session = inl (record { ask_is = command; session_is = session })
+-- the second time that it was received
+abbrev second_of : TwoHearings → HeardMessage
+second_of w = record { old = w.old; new = w.other; message = w.message; ask = w.again; hears = w.its }
 
-  replied_once : (text text' : List ℕ) → text' ≡ text → IsReplied old text ask one → IsReplied old text' again other
-      → Agree
-  replied_once text text' alike is its = same (its.0 ∙ sym is.0) (its.1 ∙ ap (λ t. with_reply old t) alike ∙ sym is.1)
+same : (w : TwoHearings) → w.again ≡ w.ask → w.other ≡ w.one → Agree w
+same w command session = inl (record { ask_is = command; session_is = session })
 
-  first_wants : (sequence : ℕ) → first_sequence message ≡ Some sequence → IsRefused old
-      (Some sequence) Memory [] ask one → Agree
-  first_wants sequence number is = inr (inl (subst (λ s. IsRefused old s Memory [] ask one) (sym number) is))
+replied_once : (w : TwoHearings) (text text' : List ℕ) → text' ≡ text → IsReplied w.old text w.ask w.one
+    → IsReplied w.old text' w.again w.other → Agree w
+replied_once w text text' alike is its =
+    same w (its.0 ∙ sym is.0) (its.1 ∙ ap (λ t. with_reply w.old t) alike ∙ sym is.1)
 
-  second_wants : (sequence : ℕ) → first_sequence message ≡ Some sequence
-      → IsRefused old (Some sequence) Memory [] again other → Agree
-  second_wants sequence number is = inr (inr (subst (λ s. IsRefused old s Memory [] again other) (sym number) is))
+first_wants : (w : TwoHearings) (sequence : ℕ) → first_sequence w.message ≡ Some sequence
+    → IsRefused w.old (Some sequence) Memory [] w.ask w.one → Agree w
+first_wants w sequence number is = inr (inl (subst (λ s. IsRefused w.old s Memory [] w.ask w.one) (sym number) is))
 
-  describes_once : (sequence film : ℕ) (authority : List ℕ) → Describes old sequence film authority ask one
-      → Describes old sequence film authority again other → Agree
-  describes_once sequence film authority is its =
-      replied_once _ _ (ap (λ (s : Stored). describe_text sequence authority (string_bytes s.name) (length_ms s.film))
-      (film_at_once old.films film is.stored its.stored is.at its.at)) is.reply its.reply
+second_wants : (w : TwoHearings) (sequence : ℕ) → first_sequence w.message ≡ Some sequence
+    → IsRefused w.old (Some sequence) Memory [] w.again w.other → Agree w
+second_wants w sequence number is =
+    inr (inr (subst (λ s. IsRefused w.old s Memory [] w.again w.other) (sym number) is))
 
-  set_up_once : (sequence : ℕ) (read : Result Setup Refusal) → IsSetUp old sequence read ask one
-      → IsSetUp old sequence read again other
-      → Agree
-  set_up_once sequence (Ok setup) is its = same (its.0 ∙ sym is.0) (its.1 ∙ sym is.1)
-  set_up_once sequence (Err refusal) is its = replied_once _ _ refl is its
+describes_once : (w : TwoHearings) (sequence film : ℕ) (authority : List ℕ)
+    → Describes w.old sequence film authority w.ask w.one
+    → Describes w.old sequence film authority w.again w.other → Agree w
+describes_once w sequence film authority is its =
+    replied_once w _ _ (ap (λ (s : Stored). describe_text sequence authority (string_bytes s.name) (length_ms s.film))
+    (film_at_once w.old.films film is.stored its.stored is.at its.at)) is.reply its.reply
 
-  halts_once : {sequence : ℕ} {setup : Setup} {play : Played} {next next' : AfterHalt} → next' ≡ next
-      → AsksHalt old sequence setup play next ask one → AsksHalt old sequence setup play next' again other → Agree
-  halts_once {sequence} {setup} {play} {next} alike is that =
-      let its = subst (λ n. AsksHalt old sequence setup play n again other) alike that in
-      let keep = its.keep_is ∙ sym is.keep_is in
-      same (its.command ∙ ap (λ n. AskHalt n) keep ∙ sym is.command)
-      (its.state ∙ ap (λ (n : ℕ). record old {
-        state = Playing setup (record play { pacer = record play.pacer { keep = n } });
-        awaited = Halt n next;
-        text = session_text sequence old.id;
-      }) keep ∙ sym is.state)
+set_up_once : (w : TwoHearings) (sequence : ℕ) (read : Result Setup Refusal) → IsSetUp w.old sequence read w.ask w.one
+    → IsSetUp w.old sequence read w.again w.other → Agree w
+set_up_once w sequence (Ok setup) is its = same w (its.0 ∙ sym is.0) (its.1 ∙ sym is.1)
+set_up_once w sequence (Err refusal) is its = replied_once w _ _ refl is its
 
-  tears_once : (state : State) (sequence : ℕ) → TearsDown state old sequence ask one
-      → TearsDown state old sequence again other → Agree
-  tears_once Init sequence is its = same (its.0 ∙ sym is.0) (its.1 ∙ sym is.1)
-  tears_once (Ready setup paused) sequence is its = same (its.0 ∙ sym is.0) (its.1 ∙ sym is.1)
-  tears_once (Playing setup play) sequence is its = halts_once {next = Torn} {next' = Torn} refl is its
-  tears_once (Stopping setup stop) sequence is its = same (its.0 ∙ sym is.0) (its.1 ∙ sym is.1)
+-- a play of which a halt is asked, by a request of this number
+record HaltCall : Type 0 where
+  sequence : ℕ
+  setup : Setup
+  play : Played
+  next : AfterHalt
 
-  pauses_play_once : (sequence : ℕ) (setup : Setup) (play : Played) → PausesPlay old sequence setup play ask one
-      → PausesPlay old sequence setup play again other → Agree
-  pauses_play_once sequence setup play is its =
-      let film = film_at_once old.films setup.film is.stored its.stored is.at its.at in
-      let last = through_once is.last its.last (its.last_is ∙ sym is.last_is) in
-      let of_film =
-      subst (λ (s : Stored). IsRemainingRun (stored_sizes s) (playback_of s.film old.settings setup) play.run play.plan
-      its.last
-      (next_boundary play.pacer) its.left) film its.left_is in
-      let left = subst (λ (l : Option ℕ). IsRemainingRun (stored_sizes is.stored)
-      (playback_of is.stored.film old.settings setup) play.run play.plan l
-      (next_boundary play.pacer) its.left) last of_film in
-      let runs = left-one is.left_is left in
-      halts_once {next = Paused is.left} {next' = Paused its.left} (ap (λ r. Paused r) runs) is.asks its.asks
+halts_once : (w : TwoHearings) (c : HaltCall) → AsksHalt w.old c.sequence c.setup c.play c.next w.ask w.one
+    → AsksHalt w.old c.sequence c.setup c.play c.next w.again w.other → Agree w
+halts_once w c is its =
+    let keep = its.keep_is ∙ sym is.keep_is in
+    same w (its.command ∙ ap (λ n. AskHalt n) keep ∙ sym is.command)
+    (its.state ∙ ap (λ (n : ℕ). record w.old {
+      state = Playing c.setup (record c.play { pacer = record c.play.pacer { keep = n } });
+      awaited = Halt n c.next;
+      text = session_text c.sequence w.old.id;
+    }) keep ∙ sym is.state)
 
-  pauses_once : (state : State) (sequence : ℕ) → Pauses state old sequence ask one
-      → Pauses state old sequence again other → Agree
-  pauses_once Init sequence is its = absurd is
-  pauses_once (Ready setup paused) sequence is its = absurd is
-  pauses_once (Playing setup play) sequence is its = pauses_play_once sequence setup play is its
-  pauses_once (Stopping setup stop) sequence is its = absurd is
+tears_once : (w : TwoHearings) (state : State) (sequence : ℕ) → TearsDown state w.old sequence w.ask w.one
+    → TearsDown state w.old sequence w.again w.other → Agree w
+tears_once w Init sequence is its = same w (its.0 ∙ sym is.0) (its.1 ∙ sym is.1)
+tears_once w (Ready setup paused) sequence is its = same w (its.0 ∙ sym is.0) (its.1 ∙ sym is.1)
+tears_once w (Playing setup play) sequence is its =
+    halts_once w (record { sequence = sequence; setup = setup; play = play; next = Torn }) is its
+tears_once w (Stopping setup stop) sequence is its = same w (its.0 ∙ sym is.0) (its.1 ∙ sym is.1)
 
-  asks_play_once : (sequence : ℕ) (authority : List ℕ) (setup : Setup) (planned : Planned)
-      → AsksPlay old sequence authority setup planned ask one
-      → AsksPlay old sequence authority setup planned again other → Agree
-  asks_play_once sequence authority setup planned is its =
-      let film = film_at_once old.films setup.film is.stored its.stored is.at its.at in
-      same (its.command ∙ sym is.command)
-      (its.state ∙ ap (λ (s : Stored). record old {
-        awaited = Play (prepared_of old s setup planned sequence);
-        text = play_front old s setup planned sequence authority;
-      }) film ∙ sym is.state)
+pauses_play_once : (w : TwoHearings) (sequence : ℕ) (setup : Setup) (play : Played)
+    → PausesPlay w.old sequence setup play w.ask w.one → PausesPlay w.old sequence setup play w.again w.other → Agree w
+pauses_play_once w sequence setup play is its =
+    let film = film_at_once w.old.films setup.film is.stored its.stored is.at its.at in
+    let last = through_once is.last its.last (its.last_is ∙ sym is.last_is) in
+    let L : Stored → Option ℕ → Type 0 = λ s l. IsRemainingRun (stored_sizes s)
+    (playback_of s.film w.old.settings setup) play.run play.plan l (next_boundary play.pacer) its.left in
+    let left = subst (L is.stored) last (subst (λ s. L s its.last) film its.left_is) in
+    halts_once w (record { sequence = sequence; setup = setup; play = play; next = Paused is.left }) is.asks
+    (subst (λ r. AsksHalt w.old sequence setup play (Paused r) w.again w.other) (left-one is.left_is left) its.asks)
 
-  play_or_once : {sequence : ℕ} (authority : List ℕ) (setup : Setup) (planned : Result Planned Refusal)
-      → first_sequence message ≡ Some sequence → AsksPlayOr old (play_call sequence authority setup) planned ask one
-      → AsksPlayOr old (play_call sequence authority setup) planned again other → Agree
-  play_or_once {sequence} authority setup (Ok planned) number (inl is) (inl its) =
-      asks_play_once sequence authority setup planned is its
-  play_or_once {sequence} authority setup (Ok planned) number (inl is) (inr its) = second_wants sequence number its
-  play_or_once {sequence} authority setup (Ok planned) number (inr is) its = first_wants sequence number is
-  play_or_once authority setup (Err refusal) number is its = replied_once _ _ refl is its
+pauses_once : (w : TwoHearings) (state : State) (sequence : ℕ) → Pauses state w.old sequence w.ask w.one
+    → Pauses state w.old sequence w.again w.other → Agree w
+pauses_once w Init sequence is its = absurd is
+pauses_once w (Ready setup paused) sequence is its = absurd is
+pauses_once w (Playing setup play) sequence is its = pauses_play_once w sequence setup play is its
+pauses_once w (Stopping setup stop) sequence is its = absurd is
 
-  plays_ready_once : {sequence : ℕ} {a b : Result Planned Refusal} (authority : List ℕ) (setup : Setup)
-      → first_sequence message ≡ Some sequence → (b ≡ a) ⊎ ((a ≡ Err Memory) ⊎ (b ≡ Err Memory))
-      → AsksPlayOr old (play_call sequence authority setup) a ask one → AsksPlayOr old
-      (play_call sequence authority setup) b again other → Agree
-  plays_ready_once {sequence} {a} authority setup number (inl alike) is its =
-      play_or_once authority setup a number is
-      (subst (λ p. AsksPlayOr old (play_call sequence authority setup) p again other) alike its)
-  plays_ready_once {sequence} authority setup number (inr (inl lacks)) is its =
-      first_wants sequence number (subst (λ p. AsksPlayOr old (play_call sequence authority setup) p ask one) lacks is)
-  plays_ready_once {sequence} authority setup number (inr (inr lacks)) is its =
-      second_wants sequence number (subst (λ p. AsksPlayOr old
-      (play_call sequence authority setup) p again other) lacks its)
+-- the request that it was, as it was read each time
+record TwoRequests : Type 0 where
+  w : TwoHearings
+  request : Request
+  other : Request
+  alike : AreAlike request other
+  number : first_sequence w.message ≡ Some request.sequence
 
-  looks_once : (sequence : ℕ) → first_sequence message ≡ Some sequence → Looks old sequence ask one
-      → Looks old sequence again other → Agree
-  looks_once sequence number (inl is) (inl its) = same (its.command ∙ sym is.command) (its.state ∙ sym is.state)
-  looks_once sequence number (inl is) (inr its) = second_wants sequence number its.refused
-  looks_once sequence number (inr is) its = first_wants sequence number is.refused
+play_or_once : (r : TwoRequests) (authority : List ℕ) (setup : Setup) (planned : Result Planned Refusal)
+    → AsksPlayOr r.w.old (play_call r.request.sequence authority setup) planned r.w.ask r.w.one
+    → AsksPlayOr r.w.old (play_call r.request.sequence authority setup) planned r.w.again r.w.other → Agree r.w
+play_or_once r authority setup (Ok planned) (inl is) (inl its) =
+    same r.w (its.command ∙ sym is.command)
+    (its.state ∙ ap (λ (s : Stored). record r.w.old {
+      awaited = Play (prepared_of r.w.old s setup planned r.request.sequence);
+      text = play_front r.w.old s setup planned r.request.sequence authority;
+    }) (film_at_once r.w.old.films setup.film is.stored its.stored is.at its.at) ∙ sym is.state)
+play_or_once r authority setup (Ok planned) (inl is) (inr its) = second_wants r.w r.request.sequence r.number its
+play_or_once r authority setup (Ok planned) (inr is) its = first_wants r.w r.request.sequence r.number is
+play_or_once r authority setup (Err refusal) is its = replied_once r.w _ _ refl is its
 
-  asks_offer_once : (sequence wait : ℕ) (planned : Planned) → AsksOffer old sequence wait planned ask one
-      → AsksOffer old sequence wait planned again other → Agree
-  asks_offer_once sequence wait planned is its =
-      let offers = found_once is.offers its.offers (its.wait_is ∙ sym is.wait_is) (its.start_is ∙ sym is.start_is)
-      (its.tried_is ∙ sym is.tried_is) in
-      same (its.command ∙ ap (λ o. AskOffer planned.plan o) offers ∙ sym is.command) (its.state ∙ sym is.state)
+looks_once : (r : TwoRequests) → Looks r.w.old r.request.sequence r.w.ask r.w.one
+    → Looks r.w.old r.request.sequence r.w.again r.w.other → Agree r.w
+looks_once r (inl is) (inl its) = same r.w (its.command ∙ sym is.command) (its.state ∙ sym is.state)
+looks_once r (inl is) (inr its) = second_wants r.w r.request.sequence r.number its.refused
+looks_once r (inr is) its = first_wants r.w r.request.sequence r.number is.refused
 
-  offer_or_once : (sequence wait : ℕ) (planned : Result Planned Refusal) → first_sequence message ≡ Some sequence
-      → AsksOfferOr old sequence wait planned ask one → AsksOfferOr old sequence wait planned again other → Agree
-  offer_or_once sequence wait (Ok planned) number (inl is) (inl its) = asks_offer_once sequence wait planned is its
-  offer_or_once sequence wait (Ok planned) number (inl is) (inr its) = second_wants sequence number its
-  offer_or_once sequence wait (Ok planned) number (inr is) its = first_wants sequence number is
-  offer_or_once sequence wait (Err refusal) number is its = replied_once _ _ refl is its
+offer_or_once : (r : TwoRequests) (wait : ℕ) (planned : Result Planned Refusal)
+    → AsksOfferOr r.w.old r.request.sequence wait planned r.w.ask r.w.one
+    → AsksOfferOr r.w.old r.request.sequence wait planned r.w.again r.w.other → Agree r.w
+offer_or_once r wait (Ok planned) (inl is) (inl its) =
+    let offers = found_once is.offers its.offers (its.wait_is ∙ sym is.wait_is) (its.start_is ∙ sym is.start_is)
+    (its.tried_is ∙ sym is.tried_is) in
+    same r.w (its.command ∙ ap (λ o. AskOffer planned.plan o) offers ∙ sym is.command) (its.state ∙ sym is.state)
+offer_or_once r wait (Ok planned) (inl is) (inr its) = second_wants r.w r.request.sequence r.number its
+offer_or_once r wait (Ok planned) (inr is) its = first_wants r.w r.request.sequence r.number is
+offer_or_once r wait (Err refusal) is its = replied_once r.w _ _ refl is its
 
-  offers_ready_once : {sequence : ℕ} {a b : Result Planned Refusal} (wait : ℕ) → first_sequence message ≡ Some sequence
-      → (b ≡ a) ⊎ ((a ≡ Err Memory) ⊎ (b ≡ Err Memory)) → AsksOfferOr old sequence wait a ask one
-      → AsksOfferOr old sequence wait b again other → Agree
-  offers_ready_once {sequence} {a} wait number (inl alike) is its =
-      offer_or_once sequence wait a number is (subst (λ p. AsksOfferOr old sequence wait p again other) alike its)
-  offers_ready_once {sequence} wait number (inr (inl lacks)) is its =
-      first_wants sequence number (subst (λ p. AsksOfferOr old sequence wait p ask one) lacks is)
-  offers_ready_once {sequence} wait number (inr (inr lacks)) is its =
-      second_wants sequence number (subst (λ p. AsksOfferOr old sequence wait p again other) lacks its)
+offers_in_once : {wait : ℕ} {setup : Setup} {paused : Option Run} (r : TwoRequests)
+    → OffersReady r.w.old r.request.sequence wait setup paused r.w.ask r.w.one
+    → OffersReady r.w.old r.request.sequence wait setup paused r.w.again r.w.other → Agree r.w
+offers_in_once {wait} {setup} {paused} r is its =
+    elim (planned_once r.w.old setup paused None is.planned its.planned is.is_planned its.is_planned) [
+      | inl alike ↦ offer_or_once r wait is.planned is.asks
+          (subst (λ p. AsksOfferOr r.w.old r.request.sequence wait p r.w.again r.w.other) alike its.asks)
+      | inr lacks ↦ elim lacks [
+        | inl first ↦ first_wants r.w r.request.sequence r.number
+            (subst (λ p. AsksOfferOr r.w.old r.request.sequence wait p r.w.ask r.w.one) first is.asks)
+        | inr second ↦ second_wants r.w r.request.sequence r.number
+            (subst (λ p. AsksOfferOr r.w.old r.request.sequence wait p r.w.again r.w.other) second its.asks)
+      ]
+    ]
 
-  offers_in_once : {sequence wait : ℕ} {setup : Setup} {paused : Option Run} → first_sequence message ≡ Some sequence
-      → OffersReady old sequence wait setup paused ask one → OffersReady old sequence wait setup paused again other
-      → Agree
-  offers_in_once {sequence} {wait} {setup} {paused} number is its =
-      offers_ready_once {a = is.planned} {b = its.planned} wait number
-      (planned_once old setup paused None is.planned its.planned is.is_planned its.is_planned) is.asks its.asks
+sets_up_once : (r : TwoRequests) (film : ℕ) → SetsUp r.w.old r.request film r.w.ask r.w.one
+    → SetsUp r.w.old r.other film r.w.again r.w.other → Agree r.w
+sets_up_once r film is its =
+    let read = subst (λ h. IsSetupRead r.w.old.settings h film its.read) r.alike.head its.is_read in
+    let reads = read_once r.w.old.settings r.request.head.now film is.is_read read in
+    set_up_once r.w r.request.sequence is.read is.done
+    (subst (λ x. IsSetUp r.w.old r.request.sequence x r.w.again r.w.other) reads
+    (subst (λ s. IsSetUp r.w.old s its.read r.w.again r.w.other) r.alike.sequence its.done))
 
--- what is done by a method
-abbrev By : SessionState → Method → Request → Ask → SessionState → Type 0
-By old Options r ask new = IsReplied old (public_text r.sequence) ask new
-By old Describe r ask new = (authority : List ℕ) × ((film : ℕ)
-    × (Names old.films r.url.now authority film × Describes old r.sequence film authority ask new))
-By old SetupMethod r ask new = (authority : List ℕ) × ((film : ℕ)
-    × (Names old.films r.url.now authority film × SetsUp old r film ask new))
-By old PlayMethod r ask new = (authority : List ℕ) × ((film : ℕ)
-    × (Names old.films r.url.now authority film × Plays old.state old r authority ask new))
-By old Pause r ask new = Pauses old.state old r.sequence ask new
-By old Teardown r ask new = TearsDown old.state old r.sequence ask new
-By old GetParameter r ask new = GetsParameter old r ask new
+plays_once : (r : TwoRequests) (state : State) (authority : List ℕ)
+    → Plays state r.w.old r.request authority r.w.ask r.w.one
+    → Plays state r.w.old r.other authority r.w.again r.w.other → Agree r.w
+plays_once r Init authority is its = absurd is
+plays_once r (Ready setup paused) authority is its =
+    let range = header_value r.request.head.now (codes "Range") in
+    let call = play_call r.request.sequence authority setup in
+    let planned = subst (λ h. IsPlanned r.w.old setup paused (header_value h (codes "Range")) its.planned) r.alike.head
+    its.is_planned in
+    let asks = subst (λ s. AsksPlayOr r.w.old (play_call s authority setup) its.planned r.w.again r.w.other)
+    r.alike.sequence its.asks in
+    elim (planned_once r.w.old setup paused range is.planned its.planned is.is_planned planned) [
+      | inl alike ↦ play_or_once r authority setup is.planned is.asks
+          (subst (λ p. AsksPlayOr r.w.old call p r.w.again r.w.other) alike asks)
+      | inr lacks ↦ elim lacks [
+        | inl first ↦ first_wants r.w r.request.sequence r.number
+            (subst (λ p. AsksPlayOr r.w.old call p r.w.ask r.w.one) first is.asks)
+        | inr second ↦ second_wants r.w r.request.sequence r.number
+            (subst (λ p. AsksPlayOr r.w.old call p r.w.again r.w.other) second asks)
+      ]
+    ]
+plays_once r (Playing setup play) authority is its =
+    replied_once r.w _ _ (ap (λ s. session_text s r.w.old.id) r.alike.sequence) is its
+plays_once r (Stopping setup stop) authority is its =
+    replied_once r.w _ _ (ap (λ s. session_text s r.w.old.id) r.alike.sequence) is its
 
-by_method : (taken : TakenRequest) (stage : State) (task : Task)
-    → IsTaskOf taken.old.films stage taken.request.url.now task
-    → Takes taken.old taken.request (Ok task) taken.ask taken.new
-    → By taken.old (method_of task) taken.request taken.ask taken.new
-by_method taken stage ToOptions film takes = takes
-by_method taken stage (ToDescribe asked) film takes = (asked.authority.now, (asked.film, (film.named, takes)))
-by_method taken stage (ToSetup number) film takes = (film.0, (number, (film.1.named, takes)))
-by_method taken stage (ToPlay asked) film takes = (asked.authority.now, (asked.film, (film.named, takes)))
-by_method taken stage ToPause film takes = takes
-by_method taken stage ToTeardown film takes = takes
-by_method taken stage ToGetParameter film takes = takes
+refused_alike : (r : TwoRequests) (refusal : Refusal)
+    → IsRefused r.w.old (Some r.request.sequence) refusal [] r.w.ask r.w.one
+    → IsRefused r.w.old (Some r.other.sequence) refusal [] r.w.again r.w.other → Agree r.w
+refused_alike r refusal is its =
+    replied_once r.w _ _ (ap (λ s. refusal_text (Some s) refusal []) r.alike.sequence) is its
 
--- what a session with films judges of a request, and again
-record JudgedTwice (old : SessionState) (request request' : Request) (a b : Result Task Refusal) : Type 0 where
-  films : AreFilms old.films
-  judged : IsJudged old.films old.id old.state request a
-  judged_again : IsJudged old.films old.id old.state request' b
+gets_offer_once : (r : TwoRequests) (state : State) → GetsOffer state r.w.old r.request r.w.ask r.w.one
+    → GetsOffer state r.w.old r.other r.w.again r.w.other → Agree r.w
+gets_offer_once r Init is its = refused_alike r Session is its
+gets_offer_once r (Ready setup paused) (inl is) (inl its) = refused_alike r Parameter is.refused its.refused
+gets_offer_once r (Ready setup paused) (inl is) (inr its) =
+    absurd (is.none its.wait (subst (λ h. HasWait h its.wait) r.alike.head its.has_wait))
+gets_offer_once r (Ready setup paused) (inr is) (inl its) =
+    absurd (its.none is.wait (subst (λ h. HasWait h is.wait) (sym r.alike.head) is.has_wait))
+gets_offer_once r (Ready setup paused) (inr is) (inr its) =
+    let wait = wait_once (header_value r.request.head.now (codes "x-Wait")) is.wait its.wait is.has_wait
+    (subst (λ h. HasWait h its.wait) r.alike.head its.has_wait) in
+    offers_in_once r is.offers
+    (subst (λ w. OffersReady r.w.old r.request.sequence w setup paused r.w.again r.w.other) wait
+    (subst (λ s. OffersReady r.w.old s its.wait setup paused r.w.again r.w.other) r.alike.sequence its.offers))
+gets_offer_once r (Playing setup play) is its = refused_alike r NotNow is its
+gets_offer_once r (Stopping setup stop) is its = refused_alike r NotNow is its
 
-module _ (old : SessionState) (message : List ℕ) (ask again : Ask) (one other : SessionState) (request request' :
-    Request)
-    (alike : AreAlike request request') (number : first_sequence message ≡ Some request.sequence) where
-  abbrev Agreed : Type 0
-  Agreed = IsOneAnswer old message ask one again other
+gets_once : (r : TwoRequests) (topic : Topic) → Gets r.w.old r.request topic r.w.ask r.w.one
+    → Gets r.w.old r.other topic r.w.again r.w.other → Agree r.w
+gets_once r NoTopic is its = replied_once r.w _ _ (ap plain_text r.alike.sequence) is its
+gets_once r Booked is its =
+    looks_once r is (subst (λ s. Looks r.w.old s r.w.again r.w.other) r.alike.sequence its)
+gets_once r OfferTopic is its = gets_offer_once r r.w.old.state is its
+gets_once r Unknown is its = refused_alike r Parameter is its
 
-  sets_up_once : (film : ℕ) → SetsUp old request film ask one → SetsUp old request' film again other → Agreed
-  sets_up_once film is its =
-      let read = subst (λ h. IsSetupRead old.settings h film its.read) alike.head its.is_read in
-      let reads = read_once old.settings request.head.now film is.is_read read in
-      set_up_once old message ask again one other request.sequence is.read is.done
-      (subst (λ r. IsSetUp old request.sequence r again other) reads
-      (subst (λ s. IsSetUp old s its.read again other) alike.sequence its.done))
+-- the film that it names, each time
+same_names : {a b : List ℕ} {film number : ℕ} (r : TwoRequests) → Names r.w.old.films r.request.url.now a film
+    → Names r.w.old.films r.other.url.now b number → AreSameNames a b film number
+same_names {b} {number} r is its =
+    names_once r.w.films is (subst (λ u. Names r.w.old.films u b number) r.alike.url its)
 
-  plays_once : (state : State) (authority : List ℕ) → Plays state old request authority ask one
-      → Plays state old request' authority again other → Agreed
-  plays_once Init authority is its = absurd is
-  plays_once (Ready setup paused) authority is its =
-      let planned =
-      subst (λ h. IsPlanned old setup paused (header_value h (codes "Range")) its.planned) alike.head its.is_planned in
-      plays_ready_once old message ask again one other {a = is.planned} {b = its.planned} authority setup number
-      (planned_once old setup paused (header_value request.head.now (codes "Range")) is.planned its.planned
-      is.is_planned planned) is.asks
-      (subst (λ s. AsksPlayOr old (play_call s authority setup) its.planned again other) alike.sequence its.asks)
-  plays_once (Playing setup play) authority is its =
-      replied_once old message ask again one other _ _ (ap (λ s. session_text s old.id) alike.sequence) is its
-  plays_once (Stopping setup stop) authority is its =
-      replied_once old message ask again one other _ _ (ap (λ s. session_text s old.id) alike.sequence) is its
+-- what a request does, each time
+abbrev first_does : TwoRequests → Method → Type 0
+first_does r m = Does (record { old = r.w.old; new = r.w.one; request = r.request; ask = r.w.ask }) m
 
-  refused_alike : (refusal : Refusal) → IsRefused old (Some request.sequence) refusal [] ask one
-      → IsRefused old (Some request'.sequence) refusal [] again other → Agreed
-  refused_alike refusal is its =
-      replied_once old message ask again one other _ _
-      (ap (λ s. refusal_text (Some s) refusal []) alike.sequence) is its
+abbrev second_does : TwoRequests → Method → Type 0
+second_does r m = Does (record { old = r.w.old; new = r.w.other; request = r.other; ask = r.w.again }) m
 
-  gets_offer_once : (state : State) → GetsOffer state old request ask one → GetsOffer state old request' again other
-      → Agreed
-  gets_offer_once Init is its = refused_alike Session is its
-  gets_offer_once (Ready setup paused) (inl is) (inl its) = refused_alike Parameter is.refused its.refused
-  gets_offer_once (Ready setup paused) (inl is) (inr its) =
-      absurd (is.none its.wait (subst (λ h. HasWait h its.wait) alike.head its.has_wait))
-  gets_offer_once (Ready setup paused) (inr is) (inl its) =
-      absurd (its.none is.wait (subst (λ h. HasWait h is.wait) (sym alike.head) is.has_wait))
-  gets_offer_once (Ready setup paused) (inr is) (inr its) =
-      let wait = wait_once (header_value request.head.now (codes "x-Wait")) is.wait its.wait is.has_wait
-      (subst (λ h. HasWait h its.wait) alike.head its.has_wait) in
-      offers_in_once old message ask again one other number is.offers
-      (subst (λ w. OffersReady old request.sequence w setup paused again other) wait
-      (subst (λ s. OffersReady old s its.wait setup paused again other) alike.sequence its.offers))
-  gets_offer_once (Playing setup play) is its = refused_alike NotNow is its
-  gets_offer_once (Stopping setup stop) is its = refused_alike NotNow is its
+does_once : (r : TwoRequests) (method : Method) → first_does r method → second_does r method → Agree r.w
+does_once r Options is its = replied_once r.w _ _ (ap public_text r.alike.sequence) is its
+does_once r Describe is its =
+    let names = same_names r is.1.1.0.named its.1.1.0.named in
+    describes_once r.w r.request.sequence is.1.0 is.0 is.1.1.1
+    (subst (λ n. Describes r.w.old r.request.sequence n is.0 r.w.again r.w.other) names.film_is
+    (subst (λ a. Describes r.w.old r.request.sequence its.1.0 a r.w.again r.w.other) names.authority
+    (subst (λ s. Describes r.w.old s its.1.0 its.0 r.w.again r.w.other) r.alike.sequence its.1.1.1)))
+does_once r SetupMethod is its =
+    let names = same_names r is.1.1.0.named its.1.1.0.named in
+    sets_up_once r is.1.0 is.1.1.1
+    (subst (λ n. SetsUp r.w.old r.other n r.w.again r.w.other) names.film_is its.1.1.1)
+does_once r PlayMethod is its =
+    let names = same_names r is.1.1.0.named its.1.1.0.named in
+    plays_once r r.w.old.state is.0 is.1.1.1
+    (subst (λ a. Plays r.w.old.state r.w.old r.other a r.w.again r.w.other) names.authority its.1.1.1)
+does_once r Pause is its =
+    pauses_once r.w r.w.old.state r.request.sequence is
+    (subst (λ s. Pauses r.w.old.state r.w.old s r.w.again r.w.other) r.alike.sequence its)
+does_once r Teardown is its =
+    tears_once r.w r.w.old.state r.request.sequence is
+    (subst (λ s. TearsDown r.w.old.state r.w.old s r.w.again r.w.other) r.alike.sequence its)
+does_once r GetParameter is its =
+    let topic = topic_once r.request.body.now is.topic its.topic is.is_topic
+    (subst (λ b. IsTopic b its.topic) r.alike.body its.is_topic) in
+    gets_once r is.topic is.gets (subst (λ t. Gets r.w.old r.other t r.w.again r.w.other) topic its.gets)
 
-  gets_once : (topic : Topic) → Gets old request topic ask one → Gets old request' topic again other → Agreed
-  gets_once NoTopic is its = replied_once old message ask again one other _ _ (ap plain_text alike.sequence) is its
-  gets_once Booked is its =
-      looks_once old message ask again one other request.sequence number is
-      (subst (λ s. Looks old s again other) alike.sequence its)
-  gets_once OfferTopic is its = gets_offer_once old.state is its
-  gets_once Unknown is its = refused_alike Parameter is its
+takes_once : (w : TwoHearings) (request : Request) (judgement : Result Task Refusal) → IsReadAs w.message request
+    → IsJudged w.old.films w.old.id w.old.state request judgement → Takes w.old request judgement w.ask w.one
+    → Agree w
+takes_once w request (Ok task) read judged takes =
+    let up = taken_up (second_of w) request (method_of task) read (passes_of w.old judged) in
+    does_once (record {
+      w = w;
+      request = request;
+      other = up.other;
+      alike = up.alike;
+      number = first_sequence_is w.message request.sequence read.sequence_is;
+    }) (method_of task)
+    (does_task (record { old = w.old; new = w.one; request = request; ask = w.ask }) task judged.film takes) up.does
+takes_once w request (Err refusal) read judged takes =
+    let r = reading_of (second_of w) request read in
+    replied_once w _ _
+    (ap (λ s. refusal_text (Some s) refusal (option_of r.other.head.now)) r.alike.sequence
+    ∙ ap (λ h. refusal_text (Some request.sequence) refusal (option_of h)) r.alike.head) takes
+    (refused_in refusal r judged)
 
-  by_once : AreFilms old.films → (method : Method) → By old method request ask one → By old method request' again other
-      → Agreed
-  by_once films Options is its = replied_once old message ask again one other _ _ (ap public_text alike.sequence) is its
-  by_once films Describe is its =
-      let names = names_once films is.1.1.0
-      (subst (λ u. Names old.films u its.0 its.1.0) alike.url its.1.1.0) in
-      describes_once old message ask again one other request.sequence is.1.0 is.0 is.1.1.1
-      (subst (λ n. Describes old request.sequence n is.0 again other) names.film_is
-      (subst (λ a. Describes old request.sequence its.1.0 a again other) names.authority
-      (subst (λ s. Describes old s its.1.0 its.0 again other) alike.sequence its.1.1.1)))
-  by_once films SetupMethod is its =
-      let names = names_once films is.1.1.0
-      (subst (λ u. Names old.films u its.0 its.1.0) alike.url its.1.1.0) in
-      sets_up_once is.1.0 is.1.1.1 (subst (λ n. SetsUp old request' n again other) names.film_is its.1.1.1)
-  by_once films PlayMethod is its =
-      let names = names_once films is.1.1.0
-      (subst (λ u. Names old.films u its.0 its.1.0) alike.url its.1.1.0) in
-      plays_once old.state is.0 is.1.1.1 (subst
-      (λ a. Plays old.state old request' a again other) names.authority its.1.1.1)
-  by_once films Pause is its =
-      pauses_once old message ask again one other old.state request.sequence is
-      (subst (λ s. Pauses old.state old s again other) alike.sequence its)
-  by_once films Teardown is its =
-      tears_once old message ask again one other old.state request.sequence is
-      (subst (λ s. TearsDown old.state old s again other) alike.sequence its)
-  by_once films GetParameter is its =
-      let topic = topic_once request.body.now is.topic its.topic is.is_topic
-      (subst (λ b. IsTopic b its.topic) alike.body its.is_topic) in
-      gets_once is.topic is.gets (subst (λ t. Gets old request' t again other) topic its.gets)
-
-  takes_once : (a b : Result Task Refusal) → JudgedTwice old request request' a b
-      → Takes old request a ask one → Takes old request' b again other → Agreed
-  takes_once (Ok a) (Ok b) twice is its =
-      let method : method_of b ≡ method_of a =
-      method_once request.method.now (method_of b) (method_of a) (sym alike.method ∙ judged'.talk.spoken.named)
-      judged.talk.spoken.named in
-      let first : TakenRequest = record { old = old; new = one; request = request; ask = ask } in
-      let second : TakenRequest = record { old = old; new = other; request = request'; ask = again } in
-      by_once films (method_of a) (by_method first old.state a judged.film is)
-      (subst (λ m. By old m request' again other) method (by_method second old.state b judged'.film its))
-    where
-      open twice use {films, judged, judged_again as judged'}
-  takes_once (Ok a) (Err b) twice is its =
-      absurd (not_both b alike twice.judged twice.judged_again)
-  takes_once (Err a) (Ok b) twice is its =
-      absurd (not_both a (turned request request' alike) twice.judged_again twice.judged)
-  takes_once (Err a) (Err b) twice is its =
-      let refusal = refusal_once old.films old.id old.state alike twice.judged twice.judged_again in
-      replied_once old message ask again one other _ _
-      (ap (λ s. refusal_text (Some s) b (option_of request'.head.now)) alike.sequence
-      ∙ ap (λ r. refusal_text (Some request.sequence) r (option_of request'.head.now)) refusal
-      ∙ ap (λ h. refusal_text (Some request.sequence) a (option_of h)) alike.head) is its
-
-whole_once : {old one other : SessionState} {message : List ℕ} {ask again : Ask} → AreFilms old.films
-    → AnswersGoodRequest old message ask one
-    → AnswersGoodRequest old message again other → IsOneAnswer old message ask one again other
-whole_once {old} {one} {other} {message} {ask} {again} films is its =
-    let a = is.request in
-    let b = its.request in
-    let parts = request_once its.is_request is.is_request in
-    takes_once old message ask again one other a b (record {
-      method = parts.method_is;
-      url = parts.url_is;
-      sequence = parts.sequence_is;
-      head = parts.head_is;
-      body = parts.body_is;
-    }) (first_sequence_is message a.sequence is.is_request.sequence_is) is.hears.judgement its.hears.judgement
-    (record { films = films; judged = is.hears.judged; judged_again = its.hears.judged })
-    is.hears.takes its.hears.takes
-
-both_once : {one other : SessionState} {ask again : Ask} (old : SessionState) (message : List ℕ)
-    → AreFilms old.films
-    → Hears old message ask one → Hears old message again other
-    → IsOneAnswer old message ask one again other
-both_once {one} {other} {ask} {again} old message films (inl is) (inl its) =
-    replied_once old message ask again one other _ _
-    (ap (λ f. refusal_text (first_sequence message) (fault_refusal f) [])
-    (fault_once message its.fault is.fault its.is_fault is.is_fault)) is.refused its.refused
-both_once {one} {other} {ask} old message films (inl is) (inr its) =
-    let r = its.request in
-    absurd (no_fault is.fault its.is_request is.is_fault)
-both_once {one} {other} {ask} old message films (inr is) (inl its) =
-    let r = is.request in
-    absurd (no_fault its.fault is.is_request its.is_fault)
-both_once {one} {other} {ask} old message films (inr is) (inr its) = whole_once films is its
+both_once : (w : TwoHearings) → Hears w.old w.message w.ask w.one → Hears w.old w.message w.again w.other → Agree w
+both_once w (inl is) (inl its) =
+    replied_once w _ _
+    (ap (λ f. refusal_text (first_sequence w.message) (fault_refusal f) [])
+    (fault_once w.message its.fault is.fault its.is_fault is.is_fault)) is.refused its.refused
+both_once w (inl is) (inr its) = absurd (no_fault is.fault its.is_request is.is_fault)
+both_once w (inr is) its =
+    takes_once w is.request is.hears.judgement is.is_request is.hears.judged is.hears.takes
 
 -- a message has one answer, state, reply and command, or memory is wanting for it
 pub hears_once : (twice : TwoHearings)
     → IsOneAnswer twice.old twice.message twice.ask twice.one twice.again twice.other
-hears_once twice = both_once twice.old twice.message twice.films twice.is twice.its
+hears_once twice = both_once twice twice.is twice.its

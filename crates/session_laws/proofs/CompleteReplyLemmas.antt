@@ -2,7 +2,7 @@
 use Rattle.std.proofs.Common.{◌≡◌, ℕ, ◌+◌, ◌-◌, ◌*◌, ◌^◌, ◌<◌, ◌≤◌, ◌&&◌, Bool, true, suc, zero}
 use Rattle.std.proofs.Common.{nat_lt, nat_le, List, [], ◌∷◌, codes, cond, eqb, get_or}
 use Rattle.std.proofs.Common.{le_refl, length}
-use Rattle.std.proofs.Common.{slice_index, string_bytes, sum, drop, Option, Some, None, Result, Ok}
+use Rattle.std.proofs.Common.{slice_index, string_bytes, sum, drop, Option, Some, None, Ok}
 use Rattle.std.proofs.Common.{Err, refl, sym, ap}
 use Rattle.std.proofs.Common.{subst}
 use Rattle.std.proofs.Common.{◌∙◌, arith, inl, inr}
@@ -52,46 +52,24 @@ use Rattle.rtsp_fields.specs.Transports.{HasChannels as AreNamedChannels}
 use Rattle.rtsp_fields.specs.Urls.{IsRead}
 use Rattle.rtsp_fields.specs.declared.transports.Channels.{Channels}
 use Rattle.session.specs.declared.commands.Ask.{Ask}
-use Rattle.rtsp_methods.specs.declared.topics.Topic.{Topic}
-use Rattle.rtsp_methods.specs.declared.topics.Topic.TheVariants.{Nothing as NoTopic, Booked}
-use Rattle.rtsp_methods.specs.declared.topics.Topic.TheVariants.{Offer as OfferTopic, Unknown}
-use Rattle.session.specs.declared.plans.Planned.{Planned}
 use Rattle.rtsp_methods.specs.declared.refusals.Refusal.{Refusal}
-use Rattle.rtsp_methods.specs.declared.refusals.Refusal.TheVariants.{Session}
-use Rattle.rtsp_methods.specs.declared.refusals.Refusal.TheVariants.{State as NotNow}
-use Rattle.rtsp_methods.specs.declared.refusals.Refusal.TheVariants.{Parameter, Buffer, Range}
-use Rattle.rtsp_methods.specs.declared.refusals.Refusal.TheVariants.{Memory}
+use Rattle.rtsp_methods.specs.declared.refusals.Refusal.TheVariants.{Buffer, Range}
 use Rattle.session.specs.declared.refusals.Task.{Task}
-use Rattle.session.specs.declared.refusals.Task.TheVariants.{Options as ToOptions}
-use Rattle.session.specs.declared.refusals.Task.TheVariants.{Describe as ToDescribe}
-use Rattle.session.specs.declared.refusals.Task.TheVariants.{Setup as ToSetup, Play as ToPlay}
-use Rattle.session.specs.declared.refusals.Task.TheVariants.{Pause as ToPause}
-use Rattle.session.specs.declared.refusals.Task.TheVariants.{Teardown as ToTeardown}
-use Rattle.session.specs.declared.refusals.Task.TheVariants.{GetParameter as ToGetParameter}
 use Rattle.film_streams.specs.declared.settings.Settings.{Settings}
-use Rattle.session.specs.declared.states.AfterHalt.{AfterHalt}
-use Rattle.session.specs.declared.states.Play.{Play as Played}
 use Rattle.film_streams.specs.declared.setups.Setup.{Setup}
-use Rattle.session.specs.declared.states.State.{State}
-use Rattle.session.specs.declared.states.State.TheVariants.{Init, Ready, Playing, Stopping}
 use Rattle.film_streams.specs.Films.{IsFilmAt, length_ms, milliseconds_at}
 use Rattle.film_streams.specs.StreamNumbers.{timestamp_at}
 use Rattle.session.specs.RequestSteps.{Hears, after_offer, new_session_state}
 use Rattle.session.specs.RefusalOrder.{IsJudged, IsReadAs}
 use Rattle.rtsp_methods.specs.RequiredOptions.{first_of, option_of, or_nothing}
 use Rattle.rtsp_methods.specs.Refusals.{fault_refusal}
-use Rattle.session.specs.Methods.{AsksHalt, AsksOfferOr, AsksPlay, AsksPlayOr, Ends, Gets}
-use Rattle.session.specs.Methods.{GetsOffer, IsRefused}
-use Rattle.session.specs.Methods.{IsReplied}
-use Rattle.session.specs.Methods.{IsSetUp, Looks, Pauses, PlayCall, Plays, Takes, TearsDown}
-use Rattle.session.specs.Methods.{first_number, play_call}
-use Rattle.session.specs.RequestedPlans.{IsPlanned, IsPlannedRun}
+use Rattle.session.specs.Methods.{first_number}
+use Rattle.session.specs.RequestedPlans.{IsPlanned}
 use Rattle.session.specs.RunRequests.{playback_of, run_of}
 use Rattle.rtsp_methods.specs.Refusals.{curve_refusal}
 use Rattle.film_streams.specs.SettingRanges.{AreFilms}
-use Rattle.rtsp_replies.specs.Replies.{describe_text, look_body, offer_body}
-use Rattle.rtsp_replies.specs.Replies.{plain_text, public_text}
-use Rattle.rtsp_replies.specs.Replies.{refusal_text, session_text}
+use Rattle.rtsp_replies.specs.Replies.{look_body, offer_body}
+use Rattle.rtsp_replies.specs.Replies.{session_text}
 use Rattle.film_streams.specs.Setups.{IsSetupRead}
 use Rattle.film_streams.specs.Setups.{AreChannelsOf}
 use Rattle.session.specs.SessionStates.{SessionState}
@@ -101,6 +79,14 @@ use Rattle.session_laws.specs.CompleteReplies.{HasValidIds, LeavesRoom, RepliesA
 use Rattle.session.proofs.RequestUniqueness.{first_sequence_is}
 use Rattle.rtsp_replies.proofs.ReplyTextLemmas.{IsPrinted, bare_between}
 use Rattle.rtsp_replies.proofs.ReplyTextLemmas.{printed-w64}
+use Rattle.session.specs.declared.commands.Ask.TheVariants.{Reply, Halt as AskHalt}
+use Rattle.session.proofs.InitialStateLemmas.{HeardMessage, heard_by}
+use Rattle.session.proofs.RequestCaseAnalysis.{Answer, Replies as RepliesAlone, SetsUp as SettlesSetup, StartsPlay}
+use Rattle.session.proofs.RequestCaseAnalysis.{HaltsPlay, StopsPlay, EndsSession, TakesLook, SeeksOffer, OwnReply}
+use Rattle.session.proofs.RequestCaseAnalysis.{ToFault, ToRefused, ToDeclined, ToAsked, ToDescribed, ToConfirmed}
+use Rattle.session.proofs.RequestCaseAnalysis.{ToEmpty, OwnCause, NoSetup, NoPlan, NoMemory as LacksMemory, NoSession}
+use Rattle.session.proofs.RequestCaseAnalysis.{NotInPlaying, NoParameter, TakenTask, answer_to, reply_of}
+use Rattle.session_laws.proofs.PlayInReadyLemmas.{PlayStarted}
 use Rattle.session_laws.proofs.RequestShapes.{AsksLook, AsksOffer, AsksPlay as AsksForPlay, HearsAs}
 use Rattle.session_laws.proofs.RequestShapes.{Replies, SetsUp, Stops}
 use Rattle.session_laws.proofs.RequestShapes.{hears_as}
@@ -108,7 +94,7 @@ use Rattle.session_laws.proofs.ReplyContentLemmas.{authority_of, few_ms}
 use Rattle.rtsp_replies.proofs.ReplyMessages.{public_whole, session_whole, plain_whole}
 use Rattle.rtsp_replies.proofs.ReplyMessages.{parameters_whole, AreSmall, setup_whole, name_printed}
 use Rattle.rtsp_replies.proofs.ReplyMessages.{describe_whole, IsRepeated, repeats_nothing}
-use Rattle.rtsp_replies.proofs.ReplyMessages.{HasFitLeast, refusal_whole, OverflowParts}
+use Rattle.rtsp_replies.proofs.ReplyMessages.{HasFitLeast, refusal_whole}
 use Rattle.rtsp_replies.proofs.ReplyMessages.{overflow_whole, full_whole, PlayParts, play_whole}
 use Rattle.rtsp_replies.proofs.ReplyMessages.{look_short, offer_short}
 
@@ -258,10 +244,25 @@ setup_small : (value : Option (List ℕ)) (channels : Channels) → AreChannelsO
 setup_small None channels is = absurd is
 setup_small (Some value) channels is = channels_small channels is.taken.has
 
+-- a request whose message leaves room for what a reply repeats
+record SizedRequest (message : List ℕ) (request : Request) : Type 0 where
+  pub read : IsReadAs message request
+  pub number : request.sequence < 2 ^ 64
+  pub short : length request.head.now ≤ 15872
+
+sized : {message : List ℕ} → LeavesRoom message → (request : Request) → IsReadAs message request
+    → SizedRequest message request
+sized {message} room request read = record {
+  read = read;
+  number = sequence_fits message (Some request.sequence)
+      (first_sequence_is message request.sequence read.sequence_is);
+  short = room (length request.head.now) read.split.is_head;
+}
+
 -- the authority of a request's URL
-authority_printed : {message authority : List ℕ} {name : Option (List ℕ)} (request : Request) → IsReadAs message request
-    → IsRead request.url.now authority name → length request.head.now ≤ 15872 → IsPrinted 15872 authority
-authority_printed {message} {authority} {name} request is read short =
+authority_printed : {message authority : List ℕ} {name : Option (List ℕ)} (request : Request)
+    → SizedRequest message request → IsRead request.url.now authority name → IsPrinted 15872 authority
+authority_printed {message} {authority} {name} request r read =
     let url = request.url.now in
     let within : length url < length request.head.now =
     read_url {E = RequestFault} message (record {
@@ -282,206 +283,150 @@ authority_printed {message} {authority} {name} request is read short =
       );
       prints = (authority_of url authority name read).prints;
     }
+  where
+    open r use {read as is, short}
 
-module _ (old : SessionState) (message : List ℕ) (ask : Ask) (new : SessionState) (named : HasValidIds old) where
-  abbrev Whole : Type 0
-  Whole = RepliesAreComplete ask new
+-- a session that names its films and itself well, where a message leaves room
+record IsNamedWell (h : HeardMessage) : Type 0 where
+  pub named : HasValidIds h.old
+  pub room : LeavesRoom h.message
 
-  own_id : IsPrinted 16 old.id
-  own_id = subst (IsPrinted 16) (sym named.id_is) (printed-w64 named.number)
+own_id : {h : HeardMessage} → IsNamedWell h → IsPrinted 16 h.old.id
+own_id well = subst (IsPrinted 16) (sym well.named.id_is) (printed-w64 well.named.number)
 
-  replied : (text : List ℕ) → IsMessage text → IsReplied old text ask new → Whole
-  replied text whole is =
-      subst (λ (a : Ask). RepliesAreComplete a new) (sym is.0)
-      (subst IsMessage (sym (ap (λ (s : SessionState). s.text) is.1)) whole)
+own_fits : {h : HeardMessage} {request : Request} {refusal : Refusal} → OwnCause h request refusal
+    → HasFitLeast refusal
+own_fits {h} {request} (NoSetup film is) least same =
+    absurd (subst (λ r. IsSetupRead h.old.settings request.head.now film (Err r)) same is)
+own_fits {h} {refusal} (NoPlan setup paused range is may) least same =
+    planned_fits h.old setup paused range refusal is least same
+own_fits (LacksMemory is may) least same = absurd (let no : ⊥ = cc in no)
+own_fits (NoSession is init) least same = absurd (let no : ⊥ = cc in no)
+own_fits (NotInPlaying is) least same = absurd (let no : ⊥ = cc in no)
+own_fits (NoParameter is) least same = absurd (let no : ⊥ = cc in no)
 
-  refused : (sequence : Option ℕ) (refusal : Refusal) (option : List ℕ) → IfSome sequence (λ n. n < 2 ^ 64)
-      → IsRepeated option → HasFitLeast refusal → IsRefused old sequence refusal option ask new → Whole
-  refused sequence refusal option number repeats fits is =
-      replied (refusal_text sequence refusal option) (refusal_whole sequence refusal option number repeats fits) is
+own_whole : (h : HeardMessage) → IsNamedWell h → (reply : OwnReply h) → IsMessage (reply_of h reply)
+own_whole h well (ToFault fault is) =
+    refusal_whole (first_sequence h.message) (fault_refusal fault) []
+    (sequence_fits h.message (first_sequence h.message) refl) repeats_nothing (fault_fits fault)
+own_whole h well (ToRefused request refusal read judged) =
+    let r = sized well.room request read in
+    refusal_whole (Some request.sequence) refusal (option_of request.head.now) r.number
+    (option_repeated request.head.now r.short)
+    (λ least same. absurd (subst (λ n. IsJudged h.old.films h.old.id h.old.state request (Err n)) same judged))
+own_whole h well (ToDeclined request refusal read cause) =
+    refusal_whole (Some request.sequence) refusal [] (sized well.room request read).number repeats_nothing
+    (own_fits cause)
+own_whole h well (ToAsked taken) =
+    public_whole taken.request.sequence (sized well.room taken.request taken.is_request).number
+own_whole h well (ToDescribed asked taken stored at) =
+    let r = sized well.room taken.request taken.is_request in
+    describe_whole taken.request.sequence (length_ms stored.film) r.number
+    (authority_printed taken.request r taken.judged.film.named.read)
+    (name_printed (string_bytes stored.name) (good_at h.old.films asked.film stored well.named.films at))
+    (time_fits stored.film (length stored.film.units.items) (film_few stored.film))
+own_whole h well (ToConfirmed asked taken) =
+    session_whole taken.request.sequence h.old.id (sized well.room taken.request taken.is_request).number (own_id well)
+own_whole h well (ToEmpty taken) =
+    plain_whole taken.request.sequence (sized well.room taken.request taken.is_request).number
 
-  -- by a cause that says nothing else
-  refused_by : (sequence : ℕ) (refusal : Refusal) → sequence < 2 ^ 64 → HasFitLeast refusal
-      → IsRefused old (Some sequence) refusal [] ask new → Whole
-  refused_by sequence refusal number fits is = refused (Some sequence) refusal [] number repeats_nothing fits is
+-- the reply to a PLAY that the station is asked for
+started_whole : (h : HeardMessage) → IsNamedWell h → PlayStarted h → RepliesAreComplete h.ask h.new
+started_whole h well started =
+    let r = sized well.room play.taken.request play.taken.is_request in
+    let sequence = play.taken.request.sequence in
+    let film = asks.stored.film in
+    let run_is = is.goes_on.run_is in
+    let few = is.can_play.sizes_are.few in
+    let last : planned.run.end_unit ≤ 4194304 = let within = run_is.within in omega (arith, within, few) in
+    let first : planned.run.from_unit ≤ 4194304 = let rest = run_is.rest in omega (arith, rest, last) in
+    let parts : PlayParts = record {
+      sequence = sequence;
+      id = h.old.id;
+      from_ms = milliseconds_at film planned.run.from_unit;
+      to_ms = milliseconds_at film planned.run.end_unit;
+      authority = play.asked.authority.now;
+      name = string_bytes asks.stored.name;
+      number = first_number h.old asks.stored play.setup planned;
+      time = timestamp_at film h.old.source planned.run.from_unit;
+      sequence_fits = r.number;
+      id_is = own_id well;
+      from_fits = time_fits film planned.run.from_unit first;
+      to_fits = time_fits film planned.run.end_unit last;
+      under = authority_printed play.taken.request r play.taken.judged.film.named.read;
+      named = name_printed (string_bytes asks.stored.name)
+          (good_at h.old.films play.setup.film asks.stored well.named.films asks.at);
+      number_fits = omega arith;
+      time_fits = omega arith;
+    } in
+    subst (λ (a : Ask). RepliesAreComplete a h.new) (sym asks.command) (subst AnswersPlay (sym asks.state) (record {
+      admission = λ place start small. play_whole parts (start - h.old.heard) (omega (arith, small));
+      overflow = λ place slot booked asked one two three.
+          overflow_whole sequence (record {
+            slot = slot;
+            booked = booked;
+            asked = asked;
+            slot_fits = one;
+            booked_fits = two;
+            asked_fits = three;
+          }) r.number;
+      full = λ entries live one two. full_whole sequence entries live r.number one two;
+    }))
+  where
+    open started use {play, planned, asks, planned_is as is}
 
-  sets_up : (sequence film : ℕ) (head : List ℕ) (read : Result Setup Refusal) → sequence < 2 ^ 64
-      → IsSetupRead old.settings head film read → IsSetUp old sequence read ask new → Whole
-  sets_up sequence film head (Ok setup) number read is =
-      let small = setup_small (header_value head (codes "Transport"))
-      (record { media = setup.media; control = setup.control }) read.channels in
-      subst (λ (a : Ask). RepliesAreComplete a new) (sym is.0)
-      (subst IsMessage (sym (ap (λ (s : SessionState). s.text) is.1))
-      (setup_whole sequence old.source.ssrc number small own_id))
-  sets_up sequence film head (Err refusal) number read is =
-      refused_by sequence refusal number
-      (λ least same. absurd (subst (λ r. IsSetupRead old.settings head film (Err r)) same read)) is
+-- a reply by itself, and one that waits for a halt
+replied : {text : List ℕ} (h : HeardMessage) → h.ask ≡ Reply → h.new.text ≡ text → IsMessage text
+    → RepliesAreComplete h.ask h.new
+replied h command is whole =
+    subst (λ (a : Ask). RepliesAreComplete a h.new) (sym command) (subst IsMessage (sym is) whole)
 
-  halts : (sequence : ℕ) (setup : Setup) (play : Played) (next : AfterHalt) → sequence < 2 ^ 64
-      → AsksHalt old sequence setup play next ask new → Whole
-  halts sequence setup play next number is =
-      subst (λ (a : Ask). RepliesAreComplete a new) (sym is.command)
-      (subst IsMessage (sym (ap (λ (s : SessionState). s.text) is.state)) (session_whole sequence old.id number own_id))
+halted : {text : List ℕ} {keep : ℕ} (h : HeardMessage) → h.ask ≡ AskHalt keep → h.new.text ≡ text → IsMessage text
+    → RepliesAreComplete h.ask h.new
+halted h command is whole =
+    subst (λ (a : Ask). RepliesAreComplete a h.new) (sym command) (subst IsMessage (sym is) whole)
 
-  looks : (sequence : ℕ) → sequence < 2 ^ 64 → Looks old sequence ask new → Whole
-  looks sequence number (inl look) =
-      subst (λ (a : Ask). RepliesAreComplete a new) (sym look.command) (subst AnswersLook (sym look.state) (record {
-        look = λ place now at booked one two three.
-            parameters_whole sequence (look_body now at booked) number (look_short now at booked one two three);
-        full = λ entries live one two. full_whole sequence entries live number one two;
-      }))
-  looks sequence number (inr short) = refused_by sequence Memory number (λ least same. cc) short.refused
+told_whole : {h : HeardMessage} {task : Task} → IsNamedWell h → (taken : TakenTask h task)
+    → IsMessage (session_text taken.request.sequence h.old.id)
+told_whole {h} well taken =
+    session_whole taken.request.sequence h.old.id (sized well.room taken.request taken.is_request).number (own_id well)
 
-  asks_offer : (sequence wait : ℕ) (planned : Result Planned Refusal) (setup : Setup) (paused : Option Run)
-      → sequence < 2 ^ 64 → IsPlanned old setup paused None planned → AsksOfferOr old sequence wait planned ask new
-      → Whole
-  asks_offer sequence wait (Ok planned) setup paused number is (inl asks) =
-      subst (λ (a : Ask). RepliesAreComplete a new) (sym asks.command)
-      (λ note are. subst (λ (s : SessionState). IsMessage (after_offer s note).text) (sym asks.state)
-      (parameters_whole sequence (offer_body note.offers.start note.offers.tried) number (offer_short note.offers are)))
-  asks_offer sequence wait (Ok planned) setup paused number is (inr refused_) =
-      refused_by sequence Memory number (λ least same. cc) refused_
-  asks_offer sequence wait (Err refusal) setup paused number is refused_ =
-      refused_by sequence refusal number (planned_fits old setup paused None refusal is) refused_
+answer_whole : (h : HeardMessage) → IsNamedWell h → Answer h → RepliesAreComplete h.ask h.new
+answer_whole h well (RepliesAlone reply is) =
+    replied h is.0 (ap (λ (s : SessionState). s.text) is.1) (own_whole h well reply)
+answer_whole h well (SettlesSetup film taken setup asks is) =
+    let small = setup_small (header_value taken.request.head.now (codes "Transport"))
+    (record { media = setup.media; control = setup.control }) asks.channels in
+    replied h is.0 (ap (λ (s : SessionState). s.text) is.1) (setup_whole taken.request.sequence h.old.source.ssrc
+    (sized well.room taken.request taken.is_request).number small (own_id well))
+answer_whole h well (StartsPlay play planned asks planned_is) =
+    started_whole h well (record { play = play; planned = planned; asks = asks; planned_is = planned_is })
+answer_whole h well (HaltsPlay taken hand is) =
+    halted h is.asks.command (ap (λ (s : SessionState). s.text) is.asks.state) (told_whole well taken)
+answer_whole h well (StopsPlay taken hand is) =
+    halted h is.command (ap (λ (s : SessionState). s.text) is.state) (told_whole well taken)
+answer_whole h well (EndsSession taken resting is) =
+    replied h is.0 (ap (λ (s : SessionState). s.text) is.1) (told_whole well taken)
+answer_whole h well (TakesLook taken look) =
+    let n = taken.request.sequence in
+    let number = (sized well.room taken.request taken.is_request).number in
+    subst (λ (a : Ask). RepliesAreComplete a h.new) (sym look.command) (subst AnswersLook (sym look.state) (record {
+      look = λ place now at booked one two three.
+          parameters_whole n (look_body now at booked) number (look_short now at booked one two three);
+      full = λ entries live one two. full_whole n entries live number one two;
+    }))
+answer_whole h well (SeeksOffer offer planned is asks) =
+    let t = offer.taken in
+    subst (λ (a : Ask). RepliesAreComplete a h.new) (sym asks.command)
+    (λ note are. subst (λ (s : SessionState). IsMessage (after_offer s note).text) (sym asks.state)
+    (parameters_whole t.request.sequence (offer_body note.offers.start note.offers.tried)
+    (sized well.room t.request t.is_request).number (offer_short note.offers are)))
 
-  gets_offer : (state : State) (request : Request) → request.sequence < 2 ^ 64 → GetsOffer state old request ask new
-      → Whole
-  gets_offer Init request number is = refused_by request.sequence Session number (λ least same. cc) is
-  gets_offer (Ready setup paused) request number (inl short) =
-      refused_by request.sequence Parameter number (λ least same. cc) short.refused
-  gets_offer (Ready setup paused) request number (inr offers) =
-      asks_offer request.sequence offers.wait offers.offers.planned setup paused number offers.offers.is_planned
-      offers.offers.asks
-  gets_offer (Playing setup play) request number is = refused_by request.sequence NotNow number (λ least same. cc) is
-  gets_offer (Stopping setup stop) request number is = refused_by request.sequence NotNow number (λ least same. cc) is
-
-  gets : (request : Request) (topic : Topic) → request.sequence < 2 ^ 64 → Gets old request topic ask new → Whole
-  gets request NoTopic number is = replied (plain_text request.sequence) (plain_whole request.sequence number) is
-  gets request Booked number is = looks request.sequence number is
-  gets request OfferTopic number is = gets_offer old.state request number is
-  gets request Unknown number is = refused_by request.sequence Parameter number (λ least same. cc) is
-
-  -- the reply to a PLAY that the station is asked for
-  asks_play : (sequence : ℕ) (authority : List ℕ) (setup : Setup) (paused : Option Run) (range : Option (List ℕ))
-      (planned : Planned) (stored : Stored) → sequence < 2 ^ 64 → IsPrinted 15872 authority
-      → IsPlannedRun old stored setup paused range planned
-      → AsksPlay old sequence authority setup planned ask new → Whole
-  asks_play sequence authority setup paused range planned stored number under is asks =
-      let film = asks.stored.film in
-      let source = old.source in
-      let run_is = is.goes_on.run_is in
-      let few = is.can_play.sizes_are.few in
-      let last : planned.run.end_unit ≤ 4194304 = let within = run_is.within in omega (arith, within, few) in
-      let first : planned.run.from_unit ≤ 4194304 = let rest = run_is.rest in omega (arith, rest, last) in
-      let parts : PlayParts = record {
-        sequence = sequence;
-        id = old.id;
-        from_ms = milliseconds_at film planned.run.from_unit;
-        to_ms = milliseconds_at film planned.run.end_unit;
-        authority = authority;
-        name = string_bytes asks.stored.name;
-        number = first_number old asks.stored setup planned;
-        time = timestamp_at film source planned.run.from_unit;
-        sequence_fits = number;
-        id_is = own_id;
-        from_fits = time_fits film planned.run.from_unit first;
-        to_fits = time_fits film planned.run.end_unit last;
-        under = under;
-        named = name_printed (string_bytes asks.stored.name)
-            (good_at old.films setup.film asks.stored named.films asks.at);
-        number_fits = omega arith;
-        time_fits = omega arith;
-      } in
-      subst (λ (a : Ask). RepliesAreComplete a new) (sym asks.command) (subst AnswersPlay (sym asks.state) (record {
-        admission = λ place start small. play_whole parts (start - old.heard) (omega (arith, small));
-        overflow = λ place slot booked asked one two three.
-            let over : OverflowParts = record {
-              slot = slot;
-              booked = booked;
-              asked = asked;
-              slot_fits = one;
-              booked_fits = two;
-              asked_fits = three;
-            } in
-            overflow_whole sequence over number;
-        full = λ entries live one two. full_whole sequence entries live number one two;
-      }))
-
-  asks_play_or : (call : PlayCall) (paused : Option Run) (range : Option (List ℕ)) (planned : Result Planned Refusal)
-      → call.sequence < 2 ^ 64 → IsPrinted 15872 call.authority → IsPlanned old call.setup paused range planned
-      → AsksPlayOr old call planned ask new → Whole
-  asks_play_or call paused range (Ok planned) number under is (inl asks) =
-      asks_play call.sequence call.authority call.setup paused range planned is.0 number under is.1 asks
-  asks_play_or call paused range (Ok planned) number under is (inr refused_) =
-      refused_by call.sequence Memory number (λ least same. cc) refused_
-  asks_play_or call paused range (Err refusal) number under is refused_ =
-      refused_by call.sequence refusal number (planned_fits old call.setup paused range refusal is) refused_
-
-  plays : (state : State) (request : Request) (authority : List ℕ) → request.sequence < 2 ^ 64
-      → IsPrinted 15872 authority
-      → Plays state old request authority ask new → Whole
-  plays Init request authority number under is = absurd is
-  plays (Ready setup paused) request authority number under is =
-      asks_play_or (play_call request.sequence authority setup) paused (header_value request.head.now (codes "Range"))
-      is.planned number under is.is_planned is.asks
-  plays (Playing setup play) request authority number under is =
-      replied (session_text request.sequence old.id) (session_whole request.sequence old.id number own_id) is
-  plays (Stopping setup stop) request authority number under is =
-      replied (session_text request.sequence old.id) (session_whole request.sequence old.id number own_id) is
-
-  pauses : (state : State) (sequence : ℕ) → sequence < 2 ^ 64 → Pauses state old sequence ask new → Whole
-  pauses Init sequence number is = absurd is
-  pauses (Ready setup paused) sequence number is = absurd is
-  pauses (Playing setup play) sequence number is = halts sequence setup play _ number is.asks
-  pauses (Stopping setup stop) sequence number is = absurd is
-
-  ends : (sequence : ℕ) → sequence < 2 ^ 64 → Ends old sequence ask new → Whole
-  ends sequence number is =
-      subst (λ (a : Ask). RepliesAreComplete a new) (sym is.0)
-      (subst IsMessage (sym (ap (λ (s : SessionState). s.text) is.1)) (session_whole sequence old.id number own_id))
-
-  tears_down : (state : State) (sequence : ℕ) → sequence < 2 ^ 64 → TearsDown state old sequence ask new → Whole
-  tears_down Init sequence number is = ends sequence number is
-  tears_down (Ready setup paused) sequence number is = ends sequence number is
-  tears_down (Playing setup play) sequence number is = halts sequence setup play _ number is
-  tears_down (Stopping setup stop) sequence number is = ends sequence number is
-
-  takes : (request : Request) (judgement : Result Task Refusal) → IsReadAs message request → request.sequence < 2 ^ 64
-      → length request.head.now ≤ 15872 → IsJudged old.films old.id old.state request judgement
-      → Takes old request judgement ask new → Whole
-  takes request (Ok ToOptions) read number short judged is =
-      replied (public_text request.sequence) (public_whole request.sequence number) is
-  takes request (Ok (ToDescribe asked)) read number short judged is =
-      let name = string_bytes is.stored.name in
-      let ms = length_ms is.stored.film in
-      replied (describe_text request.sequence asked.authority.now name ms)
-      (describe_whole request.sequence ms number
-      (authority_printed request read judged.film.named.read short)
-      (name_printed name (good_at old.films asked.film is.stored named.films is.at))
-      (time_fits is.stored.film (length is.stored.film.units.items) (film_few is.stored.film))) is.reply
-  takes request (Ok (ToSetup film)) read number short judged is =
-      sets_up request.sequence film request.head.now is.read number is.is_read is.done
-  takes request (Ok (ToPlay asked)) read number short judged is =
-      plays old.state request asked.authority.now number
-      (authority_printed request read judged.film.named.read short) is
-  takes request (Ok ToPause) read number short judged is = pauses old.state request.sequence number is
-  takes request (Ok ToTeardown) read number short judged is = tears_down old.state request.sequence number is
-  takes request (Ok ToGetParameter) read number short judged is = gets request is.topic number is.gets
-  takes request (Err refusal) read number short judged is =
-      refused (Some request.sequence) refusal (option_of request.head.now) number
-      (option_repeated request.head.now short)
-      (λ least same. absurd (subst (λ r. IsJudged old.films old.id old.state request (Err r)) same judged)) is
-
-  pub replies_whole : LeavesRoom message → Hears old message ask new → Whole
-  replies_whole room (inl fault) =
-      refused (first_sequence message) (fault_refusal fault.fault) []
-      (sequence_fits message (first_sequence message) refl) repeats_nothing (fault_fits fault.fault) fault.refused
-  replies_whole room (inr whole) =
-      let request = whole.request in
-      let read = whole.is_request in
-      takes request whole.hears.judgement read
-      (sequence_fits message (Some request.sequence) (first_sequence_is message request.sequence read.sequence_is))
-      (room (length request.head.now) read.split.is_head) whole.hears.judged whole.hears.takes
+pub replies_whole : (old : SessionState) (message : List ℕ) (ask : Ask) (new : SessionState) → HasValidIds old
+    → LeavesRoom message → Hears old message ask new → RepliesAreComplete ask new
+replies_whole old message ask new named room hears =
+    let h : HeardMessage = heard_by {old = old} {new = new} {message = message} {ask = ask} hears in
+    answer_whole h (record { named = named; room = room }) (answer_to h)
 
 -- what a session keeps from its beginning
 pub begins_named : (films : List Stored) (settings : Settings) (words : List ℕ) → AreFilms films

@@ -3,6 +3,7 @@ mod StateMachineLemmas
 pub mod RequestShapes
 pub mod RunLemmas
 mod VerdictUniqueness
+mod RequestReadings
 mod PlanUniqueness
 pub mod AnswerUniqueness
 mod ReplyContentLemmas

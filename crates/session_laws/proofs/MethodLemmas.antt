@@ -1,6 +1,6 @@
 -- What each method does for a request that nothing refuses.
 use Rattle.std.specs.Prelude.{⊤}
-use Rattle.std.proofs.Common.{◌≡◌, ◌≢◌, ℕ, ◌⊎◌, Bool, true, false, List, [], ◌∷◌, codes, string_bytes, Option, Some, None}
+use Rattle.std.proofs.Common.{◌≡◌, ◌≢◌, ℕ, ◌⊎◌, Bool, true, List, [], ◌∷◌, codes, string_bytes, Option, Some, None}
 use Rattle.std.proofs.Common.{is_some, Result, Ok, Err, refl, sym, ap, subst, ◌∙◌, inl, inr, arith}
 use Rattle.vod_base.specs.declared.limits.TheConstants.{MAX_BYTES, MAX_DELAY}
 use Rattle.vod_base.specs.Names.{good_name}
@@ -12,7 +12,6 @@ use Rattle.film_run.specs.declared.runs.Run.{Run}
 use Rattle.rtsp_text.specs.Fields.{header_value}
 use Rattle.rtsp_text.specs.Replies.{reply_text, value_named}
 use Rattle.rtsp_text.specs.declared.requests.Request.{Request}
-use Rattle.rtsp_text.proofs.MessageUniqueness.{no_fault}
 use Rattle.rtsp_fields.specs.declared.transports.Channels.{Channels}
 use Rattle.session.specs.declared.commands.Ask.{Ask}
 use Rattle.rtsp_methods.specs.declared.methods.Method.{Method}
@@ -23,22 +22,11 @@ use Rattle.rtsp_methods.specs.declared.topics.Topic.{Topic}
 use Rattle.rtsp_methods.specs.declared.topics.Topic.TheVariants.{Nothing, Booked, Offer as OfferTopic}
 use Rattle.rtsp_methods.specs.declared.topics.Topic.TheVariants.{Unknown as OtherTopic}
 use Rattle.session.specs.declared.plans.Planned.{Planned}
-use Rattle.film_streams.specs.declared.films.Asked.{Asked}
 use Rattle.rtsp_methods.specs.declared.refusals.Refusal.{Refusal}
-use Rattle.rtsp_methods.specs.declared.refusals.Refusal.TheVariants.{BadRequest, Version}
-use Rattle.rtsp_methods.specs.declared.refusals.Refusal.TheVariants.{Method as Unknown}
-use Rattle.rtsp_methods.specs.declared.refusals.Refusal.TheVariants.{Option as Required, Session, Film}
+use Rattle.rtsp_methods.specs.declared.refusals.Refusal.TheVariants.{Session, Film}
 use Rattle.rtsp_methods.specs.declared.refusals.Refusal.TheVariants.{State as NotNow, Transport, Parameter, Buffer}
 use Rattle.rtsp_methods.specs.declared.refusals.Refusal.TheVariants.{Range, Memory}
-use Rattle.session.specs.declared.refusals.Task.{Task}
-use Rattle.session.specs.declared.refusals.Task.TheVariants.{Options as ToOptions}
-use Rattle.session.specs.declared.refusals.Task.TheVariants.{Describe as ToDescribe}
-use Rattle.session.specs.declared.refusals.Task.TheVariants.{Setup as ToSetup, Play as ToPlay}
-use Rattle.session.specs.declared.refusals.Task.TheVariants.{Pause as ToPause}
-use Rattle.session.specs.declared.refusals.Task.TheVariants.{Teardown as ToTeardown}
-use Rattle.session.specs.declared.refusals.Task.TheVariants.{GetParameter as ToGetParameter}
 use Rattle.session.specs.declared.states.Awaited.TheVariants.{Play as ToAwaitPlay}
-use Rattle.session.specs.declared.states.Play.{Play as Played}
 use Rattle.film_streams.specs.declared.setups.Setup.{Setup}
 use Rattle.session.specs.declared.states.State.{State}
 use Rattle.session.specs.declared.states.State.TheVariants.{Init, Ready, Playing, Stopping}
@@ -54,126 +42,35 @@ use Rattle.session_laws.specs.MethodLaws.{NamesSession, PlanRefusal, NoMeaning, 
 use Rattle.session_laws.specs.MethodLaws.{SettlesSetup, setup_in}
 use Rattle.session.specs.Methods.{AsksOfferOr, AsksPlay, AsksPlayOr, Describes, GetsOffer, GetsParameter, Gets}
 use Rattle.session.specs.Methods.{HasWait, IsRefused}
-use Rattle.session.specs.Methods.{IsReplied, IsSetUp, IsWaitOf, Looks, Plays, PlaysReady, SetsUp, Takes, play_call}
+use Rattle.session.specs.Methods.{IsReplied, IsSetUp, IsWaitOf, Looks, Plays, PlaysReady, SetsUp, play_call}
 use Rattle.session.specs.Methods.{play_front, prepared_of}
 use Rattle.session.specs.OfferLaws.{IsLeastBufferReply, IsWaitIn}
 use Rattle.rtsp_replies.specs.PublicLaws.{IsPublicTold}
 use Rattle.session_laws.specs.RefusalLaws.{IsRefusedBy}
 use Rattle.session_laws.specs.ReplyContents.{IsDescribeReply, IsSetupReply}
-use Rattle.session.specs.RefusalOrder.{FitsFilm, FitsSession, FitsState, HasFilm, IsJudged, IsOnFilm, IsOwnFilm, IsOwnSession}
-use Rattle.session.specs.RefusalOrder.{IsReadAs, IsSpoken, IsTaken, IsTimely, method_of}
+use Rattle.session.specs.RefusalOrder.{FitsFilm, FitsSession, IsOwnFilm, IsOwnSession}
+use Rattle.session.specs.RefusalOrder.{IsSpoken, IsTimely}
 use Rattle.rtsp_methods.specs.RequiredOptions.{first_of}
 use Rattle.rtsp_methods.specs.Methods.{IsTopic, IsWord}
-use Rattle.rtsp_methods.specs.RequiredOptions.{required_of}
 use Rattle.rtsp_methods.specs.Methods.{name_of}
 use Rattle.rtsp_replies.specs.Replies.{code_of, field, plain_text, public_text, refusal_fields, refusal_text}
 use Rattle.rtsp_replies.specs.Replies.{session_text}
-use Rattle.session.specs.RequestedPlans.{HasNoPlan, IsPlanned, IsPlannedRun}
-use Rattle.session.specs.RequestSteps.{Hears}
+use Rattle.session.specs.RequestedPlans.{HasNoPlan, IsPlanned}
 use Rattle.rtsp_methods.specs.Refusals.{curve_refusal}
 use Rattle.film_streams.specs.SettingRanges.{AreFilms}
 use Rattle.film_streams.specs.Setups.{IsSetupRead}
 use Rattle.film_streams.specs.Setups.{AreChannelsOf, HasChannels, IsChosen}
 use Rattle.session.specs.SessionStates.{SessionState, has_session_in, with_reply}
-use Rattle.session.proofs.InitialStateLemmas.{HeardMessage}
+use Rattle.session.proofs.InitialStateLemmas.{HeardMessage, PlayInHand}
+use Rattle.session_laws.proofs.RequestReadings.{TakenUp, taken_up}
+use Rattle.session.specs.Methods.{OffersReady}
 use Rattle.session_laws.proofs.OfferLemmas.{least_told, offer_asked}
 use Rattle.session_laws.proofs.PlanUniqueness.{film_at_once, planned_once}
-use Rattle.session_laws.proofs.RangeInPlayingLemmas.{same_request}
 use Rattle.session_laws.proofs.RefusalLawLemmas.{refused_by}
 use Rattle.session_laws.proofs.ReplyContentLemmas.{film_told, setup_told}
 use Rattle.rtsp_replies.proofs.ReplyPhrases.{public_told}
 use Rattle.session.proofs.RequestUniqueness.{names_once, read_once, topic_once}
-use Rattle.session_laws.proofs.VerdictUniqueness.{AreAlike, method_once}
-
--- ---- a request that no shared refusal stops is processed
-
-some_none : (value : Option (List ℕ)) → value ≡ None → is_some value ≡ true → ⊥
-some_none None none some = let no : ⊥ = cc in no
-some_none (Some value) none some = let no : ⊥ = cc in no
-
--- nothing that all methods share refuses a request of a method
-record Passes (old : SessionState) (request : Request) (m : Method) : Type 0 where
-  pub spoken : IsSpoken request m
-  pub session : FitsSession m (has_session_in old.state) old.id (header_value request.head.now (codes "Session"))
-  pub film : (m ≡ Options) ⊎ HasFilm old.films old.state request.url.now m
-  pub state : IsTimely old.state request m
-
-unrefused : (old : SessionState) (request : Request) (m : Method) (refusal : Refusal) → Passes old request m
-    → IsJudged old.films old.id old.state request (Err refusal) → ⊥
-unrefused old request m BadRequest passes is = is
-unrefused old request m Version passes is = is
-unrefused old request m Unknown passes is = is.none m passes.spoken.named
-unrefused old request m Required passes is = some_none (required_of request.head.now) passes.spoken.free is.required
-unrefused old request m Session passes is =
-    let same : is.method ≡ m = method_once request.method.now is.method m is.spoken.named passes.spoken.named in
-    is.session (subst (λ (k : Method). FitsSession k (has_session_in old.state) old.id
-    (header_value request.head.now (codes "Session"))) (sym same) passes.session)
-unrefused old request m Film passes is =
-    let same : is.method ≡ m = method_once request.method.now is.method m is.talk.spoken.named passes.spoken.named in
-    elim passes.film [
-      | inl options ↦ is.asked (same ∙ options)
-      | inr has ↦ is.none (subst (λ (k : Method). HasFilm old.films old.state request.url.now k) (sym same) has)
-    ]
-unrefused old request m NotNow passes is =
-    let same : is.method ≡ m = method_once request.method.now is.method m is.talk.spoken.named passes.spoken.named in
-    is.state (subst (λ (k : Method). IsTimely old.state request k) (sym same) passes.state)
-unrefused old request m Transport passes is = is
-unrefused old request m Parameter passes is = is
-unrefused old request m (Buffer least) passes is = is
-unrefused old request m Range passes is = is
-unrefused old request m Memory passes is = is
-
-passes_alike : (old : SessionState) (request other : Request) (m : Method) → AreAlike request other
-    → Passes old request m → Passes old other m
-passes_alike old request other m alike passes = record {
-  spoken = record {
-    named = alike.method ∙ passes.spoken.named;
-    free = ap required_of alike.head ∙ passes.spoken.free;
-  };
-  session = subst (λ (h : List ℕ). FitsSession m (has_session_in old.state) old.id
-      (header_value h (codes "Session"))) (sym alike.head) passes.session;
-  film = elim passes.film [
-    | inl options ↦ inl options
-    | inr has ↦ inr (subst (λ (u : List ℕ). HasFilm old.films old.state u m) (sym alike.url) has)
-  ];
-  state = subst (λ (h : List ℕ). FitsState m old.state (is_some (header_value h (codes "Range")))) (sym alike.head)
-      passes.state;
-}
-
--- a request of a method is processed, as it was read
-record TakenUp (h : HeardMessage) (request : Request) (m : Method) : Type 0 where
-  pub other : Request
-  pub alike : AreAlike request other
-  pub task : Task
-  pub of : method_of task ≡ m
-  pub judged : IsTaken h.old.films h.old.id h.old.state other task
-  pub takes : Takes h.old other (Ok task) h.ask h.new
-
-taken_by : (h : HeardMessage) (request other : Request) (m : Method) (judgement : Result Task Refusal)
-    → AreAlike request other → Passes h.old request m
-    → IsJudged h.old.films h.old.id h.old.state other judgement → Takes h.old other judgement h.ask h.new
-    → TakenUp h request m
-taken_by h request other m (Ok task) alike passes judged takes = record {
-  other = other;
-  alike = alike;
-  task = task;
-  of = method_once other.method.now (method_of task) m judged.talk.spoken.named (alike.method ∙ passes.spoken.named);
-  judged = judged;
-  takes = takes;
-}
-taken_by h request other m (Err refusal) alike passes judged takes =
-    absurd (unrefused h.old other m refusal (passes_alike h.old request other m alike passes) judged)
-
-heard_taken : (h : HeardMessage) (request : Request) (m : Method) → IsReadAs h.message request
-    → Passes h.old request m → Hears h.old h.message h.ask h.new → TakenUp h request m
-heard_taken h request m read passes (inl fault) = absurd (no_fault fault.fault read fault.is_fault)
-heard_taken h request m read passes (inr whole) =
-    taken_by h request whole.request m whole.hears.judgement
-    (same_request h.message request whole.request read whole.is_request) passes whole.hears.judged whole.hears.takes
-
-taken_up : (h : HeardMessage) (request : Request) (m : Method) → IsReadAs h.message request
-    → Passes h.old request m → TakenUp h request m
-taken_up h request m read passes = heard_taken h request m read passes h.hears
+use Rattle.session_laws.proofs.VerdictUniqueness.{AreAlike}
 
 -- ---- what a request says
 
@@ -223,18 +120,23 @@ text_by : {new : SessionState} {ask : Ask} (old : SessionState) (text : List ℕ
     → new.text ≡ text
 text_by old text is = ap (λ (s : SessionState). s.text) is.1
 
-refused_as : {old new : SessionState} {ask : Ask} (sequence : ℕ) (refusal : Refusal) (option : List ℕ)
-    → IsRefused old (Some sequence) refusal option ask new → IsRefusedBy old (code_of refusal) sequence ask new
-refused_as {old} sequence refusal option is = record {
+refused_as : (h : HeardMessage) (sequence : ℕ) (refusal : Refusal)
+    → IsRefused h.old (Some sequence) refusal [] h.ask h.new
+    → IsRefusedBy h.old (code_of refusal) sequence h.ask h.new
+refused_as h sequence refusal is = record {
   command = is.0;
-  leaves = is.1 ∙ ap (λ (t : List ℕ). with_reply old t) (sym (ap (λ (s : SessionState). s.text) is.1));
-  fields = refusal_fields refusal option;
+  leaves = is.1 ∙ ap (λ (t : List ℕ). with_reply h.old t) (sym (ap (λ (s : SessionState). s.text) is.1));
+  fields = refusal_fields refusal [];
   text_is = ap (λ (s : SessionState). s.text) is.1;
 }
 
-renumbered : {old new : SessionState} {ask : Ask} {code n m : ℕ} → n ≡ m → IsRefusedBy old code n ask new
-    → IsRefusedBy old code m ask new
-renumbered {old} {new} {ask} {code} same is = subst (λ k. IsRefusedBy old code k ask new) same is
+-- a request that is alike, by its number
+refused_alike : {request other : Request} (h : HeardMessage) (refusal : Refusal) → AreAlike request other
+    → IsRefused h.old (Some other.sequence) refusal [] h.ask h.new
+    → IsRefusedBy h.old (code_of refusal) request.sequence h.ask h.new
+refused_alike {other} h refusal alike is =
+    subst (λ n. IsRefusedBy h.old (code_of refusal) n h.ask h.new) alike.sequence
+    (refused_as h other.sequence refusal is)
 
 session_told : (sequence : ℕ) (id : List ℕ) → HasSessionInReply sequence id (session_text sequence id)
 unfolding value_named
@@ -242,100 +144,57 @@ session_told sequence id = record { fields = field (codes "Session") id ∷ []; 
 
 -- ---- OPTIONS
 
-options_of : {new : SessionState} {ask : Ask} (old : SessionState) (other : Request) (task : Task) → method_of task ≡ Options
-    → Takes old other (Ok task) ask new → IsReplied old (public_text other.sequence) ask new
-options_of old other ToOptions of takes = takes
-options_of old other (ToDescribe asked) of takes = absurd cc
-options_of old other (ToSetup film) of takes = absurd cc
-options_of old other (ToPlay asked) of takes = absurd cc
-options_of old other ToPause of takes = absurd cc
-options_of old other ToTeardown of takes = absurd cc
-options_of old other ToGetParameter of takes = absurd cc
-
 pub options_answered : (h : HeardMessage) (request : Request) → IsPlainMessage h.message (codes "OPTIONS") request
     → IsOptionsAnswered h.old request.sequence h.ask h.new
 options_answered h request plain =
     let t : TakenUp h request Options = taken_up h request Options plain.is_request (record {
-      spoken = spoken_of Options plain;
-      session = tt;
+      talk = record { spoken = spoken_of Options plain; session = tt };
       film = inl refl;
       state = tt;
     }) in
-    let is : IsReplied h.old (public_text t.other.sequence) h.ask h.new = options_of h.old t.other t.task t.of t.takes in
+    let is : IsReplied h.old (public_text t.other.sequence) h.ask h.new = t.does in
     record {
       alone = alone_by is;
       told = subst (λ (x : List ℕ). IsPublicTold request.sequence x)
-          (ap public_text (sym t.alike.sequence) ∙ sym (text_by h.old (public_text t.other.sequence) is)) (public_told request.sequence);
+          (ap public_text (sym t.alike.sequence) ∙ sym (text_by h.old (public_text t.other.sequence) is))
+          (public_told request.sequence);
     }
 
 -- ---- DESCRIBE
 
-record DescribeTaken (old : SessionState) (other : Request) (ask : Ask) (new : SessionState) : Type 0 where
-  pub asked : Asked
-  pub on : IsOnFilm old.films old.state other.url.now Describe asked.authority.now asked.film
-  pub describes : Describes old other.sequence asked.film asked.authority.now ask new
-
-describe_of : {old new : SessionState} {ask : Ask} (other : Request) (task : Task) → method_of task ≡ Describe
-    → IsTaken old.films old.id old.state other task → Takes old other (Ok task) ask new
-    → DescribeTaken old other ask new
-describe_of other (ToDescribe asked) of judged takes = record { asked = asked; on = judged.film; describes = takes }
-describe_of other ToOptions of judged takes = absurd cc
-describe_of other (ToSetup film) of judged takes = absurd cc
-describe_of other (ToPlay asked) of judged takes = absurd cc
-describe_of other ToPause of judged takes = absurd cc
-describe_of other ToTeardown of judged takes = absurd cc
-describe_of other ToGetParameter of judged takes = absurd cc
-
-described : {old new : SessionState} {ask : Ask} (request other : Request) → AreAlike request other
-    → DescribeTaken old other ask new → IsFilmDescribed old request ask new
-described {old} {new} request other alike t =
-    let at = t.describes.at in
-    let film : t.describes.stored ≡ t.on.named.film.stored =
-    film_at_once old.films t.asked.film t.on.named.film.stored t.describes.stored t.on.named.film.at at in
-    let name : string_bytes t.describes.stored.name ≡ t.on.named.name =
-    ap (λ (s : Stored). string_bytes s.name) film ∙ t.on.named.film.name_is in
+described : (h : HeardMessage) (request : Request) → TakenUp h request Describe
+    → IsFilmDescribed h.old request h.ask h.new
+described h request t =
+    let authority = t.does.0 in
+    let film = t.does.1.0 in
+    let named = t.does.1.1.0.named in
+    let describes : Describes h.old t.other.sequence film authority h.ask h.new = t.does.1.1.1 in
+    let stored : describes.stored ≡ named.film.stored =
+    film_at_once h.old.films film named.film.stored describes.stored named.film.at describes.at in
+    let name : string_bytes describes.stored.name ≡ named.name =
+    ap (λ (s : Stored). string_bytes s.name) stored ∙ named.film.name_is in
     record {
-      alone = alone_by t.describes.reply;
-      authority = t.asked.authority.now;
-      film = t.asked.film;
-      stored = t.describes.stored;
-      named = subst (λ (u : List ℕ). Names old.films u t.asked.authority.now t.asked.film) alike.url t.on.named;
-      at = at;
-      told = λ short. subst (λ n. IsDescribeReply n t.asked.authority.now (string_bytes t.describes.stored.name)
-          t.describes.stored.film new.text) alike.sequence (film_told t.describes t.on.named.read
-          (ap good_name name ∙ t.on.named.read.name_is.good) short);
+      alone = alone_by describes.reply;
+      authority = authority;
+      film = film;
+      stored = describes.stored;
+      named = subst (λ (u : List ℕ). Names h.old.films u authority film) t.alike.url named;
+      at = describes.at;
+      told = λ short. subst (λ n. IsDescribeReply n authority (string_bytes describes.stored.name)
+          describes.stored.film h.new.text) t.alike.sequence (film_told describes named.read
+          (ap good_name name ∙ named.read.name_is.good) short);
     }
 
 pub film_described : (h : HeardMessage) (request : Request) → IsDescribeRequest h.old h.message request
     → IsFilmDescribed h.old request h.ask h.new
 film_described h request is =
-    let t : TakenUp h request Describe = taken_up h request Describe is.plain.is_request (record {
-      spoken = spoken_of Describe is.plain;
-      session = tt;
+    described h request (taken_up h request Describe is.plain.is_request (record {
+      talk = record { spoken = spoken_of Describe is.plain; session = tt };
       film = inr (is.authority, (is.film, record { named = is.named; own = tt }));
       state = tt;
-    }) in
-    described request t.other t.alike (describe_of t.other t.task t.of t.judged t.takes)
+    }))
 
 -- ---- SETUP
-
-record SetupTaken (old : SessionState) (other : Request) (ask : Ask) (new : SessionState) : Type 0 where
-  pub film : ℕ
-  pub authority : List ℕ
-  pub named : Names old.films other.url.now authority film
-  pub sets : SetsUp old other film ask new
-
-setup_of : {old new : SessionState} {ask : Ask} (other : Request) (task : Task) → method_of task ≡ SetupMethod
-    → IsTaken old.films old.id old.state other task → Takes old other (Ok task) ask new
-    → SetupTaken old other ask new
-setup_of other (ToSetup film) of judged takes =
-    record { film = film; authority = judged.film.0; named = judged.film.1.named; sets = takes }
-setup_of other ToOptions of judged takes = absurd cc
-setup_of other (ToDescribe asked) of judged takes = absurd cc
-setup_of other (ToPlay asked) of judged takes = absurd cc
-setup_of other ToPause of judged takes = absurd cc
-setup_of other ToTeardown of judged takes = absurd cc
-setup_of other ToGetParameter of judged takes = absurd cc
 
 given_channels : {head : List ℕ} {channels : Channels} (value : Option (List ℕ))
     → header_value head (codes "Transport") ≡ value → AreChannelsOf value channels → GivesChannels head channels
@@ -358,112 +217,95 @@ unchosen : (own least most number : ℕ) (value : Option (List ℕ)) → IsChose
 unchosen own least most number None is = is
 unchosen own least most number (Some text) is = record { number_is = is.is_number; above = is.above; below = is.below }
 
-setup_taken : (h : HeardMessage) (request : Request) (film : ℕ) → IsSetupRequest h.old h.message request film
-    → TakenUp h request SetupMethod
-setup_taken h request film is =
-    let none : has_session_in h.old.state ≡ false = ap has_session_in is.init in
+-- a SETUP of a film, that is received
+pub record AskedSetup (h : HeardMessage) (request : Request) : Type 0 where
+  pub film : ℕ
+  pub is : IsSetupRequest h.old h.message request film
+
+setup_taken : (h : HeardMessage) (request : Request) → AskedSetup h request → TakenUp h request SetupMethod
+setup_taken h request asked =
     taken_up h request SetupMethod is.plain.is_request (record {
-      spoken = spoken_of SetupMethod is.plain;
-      session = subst (λ (v : Option (List ℕ)). IsOwnSession (has_session_in h.old.state) h.old.id v ⊤)
-          (sym is.no_session) tt;
+      talk = record {
+        spoken = spoken_of SetupMethod is.plain;
+        session = subst (λ (v : Option (List ℕ)). IsOwnSession (has_session_in h.old.state) h.old.id v ⊤)
+            (sym is.no_session) tt;
+      };
       film = inr (
         is.authority,
-        (
-          film,
-          record {
-            named = is.named;
-            own = subst (λ (s : State). IsOwnFilm s film) (sym is.init) tt;
-          },
-        ),
+        (film, record { named = is.named; own = subst (λ (s : State). IsOwnFilm s film) (sym is.init) tt }),
       );
-      state = none;
+      state = ap has_session_in is.init;
     })
+  where
+    open asked use {film, is}
 
 -- what is read of a SETUP is done
-setup_read : {old new : SessionState} {ask : Ask} (request other : Request) (read : Result Setup Refusal)
-    → AreAlike request other → (t : SetupTaken old other ask new)
-    → IsSetupRead old.settings request.head.now t.film read
-    → IsSetUp old other.sequence read ask new
-setup_read {old} {new} {ask} request other read alike t is =
-    let own : IsSetupRead old.settings request.head.now t.film t.sets.read =
-    subst (λ (h : List ℕ). IsSetupRead old.settings h t.film t.sets.read) alike.head t.sets.is_read in
-    subst (λ (r : Result Setup Refusal). IsSetUp old other.sequence r ask new)
-    (sym (read_once {one = t.sets.read} {other = read} old.settings request.head.now t.film own is)) t.sets.done
+setup_read : (h : HeardMessage) (request : Request) (read : Result Setup Refusal)
+    (t : TakenUp h request SetupMethod) → IsSetupRead h.old.settings request.head.now t.does.1.0 read
+    → IsSetUp h.old t.other.sequence read h.ask h.new
+setup_read h request read t is =
+    let sets : SetsUp h.old t.other t.does.1.0 h.ask h.new = t.does.1.1.1 in
+    let own : IsSetupRead h.old.settings request.head.now t.does.1.0 sets.read =
+    subst (λ (x : List ℕ). IsSetupRead h.old.settings x t.does.1.0 sets.read) t.alike.head sets.is_read in
+    subst (λ (r : Result Setup Refusal). IsSetUp h.old t.other.sequence r h.ask h.new)
+    (sym (read_once {one = sets.read} {other = read} h.old.settings request.head.now t.does.1.0 own is)) sets.done
 
-settled_setup : {old new : SessionState} {ask : Ask} (request other : Request) (setup : Setup)
-    → AreAlike request other → IsSetUp old other.sequence (Ok setup) ask new
-    → IsSetupAnswered old request.sequence setup ask new
-settled_setup {old} {new} request other setup alike is = record {
-  command = is.0;
-  ready = is.1 ∙ ap (λ (t : List ℕ). record (with_reply old t) { state = Ready setup None })
-      (sym (ap (λ (s : SessionState). s.text) is.1));
-  told = subst (λ n. IsSetupReply n (identity_of old.source setup old.counts) old.id new.text) alike.sequence
-      (setup_told old new other.sequence setup old.counts is);
-}
-
-pub setup_answered : (h : HeardMessage) (request : Request) (film : ℕ) (setup : Setup) → AreFilms h.old.films
-    → IsSetupRequest h.old h.message request film → SettlesSetup h.old.settings request.head.now film setup
+pub setup_answered : (h : HeardMessage) (request : Request) (setup : Setup) → AreFilms h.old.films
+    → (asked : AskedSetup h request) → SettlesSetup h.old.settings request.head.now asked.film setup
     → IsSetupAnswered h.old request.sequence setup h.ask h.new
-setup_answered h request film setup films is settles =
-    let up = setup_taken h request film is in
-    let t : SetupTaken h.old up.other h.ask h.new = setup_of up.other up.task up.of up.judged up.takes in
-    let named : Names h.old.films request.url.now t.authority t.film =
-    subst (λ (u : List ℕ). Names h.old.films u t.authority t.film) up.alike.url t.named in
-    let same = names_once films named is.named in
-    settled_setup request up.other setup up.alike (setup_read request up.other (Ok setup) up.alike t (record {
+setup_answered h request setup films asked settles =
+    let t = setup_taken h request asked in
+    let named : Names h.old.films request.url.now t.does.0 t.does.1.0 =
+    subst (λ (u : List ℕ). Names h.old.films u t.does.0 t.does.1.0) t.alike.url t.does.1.1.0.named in
+    let same = names_once films named asked.is.named in
+    let is : IsSetUp h.old t.other.sequence (Ok setup) h.ask h.new = setup_read h request (Ok setup) t (record {
       film_is = settles.film_is ∙ same.film_is;
       channels = has_channels settles.channels;
-      buffer = chosen h.old.settings.buffer 1 MAX_BYTES setup.buffer (header_value request.head.now (codes "x-Buffer")) settles.buffer;
-      delay = chosen h.old.settings.startup 0 MAX_DELAY setup.delay (header_value request.head.now (codes "x-Startup")) settles.delay;
-    }))
+      buffer = chosen h.old.settings.buffer 1 MAX_BYTES setup.buffer
+          (header_value request.head.now (codes "x-Buffer")) settles.buffer;
+      delay = chosen h.old.settings.startup 0 MAX_DELAY setup.delay
+          (header_value request.head.now (codes "x-Startup")) settles.delay;
+    }) in
+    record {
+      command = is.0;
+      ready = is.1 ∙ ap (λ (x : List ℕ). record (with_reply h.old x) { state = Ready setup None })
+          (sym (ap (λ (s : SessionState). s.text) is.1));
+      told = subst (λ n. IsSetupReply n (identity_of h.old.source setup h.old.counts) h.old.id h.new.text)
+          t.alike.sequence (setup_told h.old h.new t.other.sequence setup h.old.counts is);
+    }
 
-pub setup_transport : (h : HeardMessage) (request : Request) (film : ℕ) → IsSetupRequest h.old h.message request film
+pub setup_transport : (h : HeardMessage) (request : Request) → AskedSetup h request
     → ((channels : Channels) → ¬ GivesChannels request.head.now channels)
     → IsRefusedBy h.old 461 request.sequence h.ask h.new
-setup_transport h request film is none =
-    let up = setup_taken h request film is in
-    let t : SetupTaken h.old up.other h.ask h.new = setup_of up.other up.task up.of up.judged up.takes in
-    renumbered up.alike.sequence (refused_as up.other.sequence Transport []
-    (setup_read request up.other (Err Transport) up.alike t (λ channels has. none channels (gives_channels has))))
+setup_transport h request asked none =
+    let t = setup_taken h request asked in
+    refused_alike h Transport t.alike
+    (setup_read h request (Err Transport) t (λ channels has. none channels (gives_channels has)))
 
-pub setup_number : (h : HeardMessage) (request : Request) (film : ℕ) → IsSetupRequest h.old h.message request film
+pub setup_number : (h : HeardMessage) (request : Request) → AskedSetup h request
     → HasBadNumber h.old.settings request.head.now → IsRefusedBy h.old 451 request.sequence h.ask h.new
-setup_number h request film is bad =
-    let up = setup_taken h request film is in
-    let t : SetupTaken h.old up.other h.ask h.new = setup_of up.other up.task up.of up.judged up.takes in
-    renumbered up.alike.sequence (refused_as up.other.sequence Parameter []
-    (setup_read request up.other (Err Parameter) up.alike t (record {
+setup_number h request asked bad =
+    let t = setup_taken h request asked in
+    refused_alike h Parameter t.alike (setup_read h request (Err Parameter) t (record {
       channels = (bad.channels, has_channels bad.given);
       none = elim bad.bad [
-        | inl buffer ↦ inl (λ n has. buffer n (unchosen h.old.settings.buffer 1 MAX_BYTES n (header_value request.head.now (codes "x-Buffer")) has))
-        | inr delay ↦ inr (λ n has. delay n (unchosen h.old.settings.startup 0 MAX_DELAY n (header_value request.head.now (codes "x-Startup")) has))
+        | inl buffer ↦ inl (λ n has. buffer n (unchosen h.old.settings.buffer 1 MAX_BYTES n
+            (header_value request.head.now (codes "x-Buffer")) has))
+        | inr delay ↦ inr (λ n has. delay n (unchosen h.old.settings.startup 0 MAX_DELAY n
+            (header_value request.head.now (codes "x-Startup")) has))
       ];
-    })))
+    }))
 
 -- ---- PLAY
-
-record PlayTaken (old : SessionState) (other : Request) (ask : Ask) (new : SessionState) : Type 0 where
-  pub asked : Asked
-  pub on : IsOnFilm old.films old.state other.url.now PlayMethod asked.authority.now asked.film
-  pub plays : Plays old.state old other asked.authority.now ask new
-
-play_of : {old new : SessionState} {ask : Ask} (other : Request) (task : Task) → method_of task ≡ PlayMethod
-    → IsTaken old.films old.id old.state other task → Takes old other (Ok task) ask new
-    → PlayTaken old other ask new
-play_of other (ToPlay asked) of judged takes = record { asked = asked; on = judged.film; plays = takes }
-play_of other ToOptions of judged takes = absurd cc
-play_of other (ToDescribe asked) of judged takes = absurd cc
-play_of other (ToSetup film) of judged takes = absurd cc
-play_of other ToPause of judged takes = absurd cc
-play_of other ToTeardown of judged takes = absurd cc
-play_of other ToGetParameter of judged takes = absurd cc
 
 play_taken : (h : HeardMessage) (request : Request) (setup : Setup) → IsPlayRequest h.old h.message request setup
     → setup_in h.old.state ≡ Some setup → IsTimely h.old.state request PlayMethod → TakenUp h request PlayMethod
 play_taken h request setup is set timely =
     taken_up h request PlayMethod is.plain.is_request (record {
-      spoken = spoken_of PlayMethod is.plain;
-      session = own_session (has_session_in h.old.state) ⊥ (exists_in h.old.state setup set) is.session;
+      talk = record {
+        spoken = spoken_of PlayMethod is.plain;
+        session = own_session (has_session_in h.old.state) ⊥ (exists_in h.old.state setup set) is.session;
+      };
       film = inr (
         is.authority,
         (
@@ -478,18 +320,18 @@ play_taken h request setup is set timely =
       state = timely;
     })
 
-pub play_confirmed : (h : HeardMessage) (request : Request) (setup : Setup) (play : Played)
-    → h.old.state ≡ Playing setup play → IsPlayRequest h.old h.message request setup
-    → header_value request.head.now (codes "Range") ≡ None → IsPlayConfirmed h.old request.sequence h.ask h.new
-play_confirmed h request setup play playing is no_range =
-    let up = play_taken h request setup is (ap setup_in playing) (λ now. ap is_some no_range) in
-    let t : PlayTaken h.old up.other h.ask h.new = play_of up.other up.task up.of up.judged up.takes in
-    let done : IsReplied h.old (session_text up.other.sequence h.old.id) h.ask h.new =
-    subst (λ (s : State). Plays s h.old up.other t.asked.authority.now h.ask h.new) playing t.plays in
+pub play_confirmed : (h : HeardMessage) (request : Request) (hand : PlayInHand h.old)
+    → IsPlayRequest h.old h.message request hand.setup → header_value request.head.now (codes "Range") ≡ None
+    → IsPlayConfirmed h.old request.sequence h.ask h.new
+play_confirmed h request hand is no_range =
+    let t = play_taken h request hand.setup is (ap setup_in hand.playing) (λ now. ap is_some no_range) in
+    let done : IsReplied h.old (session_text t.other.sequence h.old.id) h.ask h.new =
+    subst (λ (s : State). Plays s h.old t.other t.does.0 h.ask h.new) hand.playing t.does.1.1.1 in
     record {
       alone = alone_by done;
       told = subst (λ (x : List ℕ). HasSessionInReply request.sequence h.old.id x)
-          (ap (λ n. session_text n h.old.id) (sym up.alike.sequence) ∙ sym (text_by h.old (session_text up.other.sequence h.old.id) done))
+          (ap (λ n. session_text n h.old.id) (sym t.alike.sequence)
+          ∙ sym (text_by h.old (session_text t.other.sequence h.old.id) done))
           (session_told request.sequence h.old.id);
     }
 
@@ -510,68 +352,88 @@ cause_as same (IsRange is) = IsRange (same ∙ is)
 cause_as same (IsBuffer least is) = IsBuffer least (same ∙ is)
 cause_as same (IsMemory is) = IsMemory (same ∙ is)
 
-module _ (old : SessionState) (setup : Setup) (paused : Option Run) (range : Option (List ℕ)) (ask : Ask)
-    (new : SessionState) where
-  by_cause : (n : ℕ) (refusal : Refusal) → HasNoPlan old setup paused range refusal
-      → IsRefused old (Some n) refusal [] ask new → CurveCause refusal
-      → PlanRefusal old setup paused range n ask new
-  by_cause n refusal none is (IsRange same) = NoCurves (record {
-    why = subst (λ (r : Refusal). HasNoPlan old setup paused range r) same none;
-    refused = refused_as n Range [] (subst (λ (r : Refusal). IsRefused old (Some n) r [] ask new) same is);
-  })
-  by_cause n refusal none is (IsBuffer least same) =
-      let own : IsRefused old (Some n) (Buffer least) [] ask new =
-      subst (λ (r : Refusal). IsRefused old (Some n) r [] ask new) same is in
-      SmallBuffer (record {
-        least = least;
-        why = subst (λ (r : Refusal). HasNoPlan old setup paused range r) same none;
-        alone = alone_by own;
-        told = subst (λ (x : List ℕ). IsLeastBufferReply (Some n) least x) (sym (text_by old (refusal_text (Some n) (Buffer least) []) own))
-            (least_told (Some n) least []);
-      })
-  by_cause n refusal none is (IsMemory same) =
-      NoMemory (refused_as n Memory [] (subst (λ (r : Refusal). IsRefused old (Some n) r [] ask new) same is))
+-- a plan that a request needs, for the run that it asks for
+record NeededPlan : Type 0 where
+  setup : Setup
+  paused : Option Run
+  range : Option (List ℕ)
+  sequence : ℕ
 
-  plan_refusal : (n : ℕ) (refusal : Refusal) → IsPlanned old setup paused range (Err refusal)
-      → IsRefused old (Some n) refusal [] ask new → PlanRefusal old setup paused range n ask new
-  plan_refusal n refusal (inl none) is = NoMeaning (record {
-    why = record { stored = none.stored; at = none.at; none = none.none };
-    refused = refused_as n Range []
-        (subst (λ (r : Refusal). IsRefused old (Some n) r [] ask new) none.refusal_is is);
-  })
-  plan_refusal n refusal (inr none) is =
-      by_cause n refusal none is (cause_as none.refusal_is (curve_cause none.refused))
+abbrev PlanRefused : HeardMessage → NeededPlan → Type 0
+PlanRefused h plan = PlanRefusal h.old plan.setup plan.paused plan.range plan.sequence h.ask h.new
+
+by_cause : (h : HeardMessage) (plan : NeededPlan) (refusal : Refusal)
+    → HasNoPlan h.old plan.setup plan.paused plan.range refusal
+    → IsRefused h.old (Some plan.sequence) refusal [] h.ask h.new → CurveCause refusal → PlanRefused h plan
+by_cause h plan refusal none is (IsRange same) = NoCurves (record {
+  why = subst (λ (r : Refusal). HasNoPlan h.old plan.setup plan.paused plan.range r) same none;
+  refused = refused_as h plan.sequence Range
+      (subst (λ (r : Refusal). IsRefused h.old (Some plan.sequence) r [] h.ask h.new) same is);
+})
+by_cause h plan refusal none is (IsBuffer least same) =
+    let own : IsRefused h.old (Some plan.sequence) (Buffer least) [] h.ask h.new =
+    subst (λ (r : Refusal). IsRefused h.old (Some plan.sequence) r [] h.ask h.new) same is in
+    SmallBuffer (record {
+      least = least;
+      why = subst (λ (r : Refusal). HasNoPlan h.old plan.setup plan.paused plan.range r) same none;
+      alone = alone_by own;
+      told = subst (λ (x : List ℕ). IsLeastBufferReply (Some plan.sequence) least x)
+          (sym (text_by h.old (refusal_text (Some plan.sequence) (Buffer least) []) own))
+          (least_told (Some plan.sequence) least []);
+    })
+by_cause h plan refusal none is (IsMemory same) =
+    NoMemory (refused_as h plan.sequence Memory
+    (subst (λ (r : Refusal). IsRefused h.old (Some plan.sequence) r [] h.ask h.new) same is))
+
+plan_refusal : (h : HeardMessage) (plan : NeededPlan) (refusal : Refusal)
+    → IsPlanned h.old plan.setup plan.paused plan.range (Err refusal)
+    → IsRefused h.old (Some plan.sequence) refusal [] h.ask h.new → PlanRefused h plan
+plan_refusal h plan refusal (inl none) is = NoMeaning (record {
+  why = record { stored = none.stored; at = none.at; none = none.none };
+  refused = refused_as h plan.sequence Range
+      (subst (λ (r : Refusal). IsRefused h.old (Some plan.sequence) r [] h.ask h.new) none.refusal_is is);
+})
+plan_refusal h plan refusal (inr none) is =
+    by_cause h plan refusal none is (cause_as none.refusal_is (curve_cause none.refused))
+
+-- a request that is received in Ready
+pub record ReadyRequest (h : HeardMessage) : Type 0 where
+  pub request : Request
+  pub setup : Setup
+  pub paused : Option Run
+  pub ready : h.old.state ≡ Ready setup paused
 
 -- a PLAY in Ready, processed
-record ReadyPlay (old : SessionState) (request : Request) (setup : Setup) (paused : Option Run) (ask : Ask)
-    (new : SessionState) : Type 0 where
-  pub other : Request
-  pub alike : AreAlike request other
-  pub authority : List ℕ
-  pub named : Names old.films request.url.now authority setup.film
-  pub planned : Result Planned Refusal
-  pub is_planned : IsPlanned old setup paused (header_value request.head.now (codes "Range")) planned
-  pub asks : AsksPlayOr old (play_call other.sequence authority setup) planned ask new
+abbrev range_of : Request → Option (List ℕ)
+range_of request = header_value request.head.now (codes "Range")
 
-ready_play : (h : HeardMessage) (request : Request) (setup : Setup) (paused : Option Run)
-    → h.old.state ≡ Ready setup paused → IsPlayRequest h.old h.message request setup
-    → ReadyPlay h.old request setup paused h.ask h.new
-ready_play h request setup paused ready is =
-    let up = play_taken h request setup is (ap setup_in ready)
-    (λ now. absurd (let no : ⊥ = cc (ready, now) in no)) in
-    let t : PlayTaken h.old up.other h.ask h.new = play_of up.other up.task up.of up.judged up.takes in
-    let done : PlaysReady h.old up.other t.asked.authority.now setup paused h.ask h.new =
-    subst (λ (s : State). Plays s h.old up.other t.asked.authority.now h.ask h.new) ready t.plays in
-    let film : t.asked.film ≡ setup.film = film_of h.old.state setup t.asked.film (ap setup_in ready) t.on.own in
+record ReadyPlay (h : HeardMessage) (r : ReadyRequest h) : Type 0 where
+  other : Request
+  alike : AreAlike r.request other
+  authority : List ℕ
+  named : Names h.old.films r.request.url.now authority r.setup.film
+  planned : Result Planned Refusal
+  is_planned : IsPlanned h.old r.setup r.paused (range_of r.request) planned
+  asks : AsksPlayOr h.old (play_call other.sequence authority r.setup) planned h.ask h.new
+
+ready_play : (h : HeardMessage) (r : ReadyRequest h) → IsPlayRequest h.old h.message r.request r.setup → ReadyPlay h r
+ready_play h r is =
+    let t = play_taken h r.request r.setup is (ap setup_in r.ready)
+    (λ now. let ready = r.ready in absurd (let no : ⊥ = cc (ready, now) in no)) in
+    let name = t.does.0 in
+    let on = t.does.1.1.0 in
+    let done : PlaysReady h.old t.other name r.setup r.paused h.ask h.new =
+    subst (λ (s : State). Plays s h.old t.other name h.ask h.new) r.ready t.does.1.1.1 in
+    let film : t.does.1.0 ≡ r.setup.film = film_of h.old.state r.setup t.does.1.0 (ap setup_in r.ready) on.own in
     record {
-      other = up.other;
-      alike = up.alike;
-      authority = t.asked.authority.now;
-      named = subst (λ n. Names h.old.films request.url.now t.asked.authority.now n) film
-          (subst (λ (u : List ℕ). Names h.old.films u t.asked.authority.now t.asked.film) up.alike.url t.on.named);
+      other = t.other;
+      alike = t.alike;
+      authority = name;
+      named = subst (λ n. Names h.old.films r.request.url.now name n) film
+          (subst (λ (u : List ℕ). Names h.old.films u name t.does.1.0) t.alike.url on.named);
       planned = done.planned;
-      is_planned = subst (λ (x : List ℕ). IsPlanned h.old setup paused (header_value x (codes "Range")) done.planned)
-          up.alike.head done.is_planned;
+      is_planned = subst (λ (x : List ℕ). IsPlanned h.old r.setup r.paused (header_value x (codes "Range"))
+          done.planned) t.alike.head done.is_planned;
       asks = done.asks;
     }
 
@@ -581,94 +443,75 @@ memory_of one other ok err (inl same) = absurd (let no : ⊥ = cc (ok, err, same
 memory_of one other ok err (inr (inl same)) = absurd (let no : ⊥ = cc (ok, same) in no)
 memory_of one other ok err (inr (inr same)) = cc (err, same)
 
--- a PLAY in Ready that is processed
-module _ {setup : Setup} {paused : Option Run} (h : HeardMessage) (request : Request)
-    (p : ReadyPlay h.old request setup paused h.ask h.new) where
-  -- it was planned: the station is asked for the play
-  planned_asks : {planned : Planned}
-      → IsPlanned h.old setup paused (header_value request.head.now (codes "Range")) (Ok planned)
-      → AsksPlay h.old p.other.sequence p.authority setup planned h.ask h.new
-      → IsPlayAskedOf h.old request setup paused h.ask h.new
-  planned_asks {planned} is asks =
-      let film : asks.stored ≡ is.0 = film_at_once h.old.films setup.film is.0 asks.stored is.1.at asks.at in
-      let F : Stored → ℕ → SessionState = λ s n. record h.old {
-        awaited = ToAwaitPlay (prepared_of h.old s setup planned n);
-        text = play_front h.old s setup planned n p.authority;
-      } in
-      record {
-        stored = is.0;
-        planned = planned;
-        authority = p.authority;
-        planned_is = is.1;
-        named = p.named;
-        command = asks.command;
-        leaves = asks.state ∙ ap (λ (s : Stored). F s p.other.sequence) film ∙ ap (F is.0) p.alike.sequence;
-      }
+-- one that was planned: the station is asked for the play
+planned_asks : {h : HeardMessage} {r : ReadyRequest h} {planned : Planned} (p : ReadyPlay h r)
+    → IsPlanned h.old r.setup r.paused (range_of r.request) (Ok planned)
+    → AsksPlay h.old p.other.sequence p.authority r.setup planned h.ask h.new
+    → IsPlayAskedOf h.old r.request r.setup r.paused h.ask h.new
+planned_asks {h} {r} {planned} p is asks =
+    let film : asks.stored ≡ is.0 = film_at_once h.old.films r.setup.film is.0 asks.stored is.1.at asks.at in
+    let F : Stored → ℕ → SessionState = λ s n. record h.old {
+      awaited = ToAwaitPlay (prepared_of h.old s r.setup planned n);
+      text = play_front h.old s r.setup planned n p.authority;
+    } in
+    record {
+      stored = is.0;
+      planned = planned;
+      authority = p.authority;
+      planned_is = is.1;
+      named = p.named;
+      command = asks.command;
+      leaves = asks.state ∙ ap (λ (s : Stored). F s p.other.sequence) film ∙ ap (F is.0) p.alike.sequence;
+    }
 
-  -- and memory may run out
-  planned_done : {planned : Planned}
-      → IsPlanned h.old setup paused (header_value request.head.now (codes "Range")) (Ok planned)
-      → AsksPlayOr h.old (play_call p.other.sequence p.authority setup) (Ok planned) h.ask h.new
-      → IsPlayAskedOf h.old request setup paused h.ask h.new ⊎ IsRefusedBy h.old 500 request.sequence h.ask h.new
-  planned_done is (inl asks) = inl (planned_asks is asks)
-  planned_done is (inr refused) =
-      inr (renumbered p.alike.sequence (refused_as p.other.sequence Memory [] refused))
+-- and memory may run out
+planned_done : {h : HeardMessage} {r : ReadyRequest h} {planned : Planned} (p : ReadyPlay h r)
+    → IsPlanned h.old r.setup r.paused (range_of r.request) (Ok planned)
+    → AsksPlayOr h.old (play_call p.other.sequence p.authority r.setup) (Ok planned) h.ask h.new
+    → IsPlayAskedOf h.old r.request r.setup r.paused h.ask h.new ⊎ IsRefusedBy h.old 500 r.request.sequence h.ask h.new
+planned_done p is (inl asks) = inl (planned_asks p is asks)
+planned_done {h} p is (inr refused) = inr (refused_alike h Memory p.alike refused)
 
-  ready_done : (planned : Result Planned Refusal)
-      → IsPlanned h.old setup paused (header_value request.head.now (codes "Range")) planned
-      → AsksPlayOr h.old (play_call p.other.sequence p.authority setup) planned h.ask h.new
-      → IsPlayAskedOf h.old request setup paused h.ask h.new
-      ⊎ PlanRefusal h.old setup paused (header_value request.head.now (codes "Range")) request.sequence h.ask h.new
-  ready_done (Ok planned) is asks = elim (planned_done is asks) [
-    | inl asked ↦ inl asked
-    | inr refused ↦ inr (NoMemory refused)
-  ]
-  ready_done (Err refusal) is refused =
-      let range = header_value request.head.now (codes "Range") in
-      inr (subst (λ n. PlanRefusal h.old setup paused range n h.ask h.new) p.alike.sequence
-      (plan_refusal h.old setup paused range h.ask h.new p.other.sequence refusal is refused))
+pub play_ready : (h : HeardMessage) (r : ReadyRequest h)
+    → IsPlayRequest h.old h.message r.request r.setup → IsPlayAskedOf h.old r.request r.setup r.paused h.ask h.new
+    ⊎ PlanRefusal h.old r.setup r.paused (range_of r.request) r.request.sequence h.ask h.new
+play_ready h r is =
+    let p = ready_play h r is in
+    let range = range_of r.request in
+    (elim p.planned as (λ found. IsPlanned h.old r.setup r.paused range found
+    → AsksPlayOr h.old (play_call p.other.sequence p.authority r.setup) found h.ask h.new
+    → IsPlayAskedOf h.old r.request r.setup r.paused h.ask h.new
+    ⊎ PlanRefusal h.old r.setup r.paused range r.request.sequence h.ask h.new) [
+      | Ok planned ↦ λ its asks. elim (planned_done p its asks) [
+        | inl asked ↦ inl asked
+        | inr refused ↦ inr (NoMemory refused)
+      ]
+      | Err refusal ↦ λ its refused.
+          inr (subst (λ n. PlanRefusal h.old r.setup r.paused range n h.ask h.new) p.alike.sequence
+          (plan_refusal h (record { setup = r.setup; paused = r.paused; range = range; sequence = p.other.sequence })
+          refusal its refused))
+    ]) p.is_planned p.asks
 
-  -- a PLAY that can be planned asks the station for the play, or memory runs out
-  asked_done : {stored : Stored} {given : Planned} (found : Result Planned Refusal)
-      → IsPlannedRun h.old stored setup paused (header_value request.head.now (codes "Range")) given
-      → IsPlanned h.old setup paused (header_value request.head.now (codes "Range")) found
-      → AsksPlayOr h.old (play_call p.other.sequence p.authority setup) found h.ask h.new
-      → IsPlayAskedOf h.old request setup paused h.ask h.new ⊎ IsRefusedBy h.old 500 request.sequence h.ask h.new
-  asked_done (Ok planned) run is asks = planned_done is asks
-  asked_done {stored} {given} (Err refusal) run is refused =
-      let range = header_value request.head.now (codes "Range") in
-      let memory : refusal ≡ Memory = memory_of {refusal = refusal} {planned = given} (Ok given) (Err refusal) refl refl
-      (planned_once h.old setup paused range (Ok given) (Err refusal) (stored, run) is) in
-      inr (renumbered p.alike.sequence (refused_as p.other.sequence Memory []
-      (subst (λ (r : Refusal). IsRefused h.old (Some p.other.sequence) r [] h.ask h.new) memory refused)))
-
-pub play_ready : (h : HeardMessage) (request : Request) (setup : Setup) (paused : Option Run)
-    → h.old.state ≡ Ready setup paused → IsPlayRequest h.old h.message request setup
-    → IsPlayAskedOf h.old request setup paused h.ask h.new
-    ⊎ PlanRefusal h.old setup paused (header_value request.head.now (codes "Range")) request.sequence h.ask h.new
-play_ready h request setup paused ready is =
-    let p = ready_play h request setup paused ready is in
-    ready_done h request p p.planned p.is_planned p.asks
-
-pub play_asked : (h : HeardMessage) (request : Request) (setup : Setup) (paused : Option Run) (stored : Stored)
-    (planned : Planned) → h.old.state ≡ Ready setup paused → IsPlayRequest h.old h.message request setup
-    → IsPlannedRun h.old stored setup paused (header_value request.head.now (codes "Range")) planned
-    → IsPlayAskedOf h.old request setup paused h.ask h.new ⊎ IsRefusedBy h.old 500 request.sequence h.ask h.new
-play_asked h request setup paused stored planned ready is given =
-    let p = ready_play h request setup paused ready is in
-    asked_done h request p p.planned given p.is_planned p.asks
+-- one that can be planned asks the station for the play, or memory runs out
+pub play_asked : {given : Planned} (h : HeardMessage) (r : ReadyRequest h)
+    → IsPlayRequest h.old h.message r.request r.setup
+    → IsPlanned h.old r.setup r.paused (range_of r.request) (Ok given)
+    → IsPlayAskedOf h.old r.request r.setup r.paused h.ask h.new ⊎ IsRefusedBy h.old 500 r.request.sequence h.ask h.new
+play_asked {given} h r is run =
+    let p = ready_play h r is in
+    let range = range_of r.request in
+    (elim p.planned as (λ found. IsPlanned h.old r.setup r.paused range found
+    → AsksPlayOr h.old (play_call p.other.sequence p.authority r.setup) found h.ask h.new
+    → IsPlayAskedOf h.old r.request r.setup r.paused h.ask h.new ⊎ IsRefusedBy h.old 500 r.request.sequence h.ask h.new) [
+      | Ok planned ↦ λ its asks. planned_done p its asks
+      | Err refusal ↦ λ its refused.
+          let memory : refusal ≡ Memory = memory_of {refusal = refusal} {planned = given} (Ok given) (Err refusal) refl
+          refl (planned_once h.old r.setup r.paused range (Ok given) (Err refusal) run its) in
+          inr (refused_alike h Memory p.alike
+          (subst (λ (x : Refusal). IsRefused h.old (Some p.other.sequence) x [] h.ask h.new) memory refused))
+    ]) p.is_planned p.asks
 
 -- ---- GET_PARAMETER
-
-parameter_of : {old new : SessionState} {ask : Ask} (other : Request) (task : Task) → method_of task ≡ GetParameter
-    → Takes old other (Ok task) ask new → GetsParameter old other ask new
-parameter_of other ToGetParameter of takes = takes
-parameter_of other ToOptions of takes = absurd cc
-parameter_of other (ToDescribe asked) of takes = absurd cc
-parameter_of other (ToSetup film) of takes = absurd cc
-parameter_of other (ToPlay asked) of takes = absurd cc
-parameter_of other ToPause of takes = absurd cc
-parameter_of other ToTeardown of takes = absurd cc
 
 may_name : {head : List ℕ} (old : SessionState) → MayNameSession old head
     → IsOwnSession (has_session_in old.state) old.id (header_value head (codes "Session")) ⊤
@@ -687,8 +530,7 @@ topic_taken : (h : HeardMessage) (request : Request) (topic : Topic) → IsParam
     → IsTopic request.body.now topic → TopicTaken h request topic
 topic_taken h request topic is about =
     let up : TakenUp h request GetParameter = taken_up h request GetParameter is.plain.is_request (record {
-      spoken = spoken_of GetParameter is.plain;
-      session = may_name h.old is.session;
+      talk = record { spoken = spoken_of GetParameter is.plain; session = may_name h.old is.session };
       film = inr (
         is.film.authority,
         (
@@ -701,7 +543,7 @@ topic_taken h request topic is about =
       );
       state = tt;
     }) in
-    let gets : GetsParameter h.old up.other h.ask h.new = parameter_of up.other up.task up.of up.takes in
+    let gets : GetsParameter h.old up.other h.ask h.new = up.does in
     let own : IsTopic request.body.now gets.topic =
     subst (λ (b : List ℕ). IsTopic b gets.topic) up.alike.body gets.is_topic in
     record {
@@ -725,20 +567,29 @@ pub parameter_unknown : (h : HeardMessage) (request : Request) → IsParameterRe
     → IsUnknownBody request.body.now → IsRefusedBy h.old 451 request.sequence h.ask h.new
 parameter_unknown h request is body =
     let t = topic_taken h request OtherTopic is (body.some, body.no_look, body.no_offer) in
-    renumbered t.alike.sequence (refused_as t.other.sequence Parameter [] t.gets)
+    refused_alike h Parameter t.alike t.gets
 
-look_done : {old new : SessionState} {ask : Ask} (n m : ℕ) → n ≡ m → Looks old n ask new
-    → IsLookAsked old m ask new ⊎ IsRefusedFor (old.looks_left ≡ 0) old 500 m ask new
-look_done {old} {new} {ask} n m same (inl look) =
-    inl (subst (λ k. IsLookAsked old k ask new) same (record { command = look.command; leaves = look.state }))
-look_done {old} {new} {ask} n m same (inr short) =
-    inr (record { why = short.later; refused = renumbered same (refused_as n Memory [] short.refused) })
+look_done : (h : HeardMessage) (n m : ℕ) → n ≡ m → Looks h.old n h.ask h.new
+    → IsLookAsked h.old m h.ask h.new ⊎ IsRefusedFor (h.old.looks_left ≡ 0) h.old 500 m h.ask h.new
+look_done h n m same (inl look) =
+    inl (subst (λ k. IsLookAsked h.old k h.ask h.new) same (record { command = look.command; leaves = look.state }))
+look_done h n m same (inr short) =
+    inr (record {
+      why = short.later;
+      refused = subst (λ k. IsRefusedBy h.old 500 k h.ask h.new) same (refused_as h n Memory short.refused);
+    })
 
 pub parameter_look : (h : HeardMessage) (request : Request) → IsParameterRequest h.old h.message request
     → IsWord (codes "x-Booked") request.body.now → IsLookAsked h.old request.sequence h.ask h.new
     ⊎ IsRefusedFor (h.old.looks_left ≡ 0) h.old 500 request.sequence h.ask h.new
 parameter_look h request is body =
-    let t = topic_taken h request Booked is body in look_done t.other.sequence request.sequence t.alike.sequence t.gets
+    let t = topic_taken h request Booked is body in
+    look_done h t.other.sequence request.sequence t.alike.sequence t.gets
+
+-- a request for an offer
+pub record OfferRequest (h : HeardMessage) (request : Request) : Type 0 where
+  pub is : IsParameterRequest h.old h.message request
+  pub body : IsWord (codes "x-Offer") request.body.now
 
 -- an offer, by the state
 record OfferTaken (h : HeardMessage) (request : Request) (state : State) : Type 0 where
@@ -746,30 +597,27 @@ record OfferTaken (h : HeardMessage) (request : Request) (state : State) : Type 
   pub alike : AreAlike request other
   pub gets : GetsOffer state h.old other h.ask h.new
 
-offer_taken : (h : HeardMessage) (request : Request) (state : State) → h.old.state ≡ state
-    → IsParameterRequest h.old h.message request → IsWord (codes "x-Offer") request.body.now
+offer_taken : (h : HeardMessage) (request : Request) (state : State) → h.old.state ≡ state → OfferRequest h request
     → OfferTaken h request state
-offer_taken h request state in_state is body =
-    let t = topic_taken h request OfferTopic is body in
+offer_taken h request state in_state offer =
+    let t = topic_taken h request OfferTopic offer.is offer.body in
     record {
       other = t.other;
       alike = t.alike;
       gets = subst (λ (s : State). GetsOffer s h.old t.other h.ask h.new) in_state t.gets;
     }
 
-pub offer_no_session : (h : HeardMessage) (request : Request) → IsParameterRequest h.old h.message request
-    → IsWord (codes "x-Offer") request.body.now → h.old.state ≡ Init
+pub offer_no_session : (h : HeardMessage) (request : Request) → OfferRequest h request → h.old.state ≡ Init
     → IsRefusedBy h.old 454 request.sequence h.ask h.new
-offer_no_session h request is body init =
-    let t = offer_taken h request Init init is body in
-    renumbered t.alike.sequence (refused_as t.other.sequence Session [] t.gets)
+offer_no_session h request offer init =
+    let t = offer_taken h request Init init offer in
+    refused_alike h Session t.alike t.gets
 
-pub offer_playing : (h : HeardMessage) (request : Request) (setup : Setup) (play : Played)
-    → IsParameterRequest h.old h.message request → IsWord (codes "x-Offer") request.body.now
-    → h.old.state ≡ Playing setup play → IsRefusedBy h.old 455 request.sequence h.ask h.new
-offer_playing h request setup play is body playing =
-    let t = offer_taken h request (Playing setup play) playing is body in
-    renumbered t.alike.sequence (refused_as t.other.sequence NotNow [] t.gets)
+pub offer_playing : (h : HeardMessage) (request : Request) → OfferRequest h request → PlayInHand h.old
+    → IsRefusedBy h.old 455 request.sequence h.ask h.new
+offer_playing h request offer hand =
+    let t = offer_taken h request (Playing hand.setup hand.play) hand.playing offer in
+    refused_alike h NotNow t.alike t.gets
 
 wait_of : {head : List ℕ} {wait : ℕ} (value : Option (List ℕ)) → header_value head (codes "x-Wait") ≡ value
     → IsWaitOf value wait → IsWaitIn head wait
@@ -784,57 +632,48 @@ has_wait {wait} is = subst (λ (v : Option (List ℕ)). IsWaitOf v wait) (sym is
   below = omega (arith, is.fits);
 })
 
-no_wait_done : {old new : SessionState} {setup : Setup} {paused : Option Run} {ask : Ask} (request other : Request)
-    → AreAlike request other → ((wait : ℕ) → ¬ IsWaitIn request.head.now wait)
-    → GetsOffer (Ready setup paused) old other ask new → IsRefusedBy old 451 request.sequence ask new
-no_wait_done request other alike none (inl short) =
-    renumbered alike.sequence (refused_as other.sequence Parameter [] short.refused)
-no_wait_done request other alike none (inr offers) =
-    absurd (none offers.wait (subst (λ (x : List ℕ). IsWaitIn x offers.wait) alike.head
-    (wait_of (header_value other.head.now (codes "x-Wait")) refl offers.has_wait)))
+pub offer_no_wait : (h : HeardMessage) (r : ReadyRequest h) → OfferRequest h r.request
+    → ((wait : ℕ) → ¬ IsWaitIn r.request.head.now wait) → IsRefusedBy h.old 451 r.request.sequence h.ask h.new
+offer_no_wait h r offer none =
+    let t = offer_taken h r.request (Ready r.setup r.paused) r.ready offer in
+    elim t.gets [
+      | inl short ↦ refused_alike h Parameter t.alike short.refused
+      | inr offers ↦ absurd (none offers.wait (subst (λ (x : List ℕ). IsWaitIn x offers.wait) t.alike.head
+          (wait_of (header_value t.other.head.now (codes "x-Wait")) refl offers.has_wait)))
+    ]
 
-pub offer_no_wait : (h : HeardMessage) (request : Request) (setup : Setup) (paused : Option Run)
-    → IsParameterRequest h.old h.message request → IsWord (codes "x-Offer") request.body.now
-    → h.old.state ≡ Ready setup paused → ((wait : ℕ) → ¬ IsWaitIn request.head.now wait)
-    → IsRefusedBy h.old 451 request.sequence h.ask h.new
-offer_no_wait h request setup paused is body ready none =
-    let t = offer_taken h request (Ready setup paused) ready is body in
-    no_wait_done request t.other t.alike none t.gets
-
-offers_done : (h : HeardMessage) (setup : Setup) (paused : Option Run) (n wait : ℕ) (planned : Result Planned Refusal)
-    → IsPlanned h.old setup paused None planned → AsksOfferOr h.old n wait planned h.ask h.new
+offers_done : {n wait : ℕ} {setup : Setup} {paused : Option Run} (h : HeardMessage)
+    → OffersReady h.old n wait setup paused h.ask h.new
     → IsOfferAskedOf h.old h.message h.ask h.new ⊎ PlanRefusal h.old setup paused None n h.ask h.new
-offers_done h setup paused n wait (Ok planned) is (inl asks) = inl (record {
-  plan = planned.plan;
-  offers = asks.offers;
-  command = asks.command;
-  asked = offer_asked h.old h.message planned.plan asks.offers h.new
-      (subst (λ (a : Ask). Hears h.old h.message a h.new) asks.command h.hears);
-})
-offers_done h setup paused n wait (Ok planned) is (inr refused) = inr (NoMemory (refused_as n Memory [] refused))
-offers_done h setup paused n wait (Err refusal) is refused =
-    inr (plan_refusal h.old setup paused None h.ask h.new n refusal is refused)
+offers_done {n} {wait} {setup} {paused} h offers =
+    (elim offers.planned as (λ found. IsPlanned h.old setup paused None found
+    → AsksOfferOr h.old n wait found h.ask h.new
+    → IsOfferAskedOf h.old h.message h.ask h.new ⊎ PlanRefusal h.old setup paused None n h.ask h.new) [
+      | Ok planned ↦ λ is asked. elim asked [
+        | inl asks ↦ inl (record {
+          plan = planned.plan;
+          offers = asks.offers;
+          command = asks.command;
+          asked = offer_asked h asks.command;
+        })
+        | inr refused ↦ inr (NoMemory (refused_as h n Memory refused))
+      ]
+      | Err refusal ↦ λ is refused.
+          inr (plan_refusal h (record { setup = setup; paused = paused; range = None; sequence = n }) refusal is refused)
+    ]) offers.is_planned offers.asks
 
-ready_offer : (h : HeardMessage) (setup : Setup) (paused : Option Run) (request other : Request) (wait : ℕ)
-    → AreAlike request other → IsWaitIn request.head.now wait
-    → GetsOffer (Ready setup paused) h.old other h.ask h.new
-    → IsOfferAskedOf h.old h.message h.ask h.new
-    ⊎ PlanRefusal h.old setup paused None request.sequence h.ask h.new
-ready_offer h setup paused request other wait alike is (inl short) =
-    absurd (short.none wait (has_wait (subst (λ (x : List ℕ). IsWaitIn x wait) (sym alike.head) is)))
-ready_offer h setup paused request other wait alike is (inr offers) =
-    subst (λ n. IsOfferAskedOf h.old h.message h.ask h.new ⊎ PlanRefusal h.old setup paused None n h.ask h.new)
-    alike.sequence (offers_done h setup paused other.sequence offers.wait offers.offers.planned
-    offers.offers.is_planned offers.offers.asks)
-
-pub offer_ready : (h : HeardMessage) (request : Request) (setup : Setup) (paused : Option Run) (wait : ℕ)
-    → IsParameterRequest h.old h.message request → IsWord (codes "x-Offer") request.body.now
-    → h.old.state ≡ Ready setup paused → IsWaitIn request.head.now wait
-    → IsOfferAskedOf h.old h.message h.ask h.new
-    ⊎ PlanRefusal h.old setup paused None request.sequence h.ask h.new
-offer_ready h request setup paused wait is body ready waits =
-    let t = offer_taken h request (Ready setup paused) ready is body in
-    ready_offer h setup paused request t.other wait t.alike waits t.gets
+pub offer_ready : (h : HeardMessage) (r : ReadyRequest h) (wait : ℕ) → OfferRequest h r.request
+    → IsWaitIn r.request.head.now wait → IsOfferAskedOf h.old h.message h.ask h.new
+    ⊎ PlanRefusal h.old r.setup r.paused None r.request.sequence h.ask h.new
+offer_ready h r wait offer waits =
+    let t = offer_taken h r.request (Ready r.setup r.paused) r.ready offer in
+    elim t.gets [
+      | inl short ↦
+          absurd (short.none wait (has_wait (subst (λ (x : List ℕ). IsWaitIn x wait) (sym t.alike.head) waits)))
+      | inr offers ↦
+          subst (λ n. IsOfferAskedOf h.old h.message h.ask h.new ⊎ PlanRefusal h.old r.setup r.paused None n h.ask h.new)
+          t.alike.sequence (offers_done h offers.offers)
+    ]
 
 -- ---- another film
 
@@ -865,48 +704,57 @@ own_of Pause s film of fits = fits
 own_of Teardown s film of fits = fits
 own_of GetParameter s film of fits = fits
 
-fits_own : {id head : List ℕ} (m : Method) (exists : Bool) → IsOfFilm m → exists ≡ true → NamesSession id head
+pub fits_session : {id head : List ℕ} (m : Method) (exists : Bool) → exists ≡ true → NamesSession id head
     → FitsSession m exists id (header_value head (codes "Session"))
-fits_own Options exists of is names = absurd of
-fits_own Describe exists of is names = absurd of
-fits_own SetupMethod exists of is names = own_session exists ⊤ is names
-fits_own PlayMethod exists of is names = own_session exists ⊥ is names
-fits_own Pause exists of is names = own_session exists ⊥ is names
-fits_own Teardown exists of is names = own_session exists ⊥ is names
-fits_own GetParameter exists of is names = own_session exists ⊤ is names
+fits_session Options exists is names = tt
+fits_session Describe exists is names = tt
+fits_session SetupMethod exists is names = own_session exists ⊤ is names
+fits_session PlayMethod exists is names = own_session exists ⊥ is names
+fits_session Pause exists is names = own_session exists ⊥ is names
+fits_session Teardown exists is names = own_session exists ⊥ is names
+fits_session GetParameter exists is names = own_session exists ⊤ is names
 
-other_film : (h : HeardMessage) (request : Request) (setup : Setup) (m : Method) → IsOfFilm m
-    → IsPlainMessage h.message (name_of m) request → setup_in h.old.state ≡ Some setup
-    → NamesSession h.old.id request.head.now → NamesOtherFilm h.old.films request.url.now setup.film
+-- a request of the session that names another film than that of the session
+pub record NamesOther (h : HeardMessage) (request : Request) : Type 0 where
+  pub setup : Setup
+  pub set : setup_in h.old.state ≡ Some setup
+  pub session : NamesSession h.old.id request.head.now
+  pub other : NamesOtherFilm h.old.films request.url.now setup.film
+
+other_film : (h : HeardMessage) (request : Request) (m : Method) → IsOfFilm m
+    → IsPlainMessage h.message (name_of m) request → NamesOther h request
     → IsRefusedBy h.old 404 request.sequence h.ask h.new
-other_film h request setup m of plain set names other =
+other_film h request m of plain names =
     refused_by (record { heard = h; request = request; is = plain.is_request }) Film (record {
       method = m;
       talk = record {
         spoken = spoken_of m plain;
-        session = fits_own m (has_session_in h.old.state) of (exists_in h.old.state setup set) names;
+        session = fits_session m (has_session_in h.old.state) (exists_in h.old.state setup set) session;
       };
       asked = not_options m of;
       none = λ has. other has.0 has.1.0 has.1.1.named
           (film_of h.old.state setup has.1.0 set (own_of m h.old.state has.1.0 of has.1.1.own));
     })
+  where
+    open names use {setup, set, session, other}
 
-pub film_not_found : (h : HeardMessage) (method : List ℕ) (request : Request) (setup : Setup)
-    → IsPlainMessage h.message method request → IsFilmMethod method → setup_in h.old.state ≡ Some setup
-    → NamesSession h.old.id request.head.now → NamesOtherFilm h.old.films request.url.now setup.film
+-- a method of a film, by its name
+record FilmMethod (method : List ℕ) : Type 0 where
+  m : Method
+  of : IsOfFilm m
+  name_is : method ≡ name_of m
+
+film_method : (method : List ℕ) → IsFilmMethod method → FilmMethod method
+film_method method (inl is) = record { m = SetupMethod; of = tt; name_is = is }
+film_method method (inr (inl is)) = record { m = PlayMethod; of = tt; name_is = is }
+film_method method (inr (inr (inl is))) = record { m = Pause; of = tt; name_is = is }
+film_method method (inr (inr (inr (inl is)))) = record { m = Teardown; of = tt; name_is = is }
+film_method method (inr (inr (inr (inr is)))) = record { m = GetParameter; of = tt; name_is = is }
+
+pub film_not_found : (h : HeardMessage) (method : List ℕ) (request : Request)
+    → IsPlainMessage h.message method request → IsFilmMethod method → NamesOther h request
     → IsRefusedBy h.old 404 request.sequence h.ask h.new
-film_not_found h method request setup plain (inl is) set names other =
-    other_film h request setup SetupMethod tt (subst (λ (x : List ℕ). IsPlainMessage h.message x request) is plain) set
-    names other
-film_not_found h method request setup plain (inr (inl is)) set names other =
-    other_film h request setup PlayMethod tt (subst (λ (x : List ℕ). IsPlainMessage h.message x request) is plain) set
-    names other
-film_not_found h method request setup plain (inr (inr (inl is))) set names other =
-    other_film h request setup Pause tt (subst (λ (x : List ℕ). IsPlainMessage h.message x request) is plain) set
-    names other
-film_not_found h method request setup plain (inr (inr (inr (inl is)))) set names other =
-    other_film h request setup Teardown tt (subst (λ (x : List ℕ). IsPlainMessage h.message x request) is plain) set
-    names other
-film_not_found h method request setup plain (inr (inr (inr (inr is)))) set names other =
-    other_film h request setup GetParameter tt (subst (λ (x : List ℕ). IsPlainMessage h.message x request) is plain)
-    set names other
+film_not_found h method request plain is names =
+    let own = film_method method is in
+    other_film h request own.m own.of (subst (λ (x : List ℕ). IsPlainMessage h.message x request) own.name_is plain)
+    names

@@ -1,20 +1,11 @@
 -- What a PAUSE and a TEARDOWN come to.
-use Rattle.std.proofs.Common.{◌≡◌, ℕ, ◌⊎◌, ◌&&◌, Bool, true, false, cond, List, [], ◌∷◌, Some, codes, Result, Ok, Err}
+use Rattle.std.proofs.Common.{◌≡◌, ℕ, ◌⊎◌, ◌&&◌, Bool, true, false, cond, List, [], ◌∷◌, Some, codes}
 use Rattle.std.proofs.Common.{refl, sym, ap, subst, ◌∙◌, inl, inr}
 use Rattle.pacer.specs.PacerStates.{next_boundary}
 use Rattle.rtsp_text.specs.Replies.{value_named}
 use Rattle.rtsp_text.specs.declared.requests.Request.{Request}
-use Rattle.rtsp_text.proofs.MessageUniqueness.{no_fault}
 use Rattle.session.specs.declared.commands.Ask.{Ask}
 use Rattle.session.specs.declared.commands.Ask.TheVariants.{Reply, Halt as AskHalt}
-use Rattle.rtsp_methods.specs.declared.refusals.Refusal.{Refusal}
-use Rattle.session.specs.declared.refusals.Task.{Task}
-use Rattle.session.specs.declared.refusals.Task.TheVariants.{Options as ToOptions}
-use Rattle.session.specs.declared.refusals.Task.TheVariants.{Describe as ToDescribe}
-use Rattle.session.specs.declared.refusals.Task.TheVariants.{Setup as ToSetup, Play as ToPlay}
-use Rattle.session.specs.declared.refusals.Task.TheVariants.{Pause as ToPause}
-use Rattle.session.specs.declared.refusals.Task.TheVariants.{Teardown as ToTeardown}
-use Rattle.session.specs.declared.refusals.Task.TheVariants.{GetParameter as ToGetParameter}
 use Rattle.session.specs.declared.states.Awaited.{Awaited}
 use Rattle.session.specs.declared.states.Awaited.TheVariants.{Halt as ToHalt}
 use Rattle.session.specs.declared.states.AfterHalt.TheVariants.{Done, Torn}
@@ -29,71 +20,66 @@ use Rattle.session_laws.specs.EndLaws.{IsTornDown}
 use Rattle.session.specs.RequestSteps.{Hears, after_halt, is_torn, new_session_state}
 use Rattle.rtsp_methods.specs.declared.methods.Method.{Method}
 use Rattle.rtsp_methods.specs.declared.methods.Method.TheVariants.{Pause, Teardown}
-use Rattle.session.specs.RefusalOrder.{IsJudged, IsReadAs, method_of}
 use Rattle.rtsp_methods.specs.RequiredOptions.{option_of}
-use Rattle.rtsp_methods.specs.Methods.{name_of}
-use Rattle.session.specs.Laws.{IsOfMethod, stage_of}
+use Rattle.session.specs.Laws.{stage_of}
 use Rattle.session.specs.LookLaws.{SessionEvent, Message, Admission, Overflow, Full, Halt, Look, Offer, Slot, Sending}
 use Rattle.session.specs.LookLaws.{AreAfter, IsAfter}
-use Rattle.session.specs.Methods.{AsksHalt, Ends, Pauses, PausesPlay, Takes, TearsDown}
+use Rattle.session.specs.Methods.{AsksHalt, Ends, Pauses, TearsDown}
 use Rattle.session_laws.specs.PlayLaws.{IsDeclined}
 use Rattle.rtsp_replies.specs.Replies.{field, session_text}
 use Rattle.session.specs.SlotSteps.{after_play, is_between, is_done_in, is_sending, is_taken, next_of, sent_due}
 use Rattle.session.specs.SlotSteps.{sent_in}
 use Rattle.session.specs.SlotSteps.{sent_reply, sent_slot, stepped_in}
 use Rattle.session.specs.SessionStates.{SessionState, is_playing_in}
-use Rattle.session.proofs.InitialStateLemmas.{Beginning, TakenRequest}
-use Rattle.session_laws.proofs.VerdictUniqueness.{AreAlike, method_once, not_both}
-use Rattle.session_laws.proofs.RangeInPlayingLemmas.{refused, same_request}
-use Rattle.session.proofs.RequestCaseAnalysis.{ComesTo, Lacks, Refuses, Says, SettlesSetup, AsksForPlay, AsksForHalt}
-use Rattle.session.proofs.RequestCaseAnalysis.{AsksForLook}
-use Rattle.session.proofs.RequestCaseAnalysis.{AsksForOffer, comes_to}
+use Rattle.session.proofs.InitialStateLemmas.{Beginning, HeardMessage, heard_by}
+use Rattle.session.proofs.RequestCaseAnalysis.{Answer, Replies, SetsUp, StartsPlay, StopsPlay, TakesLook}
+use Rattle.session.proofs.RequestCaseAnalysis.{HaltsPlay as PausesIt}
+use Rattle.session.proofs.RequestCaseAnalysis.{EndsSession as EndsAlone, SeeksOffer, answer_to, is_teardown}
+use Rattle.session_laws.proofs.RequestReadings.{HeardMethod, IsStopped, IsTakenUp, TakenUp, heard_method, taken_up}
+use Rattle.session_laws.proofs.RangeInPlayingLemmas.{refused}
 
 -- ---- what each method comes to
-
-abbrev Comes : (SessionState → Ask → SessionState → Type 0) → SessionState → Ask → SessionState → Type 0
-Comes P old ask new = IsDeclined old ask new ⊎ P old ask new
 
 session_told : (sequence : ℕ) (id : List ℕ) → HasSessionInReply sequence id (session_text sequence id)
 unfolding value_named
 session_told sequence id = record { fields = field (codes "Session") id ∷ []; text_is = refl; session = refl }
 
 -- a halt that was asked for, for a TEARDOWN
-torn_halt : {old : SessionState} {sequence : ℕ} {setup : Setup} {play : Played} {ask : Ask} {new : SessionState}
-    → old.state ≡ Playing setup play → AsksHalt old sequence setup play Torn ask new → IsTornDown old ask new
-torn_halt {old} {sequence} {ask} {new} playing asks = record {
+torn_halt : {sequence : ℕ} {setup : Setup} {play : Played} (h : HeardMessage) → h.old.state ≡ Playing setup play
+    → AsksHalt h.old sequence setup play Torn h.ask h.new → IsTornDown h.old h.ask h.new
+torn_halt {sequence} h playing asks = record {
   sequence = sequence;
-  told = subst (HasSessionInReply sequence old.id) (sym (ap (λ (s : SessionState). s.text) asks.state))
-      (session_told sequence old.id);
-  halts = subst (λ (s : State). HaltsPlay (stage_of s) ask) (sym playing) (asks.keep, asks.command);
-  ends = subst (λ a. EndsSession a new) (sym asks.command)
+  told = subst (HasSessionInReply sequence h.old.id) (sym (ap (λ (s : SessionState). s.text) asks.state))
+      (session_told sequence h.old.id);
+  halts = subst (λ (s : State). HaltsPlay (stage_of s) h.ask) (sym playing) (asks.keep, asks.command);
+  ends = subst (λ a. EndsSession a h.new) (sym asks.command)
       (λ place. ap (λ (s : SessionState). (sent_reply (after_halt s place)).torn) asks.state);
 }
 
 -- a reply of its own, to a TEARDOWN
-torn_reply : (old : SessionState) (sequence : ℕ) (ask : Ask) (new : SessionState) → HaltsPlay (stage_of old.state) Reply
-    → Ends old sequence ask new → IsTornDown old ask new
-torn_reply old sequence ask new halts ends = record {
+torn_reply : {state : State} (h : HeardMessage) (sequence : ℕ) → h.old.state ≡ state → HaltsPlay (stage_of state) Reply
+    → Ends h.old sequence h.ask h.new → IsTornDown h.old h.ask h.new
+torn_reply h sequence is halts ends = record {
   sequence = sequence;
-  told = subst (HasSessionInReply sequence old.id) (sym (ap (λ (s : SessionState). s.text) ends.1))
-      (session_told sequence old.id);
-  halts = subst (HaltsPlay (stage_of old.state)) (sym ends.0) halts;
-  ends = subst (λ a. EndsSession a new) (sym ends.0) (ap (λ (s : SessionState). (sent_reply s).torn) ends.1);
+  told = subst (HasSessionInReply sequence h.old.id) (sym (ap (λ (s : SessionState). s.text) ends.1))
+      (session_told sequence h.old.id);
+  halts = subst (HaltsPlay (stage_of h.old.state)) (sym ends.0)
+      (subst (λ (s : State). HaltsPlay (stage_of s) Reply) (sym is) halts);
+  ends = subst (λ a. EndsSession a h.new) (sym ends.0) (ap (λ (s : SessionState). (sent_reply s).torn) ends.1);
 }
 
-tears_in : {state : State} {old : SessionState} {ask : Ask} {new : SessionState} (sequence : ℕ) → old.state ≡ state
-    → TearsDown state old sequence ask new → IsTornDown old ask new
-tears_in {state = Init} {old} {ask} {new} sequence is tears =
-    torn_reply old sequence ask new (subst (λ (s : State). HaltsPlay (stage_of s) Reply) (sym is) refl) tears
-tears_in {state = Ready setup paused} {old} {ask} {new} sequence is tears =
-    torn_reply old sequence ask new (subst (λ (s : State). HaltsPlay (stage_of s) Reply) (sym is) refl) tears
-tears_in {state = Playing setup play} {ask} {new} sequence is tears = torn_halt is tears
-tears_in {state = Stopping setup stop} {old} {ask} {new} sequence is tears =
-    torn_reply old sequence ask new (subst (λ (s : State). HaltsPlay (stage_of s) Reply) (sym is) refl) tears
+tears_in : (h : HeardMessage) (sequence : ℕ) (state : State) → h.old.state ≡ state
+    → TearsDown state h.old sequence h.ask h.new → IsTornDown h.old h.ask h.new
+tears_in h sequence Init is tears = torn_reply h sequence is refl tears
+tears_in h sequence (Ready setup paused) is tears = torn_reply h sequence is refl tears
+tears_in h sequence (Playing setup play) is tears = torn_halt h is tears
+tears_in h sequence (Stopping setup stop) is tears = torn_reply h sequence is refl tears
 
-paused_play : {old : SessionState} {sequence : ℕ} {setup : Setup} {play : Played} {ask : Ask} {new : SessionState}
-    → old.state ≡ Playing setup play → PausesPlay old sequence setup play ask new → IsPausedPlay old ask new
-paused_play {old} {sequence} {setup} {play} {ask} {new} is pauses = record {
+pauses_in : (h : HeardMessage) (sequence : ℕ) (state : State) → h.old.state ≡ state
+    → Pauses state h.old sequence h.ask h.new → IsPausedPlay h.old h.ask h.new
+pauses_in h sequence Init is pauses = absurd pauses
+pauses_in h sequence (Ready setup paused) is pauses = absurd pauses
+pauses_in h sequence (Playing setup play) is pauses = record {
   setup = setup;
   play = play;
   stored = pauses.stored;
@@ -103,145 +89,56 @@ paused_play {old} {sequence} {setup} {play} {ask} {new} is pauses = record {
   sequence = sequence;
   playing = is;
   command = pauses.asks.command ∙ ap AskHalt pauses.asks.keep_is;
-  told = subst (HasSessionInReply sequence old.id) (sym (ap (λ (s : SessionState). s.text) pauses.asks.state))
-      (session_told sequence old.id);
+  told = subst (HasSessionInReply sequence h.old.id) (sym (ap (λ (s : SessionState). s.text) pauses.asks.state))
+      (session_told sequence h.old.id);
   at = pauses.at;
   last_is = pauses.last_is;
   left_is = pauses.left_is;
   state = λ place. ap (λ (s : SessionState). (sent_reply (after_halt s place)).state) pauses.asks.state;
 }
+pauses_in h sequence (Stopping setup stop) is pauses = absurd pauses
 
-pauses_in : {state : State} {old : SessionState} {ask : Ask} {new : SessionState} (sequence : ℕ) → old.state ≡ state
-    → Pauses state old sequence ask new → IsPausedPlay old ask new
-pauses_in {state = Init} {ask} {new} sequence is pauses = absurd pauses
-pauses_in {state = Ready setup paused} {ask} {new} sequence is pauses = absurd pauses
-pauses_in {state = Playing setup play} {ask} {new} sequence is pauses = paused_play is pauses
-pauses_in {state = Stopping setup stop} {ask} {new} sequence is pauses = absurd pauses
-
--- what all requests of a method come to
-abbrev TakesMethod : (SessionState → Ask → SessionState → Type 0) → List ℕ → Type 0
-TakesMethod P method = (taken : TakenRequest) (judgement : Result Task Refusal) → taken.request.method.now ≡ method
-    → IsJudged taken.old.films taken.old.id taken.old.state taken.request judgement
-    → Takes taken.old taken.request judgement taken.ask taken.new → Comes P taken.old taken.ask taken.new
-
--- what the task of a method does
-abbrev DoesTask : (SessionState → Ask → SessionState → Type 0) → Method → Type 0
-DoesTask P method = (taken : TakenRequest) (task : Task) → method_of task ≡ method
-    → Takes taken.old taken.request (Ok task) taken.ask taken.new → P taken.old taken.ask taken.new
-
--- a request of a method is refused, or does what the method's task does
-does_task : (P : SessionState → Ask → SessionState → Type 0) (method : Method) → DoesTask P method → TakesMethod P
-    (name_of method)
-does_task P method does taken (Ok task) named judged takes =
-    inr (does taken task (method_once taken.request.method.now
-    (method_of task) method judged.talk.spoken.named named) takes)
-does_task P method does taken (Err refusal) named judged takes =
-    inl (refused (Some taken.request.sequence) refusal (option_of taken.request.head.now) takes)
-
-tears_task : DoesTask IsTornDown Teardown
-tears_task taken ToTeardown is takes = tears_in taken.request.sequence refl takes
-tears_task taken ToOptions is takes = absurd cc
-tears_task taken (ToDescribe asked) is takes = absurd cc
-tears_task taken (ToSetup film) is takes = absurd cc
-tears_task taken (ToPlay asked) is takes = absurd cc
-tears_task taken ToPause is takes = absurd cc
-tears_task taken ToGetParameter is takes = absurd cc
-
-pauses_task : DoesTask IsPausedPlay Pause
-pauses_task taken ToPause is takes = pauses_in taken.request.sequence refl takes
-pauses_task taken ToOptions is takes = absurd cc
-pauses_task taken (ToDescribe asked) is takes = absurd cc
-pauses_task taken (ToSetup film) is takes = absurd cc
-pauses_task taken (ToPlay asked) is takes = absurd cc
-pauses_task taken ToTeardown is takes = absurd cc
-pauses_task taken ToGetParameter is takes = absurd cc
-
--- a message of a method is refused, or comes to what its request does
-hears_on : {method : List ℕ} (P : SessionState → Ask → SessionState → Type 0) → TakesMethod P method
-    → {old : SessionState} {message : List ℕ} {ask : Ask} {new : SessionState} → IsOfMethod method message
-    → Hears old message ask new → Comes P old ask new
-hears_on P takes {message} {ask} {new} is (inl fault) =
-    let r = is.request in
-    absurd (no_fault fault.fault is.is_request fault.is_fault)
-hears_on P takes {old} {message} {ask} {new} is (inr whole) =
-    let alike = same_request message is.request whole.request is.is_request whole.is_request in
-    takes (record { old = old; new = new; request = whole.request; ask = ask }) whole.hears.judgement
-    (alike.method ∙ is.method_is)
-    whole.hears.judged whole.hears.takes
+-- a message of a method is declined, or comes to what its request does
+declined_or : {h : HeardMessage} {request : Request} {m : Method} {P : Type 0} → HeardMethod h request m
+    → (TakenUp h request m → P) → IsDeclined h.old h.ask h.new ⊎ P
+declined_or {h} heard does = elim heard [
+  | IsStopped other refusal alike judged done ↦
+      inl (refused h (Some other.sequence) refusal (option_of other.head.now) done)
+  | IsTakenUp up ↦ inr (does up)
+]
 
 pub teardown_ends : (old new : SessionState) (message : List ℕ) (ask : Ask) → IsTeardown message → Hears old message ask
     new
     → IsDeclined old ask new ⊎ IsTornDown old ask new
 teardown_ends old new message ask is hears =
-    hears_on IsTornDown (does_task IsTornDown Teardown tears_task) {old = old} {message = message}
-    {ask = ask} {new = new} is hears
+    let h : HeardMessage = heard_by {old = old} {new = new} {message = message} {ask = ask} hears in
+    declined_or (heard_method h is.request Teardown is.is_request is.method_is)
+    (λ (up : TakenUp h is.request Teardown). tears_in h up.other.sequence old.state refl up.does)
 
 pub pause_leaves : (old new : SessionState) (message : List ℕ) (ask : Ask) → IsPause message → Hears old message ask new
     → IsDeclined old ask new ⊎ IsPausedPlay old ask new
 pause_leaves old new message ask is hears =
-    hears_on IsPausedPlay (does_task IsPausedPlay Pause pauses_task) {old = old} {message = message}
-    {ask = ask} {new = new} is hears
-
--- a message that is processed, with its task
-record IsTakenUp (old : SessionState) (message : List ℕ) (task : Task) : Type 0 where
-  request : Request
-  is_request : IsReadAs message request
-  judged : IsJudged old.films old.id old.state request (Ok task)
-
--- the same message, read again as a request, with what it's judged and what comes of it
-record IsReadAgain (request : Request) (taken : TakenRequest) (judgement : Result Task Refusal) : Type 0 where
-  alike : AreAlike request taken.request
-  judged : IsJudged taken.old.films taken.old.id taken.old.state taken.request judgement
-  takes : Takes taken.old taken.request judgement taken.ask taken.new
-
-takes_up : (P : SessionState → Ask → SessionState → Type 0) {message : List ℕ} {task : Task}
-    → DoesTask P (method_of task) → (taken : TakenRequest)
-    (judgement : Result Task Refusal) (is : IsTakenUp taken.old message task) → IsReadAgain is.request taken judgement
-    → P taken.old taken.ask taken.new
-takes_up P {task} does taken (Ok other) is again =
-    does taken other (method_once taken.request.method.now (method_of other) (method_of task)
-    again.judged.talk.spoken.named (again.alike.method ∙ is.judged.talk.spoken.named)) again.takes
-takes_up P does taken (Err refusal) is again = absurd (not_both refusal again.alike is.judged again.judged)
-
--- it does what its task does
-hears_up : (P : SessionState → Ask → SessionState → Type 0) {task : Task} → DoesTask P (method_of task)
-    → {old : SessionState} {message : List ℕ} {ask : Ask} {new : SessionState} → IsTakenUp old message task
-    → Hears old message ask new → P old ask new
-hears_up P does {message} {ask} {new} is (inl fault) =
-    absurd (no_fault fault.fault is.is_request fault.is_fault)
-hears_up P does {old} {message} {ask} {new} is (inr whole) =
-    takes_up P does (record { old = old; new = new; request = whole.request; ask = ask }) whole.hears.judgement is
-    (record {
-      alike = same_request message is.request whole.request is.is_request whole.is_request;
-      judged = whole.hears.judged;
-      takes = whole.hears.takes;
-    })
+    let h : HeardMessage = heard_by {old = old} {new = new} {message = message} {ask = ask} hears in
+    declined_or (heard_method h is.request Pause is.is_request is.method_is)
+    (λ (up : TakenUp h is.request Pause). pauses_in h up.other.sequence old.state refl up.does)
 
 pub teardown_taken : (old new : SessionState) (message : List ℕ) (ask : Ask) → CanBeTornDown old message
     → Hears old message ask new
     → IsTornDown old ask new
 teardown_taken old new message ask can hears =
-    hears_up IsTornDown {task = ToTeardown} tears_task {old = old} {message = message} {ask = ask} {new = new}
-    (record {
-      request = can.request;
-      is_request = can.is_request;
-      judged = record { talk = can.good.talk; film = can.good.film; state = tt };
-    }) hears
+    let h : HeardMessage = heard_by {old = old} {new = new} {message = message} {ask = ask} hears in
+    let up : TakenUp h can.request Teardown = taken_up h can.request Teardown can.is_request
+    (record { talk = can.good.talk; film = inr can.good.film; state = tt }) in
+    tears_in h up.other.sequence old.state refl up.does
 
 pub pause_taken : (old new : SessionState) (message : List ℕ) (ask : Ask) → CanBePaused old message
     → Hears old message ask new
     → IsPausedPlay old ask new
 pause_taken old new message ask can hears =
-    hears_up IsPausedPlay {task = ToPause} pauses_task {old = old} {message = message} {ask = ask} {new = new}
-    (record {
-      request = can.request;
-      is_request = can.is_request;
-      judged = record {
-        talk = can.good.talk;
-        film = can.good.film;
-        state = ap is_playing_in can.playing;
-      };
-    }) hears
+    let h : HeardMessage = heard_by {old = old} {new = new} {message = message} {ask = ask} hears in
+    let up : TakenUp h can.request Pause = taken_up h can.request Pause can.is_request
+    (record { talk = can.good.talk; film = inr can.good.film; state = ap is_playing_in can.playing }) in
+    pauses_in h up.other.sequence old.state refl up.does
 
 -- ---- only a TEARDOWN ends the session
 
@@ -254,48 +151,21 @@ record IsCalm (standing : SessionState) : Type 0 where
   torn : standing.torn ≡ false
   awaited : is_ending standing.awaited ≡ false
 
-calm_by : (old new : SessionState) → IsCalm old → new.tearing ≡ old.tearing → new.torn ≡ old.torn
-    → is_ending new.awaited ≡ false
-    → IsCalm new
-calm_by old new calm tearing torn awaited = record {
-  tearing = tearing ∙ calm.tearing;
-  torn = torn ∙ calm.torn;
-  awaited = awaited;
-}
+-- what changes neither stays calm
+same_calm : {old new made : SessionState} → IsCalm old → new ≡ made → made.tearing ≡ old.tearing
+    → made.torn ≡ old.torn → is_ending made.awaited ≡ false → IsCalm new
+same_calm calm is tearing torn awaited =
+    subst IsCalm (sym is) (record { tearing = tearing ∙ calm.tearing; torn = torn ∙ calm.torn; awaited = awaited })
 
-comes_calm : (old new : SessionState) (message : List ℕ) (ask : Ask) → IsCalm old → ComesTo old message ask new
-    → IsTeardown message ⊎ IsCalm new
-comes_calm old new message ask calm (Lacks may is) =
-    inr (calm_by old new calm (ap (λ (s : SessionState). s.tearing) is.1) (ap (λ (s : SessionState). s.torn) is.1)
-    (ap (λ (s : SessionState). is_ending s.awaited) is.1 ∙ calm.awaited))
-comes_calm old new message ask calm (Refuses sequence refusal option other is) =
-    inr (calm_by old new calm (ap (λ (s : SessionState). s.tearing) is.1) (ap (λ (s : SessionState). s.torn) is.1)
-    (ap (λ (s : SessionState). is_ending s.awaited) is.1 ∙ calm.awaited))
-comes_calm old new message ask calm (Says sequence fields body tearing (inl same) command is) =
-    inr (calm_by old new calm (ap (λ (s : SessionState). s.tearing) is ∙ same) (ap (λ (s : SessionState). s.torn) is)
-    (ap (λ (s : SessionState). is_ending s.awaited) is ∙ calm.awaited))
-comes_calm old new message ask calm (Says sequence fields body tearing (inr teardown) command is) = inl teardown
-comes_calm old new message ask calm (SettlesSetup sequence setup init ranges command is) =
-    inr (calm_by old new calm (ap (λ (s : SessionState). s.tearing) is) (ap (λ (s : SessionState). s.torn) is)
-    (ap (λ (s : SessionState). is_ending s.awaited) is ∙ calm.awaited))
-comes_calm old new message ask calm
-    (AsksForPlay stored setup paused range planned sequence authority ready planned_is command is) =
-    inr (calm_by old new calm (ap (λ (s : SessionState). s.tearing) is) (ap (λ (s : SessionState). s.torn) is)
-    (ap (λ (s : SessionState). is_ending s.awaited) is))
-comes_calm old new message ask calm (AsksForHalt sequence setup play next playing told (inl not_torn) halts) =
-    inr (calm_by old new calm (ap (λ (s : SessionState). s.tearing) halts.state) (ap (λ (s : SessionState). s.torn)
-    halts.state)
-    (ap (λ (s : SessionState). is_ending s.awaited) halts.state ∙ not_torn))
-comes_calm old new message ask calm (AsksForHalt sequence setup play next playing told (inr teardown) halts) =
-    inl teardown
-comes_calm old new message ask calm (AsksForLook sequence look) =
-    inr (calm_by old new calm (ap (λ (s : SessionState). s.tearing) look.state) (ap (λ (s : SessionState). s.torn)
-    look.state)
-    (ap (λ (s : SessionState). is_ending s.awaited) look.state))
-comes_calm old new message ask calm (AsksForOffer sequence wait planned asks) =
-    inr (calm_by old new calm (ap (λ (s : SessionState). s.tearing) asks.state) (ap (λ (s : SessionState). s.torn)
-    asks.state)
-    (ap (λ (s : SessionState). is_ending s.awaited) asks.state))
+answer_calm : (h : HeardMessage) → IsCalm h.old → Answer h → IsTeardown h.message ⊎ IsCalm h.new
+answer_calm h calm (Replies reply is) = inr (same_calm calm is.1 refl refl calm.awaited)
+answer_calm h calm (SetsUp film taken setup asks is) = inr (same_calm calm is.1 refl refl calm.awaited)
+answer_calm h calm (StartsPlay play planned asks planned_is) = inr (same_calm calm asks.state refl refl refl)
+answer_calm h calm (PausesIt taken hand is) = inr (same_calm calm is.asks.state refl refl refl)
+answer_calm h calm (StopsPlay taken hand is) = inl (is_teardown taken)
+answer_calm h calm (EndsAlone taken resting is) = inl (is_teardown taken)
+answer_calm h calm (TakesLook taken look) = inr (same_calm calm look.state refl refl refl)
+answer_calm h calm (SeeksOffer offer planned is asks) = inr (same_calm calm asks.state refl refl refl)
 
 halt_calm : (old : SessionState) (place : ℕ) → IsCalm old → IsCalm (after_halt old place)
 halt_calm old place calm = record {
@@ -336,7 +206,8 @@ happening_calm : (old : SessionState) (happening : SessionEvent) (new : SessionS
     IsCalm old
     → IsTeardownHeard happening ⊎ IsCalm new
 happening_calm old (Message message ask) new is calm =
-    comes_calm old new message ask calm (comes_to old message ask new is)
+    let h : HeardMessage = heard_by {old = old} {new = new} {message = message} {ask = ask} is in
+    answer_calm h calm (answer_to h)
 happening_calm old (Admission place start) new is calm =
     inr (subst IsCalm (sym is) (record { tearing = calm.tearing; torn = calm.torn; awaited = refl }))
 happening_calm old (Overflow place slot booked asked) new is calm =

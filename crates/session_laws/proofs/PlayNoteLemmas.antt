@@ -1,5 +1,5 @@
 -- Where a halt cuts, what is counted after a run, and its note.
-use Rattle.std.proofs.Common.{◌≡◌, ℕ, ◌+◌, ◌≤◌, false, List, ◌++◌, length, Option, slice_get, refl, sym, ap, subst}
+use Rattle.std.proofs.Common.{◌≡◌, ℕ, ◌+◌, ◌≤◌, false, ◌++◌, length, Option, slice_get, refl, sym, ap, subst}
 use Rattle.std.proofs.Common.{◌∙◌, arith}
 use Rattle.std.proofs.lemmas.List.{take_all}
 use Rattle.plan_cert.specs.PlanSlots.{total_bytes}
@@ -14,15 +14,12 @@ use Rattle.pacer.specs.Boundaries.{boundary_from}
 use Rattle.pacer.specs.PacerStates.{IsPacerState, next_boundary, new_pacer_state}
 use Rattle.pacer.proofs.PacerStateLemmas.{boundary-from}
 use Rattle.session.specs.declared.commands.Ask.TheVariants.{Halt as AskHalt}
-use Rattle.film_run.specs.declared.runs.Run.{Run}
-use Rattle.session.specs.declared.plans.Planned.{Planned}
 use Rattle.session.specs.declared.states.Awaited.{Awaited}
 use Rattle.session.specs.declared.states.Awaited.TheVariants.{Nothing, Play, Halt, Look, Offer}
 use Rattle.film_streams.specs.declared.stream_numbers.Counts.{Counts}
 use Rattle.session.specs.declared.states.AfterHalt.{AfterHalt}
 use Rattle.session.specs.declared.states.AfterHalt.TheVariants.{Done, Paused, Torn}
 use Rattle.session.specs.declared.states.Play.{Play as Played}
-use Rattle.film_streams.specs.declared.setups.Setup.{Setup}
 use Rattle.session.specs.declared.states.State.{State}
 use Rattle.session.specs.declared.states.State.TheVariants.{Init, Ready, Playing, Stopping}
 use Rattle.session.specs.RunRequests.{sending_of}
@@ -41,9 +38,8 @@ use Rattle.session.specs.SessionStates.{HaltAnswer, SessionState, awaited_answer
 use Rattle.session.proofs.StepInvariantLemmas.{nothing_of}
 use Rattle.session.proofs.InitialStateLemmas.{HeardMessage, PlayInHand}
 use Rattle.session_laws.proofs.RtpNumberLemmas.{identity_goes_on}
-use Rattle.session.proofs.RequestCaseAnalysis.{ComesTo, Lacks, Refuses, Says, SettlesSetup, AsksForPlay, AsksForHalt}
-use Rattle.session.proofs.RequestCaseAnalysis.{AsksForLook}
-use Rattle.session.proofs.RequestCaseAnalysis.{AsksForOffer, comes_to}
+use Rattle.session.proofs.RequestCaseAnalysis.{Answer, Replies, SetsUp, StartsPlay, HaltsPlay, StopsPlay, EndsSession}
+use Rattle.session.proofs.RequestCaseAnalysis.{TakesLook, SeeksOffer, answer_to}
 
 -- ---- where a halt cuts
 
@@ -63,39 +59,32 @@ play_in (Ready setup paused) other = other
 play_in (Playing setup play) other = play
 play_in (Stopping setup stop) other = other
 
-same_play : {state : State} {setup its : Setup} {play other : Played} → state ≡ Playing setup play
-    → state ≡ Playing its other → play ≡ other
-same_play {play} {other} is is_too = ap (λ s. play_in s play) (sym is ∙ is_too)
+-- a halt that is asked for keeps a play up to its next boundary
+halt_kept : {old : SessionState} {keep : ℕ} (hand own : PlayInHand old) → keep ≡ next_boundary own.play.pacer
+    → IsPacerState hand.play.pacer → KeepsToBoundary hand.play keep
+halt_kept hand own keeps pacing =
+    let same : own.play ≡ hand.play = ap (λ s. play_in s own.play) (sym own.playing ∙ hand.playing) in
+    subst (λ n. KeepsToBoundary hand.play n) (sym (keeps ∙ ap (λ (p : Played). next_boundary p.pacer) same))
+    (kept_at hand.play pacing)
 
-comes_halts : {old new : SessionState} {message : List ℕ} {keep : ℕ} {setup : Setup} {play : Played}
-    → ComesTo old message (AskHalt keep) new
-    → old.state ≡ Playing setup play → IsPacerState play.pacer → KeepsToBoundary play keep
-comes_halts {new} (Lacks may is) playing pacing = absurd (let no : ⊥ = cc (is.0) in no)
-comes_halts {new} (Refuses sequence refusal option other is) playing pacing =
-    absurd (let no : ⊥ = cc (is.0) in no)
-comes_halts {new} (Says sequence fields body tearing by command is) playing pacing =
-    absurd (let no : ⊥ = cc (command) in no)
-comes_halts {new} (SettlesSetup sequence own init ranges command is) playing pacing =
-    absurd (let no : ⊥ = cc (command) in no)
-comes_halts {new}
-    (AsksForPlay stored own paused range planned sequence authority ready planned_is command is) playing pacing =
-    absurd (let no : ⊥ = cc (command) in no)
-comes_halts {new} {keep} {play} (AsksForHalt sequence own other next was told by halts) playing pacing =
-    let same : play ≡ other = same_play playing was in
-    let asked : keep ≡ halts.keep = cc (halts.command) in
-    let kept : keep ≡ next_boundary play.pacer = asked ∙ halts.keep_is ∙ ap (λ (p : Played). next_boundary p.pacer)
-    (sym same) in
-    subst (λ n. KeepsToBoundary play n) (sym kept) (kept_at play pacing)
-comes_halts {new} (AsksForLook sequence look) playing pacing = absurd (let no : ⊥ = cc (look.command) in no)
-comes_halts {new} (AsksForOffer sequence wait planned asks) playing pacing =
-    absurd (let no : ⊥ = cc (asks.command) in no)
+answer_halts : {keep : ℕ} (h : HeardMessage) → h.ask ≡ AskHalt keep → (hand : PlayInHand h.old)
+    → IsPacerState hand.play.pacer → Answer h → KeepsToBoundary hand.play keep
+answer_halts h halt hand pacing (Replies reply is) = absurd (let no : ⊥ = cc (is.0, halt) in no)
+answer_halts h halt hand pacing (SetsUp film taken setup asks is) = absurd (let no : ⊥ = cc (is.0, halt) in no)
+answer_halts h halt hand pacing (StartsPlay play planned asks planned_is) =
+    absurd (let no : ⊥ = cc (asks.command, halt) in no)
+answer_halts {keep} h halt hand pacing (HaltsPlay taken own is) =
+    halt_kept hand own (let asked : keep ≡ is.asks.keep = cc (is.asks.command, halt) in asked ∙ is.asks.keep_is) pacing
+answer_halts {keep} h halt hand pacing (StopsPlay taken own is) =
+    halt_kept hand own (let asked : keep ≡ is.keep = cc (is.command, halt) in asked ∙ is.keep_is) pacing
+answer_halts h halt hand pacing (EndsSession taken resting is) = absurd (let no : ⊥ = cc (is.0, halt) in no)
+answer_halts h halt hand pacing (TakesLook taken look) = absurd (let no : ⊥ = cc (look.command, halt) in no)
+answer_halts h halt hand pacing (SeeksOffer offer planned is asks) =
+    absurd (let no : ⊥ = cc (asks.command, halt) in no)
 
 pub halts_at_boundary : (heard : HeardMessage) (keep : ℕ) → heard.ask ≡ AskHalt keep → (hand : PlayInHand heard.old)
     → IsPacerState hand.play.pacer → KeepsToBoundary hand.play keep
-halts_at_boundary heard keep halt hand pacing =
-    comes_halts (subst (λ a. ComesTo old message a new) halt (comes_to old message ask new hears)) hand.playing pacing
-  where
-    open heard use {old, new, message, ask, hears}
+halts_at_boundary heard keep halt hand pacing = answer_halts heard halt hand pacing (answer_to heard)
 
 -- ---- what is counted after a run
 
@@ -170,25 +159,22 @@ play_noted old place stored hand playable within = record {
 
 -- ---- what is admitted
 
-sent_as_asked : {old : SessionState} {stored : Stored} {setup : Setup} {paused : Option Run} {planned : Planned}
-    {place start : ℕ} {state : State} {awaited : Awaited} (asked : SessionState) (sequence : ℕ)
-    → asked.state ≡ state → asked.awaited ≡ awaited → state ≡ Ready setup paused
-    → awaited ≡ Play (prepared_of old stored setup planned sequence)
-    → IsSentAsAsked old stored setup planned place start (after_admission asked place start)
-sent_as_asked {old} {stored} {setup} {paused} {planned} {place} {start} {awaited} asked sequence s a ready is =
-    let prepared = prepared_of old stored setup planned sequence in
-    let counts : counts_of asked.awaited asked.counts ≡ planned.counts =
-    ap (λ (x : Awaited). counts_of x asked.counts) (a ∙ is) in
+pub play_sent : (old asked : SessionState) (is : IsPlayAsked old asked) (place start : ℕ) → asked.state ≡ old.state
+    → IsSentAsAsked old is.stored is.setup is.planned place start (after_admission asked place start)
+play_sent old asked is place start same =
+    let prepared = prepared_of old is.stored is.setup is.planned is.sequence in
+    let counts : counts_of asked.awaited asked.counts ≡ is.planned.counts =
+    ap (λ (x : Awaited). counts_of x asked.counts) is.awaited in
     record {
       play = record {
-        run = planned.run;
+        run = is.planned.run;
         place = place;
         start = start;
-        plan = planned.plan;
-        pacer = new_pacer_state (run_pieces prepared.frames) planned.run.sent planned.plan start;
+        plan = is.planned.plan;
+        pacer = new_pacer_state (run_pieces prepared.frames) is.planned.run.sent is.planned.plan start;
       };
-      playing = ap (λ (x : State). admitted_in x asked.awaited place start) (s ∙ ready)
-          ∙ ap (λ (x : Awaited). admitted_in (Ready setup paused) x place start) (a ∙ is);
+      playing = ap (λ (x : State). admitted_in x asked.awaited place start) (same ∙ is.ready)
+          ∙ ap (λ (x : Awaited). admitted_in (Ready is.setup is.paused) x place start) is.awaited;
       run = refl;
       plan = refl;
       place_is = refl;
@@ -197,12 +183,7 @@ sent_as_asked {old} {stored} {setup} {paused} {planned} {place} {start} {awaited
       begins = refl;
       before = refl;
       none = refl;
-      pieces = ap (λ (n : Counts). run_pieces (sending_of stored.film old.source setup n planned.run)) (sym counts);
+      pieces = ap (λ (n : Counts). run_pieces (sending_of is.stored.film old.source is.setup n is.planned.run))
+          (sym counts);
       counts = counts;
     }
-
-pub play_sent : (old asked : SessionState) (is : IsPlayAsked old asked) (place start : ℕ) → asked.state ≡ old.state
-    → IsSentAsAsked old is.stored is.setup is.planned place start (after_admission asked place start)
-play_sent old asked is place start same =
-    sent_as_asked asked is.sequence refl refl
-    (same ∙ is.ready) is.awaited

@@ -1,6 +1,6 @@
 -- The refusals that all methods share, by their codes; what a PLAY without a Range plays.
-use Rattle.std.proofs.Common.{◌≡◌, ℕ, ◌*◌, ◌≤◌, Bool, true, List, Option, Some, None, is_some, codes}
-use Rattle.std.proofs.Common.{Result, Ok, Err, refl, sym, ap, subst, ◌∙◌, inl, inr, arith}
+use Rattle.std.proofs.Common.{◌≡◌, ℕ, length, ◌*◌, ◌≤◌, Bool, true, List, Option, Some, None, is_some, codes}
+use Rattle.std.proofs.Common.{Err, refl, sym, ap, subst, ◌∙◌, inl, inr, arith}
 use Rattle.std.specs.Bool.{⊤}
 use Rattle.mpeg_scan.specs.declared.films.Film.{Film}
 use Rattle.mpeg_scan.specs.PictureRates.{picture_time}
@@ -13,7 +13,6 @@ use Rattle.rtsp_fields.specs.declared.ranges.Origin.TheVariants.{Now}
 use Rattle.rtsp_fields.specs.declared.ranges.Span.{Span}
 use Rattle.rtsp_text.specs.Fields.{header_value}
 use Rattle.rtsp_text.specs.declared.requests.Request.{Request}
-use Rattle.rtsp_text.proofs.MessageUniqueness.{no_fault}
 use Rattle.session.specs.declared.commands.Ask.{Ask}
 use Rattle.rtsp_methods.specs.declared.methods.Method.{Method}
 use Rattle.rtsp_methods.specs.declared.methods.Method.TheVariants.{Options, Describe, Setup, Play, Pause}
@@ -24,10 +23,9 @@ use Rattle.session.specs.declared.play_requests.PlayRequest.TheVariants.{Resumed
 use Rattle.rtsp_methods.specs.declared.refusals.Refusal.{Refusal}
 use Rattle.rtsp_methods.specs.declared.refusals.Refusal.TheVariants.{Method as Unknown, Option as Required}
 use Rattle.rtsp_methods.specs.declared.refusals.Refusal.TheVariants.{Session, Film as NoFilm, State as NotNow}
-use Rattle.session.specs.declared.refusals.Task.{Task}
 use Rattle.film_streams.specs.declared.setups.Setup.{Setup as SetupIs}
 use Rattle.session.specs.Laws.{Resumes}
-use Rattle.session.specs.Methods.{Takes}
+use Rattle.session.specs.Methods.{IsRefused}
 use Rattle.session_laws.specs.PlayLaws.{PassesEarlierChecks}
 use Rattle.session_laws.specs.RefusalLaws.{BeginsFilm, IsForeign, IsInvalidMethod, IsKnownMethod, IsOfNoFilm, IsOfNoSession}
 use Rattle.session_laws.specs.RefusalLaws.{IsRefusedBy, IsWholeFilm, LacksSession, RequiresSomeOption}
@@ -39,40 +37,9 @@ use Rattle.session.specs.RequestSteps.{Hears}
 use Rattle.session.specs.RequestedPlans.{IsPlannedRun}
 use Rattle.session.specs.RunRequests.{IsAskedRun, IsRequestFor, counts_for, run_of}
 use Rattle.session.specs.SessionStates.{SessionState, with_reply}
-use Rattle.session.proofs.InitialStateLemmas.{HeardMessage}
-use Rattle.session_laws.proofs.RangeInPlayingLemmas.{same_request}
+use Rattle.session.proofs.InitialStateLemmas.{HeardMessage, heard_by}
 use Rattle.session.proofs.ResumedPlayLemmas.{span_of_once}
-use Rattle.session_laws.proofs.VerdictUniqueness.{AreAlike, not_both, refusal_once, turned}
-
--- a request that is judged so is refused so
-takes_refused : {old : SessionState} {request other : Request} (refusal : Refusal) (judgement : Result Task Refusal)
-    (ask : Ask) (new : SessionState)
-    → AreAlike request other → IsJudged old.films old.id old.state request (Err refusal)
-    → IsJudged old.films old.id old.state other judgement
-    → Takes old other judgement ask new → IsRefusedBy old (code_of refusal) request.sequence ask new
-takes_refused {request} {other} refusal (Ok task) ask new alike own judged takes =
-    absurd (not_both refusal (turned request other alike) judged own)
-takes_refused {old} {request} {other} refusal (Err given) ask new alike own judged takes =
-    let same : given ≡ refusal = refusal_once old.films old.id old.state alike own judged in
-    let option = option_of other.head.now in
-    let first : new.text ≡ refusal_text (Some other.sequence) given option =
-    ap (λ (s : SessionState). s.text) takes.1 in
-    record {
-      command = takes.0;
-      leaves = takes.1 ∙ ap (λ (t : List ℕ). with_reply old t) (sym first);
-      fields = refusal_fields refusal option;
-      text_is = first ∙ ap (λ r. refusal_text (Some other.sequence) r option) same
-          ∙ ap (λ n. refusal_text (Some n) refusal option) alike.sequence;
-    }
-
-hears_refused : {old : SessionState} {message : List ℕ} (request : Request) (refusal : Refusal)
-    (ask : Ask) (new : SessionState)
-    → IsReadAs message request → IsJudged old.films old.id old.state request (Err refusal)
-    → Hears old message ask new → IsRefusedBy old (code_of refusal) request.sequence ask new
-hears_refused request refusal ask new is own (inl fault) = absurd (no_fault fault.fault is fault.is_fault)
-hears_refused {message} request refusal ask new is own (inr whole) =
-    takes_refused refusal whole.hears.judgement ask new (same_request message request whole.request is whole.is_request)
-    own whole.hears.judged whole.hears.takes
+use Rattle.session_laws.proofs.RequestReadings.{reading_of, refused_in}
 
 -- a received request, read so
 pub record HeardRequest : Type 0 where
@@ -80,11 +47,30 @@ pub record HeardRequest : Type 0 where
   pub request : Request
   pub is : IsReadAs heard.message request
 
+abbrev pub request_heard : {old new : SessionState} {message : List ℕ} {ask : Ask} (request : Request)
+    → Hears old message ask new → IsReadAs message request → HeardRequest
+request_heard {old} {new} {message} {ask} request hears is = record {
+  heard = heard_by {old = old} {new = new} {message = message} {ask = ask} hears;
+  request = request;
+  is = is;
+}
+
+-- one that is judged so is refused so
 pub refused_by : (r : HeardRequest) (refusal : Refusal)
     → IsJudged r.heard.old.films r.heard.old.id r.heard.old.state r.request (Err refusal)
     → IsRefusedBy r.heard.old (code_of refusal) r.request.sequence r.heard.ask r.heard.new
 refused_by r refusal own =
-    hears_refused r.request refusal r.heard.ask r.heard.new r.is own r.heard.hears
+    let its = reading_of r.heard r.request r.is in
+    let done : IsRefused r.heard.old (Some its.other.sequence) refusal (option_of its.other.head.now) r.heard.ask
+    r.heard.new = refused_in refusal its own in
+    let text : r.heard.new.text ≡ refusal_text (Some its.other.sequence) refusal (option_of its.other.head.now) =
+    ap (λ (s : SessionState). s.text) done.1 in
+    record {
+      command = done.0;
+      leaves = done.1 ∙ ap (λ (t : List ℕ). with_reply r.heard.old t) (sym text);
+      fields = refusal_fields refusal (option_of its.other.head.now);
+      text_is = text ∙ ap (λ n. refusal_text (Some n) refusal (option_of its.other.head.now)) its.alike.sequence;
+    }
 
 pub unknown_refused : (r : HeardRequest) → ¬ IsKnownMethod r.request
     → IsRefusedBy r.heard.old 501 r.request.sequence r.heard.ask r.heard.new
@@ -183,33 +169,6 @@ state_refused r method good wrong =
       state = untimely method r.heard.old r.request wrong;
     })
 
--- ---- a PLAY without a Range
-
-asked_whole : (film : Film) (wanted : PlayRequest) → IsRequestFor film None Now None wanted
-    → IsRequestedRange film 0 None (run_of wanted)
-asked_whole film (Resumed run) asked = absurd asked
-asked_whole film (New run) asked = asked
-
-whole_run : (film : Film) (run : Run) → IsRequestedRange film 0 None run → IsWholeFilm film run
-whole_run film run is = record {
-  begins = ap (λ n. n * picture_time film.rate) is.new.first_is ∙ zero_time _ is.begins.by_then;
-  ends = is.new.end_is ∙ is.ends;
-  unplayed = is.new.from_is ∙ sym is.new.first_is;
-  unsent = is.new.sent_is;
-}
-  where
-    zero_time : (time : ℕ) → time * 1000000000 ≤ 0 * 360000 → time ≡ 0
-    zero_time time by_then = omega (arith, by_then)
-
-pub whole_played : (old : SessionState) (stored : Stored) (setup : SetupIs) (planned : Planned)
-    → IsPlannedRun old stored setup None None planned → IsWholeFilm stored.film planned.run
-whole_played old stored setup planned is =
-    let asked = is.asked in
-    let now : IsRequestFor stored.film None Now None is.wanted =
-    subst (λ (s : Span). IsRequestFor stored.film None s.from s.to is.wanted) asked.is_span asked.is_wanted in
-    subst (λ (r : Run). IsWholeFilm stored.film r) (sym is.run_is)
-    (whole_run stored.film (run_of is.wanted) (asked_whole stored.film is.wanted now))
-
 -- ---- a PLAY from now on
 
 -- what a Range from now on asks for
@@ -236,6 +195,29 @@ begun_by : (film : Film) (to : Option ℕ) (wanted : PlayRequest) → IsRequestF
     → BeginsFilm film (run_of wanted)
 begun_by film to (Resumed run) asked = absurd asked
 begun_by film to (New run) asked = new_begins asked
+
+-- ---- a PLAY without a Range
+
+asked_end : (film : Film) (wanted : PlayRequest) → IsRequestFor film None Now None wanted
+    → (run_of wanted).end_unit ≡ length film.units.items
+asked_end film (Resumed run) asked = absurd asked
+asked_end film (New run) asked = asked.new.end_is ∙ asked.ends
+
+pub whole_played : (old : SessionState) (stored : Stored) (setup : SetupIs) (planned : Planned)
+    → IsPlannedRun old stored setup None None planned → IsWholeFilm stored.film planned.run
+whole_played old stored setup planned is =
+    let asked = is.asked in
+    let now : IsRequestFor stored.film None Now None is.wanted =
+    subst (λ (s : Span). IsRequestFor stored.film None s.from s.to is.wanted) asked.is_span asked.is_wanted in
+    let begun = begun_by stored.film None is.wanted now in
+    subst (λ (r : Run). IsWholeFilm stored.film r) (sym is.run_is) (record {
+      begins = begun.begins;
+      ends = asked_end stored.film is.wanted now;
+      unplayed = begun.unplayed;
+      unsent = begun.unsent;
+    })
+
+-- ---- from now on, where no run or one is paused
 
 pub now_begins : (old : SessionState) (stored : Stored) (setup : SetupIs) (value : List ℕ) (span : Span)
     (planned : Planned) → IsSpan value span → span.from ≡ Now

@@ -1,38 +1,20 @@
 -- Each reply to a request has the request's CSeq.
 use Rattle.std.proofs.Common.{◌≡◌, ℕ, ◌-◌, ◌++◌, List, [], ◌∷◌, Some, codes, decimal}
-use Rattle.std.proofs.Common.{length, string_bytes, Result, Ok, Err, refl, sym, ap, subst, inl, inr}
+use Rattle.std.proofs.Common.{length, string_bytes, refl, sym, ap, subst}
 use Rattle.rtsp_text.specs.Replies.{Field, field_line, reply_front}
 use Rattle.rtsp_text.specs.declared.requests.Request.{Request}
 use Rattle.rtsp_text.proofs.MessageUniqueness.{no_fault}
 use Rattle.rtsp_text.proofs.ReplyTexts.{front_field, whole_reply}
 use Rattle.rtsp_fields.specs.Sdp.{description_text}
 use Rattle.session.specs.declared.commands.Ask.{Ask}
-use Rattle.session.specs.declared.commands.Ask.TheVariants.{Reply}
-use Rattle.rtsp_methods.specs.declared.topics.Topic.{Topic}
-use Rattle.rtsp_methods.specs.declared.topics.Topic.TheVariants.{Nothing as NoTopic, Booked, Offer as OfferTopic}
-use Rattle.rtsp_methods.specs.declared.topics.Topic.TheVariants.{Unknown}
+use Rattle.session.specs.declared.commands.Ask.TheVariants.{Reply, Halt as AskHalt}
 use Rattle.session.specs.declared.plans.Planned.{Planned}
 use Rattle.rtsp_methods.specs.declared.refusals.Refusal.{Refusal}
-use Rattle.rtsp_methods.specs.declared.refusals.Refusal.TheVariants.{Memory, Parameter, Session as NoSession}
-use Rattle.rtsp_methods.specs.declared.refusals.Refusal.TheVariants.{State as NotNow}
 use Rattle.session.specs.declared.refusals.Task.{Task}
-use Rattle.session.specs.declared.refusals.Task.TheVariants.{Options as ToOptions}
-use Rattle.session.specs.declared.refusals.Task.TheVariants.{Describe as ToDescribe}
-use Rattle.session.specs.declared.refusals.Task.TheVariants.{Setup as ToSetup, Play as ToPlay}
-use Rattle.session.specs.declared.refusals.Task.TheVariants.{Pause as ToPause}
-use Rattle.session.specs.declared.refusals.Task.TheVariants.{Teardown as ToTeardown}
-use Rattle.session.specs.declared.refusals.Task.TheVariants.{GetParameter as ToGetParameter}
-use Rattle.session.specs.declared.states.AfterHalt.{AfterHalt}
-use Rattle.session.specs.declared.states.AfterHalt.TheVariants.{Paused, Torn}
-use Rattle.session.specs.declared.states.Play.{Play as Played}
-use Rattle.film_streams.specs.declared.setups.Setup.{Setup}
-use Rattle.session.specs.declared.states.State.{State}
-use Rattle.session.specs.declared.states.State.TheVariants.{Init, Ready, Playing, Stopping}
 use Rattle.film_streams.specs.Films.{length_ms, milliseconds_at}
 use Rattle.film_streams.specs.StreamNumbers.{timestamp_at}
-use Rattle.session.specs.Methods.{AsksHalt, AsksOffer, AsksOfferOr, AsksPlay, AsksPlayOr, Ends, Gets, GetsOffer}
-use Rattle.session.specs.Methods.{IsRefused, IsReplied, IsSetUp, Looks, Pauses, Plays, Takes, TearsDown, first_number}
-use Rattle.session.specs.Methods.{play_call}
+use Rattle.session.specs.Methods.{AsksPlay}
+use Rattle.session.specs.Methods.{first_number}
 use Rattle.session.specs.RefusalOrder.{IsReadAs}
 use Rattle.rtsp_methods.specs.RequiredOptions.{option_of}
 use Rattle.rtsp_replies.specs.Replies.{code_of, describe_text, field, full_text, joined_parts, look_body, offer_body}
@@ -40,11 +22,16 @@ use Rattle.rtsp_replies.specs.Replies.{overflow_text, parameters_text, plain_tex
 use Rattle.rtsp_replies.specs.Replies.{refusal_fields}
 use Rattle.rtsp_replies.specs.Replies.{refusal_text, session_text, setup_text, transport_value}
 use Rattle.session_laws.specs.ReplyNumbers.{HasNumber, RepliesHaveNumber}
-use Rattle.session.specs.RequestSteps.{Hears}
 use Rattle.rtsp_replies.specs.Replies.{started_text}
 use Rattle.session.specs.SessionStates.{SessionState, sequence_of}
 use Rattle.session.proofs.InitialStateLemmas.{HeardMessage}
-use Rattle.session_laws.proofs.RangeInPlayingLemmas.{same_request}
+use Rattle.session.specs.RequestSteps.{after_full}
+use Rattle.session.specs.Methods.{AsksPlay}
+use Rattle.session.proofs.RequestCaseAnalysis.{Answer, Replies, SetsUp, StartsPlay, HaltsPlay, StopsPlay, EndsSession}
+use Rattle.session.proofs.RequestCaseAnalysis.{TakesLook, SeeksOffer, OwnReply, ToFault, ToRefused, ToDeclined, ToAsked}
+use Rattle.session.proofs.RequestCaseAnalysis.{ToDescribed, ToConfirmed, ToEmpty, ReadyPlay, TakenTask, answer_to}
+use Rattle.session.proofs.RequestCaseAnalysis.{reply_of}
+use Rattle.session_laws.proofs.RequestReadings.{same_request}
 
 -- ---- texts
 
@@ -130,153 +117,101 @@ started_number n front fields slots is =
 
 -- ---- answers
 
--- a session before and after a request, and what it asks of the station
-record Step : Type 0 where
-  old : SessionState
-  new : SessionState
-  ask : Ask
+-- what the session replies by itself has the number of its request
+own_number : (h : HeardMessage) (request : Request) → IsReadAs h.message request → (reply : OwnReply h)
+    → HasNumber request.sequence (reply_of h reply)
+own_number h request read reply = elim reply as (λ x. HasNumber request.sequence (reply_of h x)) [
+  | ToFault fault is ↦ absurd (no_fault fault read is)
+  | ToRefused other refusal its judged ↦
+      of_other other its (refusal_number other.sequence refusal (option_of other.head.now))
+  | ToDeclined other refusal its cause ↦ of_other other its (refusal_number other.sequence refusal [])
+  | ToAsked taken ↦ of_other taken.request taken.is_request (public_number taken.request.sequence)
+  | ToDescribed asked taken stored at ↦
+      of_other taken.request taken.is_request (describe_number taken.request.sequence asked.authority.now (string_bytes stored.name)
+      (length_ms stored.film))
+  | ToConfirmed asked taken ↦ of_other taken.request taken.is_request (session_number taken.request.sequence h.old.id)
+  | ToEmpty taken ↦ of_other taken.request taken.is_request (plain_number taken.request.sequence)
+]
+  where
+    of_other : {text : List ℕ} (other : Request) → IsReadAs h.message other → HasNumber other.sequence text
+        → HasNumber request.sequence text
+    of_other {text} other its has =
+        subst (λ n. HasNumber n text) (same_request h.message request other read its).sequence has
 
-abbrev Numbered : Step → ℕ → Type 0
-Numbered s n = RepliesHaveNumber n s.ask s.new
+-- a reply that waits for the station's answer
+full_named : {n : ℕ} (h : HeardMessage) → sequence_of h.new.awaited ≡ n
+    → (entries live : ℕ) → HasNumber n (after_full h.new entries live).text
+full_named {n} h number entries live = same_number (ap (λ k. full_text k entries live) number) (full_number n entries live)
 
--- a reply of the session's own
-answered : (s : Step) (n : ℕ) (text : List ℕ) → s.ask ≡ Reply → s.new.text ≡ text → HasNumber n text → Numbered s n
-answered s n text command is has =
-    subst (λ (a : Ask). RepliesHaveNumber n a s.new) (sym command) (same_number is has)
-
-replied : (s : Step) (n : ℕ) (text : List ℕ) → HasNumber n text → IsReplied s.old text s.ask s.new → Numbered s n
-replied s n text has is = answered s n text is.0 (ap (λ (t : SessionState). t.text) is.1) has
-
-refused : (s : Step) (n : ℕ) (refusal : Refusal) (option : List ℕ)
-    → IsRefused s.old (Some n) refusal option s.ask s.new → Numbered s n
-refused s n refusal option is =
-    replied s n (refusal_text (Some n) refusal option) (refusal_number n refusal option) is
-
-halt_number : (s : Step) (n : ℕ) (setup : Setup) (play : Played) (next : AfterHalt)
-    → AsksHalt s.old n setup play next s.ask s.new → Numbered s n
-halt_number s n setup play next is =
-    subst (λ (a : Ask). RepliesHaveNumber n a s.new) (sym is.command)
-    (same_number (ap (λ (t : SessionState). t.text) is.state) (session_number n s.old.id))
-
-play_number : (s : Step) (n : ℕ) (authority : List ℕ) (setup : Setup) (planned : Planned)
-    → AsksPlay s.old n authority setup planned s.ask s.new → Numbered s n
-play_number s n authority setup planned is =
+play_number : (h : HeardMessage) (play : ReadyPlay h) (planned : Planned)
+    → AsksPlay h.old play.taken.request.sequence play.asked.authority.now play.setup planned h.ask h.new
+    → RepliesHaveNumber play.taken.request.sequence h.ask h.new
+play_number h play planned is =
+    let n = play.taken.request.sequence in
     let stored = is.stored in
-    let number : sequence_of s.new.awaited ≡ n = ap (λ (t : SessionState). sequence_of t.awaited) is.state in
-    let fields = play_fields s.old.id (milliseconds_at stored.film planned.run.from_unit)
-    (milliseconds_at stored.film planned.run.end_unit) authority (string_bytes stored.name)
-    (first_number s.old stored setup planned) (timestamp_at stored.film s.old.source planned.run.from_unit) in
-    subst (λ (a : Ask). RepliesHaveNumber n a s.new) (sym is.command) (record {
+    let number : sequence_of h.new.awaited ≡ n = ap (λ (t : SessionState). sequence_of t.awaited) is.state in
+    let fields = play_fields h.old.id (milliseconds_at stored.film planned.run.from_unit)
+    (milliseconds_at stored.film planned.run.end_unit) play.asked.authority.now (string_bytes stored.name)
+    (first_number h.old stored play.setup planned) (timestamp_at stored.film h.old.source planned.run.from_unit) in
+    subst (λ (a : Ask). RepliesHaveNumber n a h.new) (sym is.command) (record {
       admission = λ place start.
-          started_number n s.new.text fields (start - s.new.heard) (ap (λ (t : SessionState). t.text) is.state);
+          started_number n h.new.text fields (start - h.new.heard) (ap (λ (t : SessionState). t.text) is.state);
       overflow = λ place slot booked asked.
           same_number (ap (λ k. overflow_text k slot booked asked) number) (overflow_number n slot booked asked);
-      full = λ entries live. same_number (ap (λ k. full_text k entries live) number) (full_number n entries live);
+      full = full_named h number;
     })
 
-play_or : (s : Step) (n : ℕ) (authority : List ℕ) (setup : Setup) (planned : Result Planned Refusal)
-    → AsksPlayOr s.old (play_call n authority setup) planned s.ask s.new → Numbered s n
-play_or s n authority setup (Ok planned) (inl is) = play_number s n authority setup planned is
-play_or s n authority setup (Ok planned) (inr is) = refused s n Memory [] is
-play_or s n authority setup (Err refusal) is = refused s n refusal [] is
+halt_number : (h : HeardMessage) (n keep : ℕ) → h.ask ≡ AskHalt keep → h.new.text ≡ session_text n h.old.id
+    → RepliesHaveNumber n h.ask h.new
+halt_number h n keep command is =
+    subst (λ (a : Ask). RepliesHaveNumber n a h.new) (sym command) (same_number is (session_number n h.old.id))
 
-plays_number : (s : Step) (state : State) (request : Request) (authority : List ℕ)
-    → Plays state s.old request authority s.ask s.new → Numbered s request.sequence
-plays_number s Init request authority is = absurd is
-plays_number s (Ready setup paused) request authority is =
-    play_or s request.sequence authority setup is.planned is.asks
-plays_number s (Playing setup play) request authority is =
-    replied s request.sequence (session_text request.sequence s.old.id) (session_number request.sequence s.old.id) is
-plays_number s (Stopping setup stop) request authority is =
-    replied s request.sequence (session_text request.sequence s.old.id) (session_number request.sequence s.old.id) is
+-- a reply of the session's own
+answered : {text : List ℕ} (h : HeardMessage) (n : ℕ) → h.ask ≡ Reply → h.new.text ≡ text → HasNumber n text
+    → RepliesHaveNumber n h.ask h.new
+answered h n command is has =
+    subst (λ (a : Ask). RepliesHaveNumber n a h.new) (sym command) (same_number is has)
 
-pauses_number : (s : Step) (state : State) (n : ℕ) → Pauses state s.old n s.ask s.new → Numbered s n
-pauses_number s Init n is = absurd is
-pauses_number s (Ready setup paused) n is = absurd is
-pauses_number s (Playing setup play) n is = halt_number s n setup play (Paused is.left) is.asks
-pauses_number s (Stopping setup stop) n is = absurd is
-
-ends_number : (s : Step) (n : ℕ) → Ends s.old n s.ask s.new → Numbered s n
-ends_number s n is =
-    answered s n (session_text n s.old.id) is.0 (ap (λ (t : SessionState). t.text) is.1) (session_number n s.old.id)
-
-tears_number : (s : Step) (state : State) (n : ℕ) → TearsDown state s.old n s.ask s.new → Numbered s n
-tears_number s Init n is = ends_number s n is
-tears_number s (Ready setup paused) n is = ends_number s n is
-tears_number s (Playing setup play) n is = halt_number s n setup play Torn is
-tears_number s (Stopping setup stop) n is = ends_number s n is
-
-looks_number : (s : Step) (n : ℕ) → Looks s.old n s.ask s.new → Numbered s n
-looks_number s n (inl is) =
-    let number : sequence_of s.new.awaited ≡ n = ap (λ (t : SessionState). sequence_of t.awaited) is.state in
-    subst (λ (a : Ask). RepliesHaveNumber n a s.new) (sym is.command) (record {
-      look = λ place now at booked.
-          same_number (ap (λ k. parameters_text k (look_body now at booked)) number)
-          (parameters_number n (look_body now at booked));
-      full = λ entries live. same_number (ap (λ k. full_text k entries live) number) (full_number n entries live);
-    })
-looks_number s n (inr is) = refused s n Memory [] is.refused
-
-offer_number : (s : Step) (n wait : ℕ) (planned : Planned) → AsksOffer s.old n wait planned s.ask s.new → Numbered s n
-offer_number s n wait planned is =
-    let number : sequence_of s.new.awaited ≡ n = ap (λ (t : SessionState). sequence_of t.awaited) is.state in
-    subst (λ (a : Ask). RepliesHaveNumber n a s.new) (sym is.command) (λ note.
-    same_number (ap (λ k. parameters_text k (offer_body note.offers.start note.offers.tried)) number)
-    (parameters_number n (offer_body note.offers.start note.offers.tried)))
-
-offer_or : (s : Step) (n wait : ℕ) (planned : Result Planned Refusal)
-    → AsksOfferOr s.old n wait planned s.ask s.new → Numbered s n
-offer_or s n wait (Ok planned) (inl is) = offer_number s n wait planned is
-offer_or s n wait (Ok planned) (inr is) = refused s n Memory [] is
-offer_or s n wait (Err refusal) is = refused s n refusal [] is
-
-gets_offer_number : (s : Step) (state : State) (request : Request) → GetsOffer state s.old request s.ask s.new
-    → Numbered s request.sequence
-gets_offer_number s Init request is = refused s request.sequence NoSession [] is
-gets_offer_number s (Ready setup paused) request (inl is) = refused s request.sequence Parameter [] is.refused
-gets_offer_number s (Ready setup paused) request (inr is) =
-    offer_or s request.sequence is.wait is.offers.planned is.offers.asks
-gets_offer_number s (Playing setup play) request is = refused s request.sequence NotNow [] is
-gets_offer_number s (Stopping setup stop) request is = refused s request.sequence NotNow [] is
-
-gets_number : (s : Step) (request : Request) (topic : Topic) → Gets s.old request topic s.ask s.new
-    → Numbered s request.sequence
-gets_number s request NoTopic is =
-    replied s request.sequence (plain_text request.sequence) (plain_number request.sequence) is
-gets_number s request Booked is = looks_number s request.sequence is
-gets_number s request OfferTopic is = gets_offer_number s s.old.state request is
-gets_number s request Unknown is = refused s request.sequence Parameter [] is
-
-setup_done : (s : Step) (n : ℕ) (read : Result Setup Refusal) → IsSetUp s.old n read s.ask s.new → Numbered s n
-setup_done s n (Ok setup) is =
-    answered s n (setup_text n setup.media setup.control s.old.source.ssrc s.old.id) is.0
-    (ap (λ (t : SessionState). t.text) is.1) (setup_number n setup.media setup.control s.old.source.ssrc s.old.id)
-setup_done s n (Err refusal) is = refused s n refusal [] is
-
-takes_number : (s : Step) (request : Request) (judgement : Result Task Refusal)
-    → Takes s.old request judgement s.ask s.new → Numbered s request.sequence
-takes_number s request (Ok ToOptions) is =
-    replied s request.sequence (public_text request.sequence) (public_number request.sequence) is
-takes_number s request (Ok (ToDescribe asked)) is =
-    let name = string_bytes is.stored.name in
-    replied s request.sequence (describe_text request.sequence asked.authority.now name (length_ms is.stored.film))
-    (describe_number request.sequence asked.authority.now name (length_ms is.stored.film)) is.reply
-takes_number s request (Ok (ToSetup film)) is = setup_done s request.sequence is.read is.done
-takes_number s request (Ok (ToPlay asked)) is = plays_number s s.old.state request asked.authority.now is
-takes_number s request (Ok ToPause) is = pauses_number s s.old.state request.sequence is
-takes_number s request (Ok ToTeardown) is = tears_number s s.old.state request.sequence is
-takes_number s request (Ok ToGetParameter) is = gets_number s request is.topic is.gets
-takes_number s request (Err refusal) is = refused s request.sequence refusal (option_of request.head.now) is
-
-hears_number : (s : Step) (message : List ℕ) (request : Request)
-    → IsReadAs message request → Hears s.old message s.ask s.new → Numbered s request.sequence
-hears_number s message request is (inl fault) = absurd (no_fault fault.fault is fault.is_fault)
-hears_number s message request is (inr whole) =
-    let alike = same_request message request whole.request is whole.is_request in
-    subst (λ n. RepliesHaveNumber n s.ask s.new) alike.sequence
-    (takes_number s whole.request whole.hears.judgement whole.hears.takes)
+answer_number : (h : HeardMessage) (request : Request) → IsReadAs h.message request → Answer h
+    → RepliesHaveNumber request.sequence h.ask h.new
+answer_number h request read answer = elim answer [
+  | Replies reply is ↦
+      answered h request.sequence is.0 (ap (λ (t : SessionState). t.text) is.1) (own_number h request read reply)
+  | SetsUp film taken setup asks is ↦
+      of_task taken (answered h taken.request.sequence is.0 (ap (λ (t : SessionState). t.text) is.1)
+      (setup_number taken.request.sequence setup.media setup.control h.old.source.ssrc h.old.id))
+  | StartsPlay play planned asks planned_is ↦ of_task play.taken (play_number h play planned asks)
+  | HaltsPlay taken hand is ↦
+      of_task taken (halt_number h taken.request.sequence is.asks.keep is.asks.command
+      (ap (λ (t : SessionState). t.text) is.asks.state))
+  | StopsPlay taken hand is ↦
+      of_task taken (halt_number h taken.request.sequence is.keep is.command (ap (λ (t : SessionState). t.text) is.state))
+  | EndsSession taken resting is ↦
+      of_task taken (answered h taken.request.sequence is.0 (ap (λ (t : SessionState). t.text) is.1)
+      (session_number taken.request.sequence h.old.id))
+  | TakesLook taken look ↦
+      let n = taken.request.sequence in
+      let number : sequence_of h.new.awaited ≡ n = ap (λ (t : SessionState). sequence_of t.awaited) look.state in
+      of_task taken (subst (λ (a : Ask). RepliesHaveNumber n a h.new) (sym look.command) (record {
+        look = λ place now at booked.
+            same_number (ap (λ k. parameters_text k (look_body now at booked)) number)
+            (parameters_number n (look_body now at booked));
+        full = full_named h number;
+      }))
+  | SeeksOffer offer planned is asks ↦
+      let n = offer.taken.request.sequence in
+      let number : sequence_of h.new.awaited ≡ n = ap (λ (t : SessionState). sequence_of t.awaited) asks.state in
+      of_task offer.taken (subst (λ (a : Ask). RepliesHaveNumber n a h.new) (sym asks.command) (λ note.
+      same_number (ap (λ k. parameters_text k (offer_body note.offers.start note.offers.tried)) number)
+      (parameters_number n (offer_body note.offers.start note.offers.tried))))
+]
+  where
+    of_task : {task : Task} (taken : TakenTask h task) → RepliesHaveNumber taken.request.sequence h.ask h.new
+        → RepliesHaveNumber request.sequence h.ask h.new
+    of_task taken has =
+        subst (λ n. RepliesHaveNumber n h.ask h.new)
+        (same_request h.message request taken.request read taken.is_request).sequence has
 
 pub reply_number : (request : Request) (heard : HeardMessage)
     → IsReadAs heard.message request → RepliesHaveNumber request.sequence heard.ask heard.new
-reply_number request heard is =
-    hears_number (record { old = heard.old; new = heard.new; ask = heard.ask }) heard.message request is heard.hears
+reply_number request heard is = answer_number heard request is (answer_to heard)

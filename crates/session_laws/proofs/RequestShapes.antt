@@ -1,5 +1,5 @@
 -- What a request can come to, as far as the connection's course goes by it.
-use Rattle.std.proofs.Common.{◌≡◌, ℕ, Bool, true, List, Option, None}
+use Rattle.std.proofs.Common.{◌≡◌, ℕ, Bool, true, List, Option, None, refl}
 use Rattle.plan_cert.specs.declared.Segment.{Segment}
 use Rattle.early_start.specs.StartSearch.{Offers}
 use Rattle.film_run.specs.declared.runs.Run.{Run}
@@ -9,6 +9,7 @@ use Rattle.session.specs.declared.commands.Ask.TheVariants.{Reply, Play as AskPl
 use Rattle.session.specs.declared.commands.Ask.TheVariants.{Offer as AskOffer}
 use Rattle.session.specs.declared.states.Awaited.TheVariants.{Play, Halt, Look, Offer}
 use Rattle.session.specs.declared.states.AfterHalt.{AfterHalt}
+use Rattle.session.specs.declared.states.AfterHalt.TheVariants.{Paused, Torn}
 use Rattle.session.specs.declared.states.Play.{Play as Played}
 use Rattle.session.specs.declared.states.Prepared.{Prepared}
 use Rattle.film_streams.specs.declared.setups.Setup.{Setup}
@@ -16,9 +17,10 @@ use Rattle.session.specs.declared.states.State.TheVariants.{Init, Ready, Playing
 use Rattle.session.specs.RequestSteps.{Hears, is_answered}
 use Rattle.session.specs.Methods.{prepared_of}
 use Rattle.session.specs.SessionStates.{SessionState}
-use Rattle.session.proofs.RequestCaseAnalysis.{ComesTo, Lacks, Refuses, Says, SettlesSetup, AsksForPlay, AsksForHalt}
-use Rattle.session.proofs.RequestCaseAnalysis.{AsksForLook}
-use Rattle.session.proofs.RequestCaseAnalysis.{AsksForOffer, comes_to}
+use Rattle.session.proofs.InitialStateLemmas.{HeardMessage, heard_by}
+use Rattle.session.proofs.RequestCaseAnalysis.{Answer, Replies as RepliesAlone, SetsUp as SettlesSetup, StartsPlay}
+use Rattle.session.proofs.RequestCaseAnalysis.{HaltsPlay, StopsPlay, EndsSession, TakesLook, SeeksOffer, answer_to}
+use Rattle.session.proofs.RequestCaseAnalysis.{settled_init}
 
 -- what was asked of the station, and the session then
 pub data HearsAs (old : SessionState) (ask : Ask) (new : SessionState) : Type 0 where
@@ -43,21 +45,24 @@ pub data HearsAs (old : SessionState) (ask : Ask) (new : SessionState) : Type 0 
       → new ≡ record old { awaited = Offer sequence }
       → HearsAs old ask new
 
-comes_as : (old : SessionState) (message : List ℕ) (ask : Ask) (new : SessionState) → ComesTo old message ask new
-    → HearsAs old ask new
-comes_as old message ask new (Lacks may is) = Replies _ old.tearing is.0 is.1
-comes_as old message ask new (Refuses sequence refusal option other is) = Replies _ old.tearing is.0 is.1
-comes_as old message ask new (Says sequence fields body tearing by command is) = Replies _ tearing command is
-comes_as old message ask new (SettlesSetup sequence setup init ranges command is) = SetsUp _ setup init command is
-comes_as old message ask new
-    (AsksForPlay stored setup paused range planned sequence authority ready planned_is command is) =
-    AsksPlay setup paused (prepared_of old stored setup planned sequence) _ ready command is
-comes_as old message ask new (AsksForHalt sequence setup play next playing told by halts) =
-    Stops setup play halts.keep next _ playing told halts.keep_is halts.command halts.state
-comes_as old message ask new (AsksForLook sequence look) = AsksLook _ sequence look.command look.state
-comes_as old message ask new (AsksForOffer sequence wait planned asks) =
-    AsksOffer planned.plan asks.offers sequence asks.command asks.state
+answers_as : (h : HeardMessage) → Answer h → HearsAs h.old h.ask h.new
+answers_as h (RepliesAlone reply is) = Replies _ h.old.tearing is.0 is.1
+answers_as h (SettlesSetup film taken setup asks is) = SetsUp _ setup (settled_init taken) is.0 is.1
+answers_as h (StartsPlay play planned asks planned_is) =
+    AsksPlay play.setup play.paused (prepared_of h.old asks.stored play.setup planned play.taken.request.sequence) _
+    play.ready asks.command asks.state
+answers_as h (HaltsPlay taken hand is) =
+    Stops hand.setup hand.play is.asks.keep (Paused is.left) _ hand.playing refl is.asks.keep_is is.asks.command
+    is.asks.state
+answers_as h (StopsPlay taken hand is) =
+    Stops hand.setup hand.play is.keep Torn _ hand.playing refl is.keep_is is.command is.state
+answers_as h (EndsSession taken resting is) = Replies _ true is.0 is.1
+answers_as h (TakesLook taken look) = AsksLook _ taken.request.sequence look.command look.state
+answers_as h (SeeksOffer offer planned is asks) =
+    AsksOffer planned.plan asks.offers offer.taken.request.sequence asks.command asks.state
 
 pub hears_as : (old : SessionState) (message : List ℕ) (ask : Ask) (new : SessionState) → Hears old message ask new
     → HearsAs old ask new
-hears_as old message ask new hears = comes_as old message ask new (comes_to old message ask new hears)
+hears_as old message ask new hears =
+    let h : HeardMessage = heard_by {old = old} {new = new} {message = message} {ask = ask} hears in
+    answers_as h (answer_to h)

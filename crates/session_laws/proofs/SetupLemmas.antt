@@ -1,28 +1,31 @@
 -- What a SETUP results in: it is refused, or the session is Ready with what it asks for.
-use Rattle.std.proofs.Common.{◌≡◌, ℕ, List, None, Result, Ok, Err, codes, sym, subst, inl, inr, ap}
-use Rattle.std.proofs.Common.{◌∙◌, arith, get_or}
+use Rattle.std.proofs.Common.{◌≡◌, ℕ, List, None, Ok, codes, sym, subst, inl, inr}
+use Rattle.std.proofs.Common.{◌∙◌}
 use Rattle.rtsp_text.specs.Requests.{IsRequest}
 use Rattle.rtsp_text.specs.declared.requests.Request.{Request}
 use Rattle.rtsp_text.proofs.MessageUniqueness.{request_once}
 use Rattle.session.specs.declared.commands.Ask.{Ask}
 use Rattle.session.specs.declared.commands.Ask.TheVariants.{Reply}
-use Rattle.rtsp_methods.specs.declared.refusals.Refusal.{Refusal}
 use Rattle.session.specs.declared.refusals.Task.{Task}
-use Rattle.session.specs.declared.refusals.Task.TheVariants.{Options as ToOptions}
-use Rattle.session.specs.declared.refusals.Task.TheVariants.{Describe as ToDescribe}
-use Rattle.session.specs.declared.refusals.Task.TheVariants.{Setup as ToSetup, Play as ToPlay}
-use Rattle.session.specs.declared.refusals.Task.TheVariants.{Pause as ToPause}
-use Rattle.session.specs.declared.refusals.Task.TheVariants.{Teardown as ToTeardown}
-use Rattle.session.specs.declared.refusals.Task.TheVariants.{GetParameter as ToGetParameter}
 use Rattle.film_streams.specs.declared.setups.Setup.{Setup}
 use Rattle.session.specs.declared.states.State.TheVariants.{Ready}
 use Rattle.film_streams.specs.Films.{Names}
 use Rattle.session.specs.RequestSteps.{Hears}
-use Rattle.session.specs.RefusalOrder.{IsJudged}
-use Rattle.session.specs.Methods.{IsSetUp, Takes}
-use Rattle.film_streams.specs.Setups.{IsSetupRead}
+use Rattle.session.specs.RefusalOrder.{IsReadAs, method_of}
+use Rattle.rtsp_methods.specs.Methods.{name_of}
+use Rattle.rtsp_text.proofs.MessageUniqueness.{no_fault}
+use Rattle.session.specs.Methods.{IsReplied}
+use Rattle.session.proofs.InitialStateLemmas.{HeardMessage, heard_by}
+use Rattle.session.proofs.RequestCaseAnalysis.{Answer, Replies, SetsUp, StartsPlay, HaltsPlay, StopsPlay, EndsSession}
+use Rattle.session.proofs.RequestCaseAnalysis.{TakesLook, SeeksOffer, TakenTask, answer_to}
+use Rattle.session.specs.Methods.{IsSetUp}
 use Rattle.film_streams.specs.Setups.{AsksForSetup}
 use Rattle.session.specs.SessionStates.{SessionState, with_reply}
+use Rattle.std.proofs.Common.{Bool, true, false, refl, ap, true≢false}
+use Rattle.rtsp_methods.specs.declared.methods.Method.{Method}
+use Rattle.rtsp_methods.specs.declared.methods.Method.TheVariants.{Setup as SetupMethod, Play, Pause, Teardown}
+use Rattle.rtsp_methods.specs.declared.methods.Method.TheVariants.{GetParameter}
+use Rattle.session_laws.proofs.VerdictUniqueness.{method_once}
 
 -- a message is a SETUP of this URL and with this head
 pub record IsSetupRequest (message url head : List ℕ) : Type 0 where
@@ -37,51 +40,103 @@ pub data SetupHeard (old : SessionState) (url head : List ℕ) (ask : Ask) (new 
       → AsksForSetup old.settings head setup.film setup → Names old.films url authority setup.film
       → SetupHeard old url head ask new
 
--- a method whose name begins with another byte is no SETUP
-abbrev first_byte : List ℕ → ℕ
-first_byte name = get_or name 0 0
+-- a received message that is a request of a method, of this URL, number and head
+pub record HeardCall (method : List ℕ) : Type 0 where
+  pub h : HeardMessage
+  pub url : List ℕ
+  pub sequence : ℕ
+  pub head : List ℕ
+  pub body : List ℕ
+  pub read : IsRequest h.message method url sequence head body
 
-otherwise : {name : List ℕ} (byte : ℕ) → name ≡ codes "SETUP" → first_byte name ≡ byte → (83 ≡ byte → ⊥) → ⊥
-otherwise byte is first differs = differs (sym (ap first_byte is) ∙ first)
+-- a request that it is
+pub record IsOfCall {method : List ℕ} (c : HeardCall method) (request : Request) : Type 0 where
+  pub is_request : IsReadAs c.h.message request
+  pub method_is : request.method.now ≡ method
+  pub url_is : request.url.now ≡ c.url
+  pub sequence_is : request.sequence ≡ c.sequence
+  pub head_is : request.head.now ≡ c.head
 
-module _ (old : SessionState) (message url head : List ℕ) (ask : Ask) (new : SessionState)
-    (is : IsSetupRequest message url head) where
-  abbrev Heard : Type 0
-  Heard = SetupHeard old url head ask new
+read_as : {method : List ℕ} (c : HeardCall method) (request : Request) → IsReadAs c.h.message request
+    → IsOfCall c request
+read_as c request is =
+    let same = request_once is c.read in
+    record {
+      is_request = is;
+      method_is = same.method_is;
+      url_is = same.url_is;
+      sequence_is = same.sequence_is;
+      head_is = same.head_is;
+    }
 
-  settled : (sequence film : ℕ) (authority : List ℕ) (read : Result Setup Refusal) → Names old.films url authority film
-      → IsSetupRead old.settings head film read → IsSetUp old sequence read ask new → Heard
-  settled sequence film authority (Ok setup) names asks done =
-      let S : ℕ → Type 0 = λ n. AsksForSetup old.settings head n setup in
-      let N : ℕ → Type 0 = λ n. Names old.films url authority n in
-      Settled setup _ authority done.0 done.1 (subst S (sym asks.film_is) asks) (subst N (sym asks.film_is) names)
-  settled sequence film authority (Err refusal) names asks done = Refused _ done.0 done.1
+pub record CallRead {method : List ℕ} (c : HeardCall method) : Type 0 where
+  pub request : Request
+  pub of : IsOfCall c request
 
-  takes : (request : Request) (judgement : Result Task Refusal) → request.method.now ≡ codes "SETUP"
-      → request.url.now ≡ url → request.head.now ≡ head
-      → IsJudged old.films old.id old.state request judgement → Takes old request judgement ask new → Heard
-  takes request (Ok ToOptions) method at_url at_head judged taken =
-      absurd (otherwise 79 method (ap first_byte judged.talk.spoken.named) (λ same. omega (arith, same)))
-  takes request (Ok (ToDescribe asked)) method at_url at_head judged taken =
-      absurd (otherwise 68 method (ap first_byte judged.talk.spoken.named) (λ same. omega (arith, same)))
-  takes request (Ok (ToSetup film)) method at_url at_head judged taken =
-      let N : List ℕ → Type 0 = λ u. Names old.films u judged.film.0 film in
-      let R : List ℕ → Type 0 = λ h. IsSetupRead old.settings h film taken.read in
-      settled request.sequence film judged.film.0 taken.read (subst N at_url judged.film.1.named)
-      (subst R at_head taken.is_read) taken.done
-  takes request (Ok (ToPlay asked)) method at_url at_head judged taken =
-      absurd (otherwise 80 method (ap first_byte judged.talk.spoken.named) (λ same. omega (arith, same)))
-  takes request (Ok ToPause) method at_url at_head judged taken =
-      absurd (otherwise 80 method (ap first_byte judged.talk.spoken.named) (λ same. omega (arith, same)))
-  takes request (Ok ToTeardown) method at_url at_head judged taken =
-      absurd (otherwise 84 method (ap first_byte judged.talk.spoken.named) (λ same. omega (arith, same)))
-  takes request (Ok ToGetParameter) method at_url at_head judged taken =
-      absurd (otherwise 71 method (ap first_byte judged.talk.spoken.named) (λ same. omega (arith, same)))
-  takes request (Err refusal) method at_url at_head judged taken = Refused _ taken.0 taken.1
+pub call_read : {method : List ℕ} (c : HeardCall method) → CallRead c
+call_read c = elim c.h.hears [
+  | inl fault ↦ absurd (no_fault fault.fault c.read fault.is_fault)
+  | inr whole ↦ record { request = whole.request; of = read_as c whole.request whole.is_request }
+]
 
-  pub setup_heard : Hears old message ask new → Heard
-  setup_heard (inl fault) = Refused _ fault.refused.0 fault.refused.1
-  setup_heard (inr whole) =
-      let same = request_once whole.is_request is.read in
-      takes whole.request whole.hears.judgement same.method_is same.url_is same.head_is
-      whole.hears.judged whole.hears.takes
+-- one that is processed is of its task's method
+pub task_read : {method : List ℕ} {task : Task} (c : HeardCall method) (taken : TakenTask c.h task)
+    → IsOfCall c taken.request
+task_read c taken = read_as c taken.request taken.is_request
+
+pub called : {method : List ℕ} {task : Task} (c : HeardCall method) → TakenTask c.h task
+    → name_of (method_of task) ≡ method
+called c taken = sym taken.judged.talk.spoken.named ∙ (request_once taken.is_request c.read).method_is
+
+-- a SETUP is refused, or settled
+pub data SetupDone (c : HeardCall (codes "SETUP")) : Type 0 where
+  Refuses : (text : List ℕ) → IsReplied c.h.old text c.h.ask c.h.new → SetupDone c
+  Settles : (setup : Setup) (authority : List ℕ) → AsksForSetup c.h.old.settings c.head setup.film setup
+      → Names c.h.old.films c.url authority setup.film → IsSetUp c.h.old c.sequence (Ok setup) c.h.ask c.h.new
+      → SetupDone c
+
+-- no other method has the name of SETUP
+abbrev is_setup : Method → Bool
+is_setup SetupMethod = true
+is_setup _ = false
+
+not_setup : (m : Method) → is_setup m ≡ false → name_of m ≡ codes "SETUP" → ⊥
+not_setup m other is =
+    true≢false (sym (ap is_setup (method_once (name_of m) m SetupMethod refl is)) ∙ other)
+
+setup_by : (c : HeardCall (codes "SETUP")) → Answer c.h → SetupDone c
+setup_by c (Replies reply is) = Refuses _ is
+setup_by c (SetsUp film taken setup asks is) =
+    let r = task_read c taken in
+    let film_is = sym asks.film_is in
+    Settles setup taken.judged.film.0
+    (subst (λ n. AsksForSetup c.h.old.settings c.head n setup) film_is
+    (subst (λ x. AsksForSetup c.h.old.settings x film setup) r.head_is asks))
+    (subst (λ n. Names c.h.old.films c.url taken.judged.film.0 n) film_is
+    (subst (λ u. Names c.h.old.films u taken.judged.film.0 film) r.url_is taken.judged.film.1.named))
+    (subst (λ n. IsSetUp c.h.old n (Ok setup) c.h.ask c.h.new) r.sequence_is is)
+setup_by c (StartsPlay play planned asks planned_is) = absurd (not_setup Play refl (called c play.taken))
+setup_by c (HaltsPlay taken hand is) = absurd (not_setup Pause refl (called c taken))
+setup_by c (StopsPlay taken hand is) = absurd (not_setup Teardown refl (called c taken))
+setup_by c (EndsSession taken resting is) = absurd (not_setup Teardown refl (called c taken))
+setup_by c (TakesLook taken look) = absurd (not_setup GetParameter refl (called c taken))
+setup_by c (SeeksOffer offer planned is asks) = absurd (not_setup GetParameter refl (called c offer.taken))
+
+pub setup_done : (c : HeardCall (codes "SETUP")) → SetupDone c
+setup_done c = setup_by c (answer_to c.h)
+
+pub setup_heard : (old : SessionState) (message url head : List ℕ) (ask : Ask) (new : SessionState)
+    → IsSetupRequest message url head → Hears old message ask new → SetupHeard old url head ask new
+setup_heard old message url head ask new is hears =
+    let c : HeardCall (codes "SETUP") = record {
+      h = heard_by {old = old} {new = new} {message = message} {ask = ask} hears;
+      url = url;
+      sequence = is.sequence;
+      head = head;
+      body = is.body;
+      read = is.read;
+    } in
+    elim (setup_done c) [
+      | Refuses text done ↦ Refused text done.0 done.1
+      | Settles setup authority asks names done ↦ Settled setup _ authority done.0 done.1 asks names
+    ]

@@ -13,33 +13,32 @@ use Rattle.session.specs.RequestSteps.{Hears, after_admission, after_halt}
 use Rattle.session.specs.Laws.{InitStage, PlayingStage, ReadyStage, StaysOr, stage_of}
 use Rattle.session.specs.SlotSteps.{admitted_in, halted_in, next_of, state_once_halted}
 use Rattle.session.specs.SessionStates.{SessionState}
-use Rattle.session.proofs.RequestCaseAnalysis.{ComesTo, Lacks, Refuses, Says, SettlesSetup, AsksForPlay, AsksForHalt}
-use Rattle.session.proofs.RequestCaseAnalysis.{AsksForLook}
-use Rattle.session.proofs.RequestCaseAnalysis.{AsksForOffer, comes_to}
+use Rattle.session.proofs.InitialStateLemmas.{HeardMessage, heard_by}
+use Rattle.session.proofs.RequestCaseAnalysis.{Answer, Replies, SetsUp, StartsPlay, HaltsPlay, StopsPlay, EndsSession}
+use Rattle.session.proofs.RequestCaseAnalysis.{TakesLook, SeeksOffer, answer_to, settled_init}
 
-comes_moves : (old new : SessionState) (message : List ℕ) (ask : Ask) → ComesTo old message ask new
-    → StaysOr InitStage ReadyStage old new
-comes_moves old new message ask (Lacks may is) = inl (ap (λ (s : SessionState). stage_of s.state) is.1)
-comes_moves old new message ask (Refuses sequence refusal option other is) =
-    inl (ap (λ (s : SessionState). stage_of s.state) is.1)
-comes_moves old new message ask (Says sequence fields body tearing by command is) =
-    inl (ap (λ (s : SessionState). stage_of s.state) is)
-comes_moves old new message ask (SettlesSetup sequence setup init ranges command is) =
-    inr (record { begins = ap stage_of init; ends = ap (λ (s : SessionState). stage_of s.state) is })
-comes_moves old new message ask
-    (AsksForPlay stored setup paused range planned sequence authority ready planned_is command is) =
-    inl (ap (λ (s : SessionState). stage_of s.state) is)
-comes_moves old new message ask (AsksForHalt sequence setup play next playing told by halts) =
-    inl (ap (λ (s : SessionState). stage_of s.state) halts.state ∙ sym (ap stage_of playing))
-comes_moves old new message ask (AsksForLook sequence look) = inl (ap (λ (s : SessionState). stage_of s.state)
-    look.state)
-comes_moves old new message ask (AsksForOffer sequence wait planned asks) =
-    inl (ap (λ (s : SessionState). stage_of s.state) asks.state)
+answer_moves : (h : HeardMessage) → Answer h → StaysOr InitStage ReadyStage h.old h.new
+answer_moves h (Replies reply is) = inl (ap (λ (s : SessionState). stage_of s.state) is.1)
+answer_moves h (SetsUp film taken setup asks is) =
+    inr (record {
+      begins = ap stage_of (settled_init taken);
+      ends = ap (λ (s : SessionState). stage_of s.state) is.1;
+    })
+answer_moves h (StartsPlay play planned asks planned_is) = inl (ap (λ (s : SessionState). stage_of s.state) asks.state)
+answer_moves h (HaltsPlay taken hand is) =
+    inl (ap (λ (s : SessionState). stage_of s.state) is.asks.state ∙ sym (ap stage_of hand.playing))
+answer_moves h (StopsPlay taken hand is) =
+    inl (ap (λ (s : SessionState). stage_of s.state) is.state ∙ sym (ap stage_of hand.playing))
+answer_moves h (EndsSession taken resting is) = inl (ap (λ (s : SessionState). stage_of s.state) is.1)
+answer_moves h (TakesLook taken look) = inl (ap (λ (s : SessionState). stage_of s.state) look.state)
+answer_moves h (SeeksOffer offer planned is asks) = inl (ap (λ (s : SessionState). stage_of s.state) asks.state)
 
 -- a request moves Init to Ready, or leaves the state
 pub hears_moves : (old new : SessionState) (message : List ℕ) (ask : Ask) → Hears old message ask new
     → StaysOr InitStage ReadyStage old new
-hears_moves old new message ask hears = comes_moves old new message ask (comes_to old message ask new hears)
+hears_moves old new message ask hears =
+    let h : HeardMessage = heard_by {old = old} {new = new} {message = message} {ask = ask} hears in
+    answer_moves h (answer_to h)
 
 admitted_moves : (state : State) (awaited : Awaited) (place start : ℕ)
     → (stage_of (admitted_in state awaited place start) ≡ stage_of state)

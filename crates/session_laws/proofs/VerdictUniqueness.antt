@@ -24,8 +24,9 @@ use Rattle.session.specs.declared.refusals.Task.TheVariants.{Setup as ToSetup, P
 use Rattle.session.specs.declared.refusals.Task.TheVariants.{Pause as ToPause}
 use Rattle.session.specs.declared.refusals.Task.TheVariants.{Teardown as ToTeardown}
 use Rattle.session.specs.declared.refusals.Task.TheVariants.{GetParameter as ToGetParameter}
-use Rattle.session.specs.SessionStates.{has_session_in}
-use Rattle.session.specs.RefusalOrder.{FitsSession, FitsState, HasFilm, IsJudged, IsTaskOf, method_of}
+use Rattle.session.specs.SessionStates.{SessionState, has_session_in}
+use Rattle.session.specs.RefusalOrder.{FitsSession, FitsState, HasFilm, IsJudged, IsOwnTalk, IsSpoken, IsTaken}
+use Rattle.session.specs.RefusalOrder.{IsTaskOf, IsTimely, method_of}
 use Rattle.rtsp_methods.specs.Methods.{name_of}
 use Rattle.rtsp_methods.specs.RequiredOptions.{required_of}
 
@@ -83,69 +84,95 @@ rank (Err (Buffer least)) = 5
 rank (Err Range) = 5
 rank (Err Memory) = 5
 
-none_some : (value : Option (List ℕ)) → value ≡ None → is_some value ≡ true → ⊥
-none_some value none some = cc
+-- what a request is judged by: the session's films, id and state, and its own parts
+record Judging : Type 0 where
+  films : List Stored
+  id : List ℕ
+  stage : StateKind
+  name : List ℕ
+  url : List ℕ
+  head : List ℕ
 
-module _ (films : List Stored) (id : List ℕ) (stage : StateKind) (name url head : List ℕ) where
-  abbrev Owns : Method → Type 0
-  Owns m = FitsSession m (has_session_in stage) id (header_value head (codes "Session"))
+abbrev judging : SessionState → Request → Judging
+judging old request = record {
+  films = old.films;
+  id = old.id;
+  stage = old.state;
+  name = request.method.now;
+  url = request.url.now;
+  head = request.head.now;
+}
 
-  abbrev HasTime : Method → Type 0
-  HasTime m = FitsState m stage (is_some (header_value head (codes "Range")))
+abbrev Owns : Judging → Method → Type 0
+Owns j m = FitsSession m (has_session_in j.stage) j.id (header_value j.head (codes "Session"))
 
-  abbrev PassesBy : Check → Type 0
-  PassesBy ByMethod = (m : Method) × (name ≡ name_of m)
-  PassesBy ByOption = required_of head ≡ None
-  PassesBy BySession = (m : Method) × ((name ≡ name_of m) × Owns m)
-  PassesBy ByFilm = (m : Method) × ((name ≡ name_of m) × ((m ≡ Options) ⊎ HasFilm films stage url m))
-  PassesBy ByState = (m : Method) × ((name ≡ name_of m) × HasTime m)
-  PassesBy ByNone = ⊥
+abbrev HasTime : Judging → Method → Type 0
+HasTime j m = FitsState m j.stage (is_some (header_value j.head (codes "Range")))
 
-  abbrev Passes : ℕ → Type 0
-  Passes n = PassesBy (check_at n)
+abbrev PassesBy : Judging → Check → Type 0
+PassesBy j ByMethod = (m : Method) × (j.name ≡ name_of m)
+PassesBy j ByOption = required_of j.head ≡ None
+PassesBy j BySession = (m : Method) × ((j.name ≡ name_of m) × Owns j m)
+PassesBy j ByFilm = (m : Method) × ((j.name ≡ name_of m) × ((m ≡ Options) ⊎ HasFilm j.films j.stage j.url m))
+PassesBy j ByState = (m : Method) × ((j.name ≡ name_of m) × HasTime j m)
+PassesBy j ByNone = ⊥
 
-  -- the first judgement that a request doesn't pass
-  record StopsAt (n : ℕ) : Type 0 where
-    before : (k : ℕ) → k < n → Passes k
-    at : ¬ Passes n
+abbrev PassesAt : Judging → ℕ → Type 0
+PassesAt j n = PassesBy j (check_at n)
 
-  stops_once : (n m : ℕ) → StopsAt n → StopsAt m → n ≡ m
-  stops_once n m is its =
-      elim (cases_order n m) [
-        | inl same ↦ same
-        | inr differ ↦
-            elim differ [
-              | inl less ↦ absurd (is.at (its.before n less))
-              | inr more ↦ absurd
-                  (its.at (is.before m more))
-            ]
-      ]
+abbrev PassesBelow : Judging → ℕ → Type 0
+PassesBelow j n = (k : ℕ) → k < n → PassesAt j k
 
-  before_0 : (k : ℕ) → k < 0 → Passes k
-  before_0 k less = absurd (omega (arith, less))
+-- the first judgement that a request doesn't pass
+record StopsAt (j : Judging) (n : ℕ) : Type 0 where
+  before : PassesBelow j n
+  at : ¬ PassesAt j n
 
-  before_1 : Passes 0 → (k : ℕ) → k < 1 → Passes k
-  before_1 method = below_more Passes 0 before_0 method
+stops_once : {j : Judging} (n m : ℕ) → StopsAt j n → StopsAt j m → n ≡ m
+stops_once n m is its =
+    elim (cases_order n m) [
+      | inl same ↦ same
+      | inr differ ↦
+          elim differ [
+            | inl less ↦ absurd (is.at (its.before n less))
+            | inr more ↦ absurd (its.at (is.before m more))
+          ]
+    ]
 
-  before_2 : Passes 0 → Passes 1 → (k : ℕ) → k < 2 → Passes k
-  before_2 method free = below_more Passes 1 (before_1 method) free
+none_below : (j : Judging) → PassesBelow j 0
+none_below j k less = absurd (omega (arith, less))
 
-  before_3 : Passes 0 → Passes 1 → Passes 2 → (k : ℕ) → k < 3 → Passes k
-  before_3 method free own = below_more Passes 2 (before_2 method free) own
+one_more : (j : Judging) (n : ℕ) → PassesBelow j n → PassesAt j n → PassesBelow j (n + 1)
+one_more j n before at = below_more (PassesAt j) n before at
 
-  before_4 : Passes 0 → Passes 1 → Passes 2 → Passes 3 → (k : ℕ) → k < 4 → Passes k
-  before_4 method free own film = below_more Passes 3 (before_3 method free own) film
+-- a request of a method that requires no option, of its session, of its film
+spoken_below : {m : Method} (old : SessionState) (request : Request) → IsSpoken request m
+    → PassesBelow (judging old request) 2
+spoken_below {m} old request spoken = one_more (judging old request) 1 (one_more (judging old request) 0 (none_below _) (m, spoken.named)) spoken.free
 
-  -- a request that passes the five judgements: its method, options, session, film and time
-  record PassesAll : Type 0 where
-    method : Passes 0
-    free : Passes 1
-    own : Passes 2
-    film : Passes 3
-    time : Passes 4
+talk_below : {m : Method} (old : SessionState) (request : Request) → IsOwnTalk old.id old.state request m
+    → PassesBelow (judging old request) 3
+talk_below {m} old request talk =
+    one_more (judging old request) 2 (spoken_below old request talk.spoken) (m, (talk.spoken.named, talk.session))
 
-  before_5 : PassesAll → (k : ℕ) → k < 5 → Passes k
-  before_5 passed = below_more Passes 4 (before_4 passed.method passed.free passed.own passed.film) passed.time
+film_below : {m : Method} (old : SessionState) (request : Request) → IsOwnTalk old.id old.state request m
+    → (m ≡ Options) ⊎ HasFilm old.films old.state request.url.now m → PassesBelow (judging old request) 4
+film_below {m} old request talk film =
+    one_more (judging old request) 3 (talk_below old request talk) (m, (talk.spoken.named, film))
+
+-- nothing that all methods share refuses a request of a method
+pub record Passes (old : SessionState) (request : Request) (m : Method) : Type 0 where
+  pub talk : IsOwnTalk old.id old.state request m
+  pub film : (m ≡ Options) ⊎ HasFilm old.films old.state request.url.now m
+  pub state : IsTimely old.state request m
+
+stops_last : {m : Method} (old : SessionState) (request : Request) → Passes old request m
+    → StopsAt (judging old request) 5
+stops_last {m} old request passes = record {
+  before = one_more (judging old request) 4 (film_below old request passes.talk passes.film)
+      (m, (passes.talk.spoken.named, passes.state));
+  at = λ no. no;
+}
 
 film_of : (films : List Stored) (stage : StateKind) (url : List ℕ) (task : Task) → IsTaskOf films stage url task
     → (method_of task ≡ Options) ⊎ HasFilm films stage url (method_of task)
@@ -157,89 +184,69 @@ film_of films stage url ToPause is = inr is
 film_of films stage url ToTeardown is = inr is
 film_of films stage url ToGetParameter is = inr is
 
+pub passes_of : {request : Request} {task : Task} (old : SessionState)
+    → IsTaken old.films old.id old.state request task → Passes old request (method_of task)
+passes_of {request} {task} old is = record {
+  talk = is.talk;
+  film = film_of old.films old.state request.url.now task is.film;
+  state = is.state;
+}
+
 -- a judgement is by the first that isn't passed
-stops : (films : List Stored) (id : List ℕ) (stage : StateKind) (request : Request) (judgement : Result Task Refusal)
-    → IsJudged films id stage request judgement
-    → StopsAt films id stage request.method.now request.url.now request.head.now (rank judgement)
-stops films id stage request (Ok task) is =
-    let m = method_of task in
-    let spoken = is.talk.spoken in
-    record {
-      before = before_5 films id stage request.method.now request.url.now request.head.now (record {
-        method = (m, spoken.named);
-        free = spoken.free;
-        own = (m, (spoken.named, is.talk.session));
-        film = (m, (spoken.named, film_of films stage request.url.now task is.film));
-        time = (m, (spoken.named, is.state));
-      });
-      at = λ no. no;
-    }
-stops films id stage request (Err BadRequest) is = absurd is
-stops films id stage request (Err Version) is = absurd is
-stops films id stage request (Err Unknown) is = record {
-  before = before_0 films id stage request.method.now request.url.now request.head.now;
-  at = λ has. is.none has.0 has.1;
+stops : (old : SessionState) (request : Request) (judgement : Result Task Refusal)
+    → IsJudged old.films old.id old.state request judgement → StopsAt (judging old request) (rank judgement)
+stops old request (Ok task) is = stops_last old request (passes_of old is)
+stops old request (Err BadRequest) is = absurd is
+stops old request (Err Version) is = absurd is
+stops old request (Err Unknown) is = record { before = none_below _; at = λ has. is.none has.0 has.1 }
+stops old request (Err Required) is = record {
+  before = one_more (judging old request) 0 (none_below _) (is.method, is.named);
+  at = λ free. let some = is.required in let no : ⊥ = cc (free, some) in no;
 }
-stops films id stage request (Err Required) is = record {
-  before = before_1 films id stage request.method.now request.url.now request.head.now (is.method, is.named);
-  at = λ free. none_some (required_of request.head.now) free is.required;
+stops old request (Err Session) is = record {
+  before = spoken_below old request is.spoken;
+  at = λ own. is.session (subst (Owns (judging old request))
+      (method_once request.method.now own.0 is.method own.1.0 is.spoken.named) own.1.1);
 }
-stops films id stage request (Err Session) is =
-    let Fits : Method → Type 0 = λ m. Owns films id stage request.method.now request.url.now request.head.now m in
-    record {
-      before = before_2 films id stage request.method.now request.url.now request.head.now
-          (is.method, is.spoken.named) is.spoken.free;
-      at = λ own. is.session
-          (subst Fits (method_once request.method.now own.0 is.method own.1.0 is.spoken.named) own.1.1);
-    }
-stops films id stage request (Err Film) is =
-    let spoken = is.talk.spoken in
-    record {
-      before = before_3 films id stage request.method.now request.url.now request.head.now
-          (is.method, spoken.named) spoken.free
-          (is.method, (spoken.named, is.talk.session));
-      at = λ has.
-          let same = method_once request.method.now has.0 is.method has.1.0 spoken.named in
-          elim has.1.1 [
-            | inl options ↦ is.asked (sym same ∙ options)
-            | inr film ↦ is.none (subst (λ (m : Method). HasFilm films stage request.url.now m) same film)
-          ];
-    }
-stops films id stage request (Err State) is =
-    let spoken = is.talk.spoken in
-    let Fits : Method → Type 0 = λ m. HasTime films id stage request.method.now request.url.now request.head.now m in
-    record {
-      before = before_4 films id stage request.method.now request.url.now request.head.now
-          (is.method, spoken.named) spoken.free
-          (is.method, (spoken.named, is.talk.session)) (is.method, (spoken.named, inr is.film));
-      at = λ timely. is.state
-          (subst Fits (method_once request.method.now timely.0 is.method timely.1.0 spoken.named) timely.1.1);
-    }
-stops films id stage request (Err Transport) is = absurd is
-stops films id stage request (Err Parameter) is = absurd is
-stops films id stage request (Err (Buffer least)) is = absurd is
-stops films id stage request (Err Range) is = absurd is
-stops films id stage request (Err Memory) is = absurd is
+stops old request (Err Film) is = record {
+  before = talk_below old request is.talk;
+  at = λ has.
+      let same = method_once request.method.now has.0 is.method has.1.0 is.talk.spoken.named in
+      elim has.1.1 [
+        | inl options ↦ is.asked (sym same ∙ options)
+        | inr film ↦ is.none (subst (λ (m : Method). HasFilm old.films old.state request.url.now m) same film)
+      ];
+}
+stops old request (Err State) is = record {
+  before = film_below old request is.talk (inr is.film);
+  at = λ timely. is.state (subst (HasTime (judging old request))
+      (method_once request.method.now timely.0 is.method timely.1.0 is.talk.spoken.named) timely.1.1);
+}
+stops old request (Err Transport) is = absurd is
+stops old request (Err Parameter) is = absurd is
+stops old request (Err (Buffer least)) is = absurd is
+stops old request (Err Range) is = absurd is
+stops old request (Err Memory) is = absurd is
 
 -- a refusal is that of its judgement
 record IsRanked (refusal : Refusal) : Type 0 where
   below : rank (Err refusal) < 5
   is : refusal ≡ refusal_at (rank (Err refusal))
 
-ranked : (films : List Stored) (id : List ℕ) (stage : StateKind) (request : Request) (refusal : Refusal)
-    → IsJudged films id stage request (Err refusal) → IsRanked refusal
-ranked films id stage request BadRequest is = absurd is
-ranked films id stage request Version is = absurd is
-ranked films id stage request Unknown is = record { below = omega arith; is = refl }
-ranked films id stage request Required is = record { below = omega arith; is = refl }
-ranked films id stage request Session is = record { below = omega arith; is = refl }
-ranked films id stage request Film is = record { below = omega arith; is = refl }
-ranked films id stage request State is = record { below = omega arith; is = refl }
-ranked films id stage request Transport is = absurd is
-ranked films id stage request Parameter is = absurd is
-ranked films id stage request (Buffer least) is = absurd is
-ranked films id stage request Range is = absurd is
-ranked films id stage request Memory is = absurd is
+ranked : (old : SessionState) (request : Request) (refusal : Refusal)
+    → IsJudged old.films old.id old.state request (Err refusal) → IsRanked refusal
+ranked old request BadRequest is = absurd is
+ranked old request Version is = absurd is
+ranked old request Unknown is = record { below = omega arith; is = refl }
+ranked old request Required is = record { below = omega arith; is = refl }
+ranked old request Session is = record { below = omega arith; is = refl }
+ranked old request Film is = record { below = omega arith; is = refl }
+ranked old request State is = record { below = omega arith; is = refl }
+ranked old request Transport is = absurd is
+ranked old request Parameter is = absurd is
+ranked old request (Buffer least) is = absurd is
+ranked old request Range is = absurd is
+ranked old request Memory is = absurd is
 
 -- the parts of two requests are the same
 pub record AreAlike (request other : Request) : Type 0 where
@@ -249,53 +256,39 @@ pub record AreAlike (request other : Request) : Type 0 where
   pub head : other.head.now ≡ request.head.now
   pub body : other.body.now ≡ request.body.now
 
-pub turned : (request other : Request) → AreAlike request other → AreAlike other request
-turned request other alike = record {
-  method = sym alike.method;
-  url = sym alike.url;
-  sequence = sym alike.sequence;
-  head = sym alike.head;
-  body = sym alike.body;
-}
+same_judging : {request other : Request} (old : SessionState) → AreAlike request other
+    → judging old other ≡ judging old request
+same_judging {request} {other} old alike =
+    let J : List ℕ → List ℕ → List ℕ → Judging =
+    λ n u h. record { films = old.films; id = old.id; stage = old.state; name = n; url = u; head = h } in
+    ap (λ n. J n other.url.now other.head.now) alike.method ∙ ap (λ u. J request.method.now u other.head.now) alike.url
+    ∙ ap (λ h. J request.method.now request.url.now h) alike.head
 
 -- the judgements of two requests that are alike
-record TwoVerdicts (request other : Request) (films : List Stored) (id : List ℕ) (stage : StateKind) : Type 0 where
-  pub a : Result Task Refusal
-  pub b : Result Task Refusal
-  pub alike : AreAlike request other
-  pub is : IsJudged films id stage request a
-  pub its : IsJudged films id stage other b
+same_rank : {request other : Request} (old : SessionState) (a b : Result Task Refusal) → AreAlike request other
+    → IsJudged old.films old.id old.state request a → IsJudged old.films old.id old.state other b → rank b ≡ rank a
+same_rank {request} {other} old a b alike is its =
+    stops_once (rank b) (rank a)
+    (subst (λ j. StopsAt j (rank b)) (same_judging old alike) (stops old other b its)) (stops old request a is)
 
-same_rank : {request other : Request} {films : List Stored} {id : List ℕ} {stage : StateKind}
-    (verdicts : TwoVerdicts request other films id stage) → rank verdicts.a ≡ rank verdicts.b
-same_rank {request} {other} {films} {id} {stage} verdicts =
-    let stop = stops films id stage other b its in
-    let by_name = subst (λ (n : List ℕ). StopsAt films id stage n other.url.now other.head.now
-    (rank b)) alike.method stop in
-    let by_url = subst (λ (u : List ℕ). StopsAt films id stage request.method.now u other.head.now
-    (rank b)) alike.url by_name in
-    let by_head =
-    subst (λ (h : List ℕ). StopsAt films id stage request.method.now request.url.now h (rank b)) alike.head by_url in
-    stops_once films id stage request.method.now request.url.now request.head.now (rank a) (rank b)
-    (stops films id stage request a is) by_head
-  where
-    open verdicts use {a, b, alike, is, its}
+-- a request that is alike another that is refused is refused so
+pub judged_refused : {request other : Request} (old : SessionState) (refusal : Refusal)
+    (judgement : Result Task Refusal) → AreAlike request other
+    → IsJudged old.films old.id old.state request (Err refusal) → IsJudged old.films old.id old.state other judgement
+    → judgement ≡ Err refusal
+judged_refused {request} {other} old refusal (Ok task) alike is its =
+    let same = same_rank old (Err refusal) (Ok task) alike is its in
+    let below = (ranked old request refusal is).below in
+    absurd (omega (arith, same, below))
+judged_refused {request} {other} old refusal (Err given) alike is its =
+    let same = same_rank old (Err refusal) (Err given) alike is its in
+    ap (λ r. Err r) ((ranked old other given its).is ∙ ap refusal_at same ∙ sym (ranked old request refusal is).is)
 
-pub refusal_once : {request other : Request} {a b : Refusal} (films : List Stored) (id : List ℕ) (stage : StateKind)
-    → AreAlike request other → IsJudged films id stage request (Err a) → IsJudged films id stage other (Err b) → b ≡ a
-refusal_once {request} {other} {a} {b} films id stage alike is its =
-    let verdicts : TwoVerdicts request other films id stage =
-    record { a = Err a; b = Err b; alike = alike; is = is; its = its } in
-    let same = same_rank verdicts in
-    (ranked films id stage other b its).is ∙ ap refusal_at (sym same) ∙ sym (ranked films id stage request a is).is
-
-pub not_both : {films : List Stored} {id : List ℕ} {stage : StateKind} {request other : Request} {task : Task}
-    (refusal : Refusal)
-    → AreAlike request other → IsJudged films id stage request (Ok task) → IsJudged films id stage other (Err refusal)
-    → ⊥
-not_both {films} {id} {stage} {request} {other} {task} refusal alike is its =
-    let verdicts : TwoVerdicts request other films id stage =
-    record { a = Ok task; b = Err refusal; alike = alike; is = is; its = its } in
-    let same = same_rank verdicts in
-    let below = (ranked films id stage other refusal its).below in
+-- one that is alike another that is processed isn't refused
+pub never_refused : {m : Method} {request other : Request} (old : SessionState) (refusal : Refusal)
+    → AreAlike request other → Passes old request m → ¬ IsJudged old.films old.id old.state other (Err refusal)
+never_refused {request} {other} old refusal alike passes = λ its.
+    let same = stops_once (rank (Err refusal)) 5 (subst (λ j. StopsAt j (rank (Err refusal))) (same_judging old alike)
+    (stops old other (Err refusal) its)) (stops_last old request passes) in
+    let below = (ranked old other refusal its).below in
     omega (arith, same, below)
