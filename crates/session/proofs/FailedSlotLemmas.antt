@@ -1,7 +1,6 @@
 -- Lemmas on what a failed sending of a slot leaves.
-use Rattle.std.proofs.Common.{◌≡◌, ℕ, ◌+◌, ◌-◌, ◌≤◌, ◌++◌, Bool, true, false, if◌then◌else◌, List}
-use Rattle.std.proofs.Common.{[], length, take, drop, Option, Result, Ok, Err, OnErr, refl, ap, sym}
-use Rattle.std.proofs.Common.{◌∙◌, arith, inl, inr}
+use Rattle.std.proofs.Common.{◌≡◌, ℕ, ◌+◌, ◌-◌, ◌≤◌, ◌++◌, Bool, true, false, if◌then◌else◌, List, [], length, take}
+use Rattle.std.proofs.Common.{drop, Option, Result, Ok, Err, OnErr, refl, ap, sym, ◌∙◌, arith, inl, inr}
 use Rattle.std.proofs.lemmas.Bool.{cases_lt, true≢false}
 use Rattle.std.proofs.lemmas.List.{length-append, map-append, take-take, take_all}
 use Rattle.std.proofs.Math.Seq.{take-append-add}

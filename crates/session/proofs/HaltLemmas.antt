@@ -11,8 +11,8 @@ use Rattle.session.specs.declared.states.State.{State}
 use Rattle.session.specs.declared.states.State.TheVariants.{Playing}
 use Rattle.session.specs.RequestSteps.{counts_next, is_answered, is_torn}
 use Rattle.session.specs.SessionInvariant.{SessionContext, IsAwaitedInvariant, IsGoing, IsSessionInvariant, IsNextIn}
-use Rattle.session.specs.SessionInvariant.{IsStateInvariant}
-use Rattle.session.specs.SessionInvariant.{IsStopAnswered, session_context_of, open_receipts, session_state_of}
+use Rattle.session.specs.SessionInvariant.{IsStateInvariant, IsStopAnswered, session_context_of, open_receipts}
+use Rattle.session.specs.SessionInvariant.{session_state_of}
 use Rattle.session.specs.SessionStates.{CanHandleRequest}
 use Rattle.session.specs.declared.sessions.Session.TheInside.{Inside}
 use Rattle.session.specs.declared.states.Awaited.{Awaited}

@@ -1,6 +1,6 @@
 -- What a halt leaves of a play.
-use Rattle.std.proofs.Common.{◌≡◌, ℕ, ◌+◌, ◌<◌, ◌≤◌, min, nat_lt, ◌==◌, true, false, List, Option}
-use Rattle.std.proofs.Common.{Some, None, refl, sym, ap, subst, ◌∙◌, eq-eqb, inl, inr, arith}
+use Rattle.std.proofs.Common.{◌≡◌, ℕ, ◌+◌, ◌<◌, ◌≤◌, min, nat_lt, ◌==◌, true, false, List, Option, Some, None, refl}
+use Rattle.std.proofs.Common.{sym, ap, subst, ◌∙◌, eq-eqb, inl, inr, arith}
 use Rattle.std.proofs.lemmas.Bool.{cases_lt, lt-ltb}
 use Rattle.plan_cert.proofs.PlanSlotLemmas.{sum_through_rises}
 use Rattle.plan_cert.proofs.SlotSums.{sum_through-past}
@@ -15,11 +15,10 @@ use Rattle.film_run.specs.Runs.{Fits, IsRun}
 use Rattle.film_run.specs.Units.{stored_sizes}
 use Rattle.plan_cert.specs.declared.Segment.{Segment}
 use Rattle.pacer.specs.PacerStates.{IsPacerState, PacerState, first_slots, is_done, next_boundary, slots_through}
-use Rattle.session.specs.RunRequests.{sending_of}
+use Rattle.session.specs.RunRequests.{sending_of, IsRunOf, playback_of}
 use Rattle.film_streams.specs.StreamNumbers.{identity_of}
 use Rattle.session.specs.SessionInvariant.{SessionContext, IsPlaying, IsPlayUnfinished}
 use Rattle.session.specs.ResumedPlays.{IsPacedPlay}
-use Rattle.session.specs.RunRequests.{IsRunOf, playback_of}
 use Rattle.session.specs.declared.states.Play.{Play as Played}
 use Rattle.film_streams.specs.declared.setups.Setup.{Setup}
 

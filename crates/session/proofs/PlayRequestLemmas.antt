@@ -1,5 +1,6 @@
 -- What a play, a halt and an admission leave of how a session is kept.
-use Rattle.std.proofs.Common.{◌≡◌, ℕ, ◌+◌, ◌-◌, ◌≤◌, Bool, true, List, Option, length, refl, sym, ap, subst, ◌∙◌, arith}
+use Rattle.std.proofs.Common.{◌≡◌, ℕ, ◌+◌, ◌-◌, ◌≤◌, Bool, true, List, Option, length, refl, sym, ap, subst, ◌∙◌}
+use Rattle.std.proofs.Common.{arith}
 use Rattle.plan_cert.specs.PlanSlots.{total_bytes}
 use Rattle.film_frames.specs.declared.stored_films.Stored.{Stored}
 use Rattle.film_frames.specs.FramedRuns.{run_pieces}
@@ -8,16 +9,14 @@ use Rattle.film_run.specs.declared.runs.Run.{Run}
 use Rattle.film_run.specs.Runs.{bytes_between}
 use Rattle.film_run.specs.Units.{stored_sizes}
 use Rattle.pacer.specs.PacerStates.{IsPacerState, PacerState, next_boundary}
-use Rattle.session.specs.RunRequests.{sending_of}
+use Rattle.session.specs.RunRequests.{sending_of, IsPlayable}
 use Rattle.film_streams.specs.Films.{IsFilmAt, OfFilm}
 use Rattle.session.specs.Methods.{prepared_of}
 use Rattle.session.specs.SessionInvariant.{SessionContext, IsAwaitedInvariant, IsGoing, IsSessionInvariant, IsNextIn}
-use Rattle.session.specs.SessionInvariant.{IsPlayUnfinished}
-use Rattle.session.specs.SessionInvariant.{IsPreparedAs, IsPreparedIn, IsStateInvariant, session_context_of}
-use Rattle.session.specs.SessionInvariant.{awaited_plays, awaited_receipts, open_receipts}
+use Rattle.session.specs.SessionInvariant.{IsPlayUnfinished, IsPreparedAs, IsPreparedIn, IsStateInvariant}
+use Rattle.session.specs.SessionInvariant.{session_context_of, awaited_plays, awaited_receipts, open_receipts}
 use Rattle.session.specs.SessionInvariant.{session_state_of}
 use Rattle.session.specs.ResumedPlays.{IsPrepared}
-use Rattle.session.specs.RunRequests.{IsPlayable}
 use Rattle.session.specs.SlotSteps.{next_of, play_of}
 use Rattle.session.specs.SessionStates.{CanHandleRequest, IsReadyIn}
 use Rattle.session_records.specs.RecordLists.{SessionRecords}

@@ -8,8 +8,8 @@ use Rattle.rtsp_text.specs.Fields.{first_sequence, header_value}
 use Rattle.rtsp_text.specs.Requests.{IsFault}
 use Rattle.rtsp_text.specs.declared.requests.Request.{Request}
 use Rattle.rtsp_text.specs.declared.requests.RequestFault.{RequestFault}
-use Rattle.rtsp_text.specs.declared.requests.RequestFault.TheVariants.{BadLine, BadVersion, BadHeader, NoSequenceNumber}
-use Rattle.rtsp_text.specs.declared.requests.RequestFault.TheVariants.{BadLength}
+use Rattle.rtsp_text.specs.declared.requests.RequestFault.TheVariants.{BadLine, BadVersion, BadHeader}
+use Rattle.rtsp_text.specs.declared.requests.RequestFault.TheVariants.{NoSequenceNumber, BadLength}
 use Rattle.rtsp_methods.specs.Methods.{IsTopic, IsWord}
 use Rattle.rtsp_methods.specs.Refusals.{fault_refusal}
 use Rattle.rtsp_methods.specs.RequiredOptions.{option_of}
@@ -17,9 +17,8 @@ use Rattle.rtsp_methods.specs.declared.topics.Topic.{Topic}
 use Rattle.rtsp_methods.specs.declared.topics.Topic.TheVariants.{Nothing as NoTopic, Booked, Offer as OfferTopic}
 use Rattle.rtsp_methods.specs.declared.topics.Topic.TheVariants.{Unknown}
 use Rattle.rtsp_methods.specs.declared.refusals.Refusal.{Refusal}
-use Rattle.rtsp_methods.specs.declared.refusals.Refusal.TheVariants.{BadRequest, Version, Method}
-use Rattle.rtsp_methods.specs.declared.refusals.Refusal.TheVariants.{Option as Required, Session, Film}
-use Rattle.rtsp_methods.specs.declared.refusals.Refusal.TheVariants.{State as NotNow, Transport}
+use Rattle.rtsp_methods.specs.declared.refusals.Refusal.TheVariants.{BadRequest, Version, Method, Option as Required}
+use Rattle.rtsp_methods.specs.declared.refusals.Refusal.TheVariants.{Session, Film, State as NotNow, Transport}
 use Rattle.rtsp_methods.specs.declared.refusals.Refusal.TheVariants.{Parameter, Buffer, Range, Memory}
 use Rattle.rtsp_replies.specs.Replies.{describe_text, plain_text, public_text, refusal_text, session_text}
 use Rattle.film_streams.specs.Films.{IsFilmAt, length_ms}

@@ -1,7 +1,6 @@
 -- What a request says is read in one way.
-use Rattle.std.proofs.Common.{◌≡◌, ℕ, ◌^◌, List, [], ◌∷◌, get_or, slice_get, slice_range}
-use Rattle.std.proofs.Common.{filter_map, option_and_then, Option, Some, None, Result, Ok, Err}
-use Rattle.std.proofs.Common.{codes, refl, sym, ap, ◌∙◌, inl, inr, arith}
+use Rattle.std.proofs.Common.{◌≡◌, ℕ, ◌^◌, List, [], ◌∷◌, get_or, slice_get, slice_range, filter_map, option_and_then}
+use Rattle.std.proofs.Common.{Option, Some, None, Result, Ok, Err, codes, refl, sym, ap, ◌∙◌, inl, inr, arith}
 use Rattle.vod_base.specs.Numbers.{number_of}
 use Rattle.film_frames.specs.declared.stored_films.Stored.{Stored}
 use Rattle.rtsp_fields.specs.declared.transports.Channels.{Channels}
@@ -14,20 +13,17 @@ use Rattle.rtsp_methods.specs.declared.topics.Topic.{Topic}
 use Rattle.rtsp_methods.specs.declared.topics.Topic.TheVariants.{Nothing as NoTopic, Booked, Offer as OfferTopic}
 use Rattle.rtsp_methods.specs.declared.topics.Topic.TheVariants.{Unknown}
 use Rattle.rtsp_methods.specs.declared.refusals.Refusal.{Refusal}
-use Rattle.rtsp_methods.specs.declared.refusals.Refusal.TheVariants.{BadRequest, Version}
-use Rattle.rtsp_methods.specs.declared.refusals.Refusal.TheVariants.{Method as UnknownMethod}
+use Rattle.rtsp_methods.specs.declared.refusals.Refusal.TheVariants.{BadRequest, Version, Method as UnknownMethod}
 use Rattle.rtsp_methods.specs.declared.refusals.Refusal.TheVariants.{Option as Required, Session, Film}
-use Rattle.rtsp_methods.specs.declared.refusals.Refusal.TheVariants.{State as NotNow, Transport}
-use Rattle.rtsp_methods.specs.declared.refusals.Refusal.TheVariants.{Parameter, Buffer, Range, Memory}
+use Rattle.rtsp_methods.specs.declared.refusals.Refusal.TheVariants.{State as NotNow, Transport, Parameter, Buffer}
+use Rattle.rtsp_methods.specs.declared.refusals.Refusal.TheVariants.{Range, Memory}
 use Rattle.film_streams.specs.declared.setups.Setup.{Setup}
 use Rattle.film_streams.specs.declared.settings.Settings.{Settings}
 use Rattle.film_streams.specs.Films.{Names}
 use Rattle.rtsp_methods.specs.Methods.{IsTopic, IsWord}
 use Rattle.session.specs.Methods.{IsWaitOf}
 use Rattle.film_streams.specs.SettingRanges.{AreFilms}
-use Rattle.film_streams.specs.Setups.{IsSetupRead}
-use Rattle.film_streams.specs.Setups.{AreChannelsOf, AsksForSetup, HasChannels, IsChosen}
-use Rattle.film_streams.specs.Setups.{HasNoMeaning}
+use Rattle.film_streams.specs.Setups.{IsSetupRead, AreChannelsOf, AsksForSetup, HasChannels, IsChosen, HasNoMeaning}
 use Rattle.film_streams.proofs.FilmUrlLemmas.{film_once, named_once}
 
 -- what a SETUP asks for

@@ -1,18 +1,18 @@
 -- What a step leaves of how a session is kept.
-use Rattle.std.proofs.Common.{◌≡◌, ℕ, ◌+◌, ◌≤◌, Bool, true, false, List, Option, length, refl, sym, ap, subst, ◌∙◌, arith}
+use Rattle.std.proofs.Common.{◌≡◌, ℕ, ◌+◌, ◌≤◌, Bool, true, false, List, Option, length, refl, sym, ap, subst, ◌∙◌}
+use Rattle.std.proofs.Common.{arith}
 use Rattle.vod_base.specs.declared.links.TheConstants.{LATEST_SLOT}
 use Rattle.plan_cert.specs.declared.Segment.{Segment}
 use Rattle.plan_cert.specs.PlanSlots.{total_bytes}
 use Rattle.film_frames.specs.declared.stored_films.Stored.{Stored}
 use Rattle.film_frames.specs.FramedRuns.{run_pieces}
 use Rattle.film_run.specs.declared.runs.Run.{Run}
-use Rattle.session.specs.RunRequests.{sending_of}
+use Rattle.session.specs.RunRequests.{sending_of, IsPlayable}
 use Rattle.session.specs.SessionInvariant.{SessionContext, IsAwaitedInvariant, IsGoing, IsPlaying, IsSessionInvariant}
 use Rattle.session.specs.SessionInvariant.{IsStateInvariant, IsStopAnswered, awaited_offers, awaited_plays}
 use Rattle.session.specs.SessionInvariant.{awaited_receipts, open_receipts, session_context_of}
 use Rattle.session.specs.RequestedPlans.{IsPausedIn}
 use Rattle.session.specs.ResumedPlays.{IsPacedPlay}
-use Rattle.session.specs.RunRequests.{IsPlayable}
 use Rattle.session.specs.SlotSteps.{HaltsIfDone, is_done_in}
 use Rattle.session.specs.SessionStates.{NoAnswer, awaited_answer_of}
 use Rattle.session.specs.SlotTransitions.{IsCarried, IsEven, IsSamePacing, after_stop}

@@ -1,7 +1,6 @@
 -- A message has one answer, if memory is found for it.
-use Rattle.std.proofs.Common.{◌≡◌, ℕ, string_bytes, List, [], Option, Some}
-use Rattle.std.proofs.Common.{None, Result, Ok, Err, codes, refl, sym, ap, subst, ◌∙◌, inl, inr}
-use Rattle.std.proofs.Common.{arith}
+use Rattle.std.proofs.Common.{◌≡◌, ℕ, string_bytes, List, [], Option, Some, None, Result, Ok, Err, codes, refl, sym}
+use Rattle.std.proofs.Common.{ap, subst, ◌∙◌, inl, inr, arith}
 use Rattle.film_frames.specs.declared.stored_films.Stored.{Stored}
 use Rattle.film_run.specs.declared.runs.Run.{Run}
 use Rattle.film_run.proofs.RemainingRunLemmas.{left-one}
@@ -33,26 +32,24 @@ use Rattle.session.specs.declared.states.State.{State}
 use Rattle.session.specs.declared.states.State.TheVariants.{Init, Ready, Playing, Stopping}
 use Rattle.film_streams.specs.Films.{Names, length_ms}
 use Rattle.session.specs.RequestSteps.{Hears}
-use Rattle.session.specs.RefusalOrder.{IsJudged, method_of}
+use Rattle.session.specs.RefusalOrder.{IsJudged, method_of, IsReadAs}
 use Rattle.rtsp_methods.specs.RequiredOptions.{option_of}
 use Rattle.rtsp_methods.specs.Methods.{IsTopic}
 use Rattle.rtsp_methods.specs.Refusals.{fault_refusal}
 use Rattle.session.specs.Laws.{IsOneAnswer}
-use Rattle.session.specs.Methods.{AsksHalt, AsksOfferOr, AsksPlayOr, Describes, play_call}
-use Rattle.session.specs.Methods.{Gets, GetsOffer, HasWait, IsRefused, IsReplied}
-use Rattle.session.specs.Methods.{IsSetUp, Looks, OffersReady, Pauses, PausesPlay, Plays, SetsUp}
-use Rattle.session.specs.Methods.{Takes, TearsDown, prepared_of, play_front}
+use Rattle.session.specs.Methods.{AsksHalt, AsksOfferOr, AsksPlayOr, Describes, play_call, Gets, GetsOffer, HasWait}
+use Rattle.session.specs.Methods.{IsRefused, IsReplied, IsSetUp, Looks, OffersReady, Pauses, PausesPlay, Plays}
+use Rattle.session.specs.Methods.{SetsUp, Takes, TearsDown, prepared_of, play_front}
 use Rattle.session.specs.RequestedPlans.{IsPlanned}
 use Rattle.session.specs.RunRequests.{playback_of}
 use Rattle.rtsp_replies.specs.Replies.{describe_text, plain_text, public_text, refusal_text, session_text}
 use Rattle.film_streams.specs.Setups.{IsSetupRead}
 use Rattle.session.specs.SessionStates.{with_reply}
-use Rattle.session.specs.RefusalOrder.{IsReadAs}
 use Rattle.session.proofs.InitialStateLemmas.{HeardMessage, TwoHearings}
 use Rattle.session_laws.proofs.RequestReadings.{Does, does_task, reading_of, refused_in, taken_up}
-use Rattle.session.proofs.RequestUniqueness.{AreSameNames}
+use Rattle.session.proofs.RequestUniqueness.{AreSameNames, first_sequence_is, names_once, read_once, topic_once}
+use Rattle.session.proofs.RequestUniqueness.{wait_once}
 use Rattle.session_laws.proofs.PlanUniqueness.{film_at_once, planned_once}
-use Rattle.session.proofs.RequestUniqueness.{first_sequence_is, names_once, read_once, topic_once, wait_once}
 use Rattle.session_laws.proofs.VerdictUniqueness.{AreAlike, passes_of}
 
 -- the slots that were stepped
@@ -191,7 +188,8 @@ offers_in_once : {wait : ℕ} {setup : Setup} {paused : Option Run} (r : TwoRequ
     → OffersReady r.w.old r.request.sequence wait setup paused r.w.ask r.w.one
     → OffersReady r.w.old r.request.sequence wait setup paused r.w.again r.w.other → Agree r.w
 offers_in_once {wait} {setup} {paused} r is its =
-    elim (planned_once r.w.old setup paused None is.planned its.planned is.is_planned its.is_planned) [
+    elim (planned_once (record { old = r.w.old; setup = setup; paused = paused; range = None }) is.planned its.planned
+    is.is_planned its.is_planned) [
       | inl alike ↦ offer_or_once r wait is.planned is.asks
           (subst (λ p. AsksOfferOr r.w.old r.request.sequence wait p r.w.again r.w.other) alike its.asks)
       | inr lacks ↦ elim lacks [
@@ -222,7 +220,8 @@ plays_once r (Ready setup paused) authority is its =
     its.is_planned in
     let asks = subst (λ s. AsksPlayOr r.w.old (play_call s authority setup) its.planned r.w.again r.w.other)
     r.alike.sequence its.asks in
-    elim (planned_once r.w.old setup paused range is.planned its.planned is.is_planned planned) [
+    elim (planned_once (record { old = r.w.old; setup = setup; paused = paused; range = range }) is.planned its.planned
+    is.is_planned planned) [
       | inl alike ↦ play_or_once r authority setup is.planned is.asks
           (subst (λ p. AsksPlayOr r.w.old call p r.w.again r.w.other) alike asks)
       | inr lacks ↦ elim lacks [

@@ -1,8 +1,6 @@
 -- What a session replies to a SETUP that it accepts, to a PLAY that asks for a play, and to a
 -- TEARDOWN of its own.
-use Rattle.std.proofs.Common.{◌≡◌, ◌⊎◌, ℕ, List, codes}
-use Rattle.std.proofs.Common.{Option, Some, None, refl, sym, ap, subst, ◌∙◌, inl, inr}
-use Rattle.std.proofs.lemmas.Option.{same_Some}
+use Rattle.std.proofs.Common.{◌≡◌, ◌⊎◌, ℕ, List, codes, Option, Some, None, refl, sym, ap, subst, ◌∙◌, inl, inr}
 use Rattle.film_frames.specs.declared.stored_films.Stored.{Stored}
 use Rattle.film_run.specs.declared.runs.Run.{Run}
 use Rattle.rtsp_text.specs.Fields.{header_value}
@@ -29,6 +27,7 @@ use Rattle.session.proofs.InitialStateLemmas.{HeardMessage, heard_by}
 use Rattle.session_laws.proofs.RequestReadings.{TakenUp, taken_up}
 use Rattle.session_laws.proofs.SetupLemmas.{HeardCall, Refuses, Settles, call_read, setup_done, task_read}
 use Rattle.session_laws.proofs.PlayInReadyLemmas.{PlayStarted, play_started}
+use Rattle.session_laws.proofs.MethodLemmas.{its_film}
 
 -- a message is a request of this URL, number and head
 pub record IsCall (message method url : List ℕ) (sequence : ℕ) (head : List ℕ) : Type 0 where
@@ -153,12 +152,6 @@ pub record IsOwnTeardown (old : SessionState) (url head : List ℕ) : Type 0 whe
   pub setup_is : setup_in old.state ≡ Some setup
   pub names : Names old.films url authority setup.film
 
-own_film : {setup : Setup} (state : State) → setup_in state ≡ Some setup → IsOwnFilm state setup.film
-own_film Init is = tt
-own_film {setup} (Ready own paused) is = ap (λ (s : Setup). s.film) (sym (same_Some own setup is))
-own_film {setup} (Playing own play) is = ap (λ (s : Setup). s.film) (sym (same_Some own setup is))
-own_film {setup} (Stopping own stop) is = ap (λ (s : Setup). s.film) (sym (same_Some own setup is))
-
 ends_alone : (h : HeardMessage) (sequence : ℕ) → Ends h.old sequence h.ask h.new → IsTornAnswered h.old sequence h.new
 ends_alone h sequence ends = record {
   text = ap (λ (s : SessionState). s.text) ends.1;
@@ -197,7 +190,7 @@ torn_call c may =
         may.authority,
         (
           may.setup.film,
-          record { named = subst N (sym r.url_is) may.names; own = own_film old.state may.setup_is },
+          record { named = subst N (sym r.url_is) may.names; own = its_film old.state may.setup_is },
         ),
       );
       state = tt;

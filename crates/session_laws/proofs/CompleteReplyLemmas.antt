@@ -1,11 +1,7 @@
 -- Each reply of a session is a complete message.
-use Rattle.std.proofs.Common.{◌≡◌, ℕ, ◌+◌, ◌-◌, ◌*◌, ◌^◌, ◌<◌, ◌≤◌, ◌&&◌, Bool, true, suc, zero}
-use Rattle.std.proofs.Common.{nat_lt, nat_le, List, [], ◌∷◌, codes, cond, eqb, get_or}
-use Rattle.std.proofs.Common.{le_refl, length}
-use Rattle.std.proofs.Common.{slice_index, string_bytes, sum, drop, Option, Some, None, Ok}
-use Rattle.std.proofs.Common.{Err, refl, sym, ap}
-use Rattle.std.proofs.Common.{subst}
-use Rattle.std.proofs.Common.{◌∙◌, arith, inl, inr}
+use Rattle.std.proofs.Common.{◌≡◌, ℕ, ◌+◌, ◌-◌, ◌*◌, ◌^◌, ◌<◌, ◌≤◌, ◌&&◌, Bool, true, suc, zero, nat_lt, nat_le, List}
+use Rattle.std.proofs.Common.{[], ◌∷◌, codes, cond, eqb, get_or, le_refl, length, slice_index, string_bytes, sum}
+use Rattle.std.proofs.Common.{drop, Option, Some, None, Ok, Err, refl, sym, ap, subst, ◌∙◌, arith, inl, inr}
 use Rattle.std.specs.Prelude.{IfSome}
 use Rattle.std.specs.List.{list_all}
 use Rattle.std.specs.Str.Parse.{digits_value}
@@ -27,8 +23,7 @@ use Rattle.mpeg_scan.proofs.FilmBoundLemmas.{film-pictures, film-units}
 use Rattle.wire_curve.specs.FilmCurves.{bytes_used_in, due_slot}
 use Rattle.wire_curve.specs.declared.film.CurveRefused.{CurveRefused}
 use Rattle.wire_curve.specs.declared.film.CurveRefused.TheVariants.{Fault, NoMemory}
-use Rattle.wire_curve.specs.declared.film.CurveFault.TheVariants.{NoPictures, TooManySlots}
-use Rattle.wire_curve.specs.declared.film.CurveFault.TheVariants.{BufferTooSmall}
+use Rattle.wire_curve.specs.declared.film.CurveFault.TheVariants.{NoPictures, TooManySlots, BufferTooSmall}
 use Rattle.wire_curve.specs.declared.film.Timing.{Timing}
 use Rattle.wire_curve.specs.CurveFaults.{IsRefused as HaveNoCurves}
 use Rattle.wire_curve.proofs.PictureSums.{sum_by-range-all, sum_by-range-le}
@@ -42,9 +37,8 @@ use Rattle.rtsp_text.specs.Fields.{first_sequence, header_value}
 use Rattle.rtsp_text.specs.Lines.{header_lines}
 use Rattle.rtsp_text.specs.declared.requests.Request.{Request}
 use Rattle.rtsp_text.specs.declared.requests.RequestFault.{RequestFault}
-use Rattle.rtsp_text.specs.declared.requests.RequestFault.TheVariants.{BadLine, BadVersion}
-use Rattle.rtsp_text.specs.declared.requests.RequestFault.TheVariants.{BadHeader, NoSequenceNumber}
-use Rattle.rtsp_text.specs.declared.requests.RequestFault.TheVariants.{BadLength}
+use Rattle.rtsp_text.specs.declared.requests.RequestFault.TheVariants.{BadLine, BadVersion, BadHeader}
+use Rattle.rtsp_text.specs.declared.requests.RequestFault.TheVariants.{NoSequenceNumber, BadLength}
 use Rattle.rtsp_text.proofs.RequestBounds.{read_url}
 use Rattle.rtsp_text.proofs.FirstField.{first_tells, number_tells}
 use Rattle.rtsp_text.proofs.LineBounds.{value_inside}
@@ -62,23 +56,18 @@ use Rattle.film_streams.specs.StreamNumbers.{timestamp_at}
 use Rattle.session.specs.RequestSteps.{Hears, after_offer, new_session_state}
 use Rattle.session.specs.RefusalOrder.{IsJudged, IsReadAs}
 use Rattle.rtsp_methods.specs.RequiredOptions.{first_of, option_of, or_nothing}
-use Rattle.rtsp_methods.specs.Refusals.{fault_refusal}
+use Rattle.rtsp_methods.specs.Refusals.{fault_refusal, curve_refusal}
 use Rattle.session.specs.Methods.{first_number}
 use Rattle.session.specs.RequestedPlans.{IsPlanned}
 use Rattle.session.specs.RunRequests.{playback_of, run_of}
-use Rattle.rtsp_methods.specs.Refusals.{curve_refusal}
 use Rattle.film_streams.specs.SettingRanges.{AreFilms}
-use Rattle.rtsp_replies.specs.Replies.{look_body, offer_body}
-use Rattle.rtsp_replies.specs.Replies.{session_text}
-use Rattle.film_streams.specs.Setups.{IsSetupRead}
-use Rattle.film_streams.specs.Setups.{AreChannelsOf}
+use Rattle.rtsp_replies.specs.Replies.{look_body, offer_body, session_text}
+use Rattle.film_streams.specs.Setups.{IsSetupRead, AreChannelsOf}
 use Rattle.session.specs.SessionStates.{SessionState}
-use Rattle.session_laws.specs.CompleteReplies.{AnswersLook, AnswersPlay}
+use Rattle.session_laws.specs.CompleteReplies.{AnswersLook, AnswersPlay, HasValidIds, LeavesRoom, RepliesAreComplete}
 use Rattle.rtsp_replies.specs.Messages.{IsMessage}
-use Rattle.session_laws.specs.CompleteReplies.{HasValidIds, LeavesRoom, RepliesAreComplete}
 use Rattle.session.proofs.RequestUniqueness.{first_sequence_is}
-use Rattle.rtsp_replies.proofs.ReplyTextLemmas.{IsPrinted, bare_between}
-use Rattle.rtsp_replies.proofs.ReplyTextLemmas.{printed-w64}
+use Rattle.rtsp_replies.proofs.ReplyTextLemmas.{IsPrinted, bare_between, printed-w64}
 use Rattle.session.specs.declared.commands.Ask.TheVariants.{Reply, Halt as AskHalt}
 use Rattle.session.proofs.InitialStateLemmas.{HeardMessage, heard_by}
 use Rattle.session.proofs.RequestCaseAnalysis.{Answer, Replies as RepliesAlone, SetsUp as SettlesSetup, StartsPlay}
@@ -87,16 +76,13 @@ use Rattle.session.proofs.RequestCaseAnalysis.{ToFault, ToRefused, ToDeclined, T
 use Rattle.session.proofs.RequestCaseAnalysis.{ToEmpty, OwnCause, NoSetup, NoPlan, NoMemory as LacksMemory, NoSession}
 use Rattle.session.proofs.RequestCaseAnalysis.{NotInPlaying, NoParameter, TakenTask, answer_to, reply_of}
 use Rattle.session_laws.proofs.PlayInReadyLemmas.{PlayStarted}
-use Rattle.session_laws.proofs.RequestShapes.{AsksLook, AsksOffer, AsksPlay as AsksForPlay, HearsAs}
-use Rattle.session_laws.proofs.RequestShapes.{Replies, SetsUp, Stops}
-use Rattle.session_laws.proofs.RequestShapes.{hears_as}
+use Rattle.session_laws.proofs.RequestShapes.{AsksLook, AsksOffer, AsksPlay as AsksForPlay, HearsAs, Replies, SetsUp}
+use Rattle.session_laws.proofs.RequestShapes.{Stops, hears_as}
 use Rattle.session_laws.proofs.ReplyContentLemmas.{authority_of, few_ms}
-use Rattle.rtsp_replies.proofs.ReplyMessages.{public_whole, session_whole, plain_whole}
-use Rattle.rtsp_replies.proofs.ReplyMessages.{parameters_whole, AreSmall, setup_whole, name_printed}
-use Rattle.rtsp_replies.proofs.ReplyMessages.{describe_whole, IsRepeated, repeats_nothing}
-use Rattle.rtsp_replies.proofs.ReplyMessages.{HasFitLeast, refusal_whole}
-use Rattle.rtsp_replies.proofs.ReplyMessages.{overflow_whole, full_whole, PlayParts, play_whole}
-use Rattle.rtsp_replies.proofs.ReplyMessages.{look_short, offer_short}
+use Rattle.rtsp_replies.proofs.ReplyMessages.{public_whole, session_whole, plain_whole, parameters_whole, AreSmall}
+use Rattle.rtsp_replies.proofs.ReplyMessages.{setup_whole, name_printed, describe_whole, IsRepeated, repeats_nothing}
+use Rattle.rtsp_replies.proofs.ReplyMessages.{HasFitLeast, refusal_whole, overflow_whole, full_whole, PlayParts}
+use Rattle.rtsp_replies.proofs.ReplyMessages.{play_whole, look_short, offer_short}
 
 good_at : (films : List Stored) (number : ℕ) (stored : Stored) → AreFilms films → IsFilmAt films number stored
     → good_name (string_bytes stored.name) ≡ true

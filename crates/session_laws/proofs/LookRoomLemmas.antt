@@ -1,24 +1,20 @@
 -- There is room for the first looks of a connection.
-use Rattle.std.proofs.Common.{◌≡◌, ℕ, ◌+◌, ◌-◌, ◌<◌, ◌≤◌, ◌&&◌, Bool, true, false, cond, List, []}
-use Rattle.std.proofs.Common.{◌∷◌, codes, refl, sym, ap, subst, ◌∙◌, inl}
-use Rattle.std.proofs.Common.{inr, arith}
+use Rattle.std.proofs.Common.{◌≡◌, ℕ, ◌+◌, ◌-◌, ◌<◌, ◌≤◌, ◌&&◌, Bool, true, false, cond, List, [], ◌∷◌, codes, refl}
+use Rattle.std.proofs.Common.{sym, ap, subst, ◌∙◌, inl, inr, arith}
 use Rattle.std.proofs.lemmas.List.Sums.{sum_by-cons}
 use Rattle.session.specs.declared.commands.Ask.{Ask}
 use Rattle.rtsp_methods.specs.declared.topics.Topic.TheVariants.{Booked, Offer as OfferTopic}
 use Rattle.session.specs.RequestSteps.{new_session_state}
 use Rattle.rtsp_methods.specs.Methods.{IsWord}
-use Rattle.session.specs.Laws.{Is500}
-use Rattle.session.specs.LookLaws.{SessionEvent, Message, Admission, Overflow, Full, Halt, Look, Offer}
-use Rattle.session.specs.LookLaws.{Slot, Sending, AreAfter, AsksBooked, HasLooksLeft, IsAfter}
-use Rattle.session.specs.LookLaws.{looks_asked, looks_in, looks_of}
+use Rattle.session.specs.Laws.{Is500, MayRunOutOfMemory}
+use Rattle.session.specs.LookLaws.{SessionEvent, Message, Admission, Overflow, Full, Halt, Look, Offer, Slot, Sending}
+use Rattle.session.specs.LookLaws.{AreAfter, AsksBooked, HasLooksLeft, IsAfter, looks_asked, looks_in, looks_of}
 use Rattle.session.specs.SlotSteps.{after_play, is_between, is_sending, is_taken, sent_due, sent_reply, sent_slot}
 use Rattle.session.specs.SlotSteps.{stepped_in}
 use Rattle.session.specs.SessionStates.{SessionState}
-use Rattle.session.proofs.InitialStateLemmas.{Beginning, HeardMessage}
+use Rattle.session.proofs.InitialStateLemmas.{Beginning, HeardMessage, heard_by}
 use Rattle.session.proofs.RequestUniqueness.{topic_once}
-use Rattle.session.specs.Laws.{MayRunOutOfMemory}
 use Rattle.session.proofs.ReplyCodeLemmas.{hears_may}
-use Rattle.session.proofs.InitialStateLemmas.{heard_by}
 use Rattle.session.proofs.RequestCaseAnalysis.{Answer, Replies, SetsUp, StartsPlay, HaltsPlay, StopsPlay, EndsSession}
 use Rattle.session.proofs.RequestCaseAnalysis.{TakesLook, SeeksOffer, answer_to}
 use Rattle.session_laws.proofs.RequestReadings.{same_request}

@@ -1,6 +1,6 @@
 -- What each method does for a request that nothing refuses.
 use Rattle.std.specs.Prelude.{⊤}
-use Rattle.std.proofs.Common.{◌≡◌, ◌≢◌, ℕ, ◌⊎◌, Bool, true, List, [], ◌∷◌, codes, string_bytes, Option, Some, None}
+use Rattle.std.proofs.Common.{◌≡◌, ◌≢◌, ℕ, ◌⊎◌, Bool, true, List, [], codes, string_bytes, Option, Some, None}
 use Rattle.std.proofs.Common.{is_some, Result, Ok, Err, refl, sym, ap, subst, ◌∙◌, inl, inr, arith}
 use Rattle.vod_base.specs.declared.limits.TheConstants.{MAX_BYTES, MAX_DELAY}
 use Rattle.vod_base.specs.Names.{good_name}
@@ -10,22 +10,20 @@ use Rattle.wire_curve.specs.declared.film.CurveFault.TheVariants.{NoPictures, To
 use Rattle.film_frames.specs.declared.stored_films.Stored.{Stored}
 use Rattle.film_run.specs.declared.runs.Run.{Run}
 use Rattle.rtsp_text.specs.Fields.{header_value}
-use Rattle.rtsp_text.specs.Replies.{reply_text, value_named}
+use Rattle.rtsp_text.specs.Replies.{reply_text}
 use Rattle.rtsp_text.specs.declared.requests.Request.{Request}
 use Rattle.rtsp_fields.specs.declared.transports.Channels.{Channels}
 use Rattle.session.specs.declared.commands.Ask.{Ask}
 use Rattle.rtsp_methods.specs.declared.methods.Method.{Method}
 use Rattle.rtsp_methods.specs.declared.methods.Method.TheVariants.{Options, Describe, Play as PlayMethod, Pause}
-use Rattle.rtsp_methods.specs.declared.methods.Method.TheVariants.{Teardown}
-use Rattle.rtsp_methods.specs.declared.methods.Method.TheVariants.{Setup as SetupMethod, GetParameter}
+use Rattle.rtsp_methods.specs.declared.methods.Method.TheVariants.{Teardown, Setup as SetupMethod, GetParameter}
 use Rattle.rtsp_methods.specs.declared.topics.Topic.{Topic}
 use Rattle.rtsp_methods.specs.declared.topics.Topic.TheVariants.{Nothing, Booked, Offer as OfferTopic}
 use Rattle.rtsp_methods.specs.declared.topics.Topic.TheVariants.{Unknown as OtherTopic}
 use Rattle.session.specs.declared.plans.Planned.{Planned}
 use Rattle.rtsp_methods.specs.declared.refusals.Refusal.{Refusal}
-use Rattle.rtsp_methods.specs.declared.refusals.Refusal.TheVariants.{Session, Film}
-use Rattle.rtsp_methods.specs.declared.refusals.Refusal.TheVariants.{State as NotNow, Transport, Parameter, Buffer}
-use Rattle.rtsp_methods.specs.declared.refusals.Refusal.TheVariants.{Range, Memory}
+use Rattle.rtsp_methods.specs.declared.refusals.Refusal.TheVariants.{Session, Film, State as NotNow, Transport}
+use Rattle.rtsp_methods.specs.declared.refusals.Refusal.TheVariants.{Parameter, Buffer, Range, Memory}
 use Rattle.session.specs.declared.states.Awaited.TheVariants.{Play as ToAwaitPlay}
 use Rattle.film_streams.specs.declared.setups.Setup.{Setup}
 use Rattle.session.specs.declared.states.State.{State}
@@ -33,38 +31,33 @@ use Rattle.session.specs.declared.states.State.TheVariants.{Init, Ready, Playing
 use Rattle.session_laws.specs.EndLaws.{HasSessionInReply}
 use Rattle.film_streams.specs.Films.{Names}
 use Rattle.film_streams.specs.StreamNumbers.{identity_of}
-use Rattle.session_laws.specs.MethodLaws.{AnswersAlone, GivesChannels, GivesNumber, HasBadNumber}
-use Rattle.session_laws.specs.MethodLaws.{IsDescribeRequest, IsFilmDescribed, IsFilmMethod, IsLookAsked}
-use Rattle.session_laws.specs.MethodLaws.{IsOfferAskedOf, IsOptionsAnswered, IsParameterRequest, IsPlainMessage}
-use Rattle.session_laws.specs.MethodLaws.{IsPlayAskedOf, IsPlayConfirmed, IsPlayRequest, IsRefusedFor, IsSetupAnswered}
-use Rattle.session_laws.specs.MethodLaws.{IsSetupRequest, IsUnknownBody, MayNameSession, NamesOtherFilm}
-use Rattle.session_laws.specs.MethodLaws.{NamesSession, PlanRefusal, NoMeaning, NoCurves, SmallBuffer, NoMemory}
-use Rattle.session_laws.specs.MethodLaws.{SettlesSetup, setup_in}
+use Rattle.session_laws.specs.MethodLaws.{AnswersAlone, GivesChannels, GivesNumber, HasBadNumber, IsDescribeRequest}
+use Rattle.session_laws.specs.MethodLaws.{IsFilmDescribed, IsFilmMethod, IsLookAsked, IsOfferAskedOf}
+use Rattle.session_laws.specs.MethodLaws.{IsOptionsAnswered, IsParameterRequest, IsPlainMessage, IsPlayAskedOf}
+use Rattle.session_laws.specs.MethodLaws.{IsPlayConfirmed, IsPlayRequest, IsRefusedFor, IsSetupAnswered}
+use Rattle.session_laws.specs.MethodLaws.{IsSetupRequest, IsUnknownBody, MayNameSession, NamesOtherFilm, NamesSession}
+use Rattle.session_laws.specs.MethodLaws.{PlanRefusal, NoMeaning, NoCurves, SmallBuffer, NoMemory, SettlesSetup}
+use Rattle.session_laws.specs.MethodLaws.{setup_in}
 use Rattle.session.specs.Methods.{AsksOfferOr, AsksPlay, AsksPlayOr, Describes, GetsOffer, GetsParameter, Gets}
-use Rattle.session.specs.Methods.{HasWait, IsRefused}
-use Rattle.session.specs.Methods.{IsReplied, IsSetUp, IsWaitOf, Looks, Plays, PlaysReady, SetsUp, play_call}
-use Rattle.session.specs.Methods.{play_front, prepared_of}
+use Rattle.session.specs.Methods.{HasWait, IsRefused, IsReplied, IsSetUp, IsWaitOf, Looks, Plays, PlaysReady, SetsUp}
+use Rattle.session.specs.Methods.{play_call, play_front, prepared_of, OffersReady}
 use Rattle.session.specs.OfferLaws.{IsLeastBufferReply, IsWaitIn}
 use Rattle.rtsp_replies.specs.PublicLaws.{IsPublicTold}
 use Rattle.session_laws.specs.RefusalLaws.{IsRefusedBy}
 use Rattle.session_laws.specs.ReplyContents.{IsDescribeReply, IsSetupReply}
-use Rattle.session.specs.RefusalOrder.{FitsFilm, FitsSession, IsOwnFilm, IsOwnSession}
-use Rattle.session.specs.RefusalOrder.{IsSpoken, IsTimely}
+use Rattle.session.specs.RefusalOrder.{FitsFilm, FitsSession, IsOwnFilm, IsOwnSession, IsSpoken, IsTimely}
 use Rattle.rtsp_methods.specs.RequiredOptions.{first_of}
-use Rattle.rtsp_methods.specs.Methods.{IsTopic, IsWord}
-use Rattle.rtsp_methods.specs.Methods.{name_of}
-use Rattle.rtsp_replies.specs.Replies.{code_of, field, plain_text, public_text, refusal_fields, refusal_text}
-use Rattle.rtsp_replies.specs.Replies.{session_text}
+use Rattle.rtsp_methods.specs.Methods.{IsTopic, IsWord, name_of}
+use Rattle.rtsp_replies.specs.Replies.{code_of, plain_text, public_text, refusal_fields, refusal_text, session_text}
 use Rattle.session.specs.RequestedPlans.{HasNoPlan, IsPlanned}
 use Rattle.rtsp_methods.specs.Refusals.{curve_refusal}
 use Rattle.film_streams.specs.SettingRanges.{AreFilms}
-use Rattle.film_streams.specs.Setups.{IsSetupRead}
-use Rattle.film_streams.specs.Setups.{AreChannelsOf, HasChannels, IsChosen}
+use Rattle.film_streams.specs.Setups.{IsSetupRead, AreChannelsOf, HasChannels, IsChosen}
 use Rattle.session.specs.SessionStates.{SessionState, has_session_in, with_reply}
 use Rattle.session.proofs.InitialStateLemmas.{HeardMessage, PlayInHand}
 use Rattle.session_laws.proofs.RequestReadings.{TakenUp, taken_up}
-use Rattle.session.specs.Methods.{OffersReady}
-use Rattle.session_laws.proofs.OfferLemmas.{least_told, offer_asked}
+use Rattle.session_laws.proofs.OfferLemmas.{least_told, offer_asked, wait_in}
+use Rattle.session_laws.proofs.PauseTeardownLemmas.{session_told}
 use Rattle.session_laws.proofs.PlanUniqueness.{film_at_once, planned_once}
 use Rattle.session_laws.proofs.RefusalLawLemmas.{refused_by}
 use Rattle.session_laws.proofs.ReplyContentLemmas.{film_told, setup_told}
@@ -88,7 +81,7 @@ exists_in (Ready own paused) setup is = refl
 exists_in (Playing own play) setup is = refl
 exists_in (Stopping own stop) setup is = refl
 
-own_film : (s : State) (film : ℕ) → ((setup : Setup) → setup_in s ≡ Some setup → film ≡ setup.film) → IsOwnFilm s film
+pub own_film : (s : State) (film : ℕ) → ((setup : Setup) → setup_in s ≡ Some setup → film ≡ setup.film) → IsOwnFilm s film
 own_film Init film own = tt
 own_film (Ready setup paused) film own = own setup refl
 own_film (Playing setup play) film own = own setup refl
@@ -96,6 +89,11 @@ own_film (Stopping setup stop) film own = own setup refl
 
 setup_once : (one other : Setup) → Some one ≡ Some other → one ≡ other
 setup_once one other is = cc
+
+-- the session's film is its own
+pub its_film : {setup : Setup} (s : State) → setup_in s ≡ Some setup → IsOwnFilm s setup.film
+its_film {setup} s set =
+    own_film s setup.film (λ other its. ap (λ (t : Setup). t.film) (setup_once setup other (sym set ∙ its)))
 
 film_of : (s : State) (setup : Setup) (film : ℕ) → setup_in s ≡ Some setup → IsOwnFilm s film → film ≡ setup.film
 film_of Init setup film is own = absurd (let no : ⊥ = cc in no)
@@ -137,10 +135,6 @@ refused_alike : {request other : Request} (h : HeardMessage) (refusal : Refusal)
 refused_alike {other} h refusal alike is =
     subst (λ n. IsRefusedBy h.old (code_of refusal) n h.ask h.new) alike.sequence
     (refused_as h other.sequence refusal is)
-
-session_told : (sequence : ℕ) (id : List ℕ) → HasSessionInReply sequence id (session_text sequence id)
-unfolding value_named
-session_told sequence id = record { fields = field (codes "Session") id ∷ []; text_is = refl; session = refl }
 
 -- ---- OPTIONS
 
@@ -310,11 +304,7 @@ play_taken h request setup is set timely =
         is.authority,
         (
           setup.film,
-          record {
-            named = is.named;
-            own = own_film h.old.state setup.film (λ other its.
-                ap (λ (t : Setup). t.film) (setup_once setup other (sym set ∙ its)));
-          },
+          record { named = is.named; own = its_film h.old.state set },
         ),
       );
       state = timely;
@@ -506,7 +496,8 @@ play_asked {given} h r is run =
       | Ok planned ↦ λ its asks. planned_done p its asks
       | Err refusal ↦ λ its refused.
           let memory : refusal ≡ Memory = memory_of {refusal = refusal} {planned = given} (Ok given) (Err refusal) refl
-          refl (planned_once h.old r.setup r.paused range (Ok given) (Err refusal) run its) in
+          refl (planned_once (record { old = h.old; setup = r.setup; paused = r.paused; range = range }) (Ok given) (Err refusal)
+          run its) in
           inr (refused_alike h Memory p.alike
           (subst (λ (x : Refusal). IsRefused h.old (Some p.other.sequence) x [] h.ask h.new) memory refused))
     ]) p.is_planned p.asks
@@ -619,12 +610,6 @@ offer_playing h request offer hand =
     let t = offer_taken h request (Playing hand.setup hand.play) hand.playing offer in
     refused_alike h NotNow t.alike t.gets
 
-wait_of : {head : List ℕ} {wait : ℕ} (value : Option (List ℕ)) → header_value head (codes "x-Wait") ≡ value
-    → IsWaitOf value wait → IsWaitIn head wait
-wait_of None is its = absurd its
-wait_of (Some text) is its =
-    record { text = text; named = is; number_is = its.is_number; fits = omega (arith, its.below) }
-
 has_wait : {head : List ℕ} {wait : ℕ} → IsWaitIn head wait → HasWait head wait
 has_wait {wait} is = subst (λ (v : Option (List ℕ)). IsWaitOf v wait) (sym is.named) (record {
   is_number = is.number_is;
@@ -639,7 +624,7 @@ offer_no_wait h r offer none =
     elim t.gets [
       | inl short ↦ refused_alike h Parameter t.alike short.refused
       | inr offers ↦ absurd (none offers.wait (subst (λ (x : List ℕ). IsWaitIn x offers.wait) t.alike.head
-          (wait_of (header_value t.other.head.now (codes "x-Wait")) refl offers.has_wait)))
+          (wait_in t.other.head.now (header_value t.other.head.now (codes "x-Wait")) offers.wait refl offers.has_wait)))
     ]
 
 offers_done : {n wait : ℕ} {setup : Setup} {paused : Option Run} (h : HeardMessage)
@@ -677,33 +662,6 @@ offer_ready h r wait offer waits =
 
 -- ---- another film
 
-abbrev IsOfFilm : Method → Type 0
-IsOfFilm Options = ⊥
-IsOfFilm Describe = ⊥
-IsOfFilm SetupMethod = ⊤
-IsOfFilm PlayMethod = ⊤
-IsOfFilm Pause = ⊤
-IsOfFilm Teardown = ⊤
-IsOfFilm GetParameter = ⊤
-
-not_options : (m : Method) → IsOfFilm m → m ≢ Options
-not_options Options of = λ same. of
-not_options Describe of = λ same. of
-not_options SetupMethod of = λ same. let no : ⊥ = cc in no
-not_options PlayMethod of = λ same. let no : ⊥ = cc in no
-not_options Pause of = λ same. let no : ⊥ = cc in no
-not_options Teardown of = λ same. let no : ⊥ = cc in no
-not_options GetParameter of = λ same. let no : ⊥ = cc in no
-
-own_of : (m : Method) (s : State) (film : ℕ) → IsOfFilm m → FitsFilm m s film → IsOwnFilm s film
-own_of Options s film of fits = absurd of
-own_of Describe s film of fits = absurd of
-own_of SetupMethod s film of fits = fits
-own_of PlayMethod s film of fits = fits
-own_of Pause s film of fits = fits
-own_of Teardown s film of fits = fits
-own_of GetParameter s film of fits = fits
-
 pub fits_session : {id head : List ℕ} (m : Method) (exists : Bool) → exists ≡ true → NamesSession id head
     → FitsSession m exists id (header_value head (codes "Session"))
 fits_session Options exists is names = tt
@@ -721,40 +679,39 @@ pub record NamesOther (h : HeardMessage) (request : Request) : Type 0 where
   pub session : NamesSession h.old.id request.head.now
   pub other : NamesOtherFilm h.old.films request.url.now setup.film
 
-other_film : (h : HeardMessage) (request : Request) (m : Method) → IsOfFilm m
-    → IsPlainMessage h.message (name_of m) request → NamesOther h request
-    → IsRefusedBy h.old 404 request.sequence h.ask h.new
-other_film h request m of plain names =
-    refused_by (record { heard = h; request = request; is = plain.is_request }) Film (record {
-      method = m;
-      talk = record {
-        spoken = spoken_of m plain;
-        session = fits_session m (has_session_in h.old.state) (exists_in h.old.state setup set) session;
-      };
-      asked = not_options m of;
-      none = λ has. other has.0 has.1.0 has.1.1.named
-          (film_of h.old.state setup has.1.0 set (own_of m h.old.state has.1.0 of has.1.1.own));
-    })
-  where
-    open names use {setup, set, session, other}
-
--- a method of a film, by its name
+-- a method that is asked of the session's film
 record FilmMethod (method : List ℕ) : Type 0 where
   m : Method
-  of : IsOfFilm m
+  asks : m ≢ Options
+  own : (s : State) (film : ℕ) → FitsFilm m s film → IsOwnFilm s film
   name_is : method ≡ name_of m
 
 film_method : (method : List ℕ) → IsFilmMethod method → FilmMethod method
-film_method method (inl is) = record { m = SetupMethod; of = tt; name_is = is }
-film_method method (inr (inl is)) = record { m = PlayMethod; of = tt; name_is = is }
-film_method method (inr (inr (inl is))) = record { m = Pause; of = tt; name_is = is }
-film_method method (inr (inr (inr (inl is)))) = record { m = Teardown; of = tt; name_is = is }
-film_method method (inr (inr (inr (inr is)))) = record { m = GetParameter; of = tt; name_is = is }
+film_method method (inl is) =
+    record { m = SetupMethod; asks = λ same. cc; own = λ s film fits. fits; name_is = is }
+film_method method (inr (inl is)) =
+    record { m = PlayMethod; asks = λ same. cc; own = λ s film fits. fits; name_is = is }
+film_method method (inr (inr (inl is))) =
+    record { m = Pause; asks = λ same. cc; own = λ s film fits. fits; name_is = is }
+film_method method (inr (inr (inr (inl is)))) =
+    record { m = Teardown; asks = λ same. cc; own = λ s film fits. fits; name_is = is }
+film_method method (inr (inr (inr (inr is)))) =
+    record { m = GetParameter; asks = λ same. cc; own = λ s film fits. fits; name_is = is }
 
 pub film_not_found : (h : HeardMessage) (method : List ℕ) (request : Request)
     → IsPlainMessage h.message method request → IsFilmMethod method → NamesOther h request
     → IsRefusedBy h.old 404 request.sequence h.ask h.new
 film_not_found h method request plain is names =
-    let own = film_method method is in
-    other_film h request own.m own.of (subst (λ (x : List ℕ). IsPlainMessage h.message x request) own.name_is plain)
-    names
+    let of = film_method method is in
+    refused_by (record { heard = h; request = request; is = plain.is_request }) Film (record {
+      method = of.m;
+      talk = record {
+        spoken = spoken_of of.m (subst (λ (x : List ℕ). IsPlainMessage h.message x request) of.name_is plain);
+        session = fits_session of.m (has_session_in h.old.state) (exists_in h.old.state setup set) session;
+      };
+      asked = of.asks;
+      none = λ has. other has.0 has.1.0 has.1.1.named
+          (film_of h.old.state setup has.1.0 set (of.own h.old.state has.1.0 has.1.1.own));
+    })
+  where
+    open names use {setup, set, session, other}

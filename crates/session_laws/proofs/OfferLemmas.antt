@@ -1,7 +1,6 @@
 -- What an offer asks for and reports, and the least buffer.
-use Rattle.std.proofs.Common.{◌≡◌, ℕ, List, [], ◌∷◌, ◌++◌, map, flat_map, length}
-use Rattle.std.proofs.Common.{codes, decimal, Option, Some, None, append_assoc}
-use Rattle.std.proofs.Common.{refl, sym, ap, subst, ◌∙◌, arith}
+use Rattle.std.proofs.Common.{◌≡◌, ℕ, List, [], ◌∷◌, ◌++◌, map, flat_map, length, codes, decimal, Option, Some, None}
+use Rattle.std.proofs.Common.{append_assoc, refl, sym, ap, subst, ◌∙◌, arith}
 use Rattle.std.proofs.lemmas.List.Concat.{flat_map-cons}
 use Rattle.plan_cert.specs.declared.Segment.{Segment}
 use Rattle.wire_curve.specs.declared.film.Timing.{Timing}
@@ -22,8 +21,7 @@ use Rattle.rtsp_methods.specs.declared.refusals.Refusal.TheVariants.{Buffer}
 use Rattle.film_streams.specs.declared.setups.Setup.{Setup}
 use Rattle.session.specs.RequestSteps.{after_offer}
 use Rattle.session.specs.Methods.{IsWaitOf}
-use Rattle.session.specs.OfferLaws.{IsLeastBuffer, IsLeastBufferReply, IsOfferAsked, IsOfferReply}
-use Rattle.session.specs.OfferLaws.{IsWaitIn}
+use Rattle.session.specs.OfferLaws.{IsLeastBuffer, IsLeastBufferReply, IsOfferAsked, IsOfferReply, IsWaitIn}
 use Rattle.session.specs.OfferLaws.{found_line, tried_line}
 use Rattle.session.specs.RequestedPlans.{HasNoPlan}
 use Rattle.session.specs.RunRequests.{playback_of, run_of}
@@ -36,7 +34,7 @@ use Rattle.session.proofs.RequestCaseAnalysis.{TakesLook, SeeksOffer, answer_to}
 
 -- ---- what is asked
 
-wait_in : (head : List ℕ) (value : Option (List ℕ)) (wait : ℕ) → header_value head (codes "x-Wait") ≡ value
+pub wait_in : (head : List ℕ) (value : Option (List ℕ)) (wait : ℕ) → header_value head (codes "x-Wait") ≡ value
     → IsWaitOf value wait → IsWaitIn head wait
 wait_in head None wait same is = absurd is
 wait_in head (Some text) wait same is =
@@ -89,17 +87,7 @@ start_is (Some start) = refl
 over_lines : (s a b c : List ℕ)
     → joined_parts (codes "x-Over: " ∷ s ∷ codes " " ∷ a ∷ codes " " ∷ b ∷ codes " " ∷ c ∷ codes "\r\n" ∷ [])
     ≡ (codes "x-Over: " ++ (s ++ (codes " " ++ (a ++ (codes " " ++ (b ++ (codes " " ++ c))))))) ++ codes "\r\n"
-over_lines s a b c =
-    let end = codes "\r\n" in
-    let third : (b ++ (codes " " ++ c)) ++ end ≡ b ++ (codes " " ++ (c ++ end)) = append_assoc b (codes " " ++ c) end in
-    let second : (a ++ (codes " " ++ (b ++ (codes " " ++ c)))) ++ end ≡ a ++
-    (codes " " ++ (b ++ (codes " " ++ (c ++ end)))) =
-    append_assoc a (codes " " ++ (b ++ (codes " " ++ c))) end ∙ ap (λ l. a ++ (codes " " ++ l)) third in
-    let first : (s ++ (codes " " ++ (a ++ (codes " " ++ (b ++ (codes " " ++ c)))))) ++ end
-    ≡ s ++ (codes " " ++ (a ++ (codes " " ++ (b ++ (codes " " ++ (c ++ end)))))) =
-    append_assoc s (codes " " ++ (a ++ (codes " " ++ (b ++ (codes " " ++ c))))) end ∙ ap
-    (λ l. s ++ (codes " " ++ l)) second in
-    sym (ap (λ l. codes "x-Over: " ++ l) first)
+over_lines s a b c = simp append_assoc
 
 over_is : (tried : Tried) → over_line tried ≡ tried_line tried ++ codes "\r\n"
 over_is tried =

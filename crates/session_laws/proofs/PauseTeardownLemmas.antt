@@ -1,6 +1,6 @@
 -- What a PAUSE and a TEARDOWN come to.
-use Rattle.std.proofs.Common.{◌≡◌, ℕ, ◌⊎◌, ◌&&◌, Bool, true, false, cond, List, [], ◌∷◌, Some, codes}
-use Rattle.std.proofs.Common.{refl, sym, ap, subst, ◌∙◌, inl, inr}
+use Rattle.std.proofs.Common.{◌≡◌, ℕ, ◌⊎◌, ◌&&◌, Bool, true, false, cond, List, [], ◌∷◌, Some, codes, refl, sym, ap}
+use Rattle.std.proofs.Common.{subst, ◌∙◌, inl, inr}
 use Rattle.pacer.specs.PacerStates.{next_boundary}
 use Rattle.rtsp_text.specs.Replies.{value_named}
 use Rattle.rtsp_text.specs.declared.requests.Request.{Request}
@@ -13,34 +13,31 @@ use Rattle.session.specs.declared.states.Play.{Play as Played}
 use Rattle.film_streams.specs.declared.setups.Setup.{Setup}
 use Rattle.session.specs.declared.states.State.{State}
 use Rattle.session.specs.declared.states.State.TheVariants.{Init, Ready, Playing, Stopping}
-use Rattle.session_laws.specs.EndLaws.{CanBePaused, CanBeTornDown, EndsSession, HaltsPlay, HasTeardown}
-use Rattle.session_laws.specs.EndLaws.{IsPausedPlay, IsPause, HasSessionInReply, IsTeardownHeard}
-use Rattle.session.specs.Laws.{IsTeardown}
-use Rattle.session_laws.specs.EndLaws.{IsTornDown}
+use Rattle.session_laws.specs.EndLaws.{CanBePaused, CanBeTornDown, EndsSession, HaltsPlay, HasTeardown, IsPausedPlay}
+use Rattle.session_laws.specs.EndLaws.{IsPause, HasSessionInReply, IsTeardownHeard, IsTornDown}
+use Rattle.session.specs.Laws.{IsTeardown, stage_of}
 use Rattle.session.specs.RequestSteps.{Hears, after_halt, is_torn, new_session_state}
 use Rattle.rtsp_methods.specs.declared.methods.Method.{Method}
 use Rattle.rtsp_methods.specs.declared.methods.Method.TheVariants.{Pause, Teardown}
 use Rattle.rtsp_methods.specs.RequiredOptions.{option_of}
-use Rattle.session.specs.Laws.{stage_of}
 use Rattle.session.specs.LookLaws.{SessionEvent, Message, Admission, Overflow, Full, Halt, Look, Offer, Slot, Sending}
 use Rattle.session.specs.LookLaws.{AreAfter, IsAfter}
 use Rattle.session.specs.Methods.{AsksHalt, Ends, Pauses, TearsDown}
 use Rattle.session_laws.specs.PlayLaws.{IsDeclined}
 use Rattle.rtsp_replies.specs.Replies.{field, session_text}
 use Rattle.session.specs.SlotSteps.{after_play, is_between, is_done_in, is_sending, is_taken, next_of, sent_due}
-use Rattle.session.specs.SlotSteps.{sent_in}
-use Rattle.session.specs.SlotSteps.{sent_reply, sent_slot, stepped_in}
+use Rattle.session.specs.SlotSteps.{sent_in, sent_reply, sent_slot, stepped_in}
 use Rattle.session.specs.SessionStates.{SessionState, is_playing_in}
 use Rattle.session.proofs.InitialStateLemmas.{Beginning, HeardMessage, heard_by}
 use Rattle.session.proofs.RequestCaseAnalysis.{Answer, Replies, SetsUp, StartsPlay, StopsPlay, TakesLook}
-use Rattle.session.proofs.RequestCaseAnalysis.{HaltsPlay as PausesIt}
-use Rattle.session.proofs.RequestCaseAnalysis.{EndsSession as EndsAlone, SeeksOffer, answer_to, is_teardown}
+use Rattle.session.proofs.RequestCaseAnalysis.{HaltsPlay as PausesIt, EndsSession as EndsAlone, SeeksOffer, answer_to}
+use Rattle.session.proofs.RequestCaseAnalysis.{is_teardown}
 use Rattle.session_laws.proofs.RequestReadings.{HeardMethod, IsStopped, IsTakenUp, TakenUp, heard_method, taken_up}
 use Rattle.session_laws.proofs.RangeInPlayingLemmas.{refused}
 
 -- ---- what each method comes to
 
-session_told : (sequence : ℕ) (id : List ℕ) → HasSessionInReply sequence id (session_text sequence id)
+pub session_told : (sequence : ℕ) (id : List ℕ) → HasSessionInReply sequence id (session_text sequence id)
 unfolding value_named
 session_told sequence id = record { fields = field (codes "Session") id ∷ []; text_is = refl; session = refl }
 

@@ -29,10 +29,9 @@ use Rattle.session.specs.declared.play_requests.PlayRequest.{PlayRequest}
 use Rattle.session.specs.declared.play_requests.PlayRequest.TheVariants.{Resumed, New}
 use Rattle.film_streams.specs.Films.{IsFilmAt}
 use Rattle.session.specs.RequestedPlans.{HasNoPlan, HasNoRun, IsPlanned, IsPlannedRun}
-use Rattle.session.specs.RunRequests.{IsAskedRun, IsNoRange, IsRequestFor, RequestsNothing, counts_for}
-use Rattle.rtsp_methods.specs.Refusals.{curve_refusal}
-use Rattle.session.specs.RunRequests.{playback_of}
+use Rattle.session.specs.RunRequests.{IsAskedRun, IsNoRange, IsRequestFor, RequestsNothing, counts_for, playback_of}
 use Rattle.session.specs.RunRequests.{run_of}
+use Rattle.rtsp_methods.specs.Refusals.{curve_refusal}
 use Rattle.session.specs.SessionStates.{SessionState}
 use Rattle.session.proofs.ResumedPlayLemmas.{span_of_once}
 
@@ -188,94 +187,118 @@ accepted_once sizes timing (Fault (BufferTooSmall slot used least)) is its =
     let used_is = over.used_is in
     absurd (omega (arith, holds, above, used_is))
 
-module _ (old : SessionState) (setup : Setup) (paused : Option Run) (range : Option (List ℕ)) where
-  planned_run_once : (stored stored' : Stored) (one other : Planned) → IsPlannedRun old stored setup paused range one
-      → IsPlannedRun old stored' setup paused range other → other ≡ one
-  planned_run_once stored stored' one other is that =
-      let film = film_at_once old.films setup.film stored stored' is.at that.at in
-      let its = subst (λ (s : Stored). IsPlannedRun old s setup paused range other) film that in
-      let sizes = stored_sizes stored in
-      let playback = playback_of stored.film old.settings setup in
-      let wanted = asked_run_once is.asked its.asked in
-      let run : other.run ≡ one.run = its.run_is ∙ ap run_of wanted ∙ sym is.run_is in
-      let counts : other.counts ≡ one.counts =
-      its.counts_is ∙ ap (λ w. counts_for stored.film old.source setup old.counts paused w) wanted ∙ sym is.counts_is in
-      let plan : other.plan ≡ one.plan =
-      sending-one sizes playback one.run one.plan (record { can_play = is.can_play; plan_is = is.plan_is })
-      other.plan (subst (λ (r : Run). IsPlanOf sizes playback r other.plan) run its.plan_is) in
-      let P : Run → Counts → List Segment → Planned = λ r c p. record { run = r; counts = c; plan = p } in
-      ap (λ r. P r other.counts other.plan) run ∙ ap (λ c. P one.run c other.plan) counts ∙ ap
-      (λ p. P one.run one.counts p) plan
+-- a plan that is asked for: of a session, with what it settled, its paused run and a Range
+pub record PlanAsked : Type 0 where
+  pub old : SessionState
+  pub setup : Setup
+  pub paused : Option Run
+  pub range : Option (List ℕ)
 
-  -- a plan, and none
-  plan_or_none : (stored : Stored) (planned : Planned) (refusal : Refusal)
-      → IsPlannedRun old stored setup paused range planned
-      → HasNoRun old setup paused range refusal ⊎ HasNoPlan old setup paused range refusal → refusal ≡ Memory
-  plan_or_none stored planned refusal is (inl none) =
-      let film = film_at_once old.films setup.film stored none.stored is.at none.at in
-      absurd (asks_some stored.film paused range is.wanted is.asked
-      (subst (λ (s : Stored). IsNoRange s.film paused range) film none.none))
-  plan_or_none stored planned refusal is (inr that) =
-      let film = film_at_once old.films setup.film stored that.stored is.at that.at in
-      let asked = subst (λ (s : Stored). IsAskedRun s.film paused range that.wanted) film that.asked in
-      let wanted : run_of that.wanted ≡ planned.run =
-      ap run_of (asked_run_once is.asked asked) ∙ sym is.run_is in
-      let own = subst (λ (s : Stored). IsRefused (rest_sizes (stored_sizes s) (run_of that.wanted))
-      (timing_of (playback_of s.film old.settings setup) (run_of that.wanted)) that.refused) film that.no_curves in
-      let none = subst (λ (r : Run). IsRefused (rest_sizes (stored_sizes stored) r)
-      (timing_of (playback_of stored.film old.settings setup) r) that.refused) wanted own in
-      that.refusal_is ∙ accepted_once (rest_sizes (stored_sizes stored) planned.run)
-      (timing_of (playback_of stored.film old.settings setup) planned.run) that.refused is.plan_is.accepted none
+abbrev HasNoCurvesFor : PlanAsked → Stored → Run → CurveRefused → Type 0
+HasNoCurvesFor p stored run refused = IsRefused (rest_sizes (stored_sizes stored) run)
+    (timing_of (playback_of stored.film p.old.settings p.setup) run) refused
 
-  no_plan_once : (one other : Refusal) → HasNoPlan old setup paused range one → HasNoPlan old setup paused range other
-      → (other ≡ one) ⊎ ((one ≡ Memory) ⊎ (other ≡ Memory))
-  no_plan_once one other is that =
-      let film = film_at_once old.films setup.film is.stored that.stored is.at that.at in
-      let asked = subst (λ (s : Stored). IsAskedRun s.film paused range that.wanted) film that.asked in
-      let wanted : run_of that.wanted ≡ run_of is.wanted =
-      ap run_of (asked_run_once is.asked asked) in
-      let own = subst (λ (s : Stored). IsRefused (rest_sizes (stored_sizes s) (run_of that.wanted))
-      (timing_of (playback_of s.film old.settings setup) (run_of that.wanted)) that.refused) film that.no_curves in
-      let none = subst (λ (r : Run). IsRefused (rest_sizes (stored_sizes is.stored) r)
-      (timing_of (playback_of is.stored.film old.settings setup) r) that.refused) wanted own in
-      elim (curves_once (rest_sizes (stored_sizes is.stored) (run_of is.wanted))
-      (timing_of (playback_of is.stored.film old.settings setup)
-      (run_of is.wanted)) is.refused that.refused is.no_curves none) [
-        | inl same ↦ inl (that.refusal_is ∙ same ∙ sym is.refusal_is)
-        | inr lacks ↦ elim lacks [
-          | inl first ↦ inr (inl (is.refusal_is ∙ first))
-          | inr second ↦ inr (inr (that.refusal_is ∙ second))
-        ]
+-- why there is none, of the session's film
+record NoPlanOf (p : PlanAsked) (stored : Stored) (refusal : Refusal) : Type 0 where
+  wanted : PlayRequest
+  asked : IsAskedRun stored.film p.paused p.range wanted
+  refused : CurveRefused
+  no_curves : HasNoCurvesFor p stored (run_of wanted) refused
+  refusal_is : refusal ≡ curve_refusal refused
+
+no_plan_of : {p : PlanAsked} {refusal : Refusal} (stored : Stored) → IsFilmAt p.old.films p.setup.film stored
+    → HasNoPlan p.old p.setup p.paused p.range refusal → NoPlanOf p stored refusal
+no_plan_of {p} stored at is =
+    let film = film_at_once p.old.films p.setup.film stored is.stored at is.at in
+    record {
+      wanted = is.wanted;
+      asked = subst (λ (s : Stored). IsAskedRun s.film p.paused p.range is.wanted) film is.asked;
+      refused = is.refused;
+      no_curves = subst (λ (s : Stored). HasNoCurvesFor p s (run_of is.wanted) is.refused) film is.no_curves;
+      refusal_is = is.refusal_is;
+    }
+
+-- of the run that is asked for
+same_curves : {p : PlanAsked} {stored : Stored} {refusal : Refusal} {run : Run} (n : NoPlanOf p stored refusal)
+    → run_of n.wanted ≡ run → HasNoCurvesFor p stored run n.refused
+same_curves {p} {stored} n same = subst (λ r. HasNoCurvesFor p stored r n.refused) same n.no_curves
+
+no_range_of : (p : PlanAsked) (stored : Stored) (refusal : Refusal) → IsFilmAt p.old.films p.setup.film stored
+    → HasNoRun p.old p.setup p.paused p.range refusal → IsNoRange stored.film p.paused p.range
+no_range_of p stored refusal at is =
+    subst (λ (s : Stored). IsNoRange s.film p.paused p.range)
+    (film_at_once p.old.films p.setup.film stored is.stored at is.at) is.none
+
+planned_run_once : (p : PlanAsked) (one other : Planned) → IsPlanned p.old p.setup p.paused p.range (Ok one)
+    → IsPlanned p.old p.setup p.paused p.range (Ok other) → other ≡ one
+planned_run_once p one other given again =
+    let stored = given.0 in
+    let is = given.1 in
+    let film = film_at_once p.old.films p.setup.film stored again.0 is.at again.1.at in
+    let its = subst (λ (s : Stored). IsPlannedRun p.old s p.setup p.paused p.range other) film again.1 in
+    let sizes = stored_sizes stored in
+    let playback = playback_of stored.film p.old.settings p.setup in
+    let wanted = asked_run_once is.asked its.asked in
+    let run : other.run ≡ one.run = its.run_is ∙ ap run_of wanted ∙ sym is.run_is in
+    let counts : other.counts ≡ one.counts =
+    its.counts_is ∙ ap (λ w. counts_for stored.film p.old.source p.setup p.old.counts p.paused w) wanted
+    ∙ sym is.counts_is in
+    let plan : other.plan ≡ one.plan =
+    sending-one sizes playback one.run one.plan (record { can_play = is.can_play; plan_is = is.plan_is })
+    other.plan (subst (λ (r : Run). IsPlanOf sizes playback r other.plan) run its.plan_is) in
+    let P : Run → Counts → List Segment → Planned = λ r c p. record { run = r; counts = c; plan = p } in
+    ap (λ r. P r other.counts other.plan) run ∙ ap (λ c. P one.run c other.plan) counts ∙ ap
+    (λ p. P one.run one.counts p) plan
+
+-- a plan, and none
+plan_or_none : (p : PlanAsked) (planned : Planned) (refusal : Refusal)
+    → IsPlanned p.old p.setup p.paused p.range (Ok planned) → IsPlanned p.old p.setup p.paused p.range (Err refusal)
+    → refusal ≡ Memory
+plan_or_none p planned refusal given (inl none) =
+    absurd (asks_some given.0.film p.paused p.range given.1.wanted given.1.asked
+    (no_range_of p given.0 refusal given.1.at none))
+plan_or_none p planned refusal given (inr that) =
+    let stored = given.0 in
+    let is = given.1 in
+    let n = no_plan_of {p = p} stored is.at that in
+    n.refusal_is ∙ accepted_once (rest_sizes (stored_sizes stored) planned.run)
+    (timing_of (playback_of stored.film p.old.settings p.setup) planned.run) n.refused is.plan_is.accepted
+    (same_curves n (ap run_of (asked_run_once is.asked n.asked) ∙ sym is.run_is))
+
+no_plan_once : (p : PlanAsked) (one other : Refusal) → HasNoPlan p.old p.setup p.paused p.range one
+    → HasNoPlan p.old p.setup p.paused p.range other → (other ≡ one) ⊎ ((one ≡ Memory) ⊎ (other ≡ Memory))
+no_plan_once p one other is that =
+    let n = no_plan_of {p = p} is.stored is.at that in
+    elim (curves_once (rest_sizes (stored_sizes is.stored) (run_of is.wanted))
+    (timing_of (playback_of is.stored.film p.old.settings p.setup)
+    (run_of is.wanted)) is.refused n.refused is.no_curves (same_curves n (ap run_of (asked_run_once is.asked n.asked)))) [
+      | inl same ↦ inl (n.refusal_is ∙ same ∙ sym is.refusal_is)
+      | inr lacks ↦ elim lacks [
+        | inl first ↦ inr (inl (is.refusal_is ∙ first))
+        | inr second ↦ inr (inr (n.refusal_is ∙ second))
       ]
+    ]
 
-  refused_once : (one other : Refusal) → HasNoRun old setup paused range one ⊎ HasNoPlan old setup paused range one
-      → HasNoRun old setup paused range other ⊎ HasNoPlan old setup paused range other
-      → (other ≡ one) ⊎ ((one ≡ Memory) ⊎ (other ≡ Memory))
-  refused_once one other (inl is) (inl its) = inl (its.refusal_is ∙ sym is.refusal_is)
-  refused_once one other (inl is) (inr its) =
-      let film = film_at_once old.films setup.film is.stored its.stored is.at its.at in
-      absurd (asks_some is.stored.film paused range its.wanted
-      (subst (λ (s : Stored). IsAskedRun s.film paused range its.wanted) film its.asked) is.none)
-  refused_once one other (inr is) (inl its) =
-      let film = film_at_once old.films setup.film is.stored its.stored is.at its.at in
-      absurd (asks_some is.stored.film paused range is.wanted is.asked
-      (subst (λ (s : Stored). IsNoRange s.film paused range) film its.none))
-  refused_once one other (inr is) (inr its) = no_plan_once one other is its
+refused_once : (p : PlanAsked) (one other : Refusal) → IsPlanned p.old p.setup p.paused p.range (Err one)
+    → IsPlanned p.old p.setup p.paused p.range (Err other) → (other ≡ one) ⊎ ((one ≡ Memory) ⊎ (other ≡ Memory))
+refused_once p one other (inl is) (inl its) = inl (its.refusal_is ∙ sym is.refusal_is)
+refused_once p one other (inl is) (inr its) =
+    absurd (asks_some its.stored.film p.paused p.range its.wanted its.asked (no_range_of p its.stored one its.at is))
+refused_once p one other (inr is) (inl its) =
+    absurd (asks_some is.stored.film p.paused p.range is.wanted is.asked (no_range_of p is.stored other is.at its))
+refused_once p one other (inr is) (inr its) = no_plan_once p one other is its
 
-  -- one run with one plan, or one refusal, or out of memory
-  pub planned_once : (one other : Result Planned Refusal) → IsPlanned old setup paused range one
-      → IsPlanned old setup paused range other
-      → (other ≡ one) ⊎ ((one ≡ Err Memory) ⊎ (other ≡ Err Memory))
-  planned_once (Ok one) (Ok other) is its = inl (ap (λ p. Ok p) (planned_run_once is.0 its.0 one other is.1 its.1))
-  planned_once (Ok one) (Err other) is its = inr (inr (ap (λ r. Err r) (plan_or_none is.0 one other is.1 its)))
-  planned_once (Err one) (Ok other) is its = inr (inl (ap (λ r. Err r) (plan_or_none its.0 other one its.1 is)))
-  planned_once (Err one) (Err other) is its =
-      elim (refused_once one other is its) [
-        | inl same ↦ inl (ap (λ r. Err r) same)
-        | inr lacks ↦
-            elim lacks [
-              | inl first ↦ inr (inl (ap (λ r. Err r) first))
-              | inr second ↦ inr
-                  (inr (ap (λ r. Err r) second))
-            ]
+-- one run with one plan, or one refusal, or out of memory
+pub planned_once : (p : PlanAsked) (one other : Result Planned Refusal) → IsPlanned p.old p.setup p.paused p.range one
+    → IsPlanned p.old p.setup p.paused p.range other → (other ≡ one) ⊎ ((one ≡ Err Memory) ⊎ (other ≡ Err Memory))
+planned_once p (Ok one) (Ok other) is its = inl (ap (λ p. Ok p) (planned_run_once p one other is its))
+planned_once p (Ok one) (Err other) is its = inr (inr (ap (λ r. Err r) (plan_or_none p one other is its)))
+planned_once p (Err one) (Ok other) is its = inr (inl (ap (λ r. Err r) (plan_or_none p other one its is)))
+planned_once p (Err one) (Err other) is its =
+    elim (refused_once p one other is its) [
+      | inl same ↦ inl (ap (λ r. Err r) same)
+      | inr lacks ↦ elim lacks [
+        | inl first ↦ inr (inl (ap (λ r. Err r) first))
+        | inr second ↦ inr (inr (ap (λ r. Err r) second))
       ]
+    ]

@@ -13,10 +13,9 @@ use Rattle.film_streams.specs.declared.setups.Setup.{Setup}
 use Rattle.session.specs.declared.states.State.TheVariants.{Ready}
 use Rattle.session.specs.RequestSteps.{Hears}
 use Rattle.session.specs.RefusalOrder.{IsReadAs}
-use Rattle.session.specs.Methods.{prepared_of}
+use Rattle.session.specs.Methods.{prepared_of, AsksPlay}
 use Rattle.session.specs.RequestedPlans.{IsPlannedRun}
 use Rattle.session.specs.SessionStates.{SessionState}
-use Rattle.session.specs.Methods.{AsksPlay}
 use Rattle.session.proofs.InitialStateLemmas.{HeardMessage, heard_by}
 use Rattle.session.proofs.RequestCaseAnalysis.{Answer, Replies, SetsUp, StartsPlay, HaltsPlay, StopsPlay, EndsSession}
 use Rattle.session.proofs.RequestCaseAnalysis.{TakesLook, SeeksOffer, ReadyPlay, answer_to}

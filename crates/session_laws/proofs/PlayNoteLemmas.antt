@@ -1,6 +1,6 @@
 -- Where a halt cuts, what is counted after a run, and its note.
-use Rattle.std.proofs.Common.{◌≡◌, ℕ, ◌+◌, ◌≤◌, false, ◌++◌, length, Option, slice_get, refl, sym, ap, subst}
-use Rattle.std.proofs.Common.{◌∙◌, arith}
+use Rattle.std.proofs.Common.{◌≡◌, ℕ, ◌+◌, ◌≤◌, false, ◌++◌, length, Option, slice_get, refl, sym, ap, subst, ◌∙◌}
+use Rattle.std.proofs.Common.{arith}
 use Rattle.std.proofs.lemmas.List.{take_all}
 use Rattle.plan_cert.specs.PlanSlots.{total_bytes}
 use Rattle.film_frames.specs.declared.stored_films.Stored.{Stored}
@@ -22,17 +22,15 @@ use Rattle.session.specs.declared.states.AfterHalt.TheVariants.{Done, Paused, To
 use Rattle.session.specs.declared.states.Play.{Play as Played}
 use Rattle.session.specs.declared.states.State.{State}
 use Rattle.session.specs.declared.states.State.TheVariants.{Init, Ready, Playing, Stopping}
-use Rattle.session.specs.RunRequests.{sending_of}
+use Rattle.session.specs.RunRequests.{sending_of, IsPlayable}
 use Rattle.film_streams.specs.Films.{IsFilmAt}
 use Rattle.film_streams.specs.StreamNumbers.{counts_after, identity_of}
 use Rattle.session.specs.RequestEffects.{IsPlayAsked}
-use Rattle.session.specs.RequestSteps.{after_admission, after_halt, counts_of, counts_done}
-use Rattle.session.specs.RequestSteps.{counts_next, halted_counts}
-use Rattle.session.specs.RequestSteps.{is_answered}
+use Rattle.session.specs.RequestSteps.{after_admission, after_halt, counts_of, counts_done, counts_next}
+use Rattle.session.specs.RequestSteps.{halted_counts, is_answered}
 use Rattle.session.specs.Laws.{GoesOn}
 use Rattle.session.specs.Methods.{prepared_of}
 use Rattle.session_laws.specs.PlayLaws.{HasCountedAll, IsNoted, IsSentAsAsked, KeepsToBoundary}
-use Rattle.session.specs.RunRequests.{IsPlayable}
 use Rattle.session.specs.SlotSteps.{admitted_in, halted_notes, kept_of, next_of, note_of}
 use Rattle.session.specs.SessionStates.{HaltAnswer, SessionState, awaited_answer_of}
 use Rattle.session.proofs.StepInvariantLemmas.{nothing_of}

@@ -1,6 +1,6 @@
 -- The refusals that all methods share, by their codes; what a PLAY without a Range plays.
-use Rattle.std.proofs.Common.{◌≡◌, ℕ, length, ◌*◌, ◌≤◌, Bool, true, List, Option, Some, None, is_some, codes}
-use Rattle.std.proofs.Common.{Err, refl, sym, ap, subst, ◌∙◌, inl, inr, arith}
+use Rattle.std.proofs.Common.{◌≡◌, ℕ, length, ◌*◌, ◌≤◌, Bool, true, List, Option, Some, None, is_some, codes, Err}
+use Rattle.std.proofs.Common.{refl, sym, ap, subst, ◌∙◌, inl, inr, arith}
 use Rattle.std.specs.Bool.{⊤}
 use Rattle.mpeg_scan.specs.declared.films.Film.{Film}
 use Rattle.mpeg_scan.specs.PictureRates.{picture_time}
@@ -15,31 +15,31 @@ use Rattle.rtsp_text.specs.Fields.{header_value}
 use Rattle.rtsp_text.specs.declared.requests.Request.{Request}
 use Rattle.session.specs.declared.commands.Ask.{Ask}
 use Rattle.rtsp_methods.specs.declared.methods.Method.{Method}
-use Rattle.rtsp_methods.specs.declared.methods.Method.TheVariants.{Options, Describe, Setup, Play, Pause}
-use Rattle.rtsp_methods.specs.declared.methods.Method.TheVariants.{Teardown, GetParameter}
+use Rattle.rtsp_methods.specs.declared.methods.Method.TheVariants.{Options, Describe, Setup, Play, Pause, Teardown}
+use Rattle.rtsp_methods.specs.declared.methods.Method.TheVariants.{GetParameter}
 use Rattle.session.specs.declared.plans.Planned.{Planned}
 use Rattle.session.specs.declared.play_requests.PlayRequest.{PlayRequest}
 use Rattle.session.specs.declared.play_requests.PlayRequest.TheVariants.{Resumed, New}
 use Rattle.rtsp_methods.specs.declared.refusals.Refusal.{Refusal}
-use Rattle.rtsp_methods.specs.declared.refusals.Refusal.TheVariants.{Method as Unknown, Option as Required}
-use Rattle.rtsp_methods.specs.declared.refusals.Refusal.TheVariants.{Session, Film as NoFilm, State as NotNow}
+use Rattle.rtsp_methods.specs.declared.refusals.Refusal.TheVariants.{Method as Unknown, Option as Required, Session}
+use Rattle.rtsp_methods.specs.declared.refusals.Refusal.TheVariants.{Film as NoFilm, State as NotNow}
 use Rattle.film_streams.specs.declared.setups.Setup.{Setup as SetupIs}
 use Rattle.session.specs.Laws.{Resumes}
 use Rattle.session.specs.Methods.{IsRefused}
 use Rattle.session_laws.specs.PlayLaws.{PassesEarlierChecks}
-use Rattle.session_laws.specs.RefusalLaws.{BeginsFilm, IsForeign, IsInvalidMethod, IsKnownMethod, IsOfNoFilm, IsOfNoSession}
-use Rattle.session_laws.specs.RefusalLaws.{IsRefusedBy, IsWholeFilm, LacksSession, RequiresSomeOption}
+use Rattle.session_laws.specs.RefusalLaws.{BeginsFilm, IsForeign, IsInvalidMethod, IsKnownMethod, IsOfNoFilm}
+use Rattle.session_laws.specs.RefusalLaws.{IsOfNoSession, IsRefusedBy, IsWholeFilm, LacksSession, RequiresSomeOption}
 use Rattle.session.specs.RefusalOrder.{FitsSession, IsJudged, IsOwnSession, IsReadAs, IsTimely}
-use Rattle.rtsp_methods.specs.RequiredOptions.{first_of, option_of}
-use Rattle.rtsp_methods.specs.RequiredOptions.{required_of}
+use Rattle.rtsp_methods.specs.RequiredOptions.{first_of, option_of, required_of}
 use Rattle.rtsp_replies.specs.Replies.{code_of, refusal_fields, refusal_text}
 use Rattle.session.specs.RequestSteps.{Hears}
 use Rattle.session.specs.RequestedPlans.{IsPlannedRun}
-use Rattle.session.specs.RunRequests.{IsAskedRun, IsRequestFor, counts_for, run_of}
+use Rattle.session.specs.RunRequests.{IsRequestFor, run_of}
 use Rattle.session.specs.SessionStates.{SessionState, with_reply}
 use Rattle.session.proofs.InitialStateLemmas.{HeardMessage, heard_by}
 use Rattle.session.proofs.ResumedPlayLemmas.{span_of_once}
 use Rattle.session_laws.proofs.RequestReadings.{reading_of, refused_in}
+use Rattle.session_laws.proofs.RtpNumberLemmas.{goes_on_from_now}
 
 -- a received request, read so
 pub record HeardRequest : Type 0 where
@@ -171,16 +171,6 @@ state_refused r method good wrong =
 
 -- ---- a PLAY from now on
 
--- what a Range from now on asks for
-asked_now : {film : Film} {paused : Option Run} (value : List ℕ) (span : Span) (wanted : PlayRequest)
-    → IsSpan value span → span.from ≡ Now → IsAskedRun film paused (Some value) wanted
-    → IsRequestFor film paused Now span.to wanted
-asked_now {film} {paused} value span wanted is now asked =
-    let same : asked.span ≡ span = span_of_once (Some value) asked.span span asked.is_span is in
-    let own : IsRequestFor film paused span.from span.to wanted =
-    subst (λ (s : Span). IsRequestFor film paused s.from s.to wanted) same asked.is_wanted in
-    subst (λ (o : Origin). IsRequestFor film paused o span.to wanted) now own
-
 new_begins : {film : Film} {to : Option ℕ} {run : Run} → IsRequestedRange film 0 to run → BeginsFilm film run
 new_begins {film} {to} {run} is = record {
   begins = ap (λ n. n * picture_time film.rate) is.new.first_is ∙ zero_time _ is.begins.by_then;
@@ -223,22 +213,17 @@ pub now_begins : (old : SessionState) (stored : Stored) (setup : SetupIs) (value
     (planned : Planned) → IsSpan value span → span.from ≡ Now
     → IsPlannedRun old stored setup None (Some value) planned → BeginsFilm stored.film planned.run
 now_begins old stored setup value span planned is now planned_is =
+    let asked = planned_is.asked in
+    let from : asked.span.from ≡ Now =
+    ap (λ (s : Span). s.from) (span_of_once (Some value) asked.span span asked.is_span is) ∙ now in
     subst (λ (r : Run). BeginsFilm stored.film r) (sym planned_is.run_is)
-    (begun_by stored.film span.to planned_is.wanted (asked_now value span planned_is.wanted is now planned_is.asked))
-
-resumed_by : (film : Film) (paused : Run) (to : Option ℕ) (wanted : PlayRequest)
-    → IsRequestFor film (Some paused) Now to wanted → wanted ≡ Resumed paused
-resumed_by film paused to (Resumed run) asked = ap Resumed asked
-resumed_by film paused to (New run) asked = absurd asked
+    (begun_by stored.film asked.span.to planned_is.wanted
+    (subst (λ (o : Origin). IsRequestFor stored.film None o asked.span.to planned_is.wanted) from asked.is_wanted))
 
 pub now_resumes : (old : SessionState) (stored : Stored) (setup : SetupIs) (paused : Run) (value : List ℕ)
     (span : Span) (planned : Planned) → IsSpan value span → span.from ≡ Now
     → IsPlannedRun old stored setup (Some paused) (Some value) planned → Resumes old paused planned
 now_resumes old stored setup paused value span planned is now planned_is =
-    let same : planned_is.wanted ≡ Resumed paused = resumed_by stored.film paused span.to planned_is.wanted
-    (asked_now value span planned_is.wanted is now planned_is.asked) in
-    record {
-      run = planned_is.run_is ∙ ap run_of same;
-      counts = planned_is.counts_is
-          ∙ ap (counts_for stored.film old.source setup old.counts (Some paused)) same;
-    }
+    let asked = planned_is.asked in
+    goes_on_from_now old planned_is
+    (ap (λ (s : Span). s.from) (span_of_once (Some value) asked.span span asked.is_span is) ∙ now)

@@ -1,17 +1,15 @@
 -- What replies tell is read in their fields.
-use Rattle.std.proofs.Common.{◌≡◌, ◌≢◌, ℕ, ◌+◌, ◌-◌, ◌*◌, ◌/◌, ◌%◌, ◌^◌, ◌<◌, ◌≤◌, ◌&&◌, ◌==◌, not}
-use Rattle.std.proofs.Common.{nat_lt, nat_le, true, false, List, [], ◌∷◌, ◌++◌, length, take, drop}
-use Rattle.std.proofs.Common.{get_or, slice_range, slice_index, codes, decimal, string_bytes}
-use Rattle.std.proofs.Common.{Option, Some, None, Ok, add_comm, refl, sym, ap, subst, ◌∙◌, inl, inr}
-use Rattle.std.proofs.Common.{arith}
+use Rattle.std.proofs.Common.{◌≡◌, ◌≢◌, ℕ, ◌+◌, ◌-◌, ◌*◌, ◌/◌, ◌%◌, ◌^◌, ◌<◌, ◌≤◌, ◌&&◌, ◌==◌, not, nat_lt, nat_le}
+use Rattle.std.proofs.Common.{true, false, List, [], ◌∷◌, ◌++◌, length, take, drop, get_or, slice_range, slice_index}
+use Rattle.std.proofs.Common.{codes, decimal, string_bytes, Option, Some, None, Ok, add_comm, refl, sym, ap, subst}
+use Rattle.std.proofs.Common.{◌∙◌, inl, inr, arith}
 use Rattle.std.proofs.Math.Nat.{div-mul-le_self, mul-le-mul}
 use Rattle.std.specs.List.{list_all}
 use Rattle.std.specs.Char.{is_ascii_digit}
 use Rattle.std.proofs.lemmas.Bool.{and_from, and_parts}
 use Rattle.std.proofs.lemmas.Fmt.{digits_decimal}
-use Rattle.std.proofs.lemmas.List.{append-nil, append_assoc, drop_at, get_or-append_right}
-use Rattle.std.proofs.lemmas.List.{get_or-drop, get_or-take, get_or_append_left, length-append}
-use Rattle.std.proofs.lemmas.List.{length-drop, length-take, take_all, take_at}
+use Rattle.std.proofs.lemmas.List.{append-nil, append_assoc, drop_at, get_or-append_right, get_or-drop, get_or-take}
+use Rattle.std.proofs.lemmas.List.{get_or_append_left, length-append, length-drop, length-take, take_all, take_at}
 use Rattle.std.proofs.lemmas.List.Folds.{list_all-append, list_all_at}
 use Rattle.vod_base.specs.Names.{good_name, is_name_byte}
 use Rattle.mpeg_scan.specs.declared.films.Film.{Film}
@@ -39,13 +37,11 @@ use Rattle.session.specs.declared.plans.Planned.{Planned}
 use Rattle.film_streams.specs.declared.setups.Setup.{Setup}
 use Rattle.session.specs.RunRequests.{sending_of}
 use Rattle.film_streams.specs.Films.{begins_at, length_ms, milliseconds_at}
-use Rattle.film_streams.specs.StreamNumbers.{identity_of}
-use Rattle.film_streams.specs.StreamNumbers.{timestamp_at}
+use Rattle.film_streams.specs.StreamNumbers.{identity_of, timestamp_at}
 use Rattle.session.specs.RequestSteps.{after_admission, after_full, after_look, after_overflow}
 use Rattle.session.specs.Methods.{Describes, IsSetUp, first_number, play_front}
 use Rattle.session.specs.declared.states.State.TheVariants.{Ready}
-use Rattle.rtsp_replies.specs.Replies.{describe_text, field, joined_parts, look_body, play_fields}
-use Rattle.rtsp_replies.specs.Replies.{transport_value}
+use Rattle.rtsp_replies.specs.Replies.{describe_text, field, joined_parts, look_body, play_fields, transport_value}
 use Rattle.session.specs.SessionStates.{SessionState, sequence_of}
 use Rattle.std.specs.Int.{w32, to_be_bytes}
 use Rattle.hex.specs.Hex.{encode_lower}
@@ -443,17 +439,7 @@ look_lines : (n a b : List ℕ)
     → joined_parts (codes "x-Now: " ∷ n ∷ codes "\r\nx-Slot: " ∷ a ∷ codes "\r\nx-Booked: " ∷ b ∷ codes "\r\n" ∷ [])
     ≡ (codes "x-Now" ++ (codes ": " ++ (n ++ codes "\r\n"))) ++ ((codes "x-Slot" ++ (codes ": " ++ (a ++ codes "\r\n")))
     ++ (codes "x-Booked" ++ (codes ": " ++ (b ++ codes "\r\n"))))
-look_lines n a b =
-    let last = codes "x-Booked: " ++ (b ++ codes "\r\n") in
-    let slot : (codes "x-Slot" ++ (codes ": " ++ (a ++ codes "\r\n"))) ++ last
-    ≡ codes "x-Slot: " ++ (a ++ (codes "\r\n" ++ last)) =
-    ap (λ l. codes "x-Slot: " ++ l) (append_assoc a (codes "\r\n") last) in
-    let now : (codes "x-Now" ++ (codes ": " ++ (n ++ codes "\r\n"))) ++
-    (codes "x-Slot: " ++ (a ++ (codes "\r\n" ++ last)))
-    ≡ codes "x-Now: " ++ (n ++ (codes "\r\n" ++ (codes "x-Slot: " ++ (a ++ (codes "\r\n" ++ last))))) =
-    ap (λ l. codes "x-Now: " ++ l) (append_assoc n (codes "\r\n")
-    (codes "x-Slot: " ++ (a ++ (codes "\r\n" ++ last)))) in
-    sym (ap (λ l. (codes "x-Now" ++ (codes ": " ++ (n ++ codes "\r\n"))) ++ l) slot ∙ now)
+look_lines n a b = simp append_assoc
 
 pub look_told : (old : SessionState) (place now at booked : ℕ)
     → IsLookReply (sequence_of old.awaited) now at booked (after_look old place now at booked).text

@@ -1,5 +1,5 @@
 -- How a session reads and judges a request, and what it does for one that it processes.
-use Rattle.std.proofs.Common.{◌≡◌, ℕ, List, Some, Result, Ok, Err, refl, sym, ap, subst, ◌∙◌, inl, inr}
+use Rattle.std.proofs.Common.{◌≡◌, ℕ, List, Some, Result, Ok, Err, subst, ◌∙◌, inl, inr}
 use Rattle.rtsp_text.specs.declared.requests.Request.{Request}
 use Rattle.rtsp_text.proofs.MessageUniqueness.{no_fault, request_once}
 use Rattle.rtsp_methods.specs.Methods.{name_of}
@@ -16,7 +16,6 @@ use Rattle.session.specs.declared.refusals.Task.TheVariants.{Teardown as ToTeard
 use Rattle.session.specs.Methods.{Describes, GetsParameter, IsRefused, IsReplied, Pauses, Plays, SetsUp, Takes}
 use Rattle.session.specs.Methods.{TearsDown}
 use Rattle.session.specs.RefusalOrder.{IsJudged, IsOnFilm, IsReadAs, IsTaskOf, IsTimely, method_of}
-use Rattle.session.specs.SessionStates.{SessionState}
 use Rattle.session.proofs.InitialStateLemmas.{HeardMessage, TakenRequest}
 use Rattle.session_laws.proofs.VerdictUniqueness.{AreAlike, Passes, judged_refused, method_once, never_refused}
 
@@ -58,7 +57,7 @@ pub refused_in : {h : HeardMessage} {request : Request} (refusal : Refusal) (r :
     → IsJudged h.old.films h.old.id h.old.state request (Err refusal)
     → IsRefused h.old (Some r.other.sequence) refusal (option_of r.other.head.now) h.ask h.new
 refused_in {h} refusal r is =
-    subst (λ j. Takes h.old r.other j h.ask h.new) (judged_refused h.old refusal r.judgement r.alike is r.judged) r.takes
+    subst (λ j. Takes h.old r.other j h.ask h.new) (judged_refused h.old refusal r.alike is r.judgement r.judged) r.takes
 
 -- what is done for a request of a method
 abbrev pub Does : TakenRequest → Method → Type 0

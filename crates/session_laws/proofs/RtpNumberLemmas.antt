@@ -1,12 +1,13 @@
 -- Numbers go on from what was sent before.
-use Rattle.std.proofs.Common.{◌≡◌, ℕ, ◌+◌, ◌*◌, ◌/◌, ◌%◌, List, Option, Some, None, add_comm, refl, sym, ap, subst, ◌∙◌}
-use Rattle.std.proofs.Common.{arith}
+use Rattle.std.proofs.Common.{◌≡◌, ℕ, ◌+◌, ◌*◌, ◌/◌, ◌%◌, List, Option, Some, None, add_comm, refl, sym, ap, subst}
+use Rattle.std.proofs.Common.{◌∙◌, arith}
 use Rattle.std.proofs.Math.Nat.{add-mul-mod_self_left, mod-add-div}
 use Rattle.film_frames.specs.declared.stored_films.Stored.{Stored}
 use Rattle.film_frames.specs.FramedRuns.{FramedRun, frames_before, octets_before}
 use Rattle.film_run.specs.declared.runs.Run.{Run}
 use Rattle.mpeg_scan.specs.declared.films.Film.{Film}
 use Rattle.rtsp_fields.specs.declared.ranges.Span.{Span}
+use Rattle.rtsp_fields.specs.declared.ranges.Origin.{Origin}
 use Rattle.rtsp_fields.specs.declared.ranges.Origin.TheVariants.{Now}
 use Rattle.session.specs.declared.plans.Planned.{Planned}
 use Rattle.film_streams.specs.declared.stream_numbers.Counts.{Counts}
@@ -14,11 +15,10 @@ use Rattle.film_streams.specs.declared.setups.Setup.{Setup}
 use Rattle.film_streams.specs.declared.stream_numbers.StreamSource.{StreamSource}
 use Rattle.session.specs.declared.play_requests.PlayRequest.{PlayRequest}
 use Rattle.session.specs.declared.play_requests.PlayRequest.TheVariants.{Resumed, New}
-use Rattle.session.specs.RunRequests.{sending_of}
+use Rattle.session.specs.RunRequests.{sending_of, IsRequestFor, counts_for, run_of}
 use Rattle.film_streams.specs.StreamNumbers.{counts_after, identity_of}
 use Rattle.session.specs.Laws.{GoesOn, Resumes}
 use Rattle.session.specs.RequestedPlans.{IsPlannedRun}
-use Rattle.session.specs.RunRequests.{IsResumed, IsRequestFor, counts_for, run_of}
 use Rattle.session.specs.SessionStates.{SessionState}
 use Rattle.film_streams.proofs.ModularSums.{sum_mod}
 
@@ -46,28 +46,28 @@ identity_goes_on source setup counts sending bytes = record {
   octets = refl;
 }
 
-wanted_resumes : (film : Film) (paused : Run) (to : Option ℕ) (wanted : PlayRequest) → IsRequestFor film
-    (Some paused) Now to wanted
-    → run_of wanted ≡ paused
-wanted_resumes film paused to (Resumed run) is = is
-wanted_resumes film paused to (New run) is = absurd is
+resumed_by : (film : Film) (paused : Run) (to : Option ℕ) (wanted : PlayRequest)
+    → IsRequestFor film (Some paused) Now to wanted → wanted ≡ Resumed paused
+resumed_by film paused to (Resumed run) asked = ap Resumed asked
+resumed_by film paused to (New run) asked = absurd asked
 
-counts_resume : {counts : Counts} (film : Film) (source : StreamSource) (setup : Setup) (paused : Run) (wanted :
-    PlayRequest)
-    → IsResumed paused wanted → counts_for film source setup counts (Some paused) wanted ≡ counts
-counts_resume film source setup paused (Resumed run) is = refl
-counts_resume film source setup paused (New run) is = absurd is
+-- a play whose Range begins now goes on in the paused run
+pub goes_on_from_now : {stored : Stored} {setup : Setup} {paused : Run} {range : Option (List ℕ)} {planned : Planned}
+    (old : SessionState) (is : IsPlannedRun old stored setup (Some paused) range planned) → is.asked.span.from ≡ Now
+    → Resumes old paused planned
+goes_on_from_now {stored} {setup} {paused} old is now =
+    let asked : IsRequestFor stored.film (Some paused) Now is.asked.span.to is.wanted =
+    subst (λ (o : Origin). IsRequestFor stored.film (Some paused) o is.asked.span.to is.wanted) now
+    is.asked.is_wanted in
+    let same = resumed_by stored.film paused is.asked.span.to is.wanted asked in
+    record {
+      run = is.run_is ∙ ap run_of same;
+      counts = is.counts_is ∙ ap (counts_for stored.film old.source setup old.counts (Some paused)) same;
+    }
 
 pub resumes : (old : SessionState) (stored : Stored) (setup : Setup) (paused : Run) (planned : Planned)
     → IsPlannedRun old stored setup (Some paused) None planned → Resumes old paused planned
-resumes old stored setup paused planned is =
-    let now : IsRequestFor stored.film (Some paused) Now None is.wanted =
-    subst (λ (s : Span). IsRequestFor stored.film
-    (Some paused) s.from s.to is.wanted) is.asked.is_span is.asked.is_wanted in
-    record {
-      run = is.run_is ∙ wanted_resumes stored.film paused None is.wanted now;
-      counts = is.counts_is ∙ counts_resume stored.film old.source setup paused is.wanted now;
-    }
+resumes old stored setup paused planned is = goes_on_from_now old is (ap (λ (s : Span). s.from) is.asked.is_span)
 
 -- a new run goes on from what was sent of the paused one
 pub dropped_goes_on : {old : SessionState} {stored : Stored} {setup : Setup} {paused run : Run} {range : Option (List

@@ -1,6 +1,6 @@
 -- What a request makes of the runs of a session, for laws on its entire course.
-use Rattle.std.proofs.Common.{◌≡◌, ℕ, ◌+◌, ◌-◌, ◌⊎◌, Bool, true, List, Option, Some, None}
-use Rattle.std.proofs.Common.{refl, sym, ap, subst, ◌∙◌, inl, inr}
+use Rattle.std.proofs.Common.{◌≡◌, ℕ, ◌+◌, ◌-◌, ◌⊎◌, Bool, true, List, Option, Some, None, refl, sym, ap, subst, ◌∙◌}
+use Rattle.std.proofs.Common.{inl, inr}
 use Rattle.plan_cert.specs.declared.Segment.{Segment}
 use Rattle.early_start.specs.StartSearch.{Offers}
 use Rattle.film_frames.specs.declared.stored_films.Stored.{Stored}
@@ -23,14 +23,13 @@ use Rattle.session.specs.declared.states.Play.{Play as Played}
 use Rattle.session.specs.declared.states.Prepared.{Prepared}
 use Rattle.film_streams.specs.declared.setups.Setup.{Setup}
 use Rattle.session.specs.declared.states.State.TheVariants.{Init, Ready, Playing}
-use Rattle.session.specs.RunRequests.{sending_of}
+use Rattle.session.specs.RunRequests.{sending_of, IsRequestFor, counts_before, counts_for, run_of}
 use Rattle.film_streams.specs.Films.{IsFilmAt, OfFilm}
 use Rattle.film_streams.specs.StreamNumbers.{counts_after, identity_of}
 use Rattle.session.specs.Laws.{GoesOn}
 use Rattle.session.specs.Methods.{prepared_of}
 use Rattle.session.specs.RequestedPlans.{IsPlannedRun}
 use Rattle.session.specs.RequestSteps.{Hears}
-use Rattle.session.specs.RunRequests.{IsRequestFor, counts_before, counts_for, run_of}
 use Rattle.session.specs.SessionStates.{SessionState}
 use Rattle.session.proofs.InitialStateLemmas.{HeardMessage, heard_by}
 use Rattle.session.proofs.RequestCaseAnalysis.{Answer, Replies as RepliesAlone, SetsUp as SettlesSetup, StartsPlay}

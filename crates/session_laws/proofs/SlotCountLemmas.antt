@@ -1,7 +1,6 @@
 -- The slots that are missed, and a play that is done.
-use Rattle.std.proofs.Common.{◌≡◌, ℕ, zero, suc, ◌+◌, ◌-◌, ◌<◌, ◌≤◌, ◌&&◌, Bool, true, false}
-use Rattle.std.proofs.Common.{cond, eqb, ltb, leb, max, sum_by, refl, ap, ◌∙◌, add-one, arith, inl}
-use Rattle.std.proofs.Common.{inr}
+use Rattle.std.proofs.Common.{◌≡◌, ℕ, zero, suc, ◌+◌, ◌-◌, ◌<◌, ◌≤◌, ◌&&◌, Bool, true, false, cond, eqb, ltb, leb}
+use Rattle.std.proofs.Common.{max, sum_by, refl, ap, ◌∙◌, add-one, arith, inl, inr}
 use Rattle.std.specs.List.{range_with_len}
 use Rattle.std.proofs.lemmas.Bool.{cases_lt}
 use Rattle.std.proofs.lemmas.Bool.Decides.{nat_tests}
@@ -13,9 +12,8 @@ use Rattle.session.specs.declared.states.Play.{Play as Played}
 use Rattle.film_streams.specs.declared.setups.Setup.{Setup}
 use Rattle.session.specs.declared.states.State.TheVariants.{Playing}
 use Rattle.session_laws.specs.PlayLaws.{slots_missed}
-use Rattle.session.specs.SlotSteps.{after_play, finished_in, is_between, is_sending, is_taken}
-use Rattle.session.specs.SlotSteps.{missed_between, sent_due, sent_reply, sent_slot, after_slot}
-use Rattle.session.specs.SlotSteps.{start_in, stepped_in}
+use Rattle.session.specs.SlotSteps.{after_play, finished_in, is_between, is_sending, is_taken, missed_between}
+use Rattle.session.specs.SlotSteps.{sent_due, sent_reply, sent_slot, after_slot, start_in, stepped_in}
 use Rattle.session.specs.SessionStates.{HaltAnswer, SessionState, awaited_answer, awaited_answer_of}
 
 abbrev is_missed : ℕ → ℕ → ℕ → ℕ

@@ -11,12 +11,11 @@ use Rattle.session.specs.declared.states.Play.{Play as Played}
 use Rattle.film_streams.specs.declared.setups.Setup.{Setup}
 use Rattle.session.specs.declared.states.State.{State}
 use Rattle.session.specs.declared.states.State.TheVariants.{Playing}
-use Rattle.session.specs.RunRequests.{sending_of}
+use Rattle.session.specs.RunRequests.{sending_of, IsPlayable}
 use Rattle.film_streams.specs.Films.{IsFilmAt}
 use Rattle.session.specs.ResumedPlays.{IsPacedPlay}
-use Rattle.session.specs.RunRequests.{IsPlayable}
-use Rattle.session.specs.SessionInvariant.{IsAwaitedInvariant, IsSoundState, IsStateInvariant}
-use Rattle.session.specs.SessionInvariant.{SessionContext, context_of}
+use Rattle.session.specs.SessionInvariant.{IsAwaitedInvariant, IsSoundState, IsStateInvariant, SessionContext}
+use Rattle.session.specs.SessionInvariant.{context_of}
 use Rattle.session.specs.SessionStates.{AwaitsNoAnswer, SessionState}
 use Rattle.session.specs.SlotSteps.{kept_of}
 use Rattle.session.proofs.InitialStateLemmas.{PlayInHand}

@@ -1,8 +1,7 @@
 -- A request is judged in one way.
 use Rattle.std.specs.Prelude.{is_some}
-use Rattle.std.proofs.Common.{◌≡◌, ℕ, ◌+◌, ◌*◌, ◌<◌, ◌==◌, ◌⊎◌, if◌then◌else◌, List, get_or, length}
-use Rattle.std.proofs.Common.{Option, None, Result, Ok, Err, true, codes, refl, sym, ap, subst, ◌∙◌}
-use Rattle.std.proofs.Common.{inl, inr, arith, below_more}
+use Rattle.std.proofs.Common.{◌≡◌, ℕ, ◌+◌, ◌*◌, ◌<◌, ◌==◌, ◌⊎◌, if◌then◌else◌, List, get_or, length, None, Result, Ok}
+use Rattle.std.proofs.Common.{Err, codes, refl, sym, ap, subst, ◌∙◌, inl, inr, arith, below_more}
 use Rattle.std.proofs.lemmas.Bool.{cases_order}
 use Rattle.film_frames.specs.declared.stored_films.Stored.{Stored}
 use Rattle.rtsp_text.specs.Fields.{header_value}
@@ -12,18 +11,13 @@ use Rattle.rtsp_methods.specs.declared.methods.Method.TheVariants.{Options, Desc
 use Rattle.rtsp_methods.specs.declared.methods.Method.TheVariants.{GetParameter}
 use Rattle.session.specs.declared.states.State.{State as StateKind}
 use Rattle.rtsp_methods.specs.declared.refusals.Refusal.{Refusal}
-use Rattle.rtsp_methods.specs.declared.refusals.Refusal.TheVariants.{BadRequest, Version}
-use Rattle.rtsp_methods.specs.declared.refusals.Refusal.TheVariants.{Method as Unknown}
-use Rattle.rtsp_methods.specs.declared.refusals.Refusal.TheVariants.{Option as Required, Session, Film}
-use Rattle.rtsp_methods.specs.declared.refusals.Refusal.TheVariants.{State, Transport, Parameter, Buffer}
-use Rattle.rtsp_methods.specs.declared.refusals.Refusal.TheVariants.{Range, Memory}
+use Rattle.rtsp_methods.specs.declared.refusals.Refusal.TheVariants.{BadRequest, Version, Method as Unknown}
+use Rattle.rtsp_methods.specs.declared.refusals.Refusal.TheVariants.{Option as Required, Session, Film, State}
+use Rattle.rtsp_methods.specs.declared.refusals.Refusal.TheVariants.{Transport, Parameter, Buffer, Range, Memory}
 use Rattle.session.specs.declared.refusals.Task.{Task}
-use Rattle.session.specs.declared.refusals.Task.TheVariants.{Options as ToOptions}
-use Rattle.session.specs.declared.refusals.Task.TheVariants.{Describe as ToDescribe}
-use Rattle.session.specs.declared.refusals.Task.TheVariants.{Setup as ToSetup, Play as ToPlay}
-use Rattle.session.specs.declared.refusals.Task.TheVariants.{Pause as ToPause}
-use Rattle.session.specs.declared.refusals.Task.TheVariants.{Teardown as ToTeardown}
-use Rattle.session.specs.declared.refusals.Task.TheVariants.{GetParameter as ToGetParameter}
+use Rattle.session.specs.declared.refusals.Task.TheVariants.{Options as ToOptions, Describe as ToDescribe}
+use Rattle.session.specs.declared.refusals.Task.TheVariants.{Setup as ToSetup, Play as ToPlay, Pause as ToPause}
+use Rattle.session.specs.declared.refusals.Task.TheVariants.{Teardown as ToTeardown, GetParameter as ToGetParameter}
 use Rattle.session.specs.SessionStates.{SessionState, has_session_in}
 use Rattle.session.specs.RefusalOrder.{FitsSession, FitsState, HasFilm, IsJudged, IsOwnTalk, IsSpoken, IsTaken}
 use Rattle.session.specs.RefusalOrder.{IsTaskOf, IsTimely, method_of}
@@ -256,39 +250,42 @@ pub record AreAlike (request other : Request) : Type 0 where
   pub head : other.head.now ≡ request.head.now
   pub body : other.body.now ≡ request.body.now
 
-same_judging : {request other : Request} (old : SessionState) → AreAlike request other
-    → judging old other ≡ judging old request
-same_judging {request} {other} old alike =
-    let J : List ℕ → List ℕ → List ℕ → Judging =
-    λ n u h. record { films = old.films; id = old.id; stage = old.state; name = n; url = u; head = h } in
-    ap (λ n. J n other.url.now other.head.now) alike.method ∙ ap (λ u. J request.method.now u other.head.now) alike.url
-    ∙ ap (λ h. J request.method.now request.url.now h) alike.head
-
--- the judgements of two requests that are alike
-same_rank : {request other : Request} (old : SessionState) (a b : Result Task Refusal) → AreAlike request other
-    → IsJudged old.films old.id old.state request a → IsJudged old.films old.id old.state other b → rank b ≡ rank a
-same_rank {request} {other} old a b alike is its =
-    stops_once (rank b) (rank a)
-    (subst (λ j. StopsAt j (rank b)) (same_judging old alike) (stops old other b its)) (stops old request a is)
+-- a request and the rank of its judgement, by another that is alike
+as_alike : {request other : Request} {n : ℕ} (old : SessionState) → AreAlike request other
+    → StopsAt (judging old other) n → StopsAt (judging old request) n
+as_alike {request} {other} {n} old alike stop =
+    let S : List ℕ → List ℕ → List ℕ → Type 0 = λ name url head. StopsAt (record {
+      films = old.films;
+      id = old.id;
+      stage = old.state;
+      name = name;
+      url = url;
+      head = head;
+    }) n in
+    subst (S request.method.now request.url.now) alike.head
+    (subst (λ u. S request.method.now u other.head.now) alike.url
+    (subst (λ m. S m other.url.now other.head.now) alike.method stop))
 
 -- a request that is alike another that is refused is refused so
-pub judged_refused : {request other : Request} (old : SessionState) (refusal : Refusal)
-    (judgement : Result Task Refusal) → AreAlike request other
-    → IsJudged old.films old.id old.state request (Err refusal) → IsJudged old.films old.id old.state other judgement
-    → judgement ≡ Err refusal
-judged_refused {request} {other} old refusal (Ok task) alike is its =
-    let same = same_rank old (Err refusal) (Ok task) alike is its in
-    let below = (ranked old request refusal is).below in
-    absurd (omega (arith, same, below))
-judged_refused {request} {other} old refusal (Err given) alike is its =
-    let same = same_rank old (Err refusal) (Err given) alike is its in
-    ap (λ r. Err r) ((ranked old other given its).is ∙ ap refusal_at same ∙ sym (ranked old request refusal is).is)
+pub judged_refused : {request other : Request} (old : SessionState) (refusal : Refusal) → AreAlike request other
+    → IsJudged old.films old.id old.state request (Err refusal) → (judgement : Result Task Refusal)
+    → IsJudged old.films old.id old.state other judgement → judgement ≡ Err refusal
+judged_refused {request} {other} old refusal alike is judgement its =
+    let own = ranked old request refusal is in
+    let same = stops_once (rank judgement) (rank (Err refusal))
+    (as_alike old alike (stops old other judgement its)) (stops old request (Err refusal) is) in
+    (elim judgement as (λ j. IsJudged old.films old.id old.state other j → rank j ≡ rank (Err refusal)
+    → j ≡ Err refusal) [
+      | Ok task ↦ λ judged rank_is. let below = own.below in absurd (omega (arith, rank_is, below))
+      | Err given ↦ λ judged rank_is.
+          ap (λ r. Err r) ((ranked old other given judged).is ∙ ap refusal_at rank_is ∙ sym own.is)
+    ]) its same
 
 -- one that is alike another that is processed isn't refused
 pub never_refused : {m : Method} {request other : Request} (old : SessionState) (refusal : Refusal)
     → AreAlike request other → Passes old request m → ¬ IsJudged old.films old.id old.state other (Err refusal)
 never_refused {request} {other} old refusal alike passes = λ its.
-    let same = stops_once (rank (Err refusal)) 5 (subst (λ j. StopsAt j (rank (Err refusal))) (same_judging old alike)
-    (stops old other (Err refusal) its)) (stops_last old request passes) in
+    let same = stops_once (rank (Err refusal)) 5 (as_alike old alike (stops old other (Err refusal) its))
+    (stops_last old request passes) in
     let below = (ranked old other refusal its).below in
     omega (arith, same, below)

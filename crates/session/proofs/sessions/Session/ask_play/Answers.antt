@@ -1,5 +1,4 @@
-use Rattle.std.proofs.Common.{◌≡◌, ℕ, Ok, refl, sym, ap, subst, ◌∙◌, length, string_bytes, inl}
-use Rattle.std.proofs.Common.{arith}
+use Rattle.std.proofs.Common.{◌≡◌, ℕ, Ok, refl, sym, ap, subst, ◌∙◌, length, string_bytes, inl, arith}
 use Rattle.std.proofs.lemmas.List.{length-map}
 use Rattle.film_frames.specs.Pieces.{wire_size}
 use Rattle.film_frames.specs.FramedRuns.{FramedRun, run_pieces}

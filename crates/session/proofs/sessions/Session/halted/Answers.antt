@@ -1,13 +1,12 @@
 use Rattle.std.proofs.Common.{◌≡◌, ◌||◌, true, if◌then◌else◌, sym, ap, subst, ◌∙◌}
-use Rattle.session.specs.RequestSteps.{is_answered}
+use Rattle.session.specs.RequestSteps.{is_answered, counts_done}
 use Rattle.session.specs.SessionInvariant.{IsStateInvariant, session_context_of}
 use Rattle.session_records.specs.RecordLists.{SessionRecords}
 use Rattle.session.specs.SlotSteps.{next_of}
-use Rattle.session.specs.RequestSteps.{counts_done}
 use Rattle.session.specs.declared.states.State.{State}
 use Rattle.session.proofs.HaltLemmas.{or_if, play_halted}
-use Rattle.session.proofs.sessions.Session.halted.Goals as goal
 use Rattle.std.specs.Prelude.{slice_get}
+use Rattle.session.proofs.sessions.Session.halted.Goals as goal
 
 pub counts_next-self-inside-requires-clause-run : goal.counts_next-self-inside-requires-clause-run
 counts_next-self-inside-requires-clause-run c =

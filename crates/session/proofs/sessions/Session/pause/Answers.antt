@@ -15,8 +15,8 @@ use Rattle.session.specs.declared.commands.Ask.TheVariants.{Halt as AskHalt}
 use Rattle.session.proofs.PlayRequestLemmas.{HeardInPlay, halt_asked, play_going, playing_in}
 use Rattle.session.proofs.HaltedRunLemmas.{halts_play, left_runs}
 use Rattle.session.proofs.ResumedPlayLemmas.{of_film}
-use Rattle.session.proofs.sessions.Session.pause.Goals as goal
 use Rattle.session.proofs.sessions.Session.pause.Goals.{In-Playing}
+use Rattle.session.proofs.sessions.Session.pause.Goals as goal
 
 -- the play, as the request is received
 abbrev in_hand : (c : In-Playing) → HeardInPlay c.self.inside
