@@ -66,5 +66,4 @@ answer_leaves h reply (SeeksOffer offer planned is asks) = absurd (let no : ⊥ 
 
 pub hears_leaves : (old new : SessionState) (message : List ℕ) → Hears old message Reply new → LeavesOr old new
 hears_leaves old new message hears =
-    let h : HeardMessage = heard_by {old = old} {new = new} {message = message} {ask = Reply} hears in
-    answer_leaves h refl (answer_to h)
+    answer_leaves (heard_by hears) refl (answer_to (heard_by hears))

@@ -185,8 +185,7 @@ answer_text h (SeeksOffer offer planned is asks) = subst (λ a. RefusesNone a h.
 pub hears_text : (old new : SessionState) (message : List ℕ) (ask : Ask) → Hears old message ask new → RefusesNone ask
     new
 hears_text old new message ask hears =
-    let h : HeardMessage = heard_by {old = old} {new = new} {message = message} {ask = ask} hears in
-    answer_text h (answer_to h)
+    answer_text (heard_by hears) (answer_to (heard_by hears))
 
 -- memory ran out for a message, as it may
 abbrev RunsOut : HeardMessage → Type 0
@@ -248,8 +247,7 @@ answer_500 h reply code (SeeksOffer offer planned is asks) = absurd (let no : �
 hears_wanting : (old new : SessionState) (message : List ℕ) (ask : Ask) → Hears old message ask new → Is500 ask new
     → MayRunOutOfMemory old message × IsOutOfMemory old message ask new
 hears_wanting old new message Reply hears code =
-    let h : HeardMessage = heard_by {old = old} {new = new} {message = message} {ask = Reply} hears in
-    answer_500 h refl code (answer_to h)
+    answer_500 (heard_by hears) refl code (answer_to (heard_by hears))
 hears_wanting old new message (AskPlay plan) hears code = absurd code
 hears_wanting old new message (AskHalt keep) hears code = absurd code
 hears_wanting old new message (AskLook slot) hears code = absurd code
@@ -285,5 +283,4 @@ answer_never h (SeeksOffer offer planned is asks) = subst (λ a. NeverLacks a h.
 pub hears_never : (old new : SessionState) (message : List ℕ) (ask : Ask) → Hears old message ask new → NeverLacks ask
     new
 hears_never old new message ask hears =
-    let h : HeardMessage = heard_by {old = old} {new = new} {message = message} {ask = ask} hears in
-    answer_never h (answer_to h)
+    answer_never (heard_by hears) (answer_to (heard_by hears))

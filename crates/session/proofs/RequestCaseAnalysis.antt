@@ -24,7 +24,6 @@ use Rattle.rtsp_replies.specs.Replies.{describe_text, plain_text, public_text, r
 use Rattle.film_streams.specs.Films.{IsFilmAt, length_ms}
 use Rattle.film_streams.specs.SettingRanges.{AreSettings, IsSetup}
 use Rattle.film_streams.specs.Setups.{AsksForSetup, IsChosen, IsSetupRead}
-use Rattle.film_streams.specs.declared.settings.Settings.{Settings}
 use Rattle.film_streams.specs.declared.films.Asked.{Asked}
 use Rattle.film_streams.specs.declared.setups.Setup.{Setup}
 use Rattle.session.specs.declared.plans.Planned.{Planned}
@@ -304,19 +303,6 @@ chosen : {own least most n : ℕ} (value : Option (List ℕ)) → IsChosen value
 chosen {least} {most} None is low high = subst (IsIn least most) (sym is) (record { above = low; below = high })
 chosen (Some value) is low high = record { above = is.above; below = is.below }
 
-setup_ranges : {settings : Settings} {head : List ℕ} {film films : ℕ} {setup : Setup}
-    → AsksForSetup settings head film setup
-    → film < films → AreSettings settings → IsSetup films setup
-setup_ranges {head} {film} {films} asks within good =
-    let buffer = chosen _ asks.buffer good.some_buffer good.most_buffer in
-    let delay = chosen _ asks.delay (omega arith) good.most_delay in
-    record {
-      film = subst (λ n. n < films) (sym asks.film_is) within;
-      some_buffer = buffer.above;
-      most_buffer = buffer.below;
-      most_delay = delay.below;
-    }
-
 init_of : (state : State) → has_session_in state ≡ false → state ≡ Init
 init_of Init none = refl
 init_of (Ready setup paused) none = absurd (let no : ⊥ = cc in no)
@@ -337,9 +323,17 @@ settled_init {h} taken = init_of h.old.state taken.judged.state
 pub settled_ranges : {h : HeardMessage} {film : ℕ} {setup : Setup} (taken : TakenTask h (ToSetup film))
     → AsksForSetup h.old.settings taken.request.head.now film setup → AreSettings h.old.settings
     → IsSetup (length h.old.films) setup
-settled_ranges {h} {film} taken asks =
+settled_ranges {h} {film} taken asks good =
     let named = taken.judged.film.1.named.film in
-    setup_ranges asks (slice_get_within h.old.films film named.stored named.at)
+    let buffer = chosen _ asks.buffer good.some_buffer good.most_buffer in
+    let delay = chosen _ asks.delay (omega arith) good.most_delay in
+    record {
+      film = subst (λ n. n < length h.old.films) (sym asks.film_is)
+          (slice_get_within h.old.films film named.stored named.at);
+      some_buffer = buffer.above;
+      most_buffer = buffer.below;
+      most_delay = delay.below;
+    }
 
 -- memory may run out for a request that a method refuses for it
 pub may_lack : {h : HeardMessage} {request : Request} {refusal : Refusal} → OwnCause h request refusal

@@ -13,7 +13,6 @@ use Rattle.session.specs.declared.refusals.Task.TheVariants.{Options as ToOption
 use Rattle.session.specs.declared.refusals.Task.TheVariants.{Setup as ToSetup, Play as ToPlay, Pause as ToPause}
 use Rattle.session.specs.declared.refusals.Task.TheVariants.{Teardown as ToTeardown, GetParameter as ToGetParameter}
 use Rattle.session.specs.declared.states.AfterHalt.{AfterHalt}
-use Rattle.session.specs.declared.states.AfterHalt.TheVariants.{Paused, Torn}
 use Rattle.session.specs.declared.states.Awaited.TheVariants.{Play}
 use Rattle.film_streams.specs.declared.setups.Setup.{Setup}
 use Rattle.session.specs.declared.states.State.{State}
@@ -123,14 +122,12 @@ answer_changes h (SeeksOffer offer planned is asks) =
 pub hears_ground : (old new : SessionState) (message : List ℕ) (ask : Ask) → Hears old message ask new
     → IsSameContext old new
 hears_ground old new message ask hears =
-    let h : HeardMessage = heard_by {old = old} {new = new} {message = message} {ask = ask} hears in
-    (answer_changes h (answer_to h)).0
+    (answer_changes (heard_by hears) (answer_to (heard_by hears))).0
 
 pub hears_state : (old new : SessionState) (message : List ℕ) (ask : Ask) → Hears old message ask new
     → ChangesState ask old new
 hears_state old new message ask hears =
-    let h : HeardMessage = heard_by {old = old} {new = new} {message = message} {ask = ask} hears in
-    (answer_changes h (answer_to h)).1
+    (answer_changes (heard_by hears) (answer_to (heard_by hears))).1
 
 -- a PAUSE or a TEARDOWN waits for no halt but the one that it asks for
 answer_unstopped : (h : HeardMessage) → AsksNoHalt h.ask → AwaitsNoStop h.old → Answer h → AwaitsNoStop h.new
@@ -147,8 +144,7 @@ pub hears_unstopped : (old new : SessionState) (message : List ℕ) (ask : Ask) 
     ask
     → AwaitsNoStop old → AwaitsNoStop new
 hears_unstopped old new message ask hears free none =
-    let h : HeardMessage = heard_by {old = old} {new = new} {message = message} {ask = ask} hears in
-    answer_unstopped h free none (answer_to h)
+    answer_unstopped (heard_by hears) free none (answer_to (heard_by hears))
 
 -- a request in Ready that is a PLAY to which no refusal applies
 record ReadyPlay (old : SessionState) (request : Request) : Type 0 where

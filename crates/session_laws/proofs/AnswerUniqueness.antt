@@ -46,11 +46,11 @@ use Rattle.rtsp_replies.specs.Replies.{describe_text, plain_text, public_text, r
 use Rattle.film_streams.specs.Setups.{IsSetupRead}
 use Rattle.session.specs.SessionStates.{with_reply}
 use Rattle.session.proofs.InitialStateLemmas.{HeardMessage, TwoHearings}
-use Rattle.session_laws.proofs.RequestReadings.{Does, does_task, reading_of, refused_in, taken_up}
+use Rattle.session_laws.proofs.RequestReadings.{Does, does_task, reading_of, refused_in, taken_up, AreAlike}
+use Rattle.session_laws.proofs.RequestReadings.{passes_of}
 use Rattle.session.proofs.RequestUniqueness.{AreSameNames, first_sequence_is, names_once, read_once, topic_once}
 use Rattle.session.proofs.RequestUniqueness.{wait_once}
 use Rattle.session_laws.proofs.PlanUniqueness.{film_at_once, planned_once}
-use Rattle.session_laws.proofs.VerdictUniqueness.{AreAlike, passes_of}
 
 -- the slots that were stepped
 through_once : (one other : Option ℕ) → slots_through other ≡ slots_through one → other ≡ one

@@ -31,13 +31,12 @@ use Rattle.session_laws.proofs.MethodLemmas.{CurveCause, IsRange, IsBuffer, IsMe
 use Rattle.session_laws.proofs.MethodLemmas.{exists_in, fits_session}
 use Rattle.session.proofs.ReplyCodeLemmas.{ok_text_code, one_code, own_code, refusal_code}
 use Rattle.session.proofs.RequestUniqueness.{NoChannels, NoMeaning, unread}
-use Rattle.session_laws.proofs.VerdictUniqueness.{AreAlike}
+use Rattle.session_laws.proofs.RequestReadings.{AreAlike, same_request}
 use Rattle.session.proofs.InitialStateLemmas.{HeardMessage, heard_by}
 use Rattle.session.proofs.RequestCaseAnalysis.{Answer, Replies, SetsUp, StartsPlay, HaltsPlay, StopsPlay, EndsSession}
 use Rattle.session.proofs.RequestCaseAnalysis.{TakesLook, SeeksOffer, OwnReply, ToFault, ToRefused, ToDeclined}
 use Rattle.session.proofs.RequestCaseAnalysis.{ToAsked, ToDescribed, ToConfirmed, ToEmpty, OwnCause, NoSetup, NoPlan}
 use Rattle.session.proofs.RequestCaseAnalysis.{NoMemory, NoSession, NotInPlaying, NoParameter, answer_to, reply_of}
-use Rattle.session_laws.proofs.RequestReadings.{same_request}
 use Rattle.std.specs.Bool.{⊤}
 
 -- what a reply's code says of its request
@@ -202,8 +201,7 @@ causes_of : {old new : SessionState} {message : List ℕ} {request : Request} (c
     new)
     → CodedRequest (heard_by hears) request code → Causes old request code
 causes_of {old} {new} {message} code hears reply =
-    let h : HeardMessage = heard_by {old = old} {new = new} {message = message} {ask = Reply} hears in
-    answer_causes h reply refl (answer_to h)
+    answer_causes (heard_by hears) reply refl (answer_to (heard_by hears))
 
 pub method_cause : (old new : SessionState) (message : List ℕ) (request : Request) → Hears old message Reply new
     → IsReadAs message request → HasCode 501 new.text → ¬ IsKnownMethod request

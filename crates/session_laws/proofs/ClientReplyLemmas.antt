@@ -153,23 +153,16 @@ pub record IsOwnTeardown (old : SessionState) (url head : List ℕ) : Type 0 whe
   pub names : Names old.films url authority setup.film
 
 ends_alone : (h : HeardMessage) (sequence : ℕ) → Ends h.old sequence h.ask h.new → IsTornAnswered h.old sequence h.new
-ends_alone h sequence ends = record {
-  text = ap (λ (s : SessionState). s.text) ends.1;
-  films = ap (λ (s : SessionState). s.films) ends.1;
-  id = ap (λ (s : SessionState). s.id) ends.1;
-  setup = ap (λ (s : SessionState). setup_in s.state) ends.1;
-}
+ends_alone h sequence ends =
+    subst (IsTornAnswered h.old sequence) (sym ends.1) (record { text = refl; films = refl; id = refl; setup = refl })
 
 tears_in : (h : HeardMessage) (sequence : ℕ) (state : State) → h.old.state ≡ state
     → TearsDown state h.old sequence h.ask h.new → IsTornAnswered h.old sequence h.new
 tears_in h sequence Init same tears = ends_alone h sequence tears
 tears_in h sequence (Ready setup paused) same tears = ends_alone h sequence tears
-tears_in h sequence (Playing setup play) same tears = record {
-  text = ap (λ (s : SessionState). s.text) tears.state;
-  films = ap (λ (s : SessionState). s.films) tears.state;
-  id = ap (λ (s : SessionState). s.id) tears.state;
-  setup = ap (λ (s : SessionState). setup_in s.state) tears.state ∙ sym (ap setup_in same);
-}
+tears_in h sequence (Playing setup play) same tears =
+    subst (IsTornAnswered h.old sequence) (sym tears.state)
+    (record { text = refl; films = refl; id = refl; setup = sym (ap setup_in same) })
 tears_in h sequence (Stopping setup stop) same tears = ends_alone h sequence tears
 
 torn_call : (c : HeardCall (codes "TEARDOWN")) → IsOwnTeardown c.h.old c.url c.head

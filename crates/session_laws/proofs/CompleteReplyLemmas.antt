@@ -68,7 +68,6 @@ use Rattle.session_laws.specs.CompleteReplies.{AnswersLook, AnswersPlay, HasVali
 use Rattle.rtsp_replies.specs.Messages.{IsMessage}
 use Rattle.session.proofs.RequestUniqueness.{first_sequence_is}
 use Rattle.rtsp_replies.proofs.ReplyTextLemmas.{IsPrinted, bare_between, printed-w64}
-use Rattle.session.specs.declared.commands.Ask.TheVariants.{Reply, Halt as AskHalt}
 use Rattle.session.proofs.InitialStateLemmas.{HeardMessage, heard_by}
 use Rattle.session.proofs.RequestCaseAnalysis.{Answer, Replies as RepliesAlone, SetsUp as SettlesSetup, StartsPlay}
 use Rattle.session.proofs.RequestCaseAnalysis.{HaltsPlay, StopsPlay, EndsSession, TakesLook, SeeksOffer, OwnReply}
@@ -361,16 +360,13 @@ started_whole h well started =
   where
     open started use {play, planned, asks, planned_is as is}
 
--- a reply by itself, and one that waits for a halt
-replied : {text : List ℕ} (h : HeardMessage) → h.ask ≡ Reply → h.new.text ≡ text → IsMessage text
+-- by what is asked of the station
+by_ask : {asked : Ask} (h : HeardMessage) → h.ask ≡ asked → RepliesAreComplete asked h.new
     → RepliesAreComplete h.ask h.new
-replied h command is whole =
-    subst (λ (a : Ask). RepliesAreComplete a h.new) (sym command) (subst IsMessage (sym is) whole)
+by_ask h command whole = subst (λ (a : Ask). RepliesAreComplete a h.new) (sym command) whole
 
-halted : {text : List ℕ} {keep : ℕ} (h : HeardMessage) → h.ask ≡ AskHalt keep → h.new.text ≡ text → IsMessage text
-    → RepliesAreComplete h.ask h.new
-halted h command is whole =
-    subst (λ (a : Ask). RepliesAreComplete a h.new) (sym command) (subst IsMessage (sym is) whole)
+of_text : {text : List ℕ} (h : HeardMessage) → h.new.text ≡ text → IsMessage text → IsMessage h.new.text
+of_text h is whole = subst IsMessage (sym is) whole
 
 told_whole : {h : HeardMessage} {task : Task} → IsNamedWell h → (taken : TakenTask h task)
     → IsMessage (session_text taken.request.sequence h.old.id)
@@ -379,40 +375,38 @@ told_whole {h} well taken =
 
 answer_whole : (h : HeardMessage) → IsNamedWell h → Answer h → RepliesAreComplete h.ask h.new
 answer_whole h well (RepliesAlone reply is) =
-    replied h is.0 (ap (λ (s : SessionState). s.text) is.1) (own_whole h well reply)
+    by_ask h is.0 (of_text h (ap (λ (s : SessionState). s.text) is.1) (own_whole h well reply))
 answer_whole h well (SettlesSetup film taken setup asks is) =
     let small = setup_small (header_value taken.request.head.now (codes "Transport"))
     (record { media = setup.media; control = setup.control }) asks.channels in
-    replied h is.0 (ap (λ (s : SessionState). s.text) is.1) (setup_whole taken.request.sequence h.old.source.ssrc
-    (sized well.room taken.request taken.is_request).number small (own_id well))
+    by_ask h is.0 (of_text h (ap (λ (s : SessionState). s.text) is.1) (setup_whole taken.request.sequence
+    h.old.source.ssrc (sized well.room taken.request taken.is_request).number small (own_id well)))
 answer_whole h well (StartsPlay play planned asks planned_is) =
     started_whole h well (record { play = play; planned = planned; asks = asks; planned_is = planned_is })
 answer_whole h well (HaltsPlay taken hand is) =
-    halted h is.asks.command (ap (λ (s : SessionState). s.text) is.asks.state) (told_whole well taken)
+    by_ask h is.asks.command (of_text h (ap (λ (s : SessionState). s.text) is.asks.state) (told_whole well taken))
 answer_whole h well (StopsPlay taken hand is) =
-    halted h is.command (ap (λ (s : SessionState). s.text) is.state) (told_whole well taken)
+    by_ask h is.command (of_text h (ap (λ (s : SessionState). s.text) is.state) (told_whole well taken))
 answer_whole h well (EndsSession taken resting is) =
-    replied h is.0 (ap (λ (s : SessionState). s.text) is.1) (told_whole well taken)
+    by_ask h is.0 (of_text h (ap (λ (s : SessionState). s.text) is.1) (told_whole well taken))
 answer_whole h well (TakesLook taken look) =
     let n = taken.request.sequence in
     let number = (sized well.room taken.request taken.is_request).number in
-    subst (λ (a : Ask). RepliesAreComplete a h.new) (sym look.command) (subst AnswersLook (sym look.state) (record {
+    by_ask h look.command (subst AnswersLook (sym look.state) (record {
       look = λ place now at booked one two three.
           parameters_whole n (look_body now at booked) number (look_short now at booked one two three);
       full = λ entries live one two. full_whole n entries live number one two;
     }))
 answer_whole h well (SeeksOffer offer planned is asks) =
     let t = offer.taken in
-    subst (λ (a : Ask). RepliesAreComplete a h.new) (sym asks.command)
-    (λ note are. subst (λ (s : SessionState). IsMessage (after_offer s note).text) (sym asks.state)
+    by_ask h asks.command (λ note are. subst (λ (s : SessionState). IsMessage (after_offer s note).text) (sym asks.state)
     (parameters_whole t.request.sequence (offer_body note.offers.start note.offers.tried)
     (sized well.room t.request t.is_request).number (offer_short note.offers are)))
 
 pub replies_whole : (old : SessionState) (message : List ℕ) (ask : Ask) (new : SessionState) → HasValidIds old
     → LeavesRoom message → Hears old message ask new → RepliesAreComplete ask new
 replies_whole old message ask new named room hears =
-    let h : HeardMessage = heard_by {old = old} {new = new} {message = message} {ask = ask} hears in
-    answer_whole h (record { named = named; room = room }) (answer_to h)
+    answer_whole (heard_by hears) (record { named = named; room = room }) (answer_to (heard_by hears))
 
 -- what a session keeps from its beginning
 pub begins_named : (films : List Stored) (settings : Settings) (words : List ℕ) → AreFilms films

@@ -2,12 +2,10 @@ mod RtpNumberLemmas
 mod StateMachineLemmas
 pub mod RequestShapes
 pub mod RunLemmas
-mod VerdictUniqueness
 mod RequestReadings
 mod PlanUniqueness
 pub mod AnswerUniqueness
 mod ReplyContentLemmas
-mod RangeInPlayingLemmas
 pub mod SlotCountLemmas
 mod PlayNoteLemmas
 mod OfferLemmas
@@ -19,7 +17,6 @@ pub mod WholeFilmLemmas
 pub mod CompleteReplyLemmas
 mod RefusalLawLemmas
 mod ReplyNumberLemmas
-mod SoundStateLemmas
 mod MethodLemmas
 mod CauseLemmas
 pub mod ClientReplyLemmas

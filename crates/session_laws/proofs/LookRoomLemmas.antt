@@ -64,8 +64,7 @@ slot_room false sending old slot = refl
 happening_room : (old : SessionState) (happening : SessionEvent) (new : SessionState) → IsAfter old happening new
     → Keeps (looks_of happening) old new
 happening_room old (Message message ask) new is =
-    let h : HeardMessage = heard_by {old = old} {new = new} {message = message} {ask = ask} is in
-    answer_room h (answer_to h)
+    answer_room (heard_by is) (answer_to (heard_by is))
 happening_room old (Admission place start) new is = same_room old new (ap (λ (s : SessionState). s.looks_left) is)
 happening_room old (Overflow place slot booked asked) new is =
     same_room old new (ap (λ (s : SessionState). s.looks_left) is)

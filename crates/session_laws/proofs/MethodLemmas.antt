@@ -48,22 +48,21 @@ use Rattle.session_laws.specs.ReplyContents.{IsDescribeReply, IsSetupReply}
 use Rattle.session.specs.RefusalOrder.{FitsFilm, FitsSession, IsOwnFilm, IsOwnSession, IsSpoken, IsTimely}
 use Rattle.rtsp_methods.specs.RequiredOptions.{first_of}
 use Rattle.rtsp_methods.specs.Methods.{IsTopic, IsWord, name_of}
-use Rattle.rtsp_replies.specs.Replies.{code_of, plain_text, public_text, refusal_fields, refusal_text, session_text}
+use Rattle.rtsp_replies.specs.Replies.{code_of, plain_text, public_text, refusal_text, session_text}
 use Rattle.session.specs.RequestedPlans.{HasNoPlan, IsPlanned}
 use Rattle.rtsp_methods.specs.Refusals.{curve_refusal}
 use Rattle.film_streams.specs.SettingRanges.{AreFilms}
 use Rattle.film_streams.specs.Setups.{IsSetupRead, AreChannelsOf, HasChannels, IsChosen}
 use Rattle.session.specs.SessionStates.{SessionState, has_session_in, with_reply}
 use Rattle.session.proofs.InitialStateLemmas.{HeardMessage, PlayInHand}
-use Rattle.session_laws.proofs.RequestReadings.{TakenUp, taken_up}
+use Rattle.session_laws.proofs.RequestReadings.{TakenUp, taken_up, AreAlike}
 use Rattle.session_laws.proofs.OfferLemmas.{least_told, offer_asked, wait_in}
 use Rattle.session_laws.proofs.PauseTeardownLemmas.{session_told}
-use Rattle.session_laws.proofs.PlanUniqueness.{film_at_once, planned_once}
-use Rattle.session_laws.proofs.RefusalLawLemmas.{refused_by}
+use Rattle.session_laws.proofs.PlanUniqueness.{film_at_once, plan_or_none}
+use Rattle.session_laws.proofs.RefusalLawLemmas.{refused_as, refused_by}
 use Rattle.session_laws.proofs.ReplyContentLemmas.{film_told, setup_told}
 use Rattle.rtsp_replies.proofs.ReplyPhrases.{public_told}
 use Rattle.session.proofs.RequestUniqueness.{names_once, read_once, topic_once}
-use Rattle.session_laws.proofs.VerdictUniqueness.{AreAlike}
 
 -- ---- what a request says
 
@@ -118,23 +117,13 @@ text_by : {new : SessionState} {ask : Ask} (old : SessionState) (text : List ℕ
     → new.text ≡ text
 text_by old text is = ap (λ (s : SessionState). s.text) is.1
 
-refused_as : (h : HeardMessage) (sequence : ℕ) (refusal : Refusal)
-    → IsRefused h.old (Some sequence) refusal [] h.ask h.new
-    → IsRefusedBy h.old (code_of refusal) sequence h.ask h.new
-refused_as h sequence refusal is = record {
-  command = is.0;
-  leaves = is.1 ∙ ap (λ (t : List ℕ). with_reply h.old t) (sym (ap (λ (s : SessionState). s.text) is.1));
-  fields = refusal_fields refusal [];
-  text_is = ap (λ (s : SessionState). s.text) is.1;
-}
-
 -- a request that is alike, by its number
 refused_alike : {request other : Request} (h : HeardMessage) (refusal : Refusal) → AreAlike request other
     → IsRefused h.old (Some other.sequence) refusal [] h.ask h.new
     → IsRefusedBy h.old (code_of refusal) request.sequence h.ask h.new
 refused_alike {other} h refusal alike is =
     subst (λ n. IsRefusedBy h.old (code_of refusal) n h.ask h.new) alike.sequence
-    (refused_as h other.sequence refusal is)
+    (refused_as h other.sequence refusal [] is)
 
 -- ---- OPTIONS
 
@@ -357,7 +346,7 @@ by_cause : (h : HeardMessage) (plan : NeededPlan) (refusal : Refusal)
     → IsRefused h.old (Some plan.sequence) refusal [] h.ask h.new → CurveCause refusal → PlanRefused h plan
 by_cause h plan refusal none is (IsRange same) = NoCurves (record {
   why = subst (λ (r : Refusal). HasNoPlan h.old plan.setup plan.paused plan.range r) same none;
-  refused = refused_as h plan.sequence Range
+  refused = refused_as h plan.sequence Range []
       (subst (λ (r : Refusal). IsRefused h.old (Some plan.sequence) r [] h.ask h.new) same is);
 })
 by_cause h plan refusal none is (IsBuffer least same) =
@@ -372,7 +361,7 @@ by_cause h plan refusal none is (IsBuffer least same) =
           (least_told (Some plan.sequence) least []);
     })
 by_cause h plan refusal none is (IsMemory same) =
-    NoMemory (refused_as h plan.sequence Memory
+    NoMemory (refused_as h plan.sequence Memory []
     (subst (λ (r : Refusal). IsRefused h.old (Some plan.sequence) r [] h.ask h.new) same is))
 
 plan_refusal : (h : HeardMessage) (plan : NeededPlan) (refusal : Refusal)
@@ -380,7 +369,7 @@ plan_refusal : (h : HeardMessage) (plan : NeededPlan) (refusal : Refusal)
     → IsRefused h.old (Some plan.sequence) refusal [] h.ask h.new → PlanRefused h plan
 plan_refusal h plan refusal (inl none) is = NoMeaning (record {
   why = record { stored = none.stored; at = none.at; none = none.none };
-  refused = refused_as h plan.sequence Range
+  refused = refused_as h plan.sequence Range []
       (subst (λ (r : Refusal). IsRefused h.old (Some plan.sequence) r [] h.ask h.new) none.refusal_is is);
 })
 plan_refusal h plan refusal (inr none) is =
@@ -426,12 +415,6 @@ ready_play h r is =
           done.planned) t.alike.head done.is_planned;
       asks = done.asks;
     }
-
-memory_of : {refusal : Refusal} {planned : Planned} (one other : Result Planned Refusal) → one ≡ Ok planned
-    → other ≡ Err refusal → (other ≡ one) ⊎ ((one ≡ Err Memory) ⊎ (other ≡ Err Memory)) → refusal ≡ Memory
-memory_of one other ok err (inl same) = absurd (let no : ⊥ = cc (ok, err, same) in no)
-memory_of one other ok err (inr (inl same)) = absurd (let no : ⊥ = cc (ok, same) in no)
-memory_of one other ok err (inr (inr same)) = cc (err, same)
 
 -- one that was planned: the station is asked for the play
 planned_asks : {h : HeardMessage} {r : ReadyRequest h} {planned : Planned} (p : ReadyPlay h r)
@@ -495,9 +478,8 @@ play_asked {given} h r is run =
     → IsPlayAskedOf h.old r.request r.setup r.paused h.ask h.new ⊎ IsRefusedBy h.old 500 r.request.sequence h.ask h.new) [
       | Ok planned ↦ λ its asks. planned_done p its asks
       | Err refusal ↦ λ its refused.
-          let memory : refusal ≡ Memory = memory_of {refusal = refusal} {planned = given} (Ok given) (Err refusal) refl
-          refl (planned_once (record { old = h.old; setup = r.setup; paused = r.paused; range = range }) (Ok given) (Err refusal)
-          run its) in
+          let memory = plan_or_none (record { old = h.old; setup = r.setup; paused = r.paused; range = range }) given
+          refusal run its in
           inr (refused_alike h Memory p.alike
           (subst (λ (x : Refusal). IsRefused h.old (Some p.other.sequence) x [] h.ask h.new) memory refused))
     ]) p.is_planned p.asks
@@ -567,7 +549,7 @@ look_done h n m same (inl look) =
 look_done h n m same (inr short) =
     inr (record {
       why = short.later;
-      refused = subst (λ k. IsRefusedBy h.old 500 k h.ask h.new) same (refused_as h n Memory short.refused);
+      refused = subst (λ k. IsRefusedBy h.old 500 k h.ask h.new) same (refused_as h n Memory [] short.refused);
     })
 
 pub parameter_look : (h : HeardMessage) (request : Request) → IsParameterRequest h.old h.message request
@@ -582,33 +564,22 @@ pub record OfferRequest (h : HeardMessage) (request : Request) : Type 0 where
   pub is : IsParameterRequest h.old h.message request
   pub body : IsWord (codes "x-Offer") request.body.now
 
--- an offer, by the state
-record OfferTaken (h : HeardMessage) (request : Request) (state : State) : Type 0 where
-  pub other : Request
-  pub alike : AreAlike request other
-  pub gets : GetsOffer state h.old other h.ask h.new
-
-offer_taken : (h : HeardMessage) (request : Request) (state : State) → h.old.state ≡ state → OfferRequest h request
-    → OfferTaken h request state
-offer_taken h request state in_state offer =
-    let t = topic_taken h request OfferTopic offer.is offer.body in
-    record {
-      other = t.other;
-      alike = t.alike;
-      gets = subst (λ (s : State). GetsOffer s h.old t.other h.ask h.new) in_state t.gets;
-    }
+-- it is processed, by the state
+offer_taken : {h : HeardMessage} {request : Request} {state : State} (t : TopicTaken h request OfferTopic)
+    → h.old.state ≡ state → GetsOffer state h.old t.other h.ask h.new
+offer_taken {h} t is = subst (λ (s : State). GetsOffer s h.old t.other h.ask h.new) is t.gets
 
 pub offer_no_session : (h : HeardMessage) (request : Request) → OfferRequest h request → h.old.state ≡ Init
     → IsRefusedBy h.old 454 request.sequence h.ask h.new
 offer_no_session h request offer init =
-    let t = offer_taken h request Init init offer in
-    refused_alike h Session t.alike t.gets
+    let t = topic_taken h request OfferTopic offer.is offer.body in
+    refused_alike h Session t.alike (offer_taken t init)
 
 pub offer_playing : (h : HeardMessage) (request : Request) → OfferRequest h request → PlayInHand h.old
     → IsRefusedBy h.old 455 request.sequence h.ask h.new
 offer_playing h request offer hand =
-    let t = offer_taken h request (Playing hand.setup hand.play) hand.playing offer in
-    refused_alike h NotNow t.alike t.gets
+    let t = topic_taken h request OfferTopic offer.is offer.body in
+    refused_alike h NotNow t.alike (offer_taken t hand.playing)
 
 has_wait : {head : List ℕ} {wait : ℕ} → IsWaitIn head wait → HasWait head wait
 has_wait {wait} is = subst (λ (v : Option (List ℕ)). IsWaitOf v wait) (sym is.named) (record {
@@ -620,8 +591,8 @@ has_wait {wait} is = subst (λ (v : Option (List ℕ)). IsWaitOf v wait) (sym is
 pub offer_no_wait : (h : HeardMessage) (r : ReadyRequest h) → OfferRequest h r.request
     → ((wait : ℕ) → ¬ IsWaitIn r.request.head.now wait) → IsRefusedBy h.old 451 r.request.sequence h.ask h.new
 offer_no_wait h r offer none =
-    let t = offer_taken h r.request (Ready r.setup r.paused) r.ready offer in
-    elim t.gets [
+    let t = topic_taken h r.request OfferTopic offer.is offer.body in
+    elim (offer_taken t r.ready) [
       | inl short ↦ refused_alike h Parameter t.alike short.refused
       | inr offers ↦ absurd (none offers.wait (subst (λ (x : List ℕ). IsWaitIn x offers.wait) t.alike.head
           (wait_in t.other.head.now (header_value t.other.head.now (codes "x-Wait")) offers.wait refl offers.has_wait)))
@@ -641,7 +612,7 @@ offers_done {n} {wait} {setup} {paused} h offers =
           command = asks.command;
           asked = offer_asked h asks.command;
         })
-        | inr refused ↦ inr (NoMemory (refused_as h n Memory refused))
+        | inr refused ↦ inr (NoMemory (refused_as h n Memory [] refused))
       ]
       | Err refusal ↦ λ is refused.
           inr (plan_refusal h (record { setup = setup; paused = paused; range = None; sequence = n }) refusal is refused)
@@ -651,8 +622,8 @@ pub offer_ready : (h : HeardMessage) (r : ReadyRequest h) (wait : ℕ) → Offer
     → IsWaitIn r.request.head.now wait → IsOfferAskedOf h.old h.message h.ask h.new
     ⊎ PlanRefusal h.old r.setup r.paused None r.request.sequence h.ask h.new
 offer_ready h r wait offer waits =
-    let t = offer_taken h r.request (Ready r.setup r.paused) r.ready offer in
-    elim t.gets [
+    let t = topic_taken h r.request OfferTopic offer.is offer.body in
+    elim (offer_taken t r.ready) [
       | inl short ↦
           absurd (short.none wait (has_wait (subst (λ (x : List ℕ). IsWaitIn x wait) (sym t.alike.head) waits)))
       | inr offers ↦

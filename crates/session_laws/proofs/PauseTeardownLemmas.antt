@@ -33,7 +33,7 @@ use Rattle.session.proofs.RequestCaseAnalysis.{Answer, Replies, SetsUp, StartsPl
 use Rattle.session.proofs.RequestCaseAnalysis.{HaltsPlay as PausesIt, EndsSession as EndsAlone, SeeksOffer, answer_to}
 use Rattle.session.proofs.RequestCaseAnalysis.{is_teardown}
 use Rattle.session_laws.proofs.RequestReadings.{HeardMethod, IsStopped, IsTakenUp, TakenUp, heard_method, taken_up}
-use Rattle.session_laws.proofs.RangeInPlayingLemmas.{refused}
+use Rattle.session_laws.proofs.RefusalLawLemmas.{refused}
 
 -- ---- what each method comes to
 
@@ -203,19 +203,13 @@ happening_calm : (old : SessionState) (happening : SessionEvent) (new : SessionS
     IsCalm old
     → IsTeardownHeard happening ⊎ IsCalm new
 happening_calm old (Message message ask) new is calm =
-    let h : HeardMessage = heard_by {old = old} {new = new} {message = message} {ask = ask} is in
-    answer_calm h calm (answer_to h)
-happening_calm old (Admission place start) new is calm =
-    inr (subst IsCalm (sym is) (record { tearing = calm.tearing; torn = calm.torn; awaited = refl }))
-happening_calm old (Overflow place slot booked asked) new is calm =
-    inr (subst IsCalm (sym is) (record { tearing = calm.tearing; torn = calm.torn; awaited = refl }))
-happening_calm old (Full entries live) new is calm =
-    inr (subst IsCalm (sym is) (record { tearing = calm.tearing; torn = calm.torn; awaited = refl }))
+    answer_calm (heard_by is) calm (answer_to (heard_by is))
+happening_calm old (Admission place start) new is calm = inr (same_calm calm is refl refl refl)
+happening_calm old (Overflow place slot booked asked) new is calm = inr (same_calm calm is refl refl refl)
+happening_calm old (Full entries live) new is calm = inr (same_calm calm is refl refl refl)
 happening_calm old (Halt place) new is calm = inr (subst IsCalm (sym is) (halt_calm old place calm))
-happening_calm old (Look place now at booked) new is calm =
-    inr (subst IsCalm (sym is) (record { tearing = calm.tearing; torn = calm.torn; awaited = refl }))
-happening_calm old (Offer note) new is calm =
-    inr (subst IsCalm (sym is) (record { tearing = calm.tearing; torn = calm.torn; awaited = refl }))
+happening_calm old (Look place now at booked) new is calm = inr (same_calm calm is refl refl refl)
+happening_calm old (Offer note) new is calm = inr (same_calm calm is refl refl refl)
 happening_calm old (Slot slot) new is calm =
     inr (subst IsCalm (sym is) (slot_calm (is_taken old slot) (is_sending old.state) old slot calm))
 happening_calm old Sending new is calm = inr (subst IsCalm (sym is) (reply_calm old calm))

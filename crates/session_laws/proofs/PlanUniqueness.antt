@@ -251,7 +251,7 @@ planned_run_once p one other given again =
     (λ p. P one.run one.counts p) plan
 
 -- a plan, and none
-plan_or_none : (p : PlanAsked) (planned : Planned) (refusal : Refusal)
+pub plan_or_none : (p : PlanAsked) (planned : Planned) (refusal : Refusal)
     → IsPlanned p.old p.setup p.paused p.range (Ok planned) → IsPlanned p.old p.setup p.paused p.range (Err refusal)
     → refusal ≡ Memory
 plan_or_none p planned refusal given (inl none) =

@@ -1,4 +1,5 @@
--- The refusals that all methods share, by their codes; what a PLAY without a Range plays.
+-- The refusals that all methods share, by their codes; a PLAY with a Range in Playing, and what one
+-- without a Range, or from now on, plays.
 use Rattle.std.proofs.Common.{◌≡◌, ℕ, length, ◌*◌, ◌≤◌, Bool, true, List, Option, Some, None, is_some, codes, Err}
 use Rattle.std.proofs.Common.{refl, sym, ap, subst, ◌∙◌, inl, inr, arith}
 use Rattle.std.specs.Bool.{⊤}
@@ -22,11 +23,13 @@ use Rattle.session.specs.declared.play_requests.PlayRequest.{PlayRequest}
 use Rattle.session.specs.declared.play_requests.PlayRequest.TheVariants.{Resumed, New}
 use Rattle.rtsp_methods.specs.declared.refusals.Refusal.{Refusal}
 use Rattle.rtsp_methods.specs.declared.refusals.Refusal.TheVariants.{Method as Unknown, Option as Required, Session}
-use Rattle.rtsp_methods.specs.declared.refusals.Refusal.TheVariants.{Film as NoFilm, State as NotNow}
+use Rattle.rtsp_methods.specs.declared.refusals.Refusal.TheVariants.{Film as NoFilm, State as NotNow, BadRequest}
+use Rattle.rtsp_methods.specs.declared.refusals.Refusal.TheVariants.{Version, Transport, Parameter, Buffer, Range}
+use Rattle.rtsp_methods.specs.declared.refusals.Refusal.TheVariants.{Memory}
 use Rattle.film_streams.specs.declared.setups.Setup.{Setup as SetupIs}
 use Rattle.session.specs.Laws.{Resumes}
 use Rattle.session.specs.Methods.{IsRefused}
-use Rattle.session_laws.specs.PlayLaws.{PassesEarlierChecks}
+use Rattle.session_laws.specs.PlayLaws.{PassesEarlierChecks, HasRangeInPlaying, IsDeclined}
 use Rattle.session_laws.specs.RefusalLaws.{BeginsFilm, IsForeign, IsInvalidMethod, IsKnownMethod, IsOfNoFilm}
 use Rattle.session_laws.specs.RefusalLaws.{IsOfNoSession, IsRefusedBy, IsWholeFilm, LacksSession, RequiresSomeOption}
 use Rattle.session.specs.RefusalOrder.{FitsSession, IsJudged, IsOwnSession, IsReadAs, IsTimely}
@@ -35,11 +38,13 @@ use Rattle.rtsp_replies.specs.Replies.{code_of, refusal_fields, refusal_text}
 use Rattle.session.specs.RequestSteps.{Hears}
 use Rattle.session.specs.RequestedPlans.{IsPlannedRun}
 use Rattle.session.specs.RunRequests.{IsRequestFor, run_of}
-use Rattle.session.specs.SessionStates.{SessionState, with_reply}
+use Rattle.session.specs.SessionStates.{SessionState, with_reply, is_playing_in}
 use Rattle.session.proofs.InitialStateLemmas.{HeardMessage, heard_by}
 use Rattle.session.proofs.ResumedPlayLemmas.{span_of_once}
-use Rattle.session_laws.proofs.RequestReadings.{reading_of, refused_in}
+use Rattle.session_laws.proofs.RequestReadings.{reading_of, refused_in, IsStopped, IsTakenUp, heard_method}
 use Rattle.session_laws.proofs.RtpNumberLemmas.{goes_on_from_now}
+use Rattle.session.specs.RequestEffects.{HasCode}
+use Rattle.session.proofs.ReplyCodeLemmas.{one_code, own_code, refusal_code}
 
 -- a received request, read so
 pub record HeardRequest : Type 0 where
@@ -55,22 +60,25 @@ request_heard {old} {new} {message} {ask} request hears is = record {
   is = is;
 }
 
+-- a refusal, by its code
+pub refused_as : (h : HeardMessage) (sequence : ℕ) (refusal : Refusal) (option : List ℕ)
+    → IsRefused h.old (Some sequence) refusal option h.ask h.new
+    → IsRefusedBy h.old (code_of refusal) sequence h.ask h.new
+refused_as h sequence refusal option is = record {
+  command = is.0;
+  leaves = is.1 ∙ ap (λ (t : List ℕ). with_reply h.old t) (sym (ap (λ (s : SessionState). s.text) is.1));
+  fields = refusal_fields refusal option;
+  text_is = ap (λ (s : SessionState). s.text) is.1;
+}
+
 -- one that is judged so is refused so
 pub refused_by : (r : HeardRequest) (refusal : Refusal)
     → IsJudged r.heard.old.films r.heard.old.id r.heard.old.state r.request (Err refusal)
     → IsRefusedBy r.heard.old (code_of refusal) r.request.sequence r.heard.ask r.heard.new
 refused_by r refusal own =
     let its = reading_of r.heard r.request r.is in
-    let done : IsRefused r.heard.old (Some its.other.sequence) refusal (option_of its.other.head.now) r.heard.ask
-    r.heard.new = refused_in refusal its own in
-    let text : r.heard.new.text ≡ refusal_text (Some its.other.sequence) refusal (option_of its.other.head.now) =
-    ap (λ (s : SessionState). s.text) done.1 in
-    record {
-      command = done.0;
-      leaves = done.1 ∙ ap (λ (t : List ℕ). with_reply r.heard.old t) (sym text);
-      fields = refusal_fields refusal (option_of its.other.head.now);
-      text_is = text ∙ ap (λ n. refusal_text (Some n) refusal (option_of its.other.head.now)) its.alike.sequence;
-    }
+    subst (λ n. IsRefusedBy r.heard.old (code_of refusal) n r.heard.ask r.heard.new) its.alike.sequence
+    (refused_as r.heard its.other.sequence refusal (option_of its.other.head.now) (refused_in refusal its own))
 
 pub unknown_refused : (r : HeardRequest) → ¬ IsKnownMethod r.request
     → IsRefusedBy r.heard.old 501 r.request.sequence r.heard.ask r.heard.new
@@ -227,3 +235,66 @@ now_resumes old stored setup paused value span planned is now planned_is =
     let asked = planned_is.asked in
     goes_on_from_now old planned_is
     (ap (λ (s : Span). s.from) (span_of_once (Some value) asked.span span asked.is_span is) ∙ now)
+
+-- ---- a PLAY with a Range in Playing
+
+-- no refusal has the code 200
+not_ok : (refusal : Refusal) → code_of refusal ≡ 200 → ⊥
+not_ok BadRequest is = omega (arith, is)
+not_ok Version is = omega (arith, is)
+not_ok Unknown is = omega (arith, is)
+not_ok Required is = omega (arith, is)
+not_ok Session is = omega (arith, is)
+not_ok NoFilm is = omega (arith, is)
+not_ok NotNow is = omega (arith, is)
+not_ok Transport is = omega (arith, is)
+not_ok Parameter is = omega (arith, is)
+not_ok (Buffer least) is = omega (arith, is)
+not_ok Range is = omega (arith, is)
+not_ok Memory is = omega (arith, is)
+
+pub refused : (h : HeardMessage) (sequence : Option ℕ) (refusal : Refusal) (option : List ℕ)
+    → IsRefused h.old sequence refusal option h.ask h.new → IsDeclined h.old h.ask h.new
+refused h sequence refusal option is =
+    let text : h.new.text ≡ refusal_text sequence refusal option = ap (λ (s : SessionState). s.text) is.1 in
+    record {
+      command = is.0;
+      leaves = is.1 ∙ ap (λ (t : List ℕ). with_reply h.old t) (sym text);
+      no_ok = λ ok.
+          let its = subst (λ (t : List ℕ). HasCode 200 t) text ok in
+          not_ok refusal (one_code (refusal_text sequence refusal option) (own_code refusal).small (omega arith)
+          (refusal_code sequence refusal option) its);
+    }
+
+-- in Playing a PLAY with a Range is untimely
+ranged_untimely : {request : Request} (h : HeardMessage) (other : Request) → HasRangeInPlaying h.old h.message request
+    → other.head.now ≡ request.head.now → ¬ IsTimely h.old.state other Play
+ranged_untimely h other is head = λ timely.
+    let none = timely (ap is_playing_in is.playing) in
+    let some = ap (λ (x : List ℕ). is_some (header_value x (codes "Range"))) head ∙ ap is_some is.range in
+    let no : ⊥ = cc (none, some) in no
+
+pub range_refused : {request : Request} (heard : HeardMessage) → HasRangeInPlaying heard.old heard.message request
+    → IsDeclined heard.old heard.ask heard.new
+range_refused {request} heard is =
+    elim (heard_method heard request Play is.is_request is.method) [
+      | IsStopped other refusal alike judged done ↦
+          refused heard (Some other.sequence) refusal (option_of other.head.now) done
+      | IsTakenUp up ↦ absurd (ranged_untimely heard up.other is up.alike.head up.timely)
+    ]
+
+-- its code, where no other refusal comes before
+pub range_455 : {request : Request} (heard : HeardMessage) → HasRangeInPlaying heard.old heard.message request
+    → PassesEarlierChecks Play heard.old request → HasCode 455 heard.new.text
+range_455 {request} heard is good =
+    let r = reading_of heard request is.is_request in
+    let option = option_of r.other.head.now in
+    let done : IsRefused heard.old (Some r.other.sequence) NotNow option heard.ask heard.new =
+    refused_in NotNow r (record {
+      method = Play;
+      talk = good.talk;
+      film = good.film;
+      state = ranged_untimely heard request is refl;
+    }) in
+    subst (λ (t : List ℕ). HasCode 455 t) (sym (ap (λ (s : SessionState). s.text) done.1))
+    (refusal_code (Some r.other.sequence) NotNow option)

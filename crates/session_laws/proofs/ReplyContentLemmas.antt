@@ -2,7 +2,7 @@
 use Rattle.std.proofs.Common.{◌≡◌, ◌≢◌, ℕ, ◌+◌, ◌-◌, ◌*◌, ◌/◌, ◌%◌, ◌^◌, ◌<◌, ◌≤◌, ◌&&◌, ◌==◌, not, nat_lt, nat_le}
 use Rattle.std.proofs.Common.{true, false, List, [], ◌∷◌, ◌++◌, length, take, drop, get_or, slice_range, slice_index}
 use Rattle.std.proofs.Common.{codes, decimal, string_bytes, Option, Some, None, Ok, add_comm, refl, sym, ap, subst}
-use Rattle.std.proofs.Common.{◌∙◌, inl, inr, arith}
+use Rattle.std.proofs.Common.{◌∙◌, inl, inr, arith, Bool}
 use Rattle.std.proofs.Math.Nat.{div-mul-le_self, mul-le-mul}
 use Rattle.std.specs.List.{list_all}
 use Rattle.std.specs.Char.{is_ascii_digit}
@@ -59,10 +59,12 @@ ticks_4 : (units : ℕ) → AreTicks (units / 4) 4 units
 ticks_4 units = record { passed = div-mul-le_self units 4; no_more = omega arith }
 
 -- texts without a byte
+all-append : (p : ℕ → Bool) (a b : List ℕ) → list_all p a ≡ true → list_all p b ≡ true → list_all p (a ++ b) ≡ true
+all-append p a b here there = list_all-append p a b ∙ and_from (list_all p a) (list_all p b) here there
+
 no_dash-append : (a b : List ℕ) → list_all (λ x. not (x == 45)) a ≡ true → list_all (λ x. not (x == 45)) b ≡ true
     → list_all (λ x. not (x == 45)) (a ++ b) ≡ true
-no_dash-append a b here there = list_all-append (λ x. not (x == 45)) a b
-    ∙ and_from (list_all (λ x. not (x == 45)) a) (list_all (λ x. not (x == 45)) b) here there
+no_dash-append a b here there = all-append (λ x. not (x == 45)) a b here there
 
 no_dash-decimal : (n : ℕ) → n < 2 ^ 64 → list_all (λ x. not (x == 45)) (decimal n) ≡ true
 no_dash-decimal n small = all_other is_ascii_digit 45 refl (decimal n) (digits_decimal decimal_numerals n small)
@@ -159,11 +161,6 @@ tail_prints tail (inr (inl is)) = rw is refl
 tail_prints tail (inr (inr (inl is))) = rw is refl
 tail_prints tail (inr (inr (inr is))) = rw is refl
 
-prints-append : (a b : List ℕ) → list_all is_url_byte a ≡ true → list_all is_url_byte b ≡ true
-    → list_all is_url_byte (a ++ b) ≡ true
-prints-append a b here there =
-    list_all-append is_url_byte a b ∙ and_from (list_all is_url_byte a) (list_all is_url_byte b) here there
-
 -- what is known of an authority
 pub record IsAuthority (authority : List ℕ) : Type 0 where
   some : 0 < length authority
@@ -192,7 +189,7 @@ path_prints : (name tail : List ℕ) → good_name name ≡ true → IsTail tail
 path_prints name tail good is_tail =
     let bytes = and_parts (nat_lt 0 (length name) && nat_le (length name) 64 && not (slice_index name 0 == 46))
     (list_all is_name_byte name) good in
-    prints-append (47 ∷ name) tail (name_in_url name bytes.1) (tail_prints tail is_tail)
+    all-append is_url_byte (47 ∷ name) tail (name_in_url name bytes.1) (tail_prints tail is_tail)
 
 -- an authority ends where a path begins
 path_place : (authority path : List ℕ)
@@ -219,8 +216,8 @@ film_url authority name tail is good is_tail =
     omega (arith, length-append (codes "rtsp://") (authority ++ path), length-append authority path) in
     record {
       path = 7 + length authority;
-      is_url = absolute_url (prints-append (codes "rtsp://") (authority ++ path) refl
-          (prints-append authority path is.prints (path_prints name tail good is_tail))) (record {
+      is_url = absolute_url (all-append is_url_byte (codes "rtsp://") (authority ++ path) refl
+          (all-append is_url_byte authority path is.prints (path_prints name tail good is_tail))) (record {
             scheme = refl;
             authority = let some = is.some in omega (arith, some);
             end = record {

@@ -6,7 +6,6 @@ use Rattle.rtsp_text.specs.declared.requests.Request.{Request}
 use Rattle.rtsp_text.proofs.MessageUniqueness.{no_fault}
 use Rattle.rtsp_text.proofs.ReplyTexts.{front_field, whole_reply}
 use Rattle.session.specs.declared.commands.Ask.{Ask}
-use Rattle.session.specs.declared.commands.Ask.TheVariants.{Reply, Halt as AskHalt}
 use Rattle.session.specs.declared.plans.Planned.{Planned}
 use Rattle.session.specs.declared.refusals.Task.{Task}
 use Rattle.film_streams.specs.Films.{milliseconds_at}
@@ -14,7 +13,7 @@ use Rattle.film_streams.specs.StreamNumbers.{timestamp_at}
 use Rattle.session.specs.Methods.{AsksPlay, first_number}
 use Rattle.session.specs.RefusalOrder.{IsReadAs}
 use Rattle.rtsp_replies.specs.Replies.{code_of, field, full_text, look_body, offer_body, overflow_text}
-use Rattle.rtsp_replies.specs.Replies.{parameters_text, play_fields, session_text, started_text}
+use Rattle.rtsp_replies.specs.Replies.{parameters_text, play_fields, started_text}
 use Rattle.session_laws.specs.ReplyNumbers.{HasNumber, RepliesHaveNumber}
 use Rattle.session.specs.SessionStates.{SessionState, sequence_of}
 use Rattle.session.proofs.InitialStateLemmas.{HeardMessage}
@@ -73,6 +72,11 @@ full_named : {n : ℕ} (h : HeardMessage) → sequence_of h.new.awaited ≡ n
     → (entries live : ℕ) → HasNumber n (after_full h.new entries live).text
 full_named {n} h number entries live = same_number (ap (λ k. full_text k entries live) number) (numbered 503 n _ [])
 
+-- by what is asked of the station
+by_ask : {asked : Ask} (h : HeardMessage) (n : ℕ) → h.ask ≡ asked → RepliesHaveNumber n asked h.new
+    → RepliesHaveNumber n h.ask h.new
+by_ask h n command has = subst (λ (a : Ask). RepliesHaveNumber n a h.new) (sym command) has
+
 play_number : (h : HeardMessage) (play : ReadyPlay h) (planned : Planned)
     → AsksPlay h.old play.taken.request.sequence play.asked.authority.now play.setup planned h.ask h.new
     → RepliesHaveNumber play.taken.request.sequence h.ask h.new
@@ -83,7 +87,7 @@ play_number h play planned is =
     let fields = play_fields h.old.id (milliseconds_at stored.film planned.run.from_unit)
     (milliseconds_at stored.film planned.run.end_unit) play.asked.authority.now (string_bytes stored.name)
     (first_number h.old stored play.setup planned) (timestamp_at stored.film h.old.source planned.run.from_unit) in
-    subst (λ (a : Ask). RepliesHaveNumber n a h.new) (sym is.command) (record {
+    by_ask h n is.command (record {
       admission = λ place start.
           started_number n h.new.text fields (start - h.new.heard) (ap (λ (t : SessionState). t.text) is.state);
       overflow = λ place slot booked asked.
@@ -91,38 +95,29 @@ play_number h play planned is =
       full = full_named h number;
     })
 
-halt_number : (h : HeardMessage) (n keep : ℕ) → h.ask ≡ AskHalt keep → h.new.text ≡ session_text n h.old.id
-    → RepliesHaveNumber n h.ask h.new
-halt_number h n keep command is =
-    subst (λ (a : Ask). RepliesHaveNumber n a h.new) (sym command) (same_number is (numbered 200 n _ []))
-
--- a reply of the session's own
-answered : {text : List ℕ} (h : HeardMessage) (n : ℕ) → h.ask ≡ Reply → h.new.text ≡ text → HasNumber n text
-    → RepliesHaveNumber n h.ask h.new
-answered h n command is has =
-    subst (λ (a : Ask). RepliesHaveNumber n a h.new) (sym command) (same_number is has)
-
 answer_number : (h : HeardMessage) (request : Request) → IsReadAs h.message request → Answer h
     → RepliesHaveNumber request.sequence h.ask h.new
 answer_number h request read answer = elim answer [
   | Replies reply is ↦
-      answered h request.sequence is.0 (ap (λ (t : SessionState). t.text) is.1) (own_number h request read reply)
+      by_ask h request.sequence is.0 (same_number (ap (λ (t : SessionState). t.text) is.1)
+      (own_number h request read reply))
   | SetsUp film taken setup asks is ↦
-      of_task taken (answered h taken.request.sequence is.0 (ap (λ (t : SessionState). t.text) is.1)
-      (numbered 200 taken.request.sequence _ []))
+      of_task taken (by_ask h taken.request.sequence is.0 (same_number (ap (λ (t : SessionState). t.text) is.1)
+      (numbered 200 taken.request.sequence _ [])))
   | StartsPlay play planned asks planned_is ↦ of_task play.taken (play_number h play planned asks)
   | HaltsPlay taken hand is ↦
-      of_task taken (halt_number h taken.request.sequence is.asks.keep is.asks.command
-      (ap (λ (t : SessionState). t.text) is.asks.state))
+      of_task taken (by_ask h taken.request.sequence is.asks.command
+      (same_number (ap (λ (t : SessionState). t.text) is.asks.state) (numbered 200 taken.request.sequence _ [])))
   | StopsPlay taken hand is ↦
-      of_task taken (halt_number h taken.request.sequence is.keep is.command (ap (λ (t : SessionState). t.text) is.state))
+      of_task taken (by_ask h taken.request.sequence is.command
+      (same_number (ap (λ (t : SessionState). t.text) is.state) (numbered 200 taken.request.sequence _ [])))
   | EndsSession taken resting is ↦
-      of_task taken (answered h taken.request.sequence is.0 (ap (λ (t : SessionState). t.text) is.1)
-      (numbered 200 taken.request.sequence _ []))
+      of_task taken (by_ask h taken.request.sequence is.0 (same_number (ap (λ (t : SessionState). t.text) is.1)
+      (numbered 200 taken.request.sequence _ [])))
   | TakesLook taken look ↦
       let n = taken.request.sequence in
       let number : sequence_of h.new.awaited ≡ n = ap (λ (t : SessionState). sequence_of t.awaited) look.state in
-      of_task taken (subst (λ (a : Ask). RepliesHaveNumber n a h.new) (sym look.command) (record {
+      of_task taken (by_ask h n look.command (record {
         look = λ place now at booked.
             same_number (ap (λ k. parameters_text k (look_body now at booked)) number)
             (numbered 200 n _ (look_body now at booked));
@@ -131,7 +126,7 @@ answer_number h request read answer = elim answer [
   | SeeksOffer offer planned is asks ↦
       let n = offer.taken.request.sequence in
       let number : sequence_of h.new.awaited ≡ n = ap (λ (t : SessionState). sequence_of t.awaited) asks.state in
-      of_task offer.taken (subst (λ (a : Ask). RepliesHaveNumber n a h.new) (sym asks.command) (λ note.
+      of_task offer.taken (by_ask h n asks.command (λ note.
       same_number (ap (λ k. parameters_text k (offer_body note.offers.start note.offers.tried)) number)
       (numbered 200 n _ (offer_body note.offers.start note.offers.tried))))
 ]

@@ -1,9 +1,11 @@
--- How a session reads and judges a request, and what it does for one that it processes.
-use Rattle.std.proofs.Common.{◌≡◌, ℕ, List, Some, Result, Ok, Err, subst, ◌∙◌, inl, inr}
+-- A request is judged in one way; how a session reads and judges it, and what it does for one that it
+-- processes.
+use Rattle.std.proofs.Common.{zero, suc, ◌≡◌, ℕ, List, Some, Result, Ok, Err, subst, ◌∙◌, inl, inr, ◌+◌, ◌*◌, ◌<◌}
+use Rattle.std.proofs.Common.{◌==◌, ◌⊎◌, if◌then◌else◌, get_or, length, None, codes, refl, sym, ap, arith, below_more}
 use Rattle.rtsp_text.specs.declared.requests.Request.{Request}
 use Rattle.rtsp_text.proofs.MessageUniqueness.{no_fault, request_once}
 use Rattle.rtsp_methods.specs.Methods.{name_of}
-use Rattle.rtsp_methods.specs.RequiredOptions.{option_of}
+use Rattle.rtsp_methods.specs.RequiredOptions.{option_of, required_of}
 use Rattle.rtsp_methods.specs.declared.methods.Method.{Method}
 use Rattle.rtsp_methods.specs.declared.methods.Method.TheVariants.{Options, Describe, Setup, Play, Pause, Teardown}
 use Rattle.rtsp_methods.specs.declared.methods.Method.TheVariants.{GetParameter}
@@ -15,9 +17,270 @@ use Rattle.session.specs.declared.refusals.Task.TheVariants.{Setup as ToSetup, P
 use Rattle.session.specs.declared.refusals.Task.TheVariants.{Teardown as ToTeardown, GetParameter as ToGetParameter}
 use Rattle.session.specs.Methods.{Describes, GetsParameter, IsRefused, IsReplied, Pauses, Plays, SetsUp, Takes}
 use Rattle.session.specs.Methods.{TearsDown}
-use Rattle.session.specs.RefusalOrder.{IsJudged, IsOnFilm, IsReadAs, IsTaskOf, IsTimely, method_of}
+use Rattle.session.specs.RefusalOrder.{IsJudged, IsOnFilm, IsReadAs, IsTaskOf, IsTimely, method_of, FitsSession}
+use Rattle.session.specs.RefusalOrder.{FitsState, HasFilm, IsOwnTalk, IsSpoken, IsTaken}
 use Rattle.session.proofs.InitialStateLemmas.{HeardMessage, TakenRequest}
-use Rattle.session_laws.proofs.VerdictUniqueness.{AreAlike, Passes, judged_refused, method_once, never_refused}
+use Rattle.std.specs.Prelude.{is_some}
+use Rattle.std.proofs.lemmas.Bool.{cases_order}
+use Rattle.film_frames.specs.declared.stored_films.Stored.{Stored}
+use Rattle.rtsp_text.specs.Fields.{header_value}
+use Rattle.session.specs.declared.states.State.{State as StateKind}
+use Rattle.rtsp_methods.specs.declared.refusals.Refusal.TheVariants.{BadRequest, Version, Method as Unknown}
+use Rattle.rtsp_methods.specs.declared.refusals.Refusal.TheVariants.{Option as Required, Session, Film, State}
+use Rattle.rtsp_methods.specs.declared.refusals.Refusal.TheVariants.{Transport, Parameter, Buffer, Range, Memory}
+use Rattle.session.specs.SessionStates.{SessionState, has_session_in}
+
+-- a name is that of one method
+abbrev key : List ℕ → ℕ
+key name = get_or name 0 0 + 10 * length name
+
+abbrev method_by : ℕ → Method
+method_by n =
+    if n == 149 then Options else if n == 148 then Describe else if n == 133 then Setup else if n == 120 then Play
+    else if n == 130 then Pause else if n == 164 then Teardown else GetParameter
+
+named : (m : Method) → method_by (key (name_of m)) ≡ m
+named Options = refl
+named Describe = refl
+named Setup = refl
+named Play = refl
+named Pause = refl
+named Teardown = refl
+named GetParameter = refl
+
+pub method_once : (name : List ℕ) (m other : Method) → name ≡ name_of m → name ≡ name_of other → m ≡ other
+method_once name m other is its = sym (named m) ∙ ap (λ n. method_by (key n)) (sym is ∙ its) ∙ named other
+
+-- the refusals of the five judgements, in their order
+abbrev refusal_at : ℕ → Refusal
+refusal_at n =
+    if n == 0 then Unknown else if n == 1 then Required else if n == 2 then Session else if n == 3 then Film else State
+
+abbrev rank : Result Task Refusal → ℕ
+rank (Ok task) = 5
+rank (Err BadRequest) = 5
+rank (Err Version) = 5
+rank (Err Unknown) = 0
+rank (Err Required) = 1
+rank (Err Session) = 2
+rank (Err Film) = 3
+rank (Err State) = 4
+rank (Err Transport) = 5
+rank (Err Parameter) = 5
+rank (Err (Buffer least)) = 5
+rank (Err Range) = 5
+rank (Err Memory) = 5
+
+-- what a request is judged by: the session's films, id and state, and its own parts
+record Judging : Type 0 where
+  films : List Stored
+  id : List ℕ
+  stage : StateKind
+  name : List ℕ
+  url : List ℕ
+  head : List ℕ
+
+abbrev judging : SessionState → Request → Judging
+judging old request = record {
+  films = old.films;
+  id = old.id;
+  stage = old.state;
+  name = request.method.now;
+  url = request.url.now;
+  head = request.head.now;
+}
+
+abbrev Owns : Judging → Method → Type 0
+Owns j m = FitsSession m (has_session_in j.stage) j.id (header_value j.head (codes "Session"))
+
+abbrev HasTime : Judging → Method → Type 0
+HasTime j m = FitsState m j.stage (is_some (header_value j.head (codes "Range")))
+
+abbrev PassesAt : Judging → ℕ → Type 0
+PassesAt j zero = (m : Method) × (j.name ≡ name_of m)
+PassesAt j (suc zero) = required_of j.head ≡ None
+PassesAt j (suc (suc zero)) = (m : Method) × ((j.name ≡ name_of m) × Owns j m)
+PassesAt j (suc (suc (suc zero))) = (m : Method) × ((j.name ≡ name_of m) × ((m ≡ Options) ⊎ HasFilm j.films j.stage j.url m))
+PassesAt j (suc (suc (suc (suc zero)))) = (m : Method) × ((j.name ≡ name_of m) × HasTime j m)
+PassesAt j _ = ⊥
+
+abbrev PassesBelow : Judging → ℕ → Type 0
+PassesBelow j n = (k : ℕ) → k < n → PassesAt j k
+
+-- the first judgement that a request doesn't pass
+record StopsAt (j : Judging) (n : ℕ) : Type 0 where
+  before : PassesBelow j n
+  at : ¬ PassesAt j n
+
+stops_once : {j : Judging} (n m : ℕ) → StopsAt j n → StopsAt j m → n ≡ m
+stops_once n m is its =
+    elim (cases_order n m) [
+      | inl same ↦ same
+      | inr differ ↦
+          elim differ [
+            | inl less ↦ absurd (is.at (its.before n less))
+            | inr more ↦ absurd (its.at (is.before m more))
+          ]
+    ]
+
+none_below : (j : Judging) → PassesBelow j 0
+none_below j k less = absurd (omega (arith, less))
+
+one_more : (j : Judging) (n : ℕ) → PassesBelow j n → PassesAt j n → PassesBelow j (n + 1)
+one_more j n before at = below_more (PassesAt j) n before at
+
+-- a request of a method that requires no option, of its session, of its film
+spoken_below : {m : Method} (old : SessionState) (request : Request) → IsSpoken request m
+    → PassesBelow (judging old request) 2
+spoken_below {m} old request spoken = one_more (judging old request) 1 (one_more (judging old request) 0 (none_below _) (m, spoken.named)) spoken.free
+
+talk_below : {m : Method} (old : SessionState) (request : Request) → IsOwnTalk old.id old.state request m
+    → PassesBelow (judging old request) 3
+talk_below {m} old request talk =
+    one_more (judging old request) 2 (spoken_below old request talk.spoken) (m, (talk.spoken.named, talk.session))
+
+film_below : {m : Method} (old : SessionState) (request : Request) → IsOwnTalk old.id old.state request m
+    → (m ≡ Options) ⊎ HasFilm old.films old.state request.url.now m → PassesBelow (judging old request) 4
+film_below {m} old request talk film =
+    one_more (judging old request) 3 (talk_below old request talk) (m, (talk.spoken.named, film))
+
+-- nothing that all methods share refuses a request of a method
+pub record Passes (old : SessionState) (request : Request) (m : Method) : Type 0 where
+  pub talk : IsOwnTalk old.id old.state request m
+  pub film : (m ≡ Options) ⊎ HasFilm old.films old.state request.url.now m
+  pub state : IsTimely old.state request m
+
+stops_last : {m : Method} (old : SessionState) (request : Request) → Passes old request m
+    → StopsAt (judging old request) 5
+stops_last {m} old request passes = record {
+  before = one_more (judging old request) 4 (film_below old request passes.talk passes.film)
+      (m, (passes.talk.spoken.named, passes.state));
+  at = λ no. no;
+}
+
+film_of : (films : List Stored) (stage : StateKind) (url : List ℕ) (task : Task) → IsTaskOf films stage url task
+    → (method_of task ≡ Options) ⊎ HasFilm films stage url (method_of task)
+film_of films stage url ToOptions is = inl refl
+film_of films stage url (ToDescribe asked) is = inr (asked.authority.now, (asked.film, is))
+film_of films stage url (ToSetup film) is = inr (is.0, (film, is.1))
+film_of films stage url (ToPlay asked) is = inr (asked.authority.now, (asked.film, is))
+film_of films stage url ToPause is = inr is
+film_of films stage url ToTeardown is = inr is
+film_of films stage url ToGetParameter is = inr is
+
+pub passes_of : {request : Request} {task : Task} (old : SessionState)
+    → IsTaken old.films old.id old.state request task → Passes old request (method_of task)
+passes_of {request} {task} old is = record {
+  talk = is.talk;
+  film = film_of old.films old.state request.url.now task is.film;
+  state = is.state;
+}
+
+-- a judgement is by the first that isn't passed
+stops : (old : SessionState) (request : Request) (judgement : Result Task Refusal)
+    → IsJudged old.films old.id old.state request judgement → StopsAt (judging old request) (rank judgement)
+stops old request (Ok task) is = stops_last old request (passes_of old is)
+stops old request (Err BadRequest) is = absurd is
+stops old request (Err Version) is = absurd is
+stops old request (Err Unknown) is = record { before = none_below _; at = λ has. is.none has.0 has.1 }
+stops old request (Err Required) is = record {
+  before = one_more (judging old request) 0 (none_below _) (is.method, is.named);
+  at = λ free. let some = is.required in let no : ⊥ = cc (free, some) in no;
+}
+stops old request (Err Session) is = record {
+  before = spoken_below old request is.spoken;
+  at = λ own. is.session (subst (Owns (judging old request))
+      (method_once request.method.now own.0 is.method own.1.0 is.spoken.named) own.1.1);
+}
+stops old request (Err Film) is = record {
+  before = talk_below old request is.talk;
+  at = λ has.
+      let same = method_once request.method.now has.0 is.method has.1.0 is.talk.spoken.named in
+      elim has.1.1 [
+        | inl options ↦ is.asked (sym same ∙ options)
+        | inr film ↦ is.none (subst (λ (m : Method). HasFilm old.films old.state request.url.now m) same film)
+      ];
+}
+stops old request (Err State) is = record {
+  before = film_below old request is.talk (inr is.film);
+  at = λ timely. is.state (subst (HasTime (judging old request))
+      (method_once request.method.now timely.0 is.method timely.1.0 is.talk.spoken.named) timely.1.1);
+}
+stops old request (Err Transport) is = absurd is
+stops old request (Err Parameter) is = absurd is
+stops old request (Err (Buffer least)) is = absurd is
+stops old request (Err Range) is = absurd is
+stops old request (Err Memory) is = absurd is
+
+-- a refusal is that of its judgement
+record IsRanked (refusal : Refusal) : Type 0 where
+  below : rank (Err refusal) < 5
+  is : refusal ≡ refusal_at (rank (Err refusal))
+
+ranked : (old : SessionState) (request : Request) (refusal : Refusal)
+    → IsJudged old.films old.id old.state request (Err refusal) → IsRanked refusal
+ranked old request BadRequest is = absurd is
+ranked old request Version is = absurd is
+ranked old request Unknown is = record { below = omega arith; is = refl }
+ranked old request Required is = record { below = omega arith; is = refl }
+ranked old request Session is = record { below = omega arith; is = refl }
+ranked old request Film is = record { below = omega arith; is = refl }
+ranked old request State is = record { below = omega arith; is = refl }
+ranked old request Transport is = absurd is
+ranked old request Parameter is = absurd is
+ranked old request (Buffer least) is = absurd is
+ranked old request Range is = absurd is
+ranked old request Memory is = absurd is
+
+-- the parts of two requests are the same
+pub record AreAlike (request other : Request) : Type 0 where
+  pub method : other.method.now ≡ request.method.now
+  pub url : other.url.now ≡ request.url.now
+  pub sequence : other.sequence ≡ request.sequence
+  pub head : other.head.now ≡ request.head.now
+  pub body : other.body.now ≡ request.body.now
+
+-- a request and the rank of its judgement, by another that is alike
+as_alike : {request other : Request} {n : ℕ} (old : SessionState) → AreAlike request other
+    → StopsAt (judging old other) n → StopsAt (judging old request) n
+as_alike {request} {other} {n} old alike stop =
+    let S : List ℕ → List ℕ → List ℕ → Type 0 = λ name url head. StopsAt (record {
+      films = old.films;
+      id = old.id;
+      stage = old.state;
+      name = name;
+      url = url;
+      head = head;
+    }) n in
+    subst (S request.method.now request.url.now) alike.head
+    (subst (λ u. S request.method.now u other.head.now) alike.url
+    (subst (λ m. S m other.url.now other.head.now) alike.method stop))
+
+-- a request that is alike another that is refused is refused so
+pub judged_refused : {request other : Request} (old : SessionState) (refusal : Refusal) → AreAlike request other
+    → IsJudged old.films old.id old.state request (Err refusal) → (judgement : Result Task Refusal)
+    → IsJudged old.films old.id old.state other judgement → judgement ≡ Err refusal
+judged_refused {request} {other} old refusal alike is judgement its =
+    let own = ranked old request refusal is in
+    let same = stops_once (rank judgement) (rank (Err refusal))
+    (as_alike old alike (stops old other judgement its)) (stops old request (Err refusal) is) in
+    (elim judgement as (λ j. IsJudged old.films old.id old.state other j → rank j ≡ rank (Err refusal)
+    → j ≡ Err refusal) [
+      | Ok task ↦ λ judged rank_is. let below = own.below in absurd (omega (arith, rank_is, below))
+      | Err given ↦ λ judged rank_is.
+          ap (λ r. Err r) ((ranked old other given judged).is ∙ ap refusal_at rank_is ∙ sym own.is)
+    ]) its same
+
+-- one that is alike another that is processed isn't refused
+pub never_refused : {m : Method} {request other : Request} (old : SessionState) (refusal : Refusal)
+    → AreAlike request other → Passes old request m → ¬ IsJudged old.films old.id old.state other (Err refusal)
+never_refused {request} {other} old refusal alike passes = λ its.
+    let same = stops_once (rank (Err refusal)) 5 (as_alike old alike (stops old other (Err refusal) its))
+    (stops_last old request passes) in
+    let below = (ranked old other refusal its).below in
+    omega (arith, same, below)
+
+-- ---- how a request is read, and what is done for it
 
 -- the request that a message is
 pub same_request : (message : List ℕ) (request other : Request)

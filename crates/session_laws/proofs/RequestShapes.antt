@@ -64,5 +64,4 @@ answers_as h (SeeksOffer offer planned is asks) =
 pub hears_as : (old : SessionState) (message : List ℕ) (ask : Ask) (new : SessionState) → Hears old message ask new
     → HearsAs old ask new
 hears_as old message ask new hears =
-    let h : HeardMessage = heard_by {old = old} {new = new} {message = message} {ask = ask} hears in
-    answers_as h (answer_to h)
+    answers_as (heard_by hears) (answer_to (heard_by hears))

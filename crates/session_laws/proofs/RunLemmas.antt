@@ -12,7 +12,6 @@ use Rattle.film_streams.specs.declared.stream_numbers.StreamSource.{StreamSource
 use Rattle.session.specs.declared.commands.Ask.{Ask}
 use Rattle.session.specs.declared.commands.Ask.TheVariants.{Reply as AskReply, Play as AskPlay, Halt as AskHalt}
 use Rattle.session.specs.declared.commands.Ask.TheVariants.{Look as AskLook, Offer as AskOffer}
-use Rattle.session.specs.declared.plans.Planned.{Planned}
 use Rattle.session.specs.declared.play_requests.PlayRequest.{PlayRequest}
 use Rattle.session.specs.declared.play_requests.PlayRequest.TheVariants.{Resumed, New}
 use Rattle.session.specs.declared.states.AfterHalt.{AfterHalt}
@@ -28,7 +27,6 @@ use Rattle.film_streams.specs.Films.{IsFilmAt, OfFilm}
 use Rattle.film_streams.specs.StreamNumbers.{counts_after, identity_of}
 use Rattle.session.specs.Laws.{GoesOn}
 use Rattle.session.specs.Methods.{prepared_of}
-use Rattle.session.specs.RequestedPlans.{IsPlannedRun}
 use Rattle.session.specs.RequestSteps.{Hears}
 use Rattle.session.specs.SessionStates.{SessionState}
 use Rattle.session.proofs.InitialStateLemmas.{HeardMessage, heard_by}
@@ -81,14 +79,6 @@ wanted_run old stored setup None (At time) to (New run) is =
 wanted_run old stored setup (Some paused) (At time) to (New run) is =
     inr (record { none_sent = is.new.sent_is; counts_are = refl })
 
-planned_run : (old : SessionState) (stored : Stored) (setup : Setup) (paused : Option Run) (range : Option (List ℕ))
-    (planned : Planned) → IsPlannedRun old stored setup paused range planned
-    → IsNextRun old stored setup paused planned.run planned.counts
-planned_run old stored setup paused range planned is =
-    subst (λ r. IsNextRun old stored setup paused r planned.counts) (sym is.run_is)
-    (subst (λ c. IsNextRun old stored setup paused (run_of is.wanted) c) (sym is.counts_is)
-    (wanted_run old stored setup paused is.asked.span.from is.asked.span.to is.wanted is.asked.is_wanted))
-
 -- ---- a message, as far as runs go by it
 
 pub data RunsAs (old : SessionState) (ask : Ask) (new : SessionState) : Type 0 where
@@ -120,7 +110,10 @@ runs_by h (SettlesSetup film taken setup asks is) = SetsUp _ setup (settled_init
 runs_by h (StartsPlay play planned asks planned_is) =
     AsksPlay asks.stored play.setup play.paused
     (prepared_of h.old asks.stored play.setup planned play.taken.request.sequence) _ play.ready planned_is.at
-    (planned_run h.old asks.stored play.setup play.paused _ planned planned_is) refl asks.command asks.state
+    (subst (λ x. IsNextRun h.old asks.stored play.setup play.paused x planned.counts) (sym planned_is.run_is)
+    (subst (λ c. IsNextRun h.old asks.stored play.setup play.paused (run_of planned_is.wanted) c)
+    (sym planned_is.counts_is) (wanted_run h.old asks.stored play.setup play.paused planned_is.asked.span.from
+    planned_is.asked.span.to planned_is.wanted planned_is.asked.is_wanted))) refl asks.command asks.state
 runs_by h (HaltsPlay taken hand is) =
     Stops hand.setup hand.play is.asks.keep (Paused is.left) _ hand.playing (record {
       first = is.left_is.first_is;
@@ -137,8 +130,7 @@ runs_by h (SeeksOffer offer planned is asks) =
 pub runs_as : (old : SessionState) (message : List ℕ) (ask : Ask) (new : SessionState) → old.awaited ≡ Nothing
     → Hears old message ask new → RunsAs old ask new
 runs_as old message ask new rest hears =
-    let h : HeardMessage = heard_by {old = old} {new = new} {message = message} {ask = ask} hears in
-    runs_by h (answer_to h)
+    runs_by (heard_by hears) (answer_to (heard_by hears))
 
 -- ---- numbers and films
 

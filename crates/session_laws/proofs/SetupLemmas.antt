@@ -22,7 +22,7 @@ use Rattle.session.specs.SessionStates.{SessionState, with_reply}
 use Rattle.rtsp_methods.specs.declared.methods.Method.{Method}
 use Rattle.rtsp_methods.specs.declared.methods.Method.TheVariants.{Setup as SetupMethod, Play, Pause, Teardown}
 use Rattle.rtsp_methods.specs.declared.methods.Method.TheVariants.{GetParameter}
-use Rattle.session_laws.proofs.VerdictUniqueness.{method_once}
+use Rattle.session_laws.proofs.RequestReadings.{method_once}
 
 -- a message is a SETUP of this URL and with this head
 pub record IsSetupRequest (message url head : List ℕ) : Type 0 where

@@ -37,8 +37,7 @@ answer_moves h (SeeksOffer offer planned is asks) = inl (ap (λ (s : SessionStat
 pub hears_moves : (old new : SessionState) (message : List ℕ) (ask : Ask) → Hears old message ask new
     → StaysOr InitStage ReadyStage old new
 hears_moves old new message ask hears =
-    let h : HeardMessage = heard_by {old = old} {new = new} {message = message} {ask = ask} hears in
-    answer_moves h (answer_to h)
+    answer_moves (heard_by hears) (answer_to (heard_by hears))
 
 admitted_moves : (state : State) (awaited : Awaited) (place start : ℕ)
     → (stage_of (admitted_in state awaited place start) ≡ stage_of state)

@@ -1,5 +1,5 @@
 use Rattle.session_laws.proofs.SlotCountLemmas.{play_done, play_goes}
-use Rattle.session_laws.proofs.SoundStateLemmas.{sound_keep}
+use Rattle.session_laws.proofs.PlayNoteLemmas.{sound_keep}
 use Rattle.session_laws.proofs.play_laws.law_done_play_is_halted_in_full.Goals as goal
 
 pub returns-clause-done : goal.returns-clause-done
