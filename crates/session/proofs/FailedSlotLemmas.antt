@@ -1,7 +1,7 @@
 -- Lemmas on what a failed sending of a slot leaves.
-use Rattle.std.proofs.Common.{◌≡◌, ℕ, ◌+◌, ◌-◌, ◌≤◌, ◌++◌, Bool, true, false, if◌then◌else◌, List, [], length, take}
+use Rattle.std.proofs.Common.{◌≡◌, ℕ, ◌+◌, ◌-◌, ◌≤◌, ◌++◌, Bool, List, length, take}
 use Rattle.std.proofs.Common.{drop, Option, Result, Ok, Err, OnErr, refl, ap, sym, ◌∙◌, arith, inl, inr}
-use Rattle.std.proofs.lemmas.Bool.{cases_lt, true≢false}
+use Rattle.std.proofs.lemmas.Bool.{cases_lt}
 use Rattle.std.proofs.lemmas.List.{length-append, map-append, take-take, take_all}
 use Rattle.std.proofs.Math.Seq.{take-append-add}
 use Rattle.film_frames.specs.Tracks.{framed_bytes}
@@ -63,22 +63,3 @@ failed_front {stop} {slot} {p} {new} {told} {next} failed =
 pub failed_due : {stop : Bool} {slot : ℕ} {p new : PacerState} {told next : Option (List IoEvent)}
     → HasFailed stop slot p new told next → new.due ≡ due_by p slot
 failed_due {stop} {slot} {p} {new} {next} failed = ap (λ (q : PacerState). q.due) failed.state
-
--- what a slot sends: what comes before a reply, the reply, what comes after it, and all where no
--- reply waits
-pub record SlotSends : Type 0 where
-  pub one : List ℕ
-  pub text : List ℕ
-  pub after : List ℕ
-  pub plain : List ℕ
-
--- both sends of a slot: a prefix of what comes after the first
-pub front_both : {waits between : Bool} {mid new : Option (List IoEvent)} (old : Option (List IoEvent))
-    (sent : SlotSends) → waits ≡ true → between ≡ true → mid ≡ told_more old (sends sent.one)
-    → IsSentPrefix mid new (sent.text ++ sent.after)
-    → IsSentPrefix old new (if waits then sent.one ++ (if between then sent.text ++ sent.after else []) else sent.plain)
-front_both {waits = true} {between = true} {new} old sent waiting between told front =
-    front_right old sent.one (sent.text ++ sent.after) told front
-front_both {waits = true} {between = false} {new} old sent waiting between told front =
-    absurd (true≢false (sym between))
-front_both {waits = false} {between} {new} old sent waiting is told front = absurd (true≢false (sym waiting))

@@ -36,14 +36,14 @@ use Rattle.session.proofs.ResumedPlayLemmas.{of_film}
 
 ready_in : {setup : Setup} {prepared : Prepared} (ground : SessionContext) (state : State)
     → IsReadyIn state setup → IsPrepared prepared
-    → OfFilm ground.films setup.film (λ stored. IsPreparedAs stored ground.source ground.settings setup prepared)
+    × OfFilm ground.films setup.film (λ stored. IsPreparedAs stored ground.source ground.settings setup prepared)
     → IsPreparedIn ground.films ground.source ground.settings state prepared
-ready_in ground Init ready is all = absurd ready
-ready_in {prepared} ground (Ready own paused) ready is all =
+ready_in ground Init ready is = absurd ready
+ready_in {prepared} ground (Ready own paused) ready is =
     subst (λ (x : Setup). IsPreparedIn ground.films ground.source ground.settings (Ready x paused) prepared)
-    (sym ready) (is, all)
-ready_in ground (Playing own play) ready is all = absurd ready
-ready_in ground (Stopping own stop) ready is all = absurd ready
+    (sym ready) is
+ready_in ground (Playing own play) ready is = absurd ready
+ready_in ground (Stopping own stop) ready is = absurd ready
 
 -- no booking is open in Ready
 ready_closed : (state : State) (setup : Setup) → IsReadyIn state setup → open_receipts state ≡ 0
@@ -84,12 +84,14 @@ play_asked {inside} ask =
     step_kept kept refl (record {
       state = kept.state;
       awaited = ready_in {prepared = prepared} ground inside.state ready
-          (record {
-            going = record { boundary = playable.run_of.boundary; whole = playable.bytes ∙ sym bytes };
-            paced = refl;
-          })
-          (of_film ground.films setup.film stored (λ s. IsPreparedAs s ground.source ground.settings setup prepared)
-          at (record { playable = playable; frames_are = refl }));
+          (
+            record {
+              going = record { boundary = playable.run_of.boundary; whole = playable.bytes ∙ sym bytes };
+              paced = refl;
+            },
+            of_film ground.films setup.film stored (λ s. IsPreparedAs s ground.source ground.settings setup prepared) at
+                (record { playable = playable; frames_are = refl }),
+          );
       stop = kept.stop;
       rooms = (omega arith, omega arith, omega arith);
       torn = kept.torn;

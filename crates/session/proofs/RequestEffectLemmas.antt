@@ -2,7 +2,6 @@
 use Rattle.std.proofs.Common.{◌≡◌, ℕ, List, [], Option, Some, codes, Result, Ok, Err, refl, sym, ap, subst, inl, inr}
 use Rattle.rtsp_text.specs.Fields.{header_value}
 use Rattle.rtsp_text.specs.declared.requests.Request.{Request}
-use Rattle.film_frames.specs.declared.stored_films.Stored.{Stored}
 use Rattle.film_run.specs.declared.runs.Run.{Run}
 use Rattle.session.specs.declared.commands.Ask.{Ask}
 use Rattle.session.specs.declared.commands.Ask.TheVariants.{Play as AskPlay}
@@ -13,63 +12,52 @@ use Rattle.session.specs.declared.refusals.Task.TheVariants.{Options as ToOption
 use Rattle.session.specs.declared.refusals.Task.TheVariants.{Setup as ToSetup, Play as ToPlay, Pause as ToPause}
 use Rattle.session.specs.declared.refusals.Task.TheVariants.{Teardown as ToTeardown, GetParameter as ToGetParameter}
 use Rattle.session.specs.declared.states.AfterHalt.{AfterHalt}
-use Rattle.session.specs.declared.states.Awaited.TheVariants.{Play}
 use Rattle.film_streams.specs.declared.setups.Setup.{Setup}
 use Rattle.session.specs.declared.states.State.{State}
 use Rattle.session.specs.declared.states.State.TheVariants.{Ready}
 use Rattle.session.specs.RequestEffects.{AsksOrLacks, AwaitsNoStop, CanBePlayed, ChangesState, IsGoodPlay}
 use Rattle.session.specs.RequestEffects.{IsPlayAskedFor, IsSameContext}
 use Rattle.session.specs.RequestSteps.{Hears}
-use Rattle.session.specs.RefusalOrder.{IsJudged}
+use Rattle.session.specs.RefusalOrder.{IsJudged, IsReadAs}
 use Rattle.session.specs.Laws.{AsksNoHalt}
-use Rattle.session.specs.Methods.{AsksHalt, AsksPlayOr, IsRefused, IsReplied, Plays, Takes, play_call, play_front}
-use Rattle.session.specs.Methods.{prepared_of}
+use Rattle.session.specs.Methods.{AsksHalt, AsksPlayOr, IsRefused, Plays, Takes, play_call, AsksPlay}
 use Rattle.session.specs.RequestedPlans.{IsPlanned, IsPlannedRun}
 use Rattle.session.specs.SessionStates.{SessionState}
-use Rattle.session.proofs.InitialStateLemmas.{HeardMessage, PlayInHand, TakenRequest, heard_by}
+use Rattle.session.proofs.InitialStateLemmas.{HeardMessage, PlayInHand, heard_by}
 use Rattle.session.proofs.ResumedPlayLemmas.{of_film}
 use Rattle.session.proofs.RequestCaseAnalysis.{Answer, Replies, SetsUp, StartsPlay, HaltsPlay, StopsPlay, EndsSession}
-use Rattle.session.proofs.RequestCaseAnalysis.{TakesLook, SeeksOffer, answer_to, is_memory, settled_ranges}
+use Rattle.session.proofs.RequestCaseAnalysis.{ReadyPlay, TakenTask, TakesLook, SeeksOffer, answer_to, is_memory}
+use Rattle.session.proofs.RequestCaseAnalysis.{settled_ranges}
 
 abbrev pub Changes : Ask → SessionState → SessionState → Type 0
 Changes ask old new = IsSameContext old new × ChangesState ask old new
 
 -- a session that is made of the old one, and what was asked for
-changed : {old made new : SessionState} {asked ask : Ask} → ask ≡ asked → new ≡ made → IsSameContext old made
-    → ChangesState asked old new → Changes ask old new
-changed {old} {new} command is same state =
-    subst (λ a. Changes a old new) (sym command) (subst (IsSameContext old) (sym is) same, state)
+changed : {made : SessionState} {asked : Ask} (h : HeardMessage) → (h.ask ≡ asked) × (h.new ≡ made)
+    → IsSameContext h.old made → ChangesState asked h.old h.new → Changes h.ask h.old h.new
+changed h is same state =
+    subst (λ a. Changes a h.old h.new) (sym is.0) (subst (IsSameContext h.old) (sym is.1) same, state)
 
 state_of : {new made : SessionState} → new ≡ made → new.state ≡ made.state
 state_of is = ap (λ (s : SessionState). s.state) is
 
-replied_changes : (old : SessionState) (text : List ℕ) (ask : Ask) (new : SessionState) → IsReplied old text ask new
-    → Changes ask old new
-replied_changes old text ask new is =
-    changed is.0 is.1
-    (record { films = refl; settings = refl; source = refl; counts = refl; heard = refl; plays = refl })
-    (inl (state_of is.1))
-
-play_asked : {old new : SessionState} {stored : Stored} {setup : Setup} {paused : Option Run} {range : Option (List ℕ)}
-    {planned : Planned} (sequence : ℕ) (authority : List ℕ) → old.state ≡ Ready setup paused
-    → IsPlannedRun old stored setup paused range planned
-    → new ≡ record old {
-      awaited = Play (prepared_of old stored setup planned sequence);
-      text = play_front old stored setup planned sequence authority;
-    } → IsPlayAskedFor old (AskPlay planned.plan) new
-play_asked {new} {stored} {setup} {paused} {range} {planned} sequence authority ready planned_is is = record {
+play_asked : {planned : Planned} (h : HeardMessage) (play : ReadyPlay h)
+    (asks : AsksPlay h.old play.taken.request.sequence play.asked.authority.now play.setup planned h.ask h.new)
+    → IsPlannedRun h.old asks.stored play.setup play.paused
+    (header_value play.taken.request.head.now (codes "Range")) planned → IsPlayAskedFor h.old (AskPlay planned.plan) h.new
+play_asked {planned} h play asks planned_is = record {
   play = record {
-    setup = setup;
-    paused = paused;
-    range = range;
-    stored = stored;
+    setup = play.setup;
+    paused = play.paused;
+    range = _;
+    stored = asks.stored;
     planned = planned;
-    sequence = sequence;
-    authority = authority;
-    ready = ready;
+    sequence = play.taken.request.sequence;
+    authority = play.asked.authority.now;
+    ready = play.ready;
     planned_is = planned_is;
-    awaited = ap (λ (s : SessionState). s.awaited) is;
-    text = ap (λ (s : SessionState). s.text) is;
+    awaited = ap (λ (s : SessionState). s.awaited) asks.state;
+    text = ap (λ (s : SessionState). s.text) asks.state;
   };
   command = refl;
 }
@@ -78,7 +66,7 @@ play_asked {new} {stored} {setup} {paused} {range} {planned} sequence authority 
 halt_changes : {sequence : ℕ} {next : AfterHalt} (h : HeardMessage) (hand : PlayInHand h.old)
     → AsksHalt h.old sequence hand.setup hand.play next h.ask h.new → Changes h.ask h.old h.new
 halt_changes {next} h hand is =
-    changed is.command is.state
+    changed h (is.command, is.state)
     (record { films = refl; settings = refl; source = refl; counts = refl; heard = refl; plays = refl })
     (record {
       setup = hand.setup;
@@ -92,30 +80,30 @@ halt_changes {next} h hand is =
     })
 
 answer_changes : (h : HeardMessage) → Answer h → Changes h.ask h.old h.new
-answer_changes h (Replies reply is) = replied_changes h.old _ h.ask h.new is
+answer_changes h (Replies reply is) =
+    changed h is
+    (record { films = refl; settings = refl; source = refl; counts = refl; heard = refl; plays = refl })
+    (inl (state_of is.1))
 answer_changes h (SetsUp film taken setup asks is) =
-    changed is.0 is.1
+    changed h is
     (record { films = refl; settings = refl; source = refl; counts = refl; heard = refl; plays = refl })
     (inr (record { setup = setup; state = state_of is.1; ranges = settled_ranges taken asks }))
 answer_changes h (StartsPlay play planned asks planned_is) =
-    changed asks.command asks.state
+    changed h (asks.command, asks.state)
     (record { films = refl; settings = refl; source = refl; counts = refl; heard = refl; plays = refl })
-    (
-      state_of asks.state,
-      play_asked play.taken.request.sequence play.asked.authority.now play.ready planned_is asks.state,
-    )
+    (state_of asks.state, play_asked h play asks planned_is)
 answer_changes h (HaltsPlay taken hand is) = halt_changes h hand is.asks
 answer_changes h (StopsPlay taken hand is) = halt_changes h hand is
 answer_changes h (EndsSession taken resting is) =
-    changed is.0 is.1
+    changed h is
     (record { films = refl; settings = refl; source = refl; counts = refl; heard = refl; plays = refl })
     (inl (state_of is.1))
 answer_changes h (TakesLook taken look) =
-    changed look.command look.state
+    changed h (look.command, look.state)
     (record { films = refl; settings = refl; source = refl; counts = refl; heard = refl; plays = refl })
     (state_of look.state)
 answer_changes h (SeeksOffer offer planned is asks) =
-    changed asks.command asks.state
+    changed h (asks.command, asks.state)
     (record { films = refl; settings = refl; source = refl; counts = refl; heard = refl; plays = refl })
     (state_of asks.state)
 
@@ -146,70 +134,75 @@ pub hears_unstopped : (old new : SessionState) (message : List ℕ) (ask : Ask) 
 hears_unstopped old new message ask hears free none =
     answer_unstopped (heard_by hears) free none (answer_to (heard_by hears))
 
--- a request in Ready that is a PLAY to which no refusal applies
-record ReadyPlay (old : SessionState) (request : Request) : Type 0 where
+good_starts : (h : HeardMessage) (play : ReadyPlay h) → IsGoodPlay h.old play.setup play.paused play.taken.request
+    → (planned : Result Planned Refusal)
+    → IsPlanned h.old play.setup play.paused (header_value play.taken.request.head.now (codes "Range")) planned
+    → AsksPlayOr h.old (play_call play.taken.request.sequence play.asked.authority.now play.setup) planned h.ask h.new
+    → AsksOrLacks h.old h.ask h.new
+good_starts h play good (Ok planned) is (inl asks) =
+    let range = header_value play.taken.request.head.now (codes "Range") in
+    inl (subst (λ a. IsPlayAskedFor h.old a h.new) (sym asks.command) (play_asked h play asks
+    (of_film h.old.films play.setup.film is.0 (λ s. IsPlannedRun h.old s play.setup play.paused range planned) is.1.at
+    is.1 asks.stored asks.at)))
+good_starts h play good (Ok planned) is (inr refused) =
+    inr (record { sequence = play.taken.request.sequence; refused = refused })
+good_starts h play good (Err refusal) is refused =
+    elim (is_memory refusal) [
+      | inl memory ↦ inr (record {
+        sequence = play.taken.request.sequence;
+        refused = subst (λ r. IsRefused h.old (Some play.taken.request.sequence) r [] h.ask h.new) memory refused;
+      })
+      | inr other ↦ absurd (good.plan refusal other is)
+    ]
+
+-- a PLAY in Ready to which no refusal applies
+record GoodPlay (old : SessionState) (request : Request) : Type 0 where
   setup : Setup
   paused : Option Run
   ready : old.state ≡ Ready setup paused
   good : IsGoodPlay old setup paused request
 
-no_refusal : (taken : TakenRequest) (play : ReadyPlay taken.old taken.request) (authority : List ℕ)
-    (planned : Result Planned Refusal)
-    → IsPlanned taken.old play.setup play.paused (header_value taken.request.head.now (codes "Range")) planned
-    → AsksPlayOr taken.old (play_call taken.request.sequence authority play.setup) planned taken.ask taken.new
-    → AsksOrLacks taken.old taken.ask taken.new
-no_refusal taken play authority (Ok planned) is (inl asks) =
-    let range = header_value taken.request.head.now (codes "Range") in
-    let own = of_film taken.old.films play.setup.film is.0
-    (λ s. IsPlannedRun taken.old s play.setup play.paused range planned) is.1.at is.1 asks.stored asks.at in
-    inl (subst (λ a. IsPlayAskedFor taken.old a taken.new) (sym asks.command)
-    (play_asked taken.request.sequence authority play.ready own asks.state))
-no_refusal taken play authority (Ok planned) is (inr refused) =
-    inr (record { sequence = taken.request.sequence; refused = refused })
-no_refusal taken play authority (Err refusal) is refused =
-    elim (is_memory refusal) [
-      | inl memory ↦ inr (record {
-        sequence = taken.request.sequence;
-        refused = subst (λ r. IsRefused taken.old (Some taken.request.sequence) r [] taken.ask taken.new) memory
-            refused;
-      })
-      | inr other ↦ absurd (play.good.plan refusal other is)
-    ]
+good_does : (h : HeardMessage) (task : Task) (taken : TakenTask h task) → GoodPlay h.old taken.request
+    → Takes h.old taken.request (Ok task) h.ask h.new → AsksOrLacks h.old h.ask h.new
+good_does h (ToPlay asked) taken play takes =
+    let is = subst (λ (s : State). Plays s h.old taken.request asked.authority.now h.ask h.new) play.ready takes in
+    good_starts h (record {
+      asked = asked;
+      taken = taken;
+      setup = play.setup;
+      paused = play.paused;
+      ready = play.ready;
+    }) play.good is.planned is.is_planned is.asks
+good_does h ToOptions taken play takes =
+    absurd (let no : ⊥ = cc (taken.judged.talk.spoken.named, play.good.method) in no)
+good_does h (ToDescribe asked) taken play takes =
+    absurd (let no : ⊥ = cc (taken.judged.talk.spoken.named, play.good.method) in no)
+good_does h (ToSetup film) taken play takes =
+    absurd (let no : ⊥ = cc (taken.judged.talk.spoken.named, play.good.method) in no)
+good_does h ToPause taken play takes =
+    absurd (let no : ⊥ = cc (taken.judged.talk.spoken.named, play.good.method) in no)
+good_does h ToTeardown taken play takes =
+    absurd (let no : ⊥ = cc (taken.judged.talk.spoken.named, play.good.method) in no)
+good_does h ToGetParameter taken play takes =
+    absurd (let no : ⊥ = cc (taken.judged.talk.spoken.named, play.good.method) in no)
 
-good_plays : (taken : TakenRequest) → ReadyPlay taken.old taken.request → (authority : List ℕ)
-    → Plays taken.old.state taken.old taken.request authority taken.ask taken.new
-    → AsksOrLacks taken.old taken.ask taken.new
-good_plays taken play authority plays =
-    let is = subst (λ (s : State). Plays s taken.old taken.request authority taken.ask taken.new) play.ready plays in
-    no_refusal taken play authority is.planned is.is_planned is.asks
-
-good_takes : (taken : TakenRequest) → ReadyPlay taken.old taken.request → (judgement : Result Task Refusal)
-    → IsJudged taken.old.films taken.old.id taken.old.state taken.request judgement
-    → Takes taken.old taken.request judgement taken.ask taken.new → AsksOrLacks taken.old taken.ask taken.new
-good_takes taken play (Ok (ToPlay asked)) judged takes = good_plays taken play asked.authority.now takes
-good_takes taken play (Err refusal) judged takes = absurd (play.good.taken refusal judged)
-good_takes taken play (Ok ToOptions) judged takes =
-    absurd (let no : ⊥ = cc (judged.talk.spoken.named, play.good.method) in no)
-good_takes taken play (Ok (ToDescribe asked)) judged takes =
-    absurd (let no : ⊥ = cc (judged.talk.spoken.named, play.good.method) in no)
-good_takes taken play (Ok (ToSetup film)) judged takes =
-    absurd (let no : ⊥ = cc (judged.talk.spoken.named, play.good.method) in no)
-good_takes taken play (Ok ToPause) judged takes =
-    absurd (let no : ⊥ = cc (judged.talk.spoken.named, play.good.method) in no)
-good_takes taken play (Ok ToTeardown) judged takes =
-    absurd (let no : ⊥ = cc (judged.talk.spoken.named, play.good.method) in no)
-good_takes taken play (Ok ToGetParameter) judged takes =
-    absurd (let no : ⊥ = cc (judged.talk.spoken.named, play.good.method) in no)
+good_takes : (h : HeardMessage) (can : CanBePlayed h.old h.message) (request : Request) → IsReadAs h.message request
+    → (judgement : Result Task Refusal) → IsJudged h.old.films h.old.id h.old.state request judgement
+    → Takes h.old request judgement h.ask h.new → AsksOrLacks h.old h.ask h.new
+good_takes h can request read (Ok task) judged takes =
+    good_does h task (record { request = request; is_request = read; judged = judged }) (record {
+      setup = can.setup;
+      paused = can.paused;
+      ready = can.ready;
+      good = can.good request read;
+    }) takes
+good_takes h can request read (Err refusal) judged takes =
+    absurd ((can.good request read).taken refusal judged)
 
 pub hears_good : (old new : SessionState) (message : List ℕ) (ask : Ask) → Hears old message ask new
     → CanBePlayed old message
     → AsksOrLacks old ask new
 hears_good old new message ask (inl fault) can = absurd (can.sound fault.fault fault.is_fault)
 hears_good old new message ask (inr whole) can =
-    good_takes (record { old = old; new = new; request = whole.request; ask = ask })
-    (record {
-      setup = can.setup;
-      paused = can.paused;
-      ready = can.ready;
-      good = can.good whole.request whole.is_request;
-    }) whole.hears.judgement whole.hears.judged whole.hears.takes
+    good_takes (record { old = old; new = new; message = message; ask = ask; hears = inr whole }) can whole.request
+    whole.is_request whole.hears.judgement whole.hears.judged whole.hears.takes

@@ -2,7 +2,7 @@ use Rattle.std.proofs.lemmas.Grind.{common_steps}
 use Rattle.std.proofs.Common.{◌≡◌, ◌++◌, true, false, rules, arith}
 use Rattle.vod_base.specs.Links.{IsSentPrefix, sends, told_more}
 use Rattle.session.specs.SlotSteps.{is_between, step_bytes, stepped_in}
-use Rattle.session.proofs.FailedSlotLemmas.{front_both, on_err}
+use Rattle.session.proofs.FailedSlotLemmas.{front_right, on_err}
 use Rattle.session.proofs.slots.send_due.Goals as goal
 
 pub returns-in_err-send_both-clause-front : goal.returns-in_err-send_both-clause-front
@@ -15,12 +15,8 @@ returns-in_err-send_both-clause-front g c =
     let front : IsSentPrefix (g.K.Link.told c.step-2.new.link) (g.K.Link.told c.send_both.new.link)
     (c.args.reply.now ++ step_bytes false c.args.slot (stepped_in true c.args.slot c.args.state.now)) = search rules in
     on_err c.from_residual-in_err-send_both.result
-    (front_both (g.K.Link.told c.args.link.now) (record {
-      one = step_bytes true c.args.slot c.args.state.now;
-      text = c.args.reply.now;
-      after = step_bytes false c.args.slot (stepped_in true c.args.slot c.args.state.now);
-      plain = step_bytes false c.args.slot c.args.state.now;
-    }) waits between told front)
+    (rw (waits, between) (front_right (g.K.Link.told c.args.link.now) (step_bytes true c.args.slot c.args.state.now)
+    (c.args.reply.now ++ step_bytes false c.args.slot (stepped_in true c.args.slot c.args.state.now)) told front))
 
 pub returns-in_err-step-2-clause-front : goal.returns-in_err-step-2-clause-front
 returns-in_err-step-2-clause-front g c = grind (arith, common_steps)
