@@ -81,15 +81,6 @@ replied_once : (w : TwoHearings) (text text' : List ℕ) → text' ≡ text → 
 replied_once w text text' alike is its =
     same w (its.0 ∙ sym is.0) (its.1 ∙ ap (λ t. with_reply w.old t) alike ∙ sym is.1)
 
-first_wants : (w : TwoHearings) (sequence : ℕ) → first_sequence w.message ≡ Some sequence
-    → IsRefused w.old (Some sequence) Memory [] w.ask w.one → Agree w
-first_wants w sequence number is = inr (inl (subst (λ s. IsRefused w.old s Memory [] w.ask w.one) (sym number) is))
-
-second_wants : (w : TwoHearings) (sequence : ℕ) → first_sequence w.message ≡ Some sequence
-    → IsRefused w.old (Some sequence) Memory [] w.again w.other → Agree w
-second_wants w sequence number is =
-    inr (inr (subst (λ s. IsRefused w.old s Memory [] w.again w.other) (sym number) is))
-
 describes_once : (w : TwoHearings) (sequence film : ℕ) (authority : List ℕ)
     → Describes w.old sequence film authority w.ask w.one
     → Describes w.old sequence film authority w.again w.other → Agree w
@@ -154,6 +145,14 @@ record TwoRequests : Type 0 where
   alike : AreAlike request other
   number : first_sequence w.message ≡ Some request.sequence
 
+-- memory ran out for it, the one time or the other
+first_wants : (r : TwoRequests) → IsRefused r.w.old (Some r.request.sequence) Memory [] r.w.ask r.w.one → Agree r.w
+first_wants r is = inr (inl (subst (λ s. IsRefused r.w.old s Memory [] r.w.ask r.w.one) (sym r.number) is))
+
+second_wants : (r : TwoRequests) → IsRefused r.w.old (Some r.request.sequence) Memory [] r.w.again r.w.other
+    → Agree r.w
+second_wants r is = inr (inr (subst (λ s. IsRefused r.w.old s Memory [] r.w.again r.w.other) (sym r.number) is))
+
 play_or_once : (r : TwoRequests) (authority : List ℕ) (setup : Setup) (planned : Result Planned Refusal)
     → AsksPlayOr r.w.old (play_call r.request.sequence authority setup) planned r.w.ask r.w.one
     → AsksPlayOr r.w.old (play_call r.request.sequence authority setup) planned r.w.again r.w.other → Agree r.w
@@ -163,15 +162,15 @@ play_or_once r authority setup (Ok planned) (inl is) (inl its) =
       awaited = Play (prepared_of r.w.old s setup planned r.request.sequence);
       text = play_front r.w.old s setup planned r.request.sequence authority;
     }) (film_at_once r.w.old.films setup.film is.stored its.stored is.at its.at) ∙ sym is.state)
-play_or_once r authority setup (Ok planned) (inl is) (inr its) = second_wants r.w r.request.sequence r.number its
-play_or_once r authority setup (Ok planned) (inr is) its = first_wants r.w r.request.sequence r.number is
+play_or_once r authority setup (Ok planned) (inl is) (inr its) = second_wants r its
+play_or_once r authority setup (Ok planned) (inr is) its = first_wants r is
 play_or_once r authority setup (Err refusal) is its = replied_once r.w _ _ refl is its
 
 looks_once : (r : TwoRequests) → Looks r.w.old r.request.sequence r.w.ask r.w.one
     → Looks r.w.old r.request.sequence r.w.again r.w.other → Agree r.w
 looks_once r (inl is) (inl its) = same r.w (its.command ∙ sym is.command) (its.state ∙ sym is.state)
-looks_once r (inl is) (inr its) = second_wants r.w r.request.sequence r.number its.refused
-looks_once r (inr is) its = first_wants r.w r.request.sequence r.number is.refused
+looks_once r (inl is) (inr its) = second_wants r its.refused
+looks_once r (inr is) its = first_wants r is.refused
 
 offer_or_once : (r : TwoRequests) (wait : ℕ) (planned : Result Planned Refusal)
     → AsksOfferOr r.w.old r.request.sequence wait planned r.w.ask r.w.one
@@ -180,8 +179,8 @@ offer_or_once r wait (Ok planned) (inl is) (inl its) =
     let offers = found_once is.offers its.offers (its.wait_is ∙ sym is.wait_is) (its.start_is ∙ sym is.start_is)
     (its.tried_is ∙ sym is.tried_is) in
     same r.w (its.command ∙ ap (λ o. AskOffer planned.plan o) offers ∙ sym is.command) (its.state ∙ sym is.state)
-offer_or_once r wait (Ok planned) (inl is) (inr its) = second_wants r.w r.request.sequence r.number its
-offer_or_once r wait (Ok planned) (inr is) its = first_wants r.w r.request.sequence r.number is
+offer_or_once r wait (Ok planned) (inl is) (inr its) = second_wants r its
+offer_or_once r wait (Ok planned) (inr is) its = first_wants r is
 offer_or_once r wait (Err refusal) is its = replied_once r.w _ _ refl is its
 
 offers_in_once : {wait : ℕ} {setup : Setup} {paused : Option Run} (r : TwoRequests)
@@ -193,9 +192,9 @@ offers_in_once {wait} {setup} {paused} r is its =
       | inl alike ↦ offer_or_once r wait is.planned is.asks
           (subst (λ p. AsksOfferOr r.w.old r.request.sequence wait p r.w.again r.w.other) alike its.asks)
       | inr lacks ↦ elim lacks [
-        | inl first ↦ first_wants r.w r.request.sequence r.number
+        | inl first ↦ first_wants r
             (subst (λ p. AsksOfferOr r.w.old r.request.sequence wait p r.w.ask r.w.one) first is.asks)
-        | inr second ↦ second_wants r.w r.request.sequence r.number
+        | inr second ↦ second_wants r
             (subst (λ p. AsksOfferOr r.w.old r.request.sequence wait p r.w.again r.w.other) second its.asks)
       ]
     ]
@@ -225,10 +224,8 @@ plays_once r (Ready setup paused) authority is its =
       | inl alike ↦ play_or_once r authority setup is.planned is.asks
           (subst (λ p. AsksPlayOr r.w.old call p r.w.again r.w.other) alike asks)
       | inr lacks ↦ elim lacks [
-        | inl first ↦ first_wants r.w r.request.sequence r.number
-            (subst (λ p. AsksPlayOr r.w.old call p r.w.ask r.w.one) first is.asks)
-        | inr second ↦ second_wants r.w r.request.sequence r.number
-            (subst (λ p. AsksPlayOr r.w.old call p r.w.again r.w.other) second asks)
+        | inl first ↦ first_wants r (subst (λ p. AsksPlayOr r.w.old call p r.w.ask r.w.one) first is.asks)
+        | inr second ↦ second_wants r (subst (λ p. AsksPlayOr r.w.old call p r.w.again r.w.other) second asks)
       ]
     ]
 plays_once r (Playing setup play) authority is its =

@@ -27,7 +27,7 @@ use Rattle.vod_base.proofs.DigitLemmas.{decimal_numerals}
 use Rattle.rtsp_fields.proofs.FilmPaths.{film_path}
 use Rattle.rtsp_fields.proofs.SecondsTexts.{seconds_read}
 use Rattle.rtsp_text.specs.Grammar.{is_url_byte}
-use Rattle.rtsp_text.specs.Replies.{Field, field_line, reply_front, value_named}
+use Rattle.rtsp_text.specs.Replies.{Field, field_line, reply_front, value_named, reply_text}
 use Rattle.rtsp_text.proofs.CutUniqueness.{all_other}
 use Rattle.rtsp_text.proofs.LineBounds.{all-drop, all-take}
 use Rattle.rtsp_text.proofs.ReplyTexts.{front_field, whole_reply}
@@ -41,7 +41,7 @@ use Rattle.film_streams.specs.StreamNumbers.{identity_of, timestamp_at}
 use Rattle.session.specs.RequestSteps.{after_admission, after_full, after_look, after_overflow}
 use Rattle.session.specs.Methods.{Describes, IsSetUp, first_number, play_front}
 use Rattle.session.specs.declared.states.State.TheVariants.{Ready}
-use Rattle.rtsp_replies.specs.Replies.{describe_text, field, joined_parts, look_body, play_fields, transport_value}
+use Rattle.rtsp_replies.specs.Replies.{field, joined_parts, look_body, play_fields, transport_value, started_text}
 use Rattle.session.specs.SessionStates.{SessionState, sequence_of}
 use Rattle.std.specs.Int.{w32, to_be_bytes}
 use Rattle.hex.specs.Hex.{encode_lower}
@@ -338,11 +338,15 @@ play_told old stored setup planned sequence {authority} is =
     }
 
 -- the reply of a DESCRIBE
-film_text : {url authority : List ℕ} {asked : Option (List ℕ)} {film : Film} (sequence : ℕ) (name : List ℕ)
-    → IsRead url authority asked → good_name name ≡ true → IsShort film
-    → IsDescribeReply sequence authority name film (describe_text sequence authority name (length_ms film))
+pub film_told : {old new : SessionState} {sequence number : ℕ} {url authority : List ℕ} {asked : Option (List ℕ)}
+    {ask : Ask}
+    → (is : Describes old sequence number authority ask new) → IsRead url authority asked
+    → good_name (string_bytes is.stored.name) ≡ true → IsShort is.stored.film
+    → IsDescribeReply sequence authority (string_bytes is.stored.name) is.stored.film new.text
 unfolding value_named
-film_text {url} {authority} {asked} {film} sequence name read good short =
+film_told {sequence} {url} {authority} {asked} is read good short =
+    let film = is.stored.film in
+    let name = string_bytes is.stored.name in
     let base : codes "rtsp://" ++ (authority ++ (47 ∷ name ++ codes "/"))
     ≡ joined_parts (codes "rtsp://" ∷ authority ∷ codes "/" ∷ name ∷ codes "/" ∷ []) =
     base_is authority name in
@@ -351,7 +355,7 @@ film_text {url} {authority} {asked} {film} sequence name read good short =
       body = description_text name (length_ms film);
       end = length_ms film;
       base = joined_parts (codes "rtsp://" ∷ authority ∷ codes "/" ∷ name ∷ codes "/" ∷ []);
-      text_is = refl;
+      text_is = ap (λ (s : SessionState). s.text) is.reply.1;
       base_is = refl;
       names_film = subst (λ (u : List ℕ). IsRead u authority (Some name)) base
           (film_url authority name (codes "/") (authority_of url authority asked read) good (inr (inl refl)));
@@ -367,30 +371,24 @@ film_text {url} {authority} {asked} {film} sequence name read good short =
         (codes "rtsp://" ∷ a ∷ codes "/" ∷ n ∷ codes "/" ∷ [])
     base_is a n = refl
 
-pub film_told : {old new : SessionState} {sequence number : ℕ} {url authority : List ℕ} {asked : Option (List ℕ)}
-    {ask : Ask}
-    → (is : Describes old sequence number authority ask new) → IsRead url authority asked
-    → good_name (string_bytes is.stored.name) ≡ true → IsShort is.stored.film
-    → IsDescribeReply sequence authority (string_bytes is.stored.name) is.stored.film new.text
-film_told {new} {sequence} {number} {url} {authority} {asked} {ask} is read good short =
-    subst (λ (t : List ℕ). IsDescribeReply sequence authority (string_bytes is.stored.name) is.stored.film t)
-    (sym (ap (λ (s : SessionState). s.text) is.reply.1))
-    (film_text sequence (string_bytes is.stored.name) read good short)
+-- the reply of an admitted play
+pub started_is : {front : List ℕ} (n : ℕ) (fields : List Field) (slots : ℕ) → front ≡ reply_front 200 (Some n) fields
+    → started_text front slots
+    ≡ reply_text 200 (Some n) (fields ++ field (codes "x-Start") (decimal slots) ∷ []) []
+started_is {front} n fields slots is =
+    let own = field (codes "x-Start") (decimal slots) in
+    let more : front ++ field_line own ≡ reply_front 200 (Some n) (fields ++ own ∷ []) =
+    front_field {old = front} 200 (Some n) fields own refl is in
+    whole_reply {old = front ++ field_line own} 200 (Some n) (fields ++ own ∷ []) [] refl more
 
--- the start of an admitted play
 pub start_told : {sequence : ℕ} {fields : List Field} (old : SessionState) (place start : ℕ) → old.heard < start
     → old.text ≡ reply_front 200 (Some sequence) fields
     → HasStartInReply old start sequence fields (after_admission old place start).text
-start_told {sequence} {fields} old place start later front =
-    let slots : ℕ = start - old.heard in
-    let own = field (codes "x-Start") (decimal (start - old.heard)) in
-    let more : old.text ++ field_line own ≡ reply_front 200 (Some sequence) (fields ++ own ∷ []) =
-    front_field {old = old.text} 200 (Some sequence) fields own refl front in
-    record {
-      slots = start - old.heard;
-      slots_are = omega (arith, later);
-      text_is = whole_reply {old = old.text ++ field_line own} 200 (Some sequence) (fields ++ own ∷ []) [] refl more;
-    }
+start_told {sequence} {fields} old place start later front = record {
+  slots = start - old.heard;
+  slots_are = omega (arith, later);
+  text_is = started_is sequence fields (start - old.heard) front;
+}
 
 -- the reply of a SETUP
 pub setup_told : {ask : Ask} (old new : SessionState) (sequence : ℕ) (setup : Setup) (counts : Counts)

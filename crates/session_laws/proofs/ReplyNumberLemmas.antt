@@ -1,10 +1,8 @@
 -- Each reply to a request has the request's CSeq.
-use Rattle.std.proofs.Common.{◌≡◌, ℕ, ◌-◌, ◌++◌, List, [], ◌∷◌, Some, codes, decimal, string_bytes, refl, sym, ap}
-use Rattle.std.proofs.Common.{subst}
-use Rattle.rtsp_text.specs.Replies.{reply_text, Field, field_line, reply_front}
+use Rattle.std.proofs.Common.{◌≡◌, ℕ, ◌-◌, List, [], Some, string_bytes, refl, sym, ap, subst}
+use Rattle.rtsp_text.specs.Replies.{reply_text, Field}
 use Rattle.rtsp_text.specs.declared.requests.Request.{Request}
 use Rattle.rtsp_text.proofs.MessageUniqueness.{no_fault}
-use Rattle.rtsp_text.proofs.ReplyTexts.{front_field, whole_reply}
 use Rattle.session.specs.declared.commands.Ask.{Ask}
 use Rattle.session.specs.declared.plans.Planned.{Planned}
 use Rattle.session.specs.declared.refusals.Task.{Task}
@@ -12,8 +10,8 @@ use Rattle.film_streams.specs.Films.{milliseconds_at}
 use Rattle.film_streams.specs.StreamNumbers.{timestamp_at}
 use Rattle.session.specs.Methods.{AsksPlay, first_number}
 use Rattle.session.specs.RefusalOrder.{IsReadAs}
-use Rattle.rtsp_replies.specs.Replies.{code_of, field, full_text, look_body, offer_body, overflow_text}
-use Rattle.rtsp_replies.specs.Replies.{parameters_text, play_fields, started_text}
+use Rattle.rtsp_replies.specs.Replies.{code_of, full_text, look_body, offer_body, overflow_text, parameters_text}
+use Rattle.rtsp_replies.specs.Replies.{play_fields}
 use Rattle.session_laws.specs.ReplyNumbers.{HasNumber, RepliesHaveNumber}
 use Rattle.session.specs.SessionStates.{SessionState, sequence_of}
 use Rattle.session.proofs.InitialStateLemmas.{HeardMessage}
@@ -23,6 +21,7 @@ use Rattle.session.proofs.RequestCaseAnalysis.{TakesLook, SeeksOffer, OwnReply, 
 use Rattle.session.proofs.RequestCaseAnalysis.{ToAsked, ToDescribed, ToConfirmed, ToEmpty, ReadyPlay, TakenTask}
 use Rattle.session.proofs.RequestCaseAnalysis.{answer_to, reply_of}
 use Rattle.session_laws.proofs.RequestReadings.{same_request}
+use Rattle.session_laws.proofs.ReplyContentLemmas.{started_is}
 
 -- ---- texts
 
@@ -31,19 +30,6 @@ same_number {n} is has = subst (HasNumber n) (sym is) has
 
 numbered : (code n : ℕ) (fields : List Field) (body : List ℕ) → HasNumber n (reply_text code (Some n) fields body)
 numbered code n fields body = record { code = code; fields = fields; body = body; text_is = refl }
-
-started_number : (n : ℕ) (front : List ℕ) (fields : List Field) (slots : ℕ)
-    → front ≡ reply_front 200 (Some n) fields → HasNumber n (started_text front slots)
-started_number n front fields slots is =
-    let own = field (codes "x-Start") (decimal slots) in
-    let more : front ++ field_line own ≡ reply_front 200 (Some n) (fields ++ own ∷ []) =
-    front_field {old = front} 200 (Some n) fields own refl is in
-    record {
-      code = 200;
-      fields = fields ++ own ∷ [];
-      body = [];
-      text_is = whole_reply {old = front ++ field_line own} 200 (Some n) (fields ++ own ∷ []) [] refl more;
-    }
 
 -- ---- answers
 
@@ -89,7 +75,8 @@ play_number h play planned is =
     (first_number h.old stored play.setup planned) (timestamp_at stored.film h.old.source planned.run.from_unit) in
     by_ask h n is.command (record {
       admission = λ place start.
-          started_number n h.new.text fields (start - h.new.heard) (ap (λ (t : SessionState). t.text) is.state);
+          same_number (started_is n fields (start - h.new.heard) (ap (λ (t : SessionState). t.text) is.state))
+          (numbered 200 n _ []);
       overflow = λ place slot booked asked.
           same_number (ap (λ k. overflow_text k slot booked asked) number) (numbered 453 n _ []);
       full = full_named h number;
