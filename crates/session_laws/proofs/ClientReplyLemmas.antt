@@ -49,14 +49,9 @@ pub setup_answered : (old : SessionState) (message url : List ℕ) (sequence : �
     (new : SessionState) → IsCall message (codes "SETUP") url sequence head → Hears old message ask new
     → (new.state ≡ old.state) ⊎ IsSettledReply old url sequence head new
 setup_answered old message url sequence head ask new is hears =
-    elim (setup_done (record {
-      h = heard_by {old = old} {new = new} {message = message} {ask = ask} hears;
-      url = url;
-      sequence = sequence;
-      head = head;
-      body = is.body;
-      read = is.read;
-    })) [
+    let c : HeardCall (codes "SETUP") =
+    record { h = heard_by hears; url = url; sequence = sequence; head = head; body = is.body; read = is.read } in
+    elim (setup_done c) [
       | Refuses text done ↦ inl (ap (λ (s : SessionState). s.state) done.1)
       | Settles setup authority asks names done ↦ inr (record {
         setup = setup;
@@ -195,11 +190,5 @@ pub teardown_answered : (old : SessionState) (message url : List ℕ) (sequence 
     (new : SessionState) → IsCall message (codes "TEARDOWN") url sequence head → IsOwnTeardown old url head
     → Hears old message ask new → IsTornAnswered old sequence new
 teardown_answered old message url sequence head ask new is may hears =
-    torn_call (record {
-      h = heard_by {old = old} {new = new} {message = message} {ask = ask} hears;
-      url = url;
-      sequence = sequence;
-      head = head;
-      body = is.body;
-      read = is.read;
-    }) may
+    torn_call
+    (record { h = heard_by hears; url = url; sequence = sequence; head = head; body = is.body; read = is.read }) may

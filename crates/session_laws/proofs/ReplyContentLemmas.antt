@@ -349,7 +349,7 @@ film_told {sequence} {url} {authority} {asked} is read good short =
     let name = string_bytes is.stored.name in
     let base : codes "rtsp://" ++ (authority ++ (47 ∷ name ++ codes "/"))
     ≡ joined_parts (codes "rtsp://" ∷ authority ∷ codes "/" ∷ name ∷ codes "/" ∷ []) =
-    base_is authority name in
+    refl in
     record {
       fields = _;
       body = description_text name (length_ms film);
@@ -365,11 +365,6 @@ film_told {sequence} {url} {authority} {asked} is read good short =
       described = description_is name (length_ms film) good
           (few_ms 4194304 (length film.units.items) (picture_time film.rate) short.few (omega arith) short.brief);
     }
-  where
-    base_is : (a n : List ℕ)
-        → codes "rtsp://" ++ (a ++ (47 ∷ n ++ codes "/")) ≡ joined_parts
-        (codes "rtsp://" ∷ a ∷ codes "/" ∷ n ∷ codes "/" ∷ [])
-    base_is a n = refl
 
 -- the reply of an admitted play
 pub started_is : {front : List ℕ} (n : ℕ) (fields : List Field) (slots : ℕ) → front ≡ reply_front 200 (Some n) fields

@@ -125,14 +125,8 @@ setup_done c = setup_by c (answer_to c.h)
 pub setup_heard : (old : SessionState) (message url head : List ℕ) (ask : Ask) (new : SessionState)
     → IsSetupRequest message url head → Hears old message ask new → SetupHeard old url head ask new
 setup_heard old message url head ask new is hears =
-    let c : HeardCall (codes "SETUP") = record {
-      h = heard_by {old = old} {new = new} {message = message} {ask = ask} hears;
-      url = url;
-      sequence = is.sequence;
-      head = head;
-      body = is.body;
-      read = is.read;
-    } in
+    let c : HeardCall (codes "SETUP") =
+    record { h = heard_by hears; url = url; sequence = is.sequence; head = head; body = is.body; read = is.read } in
     elim (setup_done c) [
       | Refuses text done ↦ Refused text done.0 done.1
       | Settles setup authority asks names done ↦ Settled setup _ authority done.0 done.1 asks names
