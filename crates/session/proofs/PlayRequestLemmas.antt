@@ -83,15 +83,14 @@ play_asked {inside} ask =
     let closed : open_receipts inside.state ≡ 0 = ready_closed inside.state setup ready in
     step_kept kept refl (record {
       state = kept.state;
-      awaited = ready_in {prepared = prepared} ground inside.state ready
-          (
-            record {
-              going = record { boundary = playable.run_of.boundary; whole = playable.bytes ∙ sym bytes };
-              paced = refl;
-            },
-            of_film ground.films setup.film stored (λ s. IsPreparedAs s ground.source ground.settings setup prepared) at
-                (record { playable = playable; frames_are = refl }),
-          );
+      awaited = ready_in {prepared = prepared} ground inside.state ready (
+        record {
+          going = record { boundary = playable.run_of.boundary; whole = playable.bytes ∙ sym bytes };
+          paced = refl;
+        },
+        of_film ground.films setup.film stored (λ s. IsPreparedAs s ground.source ground.settings setup prepared) at
+            (record { playable = playable; frames_are = refl }),
+      );
       stop = kept.stop;
       rooms = (omega arith, omega arith, omega arith);
       torn = kept.torn;

@@ -214,8 +214,7 @@ own_500 h (ToRefused request refusal read judged) is code =
     refused_memory h (Some request.sequence) refusal (option_of request.head.now) is code in
     absurd (subst (λ r. IsJudged h.old.films h.old.id h.old.state request (Err r)) memory judged)
 own_500 h (ToDeclined request refusal read cause) is code =
-    let memory : refusal ≡ Memory = refused_memory h (Some request.sequence) refusal [] is code in
-    (
+    let memory : refusal ≡ Memory = refused_memory h (Some request.sequence) refusal [] is code in (
       may_lack cause memory,
       subst (λ n. IsRefused h.old n Memory [] h.ask h.new)
           (sym (first_sequence_is h.message request.sequence read.sequence_is))

@@ -112,8 +112,7 @@ judged_causes old alike Version is = absurd is
 judged_causes old alike Unknown is = λ known. is.none known.0 (alike.method ∙ known.1)
 judged_causes {other} old alike Required is =
     let own = some_option other (header_value other.head.now (codes "Require"))
-    (header_value other.head.now (codes "Proxy-Require")) refl refl is.required in
-    (
+    (header_value other.head.now (codes "Proxy-Require")) refl refl is.required in (
       own.0,
       subst (λ (x : List ℕ). (header_value x (codes "Require") ≡ Some own.0)
           ⊎ (header_value x (codes "Proxy-Require") ≡ Some own.0)) alike.head own.1,
