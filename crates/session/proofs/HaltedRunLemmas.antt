@@ -75,18 +75,19 @@ module _ (p : PacerState) (keep : ℕ) (halted : HaltedPacing p keep) where
   is_halt (Some last) is = halt_some last is
 
 -- a play is halted at the next boundary of its frames
-pub record HaltAtBoundary (play : Played) (keep : ℕ) (halted : PacerState) : Type 0 where
+pub record HaltAtBoundary (play : Played) : Type 0 where
+  pub keep : ℕ
+  pub halted : PacerState
   pub state : halted ≡ record play.pacer { keep = next_boundary play.pacer }
   pub after : IsBoundaryAfter play.pacer.pieces (play.pacer.before + play.pacer.sent) (play.pacer.before + keep)
   pub most : keep ≤ play.pacer.keep
 
 -- a play in hand is halted
-pub halts_play : {play : Played} {keep : ℕ} {halted : PacerState} (last : Option ℕ) → IsPacedPlay play →
-    IsPlayUnfinished play
-    → HaltAtBoundary play keep halted → slots_through last ≡ halted.passed → IsHalt play.plan last keep
-halts_play {play} {keep} {halted} last is unhalted halt through =
-    subst (λ (plan : List Segment). IsHalt plan last keep) is.plan
-    (is_halt play.pacer keep (record {
+pub halts_play : {play : Played} (last : Option ℕ) → IsPacedPlay play → IsPlayUnfinished play
+    → (halt : HaltAtBoundary play) → slots_through last ≡ halt.halted.passed → IsHalt play.plan last halt.keep
+halts_play {play} last is unhalted halt through =
+    subst (λ (plan : List Segment). IsHalt plan last halt.keep) is.plan
+    (is_halt play.pacer halt.keep (record {
       pacing = is.pacing;
       even = unhalted.even;
       whole = unhalted.whole ∙ ap total_bytes (sym is.plan);

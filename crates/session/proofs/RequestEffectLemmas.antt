@@ -186,23 +186,22 @@ good_does h ToTeardown taken play takes =
 good_does h ToGetParameter taken play takes =
     absurd (let no : ⊥ = cc (taken.judged.talk.spoken.named, play.good.method) in no)
 
-good_takes : (h : HeardMessage) (can : CanBePlayed h.old h.message) (request : Request) → IsReadAs h.message request
-    → (judgement : Result Task Refusal) → IsJudged h.old.films h.old.id h.old.state request judgement
-    → Takes h.old request judgement h.ask h.new → AsksOrLacks h.old h.ask h.new
-good_takes h can request read (Ok task) judged takes =
-    good_does h task (record { request = request; is_request = read; judged = judged }) (record {
-      setup = can.setup;
-      paused = can.paused;
-      ready = can.ready;
-      good = can.good request read;
-    }) takes
-good_takes h can request read (Err refusal) judged takes =
-    absurd ((can.good request read).taken refusal judged)
-
 pub hears_good : (old new : SessionState) (message : List ℕ) (ask : Ask) → Hears old message ask new
     → CanBePlayed old message
     → AsksOrLacks old ask new
 hears_good old new message ask (inl fault) can = absurd (can.sound fault.fault fault.is_fault)
 hears_good old new message ask (inr whole) can =
-    good_takes (record { old = old; new = new; message = message; ask = ask; hears = inr whole }) can whole.request
-    whole.is_request whole.hears.judgement whole.hears.judged whole.hears.takes
+    let h : HeardMessage =
+    record { old = old; new = new; message = message; ask = ask; hears = inr whole } in
+    let request = whole.request in
+    (elim whole.hears.judgement as (λ j. IsJudged old.films old.id old.state request j → Takes old request j ask new
+    → AsksOrLacks old ask new) [
+      | Ok task ↦ λ judged takes.
+          good_does h task (record { request = request; is_request = whole.is_request; judged = judged }) (record {
+            setup = can.setup;
+            paused = can.paused;
+            ready = can.ready;
+            good = can.good request whole.is_request;
+          }) takes
+      | Err refusal ↦ λ judged takes. absurd ((can.good request whole.is_request).taken refusal judged)
+    ]) whole.hears.judged whole.hears.takes

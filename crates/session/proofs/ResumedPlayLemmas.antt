@@ -37,19 +37,22 @@ new_goes_on {stored} {source} {setup} {counts} {from} {run} asked = record {
 }
 
 -- what was sent before, and a paused run can be sent on after it
-record SentBefore (stored : Stored) (source : StreamSource) (setup : Setup) (paused : Option Run) : Type 0 where
+record SentBefore (paused : Option Run) : Type 0 where
+  pub stored : Stored
+  pub source : StreamSource
+  pub setup : Setup
   pub counts : Counts
   pub kept : IfSome paused (λ run. IsRunOf stored source setup counts run)
 
-wanted_goes_on : {stored : Stored} {source : StreamSource} {setup : Setup} (paused : Option Run)
-    (before : SentBefore stored source setup paused) (from : Origin) (to : Option ℕ) (wanted : PlayRequest)
-    → IsRequestFor stored.film paused from to wanted
-    → IsRunOf stored source setup (counts_for stored.film source setup before.counts paused wanted) (run_of wanted)
+wanted_goes_on : (paused : Option Run) (before : SentBefore paused) (from : Origin) (to : Option ℕ)
+    (wanted : PlayRequest) → IsRequestFor before.stored.film paused from to wanted
+    → IsRunOf before.stored before.source before.setup
+    (counts_for before.stored.film before.source before.setup before.counts paused wanted) (run_of wanted)
 wanted_goes_on None before Now to (Resumed run) is = absurd is
 wanted_goes_on None before Now to (New run) is =
     new_goes_on is
-wanted_goes_on {stored} {source} {setup} (Some paused) before Now to (Resumed run) is =
-    subst (λ (r : Run). IsRunOf stored source setup before.counts r) (sym is) before.kept
+wanted_goes_on (Some paused) before Now to (Resumed run) is =
+    subst (λ (r : Run). IsRunOf before.stored before.source before.setup before.counts r) (sym is) before.kept
 wanted_goes_on (Some paused) before Now to (New run) is = absurd is
 wanted_goes_on None before (At time) to (Resumed run) is = absurd is
 wanted_goes_on None before (At time) to (New run) is =
@@ -62,8 +65,10 @@ pub goes_on : {stored : Stored} {source : StreamSource} {setup : Setup} {paused 
     {wanted : PlayRequest} (counts : Counts) → IfSome paused (λ run. IsRunOf stored source setup counts run)
     → IsAskedRun stored.film paused range wanted
     → IsRunOf stored source setup (counts_for stored.film source setup counts paused wanted) (run_of wanted)
-goes_on {paused} {wanted} counts kept asked =
-    wanted_goes_on paused (record { counts = counts; kept = kept }) asked.span.from asked.span.to wanted asked.is_wanted
+goes_on {stored} {source} {setup} {paused} {wanted} counts kept asked =
+    wanted_goes_on paused
+    (record { stored = stored; source = source; setup = setup; counts = counts; kept = kept }) asked.span.from
+    asked.span.to wanted asked.is_wanted
 
 -- a Range gives one span
 pub span_of_once : (range : Option (List ℕ)) (a b : Span) → IsSpanOf range a → IsSpanOf range b → a ≡ b

@@ -6,16 +6,22 @@ use Rattle.pacer.specs.PacerStates.{IsPacerState, PacerState, due_by, next_bound
 use Rattle.pacer.proofs.PacerStateLemmas.{boundary-from, boundary-is}
 
 -- what was sent of a run ends before a boundary inside of it
-record SentWithin (pieces : List (List ℕ)) (end before sent : ℕ) : Type 0 where
+record SentWithin (pieces : List (List ℕ)) : Type 0 where
+  pub end : ℕ
+  pub before : ℕ
+  pub sent : ℕ
   pub ends : IsBoundary pieces end
   pub within : before + sent ≤ end
   pub most : end ≤ length (framed_bytes pieces)
 
-stops_at : {pieces : List (List ℕ)} {end : ℕ} (before sent due : ℕ) → SentWithin pieces end before sent
-    → 0 < due - min due (boundary_from pieces (before + sent) - before)
-    → boundary_from pieces (before + min due (boundary_from pieces (before + sent) - before)) - before
-    ≡ min due (boundary_from pieces (before + sent) - before)
-stops_at {pieces} {end} before sent due given left =
+stops_at : {pieces : List (List ℕ)} (s : SentWithin pieces) (due : ℕ)
+    → 0 < due - min due (boundary_from pieces (s.before + s.sent) - s.before)
+    → boundary_from pieces (s.before + min due (boundary_from pieces (s.before + s.sent) - s.before)) - s.before
+    ≡ min due (boundary_from pieces (s.before + s.sent) - s.before)
+stops_at {pieces} given due left =
+    let before = given.before in
+    let sent = given.sent in
+    let end = given.end in
     let inside : before + sent ≤ length (framed_bytes pieces) = omega arith in
     let next : IsBoundaryAfter pieces (before + sent) (boundary_from pieces (before + sent)) =
     boundary-from pieces (before + sent) inside in
@@ -41,5 +47,11 @@ stop_between slot old new is_old is left =
     subst Stands (sym is)
     (λ more. eq-eqb (boundary_from old.pieces (old.before + min (due_by old slot) (next_boundary old)) - old.before)
     (min (due_by old slot) (next_boundary old))
-    (stops_at old.before old.sent (due_by old slot)
-    (record { ends = is_old.ends; within = within; most = most }) more)) left
+    (stops_at (record {
+      end = old.before + old.keep;
+      before = old.before;
+      sent = old.sent;
+      ends = is_old.ends;
+      within = within;
+      most = most;
+    }) (due_by old slot) more)) left

@@ -35,6 +35,8 @@ run_after-left-requires-clause-halt c =
     let play = c.in-Playing.play in
     let hand = in_hand (goal.at.run_after-left-requires-clause-halt c).In-Playing in
     halts_play c.last_slot-last.result (playing_in hand).1 (play_going hand) (record {
+      keep = c.ask_halt-keep.result;
+      halted = c.ask_halt-keep.new.self;
       state = c.ask_halt-keep.ensures.state;
       after = c.ask_halt-keep.ensures.boundary;
       most = c.ask_halt-keep.ensures.most;
