@@ -1,7 +1,6 @@
 pub mod InitialStateLemmas
 pub mod StopBoundaryLemmas
 pub mod HaltLemmas
-pub mod SlotBytesLemmas
 pub mod ResumedPlayLemmas
 pub mod HaltedRunLemmas
 pub mod StepInvariantLemmas

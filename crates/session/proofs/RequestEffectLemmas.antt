@@ -18,7 +18,7 @@ use Rattle.session.specs.declared.states.State.TheVariants.{Ready}
 use Rattle.session.specs.RequestEffects.{AsksOrLacks, AwaitsNoStop, CanBePlayed, ChangesState, IsGoodPlay}
 use Rattle.session.specs.RequestEffects.{IsPlayAskedFor, IsSameContext}
 use Rattle.session.specs.RequestSteps.{Hears}
-use Rattle.session.specs.RefusalOrder.{IsJudged, IsReadAs}
+use Rattle.session.specs.RefusalOrder.{IsJudged}
 use Rattle.session.specs.Laws.{AsksNoHalt}
 use Rattle.session.specs.Methods.{AsksHalt, AsksPlayOr, IsRefused, Plays, Takes, play_call, AsksPlay}
 use Rattle.session.specs.RequestedPlans.{IsPlanned, IsPlannedRun}

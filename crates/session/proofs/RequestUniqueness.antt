@@ -36,16 +36,22 @@ channels_once : (value : Option (List ℕ)) (a b : Channels) → AreChannelsOf v
 channels_once None a b is its = absurd is
 channels_once (Some value) a b is its = transport_once value b a its is
 
-setup_once : {settings : Settings} {head : List ℕ} {film : ℕ} {one other : Setup} → AsksForSetup settings head film one
-    → AsksForSetup settings head film other → other ≡ one
-setup_once {settings} {head} {film} {one} {other} is its =
+-- what a SETUP is read from: the server's settings, a head and the film that its URL names
+pub record SetupSource : Type 0 where
+  pub settings : Settings
+  pub head : List ℕ
+  pub film : ℕ
+
+setup_once : (from : SetupSource) (one other : Setup) → AsksForSetup from.settings from.head from.film one
+    → AsksForSetup from.settings from.head from.film other → other ≡ one
+setup_once from one other is its =
     let S : ℕ → Channels → ℕ → ℕ → Setup =
     λ f c b d. record { film = f; media = c.media; control = c.control; buffer = b; delay = d } in
     let C : Setup → Channels = λ s. record { media = s.media; control = s.control } in
     let film_is = its.film_is ∙ sym is.film_is in
-    let channels = channels_once (header_value head (codes "Transport")) (C one) (C other) is.channels its.channels in
-    let buffer = chosen_once (header_value head (codes "x-Buffer")) settings.buffer 1 (2 ^ 42) is.buffer its.buffer in
-    let delay = chosen_once (header_value head (codes "x-Startup")) settings.startup 0 10000 is.delay its.delay in
+    let channels = channels_once (header_value from.head (codes "Transport")) (C one) (C other) is.channels its.channels in
+    let buffer = chosen_once (header_value from.head (codes "x-Buffer")) from.settings.buffer 1 (2 ^ 42) is.buffer its.buffer in
+    let delay = chosen_once (header_value from.head (codes "x-Startup")) from.settings.startup 0 10000 is.delay its.delay in
     ap (λ f. S f (C other) other.buffer other.delay) film_is ∙ ap (λ c. S one.film c other.buffer other.delay) channels
     ∙ ap (λ b. S one.film (C one) b other.delay) buffer ∙ ap (λ d. S one.film (C one) one.buffer d) delay
 
@@ -80,25 +86,24 @@ unread_once settings head one other (NoMeaning is bad) (NoChannels its none) =
     absurd (none bad.channels.0 bad.channels.1)
 unread_once settings head one other (NoMeaning is bad) (NoMeaning its worse) = its ∙ sym is
 
-not_unread : {settings : Settings} {head : List ℕ} {film : ℕ} {setup : Setup} {refusal : Refusal}
-    → AsksForSetup settings head film setup
-    → Unread settings head refusal → ⊥
-not_unread {head} {setup} is (NoChannels its none) =
+not_unread : (from : SetupSource) (setup : Setup) (refusal : Refusal)
+    → AsksForSetup from.settings from.head from.film setup → Unread from.settings from.head refusal → ⊥
+not_unread from setup refusal is (NoChannels its none) =
     none (record { media = setup.media; control = setup.control }) is.channels
-not_unread {head} {setup} is (NoMeaning its none) =
+not_unread from setup refusal is (NoMeaning its none) =
     elim none.none [ inl buffer ↦ buffer setup.buffer is.buffer | inr delay ↦ delay setup.delay is.delay ]
 
-pub read_once : {one other : Result Setup Refusal} (settings : Settings) (head : List ℕ) (film : ℕ)
-    → IsSetupRead settings head film one
-    → IsSetupRead settings head film other → other ≡ one
-read_once {one = Ok one} {other = Ok other} settings head film is its = ap (λ s. Ok s) (setup_once is its)
-read_once {one = Ok one} {other = Err other} settings head film is its =
-    absurd (not_unread is (unread settings head film other its))
-read_once {one = Err one} {other = Ok other} settings head film is its =
-    absurd (not_unread its (unread settings head film one is))
-read_once {one = Err one} {other = Err other} settings head film is its =
-    ap (λ r. Err r) (unread_once settings head one other (unread settings head film one is)
-    (unread settings head film other its))
+pub read_once : (from : SetupSource) (one other : Result Setup Refusal)
+    → IsSetupRead from.settings from.head from.film one → IsSetupRead from.settings from.head from.film other
+    → other ≡ one
+read_once from (Ok one) (Ok other) is its = ap (λ s. Ok s) (setup_once from one other is its)
+read_once from (Ok one) (Err other) is its =
+    absurd (not_unread from one other is (unread from.settings from.head from.film other its))
+read_once from (Err one) (Ok other) is its =
+    absurd (not_unread from other one its (unread from.settings from.head from.film one is))
+read_once from (Err one) (Err other) is its =
+    ap (λ r. Err r) (unread_once from.settings from.head one other (unread from.settings from.head from.film one is)
+    (unread from.settings from.head from.film other its))
 
 -- what a body asks for
 abbrev third : List ℕ → ℕ

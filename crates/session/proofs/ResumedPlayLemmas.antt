@@ -37,7 +37,7 @@ new_goes_on {stored} {source} {setup} {counts} {from} {run} asked = record {
 }
 
 -- what was sent before, and a paused run can be sent on after it
-record SentBefore (paused : Option Run) : Type 0 where
+pub record SentBefore (paused : Option Run) : Type 0 where
   pub stored : Stored
   pub source : StreamSource
   pub setup : Setup
@@ -61,14 +61,12 @@ wanted_goes_on (Some paused) before (At time) to (Resumed run) is = absurd is
 wanted_goes_on (Some paused) before (At time) to (New run) is =
     new_goes_on is
 
-pub goes_on : {stored : Stored} {source : StreamSource} {setup : Setup} {paused : Option Run} {range : Option (List ℕ)}
-    {wanted : PlayRequest} (counts : Counts) → IfSome paused (λ run. IsRunOf stored source setup counts run)
-    → IsAskedRun stored.film paused range wanted
-    → IsRunOf stored source setup (counts_for stored.film source setup counts paused wanted) (run_of wanted)
-goes_on {stored} {source} {setup} {paused} {wanted} counts kept asked =
-    wanted_goes_on paused
-    (record { stored = stored; source = source; setup = setup; counts = counts; kept = kept }) asked.span.from
-    asked.span.to wanted asked.is_wanted
+pub goes_on : {paused : Option Run} {range : Option (List ℕ)} {wanted : PlayRequest} (before : SentBefore paused)
+    → IsAskedRun before.stored.film paused range wanted
+    → IsRunOf before.stored before.source before.setup
+    (counts_for before.stored.film before.source before.setup before.counts paused wanted) (run_of wanted)
+goes_on {paused} {wanted} before asked =
+    wanted_goes_on paused before asked.span.from asked.span.to wanted asked.is_wanted
 
 -- a Range gives one span
 pub span_of_once : (range : Option (List ℕ)) (a b : Span) → IsSpanOf range a → IsSpanOf range b → a ≡ b

@@ -203,7 +203,8 @@ sets_up_once : (r : TwoRequests) (film : ℕ) → SetsUp r.w.old r.request film 
     → SetsUp r.w.old r.other film r.w.again r.w.other → Agree r.w
 sets_up_once r film is its =
     let read = subst (λ h. IsSetupRead r.w.old.settings h film its.read) r.alike.head its.is_read in
-    let reads = read_once r.w.old.settings r.request.head.now film is.is_read read in
+    let reads = read_once (record { settings = r.w.old.settings; head = r.request.head.now; film = film }) is.read its.read
+    is.is_read read in
     set_up_once r.w r.request.sequence is.read is.done
     (subst (λ x. IsSetUp r.w.old r.request.sequence x r.w.again r.w.other) reads
     (subst (λ s. IsSetUp r.w.old s its.read r.w.again r.w.other) r.alike.sequence its.done))

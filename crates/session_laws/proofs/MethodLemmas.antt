@@ -231,7 +231,8 @@ setup_read h request read t is =
     let own : IsSetupRead h.old.settings request.head.now t.does.1.0 sets.read =
     subst (λ (x : List ℕ). IsSetupRead h.old.settings x t.does.1.0 sets.read) t.alike.head sets.is_read in
     subst (λ (r : Result Setup Refusal). IsSetUp h.old t.other.sequence r h.ask h.new)
-    (sym (read_once {one = sets.read} {other = read} h.old.settings request.head.now t.does.1.0 own is)) sets.done
+    (sym (read_once (record { settings = h.old.settings; head = request.head.now; film = t.does.1.0 }) sets.read read
+    own is)) sets.done
 
 pub setup_answered : (h : HeardMessage) (request : Request) (setup : Setup) → AreFilms h.old.films
     → (asked : AskedSetup h request) → SettlesSetup h.old.settings request.head.now asked.film setup

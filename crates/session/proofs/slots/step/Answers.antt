@@ -1,25 +1,28 @@
-use Rattle.std.proofs.Common.{subst, sym}
+use Rattle.std.proofs.Common.{ℕ, ◌<◌, Bool, ap, subst, sym, ◌∙◌}
+use Rattle.pacer.specs.PacerStates.{after_step}
 use Rattle.vod_base.specs.Links.{IsSentPrefix}
 use Rattle.session.specs.SlotSteps.{step_bytes}
 use Rattle.session.specs.SlotTransitions.{IsPacingIn}
 use Rattle.session.specs.declared.states.State.{State}
 use Rattle.session.proofs.FailedSlotLemmas.{failed_front, on_err}
-use Rattle.session.proofs.SlotBytesLemmas.{stopped}
+use Rattle.session.proofs.StopBoundaryLemmas.{stop_between}
 use Rattle.session.proofs.slots.step.Goals as goal
 
 pub returns-in_ok-step-in-Playing-clause-between :
     goal.returns-in_ok-step-in-Playing-clause-between
 returns-in_ok-step-in-Playing-clause-between g c more stops =
     let step = c.in_ok-step-in-Playing in
-    stopped c.args.slot
-    (subst IsPacingIn c.in-Playing.is c.requires) step.ensures.state step.ensures.answer.left more stops
+    stop_between c.args.slot _ _ (subst IsPacingIn c.in-Playing.is c.requires)
+    (step.ensures.state ∙ ap (λ (b : Bool). after_step b c.args.slot c.in-Playing.play.pacer) stops)
+    (subst (λ (n : ℕ). 0 < n) step.ensures.answer.left more)
 
 pub returns-in_ok-step-in-Stopping-clause-between :
     goal.returns-in_ok-step-in-Stopping-clause-between
 returns-in_ok-step-in-Stopping-clause-between g c more stops =
     let step = c.in_ok-step-in-Stopping in
-    stopped c.args.slot
-    (subst IsPacingIn c.in-Stopping.is c.requires) step.ensures.state step.ensures.answer.left more stops
+    stop_between c.args.slot _ _ (subst IsPacingIn c.in-Stopping.is c.requires)
+    (step.ensures.state ∙ ap (λ (b : Bool). after_step b c.args.slot c.in-Stopping.halted.pacer) stops)
+    (subst (λ (n : ℕ). 0 < n) step.ensures.answer.left more)
 
 pub returns-in_err-step-in-Playing-clause-front : goal.returns-in_err-step-in-Playing-clause-front
 returns-in_err-step-in-Playing-clause-front g c =
