@@ -161,23 +161,6 @@ next_in ground lost state (Halt keep next) kept = kept.1
 next_in ground lost state (Look sequence) kept = tt
 next_in ground lost state (Offer sequence) kept = tt
 
--- a play of which a halt is asked is the same but for what is kept
-halting_kept : {setup : Setup} {play : Played} {pacer : PacerState} (ground : SessionContext) (keep : ℕ)
-    → IsStateInvariant ground (Playing setup play) → IsPacerState pacer → pacer ≡ record play.pacer { keep = keep }
-    → IsStateInvariant ground (Playing setup (record play { pacer = pacer }))
-halting_kept ground keep kept pacing is = (
-  kept.0,
-  record {
-    pacing = pacing;
-    before = ap (λ (p : PacerState). p.before) is ∙ kept.1.before;
-    plan = ap (λ (p : PacerState). p.plan) is ∙ kept.1.plan;
-  },
-  λ stored at. record {
-    playable = (kept.2 stored at).playable;
-    pieces = ap (λ (p : PacerState). p.pieces) is ∙ (kept.2 stored at).pieces;
-  },
-)
-
 -- a play in hand, as a request is received that halts it
 pub record HeardInPlay (inside : Inside) : Type 0 where
   pub setup : Setup
@@ -190,6 +173,24 @@ pub playing_in : {inside : Inside} (hand : HeardInPlay inside)
     → IsStateInvariant (session_context_of inside) (Playing hand.setup hand.play)
 playing_in {inside} hand =
     subst (λ (s : State). IsStateInvariant (session_context_of inside) s) hand.state hand.kept.state
+
+-- a play of which a halt is asked is the same but for what is kept
+halting_kept : {inside : Inside} {pacer : PacerState} {keep : ℕ} (hand : HeardInPlay inside) → IsPacerState pacer
+    → pacer ≡ record hand.play.pacer { keep = keep }
+    → IsStateInvariant (session_context_of inside) (Playing hand.setup (record hand.play { pacer = pacer }))
+halting_kept hand pacing is =
+    let kept = playing_in hand in (
+      kept.0,
+      record {
+        pacing = pacing;
+        before = ap (λ (p : PacerState). p.before) is ∙ kept.1.before;
+        plan = ap (λ (p : PacerState). p.plan) is ∙ kept.1.plan;
+      },
+      λ stored at. record {
+        playable = (kept.2 stored at).playable;
+        pieces = ap (λ (p : PacerState). p.pieces) is ∙ (kept.2 stored at).pieces;
+      },
+    )
 
 pub play_going : {inside : Inside} (hand : HeardInPlay inside) → IsPlayUnfinished hand.play
 play_going {inside} hand = subst (λ (s : State). IsGoing inside.lost s) hand.state
@@ -217,7 +218,7 @@ pub halt_asked : {inside : Inside} (hand : HeardInPlay inside) (halt : AskedHalt
 halt_asked {inside} hand halt =
     let booked : open_receipts inside.state ≡ 1 = ap open_receipts state in
     step_kept kept refl (record {
-      state = halting_kept (session_context_of inside) (next_boundary play.pacer) (playing_in hand) pacing pacer_is;
+      state = halting_kept hand pacing pacer_is;
       awaited = (keeps_within play keep (play_going hand) most, left);
       stop = tt;
       rooms = (omega (arith, kept.receipt_room), omega (arith, kept.play_room), omega arith);

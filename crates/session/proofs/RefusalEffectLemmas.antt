@@ -25,7 +25,7 @@ answer_plays h hand free (StartsPlay play planned asks planned_is) =
     absurd (let no : ⊥ = cc (hand.playing, play.ready) in no)
 answer_plays h hand free (HaltsPlay taken own is) = absurd (subst AsksNoHalt is.asks.command free)
 answer_plays h hand free (StopsPlay taken own is) = absurd (subst AsksNoHalt is.command free)
-answer_plays h hand free (EndsSession taken resting is) =
+answer_plays h hand free (EndsSession taken is) =
     plays_on h.old h.new (ap (λ (s : SessionState). s.state) is.1) (ap (λ (s : SessionState). s.heard) is.1)
 answer_plays h hand free (TakesLook taken look) =
     plays_on h.old h.new (ap (λ (s : SessionState). s.state) look.state) (ap (λ (s : SessionState). s.heard) look.state)
@@ -55,7 +55,7 @@ answer_leaves h reply (StartsPlay play planned asks planned_is) =
     absurd (let no : ⊥ = cc (asks.command, reply) in no)
 answer_leaves h reply (HaltsPlay taken hand is) = absurd (let no : ⊥ = cc (is.asks.command, reply) in no)
 answer_leaves h reply (StopsPlay taken hand is) = absurd (let no : ⊥ = cc (is.command, reply) in no)
-answer_leaves h reply (EndsSession taken resting is) = inl (record {
+answer_leaves h reply (EndsSession taken is) = inl (record {
   sequence = Some taken.request.sequence;
   fields = _;
   body = _;

@@ -177,7 +177,7 @@ answer_text h (HaltsPlay taken hand is) =
     halt_text h taken.request.sequence is.asks.keep is.asks.command (ap (λ (s : SessionState). s.text) is.asks.state)
 answer_text h (StopsPlay taken hand is) =
     halt_text h taken.request.sequence is.keep is.command (ap (λ (s : SessionState). s.text) is.state)
-answer_text h (EndsSession taken resting is) =
+answer_text h (EndsSession taken is) =
     of_text h is.0 (ap (λ (s : SessionState). s.text) is.1) (ok_plain (Some taken.request.sequence) _ [])
 answer_text h (TakesLook taken look) = subst (λ a. RefusesNone a h.new) (sym look.command) tt
 answer_text h (SeeksOffer offer planned is asks) = subst (λ a. RefusesNone a h.new) (sym asks.command) tt
@@ -238,7 +238,7 @@ answer_500 h reply code (StartsPlay play planned asks planned_is) =
     absurd (let no : ⊥ = cc (asks.command, reply) in no)
 answer_500 h reply code (HaltsPlay taken hand is) = absurd (let no : ⊥ = cc (is.asks.command, reply) in no)
 answer_500 h reply code (StopsPlay taken hand is) = absurd (let no : ⊥ = cc (is.command, reply) in no)
-answer_500 h reply code (EndsSession taken resting is) =
+answer_500 h reply code (EndsSession taken is) =
     ok_found h (Some taken.request.sequence) _ [] (ap (λ (s : SessionState). s.text) is.1) code
 answer_500 h reply code (TakesLook taken look) = absurd (let no : ⊥ = cc (look.command, reply) in no)
 answer_500 h reply code (SeeksOffer offer planned is asks) = absurd (let no : ⊥ = cc (asks.command, reply) in no)
@@ -275,7 +275,7 @@ answer_never h (HaltsPlay taken hand is) =
 answer_never h (StopsPlay taken hand is) =
     subst (λ a. NeverLacks a h.new) (sym is.command)
     (subst IsFound (sym (ap (λ (s : SessionState). s.text) is.state)) (found_text (Some taken.request.sequence) _ [])).found
-answer_never h (EndsSession taken resting is) = subst (λ a. NeverLacks a h.new) (sym is.0) tt
+answer_never h (EndsSession taken is) = subst (λ a. NeverLacks a h.new) (sym is.0) tt
 answer_never h (TakesLook taken look) = subst (λ a. NeverLacks a h.new) (sym look.command) tt
 answer_never h (SeeksOffer offer planned is asks) = subst (λ a. NeverLacks a h.new) (sym asks.command) tt
 

@@ -40,7 +40,7 @@ use Rattle.session.specs.Methods.{GetsOffer, HasWait, IsReplied, IsSetUp, Looks,
 use Rattle.session.specs.Methods.{TearsDown, play_call}
 use Rattle.session.specs.RefusalOrder.{IsJudged, IsReadAs, IsTaken}
 use Rattle.session.specs.RequestedPlans.{IsPlanned, IsPlannedRun}
-use Rattle.session.specs.SessionStates.{IsReadyIn, SessionState, has_session_in, is_playing_in}
+use Rattle.session.specs.SessionStates.{IsReadyIn, SessionState, has_session_in}
 use Rattle.session.proofs.InitialStateLemmas.{HeardMessage, PlayInHand}
 use Rattle.session.proofs.ResumedPlayLemmas.{of_film}
 
@@ -116,8 +116,7 @@ pub data Answer (h : HeardMessage) : Type 0 where
       → PausesPlay h.old taken.request.sequence hand.setup hand.play h.ask h.new → Answer h
   StopsPlay : (taken : TakenTask h ToTeardown) (hand : PlayInHand h.old)
       → AsksHalt h.old taken.request.sequence hand.setup hand.play Torn h.ask h.new → Answer h
-  EndsSession : (taken : TakenTask h ToTeardown) → is_playing_in h.old.state ≡ false
-      → Ends h.old taken.request.sequence h.ask h.new → Answer h
+  EndsSession : (taken : TakenTask h ToTeardown) → Ends h.old taken.request.sequence h.ask h.new → Answer h
   TakesLook : (taken : TakenTask h ToGetParameter) → AsksLook h.old taken.request.sequence h.ask h.new → Answer h
   SeeksOffer : (offer : ReadyOffer h) (planned : Planned) → IsPlanned h.old offer.setup offer.paused None (Ok planned)
       → AsksOffer h.old offer.taken.request.sequence offer.wait planned h.ask h.new → Answer h
@@ -185,13 +184,11 @@ pauses h taken (Stopping setup stop) same is = absurd is
 
 tears : (h : HeardMessage) (taken : TakenTask h ToTeardown) (state : State) → h.old.state ≡ state
     → TearsDown state h.old taken.request.sequence h.ask h.new → Answer h
-tears h taken Init same is = EndsSession taken (subst (λ s. is_playing_in s ≡ false) (sym same) refl) is
-tears h taken (Ready setup paused) same is =
-    EndsSession taken (subst (λ s. is_playing_in s ≡ false) (sym same) refl) is
+tears h taken Init same is = EndsSession taken is
+tears h taken (Ready setup paused) same is = EndsSession taken is
 tears h taken (Playing setup play) same is =
     StopsPlay taken (record { setup = setup; play = play; playing = same }) is
-tears h taken (Stopping setup stop) same is =
-    EndsSession taken (subst (λ s. is_playing_in s ≡ false) (sym same) refl) is
+tears h taken (Stopping setup stop) same is = EndsSession taken is
 
 seeks_offer : (h : HeardMessage) (offer : ReadyOffer h) (planned : Result Planned Refusal)
     → IsPlanned h.old offer.setup offer.paused None planned

@@ -94,7 +94,7 @@ answer_changes h (StartsPlay play planned asks planned_is) =
     (state_of asks.state, play_asked h play asks planned_is)
 answer_changes h (HaltsPlay taken hand is) = halt_changes h hand is.asks
 answer_changes h (StopsPlay taken hand is) = halt_changes h hand is
-answer_changes h (EndsSession taken resting is) =
+answer_changes h (EndsSession taken is) =
     changed h is
     (record { films = refl; settings = refl; source = refl; counts = refl; heard = refl; plays = refl })
     (inl (state_of is.1))
@@ -124,7 +124,7 @@ answer_unstopped h free none (SetsUp film taken setup asks is) = subst AwaitsNoS
 answer_unstopped h free none (StartsPlay play planned asks planned_is) = subst AwaitsNoStop (sym asks.state) refl
 answer_unstopped h free none (HaltsPlay taken hand is) = absurd (subst AsksNoHalt is.asks.command free)
 answer_unstopped h free none (StopsPlay taken hand is) = absurd (subst AsksNoHalt is.command free)
-answer_unstopped h free none (EndsSession taken resting is) = subst AwaitsNoStop (sym is.1) none
+answer_unstopped h free none (EndsSession taken is) = subst AwaitsNoStop (sym is.1) none
 answer_unstopped h free none (TakesLook taken look) = subst AwaitsNoStop (sym look.state) refl
 answer_unstopped h free none (SeeksOffer offer planned is asks) = subst AwaitsNoStop (sym asks.state) refl
 

@@ -190,7 +190,7 @@ answer_causes h reply alone (StartsPlay play planned asks planned_is) =
     absurd (let no : ⊥ = cc (asks.command, alone) in no)
 answer_causes h reply alone (HaltsPlay taken hand is) = absurd (let no : ⊥ = cc (is.asks.command, alone) in no)
 answer_causes h reply alone (StopsPlay taken hand is) = absurd (let no : ⊥ = cc (is.command, alone) in no)
-answer_causes h reply alone (EndsSession taken resting is) =
+answer_causes h reply alone (EndsSession taken is) =
     says reply (has_200 (Some taken.request.sequence) _ [] (ap (λ (s : SessionState). s.text) is.1))
 answer_causes h reply alone (TakesLook taken look) = absurd (let no : ⊥ = cc (look.command, alone) in no)
 answer_causes h reply alone (SeeksOffer offer planned is asks) =

@@ -387,7 +387,7 @@ answer_whole h well (HaltsPlay taken hand is) =
     by_ask h is.asks.command (of_text h (ap (λ (s : SessionState). s.text) is.asks.state) (told_whole well taken))
 answer_whole h well (StopsPlay taken hand is) =
     by_ask h is.command (of_text h (ap (λ (s : SessionState). s.text) is.state) (told_whole well taken))
-answer_whole h well (EndsSession taken resting is) =
+answer_whole h well (EndsSession taken is) =
     by_ask h is.0 (of_text h (ap (λ (s : SessionState). s.text) is.1) (told_whole well taken))
 answer_whole h well (TakesLook taken look) =
     let n = taken.request.sequence in

@@ -41,7 +41,7 @@ answer_room h (HaltsPlay taken hand is) =
     left_room h is.asks.command (same_room h.old h.new (ap (λ (s : SessionState). s.looks_left) is.asks.state))
 answer_room h (StopsPlay taken hand is) =
     left_room h is.command (same_room h.old h.new (ap (λ (s : SessionState). s.looks_left) is.state))
-answer_room h (EndsSession taken resting is) =
+answer_room h (EndsSession taken is) =
     left_room h is.0 (same_room h.old h.new (ap (λ (s : SessionState). s.looks_left) is.1))
 answer_room h (TakesLook taken look) =
     let left : h.new.looks_left ≡ h.old.looks_left - 1 = ap (λ (s : SessionState). s.looks_left) look.state in

@@ -48,7 +48,7 @@ answer_asks h offers_ask (StartsPlay play planned asks planned_is) =
     absurd (let no : ⊥ = cc (asks.command, offers_ask) in no)
 answer_asks h offers_ask (HaltsPlay taken hand is) = absurd (let no : ⊥ = cc (is.asks.command, offers_ask) in no)
 answer_asks h offers_ask (StopsPlay taken hand is) = absurd (let no : ⊥ = cc (is.command, offers_ask) in no)
-answer_asks h offers_ask (EndsSession taken resting is) = absurd (let no : ⊥ = cc (is.0, offers_ask) in no)
+answer_asks h offers_ask (EndsSession taken is) = absurd (let no : ⊥ = cc (is.0, offers_ask) in no)
 answer_asks h offers_ask (TakesLook taken look) = absurd (let no : ⊥ = cc (look.command, offers_ask) in no)
 answer_asks {plan} {offers} h offers_ask (SeeksOffer offer planned is asks) =
     let request = offer.taken.request in

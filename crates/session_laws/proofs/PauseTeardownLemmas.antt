@@ -160,7 +160,7 @@ answer_calm h calm (SetsUp film taken setup asks is) = inr (same_calm calm is.1 
 answer_calm h calm (StartsPlay play planned asks planned_is) = inr (same_calm calm asks.state refl refl refl)
 answer_calm h calm (PausesIt taken hand is) = inr (same_calm calm is.asks.state refl refl refl)
 answer_calm h calm (StopsPlay taken hand is) = inl (is_teardown taken)
-answer_calm h calm (EndsAlone taken resting is) = inl (is_teardown taken)
+answer_calm h calm (EndsAlone taken is) = inl (is_teardown taken)
 answer_calm h calm (TakesLook taken look) = inr (same_calm calm look.state refl refl refl)
 answer_calm h calm (SeeksOffer offer planned is asks) = inr (same_calm calm asks.state refl refl refl)
 

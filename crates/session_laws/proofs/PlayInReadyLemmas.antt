@@ -68,7 +68,7 @@ started_by h waits (HaltsPlay taken hand is) =
     absurd (let no : ⊥ = cc (otherwise {h = h} waits (ap (λ (s : SessionState). s.awaited) is.asks.state)) in no)
 started_by h waits (StopsPlay taken hand is) =
     absurd (let no : ⊥ = cc (otherwise {h = h} waits (ap (λ (s : SessionState). s.awaited) is.state)) in no)
-started_by h waits (EndsSession taken resting is) =
+started_by h waits (EndsSession taken is) =
     absurd (unchanged {h = h} waits (ap (λ (s : SessionState). s.awaited) is.1))
 started_by h waits (TakesLook taken look) =
     absurd (let no : ⊥ = cc (otherwise {h = h} waits (ap (λ (s : SessionState). s.awaited) look.state)) in no)

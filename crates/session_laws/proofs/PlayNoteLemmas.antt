@@ -140,7 +140,7 @@ answer_halts {keep} h halt hand pacing (HaltsPlay taken own is) =
     halt_kept hand own (let asked : keep ≡ is.asks.keep = cc (is.asks.command, halt) in asked ∙ is.asks.keep_is) pacing
 answer_halts {keep} h halt hand pacing (StopsPlay taken own is) =
     halt_kept hand own (let asked : keep ≡ is.keep = cc (is.command, halt) in asked ∙ is.keep_is) pacing
-answer_halts h halt hand pacing (EndsSession taken resting is) = absurd (let no : ⊥ = cc (is.0, halt) in no)
+answer_halts h halt hand pacing (EndsSession taken is) = absurd (let no : ⊥ = cc (is.0, halt) in no)
 answer_halts h halt hand pacing (TakesLook taken look) = absurd (let no : ⊥ = cc (look.command, halt) in no)
 answer_halts h halt hand pacing (SeeksOffer offer planned is asks) =
     absurd (let no : ⊥ = cc (asks.command, halt) in no)

@@ -98,7 +98,7 @@ answer_number h request read answer = elim answer [
   | StopsPlay taken hand is ↦
       of_task taken (by_ask h taken.request.sequence is.command
       (same_number (ap (λ (t : SessionState). t.text) is.state) (numbered 200 taken.request.sequence _ [])))
-  | EndsSession taken resting is ↦
+  | EndsSession taken is ↦
       of_task taken (by_ask h taken.request.sequence is.0 (same_number (ap (λ (t : SessionState). t.text) is.1)
       (numbered 200 taken.request.sequence _ [])))
   | TakesLook taken look ↦

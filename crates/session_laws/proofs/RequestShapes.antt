@@ -56,7 +56,7 @@ answers_as h (HaltsPlay taken hand is) =
     is.asks.state
 answers_as h (StopsPlay taken hand is) =
     Stops hand.setup hand.play is.keep Torn _ hand.playing refl is.keep_is is.command is.state
-answers_as h (EndsSession taken resting is) = Replies _ true is.0 is.1
+answers_as h (EndsSession taken is) = Replies _ true is.0 is.1
 answers_as h (TakesLook taken look) = AsksLook _ taken.request.sequence look.command look.state
 answers_as h (SeeksOffer offer planned is asks) =
     AsksOffer planned.plan asks.offers offer.taken.request.sequence asks.command asks.state

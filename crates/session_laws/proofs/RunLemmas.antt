@@ -122,7 +122,7 @@ runs_by h (HaltsPlay taken hand is) =
     }) is.asks.command is.asks.state
 runs_by h (StopsPlay taken hand is) =
     Stops hand.setup hand.play is.keep Torn _ hand.playing tt is.command is.state
-runs_by h (EndsSession taken resting is) = Replies _ true is.0 is.1
+runs_by h (EndsSession taken is) = Replies _ true is.0 is.1
 runs_by h (TakesLook taken look) = AsksLook taken.request.sequence look.command look.state
 runs_by h (SeeksOffer offer planned is asks) =
     AsksOffer planned.plan asks.offers offer.taken.request.sequence asks.command asks.state

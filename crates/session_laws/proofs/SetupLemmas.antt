@@ -115,7 +115,7 @@ setup_by c (SetsUp film taken setup asks is) =
 setup_by c (StartsPlay play planned asks planned_is) = absurd (not_setup Play refl (called c play.taken))
 setup_by c (HaltsPlay taken hand is) = absurd (not_setup Pause refl (called c taken))
 setup_by c (StopsPlay taken hand is) = absurd (not_setup Teardown refl (called c taken))
-setup_by c (EndsSession taken resting is) = absurd (not_setup Teardown refl (called c taken))
+setup_by c (EndsSession taken is) = absurd (not_setup Teardown refl (called c taken))
 setup_by c (TakesLook taken look) = absurd (not_setup GetParameter refl (called c taken))
 setup_by c (SeeksOffer offer planned is asks) = absurd (not_setup GetParameter refl (called c offer.taken))
 

@@ -29,7 +29,7 @@ answer_moves h (HaltsPlay taken hand is) =
     inl (ap (λ (s : SessionState). stage_of s.state) is.asks.state ∙ sym (ap stage_of hand.playing))
 answer_moves h (StopsPlay taken hand is) =
     inl (ap (λ (s : SessionState). stage_of s.state) is.state ∙ sym (ap stage_of hand.playing))
-answer_moves h (EndsSession taken resting is) = inl (ap (λ (s : SessionState). stage_of s.state) is.1)
+answer_moves h (EndsSession taken is) = inl (ap (λ (s : SessionState). stage_of s.state) is.1)
 answer_moves h (TakesLook taken look) = inl (ap (λ (s : SessionState). stage_of s.state) look.state)
 answer_moves h (SeeksOffer offer planned is asks) = inl (ap (λ (s : SessionState). stage_of s.state) asks.state)
 
