@@ -1,6 +1,6 @@
 -- What a session replies to a SETUP that it accepts, to a PLAY that asks for a play, and to a
 -- TEARDOWN of its own.
-use Rattle.std.proofs.Common.{◌≡◌, ◌⊎◌, ℕ, List, codes, Option, Some, None, refl, sym, ap, subst, ◌∙◌, inl, inr}
+use Rattle.std.proofs.Common.{Ok, ◌≡◌, ◌⊎◌, ℕ, List, codes, Option, Some, None, refl, sym, ap, subst, ◌∙◌, inl, inr}
 use Rattle.film_frames.specs.declared.stored_films.Stored.{Stored}
 use Rattle.film_run.specs.declared.runs.Run.{Run}
 use Rattle.rtsp_text.specs.Fields.{header_value}
@@ -13,7 +13,7 @@ use Rattle.film_streams.specs.declared.setups.Setup.{Setup}
 use Rattle.session.specs.declared.states.State.{State}
 use Rattle.session.specs.declared.states.State.TheVariants.{Init, Ready, Playing, Stopping}
 use Rattle.film_streams.specs.Films.{IsFilmAt, Names}
-use Rattle.session.specs.Methods.{Ends, TearsDown, play_front}
+use Rattle.session.specs.Methods.{IsSetUp, Ends, TearsDown, play_front}
 use Rattle.session_laws.specs.MethodLaws.{setup_in}
 use Rattle.session.specs.RefusalOrder.{IsOwnFilm, IsOwnSession}
 use Rattle.rtsp_methods.specs.RequiredOptions.{required_of}
@@ -45,6 +45,11 @@ pub record IsSettledReply (old : SessionState) (url : List ℕ) (sequence : ℕ)
   pub names : Names old.films url authority setup.film
   pub text : new.text ≡ setup_text sequence setup.media setup.control old.source.ssrc old.id
 
+settled_text : (c : HeardCall (codes "SETUP")) (setup : Setup)
+    → IsSetUp c.h.old c.sequence (Ok setup) c.h.ask c.h.new
+    → c.h.new.text ≡ setup_text c.sequence setup.media setup.control c.h.old.source.ssrc c.h.old.id
+settled_text c setup is = ap (λ (s : SessionState). s.text) is.1
+
 pub setup_answered : (old : SessionState) (message url : List ℕ) (sequence : ℕ) (head : List ℕ) (ask : Ask)
     (new : SessionState) → IsCall message (codes "SETUP") url sequence head → Hears old message ask new
     → (new.state ≡ old.state) ⊎ IsSettledReply old url sequence head new
@@ -58,7 +63,7 @@ setup_answered old message url sequence head ask new is hears =
         authority = authority;
         asks = asks;
         names = names;
-        text = ap (λ (s : SessionState). s.text) done.1;
+        text = settled_text c setup done;
       })
     ]
 
