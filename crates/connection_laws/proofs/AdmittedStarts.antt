@@ -1,8 +1,8 @@
 -- In which slots a connection asks for plays, and in which slots its plays begin.
 use Rattle.std.specs.Prelude.{⊤, All, Option}
 use Rattle.std.specs.List.{fold}
-use Rattle.std.proofs.Common.{◌≡◌, ℕ, zero, suc, ◌+◌, ◌^◌, ◌≤◌, ◌++◌, List, [], ◌∷◌, max, min, take, arith, refl, sym}
-use Rattle.std.proofs.Common.{ap, subst, map}
+use Rattle.std.proofs.Common.{◌≡◌, ℕ, zero, suc, ◌+◌, ◌^◌, ◌≤◌, ◌++◌, List, ◌∷◌, max, min, take, arith, refl, sym, ap}
+use Rattle.std.proofs.Common.{subst, map, []}
 use Rattle.std.proofs.lemmas.List.Elements.{All-append, All-contains, All-cons, All-get_or, All-head, All-nil, All-tail}
 use Rattle.std.proofs.lemmas.List.Elements.{All-weaker}
 use Rattle.plan_cert.specs.PlanSlots.{total_bytes}
@@ -33,7 +33,7 @@ use Rattle.conn.specs.Journals.{AgreeWith, StandsIn, Terms}
 use Rattle.conn.specs.Plays.{ending_rounds}
 use Rattle.conn.specs.declared.reports.ConnReport.{ConnReport}
 use Rattle.connection_laws.specs.ClientRequests.{IsAskedFor}
-use Rattle.connection_laws.specs.Courses.{Course, askings_of, course_plays, first_stage}
+use Rattle.connection_laws.specs.Courses.{Course, askings_of, course_plays}
 use Rattle.connection_laws.specs.Plays.{StationRequest, Asks, FilmPlay, kept_in, plays_admitted, plays_begun, plays_of}
 use Rattle.connection_laws.specs.StartRanges.{AreMadeByConnections, IsCourseIn, IsMadeByConnection, StartsInRange}
 use Rattle.connection_laws.proofs.BookedPlays.{course_outcomes, outcomes_in}
@@ -45,6 +45,7 @@ use Rattle.connection_laws.specs.Notes.{StationCall, outcome_of}
 use Rattle.connection_laws.proofs.CourseTurns.{IsKeptByDoings, doings_kept, turns_told}
 use Rattle.station.specs.Ledgers.{play_of}
 use Rattle.plan_cert.specs.declared.Segment.{Segment}
+use Rattle.connection_laws.proofs.CourseInduction.{begin_of}
 
 -- ---- the entries among what the station answered
 abbrev InEntry : (PlacedEntry → Type 0) → Outcome → Type 0
@@ -276,7 +277,7 @@ course_starts visit terms journal course is =
     let part = entries_front P (rounds ++ ending) (doings.halt ∷ []) all in
     let mine = course_entries P doings.rounds doings.ending (entries_front P rounds ending part)
     (entries_rest P rounds ending part) in
-    let first = first_stage course.films course.settings course.words in
+    let first = begin_of course in
     let R : List Round → Type 0 = λ rs. InEntries P (rounds_outcomes rs) in
     let these : InEntries P (rounds_outcomes course.rounds) = subst R (sym is.course_is.rounds_are) mine in
     plays_start journal (askings_of first course.rounds course.last course.follows)

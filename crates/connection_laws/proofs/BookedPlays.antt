@@ -1,7 +1,7 @@
 -- The plays of a course are those that its entries record, and what was sent of its one play by the step of a slot.
 use Rattle.std.specs.Prelude.{⊤}
-use Rattle.std.proofs.Common.{◌≡◌, ℕ, ◌++◌, List, [], ◌∷◌, map, refl, ap, sym, ◌∙◌, ◌<◌, ◌≤◌, ◌⊎◌, subst, append_assoc}
-use Rattle.std.proofs.Common.{arith, inl, inr}
+use Rattle.std.proofs.Common.{◌≡◌, ℕ, ◌++◌, List, ◌∷◌, map, refl, ap, sym, ◌∙◌, ◌<◌, ◌≤◌, ◌⊎◌, subst, append_assoc}
+use Rattle.std.proofs.Common.{arith, inl, inr, []}
 use Rattle.std.proofs.lemmas.List.{map-append}
 use Rattle.vod_base.specs.Links.{IoEvent}
 use Rattle.plan_cert.specs.PlanSlots.{total_bytes}
@@ -16,14 +16,14 @@ use Rattle.session.specs.SessionStates.{SessionState}
 use Rattle.conn.specs.EventSteps.{Round, entries_in, round_outcomes, rounds_outcomes, takings_outcomes}
 use Rattle.conn.specs.InputSteps.{Outcome, Unasked, SentPart, Stage, ElementStep, Passed, Answered, TakesAll, entry_in}
 use Rattle.conn.specs.InputSteps.{Entered}
-use Rattle.connection_laws.specs.Courses.{IsCourseBetween, asked_by, askings_of, first_stage, round_askings}
-use Rattle.connection_laws.specs.Courses.{takings_askings, Course, course_plays, IsCourseSplit}
+use Rattle.connection_laws.specs.Courses.{IsCourseBetween, asked_by, askings_of, round_askings, takings_askings, Course}
+use Rattle.connection_laws.specs.Courses.{course_plays, IsCourseSplit}
 use Rattle.connection_laws.specs.Plays.{StationRequest, Asks, plays_admitted, plays_begun, booked_by, booked_plays}
 use Rattle.connection_laws.specs.Plays.{booking_of, kept_among, kept_in, kept_with, plays_of, FilmPlay, kept_by}
 use Rattle.connection_laws.proofs.RequestEffects.{Ends, Starts, Stays, TurnsAs, told_by, Begins}
 use Rattle.connection_laws.proofs.StationAnswers.{FinishesAs, NothingLeft, DoneHalted, ComesAs, BytesCame, SlotCame}
-use Rattle.connection_laws.proofs.CourseInduction.{Piece, parts_of, comes_heard}
-use Rattle.connection_laws.proofs.FilmBytes.{IsKeptStanding, standing_course_kept, Stands, request_turns}
+use Rattle.connection_laws.proofs.CourseInduction.{Piece, parts_of, comes_heard, begin_of}
+use Rattle.connection_laws.proofs.CourseSteps.{IsKeptStanding, standing_course_kept, Stands, request_turns, all_kept}
 use Rattle.plan_cert.specs.Plan.{IsPlan}
 use Rattle.film_frames.specs.FramedRuns.{run_pieces}
 use Rattle.admission.specs.declared.entries.Answer.{Answer}
@@ -150,9 +150,9 @@ course_outcomes old new (round ∷ rounds) follows =
 pub plays_booked : (course : Course)
     → map booking_of (course_plays course) ≡ booked_plays (entries_in (rounds_outcomes course.rounds))
 plays_booked course =
-    let first : Stage = first_stage course.films course.settings course.words in
+    let first : Stage = begin_of course in
     plays_told (askings_of first course.rounds course.last course.follows)
-    (standing_course_kept told_kept first course.last course.rounds course.follows (record { rest = refl; sound = tt }))
+    (all_kept told_kept course)
     ∙ ap (λ os. booked_plays (entries_in os)) (course_outcomes first course.last course.rounds course.follows)
 
 -- ---- askings in two parts

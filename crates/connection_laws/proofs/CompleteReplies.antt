@@ -32,24 +32,22 @@ use Rattle.session_laws.specs.CompleteReplies.{HasValidIds, LeavesRoom, RepliesA
 use Rattle.rtsp_replies.specs.Messages.{IsMessage}
 use Rattle.session_laws.proofs.PauseTeardownLemmas.{teardown_ends}
 use Rattle.session_laws.proofs.CompleteReplyLemmas.{keeps_named, replies_whole}
-use Rattle.conn.specs.EventSteps.{Round, Runs}
-use Rattle.conn.specs.InputSteps.{Answered, Entered, HasHeard, Outcome, Passed, Stage, ElementStep, TakesAll}
-use Rattle.connection_laws.specs.Courses.{IsCourseBetween}
-use Rattle.connection_laws.specs.Replies.{PlacedText, replies_of, takings_replies, text_of}
+use Rattle.conn.specs.InputSteps.{Entered, HasHeard, Outcome, Stage}
+use Rattle.connection_laws.specs.Replies.{PlacedText, text_of}
 use Rattle.connection_laws.proofs.KeptParts.{answered_names, names_in, replied_names, IsSameSetup, halted_setup}
-use Rattle.connection_laws.proofs.KeptParts.{opened_setup, replied_setup}
-use Rattle.connection_laws.proofs.Requests.{rounds_requests, takings_requests}
+use Rattle.connection_laws.proofs.KeptParts.{replied_setup, comes_setup}
 use Rattle.connection_laws.proofs.SetupOnly.{Beginning}
 use Rattle.connection_laws.proofs.ReplyReadings.{IsPrinted, printed_w64, teardown_read as read_teardown}
 use Rattle.connection_laws.specs.WatchEnds.{AreAnswers}
 use Rattle.connection_laws.proofs.RequestReplies.{IsNamed, named_still, teardown_replied}
 use Rattle.connection_laws.proofs.StationAnswers.{AnswersAs, NoneAsked, PlayAdmitted, PlayRefused, PlayHalted, LookMade}
 use Rattle.connection_laws.proofs.StationAnswers.{answers_as}
-use Rattle.connection_laws.proofs.CourseInduction.{AnsweredRequest}
+use Rattle.connection_laws.proofs.CourseInduction.{AnsweredRequest, Piece, GoesBack}
+use Rattle.rtsp_client.specs.Replies.{IsAnswer}
 
 -- ---- the films and the id stay
 
-named_as : {old new : SessionState} → names_in new ≡ names_in old → HasValidIds old → HasValidIds new
+pub named_as : {old new : SessionState} → names_in new ≡ names_in old → HasValidIds old → HasValidIds new
 named_as {old} {new} same named = record {
   films = subst AreFilms (sym (ap (λ (n : List Stored × List ℕ). n.0) same)) named.films;
   number = named.number;
@@ -65,10 +63,6 @@ answered_named {old} request named =
     rw replied.new_is (named_as (replied_names replied.answered) answered)
   where
     open request use {message, outcome, replied}
-
-pub opened_named : {old new : Stage} {round : Round} (runs : Runs old round new) → HasValidIds old.session
-    → HasValidIds runs.opened.session
-opened_named runs named = named_as (opened_setup runs).names named
 
 -- ---- one reply
 
@@ -218,20 +212,10 @@ abbrev pub AreTeardowns : Beginning → List (List ℕ) → Type 0
 AreTeardowns b [] = ⊤
 AreTeardowns b (message ∷ messages) = (message ≡ teardown_text b.wish b.session) × AreTeardowns b messages
 
-pub teardowns_cut : (b : Beginning) (front rest : List (List ℕ)) → AreTeardowns b (front ++ rest)
-    → AreTeardowns b front × AreTeardowns b rest
-teardowns_cut b [] rest are = (tt, are)
-teardowns_cut b (message ∷ front) rest are =
-    let its = teardowns_cut b front rest are.1 in ((are.0, its.0), its.1)
-
 -- the replies are complete messages
 abbrev pub AreWhole : List (List ℕ) → Type 0
 AreWhole [] = ⊤
 AreWhole (message ∷ messages) = IsMessage message × AreWhole messages
-
-whole_join : (front rest : List (List ℕ)) → AreWhole front → AreWhole rest → AreWhole (front ++ rest)
-whole_join [] rest are more = more
-whole_join (message ∷ front) rest are more = (are.0, whole_join front rest are.1 more)
 
 abbrev pub AreMessages : List PlacedText → Type 0
 AreMessages [] = ⊤
@@ -243,18 +227,12 @@ pub texts_whole : (texts : List PlacedText) (more : List (List ℕ)) → AreWhol
 texts_whole [] more are = tt
 texts_whole (text ∷ texts) more are = (are.0, texts_whole texts more are.1)
 
--- a session whose names are good is asked only to tear down
-pub record AsksTeardowns (b : Beginning) (session : SessionState) (requests : List (List ℕ)) : Type 0 where
-  pub named : HasValidIds session
-  pub own : IsNamed b session
-  pub teardowns : AreTeardowns b requests
-
--- what is processed is answered completely, with 200, and the session keeps its names
-pub record IsAnsweredWhole (b : Beginning) (new : SessionState) (replies : List (List ℕ)) : Type 0 where
-  pub named : HasValidIds new
-  pub own : IsNamed b new
-  pub whole : AreWhole replies
-  pub answers : AreAnswers replies
+-- the reply to a TEARDOWN is complete and 200, and the session keeps its names
+record IsTorn (b : Beginning) (new : SessionState) (reply : List ℕ) : Type 0 where
+  named : HasValidIds new
+  own : IsNamed b new
+  whole : IsMessage reply
+  answer : IsAnswer reply 3 200
 
 -- an id of a session is printable
 pub id_printed : {s : SessionState} → HasValidIds s → IsPrinted s.id
@@ -264,7 +242,7 @@ id_printed {s} named =
 -- the reply to one TEARDOWN
 torn_reply : {b : Beginning} {old new : Stage} (request : AnsweredRequest old new)
     → request.message ≡ teardown_text b.wish b.session → HasValidIds old.session → IsNamed b old.session
-    → IsAnsweredWhole b new.session (request.replied.answered.text ∷ [])
+    → IsTorn b new.session request.replied.answered.text
 torn_reply {b} {old} request is valid named =
     let heard = replied.heard in
     let own = teardown_own b old.session heard.asking {message = message} heard.ask is heard.hears in
@@ -282,71 +260,22 @@ torn_reply {b} {old} request is valid named =
     record {
       named = answered_named request valid;
       own = subst (λ (s : Stage). IsNamed b s.session) (sym replied.new_is) still;
-      whole = (whole, tt);
-      answers = (read_teardown old.session.id whole (id_printed valid) text, tt);
+      whole = whole;
+      answer = read_teardown old.session.id whole (id_printed valid) text;
     }
   where
     open request use {message, outcome, replied}
 
-pub takings_torn : {b : Beginning} (old new : Stage) (takings : List ElementStep) (takes : TakesAll old takings new)
-    → AsksTeardowns b old.session (takings_requests takings)
-    → IsAnsweredWhole b new.session (takings_replies old takings new takes)
-takings_torn {b} old new [] takes tears =
-    record {
-      named = subst (λ (s : Stage). HasValidIds s.session) (sym takes) tears.named;
-      own = subst (λ (s : Stage). IsNamed b s.session) (sym takes) tears.own;
-      whole = tt;
-      answers = tt;
-    }
-takings_torn {b} old new (Passed n ∷ takings) takes tears =
-    let same : takes.0.session ≡ old.session = ap (λ (s : Stage). s.session) takes.1.0.2 in
-    takings_torn {b = b} takes.0 new takings takes.1.1
-    (record {
-      named = subst HasValidIds (sym same) tears.named;
-      own = subst (IsNamed b) (sym same) tears.own;
-      teardowns = tears.teardowns;
-    })
-takings_torn {b} old new (Answered message outcome parts ∷ takings) takes tears =
-    let one = torn_reply {b = b} (record {
-      message = message;
-      outcome = outcome;
-      parts = parts;
-      replied = takes.1.0;
-    }) tears.teardowns.0 tears.named tears.own in
-    let rest = takings_torn {b = b} takes.0 new takings takes.1.1
-    (record { named = one.named; own = one.own; teardowns = tears.teardowns.1 }) in
-    record {
-      named = rest.named;
-      own = rest.own;
-      whole = (one.whole.0, rest.whole);
-      answers = (one.answers.0, rest.answers);
-    }
+-- so it is of all that comes, where only TEARDOWN does
+abbrev pub TornFrom : Beginning → SessionState → Piece → Type 0
+TornFrom b s later = HasValidIds s → IsNamed b s → AreTeardowns b later.requests
+    → AreWhole later.replies × AreAnswers later.replies
 
-answers_join : (front rest : List (List ℕ)) → AreAnswers front → AreAnswers rest → AreAnswers (front ++ rest)
-answers_join [] rest are more = more
-answers_join (message ∷ front) rest are more = (are.0, answers_join front rest are.1 more)
-
--- what is processed and what comes later
-pub whole_later : {b : Beginning} {session : SessionState} {replies : List (List ℕ)} (later : List (List ℕ))
-    → IsAnsweredWhole b session replies → (HasValidIds session → IsNamed b session → AreWhole later × AreAnswers later)
-    → AreWhole (replies ++ later) × AreAnswers (replies ++ later)
-whole_later {replies = replies} later first rest =
-    let its = rest first.named first.own in
-    (whole_join replies later first.whole its.0, answers_join replies later first.answers its.1)
-
-pub rounds_torn : {b : Beginning} (old new : Stage) (rounds : List Round) (follows : IsCourseBetween old rounds new)
-    → AsksTeardowns b old.session (rounds_requests rounds)
-    → AreWhole (replies_of old rounds new follows) × AreAnswers (replies_of old rounds new follows)
-rounds_torn old new [] follows tears = (tt, tt)
-rounds_torn {b} old new (round ∷ rounds) follows tears =
-    let runs = follows.1.0 in
-    let cut = teardowns_cut b (takings_requests round.takings) (rounds_requests rounds) tears.teardowns in
-    let first = takings_torn {b = b} runs.opened follows.0 round.takings runs.takes
-    (record {
-      named = opened_named runs tears.named;
-      own = named_still (opened_setup runs) tears.own;
-      teardowns = cut.0;
-    }) in
-    whole_later {b = b} (replies_of follows.0 rounds new follows.1.1) first
-    (λ named own. rounds_torn {b = b} follows.0 new rounds follows.1.1
-    (record { named = named; own = own; teardowns = cut.1 }))
+pub torn_back : (b : Beginning) → GoesBack (TornFrom b)
+torn_back b = record {
+  request = λ old new request later torn valid named are.
+      let one = torn_reply {b = b} request are.0 valid named in
+      let rest = torn one.named one.own are.1 in ((one.whole, rest.0), (one.answer, rest.1));
+  event = λ old opened event due halt comes later torn valid named are.
+      torn (named_as (comes_setup comes).names valid) (named_still (comes_setup comes) named) are;
+}

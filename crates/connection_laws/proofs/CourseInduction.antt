@@ -1,22 +1,25 @@
 -- Courses joined and parted, and one induction over what a connection does, from its first event on.
-use Rattle.std.proofs.Common.{◌++◌, List, [], ◌∷◌, refl, subst, ◌≡◌, ℕ, ◌^◌, ◌<◌, ◌≤◌, ◌&&◌, if◌then◌else◌, Bool, true}
-use Rattle.std.proofs.Common.{false, nat_le, max, ap, sym, ◌∙◌, arith}
+use Rattle.std.proofs.Common.{◌++◌, List, ◌∷◌, refl, subst, ◌≡◌, ℕ, ◌^◌, ◌<◌, ◌≤◌, ◌&&◌, if◌then◌else◌, Bool, true}
+use Rattle.std.proofs.Common.{false, nat_le, max, ap, sym, ◌∙◌, arith, []}
 use Rattle.conn.specs.EventSteps.{Round, Runs, RunsAll}
 use Rattle.conn.specs.InputSteps.{Stage, Answered, ElementStep, IsReplied, Outcome, Passed, SentPart, TakesAll}
-use Rattle.conn.specs.InputSteps.{film_bytes}
 use Rattle.connection_laws.specs.Courses.{IsCourseBetween, IsCourseSplit, asked_by, askings_of, greatest_slot}
-use Rattle.connection_laws.specs.Courses.{round_askings, slot_in, takings_askings}
+use Rattle.connection_laws.specs.Courses.{round_askings, slot_in, takings_askings, Course, first_stage}
 use Rattle.std.proofs.lemmas.Bool.{ltb-true, ltb-false}
-use Rattle.std.proofs.lemmas.List.{append-nil}
 use Rattle.vod_base.specs.Links.{IoEvent, HeardSlot}
 use Rattle.session.specs.SlotSteps.{after_play, is_between, is_sending, sent_due, sent_slot, after_slot, stepped_in}
 use Rattle.session.specs.SessionStates.{SessionState}
-use Rattle.conn.specs.Films.{rounds_film, rounds_parts, round_parts, takings_parts}
+use Rattle.conn.specs.Films.{rounds_parts, round_parts, takings_parts}
 use Rattle.connection_laws.specs.Plays.{StationRequest, Asks}
 use Rattle.connection_laws.specs.Replies.{replies_of, takings_replies}
 use Rattle.connection_laws.specs.ReplyPlaces.{slots_from, takings_slots}
 use Rattle.connection_laws.proofs.StationAnswers.{ComesAs, BytesCame, SlotCame, comes_as}
 use Rattle.connection_laws.proofs.KeptParts.{LastingPart, finish_keeps, reply_keeps, taken_keeps, takes_heard}
+use Rattle.std.proofs.lemmas.List.{append_assoc, append-nil}
+
+-- where a course begins
+abbrev pub begin_of : Course → Stage
+begin_of course = first_stage course.films course.settings course.words
 
 -- rounds after each of which all was processed that could be
 pub follows_all : (old new : Stage) (rounds : List Round) → RunsAll old rounds new → IsCourseBetween old rounds new
@@ -92,26 +95,56 @@ course_heard old new (round ∷ rounds) follows =
 
 -- ---- what is done between two sessions
 
--- what the station is asked, the slots in which requests are processed, what is sent, the film's bytes of it, and the
--- replies
+-- the requests that were processed, in order
+abbrev pub takings_requests : List ElementStep → List (List ℕ)
+takings_requests [] = []
+takings_requests (Passed n ∷ takings) = takings_requests takings
+takings_requests (Answered message outcome parts ∷ takings) = message ∷ takings_requests takings
+
+abbrev pub rounds_requests : List Round → List (List ℕ)
+rounds_requests [] = []
+rounds_requests (round ∷ rounds) = takings_requests round.takings ++ rounds_requests rounds
+
+-- the requests that are processed and their slots, what the station is asked, what is sent, and the replies
 pub record Piece : Type 0 where
+  pub requests : List (List ℕ)
   pub askings : List StationRequest
   pub slots : List ℕ
   pub parts : List SentPart
-  pub film : List ℕ
   pub replies : List (List ℕ)
 
 abbrev pub no_piece : Piece
-no_piece = record { askings = []; slots = []; parts = []; film = []; replies = [] }
+no_piece = record { requests = []; askings = []; slots = []; parts = []; replies = [] }
+
+-- nothing but what is sent, and nothing but what is asked
+abbrev pub parts_piece : List SentPart → Piece
+parts_piece parts = record no_piece { parts = parts }
+
+abbrev pub asked_piece : StationRequest → Piece
+asked_piece request = record no_piece { askings = request ∷ [] }
 
 abbrev pub joined : Piece → Piece → Piece
 joined a b = record {
+  requests = a.requests ++ b.requests;
   askings = a.askings ++ b.askings;
   slots = a.slots ++ b.slots;
   parts = a.parts ++ b.parts;
-  film = a.film ++ b.film;
   replies = a.replies ++ b.replies;
 }
+
+joined_assoc : (a b c : Piece) → joined (joined a b) c ≡ joined a (joined b c)
+joined_assoc a b c =
+    rw (
+      append_assoc a.requests b.requests c.requests,
+      append_assoc a.askings b.askings c.askings,
+      append_assoc a.slots b.slots c.slots,
+      append_assoc a.parts b.parts c.parts,
+      append_assoc a.replies b.replies c.replies,
+    )
+
+joined_none : (a : Piece) → joined a no_piece ≡ a
+joined_none a =
+    rw (append-nil a.requests, append-nil a.askings, append-nil a.slots, append-nil a.parts, append-nil a.replies)
 
 -- a request that was processed, and what came of it
 pub record AnsweredRequest (old new : Stage) : Type 0 where
@@ -126,46 +159,46 @@ asking_of request = Asks request.replied.heard.asking.awaited request.outcome
 
 abbrev pub request_piece : {old new : Stage} → AnsweredRequest old new → Piece
 request_piece {old} request = record {
+  requests = request.message ∷ [];
   askings = asking_of request ∷ [];
   slots = old.session.heard ∷ [];
   parts = request.parts;
-  film = [];
   replies = request.replied.answered.text ∷ [];
 }
 
 abbrev pub takings_piece : (old : Stage) (takings : List ElementStep) (new : Stage) → TakesAll old takings new → Piece
 takings_piece old takings new takes = record {
+  requests = takings_requests takings;
   askings = takings_askings old takings new takes;
   slots = takings_slots old.session.heard takings;
   parts = takings_parts takings;
-  film = [];
   replies = takings_replies old takings new takes;
 }
 
 abbrev pub event_piece : SessionState → IoEvent → List SentPart → Outcome → Piece
 event_piece session event due halt = record {
+  requests = [];
   askings = Asks (asked_by session event) halt ∷ [];
   slots = [];
   parts = due;
-  film = film_bytes due;
   replies = [];
 }
 
 abbrev pub round_piece : (old : Stage) (round : Round) (new : Stage) → Runs old round new → Piece
 round_piece old round new runs = record {
+  requests = takings_requests round.takings;
   askings = round_askings old round new runs;
   slots = takings_slots (max old.session.heard (slot_in round.event)) round.takings;
   parts = round_parts round;
-  film = film_bytes round.due;
   replies = takings_replies runs.opened round.takings new runs.takes;
 }
 
 abbrev pub course_piece : (old : Stage) (rounds : List Round) (new : Stage) → IsCourseBetween old rounds new → Piece
 course_piece old rounds new follows = record {
+  requests = rounds_requests rounds;
   askings = askings_of old rounds new follows;
   slots = slots_from old.session.heard rounds;
   parts = rounds_parts rounds;
-  film = rounds_film rounds;
   replies = replies_of old rounds new follows;
 }
 
@@ -202,13 +235,11 @@ module _ {R : SessionState → Piece → SessionState → Type 0} (kept : IsKept
       let comes = comes_as round.event round.due round.halt runs.comes in
       let first = event_piece old.session round.event round.due round.halt in
       let rest = takings_piece runs.opened round.takings new runs.takes in
-      let all = round_piece old round new runs in
-      subst (λ h. R old.session (record all { slots = takings_slots h round.takings }) new.session) (comes_heard comes)
-      (subst (λ bs. R old.session (record (joined first rest) { film = bs }) new.session)
-      (append-nil (film_bytes round.due))
+      subst (λ h. R old.session (joined first (record rest { slots = takings_slots h round.takings })) new.session)
+      (comes_heard comes)
       (kept.joins old.session runs.opened.session new.session first rest
       (kept.event old runs.opened round.event round.due round.halt comes)
-      (takings_kept runs.opened new round.takings runs.takes)))
+      (takings_kept runs.opened new round.takings runs.takes))
 
   pub course_kept : (old new : Stage) (rounds : List Round) (follows : IsCourseBetween old rounds new)
       → R old.session (course_piece old rounds new follows) new.session
@@ -221,3 +252,33 @@ module _ {R : SessionState → Piece → SessionState → Type 0} (kept : IsKept
       (round_heard old follows.0 round follows.1.0)
       (kept.joins old.session follows.0.session new.session first rest (round_kept old follows.0 round follows.1.0)
       (course_kept follows.0 new rounds follows.1.1))
+
+-- all that is done in a course
+abbrev pub piece_of : Course → Piece
+piece_of course = course_piece (begin_of course) course.rounds course.last course.follows
+
+-- what holds of a session by what comes later goes back over each request and each event
+pub record GoesBack (Q : SessionState → Piece → Type 0) : Type 0 where
+  pub request : (old new : Stage) (request : AnsweredRequest old new) (later : Piece) → Q new.session later
+      → Q old.session (joined (request_piece request) later)
+  pub event : (old opened : Stage) (event : IoEvent) (due : List SentPart) (halt : Outcome)
+      → ComesAs old opened event due halt → (later : Piece) → Q opened.session later
+      → Q old.session (joined (event_piece old.session event due halt) later)
+
+module _ {Q : SessionState → Piece → Type 0} (back : GoesBack Q) where
+  abbrev BackOver : SessionState → Piece → SessionState → Type 0
+  BackOver old piece new = (later : Piece) → Q new later → Q old (joined piece later)
+
+  back_kept : IsKeptByCourse BackOver
+  back_kept = record {
+    none = λ s later is. is;
+    joins = λ a b c one two first rest later is.
+        subst (Q a) (sym (joined_assoc one two later)) (first (joined two later) (rest later is));
+    request = λ old new request later is. back.request old new request later is;
+    event = λ old opened event due halt comes later is. back.event old opened event due halt comes later is;
+  }
+
+  pub course_back : (course : Course) → Q course.last.session no_piece → Q (begin_of course).session (piece_of course)
+  course_back course is =
+      subst (Q (begin_of course).session) (joined_none (piece_of course))
+      (course_kept back_kept (begin_of course) course.last course.rounds course.follows no_piece is)

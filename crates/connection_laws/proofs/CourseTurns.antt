@@ -1,6 +1,6 @@
 -- One induction over what a connection does, from its first event to its end, and the slots that it missed.
-use Rattle.std.proofs.Common.{◌≡◌, ℕ, ◌++◌, if◌then◌else◌, Bool, true, false, List, [], ◌∷◌, Option, map, length, ap}
-use Rattle.std.proofs.Common.{refl, subst, sym, ◌∙◌, ◌+◌, ◌&&◌, arith}
+use Rattle.std.proofs.Common.{◌≡◌, ℕ, ◌++◌, if◌then◌else◌, Bool, true, false, List, ◌∷◌, Option, map, length, ap, refl}
+use Rattle.std.proofs.Common.{subst, sym, ◌∙◌, ◌+◌, ◌&&◌, arith, []}
 use Rattle.std.proofs.lemmas.List.{map-append}
 use Rattle.vod_base.specs.Links.{IoEvent}
 use Rattle.film_frames.specs.declared.stored_films.Stored.{Stored}
@@ -21,7 +21,7 @@ use Rattle.connection_laws.specs.Courses.{first_stage}
 use Rattle.connection_laws.specs.Notes.{StationCall, asking_at, ending_calls, outcome_of, round_calls, rounds_calls}
 use Rattle.connection_laws.specs.Notes.{taken_calls, station_call, station_calls, ending_missed, missed_by, missed_in}
 use Rattle.connection_laws.specs.Notes.{rounds_missed}
-use Rattle.connection_laws.proofs.FilmBytes.{Stands, turn_after, course_stands, round_stands}
+use Rattle.connection_laws.proofs.CourseSteps.{Stands, turn_after, course_stands, round_stands, first_stands}
 use Rattle.connection_laws.proofs.RequestEffects.{turns_as}
 use Rattle.connection_laws.proofs.CourseInduction.{follows_all}
 use Rattle.session.proofs.StepInvariantLemmas.{nothing_of}
@@ -180,7 +180,7 @@ module _ {films : List Stored} {settings : Settings} {words : List ℕ} {doings 
       ending_rest doings.ending
       (record { count = length doings.rounds; end = report.end; new = done.last; ends = done.ends })
       (stands_all (first_stage films settings words) done.mid doings.rounds done.runs
-      (record { rest = refl; sound = tt }))
+      (first_stands films settings words))
 
   abbrev pub all_calls : List StationCall
   all_calls = station_calls films settings words doings report done

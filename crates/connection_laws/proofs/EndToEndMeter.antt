@@ -1,6 +1,6 @@
 -- The promise from a server to its client's meter.
-use Rattle.std.proofs.Common.{◌≡◌, ℕ, suc, ◌+◌, ◌-◌, ◌<◌, ◌≤◌, min, List, [], ◌∷◌, ◌++◌, length, take, drop, map, sum}
-use Rattle.std.proofs.Common.{refl, sym, ap, subst, ◌∙◌, arith, inl, inr}
+use Rattle.std.proofs.Common.{◌≡◌, ℕ, suc, ◌+◌, ◌-◌, ◌<◌, ◌≤◌, min, List, ◌∷◌, ◌++◌, length, take, drop, map, sum, refl}
+use Rattle.std.proofs.Common.{sym, ap, subst, ◌∙◌, arith, inl, inr, []}
 use Rattle.conn.proofs.ReplyContents.{parts-more}
 use Rattle.std.proofs.lemmas.Bool.{cases_lt}
 use Rattle.std.proofs.lemmas.List.{length-append, length-map, length-take, take_all, take-take}
@@ -27,12 +27,12 @@ use Rattle.conn.specs.Films.{rounds_film, rounds_parts}
 use Rattle.conn.specs.EventSteps.{Comes, Round, rounds_doings}
 use Rattle.conn.specs.InputSteps.{Outcome, SentPart, Stage, film_bytes}
 use Rattle.conn.proofs.CurveBounds.{planned_between}
-use Rattle.connection_laws.specs.Courses.{Course, IsCourseBetween, askings_of, first_stage, greatest_slot, rounds_bytes}
+use Rattle.connection_laws.specs.Courses.{Course, IsCourseBetween, askings_of, greatest_slot, rounds_bytes}
 use Rattle.connection_laws.specs.Plays.{FilmPlay, due_of, film_of, film_written, plays_of}
 use Rattle.connection_laws.specs.Replies.{PlacedText, placed_text, placed_texts, text_of, insert_texts, course_texts}
-use Rattle.connection_laws.proofs.FilmBytes.{film_written_is, Stands, course_stands}
-use Rattle.connection_laws.proofs.CourseInduction.{course_heard, parts_of}
-use Rattle.connection_laws.proofs.ReplyOrder.{bytes_woven, film_sent, rounds_sent}
+use Rattle.connection_laws.proofs.CourseSteps.{film_written_is, Stands, course_stands, first_stands, film_sent}
+use Rattle.connection_laws.proofs.CourseInduction.{course_heard, parts_of, begin_of}
+use Rattle.connection_laws.proofs.ReplyOrder.{bytes_woven, rounds_sent}
 use Rattle.rtsp_client.specs.declared.watch_request.Wish.{Wish}
 use Rattle.rtsp_client.specs.MeterGuarantee.{IsBetween}
 use Rattle.connection_laws.specs.LinkDelivery.{IsWrittenBy, latest_slot, sent_bytes}
@@ -109,9 +109,6 @@ stream_replies wish stored course played P is = is
 
 -- ---- the film by the step of a slot
 
-first_stands : (course : Course) → Stands (first_stage course.films course.settings course.words).session
-first_stands course = record { rest = refl; sound = tt }
-
 -- what was sent of an entire play by a slot
 pub record IsSentThrough (play : FilmPlay) (rounds : List Round) : Type 0 where
   pub film : rounds_film rounds ≡ film_written (greatest_slot rounds) (play ∷ [])
@@ -124,12 +121,12 @@ record LastSlot (play : FilmPlay) (first : List Round) : Type 0 where
   slot_is : greatest_slot first ≡ play.start + place
 
 sent_through : {first : List Round} {play : FilmPlay} (course : Course) (later : List Round) → LastSlot play first →
-    (follows : IsCourseBetween (first_stage course.films course.settings course.words) (first ++ later) course.last) →
-    plays_of (askings_of (first_stage course.films course.settings course.words) (first ++ later) course.last
+    (follows : IsCourseBetween (begin_of course) (first ++ later) course.last) →
+    plays_of (askings_of (begin_of course) (first ++ later) course.last
     follows) ≡ play ∷ [] → play.keep ≡ total_bytes play.plan → IsSentThrough play first
 sent_through {first} {play} course later last follows one whole =
-    let begin = first_stage course.films course.settings course.words in
-    let stands = first_stands course in
+    let begin = begin_of course in
+    let stands = first_stands course.films course.settings course.words in
     let parts = parts_of begin course.last first later follows in
     let a = askings_of begin first parts.0 parts.1.0 in
     let b = askings_of parts.0 later course.last parts.1.1 in
@@ -265,7 +262,7 @@ module _ {wish : Wish} {stored : Stored} {course : Course} (played : HasPlayedWh
       (rounds_bytes first) j
   unfolding stream_of
   fed_by first later j split slot =
-      let begin = first_stage course.films course.settings course.words in
+      let begin = begin_of course in
       let play = played.play in
       let x = stream_of wish stored course played in
       let is = film_in wish stored course played in
@@ -301,7 +298,7 @@ module _ {wish : Wish} {stored : Stored} {course : Course} (played : HasPlayedWh
   pub fed : {bytes : List ℕ} {j : ℕ} → IsWrittenBy (rounds_doings course.rounds) (played.play.start + j) bytes
       → IsFed wish stored.film (stream_of wish stored course played) bytes j
   fed {bytes} {j} written =
-      let begin = first_stage course.films course.settings course.words in
+      let begin = begin_of course in
       let whole = whole_rounds course.rounds written.front written.rest written.parts written.whole in
       let E : List Round → Type 0 = λ rs. AreEvents rs in
       let events =
@@ -320,7 +317,7 @@ pub all_sent : (wish : Wish) (stored : Stored) (course : Course) (played : HasPl
     → IsFrontOf (sent_bytes (rounds_doings course.rounds)) (framed_bytes (all_of (stream_of wish stored course played)))
 unfolding stream_of
 all_sent wish stored course played =
-    let begin = first_stage course.films course.settings course.words in
+    let begin = begin_of course in
     let play = played.play in
     let x = stream_of wish stored course played in
     let g = greatest_slot course.rounds in
@@ -362,7 +359,7 @@ pub all_sent_whole : {wish : Wish} {stored : Stored} {course : Course} (played :
     → sent_bytes (rounds_doings course.rounds) ≡ framed_bytes (all_of (stream_of wish stored course played))
 unfolding stream_of
 all_sent_whole {wish} {stored} {course} played last others later =
-    let begin = first_stage course.films course.settings course.words in
+    let begin = begin_of course in
     let x = stream_of wish stored course played in
     let blocks = framed_bytes x.blocks in
     let parts = rounds_parts course.rounds in

@@ -1,6 +1,6 @@
 -- What was sent where a send failed is a prefix of what a longer course sends.
-use Rattle.std.proofs.Common.{◌≡◌, ℕ, ◌+◌, ◌++◌, ◌&&◌, if◌then◌else◌, Bool, true, false, List, [], ◌∷◌, length, drop}
-use Rattle.std.proofs.Common.{arith, refl, sym, ap, subst, ◌∙◌}
+use Rattle.std.proofs.Common.{◌≡◌, ℕ, ◌+◌, ◌++◌, ◌&&◌, if◌then◌else◌, Bool, true, false, List, ◌∷◌, length, drop, arith}
+use Rattle.std.proofs.Common.{refl, sym, ap, subst, ◌∙◌, []}
 use Rattle.conn.proofs.CourseSteps.{takings_bytes-append}
 use Rattle.std.proofs.lemmas.Bool.{and_from, cond-true}
 use Rattle.std.proofs.lemmas.List.{append_assoc, append-nil, length-append, take_at}
@@ -19,10 +19,10 @@ use Rattle.session.specs.SessionStates.{SessionState, awaited_answer, awaited_an
 use Rattle.conn.specs.EventSteps.{EndsInReply, HasFailedInSlot, IsPrefixOf, Round, Runs, round_bytes, takings_bytes}
 use Rattle.conn.specs.InputSteps.{Answered, Entered, Film, IsFinished, Outcome, Stage, ElementStep, TakesAll, Text}
 use Rattle.conn.specs.InputSteps.{Unasked, after_reply, due_parts, parts_bytes, reply_parts, slot_parts, stage}
-use Rattle.connection_laws.specs.Courses.{Course, first_stage, rounds_bytes}
+use Rattle.connection_laws.specs.Courses.{Course, rounds_bytes}
 use Rattle.connection_laws.specs.Failures.{IsCutShort}
-use Rattle.connection_laws.proofs.FilmBytes.{Stands, reply_awaited, course_stands}
-use Rattle.connection_laws.proofs.CourseInduction.{follows_more}
+use Rattle.connection_laws.proofs.CourseSteps.{Stands, reply_awaited, course_stands, first_stands}
+use Rattle.connection_laws.proofs.CourseInduction.{follows_more, begin_of}
 
 -- ---- prefixes
 front_of : (xs ys : List ℕ) → IsPrefixOf xs (xs ++ ys)
@@ -49,7 +49,7 @@ cut_short course round new sent runs front =
       words = course.words;
       rounds = course.rounds ++ round ∷ [];
       last = new;
-      follows = follows_more (first_stage course.films course.settings course.words) course.rounds course.follows runs;
+      follows = follows_more (begin_of course) course.rounds course.follows runs;
     } in
     let all : rounds_bytes longer.rounds ≡ rounds_bytes course.rounds ++ round_bytes round =
     bytes_append course.rounds (round ∷ [])
@@ -132,9 +132,9 @@ pub failed_slot : (course : Course) (slot : ℕ) (front : List ℕ) (new : Stage
     → IsCutShort course (HeardSlot slot) [] (rounds_bytes course.rounds ++ front)
 failed_slot course slot front new failed =
     let old = course.last in
-    let first = first_stage course.films course.settings course.words in
     let stands : Stands old.session =
-    course_stands first old course.rounds course.follows (record { rest = refl; sound = tt }) in
+    course_stands (begin_of course) old course.rounds course.follows
+    (first_stands course.films course.settings course.words) in
     let can = finish_slotted old.session slot (is_taken old.session slot) (is_sending old.session.state) stands.rest in
     let round : Round = record {
       event = HeardSlot slot;

@@ -1,19 +1,19 @@
 -- What is written of films, as entire lists: the lemmas on plays joined.
 use Rattle.std.specs.Prelude.{⊤}
-use Rattle.std.proofs.Common.{◌≡◌, ℕ, ◌+◌, ◌-◌, ◌<◌, ◌≤◌, ◌++◌, Bool, true, min, List, [], ◌∷◌, length, take, drop}
-use Rattle.std.proofs.Common.{refl, ap, sym, ◌∙◌, subst, arith}
-use Rattle.std.proofs.lemmas.List.{append-nil, append_assoc, length-take, length-drop}
+use Rattle.std.proofs.Common.{◌≡◌, ℕ, ◌+◌, ◌-◌, ◌<◌, ◌≤◌, ◌++◌, Bool, true, min, List, ◌∷◌, length, take, drop, refl}
+use Rattle.std.proofs.Common.{ap, sym, ◌∙◌, arith, []}
+use Rattle.std.proofs.lemmas.List.{append-nil, length-take, length-drop}
 use Rattle.std.proofs.lemmas.List.Sums.{sum_by-cons}
 use Rattle.std.proofs.Math.Seq.{take-append-add}
 use Rattle.film_frames.specs.Tracks.{IsBoundary, framed_bytes}
 use Rattle.plan_cert.specs.PlanSlots.{total_bytes}
 use Rattle.pacer.specs.Boundaries.{bytes_between}
-use Rattle.pacer.specs.PacerStates.{IsPacerState, PacerState, due_by, first_slots, plan_bytes}
+use Rattle.pacer.specs.PacerStates.{IsPacerState, PacerState, first_slots, plan_bytes}
 use Rattle.pacer.proofs.PacerStateLemmas.{first-slots-rise}
 use Rattle.pacer.proofs.SendLemmas.{between-join}
 use Rattle.conn.proofs.FilmBytes.{sent_through, through_is}
-use Rattle.connection_laws.specs.Plays.{AreOver, StationRequest, FilmPlay, due_by as all_due, due_of, film_of}
-use Rattle.connection_laws.specs.Plays.{film_written, bytes_of_plays, kept_in, plays_of}
+use Rattle.connection_laws.specs.Plays.{AreOver, FilmPlay, due_by as all_due, due_of, film_of, film_written}
+use Rattle.connection_laws.specs.Plays.{bytes_of_plays}
 use Rattle.connection_laws.proofs.RequestEffects.{Sends, Idle, Going, Ending}
 
 -- the film of a pacing, and its play where so much is kept
@@ -56,15 +56,6 @@ pub film_over_all : (slot : ℕ) (plays : List FilmPlay) (bytes : List ℕ) → 
 film_over_all slot (play ∷ next ∷ plays) bytes is = (is.1.2.0, film_over_all slot (next ∷ plays) is.0 is.1.1)
 film_over_all slot _ bytes is = tt
 
--- what was sent of the film in hand, and what is sent from here on, are the bytes of the plays from here on
-abbrev pub IsRest : Sends → List StationRequest → ℕ → List ℕ → Type 0
-IsRest Idle askings slot more = IsFilm slot (plays_of askings) more
-IsRest (Going p) askings slot more =
-    IsFilm slot (play_with p (kept_in askings (total_bytes p.plan)) ∷ plays_of askings)
-    (take p.sent (film_in p) ++ more)
-IsRest (Ending p) askings slot more = IsFilm slot (play_with p p.keep ∷ plays_of askings)
-    (take p.sent (film_in p) ++ more)
-
 -- all that is due of a pacing by a slot was sent
 pub record IsOnTime (p : PacerState) (slot : ℕ) : Type 0 where
   pub pacing : IsPacerState p
@@ -95,47 +86,41 @@ pub film_now : (p : PacerState) (slot : ℕ) → IsOnTime p slot
     → IsFilm slot (play_with p p.keep ∷ []) (take p.sent (film_in p) ++ [])
 film_now p slot on = ([], (ap (λ n. take n (film_in p) ++ []) (sym (due_now p slot on)), refl, tt))
 
--- nothing follows
-pub rest_none : (sends : Sends) (waits : Bool) (slot : ℕ) → IsSound sends waits slot → IsRest sends [] slot []
-rest_none Idle waits slot is = refl
-rest_none (Going p) waits slot is =
-    subst (λ k. IsFilm slot (play_with p k ∷ []) (take p.sent (film_in p) ++ [])) is.1 (film_now p slot is.0)
-rest_none (Ending p) waits slot is = film_now p slot is.0
-
 -- a play that was sent as far as it is kept is over
-spent : (slot : ℕ) (plays : List FilmPlay) (play : FilmPlay) → due_of slot play ≡ play.keep
+pub spent : (slot : ℕ) (plays : List FilmPlay) (play : FilmPlay) → due_of slot play ≡ play.keep
     → play.keep ≤ length (film_of play) → IsSpent plays slot play
 spent slot [] play due small = tt
 spent slot (next ∷ plays) play due small = (due, small)
 
-pub film_over : {p : PacerState} {heard slot keep : ℕ} (plays : List FilmPlay) (more : List ℕ) → IsOnTime p heard
-    → p.sent ≡ keep → heard ≤ slot
-    → IsFilm slot plays more → IsFilm slot (play_with p keep ∷ plays) (take p.sent (film_in p) ++ more)
-film_over {p} {heard} {slot} {keep} plays more on sent later is =
+-- a play of which all that is kept was sent by a slot
+pub record EndedPlay (heard : ℕ) : Type 0 where
+  pub p : PacerState
+  pub keep : ℕ
+  pub on : IsOnTime p heard
+  pub sent : p.sent ≡ keep
+
+-- so it is by each later slot
+pub stays_due : {heard : ℕ} (ended : EndedPlay heard) (slot : ℕ) → heard ≤ slot
+    → due_of slot (play_with ended.p ended.keep) ≡ ended.keep
+stays_due {heard} ended slot later =
     let rise : first_slots p.plan (heard + 1 - p.start) ≤ first_slots p.plan (slot + 1 - p.start) =
     first-slots-rise p.plan (heard + 1 - p.start) (slot + 1 - p.start) (omega (arith, later)) in
     let now : min (first_slots p.plan (heard + 1 - p.start)) p.keep ≡ p.sent = due_now p heard on in
-    let due : due_of slot (play_with p keep) ≡ keep = omega (arith, rise, now, sent) in
-    let few : keep ≤ total_bytes p.plan = omega (arith, now, sent, on.pacing.most) in (
-      more,
-      (
-        ap (λ n. take n (film_in p) ++ more) (sent ∙ sym due),
-        is,
-        spent slot plays (play_with p keep) due (film_holds p keep on.pacing few),
-      ),
-    )
+    omega (arith, rise, now, sent)
+  where
+    open ended use {p, on, sent}
 
--- a slot later
-pub through_sent : (p : PacerState) (slot : ℕ) → IsPacerState p
-    → take p.sent (film_in p) ++ plan_bytes p p.sent (due_by p slot) ≡ take (due_by p slot) (film_in p)
-through_sent p slot is =
-    let due : ℕ = due_by p slot in
+-- what was sent, with the bytes up to a place
+pub sent_to : (p : PacerState) (to : ℕ) → p.sent ≤ to
+    → take p.sent (film_in p) ++ plan_bytes p p.sent to ≡ take to (film_in p)
+sent_to p to from =
     let first : take p.sent (film_in p) ≡ bytes_between p.pieces p.before (p.before + p.sent) =
     ap (λ n. take n (film_in p)) (omega arith) in
-    ap (λ bs. bs ++ plan_bytes p p.sent due) first
-    ∙ between-join p.pieces p.before (p.before + p.sent) (p.before + due) (omega arith) (omega (arith, is.sent))
+    ap (λ bs. bs ++ plan_bytes p p.sent to) first
+    ∙ between-join p.pieces p.before (p.before + p.sent) (p.before + to) (omega arith) (omega (arith, from))
     ∙ ap (λ n. take n (film_in p)) (omega arith)
 
+-- a slot later
 pub through_time : (p : PacerState) (heard slot : ℕ) → IsOnTime p heard → heard < slot → IsOnTime (sent_through slot p)
     slot
 through_time p heard slot on later = record {
@@ -143,18 +128,3 @@ through_time p heard slot on later = record {
   passed = omega (arith, on.passed, later);
   even = refl;
 }
-
--- what a play keeps, the plays after it, and what is sent of them
-pub record LaterFilm : Type 0 where
-  pub keep : ℕ
-  pub plays : List FilmPlay
-  pub more : List ℕ
-
-pub through_film : {p : PacerState} (slot end : ℕ) (later : LaterFilm) → IsPacerState p →
-    IsFilm end (play_with p later.keep ∷ later.plays) (take (due_by p slot) (film_in p) ++ later.more) →
-    IsFilm end (play_with p later.keep ∷ later.plays)
-    (take p.sent (film_in p) ++ (plan_bytes p p.sent (due_by p slot) ++ later.more))
-through_film {p} slot end later is film =
-    subst (IsFilm end (play_with p later.keep ∷ later.plays))
-    (ap (λ bs. bs ++ later.more) (sym (through_sent p slot is)) ∙ append_assoc (take p.sent (film_in p))
-    (plan_bytes p p.sent (due_by p slot)) later.more) film

@@ -16,7 +16,7 @@ use Rattle.conn.specs.InputSteps.{Passed, SentPart, Stage, TakesAll, after_reply
 use Rattle.connection_laws.proofs.StationAnswers.{AnswersAs, NoneAsked, PlayAdmitted, PlayRefused, PlayFull, PlayHalted}
 use Rattle.connection_laws.proofs.StationAnswers.{LookMade, LookFull, OfferMade, answers_as, ClosesAs, NothingOpen}
 use Rattle.connection_laws.proofs.StationAnswers.{BookingHalted, FinishesAs, NothingLeft, DoneHalted, ComesAs}
-use Rattle.connection_laws.proofs.StationAnswers.{BytesCame, SlotCame, comes_as}
+use Rattle.connection_laws.proofs.StationAnswers.{BytesCame, SlotCame}
 use Rattle.vod_base.specs.Links.{IoEvent}
 use Rattle.session.specs.declared.states.AfterHalt.{AfterHalt}
 use Rattle.session.specs.declared.states.AfterHalt.TheVariants.{Done}
@@ -26,7 +26,6 @@ use Rattle.session.specs.declared.states.State.{State}
 use Rattle.session.specs.declared.states.State.TheVariants.{Init, Playing}
 use Rattle.session_laws.specs.MethodLaws.{setup_in}
 use Rattle.session.specs.SlotTransitions.{after_stop}
-use Rattle.conn.specs.EventSteps.{Round, Runs}
 
 -- what no request and no reply to one changes
 pub record LastingPart : Type 0 where
@@ -221,7 +220,7 @@ pub record IsSameSetup (old new : SessionState) : Type 0 where
 same_session : (old new : SessionState) → new ≡ old → IsSameSetup old new
 same_session old new is = record { names = ap names_in is; setup = ap (λ (s : SessionState). setup_in s.state) is }
 
-comes_setup : {old opened : Stage} {event : IoEvent} {due : List SentPart} {halt : Outcome}
+pub comes_setup : {old opened : Stage} {event : IoEvent} {due : List SentPart} {halt : Outcome}
     → ComesAs old opened event due halt → IsSameSetup old.session opened.session
 comes_setup {old} {opened} (BytesCame is) =
     same_session old.session opened.session (ap (λ (s : Stage). s.session) is)
@@ -229,10 +228,6 @@ comes_setup {old} {opened} (SlotCame {slot = slot} finish) = record {
   names = same_names (after_slot old.session slot) opened.session (finish_keeps finish) ∙ slot_names old.session slot;
   setup = finish_setup finish ∙ slot_setup old.session slot;
 }
-
-pub opened_setup : {old new : Stage} {round : Round} (runs : Runs old round new)
-    → IsSameSetup old.session runs.opened.session
-opened_setup {round = round} runs = comes_setup (comes_as round.event round.due round.halt runs.comes)
 
 pub replied_setup : (s : SessionState) → IsSameSetup s (after_reply s)
 replied_setup s = record {

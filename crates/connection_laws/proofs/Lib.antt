@@ -3,9 +3,7 @@ mod KeptParts
 mod RequestEffects
 mod JoinedFilms
 mod CourseInduction
-mod FilmSteps
 mod Slots
-mod FilmBytes
 mod BookedPlays
 mod ReplyOrder
 mod UniqueResults
@@ -14,7 +12,7 @@ mod InputSplits
 mod TextPlaces
 mod WaitingReplies
 mod ReplyBoundaries
-mod CourseReplies
+mod CourseSteps
 mod Requests
 mod ElementStreams
 mod PieceCounts

@@ -1,8 +1,8 @@
 -- A connection that is asked for SETUP and PLAY, and perhaps TEARDOWN, has one play at most, of the
 -- entire film.
 use Rattle.std.specs.Prelude.{⊤}
-use Rattle.std.proofs.Common.{true, false, Option, None, is_some, inl, inr, ◌+◌, ◌≤◌, ◌≡◌, ℕ, zero, suc, ◌<◌, ◌^◌, max}
-use Rattle.std.proofs.Common.{List, [], ◌∷◌, ◌++◌, length, get_or, codes, refl, sym, ap, subst, ◌∙◌, arith}
+use Rattle.std.proofs.Common.{true, false, Option, None, is_some, inl, inr, ◌+◌, ◌≤◌, ◌≡◌, ℕ, zero, suc, ◌<◌, ◌^◌, List}
+use Rattle.std.proofs.Common.{[], ◌∷◌, ◌++◌, length, get_or, codes, refl, sym, ap, subst, ◌∙◌, arith}
 use Rattle.film_frames.specs.FramedRuns.{run_pieces}
 use Rattle.plan_cert.specs.PlanSlots.{total_bytes}
 use Rattle.rtsp_client.specs.Requests.{film_url, play_text, setup_text}
@@ -20,33 +20,28 @@ use Rattle.session.specs.declared.states.State.TheVariants.{Init}
 use Rattle.session_laws.specs.CompleteReplies.{HasValidIds, RepliesAreComplete}
 use Rattle.rtsp_replies.specs.Messages.{IsMessage}
 use Rattle.session_laws.proofs.CompleteReplyLemmas.{replies_whole}
-use Rattle.conn.specs.EventSteps.{Round}
-use Rattle.conn.specs.InputSteps.{Answered, HasHeard, IsAskAnswered, Outcome, Passed, SentPart, Stage, ElementStep}
-use Rattle.conn.specs.InputSteps.{TakesAll, Entered}
-use Rattle.connection_laws.specs.Courses.{IsCourseBetween, askings_of, slot_in, takings_askings}
-use Rattle.connection_laws.specs.ReplyPlaces.{slots_from, takings_slots}
+use Rattle.conn.specs.InputSteps.{HasHeard, IsAskAnswered, Outcome, Stage, Entered}
+use Rattle.connection_laws.specs.Courses.{Course}
 use Rattle.connection_laws.specs.Plays.{StationRequest, Asks, FilmPlay, kept_in, plays_admitted, plays_begun, plays_of}
-use Rattle.connection_laws.proofs.FilmBytes.{Stands, taken_stands, takes_stands}
-use Rattle.connection_laws.proofs.StationAnswers.{comes_as, answers_as}
-use Rattle.connection_laws.proofs.KeptParts.{LastingPart, taken_keeps, opened_setup, replied_setup}
-use Rattle.connection_laws.proofs.CourseInduction.{comes_heard, AnsweredRequest}
-use Rattle.connection_laws.proofs.SetupOnly.{AreNoPlays, IsNoPlay, event_none, no_play_begins, no_plays_front}
-use Rattle.connection_laws.proofs.SetupOnly.{no_plays_rest, rounds_none, takings_none, Beginning, IsWaiting}
-use Rattle.connection_laws.proofs.SetupOnly.{answered_waits, opened_waits, reply_same, setup_asked}
+use Rattle.connection_laws.proofs.CourseSteps.{request_stands}
+use Rattle.connection_laws.proofs.StationAnswers.{answers_as}
+use Rattle.connection_laws.proofs.KeptParts.{LastingPart, taken_keeps, replied_setup, comes_setup}
+use Rattle.connection_laws.proofs.CourseInduction.{comes_heard, AnsweredRequest, Piece, joined, request_piece}
+use Rattle.connection_laws.proofs.CourseInduction.{asking_of, GoesBack, course_back, begin_of, piece_of}
+use Rattle.connection_laws.proofs.SetupOnly.{AreNoPlays, IsNoPlay, no_play_begins, Beginning, IsWaiting, answered_waits}
+use Rattle.connection_laws.proofs.SetupOnly.{reply_same, setup_asked, NonePlayed, none_back, event_waits}
 use Rattle.session_laws.proofs.PlayInReadyLemmas.{IsPlayHeard, play_heard}
-use Rattle.connection_laws.proofs.Requests.{rounds_requests, takings_requests}
 use Rattle.connection_laws.proofs.ClientSetups.{setup_is}
 use Rattle.session_laws.proofs.SetupLemmas.{IsSetupRequest}
 use Rattle.connection_laws.proofs.RequestEffects.{Begins, Ends, Starts, Stays, TurnsAs, turns_as}
-use Rattle.connection_laws.proofs.CompleteReplies.{AreTeardowns, AreWhole, admitted_from, answered_named, opened_named}
-use Rattle.connection_laws.proofs.CompleteReplies.{id_printed, play_room, reply_whole, rounds_torn, setup_room}
-use Rattle.connection_laws.proofs.CompleteReplies.{takings_torn, teardowns_cut, whole_later}
-use Rattle.connection_laws.specs.Replies.{replies_of, takings_replies}
+use Rattle.connection_laws.proofs.CompleteReplies.{AreTeardowns, AreWhole, admitted_from, answered_named, id_printed}
+use Rattle.connection_laws.proofs.CompleteReplies.{play_room, reply_whole, setup_room, TornFrom, torn_back, named_as}
 use Rattle.connection_laws.proofs.FirstPlays.{IsWished, wished_play}
 use Rattle.connection_laws.proofs.FilmReplies.{IsFilmAnswer, IsPlayBegun as IsPlayBegunAt, play_begun as play_begun_at}
 use Rattle.connection_laws.specs.WatchEnds.{AreAnswers}
 use Rattle.connection_laws.proofs.ReplyReadings.{IsSetupRead, setup_read}
 use Rattle.connection_laws.proofs.RequestReplies.{IsNamed, named_still, setup_replied}
+use Rattle.connection_laws.proofs.BookedPlays.{comes_none}
 
 -- ---- the walk to PLAY
 
@@ -86,12 +81,11 @@ IsReadyFor zero s = has_session_in s.state ≡ true
 IsReadyFor (suc n) s = ⊤
 
 -- so it is, and all replies are complete, and read as they are awaited
-pub record IsPlayedWhole (b : Beginning) (out : Outlook) (s : SessionState) (slot ahead : ℕ) (slots : List ℕ)
-    (replies : List (List ℕ)) : Type 0 where
-  pub one : IsOnePlay b out slot ahead slots
-  pub whole : AreWhole replies
+pub record IsPlayedWhole (b : Beginning) (out : Outlook) (s : SessionState) (ahead : ℕ) (later : Piece) : Type 0 where
+  pub one : IsOnePlay b out s.heard ahead later.slots
+  pub whole : AreWhole later.replies
   pub ready : IsReadyFor ahead s
-  pub read : out.play.start ≤ 2 ^ 62 + 1 → AreRead b ahead replies
+  pub read : out.play.start ≤ 2 ^ 62 + 1 → AreRead b ahead later.replies
 
 -- a session that is asked for at most one SETUP, and where it is, has none yet
 abbrev pub IsFresh : List (List ℕ) → SessionState → Type 0
@@ -115,31 +109,22 @@ fresh_still old new [] same fresh = tt
 fresh_still old new (one ∷ []) same fresh = same ∙ fresh
 fresh_still old new (one ∷ two ∷ ahead) same fresh = absurd fresh
 
--- what is processed after these pieces
-pub record Later : Type 0 where
-  requests : List (List ℕ)
-  askings : List StationRequest
-  slots : List ℕ
-  replies : List (List ℕ)
-
 -- PLAY is to come in what is processed
-pub record IsAhead (b : Beginning) (out : Outlook) (s : SessionState) (slot : ℕ) (ahead : List (List ℕ))
-    (later : Later) : Type 0 where
-  pub waits : IsWaiting b s
-  pub named : HasValidIds s
-  pub heard : s.heard ≡ slot
-  pub setups : AreSetups b ahead
-  pub fresh : IsFresh ahead s
-  pub requests_are : later.requests ≡ ahead ++ (play_text b.wish b.session ∷ out.last)
-  pub teardowns : AreTeardowns b out.last
-  pub plays : plays_of later.askings ≡ out.play ∷ out.others
+pub record IsAhead (b : Beginning) (out : Outlook) (s : SessionState) (ahead : List (List ℕ)) (later : Piece) : Type 0
+  where
+    pub waits : IsWaiting b s
+    pub named : HasValidIds s
+    pub setups : AreSetups b ahead
+    pub fresh : IsFresh ahead s
+    pub requests_are : later.requests ≡ ahead ++ (play_text b.wish b.session ∷ out.last)
+    pub teardowns : AreTeardowns b out.last
+    pub plays : plays_of later.askings ≡ out.play ∷ out.others
 
-pub record Leads (b : Beginning) (out : Outlook) (new : SessionState) (slot : ℕ) (later : Later) : Type 0 where
-  walk : (ahead : List (List ℕ)) → IsAhead b out new slot ahead later
-      → IsPlayedWhole b out new slot (length ahead) later.slots later.replies
-  torn : HasValidIds new → IsNamed b new → AreTeardowns b later.requests
-      → AreWhole later.replies × AreAnswers later.replies
-  none : Stands new → AreNoPlays later.requests → plays_of later.askings ≡ []
+-- so a session leads to it by what comes later
+pub record Leads (b : Beginning) (out : Outlook) (s : SessionState) (later : Piece) : Type 0 where
+  walk : (ahead : List (List ℕ)) → IsAhead b out s ahead later → IsPlayedWhole b out s (length ahead) later
+  torn : TornFrom b s later
+  none : NonePlayed s later
 
 -- SETUP asks for no play
 pub setup_no_play : (b : Beginning) {message : List ℕ} → message ≡ setup_text b.wish → IsNoPlay message
@@ -253,267 +238,173 @@ play_read {b} turn valid whole (Starts after begins) =
     subst (λ (p : FilmPlay). IsPlayBegunAt b p.start turn.old turn.new) (begun_same turn begins).same
     (play_begun_at turn.taken.waits valid turn.heard turn.taken.message_is begins whole)
 
--- what is processed from these elements on, in this slot
-abbrev from_takings : (slot : ℕ) (old : Stage) (takings : List ElementStep) (new : Stage) → TakesAll old takings new
-    → Later → Later
-from_takings slot old takings new takes later = record {
-  requests = takings_requests takings ++ later.requests;
-  askings = takings_askings old takings new takes ++ later.askings;
-  slots = takings_slots slot takings ++ later.slots;
-  replies = takings_replies old takings new takes ++ later.replies;
-}
+-- a request that is processed, and what comes after it
+record Taken (b : Beginning) (out : Outlook) : Type 0 where
+  old : Stage
+  new : Stage
+  request : AnsweredRequest old new
+  later : Piece
+  leads : Leads b out new.session later
 
--- a request that is processed, and the elements that are processed after it
-record TakenFirst (old new : Stage) : Type 0 where
-  mid : Stage
-  request : AnsweredRequest old mid
-  takings : List ElementStep
-  takes : TakesAll mid takings new
-
-abbrev taken_first : {old new : Stage} (message : List ℕ) (outcome : Outcome) (parts : List SentPart)
-    (takings : List ElementStep) → TakesAll old (Answered message outcome parts ∷ takings) new → TakenFirst old new
-taken_first message outcome parts takings takes = record {
-  mid = takes.0;
-  request = record { message = message; outcome = outcome; parts = parts; replied = takes.1.0 };
-  takings = takings;
-  takes = takes.1.1;
-}
-
-abbrev from_first : {old new : Stage} → ℕ → TakenFirst old new → Later → Later
-from_first {old} {new} slot first later =
-    from_takings slot old (Answered first.request.message first.request.outcome first.request.parts ∷ first.takings) new
-    (first.mid, (first.request.replied, first.takes)) later
-
--- what is asked of the station after the request
-abbrev asked_after : {old new : Stage} → TakenFirst old new → Later → List StationRequest
-asked_after {new = new} first later = takings_askings first.mid first.takings new first.takes ++ later.askings
-
--- the reply to SETUP, after which there is a session
-setup_reply : {old new : Stage} (b : Beginning) (first : TakenFirst old new) → first.request.message ≡ setup_text b.wish
-    → first.request.replied.heard.ask ≡ Reply → IsMessage first.request.replied.answered.text → HasValidIds old.session
-    → setup_in old.session.state ≡ None → has_session_in first.mid.session.state ≡ true
-    → IsSetupRead first.request.replied.answered.text
-setup_reply {old} b first is reply whole valid fresh ready =
-    let heard = replied.heard in
-    let same : replied.answered ≡ heard.asking =
-    reply_same heard.asking heard.ask outcome replied.answered reply heard.answered in
-    elim (setup_replied b old.session heard.ask heard.asking is heard.hears) [
-      | inl still ↦
-          let none : setup_in mid.session.state ≡ None =
-          ap (λ (s : Stage). setup_in s.session.state) replied.new_is
-          ∙ ((replied_setup replied.answered).setup
-          ∙ (ap (λ (s : SessionState). setup_in s.state) same ∙ (ap setup_in still ∙ fresh))) in
-          let has : false ≡ true =
-          sym (has_setup mid.session.state ∙ ap (λ (o : Option Setup). is_some o) none) ∙ ready in
-          absurd (let no : ⊥ = cc in no)
-      | inr text ↦
-          setup_read old.session.source.ssrc old.session.id whole (id_printed valid)
-          (ap (λ (s : SessionState). s.text) same ∙ text)
-    ]
-  where
-    open first use {mid, request}
-    open request use {outcome, replied}
+abbrev from_taken : {b : Beginning} {out : Outlook} → Taken b out → Piece
+from_taken taken = joined (request_piece taken.request) taken.later
 
 -- where all SETUPs were processed, PLAY is processed
-module _ {b : Beginning} {out : Outlook} {slot : ℕ} {later : Later} {old new : Stage} where
-  play_first : (first : TakenFirst old new) → Leads b out new.session slot later
-      → IsAhead b out old.session slot [] (from_first slot first later)
-      → IsPlayTaken b out old.session first.request.message (Asks first.request.replied.heard.asking.awaited first.request.outcome)
-      (asked_after first later) × (takings_requests first.takings ++ later.requests ≡ out.last)
-  play_first first leads is =
-      let front = takings_requests takings in
-      let all : message ∷ (front ++ later.requests) ≡ play_text b.wish b.session ∷ out.last = is.requests_are in
-      let at : message ≡ play_text b.wish b.session = cc in
-      let rest : front ++ later.requests ≡ out.last = cc in
-      let nones : AreNoPlays (front ++ later.requests) = subst AreNoPlays (sym rest) out.last_are in
-      let stands = taken_stands old mid (Answered message outcome parts) replied is.waits.stands in
-      let last = leads.none (takes_stands mid new takings takes stands) (no_plays_rest front later.requests nones) in
-      let none = takings_none mid new takings takes later.askings (record {
-        stands = stands;
-        requests = no_plays_front front later.requests nones;
-        none = last;
-      }) in
-      (record { waits = is.waits; message_is = at; none = none; plays = is.plays }, rest)
-    where
-      open first use {mid, request, takings, takes}
-      open request use {message, outcome, parts, replied}
+play_first : {b : Beginning} {out : Outlook} (taken : Taken b out) → IsAhead b out taken.old.session [] (from_taken taken)
+    → IsPlayTaken b out taken.old.session taken.request.message (asking_of taken.request) taken.later.askings
+    × (taken.later.requests ≡ out.last)
+play_first {b} {out} taken is =
+    let all : request.message ∷ later.requests ≡ play_text b.wish b.session ∷ out.last = is.requests_are in
+    let at : request.message ≡ play_text b.wish b.session = cc in
+    let rest : later.requests ≡ out.last = cc in
+    let none = leads.none (request_stands request is.waits.stands) (subst AreNoPlays (sym rest) out.last_are) in
+    (record { waits = is.waits; message_is = at; none = none; plays = is.plays }, rest)
+  where
+    open taken use {request, later, leads}
 
-  play_walk : (first : TakenFirst old new) → Leads b out new.session slot later
-      → IsAhead b out old.session slot [] (from_first slot first later)
-      → IsPlayedWhole b out old.session slot 0 (from_first slot first later).slots (from_first slot first later).replies
-  play_walk first leads is =
-      let front = takings_requests takings in
-      let play = play_first first leads is in
-      let heard = replied.heard in
-      let turns = turns_as old.session message outcome replied.answered heard is.waits.stands.rest in
-      let slots = takings_slots slot takings ++ later.slots in
-      let whole = replies_whole old.session message heard.ask heard.asking is.named (play_room b play.0.message_is)
-      heard.hears in
-      let turn : PlayTurn b out = record {
-        old = old.session;
-        new = replied.answered;
-        message = message;
-        outcome = outcome;
-        later = asked_after first later;
-        heard = heard;
-        taken = play.0;
-      } in
-      let torn : AreTeardowns b (front ++ later.requests) = subst (AreTeardowns b) (sym play.1) is.teardowns in
-      let cut = teardowns_cut b front later.requests torn in
-      let mine = play_whole turn whole turns in
-      let begun = play_read turn is.named mine turns in
-      let own : IsNamed b mid.session =
-      rw replied.new_is (named_still (replied_setup replied.answered) begun.own) in
-      let next = takings_torn {b = b} mid new takings takes
-      (record { named = answered_named request is.named; own = own; teardowns = cut.0 }) in
-      let after = whole_later {b = b} later.replies next (λ named still. leads.torn named still cut.1) in
-      record {
-        one = subst (λ h. IsOnePlay b out h 0 (h ∷ slots)) is.heard (play_turn turn slots turns);
-        whole = (mine, after.0);
-        ready = begun.ready;
-        read = λ few. (begun.answer few, after.1);
-      }
-    where
-      open first use {mid, request, takings, takes}
-      open request use {message, outcome, replied}
+play_walk : {b : Beginning} {out : Outlook} (taken : Taken b out) → IsAhead b out taken.old.session [] (from_taken taken)
+    → IsPlayedWhole b out taken.old.session 0 (from_taken taken)
+play_walk {b} {out} taken is =
+    let play = play_first taken is in
+    let heard = replied.heard in
+    let turns = turns_as old.session message outcome replied.answered heard is.waits.stands.rest in
+    let whole = replies_whole old.session message heard.ask heard.asking is.named (play_room b play.0.message_is)
+    heard.hears in
+    let turn : PlayTurn b out = record {
+      old = old.session;
+      new = replied.answered;
+      message = message;
+      outcome = outcome;
+      later = later.askings;
+      heard = heard;
+      taken = play.0;
+    } in
+    let mine = play_whole turn whole turns in
+    let begun = play_read turn is.named mine turns in
+    let own : IsNamed b new.session = rw replied.new_is (named_still (replied_setup replied.answered) begun.own) in
+    let after = leads.torn (answered_named request is.named) own
+    (subst (AreTeardowns b) (sym play.1) is.teardowns) in
+    record {
+      one = play_turn turn later.slots turns;
+      whole = (mine, after.0);
+      ready = begun.ready;
+      read = λ few. (begun.answer few, after.1);
+    }
+  where
+    open taken use {old, new, request, later, leads}
+    open request use {message, outcome, replied}
 
--- SETUP is processed before PLAY
-abbrev IsSetupFirst : Beginning → Outlook → ℕ → Later → {old new : Stage} → TakenFirst old new → Type 0
-IsSetupFirst b out slot later {old} first =
-    (one : List ℕ) × IsAhead b out old.session slot (one ∷ []) (from_first slot first later)
+-- SETUP is processed before PLAY: its reply is read, and after it there is a session
+setup_walk : {b : Beginning} {out : Outlook} (taken : Taken b out) (one : List ℕ)
+    → IsAhead b out taken.old.session (one ∷ []) (from_taken taken)
+    → IsPlayedWhole b out taken.old.session 1 (from_taken taken)
+setup_walk {b} {out} taken one is =
+    let all : message ∷ later.requests ≡ one ∷ (play_text b.wish b.session ∷ out.last) = is.requests_are in
+    let here : message ≡ one = cc in
+    let rest : later.requests ≡ play_text b.wish b.session ∷ out.last = cc in
+    let at : message ≡ setup_text b.wish = here ∙ is.setups.0 in
+    let none = no_play_begins request is.waits.stands (setup_no_play b at) later.askings in
+    let next = leads.walk [] (record {
+      waits = answered_waits request at is.waits;
+      named = answered_named request is.named;
+      setups = is.setups.1;
+      fresh = tt;
+      requests_are = rest;
+      teardowns = is.teardowns;
+      plays = sym (ap (λ l. l ++ plays_of later.askings) none) ∙ is.plays;
+    }) in
+    let slot = ap (λ (part : LastingPart). part.heard) (taken_keeps replied) in
+    let late : old.session.heard < out.play.start = omega (arith, slot, next.one.late) in
+    let heard = replied.heard in
+    let reply : heard.ask ≡ Reply = (setup_asked request at is.waits).0 in
+    let same : replied.answered ≡ heard.asking =
+    reply_same heard.asking heard.ask outcome replied.answered reply heard.answered in
+    let whole = reply_whole heard reply
+    (replies_whole old.session message heard.ask heard.asking is.named (setup_room b at) heard.hears) in
+    let read : IsSetupRead replied.answered.text =
+    elim (setup_replied b old.session heard.ask heard.asking at heard.hears) [
+      | inl still ↦
+          let unset : setup_in new.session.state ≡ None =
+          ap (λ (s : Stage). setup_in s.session.state) replied.new_is
+          ∙ ((replied_setup replied.answered).setup
+          ∙ (ap (λ (s : SessionState). setup_in s.state) same ∙ (ap setup_in still ∙ is.fresh))) in
+          let has : false ≡ true =
+          sym (has_setup new.session.state ∙ ap (λ (o : Option Setup). is_some o) unset) ∙ next.ready in
+          absurd (let no : ⊥ = cc in no)
+      | inr text ↦
+          setup_read old.session.source.ssrc old.session.id whole (id_printed is.named)
+          (ap (λ (s : SessionState). s.text) same ∙ text)
+    ] in
+    record {
+      one = record {
+        wished = next.one.wished;
+        alone = next.one.alone;
+        late = late;
+        before = (late, next.one.before);
+      };
+      whole = (whole, next.whole);
+      ready = tt;
+      read = λ few. (read, next.read few);
+    }
+  where
+    open taken use {old, new, request, later, leads}
+    open request use {message, outcome, replied}
 
--- after SETUP only PLAY is to come
-module _ {b : Beginning} {out : Outlook} {slot : ℕ} {old new : Stage} where
-  setup_first : (later : Later) (first : TakenFirst old new) (is : IsSetupFirst b out slot later first)
-      → (first.request.message ≡ setup_text b.wish)
-      × IsAhead b out first.mid.session slot [] (from_takings slot first.mid first.takings new first.takes later)
-  setup_first later first is =
-      let more = asked_after first later in
-      let ahead = is.1 in
-      let all : message ∷ (takings_requests takings ++ later.requests)
-      ≡ is.0 ∷ (play_text b.wish b.session ∷ out.last) = ahead.requests_are in
-      let here : message ≡ is.0 = cc in
-      let rest : takings_requests takings ++ later.requests ≡ play_text b.wish b.session ∷ out.last = cc in
-      let at : message ≡ setup_text b.wish = here ∙ ahead.setups.0 in
-      let none = no_play_begins request ahead.waits.stands (setup_no_play b at) more in (
-        at,
+taken_walk : {b : Beginning} {out : Outlook} (taken : Taken b out) (ahead : List (List ℕ))
+    → IsAhead b out taken.old.session ahead (from_taken taken)
+    → IsPlayedWhole b out taken.old.session (length ahead) (from_taken taken)
+taken_walk taken [] is = play_walk taken is
+taken_walk taken (one ∷ []) is = setup_walk taken one is
+taken_walk taken (one ∷ two ∷ ahead) is = absurd is.fresh
+
+leads_back : (b : Beginning) (out : Outlook) → GoesBack (Leads b out)
+leads_back b out = record {
+  request = λ old new request later leads. record {
+    walk = taken_walk (record { old = old; new = new; request = request; later = later; leads = leads });
+    torn = (torn_back b).request old new request later leads.torn;
+    none = none_back.request old new request later leads.none;
+  };
+  event = λ old opened event due halt comes later leads. record {
+    walk = λ ahead is.
+        let same = comes_setup comes in
+        let heard = comes_heard comes in
+        let rest = leads.walk ahead (record {
+          waits = event_waits comes is.waits;
+          named = named_as same.names is.named;
+          setups = is.setups;
+          fresh = fresh_still old.session opened.session ahead same.setup is.fresh;
+          requests_are = is.requests_are;
+          teardowns = is.teardowns;
+          plays = sym (ap (λ l. l ++ plays_of later.askings) (comes_none comes later.askings)) ∙ is.plays;
+        }) in
+        let one = rest.one in
         record {
-          waits = answered_waits replied at ahead.waits;
-          named = answered_named request ahead.named;
-          heard = ap (λ (part : LastingPart). part.heard) (taken_keeps replied) ∙ ahead.heard;
-          setups = ahead.setups.1;
-          fresh = tt;
-          requests_are = rest;
-          teardowns = ahead.teardowns;
-          plays = sym (ap (λ l. l ++ plays_of more) none) ∙ ahead.plays;
-        },
-      )
-    where
-      open first use {request, takings}
-      open request use {message, replied}
-
-  setup_walk : (later : Later) (first : TakenFirst old new) (is : IsSetupFirst b out slot later first)
-      → IsPlayedWhole b out first.mid.session slot 0 (takings_slots slot first.takings ++ later.slots)
-      (takings_replies first.mid first.takings new first.takes ++ later.replies)
-      → IsPlayedWhole b out old.session slot 1 (from_first slot first later).slots (from_first slot first later).replies
-  setup_walk later first is rec =
-      let ahead = is.1 in
-      let at = (setup_first later first is).0 in
-      let heard = replied.heard in
-      let whole = replies_whole old.session message heard.ask heard.asking ahead.named (setup_room b at) heard.hears in
-      let reply : heard.ask ≡ Reply = (setup_asked {outcome = outcome} {parts = parts} replied at ahead.waits).0 in
-      let mine = reply_whole heard reply whole in
-      let set = setup_reply b first at reply mine ahead.named ahead.fresh rec.ready in
-      record {
-        one = record {
-          wished = rec.one.wished;
-          alone = rec.one.alone;
-          late = rec.one.late;
-          before = (rec.one.late, rec.one.before);
+          one = record {
+            wished = one.wished;
+            alone = one.alone;
+            late = omega (arith, one.late, heard);
+            before = one.before;
+          };
+          whole = rest.whole;
+          ready = ready_still old.session opened.session (length ahead) same.setup rest.ready;
+          read = rest.read;
         };
-        whole = (mine, rec.whole);
-        ready = tt;
-        read = λ few. (set, rec.read few);
-      }
-    where
-      open first use {request}
-      open request use {message, outcome, parts, replied}
-
-takings_walk : {b : Beginning} {out : Outlook} {slot : ℕ} {later : Later} {ahead : List (List ℕ)} (old new : Stage)
-    (takings : List ElementStep) (takes : TakesAll old takings new) → Leads b out new.session slot later
-    → IsAhead b out old.session slot ahead (from_takings slot old takings new takes later)
-    → IsPlayedWhole b out old.session slot (length ahead) (takings_slots slot takings ++ later.slots)
-    (takings_replies old takings new takes ++ later.replies)
-takings_walk {b} {out} {slot} {later} {ahead} old new [] takes leads is =
-    subst (λ (s : Stage). IsPlayedWhole b out s.session slot (length ahead) later.slots later.replies) takes
-    (leads.walk ahead (subst (λ (s : Stage). IsAhead b out s.session slot ahead later) (sym takes) is))
-takings_walk {b} {out} {slot} {later} {ahead} old new (Passed n ∷ takings) takes leads is =
-    let same : takes.0.session ≡ old.session = ap (λ (s : Stage). s.session) takes.1.0.2 in
-    let P : SessionState → Type 0 = λ s. IsPlayedWhole b out s slot (length ahead)
-    (takings_slots slot takings ++ later.slots) (takings_replies takes.0 takings new takes.1.1 ++ later.replies) in
-    let A : SessionState → Type 0 =
-    λ s. IsAhead b out s slot ahead (from_takings slot takes.0 takings new takes.1.1 later) in
-    subst P same (takings_walk {ahead = ahead} takes.0 new takings takes.1.1 leads (subst A (sym same) is))
-takings_walk {ahead = []} old new (Answered message outcome parts ∷ takings) takes leads is =
-    let first : TakenFirst old new = taken_first message outcome parts takings takes in
-    play_walk first leads is
-takings_walk {ahead = one ∷ two ∷ ahead} old new (Answered message outcome parts ∷ takings) takes leads is =
-    absurd is.fresh
-takings_walk {b} {out} {slot} {later} {ahead = one ∷ []} old new (Answered message outcome parts ∷ takings) takes leads
-    is =
-    let first : TakenFirst old new = taken_first message outcome parts takings takes in
-    let setup : IsSetupFirst b out slot later first = (one, is) in
-    setup_walk later first setup
-    (takings_walk {ahead = []} takes.0 new takings takes.1.1 leads (setup_first later first setup).1)
+    torn = (torn_back b).event old opened event due halt comes later leads.torn;
+    none = none_back.event old opened event due halt comes later leads.none;
+  };
+}
 
 ahead_some : (ahead : List (List ℕ)) (x : List ℕ) (xs : List (List ℕ)) → [] ≡ ahead ++ (x ∷ xs) → ⊥
 ahead_some [] x xs is = let no : ⊥ = cc in no
 ahead_some (y ∷ ahead) x xs is = let no : ⊥ = cc in no
 
--- what is processed in these rounds, after this slot
-abbrev pub in_rounds : (slot : ℕ) (old : Stage) (rounds : List Round) (new : Stage) → IsCourseBetween old rounds new →
-    Later
-in_rounds slot old rounds new follows = record {
-  requests = rounds_requests rounds;
-  askings = askings_of old rounds new follows;
-  slots = slots_from slot rounds;
-  replies = replies_of old rounds new follows;
-}
-
-pub rounds_walk : {b : Beginning} {out : Outlook} {slot : ℕ} (old new : Stage) (rounds : List Round)
-    (follows : IsCourseBetween old rounds new) (ahead : List (List ℕ))
-    → IsAhead b out old.session slot ahead (in_rounds slot old rounds new follows)
-    → IsPlayedWhole b out old.session slot (length ahead) (slots_from slot rounds) (replies_of old rounds new follows)
-rounds_walk {b} {out} {slot} old new [] follows ahead is =
-    absurd (ahead_some ahead (play_text b.wish b.session) out.last is.requests_are)
-rounds_walk {b} {out} {slot} old new (round ∷ rounds) follows ahead is =
-    let runs = follows.1.0 in
-    let mid : Stage = follows.0 in
-    let later = max slot (slot_in round.event) in
-    let more = askings_of mid rounds new follows.1.1 in
-    let after = takings_askings runs.opened round.takings mid runs.takes ++ more in
-    let leads : Leads b out mid.session later (in_rounds later mid rounds new follows.1.1) = record {
-      walk = λ further its. rounds_walk {slot = later} mid new rounds follows.1.1 further its;
-      torn = λ named own are. rounds_torn {b = b} mid new rounds follows.1.1
-          (record { named = named; own = own; teardowns = are });
-      none = λ stands are. rounds_none mid new rounds follows.1.1 stands are;
-    } in
-    let rec = takings_walk {ahead = ahead} runs.opened mid round.takings runs.takes leads (record {
-      waits = opened_waits runs is.waits;
-      named = opened_named runs is.named;
-      heard = comes_heard (comes_as round.event round.due round.halt runs.comes)
-          ∙ ap (λ n. max n (slot_in round.event)) is.heard;
-      setups = is.setups;
-      fresh = fresh_still old.session runs.opened.session ahead (opened_setup runs).setup is.fresh;
-      requests_are = is.requests_are;
-      teardowns = is.teardowns;
-      plays = sym (ap (λ l. l ++ plays_of after) (event_none runs after)) ∙ is.plays;
-    }) in
-    let one = rec.one in
-    let late : slot < out.play.start = omega (arith, one.late) in
-    record {
-      one = record { wished = one.wished; alone = one.alone; late = late; before = one.before };
-      whole = rec.whole;
-      ready = ready_still old.session runs.opened.session (length ahead) (opened_setup runs).setup rec.ready;
-      read = rec.read;
-    }
+-- from the beginning of a course
+pub course_walk : {b : Beginning} {out : Outlook} (course : Course) (ahead : List (List ℕ))
+    → IsAhead b out (begin_of course).session ahead (piece_of course)
+    → IsPlayedWhole b out (begin_of course).session (length ahead) (piece_of course)
+course_walk {b} {out} course ahead is =
+    (course_back (leads_back b out) course (record {
+      walk = λ further its. absurd (ahead_some further (play_text b.wish b.session) out.last its.requests_are);
+      torn = λ valid named are. (tt, tt);
+      none = λ stands are. refl;
+    })).walk ahead is

@@ -1,8 +1,8 @@
 -- The plays of a course send its runs in order.
-use Rattle.connection_laws.proofs.FilmBytes.{standing_course_kept, Stands, reply_awaited, IsKeptStanding}
-use Rattle.std.proofs.Common.{◌≡◌, ℕ, ◌+◌, ◌-◌, ◌%◌, ◌≤◌, ◌⊎◌, ◌&&◌, ◌++◌, if◌then◌else◌, Bool, true, false, List, []}
-use Rattle.std.proofs.Common.{◌∷◌, Option, Some, None, slice_get, slice_index, add_assoc, refl, sym, ap, subst, ◌∙◌}
-use Rattle.std.proofs.Common.{inl, inr, arith}
+use Rattle.connection_laws.proofs.CourseSteps.{Stands, IsKeptStanding, AsksDone, slot_asks, all_kept}
+use Rattle.std.proofs.Common.{◌≡◌, ℕ, ◌+◌, ◌-◌, ◌%◌, ◌≤◌, ◌⊎◌, ◌&&◌, ◌++◌, if◌then◌else◌, Bool, true, false, List, ◌∷◌}
+use Rattle.std.proofs.Common.{Option, Some, None, slice_get, slice_index, add_assoc, refl, sym, ap, subst, ◌∙◌, inl}
+use Rattle.std.proofs.Common.{inr, arith, []}
 use Rattle.std.proofs.lemmas.Bool.{true≢false}
 use Rattle.std.proofs.lemmas.List.{append_assoc, append-nil}
 use Rattle.plan_cert.specs.PlanSlots.{total_bytes}
@@ -13,7 +13,6 @@ use Rattle.plan_cert.specs.declared.Segment.{Segment}
 use Rattle.early_start.specs.StartSearch.{Offers}
 use Rattle.film_run.specs.declared.runs.Run.{Run}
 use Rattle.rtp_pack.specs.declared.reports.Identity.{Identity}
-use Rattle.admission.specs.declared.entries.Answer.TheVariants.{Admitted}
 use Rattle.admission.specs.Makers.{PlacedEntry}
 use Rattle.session.specs.declared.commands.Ask.{Ask}
 use Rattle.session.specs.declared.commands.Ask.TheVariants.{Reply as AskReply, Play as AskPlay, Halt as AskHalt}
@@ -35,22 +34,26 @@ use Rattle.film_streams.specs.StreamNumbers.{counts_after, identity_of, source_o
 use Rattle.session.specs.Laws.{GoesOn}
 use Rattle.session.specs.RequestSteps.{after_admission, after_halt, counts_done}
 use Rattle.session.specs.SessionStates.{SessionState}
-use Rattle.session.specs.SlotSteps.{admitted_in, after_play, after_slot, can_reply, due_state, finished_in, is_between}
-use Rattle.session.specs.SlotSteps.{is_sending, is_done_in, is_taken, sent_due, sent_reply, sent_slot, stepped_in}
+use Rattle.session.specs.SlotSteps.{admitted_in, after_slot, can_reply, due_state, is_between, sent_due, sent_reply}
+use Rattle.session.specs.SlotSteps.{sent_slot, stepped_in}
 use Rattle.session.specs.SlotTransitions.{after_stop}
 use Rattle.session_laws.proofs.RunLemmas.{IsLeftBy, IsNextRun, RunsAs, Replies, SetsUp, AsksPlay, Stops, AsksLook}
 use Rattle.session_laws.proofs.RunLemmas.{AsksOffer, one_film, run_goes_on, runs_as}
-use Rattle.conn.specs.InputSteps.{Outcome, Unasked, Entered, SentPart, Stage, IsHaltAnswered}
-use Rattle.connection_laws.specs.Courses.{Course, asked_by, askings_of, course_plays, first_stage}
+use Rattle.conn.specs.InputSteps.{Outcome, Entered, SentPart, Stage, IsHaltAnswered, WasFull, Offered}
+use Rattle.connection_laws.specs.Courses.{Course, asked_by, askings_of, course_plays}
 use Rattle.connection_laws.specs.Plays.{FilmPlay, StationRequest, Asks, kept_by, kept_in, kept_with, plays_admitted}
-use Rattle.connection_laws.specs.Plays.{plays_begun, plays_of}
+use Rattle.connection_laws.specs.Plays.{plays_of, booked_by}
 use Rattle.connection_laws.specs.LookLimits.{course_looks, look_in, looks_in}
 use Rattle.connection_laws.specs.PlayRuns.{AreRunsInOrder, IsFirstRun, IsLaterRun, RunPlace, SendsNext, run_place}
 use Rattle.connection_laws.proofs.StationAnswers.{AnswersAs, NoneAsked, PlayAdmitted, PlayRefused, PlayFull, PlayHalted}
 use Rattle.connection_laws.proofs.StationAnswers.{LookMade, LookFull, OfferMade, answers_as, FinishesAs, NothingLeft}
-use Rattle.connection_laws.proofs.StationAnswers.{DoneHalted, ComesAs, BytesCame, SlotCame}
+use Rattle.connection_laws.proofs.StationAnswers.{DoneHalted, ComesAs, BytesCame, SlotCame, SlotTo, SlotSent, SlotIdle}
+use Rattle.connection_laws.proofs.StationAnswers.{SlotPast, slot_to, IsAdmitted}
 use Rattle.connection_laws.proofs.KeptParts.{reply_keeps, slot_keeps}
-use Rattle.connection_laws.proofs.CourseInduction.{Piece, AnsweredRequest, asking_of}
+use Rattle.connection_laws.proofs.CourseInduction.{Piece, AnsweredRequest, asking_of, begin_of}
+use Rattle.connection_laws.proofs.ReplyBoundaries.{StillRequest, still_asked, unasked}
+use Rattle.admission.specs.Histories.{play_admitted}
+use Rattle.station.specs.Ledgers.{play_of}
 
 -- what the runs of a session go by, and what of a reply matters to them
 record Stream : Type 0 where
@@ -92,14 +95,6 @@ record IsUnderWay (stream : Stream) (setup : Setup) (run : Run) (sent : ℕ) (la
 abbrev IsAtRest : List ℕ → Option Run → Stream → Setup → Option RunPlace → Type 0
 IsAtRest words None stream setup last = IsFresh words stream setup last
 IsAtRest words (Some paused) stream setup last = IsUnderWay stream setup paused paused.sent last
-
--- an answer that neither begins nor halts a play
-record IsQuiet (asked : Awaited) (outcome : Outcome) : Type 0 where
-  none : (later : List StationRequest) → plays_begun asked outcome later ≡ []
-  kept : (k : ℕ) → kept_with outcome k ≡ k
-
-unasked_quiet : (asked : Awaited) → IsQuiet asked Unasked
-unasked_quiet asked = record { none = λ later. refl; kept = λ k. refl }
 
 -- where the runs stand, by the state; what is kept of a play that is under way is known later
 abbrev IsLastIn : List ℕ → State → Stream → ReplyFlags → (ℕ → ℕ) → Option RunPlace → Type 0
@@ -144,6 +139,17 @@ record Standing : Type 0 where
 
 abbrev standing : SessionState → (ℕ → ℕ) → Option RunPlace → Standing
 standing s kept last = record { stream = stream_of s; flags = flags_of s; kept = kept; last = last }
+
+-- a play of a session that is halted, and what the halt leaves of its run
+record Stopped (next : AfterHalt) : Type 0 where
+  s : SessionState
+  setup : Setup
+  play : Played
+  keep : ℕ
+  left : IsLeftBy play.run keep next
+
+abbrev stopping : {next : AfterHalt} → Stopped next → SessionState
+stopping {next} stop = record stop.s { state = Playing stop.setup stop.play; awaited = Halt stop.keep next }
 
 module _ (words : List ℕ) where
   abbrev IsLast : SessionState → (ℕ → ℕ) → Option RunPlace → Type 0
@@ -191,13 +197,13 @@ module _ (words : List ℕ) where
       subst (λ k. IsUnderWay at.stream setup play.run (play.run.sent + k) at.last) (same (total_bytes play.plan)) is
   same_kept at g _ same is = is
 
-  still : {old new : SessionState} {asked : Awaited} {outcome : Outcome} → IsQuiet asked outcome
-      → new.looks_left ≡ old.looks_left - look_in asked → Moves old new → Leads old new (Asks asked outcome ∷ [])
-  still {old} {asked} {outcome} stays looks move = record {
-    on = λ later follows last is. rw (stays.none later) (follows last (move (kept_in later) last
-        (same_kept (standing old (λ k. kept_with outcome (kept_in later k)) last) (kept_in later) old.state
-        (λ k. stays.kept (kept_in later k)) is)));
-    looks = looks ∙ ap (λ n. old.looks_left - n) (sym (plus_none (look_in asked)));
+  still : {old new : SessionState} (request : StillRequest) → new.looks_left ≡ old.looks_left - look_in request.asked
+      → Moves old new → Leads old new (still_asked request ∷ [])
+  still {old} {new} request looks move = record {
+    on = λ later follows last is. rw (request.still.none later) (follows last (move (kept_in later) last
+        (same_kept (standing old (λ k. kept_with request.outcome (kept_in later k)) last) (kept_in later) old.state
+        (λ k. request.still.kept (kept_in later k)) is)));
+    looks = looks ∙ ap (λ n. old.looks_left - n) (sym (plus_none (look_in request.asked)));
   }
 
   -- ---- slots and replies
@@ -247,10 +253,10 @@ module _ (words : List ℕ) where
       reply_moves (s.waits && is_between (stepped_in true slot s.state)) (sent_due s slot) kept last
       (due_moves s slot kept last is)
 
-  slot_moves : (s : SessionState) (slot : ℕ) (taken sending : Bool)
-      → Moves s (if taken then (if sending then after_play (sent_slot s slot) else record s { heard = slot }) else s)
-  slot_moves s slot true true = sent_moves s slot
-  slot_moves s slot _ _ = λ kept last is. is
+  slot_moves : {s t : SessionState} {slot : ℕ} {parts : List SentPart} → SlotTo s slot t parts → Moves s t
+  slot_moves {s} {slot = slot} (SlotSent sending later) = sent_moves s slot
+  slot_moves (SlotIdle none later) = λ kept last is. is
+  slot_moves SlotPast = λ kept last is. is
 
   -- ---- halts
 
@@ -268,96 +274,68 @@ module _ (words : List ℕ) where
   abbrev Halts : SessionState → ℕ → PlacedEntry → SessionState → Type 0
   Halts s keep placed new = IsHaltAnswered s keep placed new → Leads s new (Asks s.awaited (Entered placed) ∷ [])
 
-  -- a play of a session is halted
-  module _ (s : SessionState) (setup : Setup) (play : Played) (keep : ℕ) where
-    halt_state : (place : ℕ) (next : AfterHalt) (kept : ℕ → ℕ) (last : Option RunPlace) → IsLeftBy play.run keep next
-        → IsUnderWay (stream_of s) setup play.run (play.run.sent + keep) last
-        → IsLast (after_halt (record s { state = Playing setup play; awaited = Halt keep next }) place) kept last
-    halt_state place Done kept last left way = inr (counted_done (stream_of s) setup play.run keep last way)
-    halt_state place (Paused run) kept last left way = (
-      refl,
-      inr (record {
-        stored = way.stored;
-        at = way.at;
-        place = way.place
-            ∙ ap (λ first. Some (run_place (run_of way.stored.film first play.run.end_unit
-            (identity_of s.source setup s.counts)) (play.run.sent + keep))) (sym left.first)
-            ∙ ap (λ end. Some (run_place (run_of way.stored.film run.first_unit end
-            (identity_of s.source setup s.counts)) (play.run.sent + keep))) (sym left.end)
-            ∙ ap (λ sent. Some (run_place (sending_of way.stored.film s.source setup s.counts run) sent)) (sym left.sent);
-      }),
-    )
-    halt_state place Torn kept last left way = (refl, inl refl)
+  halt_state : {next : AfterHalt} {last : Option RunPlace} (kept : ℕ → ℕ) (stop : Stopped next) (place : ℕ)
+      → IsUnderWay (stream_of stop.s) stop.setup stop.play.run (stop.play.run.sent + stop.keep) last
+      → IsLast (after_halt (stopping stop) place) kept last
+  halt_state {next = Done} {last = last} kept stop place way =
+      inr (counted_done (stream_of stop.s) stop.setup stop.play.run stop.keep last way)
+  halt_state {next = Paused run} kept stop place way = (
+    refl,
+    inr (record {
+      stored = way.stored;
+      at = way.at;
+      place = way.place
+          ∙ ap (λ first. Some (run_place (run_of way.stored.film first play.run.end_unit
+          (identity_of s.source setup s.counts)) (play.run.sent + keep))) (sym left.first)
+          ∙ ap (λ end. Some (run_place (run_of way.stored.film run.first_unit end
+          (identity_of s.source setup s.counts)) (play.run.sent + keep))) (sym left.end)
+          ∙ ap (λ sent. Some (run_place (sending_of way.stored.film s.source setup s.counts run) sent)) (sym left.sent);
+    }),
+  )
+    where
+      open stop use {s, setup, play, keep, left}
+  halt_state {next = Torn} kept stop place way = (refl, inl refl)
 
-    halts : (next : AfterHalt) (placed : PlacedEntry) (new : SessionState) → IsLeftBy play.run keep next
-        → Halts (record s { state = Playing setup play; awaited = Halt keep next }) keep placed new
-    halts next placed new left halted =
-        let asking : SessionState = record s { state = Playing setup play; awaited = Halt keep next } in
-        rw halted.halts (record {
-          on = λ later follows last is. follows last (halt_state placed.place next (kept_in later) last
-              left (subst (λ c. IsUnderWay (stream_of s) setup play.run
-              (play.run.sent + kept_by c (kept_in later (total_bytes play.plan))) last) halted.command is));
-          looks = sym (minus_none s.looks_left);
-        })
+  halts : {next : AfterHalt} (stop : Stopped next) (placed : PlacedEntry) (new : SessionState)
+      → Halts (stopping stop) stop.keep placed new
+  halts stop placed new halted =
+      rw halted.halts (record {
+        on = λ later follows last is. follows last (halt_state (kept_in later) stop placed.place
+            (subst (λ c. IsUnderWay (stream_of s) setup play.run
+            (play.run.sent + kept_by c (kept_in later (total_bytes play.plan))) last) halted.command is));
+        looks = sym (minus_none s.looks_left);
+      })
+    where
+      open stop use {s, setup, play}
 
-    halts_in : (next : AfterHalt) (placed : PlacedEntry) (new : SessionState) → s.state ≡ Playing setup play → s.awaited ≡ Halt keep next → IsLeftBy play.run keep next
-        → Halts s keep placed new
-    halts_in next placed new state awaited left =
-        rw (awaited, state) (halts next placed new left)
+  halts_in : (s : SessionState) (setup : Setup) (play : Played) (keep : ℕ) (next : AfterHalt) (placed : PlacedEntry)
+      (new : SessionState) → s.state ≡ Playing setup play → s.awaited ≡ Halt keep next → IsLeftBy play.run keep next
+      → Halts s keep placed new
+  halts_in s setup play keep next placed new state awaited left =
+      rw (awaited, state)
+      (halts (record { s = s; setup = setup; play = play; keep = keep; left = left }) placed new)
 
-  -- a slot asks for nothing, or halts a play that is done
-  record IsDone (state : State) (awaited : Awaited) : Type 0 where
-    setup : Setup
-    play : Played
-    keep : ℕ
-    playing : state ≡ Playing setup play
-    halt : awaited ≡ Halt keep Done
-
-  abbrev AsksIn : State → Awaited → Type 0
-  AsksIn state awaited = (awaited ≡ Nothing) ⊎ IsDone state awaited
-
-  done_asks : (setup : Setup) (play : Played) (keep : ℕ) (awaited : Awaited) (done : Bool) → awaited ≡ Nothing
-      → AsksIn (Playing setup play) (if done then Halt keep Done else awaited)
-  done_asks setup play keep awaited true rest =
-      inr (record { setup = setup; play = play; keep = keep; playing = refl; halt = refl })
-  done_asks setup play keep awaited false rest = inl rest
-
-  play_asks : (state : State) (awaited : Awaited) → awaited ≡ Nothing → AsksIn state (finished_in state awaited)
-  play_asks (Playing setup play) awaited rest =
-      done_asks setup play play.pacer.sent awaited (is_done_in (Playing setup play)) rest
-  play_asks _ awaited rest = inl rest
-
-  slot_asks : (s : SessionState) (slot : ℕ) (taken sending : Bool) → s.awaited ≡ Nothing
-      → (let t : SessionState = if taken then (if sending then after_play (sent_slot s slot) else record s
-      { heard = slot }) else s in AsksIn t.state t.awaited)
-  slot_asks s slot true true rest =
-      play_asks (sent_slot s slot).state (sent_slot s slot).awaited
-      (reply_awaited (s.waits && is_between (stepped_in true slot s.state)) (sent_due s slot) ∙ rest)
-  slot_asks s slot _ _ rest = inl rest
-
-  finishes : {awaited : Awaited} {halt : Outcome} (s new : SessionState) → AsksIn s.state s.awaited
-      → s.awaited ≡ awaited → FinishesAs s new awaited halt → Leads s new (Asks s.awaited halt ∷ [])
+  finishes : {awaited : Awaited} {halt : Outcome} (s new : SessionState) → AsksDone s → s.awaited ≡ awaited
+      → FinishesAs s new awaited halt → Leads s new (Asks s.awaited halt ∷ [])
   finishes s new asks is (NothingLeft same) =
-      rw same (still (unasked_quiet s.awaited) (none_asked s.looks_left s.awaited is) (moves_none s))
+      rw same (still (unasked s.awaited) (none_asked s.looks_left s.awaited is) (moves_none s))
   finishes s new (inl rest) is (DoneHalted {keep = keep} {next = next} halted) =
       let no : Nothing ≡ Halt keep next = sym rest ∙ is in absurd (let clash : ⊥ = cc in clash)
   finishes s new (inr done) is (DoneHalted {keep = keep} {next = next} {placed = placed} halted) =
-      let asked : Halt done.keep Done ≡ Halt keep next = sym done.halt ∙ is in
+      let asked : Halt done.keep Done ≡ Halt keep next = sym done.asks ∙ is in
       let size : keep ≡ done.keep = cc in
-      halts_in s done.setup done.play done.keep Done placed new done.playing done.halt tt
+      halts_in s done.setup done.play done.keep Done placed new done.state_is done.asks tt
       (subst (λ k. IsHaltAnswered s k placed new) size halted)
 
   comes_leads : {old opened : Stage} {event : IoEvent} {parts : List SentPart} {halt : Outcome} → Stands old.session
       → ComesAs old opened event parts halt
       → Leads old.session opened.session (Asks (asked_by old.session event) halt ∷ [])
   comes_leads {old} stands (BytesCame is) =
-      rw is (still (unasked_quiet Nothing) (sym (minus_none old.session.looks_left)) (moves_none old.session))
+      rw is (still (unasked Nothing) (sym (minus_none old.session.looks_left)) (moves_none old.session))
   comes_leads {old} {opened} stands (SlotCame {slot = slot} finish) =
-      let s : SessionState = after_slot old.session slot in
-      leads_then (moves (slot_looks old.session slot)
-      (slot_moves old.session slot (is_taken old.session slot) (is_sending old.session.state)))
-      (finishes s opened.session
-      (slot_asks old.session slot (is_taken old.session slot) (is_sending old.session.state) stands.rest) refl finish)
+      let to = slot_to old.session slot in
+      leads_then (moves (slot_looks old.session slot) (slot_moves to))
+      (finishes (after_slot old.session slot) opened.session (slot_asks to stands.rest) refl finish)
 
   -- ---- requests
 
@@ -370,262 +348,309 @@ module _ (words : List ℕ) where
   said at (Stopping setup stop) tearing replied on is = absurd (true≢false (sym is.0 ∙ replied))
   said at _ tearing replied on is = is
 
-  module _ (old : SessionState) (replied : old.waits ≡ false) (linked : old.torn ≡ false) where
-    abbrev Answers : Outcome → SessionState → Ask → SessionState → Type 0
-    Answers outcome new ask asking = AnswersAs asking new ask outcome → Leads old new (Asks asking.awaited outcome ∷ [])
+-- a session that hears a request: no reply waits, and no TEARDOWN was answered
+record Hearing : Type 0 where
+  words : List ℕ
+  old : SessionState
+  replied : old.waits ≡ false
+  linked : old.torn ≡ false
 
-    -- a reply waits, and else all is as before
-    waiting : (tearing : Bool) (kept : ℕ → ℕ) (last : Option RunPlace) → IsLast old kept last
-        → IsLastIn words old.state (stream_of old) (record { waits = true; tearing = tearing; torn = old.torn }) kept
-        last
-    waiting tearing kept last is = said (standing old kept last) old.state tearing replied linked is
+-- a play that a session asks for
+record AskedPlay (old : SessionState) : Type 0 where
+  stored : Stored
+  setup : Setup
+  paused : Option Run
+  prepared : Prepared
+  text : List ℕ
+  ready : old.state ≡ Ready setup paused
+  at : IsFilmAt old.films setup.film stored
+  next : IsNextRun old stored setup paused prepared.run prepared.counts
+  frames : prepared.frames ≡ sending_of stored.film old.source setup prepared.counts prepared.run
 
-    replies : {outcome : Outcome} (asking new : SessionState) → asking.awaited ≡ Nothing
-        → asking.looks_left ≡ old.looks_left → Moves old asking → Answers outcome new AskReply asking
-    replies asking new rest looks move (NoneAsked answered) =
-        rw answered (still (unasked_quiet asking.awaited) (looks ∙ none_asked old.looks_left asking.awaited rest) move)
+abbrev asking_for : {old : SessionState} → AskedPlay old → SessionState
+asking_for {old} asked = record old { awaited = Play asked.prepared; text = asked.text }
 
-    looks_at : {outcome : Outcome} (sequence slot : ℕ) (new : SessionState)
-        → Answers outcome new (AskLook slot) (record old { looks_left = old.looks_left - 1; awaited = Look sequence })
-    looks_at sequence slot new (LookMade {placed = placed} is) =
-        rw is.new_is (still (record { none = λ later. refl; kept = λ k. ap (λ c. kept_by c k) is.command }) refl
-        (waiting old.tearing))
-    looks_at sequence slot new (LookFull {more = more} {entries = entries} {live = live} is) =
-        rw is (still (record { none = λ later. refl; kept = λ k. refl }) refl (waiting old.tearing))
+-- the journal is full
+abbrev full : Awaited → ℕ → ℕ → ℕ → StillRequest
+full asked more entries live = record {
+  asked = asked;
+  outcome = WasFull more entries live;
+  still = record { none = λ later. refl; kept = λ k. refl; untold = λ made. refl };
+}
 
-    offers_of : {outcome : Outcome} (plan : List Segment) (offers : Offers) (sequence : ℕ) (new : SessionState)
-        → Answers outcome new (AskOffer plan offers) (record old { awaited = Offer sequence })
-    offers_of plan offers sequence new (OfferMade {at_slot = at_slot} {note = note} is) =
-        rw is (still (record { none = λ later. refl; kept = λ k. refl }) (sym (minus_none old.looks_left))
-        (waiting old.tearing))
+module _ (h : Hearing) where
+  open h use {words, old, replied, linked}
 
-    -- ---- a play
+  abbrev Answers : Outcome → SessionState → Ask → SessionState → Type 0
+  Answers outcome new ask asking = AnswersAs asking new ask outcome → Leads words old new (Asks asking.awaited outcome ∷ [])
 
-    first_identity : (setup : Setup) → IsFirstRun words (identity_of (source_of words) setup nothing_sent)
-    first_identity setup = record {
-      ssrc = refl;
-      sequence = sequence_begins (slice_index words 3);
-      timestamp = refl;
-      packets = refl;
-      octets = refl;
-    }
+  -- a reply waits, and else all is as before
+  waiting : (tearing : Bool) (kept : ℕ → ℕ) (last : Option RunPlace) → IsLast words old kept last
+      → IsLastIn words old.state (stream_of old) (record { waits = true; tearing = tearing; torn = old.torn }) kept
+      last
+  waiting tearing kept last is = said words (standing old kept last) old.state tearing replied linked is
 
-    later_identity : (last : RunPlace) (source : StreamSource) (setup : Setup) (counts : Counts)
-        → last.run.identity ≡ identity_of source setup counts
-        → IsLaterRun last (identity_of source setup (counts_after counts last.run last.sent))
-    later_identity last source setup counts is = record {
-      channel = sym (ap (λ (i : Identity). i.channel) is);
-      control = sym (ap (λ (i : Identity). i.control) is);
-      ssrc = sym (ap (λ (i : Identity). i.ssrc) is);
-      timestamp = sym (ap (λ (i : Identity). i.timestamp) is);
-      numbers = subst (λ i. GoesOn i (identity_of source setup (counts_after counts last.run last.sent))
-          (frames_before last.run last.sent) (octets_before last.run last.sent)) (sym is)
-          (run_goes_on source setup counts last.run last.sent);
-    }
+  replies : {outcome : Outcome} (asking new : SessionState) → asking.awaited ≡ Nothing
+      → asking.looks_left ≡ old.looks_left → Moves words old asking → Answers outcome new AskReply asking
+  replies asking new rest looks move (NoneAsked answered) =
+      rw answered (still words (unasked asking.awaited) (looks ∙ none_asked old.looks_left asking.awaited rest) move)
 
-    -- of a play: its run, as it is sent, and where it begins
-    abbrev Next : Stored → Setup → Option RunPlace → Counts → Run → Type 0
-    Next stored setup last counts run = (play : FilmPlay) → play.before ≡ run.sent
-        → SendsNext words last (sending_of stored.film old.source setup counts run) play
+  looks_at : {outcome : Outcome} (sequence slot : ℕ) (new : SessionState)
+      → Answers outcome new (AskLook slot) (record old { looks_left = old.looks_left - 1; awaited = Look sequence })
+  looks_at sequence slot new (LookMade {placed = placed} is) =
+      rw is.new_is (still words (record {
+        asked = Look sequence;
+        outcome = Entered placed;
+        still = record {
+          none = λ later. refl;
+          kept = λ k. ap (λ c. kept_by c k) is.command;
+          untold = λ made. ap (λ c. booked_by (play_admitted c placed.entry.answer) made) is.command;
+        };
+      }) refl (waiting old.tearing))
+  looks_at sequence slot new (LookFull {more = more} {entries = entries} {live = live} is) =
+      rw is (still words (full (Look sequence) more entries live) refl (waiting old.tearing))
 
-    new_next : (stored : Stored) (setup : Setup) (last : Option RunPlace) (run : Run) → run.sent ≡ 0
-        → IsFresh words (stream_of old) setup last → Next stored setup last old.counts run
-    new_next stored setup None run sent fresh play before = (
-      before ∙ sent,
-      rw (fresh.1, fresh.0) (first_identity setup),
-    )
-    new_next stored setup (Some last) run sent fresh play before = inr (
-      before ∙ sent,
-      rw fresh.counts (later_identity last old.source setup fresh.before fresh.identity),
-    )
+  offers_of : {outcome : Outcome} (plan : List Segment) (offers : Offers) (sequence : ℕ) (new : SessionState)
+      → Answers outcome new (AskOffer plan offers) (record old { awaited = Offer sequence })
+  offers_of plan offers sequence new (OfferMade {at_slot = at_slot} {note = note} is) =
+      rw is (still words (record {
+        asked = Offer sequence;
+        outcome = Offered at_slot note;
+        still = record { none = λ later. refl; kept = λ k. refl; untold = λ made. refl };
+      }) (sym (minus_none old.looks_left)) (waiting old.tearing))
 
-    rest_next : (stored : Stored) (setup : Setup) (paused : Option Run) (last : Option RunPlace) (run : Run)
-        → IsFilmAt old.films setup.film stored → run.sent ≡ 0 → IsAtRest words paused (stream_of old) setup last
-        → Next stored setup last (counts_before stored.film old.source setup old.counts paused) run
-    rest_next stored setup None last run at sent rest play before =
-        new_next stored setup last run sent rest play before
-    rest_next stored setup (Some paused) last run at sent rest play before =
-        let sending : FramedRun = sending_of stored.film old.source setup old.counts paused in
-        let place : last ≡ Some (run_place sending paused.sent) =
-        one_film old.films setup.film rest.stored (λ s. last ≡ Some (run_place
-        (sending_of s.film old.source setup old.counts paused) paused.sent)) rest.at rest.place stored at in
-        rw place (inr (before ∙ sent, later_identity (run_place sending paused.sent) old.source setup old.counts refl))
+  -- ---- a play
 
-    resumed_next : (stored : Stored) (setup : Setup) (last : Option RunPlace) (run : Run)
-        → IsFilmAt old.films setup.film stored → IsUnderWay (stream_of old) setup run run.sent last
-        → Next stored setup last old.counts run
-    resumed_next stored setup last run at rest play before =
-        let sending : FramedRun = sending_of stored.film old.source setup old.counts run in
-        let place : last ≡ Some (run_place sending run.sent) =
-        one_film old.films setup.film rest.stored (λ s. last ≡ Some (run_place
-        (sending_of s.film old.source setup old.counts run) run.sent)) rest.at rest.place stored at in
-        subst (λ l. SendsNext words l sending play) (sym place) (inl (refl, before))
+  first_identity : (setup : Setup) → IsFirstRun words (identity_of (source_of words) setup nothing_sent)
+  first_identity setup = record {
+    ssrc = refl;
+    sequence = sequence_begins (slice_index words 3);
+    timestamp = refl;
+    packets = refl;
+    octets = refl;
+  }
 
-    next_run : (stored : Stored) (setup : Setup) (paused : Option Run) (last : Option RunPlace) (run : Run)
-        (counts : Counts) → IsFilmAt old.films setup.film stored → IsAtRest words paused (stream_of old) setup last
-        → IsNextRun old stored setup paused run counts → Next stored setup last counts run
-    next_run stored setup paused last run counts at rest (inl resumed) =
-        rw resumed.counts_are (resumed_next stored setup last run at
-        (subst (λ p. IsAtRest words p (stream_of old) setup last) resumed.paused_is rest))
-    next_run stored setup paused last run counts at rest (inr begun) =
-        rw begun.counts_are (rest_next stored setup paused last run at begun.none_sent rest)
+  later_identity : (last : RunPlace) (source : StreamSource) (setup : Setup) (counts : Counts)
+      → last.run.identity ≡ identity_of source setup counts
+      → IsLaterRun last (identity_of source setup (counts_after counts last.run last.sent))
+  later_identity last source setup counts is = record {
+    channel = sym (ap (λ (i : Identity). i.channel) is);
+    control = sym (ap (λ (i : Identity). i.control) is);
+    ssrc = sym (ap (λ (i : Identity). i.ssrc) is);
+    timestamp = sym (ap (λ (i : Identity). i.timestamp) is);
+    numbers = subst (λ i. GoesOn i (identity_of source setup (counts_after counts last.run last.sent))
+        (frames_before last.run last.sent) (octets_before last.run last.sent)) (sym is)
+        (run_goes_on source setup counts last.run last.sent);
+  }
 
-    abbrev asking_for : Prepared → List ℕ → SessionState
-    asking_for prepared text = record old { awaited = Play prepared; text = text }
+  -- of a play: its run, as it is sent, and where it begins
+  abbrev Next : Stored → Setup → Option RunPlace → Counts → Run → Type 0
+  Next stored setup last counts run = (play : FilmPlay) → play.before ≡ run.sent
+      → SendsNext words last (sending_of stored.film old.source setup counts run) play
 
-    -- it is admitted
-    module _ (stored : Stored) (setup : Setup) (paused : Option Run) (asked : Prepared) (text : List ℕ)
-        (ready : old.state ≡ Ready setup paused) (at : IsFilmAt old.films setup.film stored)
-        (next : IsNextRun old stored setup paused asked.run asked.counts)
-        (frames : asked.frames ≡ sending_of stored.film old.source setup asked.counts asked.run) where
-      at_rest : (kept : ℕ → ℕ) (last : Option RunPlace) → IsLast old kept last
-          → IsAtRest words paused (stream_of old) setup last
-      at_rest kept last was = elim (subst (λ st. IsLastIn words st (stream_of old) (flags_of old) kept last) ready was) [
+  new_next : (asked : AskedPlay old) (last : Option RunPlace) (run : Run) → run.sent ≡ 0
+      → IsFresh words (stream_of old) asked.setup last → Next asked.stored asked.setup last old.counts run
+  new_next asked None run sent fresh play before = (
+    before ∙ sent,
+    rw (fresh.1, fresh.0) (first_identity asked.setup),
+  )
+  new_next asked (Some last) run sent fresh play before = inr (
+    before ∙ sent,
+    rw fresh.counts (later_identity last old.source asked.setup fresh.before fresh.identity),
+  )
+
+  rest_next : (asked : AskedPlay old) (paused : Option Run) (last : Option RunPlace) (run : Run) → run.sent ≡ 0
+      → IsAtRest words paused (stream_of old) asked.setup last
+      → Next asked.stored asked.setup last (counts_before asked.stored.film old.source asked.setup old.counts paused) run
+  rest_next asked None last run sent rest play before = new_next asked last run sent rest play before
+  rest_next asked (Some paused) last run sent rest play before =
+      let sending : FramedRun = sending_of stored.film old.source setup old.counts paused in
+      let place : last ≡ Some (run_place sending paused.sent) =
+      one_film old.films setup.film rest.stored (λ s. last ≡ Some (run_place
+      (sending_of s.film old.source setup old.counts paused) paused.sent)) rest.at rest.place stored at in
+      rw place (inr (before ∙ sent, later_identity (run_place sending paused.sent) old.source setup old.counts refl))
+    where
+      open asked use {stored, setup, at}
+
+  resumed_next : (asked : AskedPlay old) (last : Option RunPlace) (run : Run)
+      → IsUnderWay (stream_of old) asked.setup run run.sent last → Next asked.stored asked.setup last old.counts run
+  resumed_next asked last run rest play before =
+      let sending : FramedRun = sending_of stored.film old.source setup old.counts run in
+      let place : last ≡ Some (run_place sending run.sent) =
+      one_film old.films setup.film rest.stored (λ s. last ≡ Some (run_place
+      (sending_of s.film old.source setup old.counts run) run.sent)) rest.at rest.place stored at in
+      subst (λ l. SendsNext words l sending play) (sym place) (inl (refl, before))
+    where
+      open asked use {stored, setup, at}
+
+  next_run : (asked : AskedPlay old) (last : Option RunPlace)
+      → IsAtRest words asked.paused (stream_of old) asked.setup last
+      → IsNextRun old asked.stored asked.setup asked.paused asked.prepared.run asked.prepared.counts
+      → Next asked.stored asked.setup last asked.prepared.counts asked.prepared.run
+  next_run asked last rest (inl resumed) =
+      rw resumed.counts_are (resumed_next asked last asked.prepared.run
+      (subst (λ p. IsAtRest words p (stream_of old) asked.setup last) resumed.paused_is rest))
+  next_run asked last rest (inr begun) =
+      rw begun.counts_are (rest_next asked asked.paused last asked.prepared.run begun.none_sent rest)
+
+  -- it is admitted
+  at_rest : (asked : AskedPlay old) (kept : ℕ → ℕ) (last : Option RunPlace) → IsLast words old kept last
+      → IsAtRest words asked.paused (stream_of old) asked.setup last
+  at_rest asked kept last was =
+      elim (subst (λ st. IsLastIn words st (stream_of old) (flags_of old) kept last) asked.ready was) [
         | inl torn ↦ absurd (true≢false (sym torn.1 ∙ linked))
         | inr rest ↦ rest
       ]
 
-      admitted : (new : SessionState) (placed : PlacedEntry) (start : ℕ) → placed.entry.answer ≡ Admitted start
-          → new ≡ after_admission (asking_for asked text) placed.place start
-          → Leads old new (Asks (Play asked) (Entered placed) ∷ [])
-      admitted new placed start answer admission =
-          subst (λ n. Leads old n (Asks (Play asked) (Entered placed) ∷ [])) (sym admission) (record {
-            on = λ later follows last was.
-                let play : FilmPlay = record {
-                  start = start;
-                  plan = asked.plan;
-                  keep = kept_in later (total_bytes asked.plan);
-                  before = asked.run.sent;
-                  pieces = run_pieces asked.frames;
-                } in
-                let under : IsLast (after_admission (asking_for asked text) placed.place start) (kept_in later)
-                (Some (run_place asked.frames (play.before + play.keep))) =
-                subst (λ st. IsLastIn words (admitted_in st (Play asked) placed.place start)
-                (record { films = old.films; source = old.source; counts = asked.counts })
-                (record { waits = true; tearing = old.tearing; torn = old.torn }) (kept_in later)
-                (Some (run_place asked.frames (play.before + play.keep)))) (sym ready)
-                (record {
-                  stored = stored;
-                  at = at;
-                  place = ap (λ run. Some (run_place run (play.before + play.keep))) frames;
-                }) in
-                subst (λ a. AreRunsInOrder words last (plays_admitted (Play asked) a later ++ plays_of later))
-                (sym answer) (
-                  asked.frames,
-                  (
-                    refl,
-                    subst (λ run. SendsNext words last run play) (sym frames)
-                        (next_run stored setup paused last asked.run asked.counts at
-                        (at_rest (kept_in (Asks (Play asked) (Entered placed) ∷ later)) last was) next play refl),
-                    follows (Some (run_place asked.frames (play.before + play.keep))) under,
-                  ),
-                );
-            looks = sym (minus_none old.looks_left);
-          })
+  admitted : {plan : List Segment} {placed : PlacedEntry} (asked : AskedPlay old) (new : SessionState)
+      → IsAdmitted (asking_for asked) plan placed new
+      → Leads words old new (Asks (Play asked.prepared) (Entered placed) ∷ [])
+  admitted {placed = placed} asked new is =
+      subst (λ n. Leads words old n (Asks (Play prepared) (Entered placed) ∷ [])) (sym is.new_is) (record {
+        on = λ later follows last was.
+            let play : FilmPlay = record {
+              start = is.start;
+              plan = prepared.plan;
+              keep = kept_in later (total_bytes prepared.plan);
+              before = prepared.run.sent;
+              pieces = run_pieces prepared.frames;
+            } in
+            let under : IsLast words (after_admission (asking_for asked) placed.place is.start) (kept_in later)
+            (Some (run_place prepared.frames (play.before + play.keep))) =
+            subst (λ st. IsLastIn words (admitted_in st (Play prepared) placed.place is.start)
+            (record { films = old.films; source = old.source; counts = prepared.counts })
+            (record { waits = true; tearing = old.tearing; torn = old.torn }) (kept_in later)
+            (Some (run_place prepared.frames (play.before + play.keep)))) (sym ready)
+            (record {
+              stored = stored;
+              at = at;
+              place = ap (λ run. Some (run_place run (play.before + play.keep))) frames;
+            }) in
+            subst (λ a. AreRunsInOrder words last (plays_admitted (Play prepared) a later ++ plays_of later))
+            (sym is.answer) (
+              prepared.frames,
+              (
+                refl,
+                subst (λ run. SendsNext words last run play) (sym frames)
+                    (next_run asked last (at_rest asked (kept_in (Asks (Play prepared) (Entered placed) ∷ later)) last was)
+                    next play refl),
+                follows (Some (run_place prepared.frames (play.before + play.keep))) under,
+              ),
+            );
+        looks = sym (minus_none old.looks_left);
+      })
+    where
+      open asked use {stored, prepared, ready, at, next, frames}
 
-      -- or refused
-      plays : {plan : List Segment} {outcome : Outcome} (new : SessionState)
-          → Answers outcome new (AskPlay plan) (asking_for asked text)
-      plays new (PlayAdmitted {placed = placed} is) = admitted new placed is.start is.answer is.new_is
-      plays new (PlayRefused {placed = placed} is) =
-          rw is.new_is (still (record {
-            none = λ later. ap (λ a. plays_admitted (Play asked) a later) is.answer;
-            kept = λ k. ap (λ c. kept_by c k) is.command;
-          }) (sym (minus_none old.looks_left)) (waiting old.tearing))
-      plays new (PlayFull {more = more} {entries = entries} {live = live} is) =
-          rw is (still (record { none = λ later. refl; kept = λ k. refl }) (sym (minus_none old.looks_left))
-          (waiting old.tearing))
+  -- or refused
+  plays : {plan : List Segment} {outcome : Outcome} (asked : AskedPlay old) (new : SessionState)
+      → Answers outcome new (AskPlay plan) (asking_for asked)
+  plays asked new (PlayAdmitted is) = admitted asked new is
+  plays {plan} asked new (PlayRefused {placed = placed} is) =
+      rw is.new_is (still words (record {
+        asked = Play asked.prepared;
+        outcome = Entered placed;
+        still = record {
+          none = λ later. ap (λ a. plays_admitted (Play asked.prepared) a later) is.answer;
+          kept = λ k. ap (λ c. kept_by c k) is.command;
+          untold = λ made. ap (λ c. booked_by (play_admitted c placed.entry.answer) made) is.command
+              ∙ ap (λ a. booked_by (play_admitted (play_of old.heard plan) a) made) is.answer;
+        };
+      }) (sym (minus_none old.looks_left)) (waiting old.tearing))
+  plays asked new (PlayFull {more = more} {entries = entries} {live = live} is) =
+      rw is (still words (full (Play asked.prepared) more entries live) (sym (minus_none old.looks_left))
+      (waiting old.tearing))
 
-    -- ---- by what a message comes to
+  -- ---- by what a message comes to
 
-    set_up : (new : SessionState) (setup : Setup) → old.state ≡ Init → new.state ≡ Ready setup None
-        → stream_of new ≡ stream_of old → Moves old new
-    set_up new setup init state stream kept last was =
-        let first : (last ≡ None) × (old.counts ≡ nothing_sent) × (old.source ≡ source_of words) =
-        subst (λ st. IsLastIn words st (stream_of old) (flags_of old) kept last) init was in
-        rw (state, stream, first.0) (inr (first.1, first.2))
+  set_up : (new : SessionState) (setup : Setup) → old.state ≡ Init → new.state ≡ Ready setup None
+      → stream_of new ≡ stream_of old → Moves words old new
+  set_up new setup init state stream kept last was =
+      let first : (last ≡ None) × (old.counts ≡ nothing_sent) × (old.source ≡ source_of words) =
+      subst (λ st. IsLastIn words st (stream_of old) (flags_of old) kept last) init was in
+      rw (state, stream, first.0) (inr (first.1, first.2))
 
-    -- a halt keeps what was sent up to a boundary
-    halt_asked : {outcome : Outcome} (setup : Setup) (play : Played) (keep : ℕ) (next : AfterHalt) (text : List ℕ)
-        (new : SessionState) → old.state ≡ Playing setup play → IsLeftBy play.run keep next
-        → Answers outcome new (AskHalt keep) (record old {
-          state = Playing setup (record play { pacer = record play.pacer { keep = keep } });
-          awaited = Halt keep next;
-          text = text;
-        })
-    halt_asked setup play keep next text new playing left (PlayHalted {placed = placed} answered) =
-        let stopping : Played = record play { pacer = record play.pacer { keep = keep } } in
-        let asking : SessionState = record old {
-          state = Playing setup stopping;
-          awaited = Halt keep next;
-          text = text;
-        } in
-        let same : Moves old asking = λ kept last was.
-        subst (λ st. IsLastIn words st (stream_of old) (flags_of old) kept last) playing was in
-        leads_then (moves refl same)
-        (halts (record old { text = text }) setup stopping keep next placed new left answered)
+  halt_asked : {outcome : Outcome} {asking : SessionState} {keep : ℕ} (new : SessionState)
+      → ((placed : PlacedEntry) → IsHaltAnswered asking keep placed new
+      → Leads words old new (Asks asking.awaited (Entered placed) ∷ [])) → Answers outcome new (AskHalt keep) asking
+  halt_asked new leads (PlayHalted {placed = placed} answered) = leads placed answered
 
-    to : (outcome : Outcome) (new : SessionState) {ask command : Ask} {asking is : SessionState} → ask ≡ command
-        → asking ≡ is → Answers outcome new command is → Answers outcome new ask asking
-    to outcome new {ask} {command} {asking} {is} ask_is asking_is answers =
-        rw (ask_is, asking_is) answers
+  message_leads : (ask : Ask) (asking new : SessionState) (outcome : Outcome) → old.awaited ≡ Nothing
+      → RunsAs old ask asking → Answers outcome new ask asking
+  message_leads ask asking new outcome rest (Replies text tearing command is) =
+      rw (command, is)
+      (replies (record old { text = text; waits = true; tearing = tearing }) new rest refl (waiting tearing))
+  message_leads ask asking new outcome rest (SetsUp text setup init command is) =
+      let asked : SessionState = record old { text = text; waits = true; state = Ready setup None } in
+      rw (command, is) (replies asked new rest refl (set_up asked setup init refl refl))
+  message_leads ask asking new outcome rest
+      (AsksPlay stored setup paused prepared text ready at next frames command is) =
+      rw (command, is) (plays (record {
+        stored = stored;
+        setup = setup;
+        paused = paused;
+        prepared = prepared;
+        text = text;
+        ready = ready;
+        at = at;
+        next = next;
+        frames = frames;
+      }) new)
+  message_leads ask asking new outcome rest (Stops setup play keep next text playing left command is) =
+      let stopping : Played = record play { pacer = record play.pacer { keep = keep } } in
+      let same : Moves words old (record old { state = Playing setup stopping; awaited = Halt keep next; text = text }) =
+      λ kept last was. subst (λ st. IsLastIn words st (stream_of old) (flags_of old) kept last) playing was in
+      rw (command, is) (halt_asked new (λ placed answered. leads_then words (moves words refl same)
+      (halts words (record {
+        s = record old { text = text };
+        setup = setup;
+        play = stopping;
+        keep = keep;
+        left = left;
+      }) placed new answered)))
+  message_leads ask asking new outcome rest (AsksLook sequence command is) =
+      rw (command, is) (looks_at sequence old.heard new)
+  message_leads ask asking new outcome rest (AsksOffer plan offers sequence command is) =
+      rw (command, is) (offers_of plan offers sequence new)
 
-    message_leads : (ask : Ask) (asking new : SessionState) (outcome : Outcome) → old.awaited ≡ Nothing
-        → RunsAs old ask asking → Answers outcome new ask asking
-    message_leads ask asking new outcome rest (Replies text tearing command is) =
-        to outcome new command is
-        (replies (record old { text = text; waits = true; tearing = tearing }) new rest refl (waiting tearing))
-    message_leads ask asking new outcome rest (SetsUp text setup init command is) =
-        let asked : SessionState = record old { text = text; waits = true; state = Ready setup None } in
-        to outcome new command is (replies asked new rest refl (set_up asked setup init refl refl))
-    message_leads ask asking new outcome rest
-        (AsksPlay stored setup paused prepared text ready at next frames command is) =
-        to outcome new command is (plays stored setup paused prepared text ready at next frames new)
-    message_leads ask asking new outcome rest (Stops setup play keep next text playing left command is) =
-        to outcome new command is (halt_asked setup play keep next text new playing left)
-    message_leads ask asking new outcome rest (AsksLook sequence command is) =
-        to outcome new command is (looks_at sequence old.heard new)
-    message_leads ask asking new outcome rest (AsksOffer plan offers sequence command is) =
-        to outcome new command is (offers_of plan offers sequence new)
-
+module _ (words : List ℕ) where
   -- ---- elements and events
 
   answered_leads : {old new : Stage} (request : AnsweredRequest old new) → Stands old.session
-      → Leads old.session new.session (asking_of request ∷ [])
+      → Leads words old.session new.session (asking_of request ∷ [])
   answered_leads {old} request stands =
       let heard = replied.heard in
       let made : List StationRequest = Asks heard.asking.awaited outcome ∷ [] in
-      let one : Leads old.session replied.answered made =
-      message_leads old.session replied.next.replied replied.next.torn heard.ask heard.asking replied.answered outcome
-      stands.rest (runs_as old.session message heard.ask heard.asking stands.rest heard.hears)
+      let one : Leads words old.session replied.answered made =
+      message_leads (record { words = words; old = old.session; replied = replied.next.replied; linked = replied.next.torn })
+      heard.ask heard.asking replied.answered outcome stands.rest
+      (runs_as old.session message heard.ask heard.asking stands.rest heard.hears)
       (answers_as heard.ask outcome heard.answered) in
-      rw replied.new_is (leads_then one (moves
+      rw replied.new_is (leads_then words one (moves words
       (reply_keeps (λ (s : SessionState). s.looks_left) (λ s. refl) (can_reply replied.answered) replied.answered)
-      (reply_moves (can_reply replied.answered) replied.answered)))
+      (reply_moves words (can_reply replied.answered) replied.answered)))
     where
       open request use {message, outcome, replied}
 
   abbrev LeadsOn : SessionState → Piece → SessionState → Type 0
-  LeadsOn old piece new = Leads old new piece.askings
+  LeadsOn old piece new = Leads words old new piece.askings
 
   leads_kept : IsKeptStanding LeadsOn
   leads_kept = record {
-    none = λ s. moves refl (moves_none s);
-    joins = λ a b c one two first rest. leads_then first rest;
+    none = λ s. moves words refl (moves_none words s);
+    joins = λ a b c one two first rest. leads_then words first rest;
     request = λ old new request stands. answered_leads request stands;
-    event = λ old opened event due halt comes stands. comes_leads stands comes;
+    event = λ old opened event due halt comes stands. comes_leads words stands comes;
   }
 
 -- what leads through a course
-course_leads : (course : Course) → (let first : Stage = first_stage course.films course.settings course.words in
+course_leads : (course : Course) → (let first : Stage = begin_of course in
     Leads course.words first.session course.last.session (askings_of first course.rounds course.last course.follows))
-course_leads course =
-    standing_course_kept (leads_kept course.words) (first_stage course.films course.settings course.words) course.last
-    course.rounds course.follows (record { rest = refl; sound = tt })
+course_leads course = all_kept (leads_kept course.words) course
 
 pub runs_in_order : (course : Course) → AreRunsInOrder course.words None (course_plays course)
 runs_in_order course =
-    let first : Stage = first_stage course.films course.settings course.words in
+    let first : Stage = begin_of course in
     subst (λ made. Follows course.words first.session made)
     (append-nil (askings_of first course.rounds course.last course.follows))
     ((course_leads course).on [] (λ last is. tt)) None (refl, refl, refl)

@@ -1,30 +1,28 @@
 -- Parts that are sent are the film's bytes with the texts among them. Replies are sent in the order of their requests,
 -- each once, but for the one that waits.
 use Rattle.std.specs.Prelude.{⊤}
-use Rattle.conn.proofs.ReplyPlacement.{film_bytes-append, takings_film}
-use Rattle.std.proofs.Common.{◌≡◌, ℕ, ◌+◌, ◌-◌, ◌≤◌, ◌++◌, List, [], ◌∷◌, length, take, drop, refl, ap, sym, ◌∙◌, arith}
-use Rattle.std.proofs.Common.{◌&&◌, if◌then◌else◌, Bool, true, false, map}
+use Rattle.std.proofs.Common.{◌≡◌, ℕ, ◌+◌, ◌-◌, ◌≤◌, ◌++◌, List, ◌∷◌, length, take, drop, refl, ap, sym, ◌∙◌, arith}
+use Rattle.std.proofs.Common.{◌&&◌, if◌then◌else◌, Bool, true, false, map, []}
 use Rattle.std.proofs.lemmas.List.{append-nil, append_assoc}
 use Rattle.std.proofs.Math.Seq.{drop-append-add, take-append-add}
-use Rattle.conn.specs.Films.{round_parts, rounds_film, rounds_parts, takings_parts}
+use Rattle.conn.specs.Films.{round_parts, rounds_parts, takings_parts}
 use Rattle.conn.specs.EventSteps.{Round, takings_bytes}
-use Rattle.connection_laws.specs.Courses.{rounds_bytes, IsCourseBetween, first_stage, Course, course_film}
+use Rattle.connection_laws.specs.Courses.{rounds_bytes, Course, course_film}
 use Rattle.conn.specs.InputSteps.{Answered, Film, SentPart, Passed, Stage, ElementStep, Text, film_bytes, part_bytes}
-use Rattle.conn.specs.InputSteps.{parts_bytes, Outcome, due_parts, slot_parts}
+use Rattle.conn.specs.InputSteps.{parts_bytes, Outcome, due_parts}
 use Rattle.connection_laws.specs.Replies.{PlacedText, placed_texts, insert_texts, text_of, waiting_reply, course_texts}
 use Rattle.connection_laws.specs.Replies.{course_replies}
 use Rattle.vod_base.specs.Links.{IoEvent}
 use Rattle.session.specs.declared.states.Awaited.{Awaited}
-use Rattle.session.specs.declared.states.Awaited.TheVariants.{Nothing, Halt}
-use Rattle.session.specs.declared.states.AfterHalt.TheVariants.{Done}
+use Rattle.session.specs.declared.states.Awaited.TheVariants.{Nothing}
 use Rattle.session.specs.RequestSteps.{is_answered}
-use Rattle.session.specs.SlotSteps.{can_reply, after_play, is_between, is_done_in, is_sending, is_taken, next_of}
-use Rattle.session.specs.SlotSteps.{sent_due, sent_in, sent_reply, sent_slot, after_slot, step_bytes, stepped_in}
+use Rattle.session.specs.SlotSteps.{can_reply, is_between, sent_due, sent_reply, step_bytes, stepped_in}
 use Rattle.session.specs.SessionStates.{SessionState}
-use Rattle.connection_laws.proofs.FilmBytes.{Stands, turn_after, reply_awaited, IsKeptStanding, standing_course_kept}
-use Rattle.connection_laws.proofs.FilmBytes.{film_written_is, request_turns}
+use Rattle.connection_laws.proofs.CourseSteps.{Stands, turn_after, IsKeptStanding, film_written_is, request_turns}
+use Rattle.connection_laws.proofs.CourseSteps.{all_kept, AsksDone, done_next, slot_asks, film_sent}
 use Rattle.connection_laws.proofs.StationAnswers.{FinishesAs, NothingLeft, DoneHalted, ComesAs, BytesCame, SlotCame}
-use Rattle.connection_laws.proofs.CourseInduction.{Piece, AnsweredRequest}
+use Rattle.connection_laws.proofs.StationAnswers.{SlotTo, SlotSent, SlotIdle, SlotPast, slot_to}
+use Rattle.connection_laws.proofs.CourseInduction.{Piece, AnsweredRequest, begin_of}
 
 -- the first text stands at or after a place
 abbrev IsFrom : ℕ → List PlacedText → Type 0
@@ -68,19 +66,7 @@ parts_woven place (Text text ∷ parts) =
     ap (λ bs. text ++ bs) (parts_woven place parts)
     ∙ ap (λ n. take n film ++ (text ++ insert_texts place (drop n film) texts)) none
 
--- the film's bytes among all parts are those of the slots
-pub film_sent : (old new : Stage) (rounds : List Round) → IsCourseBetween old rounds new
-    → film_bytes (rounds_parts rounds) ≡ rounds_film rounds
-film_sent old new [] follows = refl
-film_sent old new (round ∷ rounds) follows =
-    film_bytes-append (round_parts round) (rounds_parts rounds)
-    ∙ ap (λ bs. bs ++ film_bytes (rounds_parts rounds)) (film_bytes-append round.due (takings_parts round.takings))
-    ∙ ap (λ bs. (film_bytes round.due ++ bs) ++ film_bytes (rounds_parts rounds))
-    (takings_film follows.1.0.opened follows.0 round.takings follows.1.0.takes)
-    ∙ ap (λ bs. bs ++ film_bytes (rounds_parts rounds)) (append-nil (film_bytes round.due))
-    ∙ ap (λ bs. film_bytes round.due ++ bs) (film_sent follows.0 new rounds follows.1.1)
-
--- and all bytes of the parts are those of the rounds
+-- all bytes of the parts are those of the rounds
 parts_bytes_append : (xs ys : List SentPart) → parts_bytes (xs ++ ys) ≡ parts_bytes xs ++ parts_bytes ys
 parts_bytes_append [] ys = refl
 parts_bytes_append (x ∷ xs) ys =
@@ -163,15 +149,11 @@ answered_replies {old} request stands =
 
 -- a play that is done is halted without a reply
 finished_waiting : {s new : SessionState} {awaited : Awaited} {halt : Outcome} → FinishesAs s new awaited halt
-    → next_of s.awaited ≡ Done → waiting_reply new ≡ waiting_reply s
-finished_waiting (NothingLeft is) done = ap waiting_reply is
-finished_waiting {s} (DoneHalted halt) done =
-    ap waiting_reply halt.halts ∙ ap (λ n. if (if is_answered n then true else s.waits) then s.text ∷ [] else []) done
-
-done_next : (done : Bool) (sent : ℕ) (awaited : Awaited) → awaited ≡ Nothing
-    → next_of (if done then Halt sent Done else awaited) ≡ Done
-done_next true sent awaited rest = refl
-done_next false sent awaited rest = ap next_of rest
+    → AsksDone s → waiting_reply new ≡ waiting_reply s
+finished_waiting (NothingLeft is) asks = ap waiting_reply is
+finished_waiting {s} (DoneHalted halt) asks =
+    ap waiting_reply halt.halts ∙ ap (λ n. if (if is_answered n then true else s.waits) then s.text ∷ [] else [])
+    (done_next asks)
 
 reply_waiting : (goes : Bool) (s : SessionState)
     → waiting_reply (if goes then sent_reply s else s) ≡ (if (if goes then false else s.waits) then s.text ∷ [] else [])
@@ -186,35 +168,28 @@ slot_texts false between text one after plain = refl
 slot_texts true true text one after plain = refl
 slot_texts true false text one after plain = refl
 
-slot_cases : (old : SessionState) (slot : ℕ) (taken sending : Bool) → old.awaited ≡ Nothing → let s : SessionState =
-    if taken then (if sending then after_play (sent_slot old slot) else record old { heard = slot }) else old in
-    (texts_in (if taken && sending then due_parts old slot else []) ++ waiting_reply s ≡ waiting_reply old)
-    × (next_of s.awaited ≡ Done)
-slot_cases old slot true true rest =
+sent_texts : {old s : SessionState} {slot : ℕ} {parts : List SentPart} → SlotTo old slot s parts
+    → texts_in parts ++ waiting_reply s ≡ waiting_reply old
+sent_texts {old} {slot = slot} (SlotSent sending later) =
     let between : Bool = is_between (stepped_in true slot old.state) in
-    let goes : Bool = old.waits && between in
-    let due : SessionState = sent_due old slot in
-    let sent : SessionState = sent_slot old slot in (
-      ap (λ ts. texts_in (due_parts old slot) ++ ts) (reply_waiting goes due)
-          ∙ slot_texts old.waits between old.text (step_bytes true slot old.state)
-          (step_bytes false slot (stepped_in true slot old.state)) (step_bytes false slot old.state),
-      done_next (is_done_in sent.state) (sent_in sent.state) sent.awaited (reply_awaited goes due ∙ rest),
-    )
-slot_cases old slot _ _ rest = (refl, ap next_of rest)
+    ap (λ ts. texts_in (due_parts old slot) ++ ts) (reply_waiting (old.waits && between) (sent_due old slot))
+    ∙ slot_texts old.waits between old.text (step_bytes true slot old.state)
+    (step_bytes false slot (stepped_in true slot old.state)) (step_bytes false slot old.state)
+sent_texts (SlotIdle none later) = refl
+sent_texts SlotPast = refl
 
-slot_replies : {new : SessionState} {halt : Outcome} (old : SessionState) (slot : ℕ) → old.awaited ≡ Nothing
-    → FinishesAs (after_slot old slot) new (after_slot old slot).awaited halt
-    → Replies old (texts_in (slot_parts old slot)) [] new
-slot_replies old slot rest finishing =
-    let cases = slot_cases old slot (is_taken old slot) (is_sending old.state) rest in
-    ap (λ ts. texts_in (slot_parts old slot) ++ ts) (finished_waiting finishing cases.1)
-    ∙ cases.0 ∙ sym (append-nil (waiting_reply old))
+slot_replies : {old s new : SessionState} {slot : ℕ} {parts : List SentPart} {halt : Outcome} → old.awaited ≡ Nothing
+    → SlotTo old slot s parts → FinishesAs s new s.awaited halt → Replies old (texts_in parts) [] new
+slot_replies {old} {parts = parts} rest to finishing =
+    ap (λ ts. texts_in parts ++ ts) (finished_waiting finishing (slot_asks to rest)) ∙ sent_texts to
+    ∙ sym (append-nil (waiting_reply old))
 
 comes_replies : {old opened : Stage} {event : IoEvent} {due : List SentPart} {halt : Outcome}
     → ComesAs old opened event due halt → Stands old.session → Replies old.session (texts_in due) [] opened.session
 comes_replies {old} {opened} (BytesCame is) stands =
     waiting_same old.session opened.session (ap (λ (s : Stage). s.session) is)
-comes_replies {old} (SlotCame {slot = slot} finish) stands = slot_replies old.session slot stands.rest finish
+comes_replies {old} (SlotCame {slot = slot} finish) stands =
+    slot_replies stands.rest (slot_to old.session slot) finish
 
 abbrev RepliesOn : SessionState → Piece → SessionState → Type 0
 RepliesOn old piece new = Replies old (texts_in piece.parts) piece.replies new
@@ -239,13 +214,12 @@ pub replies_in_order : (course : Course)
     → map text_of (course_texts course) ++ waiting_reply course.last.session ≡ course_replies course
 replies_in_order course =
     ap (λ ts. ts ++ waiting_reply course.last.session) (texts_placed 0 (rounds_parts course.rounds))
-    ∙ standing_course_kept replies_kept (first_stage course.films course.settings course.words) course.last course.rounds course.follows
-    (record { rest = refl; sound = tt })
+    ∙ all_kept replies_kept course
 
 pub bytes_woven : (course : Course)
     → rounds_bytes course.rounds ≡ insert_texts 0 (course_film course) (course_texts course)
 bytes_woven course =
     rounds_sent course.rounds ∙ parts_woven 0 (rounds_parts course.rounds)
     ∙ ap (λ bs. insert_texts 0 bs (course_texts course))
-    (film_sent (first_stage course.films course.settings course.words) course.last course.rounds course.follows
+    (film_sent (begin_of course) course.last course.rounds course.follows
     ∙ film_written_is course)

@@ -1,7 +1,7 @@
 -- What a client that wishes for a film asks of a connection is played and answered as it wished. The replies to two
 -- requests before a play stand before its film, and those to requests once it was due after it.
-use Rattle.std.proofs.Common.{◌≡◌, ℕ, ◌+◌, ◌<◌, ◌≤◌, List, [], ◌∷◌, drop, ap, ◌∙◌, arith, inl, ◌++◌, length, sum}
-use Rattle.std.proofs.Common.{get_or, codes, refl, sym, subst, slice_index, ◌^◌, map}
+use Rattle.std.proofs.Common.{◌≡◌, ℕ, ◌+◌, ◌<◌, ◌≤◌, List, ◌∷◌, drop, ap, ◌∙◌, arith, inl, ◌++◌, length, sum, get_or}
+use Rattle.std.proofs.Common.{codes, refl, sym, subst, slice_index, ◌^◌, map, []}
 use Rattle.film_frames.specs.Tracks.{IsBoundary, framed_bytes}
 use Rattle.rtsp_replies.specs.Messages.{IsMessage}
 use Rattle.connection_laws.specs.ClientRequests.{IsDueBy, IsAskedFor, AreInRange}
@@ -9,7 +9,7 @@ use Rattle.connection_laws.specs.ReplyPlaces.{AreSentAt, IsBoundaryIn, IsSentAt,
 use Rattle.connection_laws.specs.WholePlays.{AreAfter, HasPlayedWhole, IsWholePlay, film_blocks, playback_of, whole_run}
 use Rattle.connection_laws.specs.Plays.{FilmPlay, due_by, due_of}
 use Rattle.connection_laws.specs.Replies.{PlacedText, placed_text, course_replies, course_texts, waiting_reply, text_of}
-use Rattle.connection_laws.proofs.OnePlay.{AreBefore, IsPlayedWhole, Outlook, rounds_walk, setup_no_play, AreRead}
+use Rattle.connection_laws.proofs.OnePlay.{AreBefore, IsPlayedWhole, Outlook, setup_no_play, AreRead, course_walk}
 use Rattle.connection_laws.proofs.CompleteReplies.{AreMessages, AreTeardowns, AreWhole, texts_whole}
 use Rattle.connection_laws.proofs.TextPlaces.{none_due}
 use Rattle.std.proofs.lemmas.List.{append-nil}
@@ -25,16 +25,16 @@ use Rattle.rtsp_text.specs.Requests.{IsRequest}
 use Rattle.rtsp_text.specs.RequestTexts.{request_head}
 use Rattle.rtsp_text.proofs.MessageUniqueness.{request_once}
 use Rattle.conn.specs.EventSteps.{IsPrefixOf}
-use Rattle.connection_laws.specs.Courses.{Course, course_plays, first_stage, greatest_slot}
+use Rattle.connection_laws.specs.Courses.{Course, course_plays, greatest_slot}
 use Rattle.connection_laws.specs.Requests.{rounds_input}
-use Rattle.connection_laws.proofs.Requests.{AreFound, joined, requests_front, rounds_requests}
+use Rattle.connection_laws.proofs.Requests.{AreFound, joined, requests_front}
 use Rattle.connection_laws.proofs.FilmReading.{run_total}
-use Rattle.connection_laws.proofs.SetupOnly.{AreNoPlays, IsNoPlay, rounds_none, Beginning, IsWaiting}
+use Rattle.connection_laws.proofs.SetupOnly.{AreNoPlays, IsNoPlay, Beginning, IsWaiting, none_played}
 use Rattle.connection_laws.proofs.ReplyOrder.{replies_in_order}
 use Rattle.film_streams.specs.StreamNumbers.{source_of}
 use Rattle.session_laws.proofs.CompleteReplyLemmas.{begins_named}
 use Rattle.connection_laws.proofs.EndToEndMeter.{rest_all}
-use Rattle.connection_laws.proofs.CourseReplies.{replies_sent}
+use Rattle.connection_laws.proofs.CourseSteps.{replies_sent, first_stands}
 use Rattle.connection_laws.proofs.FirstPlays.{IsWished}
 use Rattle.film_streams.specs.Films.{length_ms}
 use Rattle.connection_laws.specs.WatchEnds.{AreAnswers, AreGoodReplies}
@@ -42,6 +42,7 @@ use Rattle.connection_laws.proofs.FilmReplies.{IsFilmAnswer}
 use Rattle.connection_laws.proofs.ReplyReadings.{IsPlayAnswer}
 use Rattle.connection_laws.proofs.WatchedFilms.{IsServed}
 use Rattle.connection_laws.proofs.AcceptedMoments.{AcceptsFrames, EndsInDone}
+use Rattle.connection_laws.proofs.CourseInduction.{begin_of, piece_of, rounds_requests}
 
 first_boundary : (play : FilmPlay) → play.before ≡ 0 → IsBoundaryIn (play ∷ []) 0
 first_boundary play before =
@@ -189,9 +190,9 @@ requests_asked b (one ∷ two ∷ last) more is some =
     }
 
 first_waits : {wish : Wish} {stored : Stored} {course : Course} (asked : IsAskedFor wish stored course)
-    → IsWaiting (beginning_of asked) (first_stage course.films course.settings course.words).session
-first_waits asked = record {
-  stands = record { rest = refl; sound = tt };
+    → IsWaiting (beginning_of asked) (begin_of course).session
+first_waits {course = course} asked = record {
+  stands = first_stands course.films course.settings course.words;
   films_are = refl;
   settings_are = refl;
   source_is = refl;
@@ -215,8 +216,7 @@ requests_of {wish} {stored} {course} asked =
     let heard = subst (IsPrefixOf (rounds_input course.rounds)) all asked.heard in
     let its = requests_front course (all_texts b) found heard in
     requests_asked b (rounds_requests course.rounds) its.0 its.1 (λ none.
-    let first = first_stage course.films course.settings course.words in
-    let empty = rounds_none first course.last course.rounds course.follows (first_waits asked).stands none in
+    let empty = none_played course none in
     let clash : [] ≡ asked.play ∷ asked.others = sym empty ∙ asked.plays in
     let no : ⊥ = cc in no)
 
@@ -230,15 +230,12 @@ outlook_of asked its = record {
 }
 
 pub one_play : {wish : Wish} {stored : Stored} {course : Course} (asked : IsAskedFor wish stored course)
-    → IsPlayedWhole (beginning_of asked) (outlook_of asked (requests_of asked))
-    (first_stage course.films course.settings course.words).session 0 1 (slots_from 0 course.rounds)
-    (course_replies course)
+    → IsPlayedWhole (beginning_of asked) (outlook_of asked (requests_of asked)) (begin_of course).session 1
+    (piece_of course)
 one_play {wish} {stored} {course} asked =
-    rounds_walk (first_stage course.films course.settings course.words) course.last course.rounds course.follows
-    (setup_text wish ∷ []) (record {
+    course_walk course (setup_text wish ∷ []) (record {
       waits = first_waits asked;
       named = begins_named course.films course.settings course.words asked.films;
-      heard = refl;
       setups = (refl, tt);
       fresh = refl;
       requests_are = (requests_of asked).requests_are;

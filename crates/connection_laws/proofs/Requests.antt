@@ -1,7 +1,7 @@
 -- The requests that were processed are those of the input, in order: where a client's requests came up to a place, the
 -- first of them, each complete.
-use Rattle.std.proofs.Common.{◌≡◌, ◌⊎◌, ℕ, ◌<◌, ◌++◌, ◌||◌, ◌==◌, if◌then◌else◌, Bool, true, false, List, [], ◌∷◌, Ok}
-use Rattle.std.proofs.Common.{Err, length, take, drop, map, get_or, refl, ap, sym, ◌∙◌, subst, inl, inr, arith}
+use Rattle.std.proofs.Common.{◌≡◌, ◌⊎◌, ℕ, ◌<◌, ◌++◌, ◌||◌, ◌==◌, if◌then◌else◌, Bool, true, false, List, ◌∷◌, Ok, Err}
+use Rattle.std.proofs.Common.{length, take, drop, map, get_or, refl, ap, sym, ◌∙◌, subst, inl, inr, arith, []}
 use Rattle.std.proofs.lemmas.List.{append-nil, append_assoc, get_or-take, drop_at, take-append-drop, take_at}
 use Rattle.vod_base.specs.Links.{IoEvent, HeardBytes, HeardSlot}
 use Rattle.interleave.specs.Heads.{is_line_end}
@@ -22,6 +22,7 @@ use Rattle.connection_laws.specs.Requests.{rounds_input}
 use Rattle.connection_laws.proofs.ElementPaths.{GoesAll, IsOver, AnEnd, ABlock, Over, Element, RequestElement}
 use Rattle.connection_laws.proofs.ElementPaths.{over_element, path_of, elements_hearings}
 use Rattle.std.specs.Prelude.{⊤}
+use Rattle.connection_laws.proofs.CourseInduction.{begin_of, takings_requests, rounds_requests}
 
 append_by : (other : Bool) (x : List ℕ) (all xs ys : List (List ℕ)) → all ≡ xs ++ ys
     → (if other then all else x ∷ all) ≡ (if other then xs else x ∷ xs) ++ ys
@@ -131,16 +132,6 @@ pub record HeardCut (old : Stage) (messages : List (List ℕ)) : Type 0 where
   pub elements : List (List ℕ)
   pub cut : AreInputElements heard elements old.input
   pub requests : requests_in elements ≡ messages
-
--- the requests that were processed, in order
-abbrev pub takings_requests : List ElementStep → List (List ℕ)
-takings_requests [] = []
-takings_requests (Passed n ∷ takings) = takings_requests takings
-takings_requests (Answered message outcome parts ∷ takings) = message ∷ takings_requests takings
-
-abbrev pub rounds_requests : List Round → List (List ℕ)
-rounds_requests [] = []
-rounds_requests (round ∷ rounds) = takings_requests round.takings ++ rounds_requests rounds
 
 -- the requests that are received are those that are processed
 takings_heard : (old new : Stage) (takings : List ElementStep) (takes : TakesAll old takings new)
@@ -317,7 +308,7 @@ pub requests_front : (course : Course) (texts : List (List ℕ)) → AreFound te
     → IsPrefixOf (rounds_input course.rounds) (joined texts)
     → (more : List (List ℕ)) × (texts ≡ rounds_requests course.rounds ++ more)
 requests_front course texts found front =
-    let first = first_stage course.films course.settings course.words in
+    let first = begin_of course in
     let cuts = follows_cut first course.rounds course.follows
     (record { heard = []; elements = []; cut = refl; requests = refl }) in
     let its = front_cut {input = rounds_input course.rounds} texts cuts.elements course.last.input found front

@@ -7,18 +7,15 @@ use Rattle.session.specs.declared.states.Awaited.{Awaited}
 use Rattle.session.specs.RefusalOrder.{IsReadAs}
 use Rattle.session.specs.SessionStates.{SessionState}
 use Rattle.rtsp_text.specs.declared.requests.Request.{Request}
-use Rattle.conn.specs.EventSteps.{Round, Runs}
-use Rattle.conn.specs.InputSteps.{Answered, Outcome, SentPart, Passed, Stage, ElementStep, TakesAll, Entered}
-use Rattle.conn.specs.InputSteps.{IsAskAnswered, Offered, Takes, Unasked, WasFull}
-use Rattle.connection_laws.specs.Courses.{IsCourseBetween, asked_by, askings_of, takings_askings}
+use Rattle.conn.specs.InputSteps.{Outcome, SentPart, Stage, Entered, IsAskAnswered, Offered, Unasked, WasFull}
+use Rattle.connection_laws.specs.Courses.{Course, course_plays}
 use Rattle.connection_laws.specs.Plays.{StationRequest, plays_begun, plays_of}
-use Rattle.connection_laws.proofs.FilmBytes.{Stands, opened_stands, taken_stands, takes_stands, request_turns}
-use Rattle.connection_laws.proofs.FilmBytes.{request_stands}
+use Rattle.connection_laws.proofs.CourseSteps.{Stands, request_turns, request_stands, stands_by, event_step}
+use Rattle.connection_laws.proofs.CourseSteps.{first_stands}
 use Rattle.session_laws.proofs.PlayInReadyLemmas.{play_heard}
-use Rattle.connection_laws.proofs.Requests.{rounds_requests, takings_requests}
 use Rattle.connection_laws.proofs.BookedPlays.{comes_none}
 use Rattle.connection_laws.proofs.RequestEffects.{Begins, Ends, Starts, Stays, TurnsAs}
-use Rattle.connection_laws.proofs.StationAnswers.{comes_as, nothing_left, ComesAs, BytesCame, SlotCame}
+use Rattle.connection_laws.proofs.StationAnswers.{nothing_left, ComesAs, BytesCame, SlotCame}
 use Rattle.std.proofs.lemmas.Bool.{true≢false}
 use Rattle.vod_base.specs.Links.{IoEvent}
 use Rattle.film_frames.specs.declared.stored_films.Stored.{Stored}
@@ -39,7 +36,7 @@ use Rattle.session.specs.SlotSteps.{after_play, can_reply, is_sending, is_taken,
 use Rattle.session.specs.SlotTransitions.{after_stop}
 use Rattle.connection_laws.proofs.ClientSetups.{IsSettled, settled_by, setup_is}
 use Rattle.session_laws.proofs.SetupLemmas.{IsSetupRequest, SetupHeard, Refused, Settled, setup_heard}
-use Rattle.connection_laws.proofs.CourseInduction.{AnsweredRequest}
+use Rattle.connection_laws.proofs.CourseInduction.{AnsweredRequest, Piece, GoesBack, course_back, rounds_requests}
 
 abbrev pub IsNoPlay : List ℕ → Type 0
 IsNoPlay message = (request : Request) → IsReadAs message request → request.method.now ≢ codes "PLAY"
@@ -47,10 +44,6 @@ IsNoPlay message = (request : Request) → IsReadAs message request → request.
 abbrev pub AreNoPlays : List (List ℕ) → Type 0
 AreNoPlays [] = ⊤
 AreNoPlays (message ∷ messages) = IsNoPlay message × AreNoPlays messages
-
-pub no_plays_rest : (a b : List (List ℕ)) → AreNoPlays (a ++ b) → AreNoPlays b
-no_plays_rest [] b are = are
-no_plays_rest (message ∷ a) b are = no_plays_rest a b are.1
 
 -- what a request that was answered begins: nothing, or the play that it asked for
 turn_none : {old new : SessionState} (asked : Awaited) (outcome : Outcome)
@@ -73,59 +66,23 @@ no_play_begins {old} request stands none =
   where
     open request use {message, outcome, replied}
 
--- neither what is processed asks for a play, nor does one begin after it
-pub record HasNoPlays (old : Stage) (takings : List ElementStep) (more : List StationRequest) : Type 0 where
-  pub stands : Stands old.session
-  pub requests : AreNoPlays (takings_requests takings)
-  pub none : plays_of more ≡ []
+-- where no request that comes asks for a play, no play begins
+abbrev pub NonePlayed : SessionState → Piece → Type 0
+NonePlayed s later = Stands s → AreNoPlays later.requests → plays_of later.askings ≡ []
 
-pub takings_none : (old new : Stage) (takings : List ElementStep) (takes : TakesAll old takings new)
-    (more : List StationRequest) → HasNoPlays old takings more
-    → plays_of (takings_askings old takings new takes ++ more) ≡ []
-takings_none old new [] takes more has = has.none
-takings_none old new (Passed n ∷ takings) takes more has =
-    takings_none takes.0 new takings takes.1.1 more (record {
-      stands = taken_stands old takes.0 (Passed n) takes.1.0 has.stands;
-      requests = has.requests;
-      none = has.none;
-    })
-takings_none old new (Answered message outcome parts ∷ takings) takes more has =
-    let later = takings_askings takes.0 takings new takes.1.1 ++ more in
-    let request : AnsweredRequest old takes.0 =
-    record { message = message; outcome = outcome; parts = parts; replied = takes.1.0 } in
-    let begun = no_play_begins request has.stands has.requests.0 later in
-    ap (λ l. l ++ plays_of later) begun
-    ∙ takings_none takes.0 new takings takes.1.1 more (record {
-      stands = request_stands request has.stands;
-      requests = has.requests.1;
-      none = has.none;
-    })
+pub none_back : GoesBack NonePlayed
+none_back = record {
+  request = λ old new request later none stands are.
+      ap (λ l. l ++ plays_of later.askings) (no_play_begins request stands are.0 later.askings)
+      ∙ none (request_stands request stands) are.1;
+  event = λ old opened event due halt comes later none stands are.
+      ap (λ l. l ++ plays_of later.askings) (comes_none comes later.askings)
+      ∙ none (stands_by (event_step stands comes)) are;
+}
 
-pub no_plays_front : (a b : List (List ℕ)) → AreNoPlays (a ++ b) → AreNoPlays a
-no_plays_front [] b are = tt
-no_plays_front (message ∷ a) b are = (are.0, no_plays_front a b are.1)
-
-pub event_none : {old new : Stage} {round : Round} (runs : Runs old round new) (askings : List StationRequest)
-    → plays_begun (asked_by old.session round.event) round.halt askings ≡ []
-event_none {round} runs askings = comes_none (comes_as round.event round.due round.halt runs.comes) askings
-
-pub rounds_none : (old new : Stage) (rounds : List Round) (follows : IsCourseBetween old rounds new)
-    → Stands old.session → AreNoPlays (rounds_requests rounds) → plays_of (askings_of old rounds new follows) ≡ []
-rounds_none old new [] follows stands are = refl
-rounds_none old new (round ∷ rounds) follows stands are =
-    let runs = follows.1.0 in
-    let opened = opened_stands old follows.0 round runs stands in
-    let more = askings_of follows.0 rounds new follows.1.1 in
-    let later = takings_askings runs.opened round.takings follows.0 runs.takes ++ more in
-    let mid = takes_stands runs.opened follows.0 round.takings runs.takes opened in
-    let front = takings_requests round.takings in
-    let none = rounds_none follows.0 new rounds follows.1.1 mid (no_plays_rest front (rounds_requests rounds) are) in
-    ap (λ l. l ++ plays_of later) (event_none runs later)
-    ∙ takings_none runs.opened follows.0 round.takings runs.takes more (record {
-      stands = opened;
-      requests = no_plays_front front (rounds_requests rounds) are;
-      none = none;
-    })
+pub none_played : (course : Course) → AreNoPlays (rounds_requests course.rounds) → course_plays course ≡ []
+none_played course are =
+    course_back none_back course (λ stands none. refl) (first_stands course.films course.settings course.words) are
 
 -- no play has begun, and a SETUP that was answered 200 settled what the client wished
 abbrev pub IsUnbegun : Wish → List Stored → State → Type 0
@@ -189,13 +146,13 @@ comes_same {old} (SlotCame {slot = slot} finish) rest idle =
     let same = nothing_left finish (ap (λ (part : UnsentPart). part.awaited) on ∙ rest) in
     ap unsent_part same.0 ∙ on
 
-pub opened_waits : {b : Beginning} {old new : Stage} {round : Round} (runs : Runs old round new)
-    → IsWaiting b old.session → IsWaiting b runs.opened.session
-opened_waits {b} {old} {new} {round} runs waits =
-    let on = comes_same (comes_as round.event round.due round.halt runs.comes) waits.stands.rest
+pub event_waits : {b : Beginning} {old opened : Stage} {event : IoEvent} {due : List SentPart} {halt : Outcome}
+    → ComesAs old opened event due halt → IsWaiting b old.session → IsWaiting b opened.session
+event_waits {b} {old} comes waits =
+    let on = comes_same comes waits.stands.rest
     (unsending b.wish b.films old.session.state waits.unbegun) in
     record {
-      stands = opened_stands old new round runs waits.stands;
+      stands = stands_by (event_step waits.stands comes);
       films_are = ap (λ (part : UnsentPart). part.films) on ∙ waits.films_are;
       settings_are = ap (λ (part : UnsentPart). part.settings) on ∙ waits.settings_are;
       source_is = ap (λ (part : UnsentPart). part.source) on ∙ waits.source_is;
@@ -261,31 +218,33 @@ setup_waits {b} {old} {asking} waits (Settled setup text authority reply is asks
     )
 
 -- SETUP has a reply of the session's own
-module _ {b : Beginning} {old new : Stage} {message : List ℕ} {outcome : Outcome} {parts : List SentPart} where
-  pub setup_asked : (takes : Takes old (Answered message outcome parts) new) → message ≡ setup_text b.wish
-      → IsWaiting b old.session → (takes.heard.ask ≡ Reply) × IsWaitingStill b takes.heard.asking
-  setup_asked takes is waits =
-      let heard = takes.heard in
-      let S : List ℕ → Type 0 = λ m.
-      IsSetupRequest m (film_url b.wish ++ codes "/video") (request_head (setup_parts b.wish)) in
-      setup_waits waits
-      (setup_heard old.session message (film_url b.wish ++ codes "/video") (request_head (setup_parts b.wish))
-      heard.ask heard.asking (subst S (sym is) (setup_is b.wish b.wished b.port)) heard.hears)
+pub setup_asked : {b : Beginning} {old new : Stage} (request : AnsweredRequest old new)
+    → request.message ≡ setup_text b.wish → IsWaiting b old.session
+    → (request.replied.heard.ask ≡ Reply) × IsWaitingStill b request.replied.heard.asking
+setup_asked {b} {old} request is waits =
+    let heard = request.replied.heard in
+    let S : List ℕ → Type 0 = λ m.
+    IsSetupRequest m (film_url b.wish ++ codes "/video") (request_head (setup_parts b.wish)) in
+    setup_waits waits
+    (setup_heard old.session request.message (film_url b.wish ++ codes "/video") (request_head (setup_parts b.wish))
+    heard.ask heard.asking (subst S (sym is) (setup_is b.wish b.wished b.port)) heard.hears)
 
-  -- a SETUP was answered, and PLAY is still to come
-  pub answered_waits : Takes old (Answered message outcome parts) new → message ≡ setup_text b.wish
-      → IsWaiting b old.session → IsWaiting b new.session
-  answered_waits takes is waits =
-      let heard = takes.heard in
-      let still = setup_asked takes is waits in
-      let same = reply_same heard.asking heard.ask outcome takes.answered still.0 heard.answered in
-      let after = replied_waits (can_reply takes.answered) takes.answered
-      (subst (IsWaitingStill b) (sym same) still.1) in
-      let its = subst (λ (s : Stage). IsWaitingStill b s.session) (sym takes.new_is) after in
-      record {
-        stands = taken_stands old new (Answered message outcome parts) takes waits.stands;
-        films_are = its.films_are;
-        settings_are = its.settings_are;
-        source_is = its.source_is;
-        unbegun = its.unbegun;
-      }
+-- a SETUP was answered, and PLAY is still to come
+pub answered_waits : {b : Beginning} {old new : Stage} (request : AnsweredRequest old new)
+    → request.message ≡ setup_text b.wish → IsWaiting b old.session → IsWaiting b new.session
+answered_waits {b} request is waits =
+    let heard = replied.heard in
+    let still = setup_asked request is waits in
+    let same = reply_same heard.asking heard.ask outcome replied.answered still.0 heard.answered in
+    let after = replied_waits (can_reply replied.answered) replied.answered
+    (subst (IsWaitingStill b) (sym same) still.1) in
+    let its = subst (λ (s : Stage). IsWaitingStill b s.session) (sym replied.new_is) after in
+    record {
+      stands = request_stands request waits.stands;
+      films_are = its.films_are;
+      settings_are = its.settings_are;
+      source_is = its.source_is;
+      unbegun = its.unbegun;
+    }
+  where
+    open request use {outcome, replied}

@@ -1,6 +1,7 @@
 -- What the station can answer, case by case: to what a session asks after a request, in a slot, and
 -- as its connection ends.
-use Rattle.std.proofs.Common.{◌≡◌, ℕ, ◌^◌, ◌<◌, ◌++◌, List, [], Option, Some, None, refl, ap, sym, ◌∙◌}
+use Rattle.std.proofs.Common.{◌≡◌, ℕ, ◌^◌, ◌<◌, ◌++◌, List, Option, Some, None, refl, ap, sym, ◌∙◌, ◌&&◌, if◌then◌else◌}
+use Rattle.std.proofs.Common.{Bool, nat_lt, nat_le, [], true, false}
 use Rattle.vod_base.specs.Links.{IoEvent, HeardBytes, HeardSlot}
 use Rattle.admission.specs.declared.entries.Answer.{Answer}
 use Rattle.admission.specs.declared.entries.Answer.TheVariants.{Admitted, Halted, Looked, Overflow}
@@ -15,14 +16,15 @@ use Rattle.session.specs.declared.states.AfterHalt.{AfterHalt}
 use Rattle.session.specs.declared.states.Awaited.{Awaited}
 use Rattle.session.specs.declared.states.Awaited.TheVariants.{Nothing, Halt}
 use Rattle.session.specs.RequestSteps.{after_admission, after_full, after_halt, after_look, after_offer, after_overflow}
-use Rattle.session.specs.SlotSteps.{after_slot}
+use Rattle.session.specs.SlotSteps.{after_slot, after_play, is_sending, sent_slot}
 use Rattle.session.specs.SlotTransitions.{IsPlayIn}
 use Rattle.session.specs.SessionStates.{OpenBooking, SessionState, awaited_answer_of}
 use Rattle.session_records.specs.declared.notes.OfferNote.{OfferNote}
 use Rattle.conn.specs.EventSteps.{Comes}
 use Rattle.conn.specs.InputSteps.{IsAskAnswered, IsClosed, IsFinished, IsHaltAnswered, IsHalted, IsLookAnswered}
 use Rattle.conn.specs.InputSteps.{IsPlayAnswered, Outcome, Unasked, Entered, WasFull, Offered, SentPart, Stage}
-use Rattle.conn.specs.InputSteps.{slot_parts, stage}
+use Rattle.conn.specs.InputSteps.{slot_parts, stage, due_parts}
+use Rattle.std.proofs.lemmas.Bool.{and_parts, ltb-true}
 
 -- a play of this plan was admitted
 pub record IsAdmitted (asking : SessionState) (plan : List Segment) (placed : PlacedEntry) (new : SessionState) : Type 0
@@ -201,6 +203,25 @@ pub closes_as : {old new : SessionState} (held : Option OpenBooking) (outcome : 
 closes_as None Unasked is = NothingOpen is
 closes_as (Some booking) outcome is = booking_as (halts_as outcome is)
 closes_as None _ is = absurd is
+
+-- a slot was processed: what is due was sent, or nothing is being sent, or the slot is past
+pub data SlotTo (old : SessionState) (slot : ℕ) : SessionState → List SentPart → Type 0 where
+  SlotSent : is_sending old.state ≡ true → old.heard < slot
+      → SlotTo old slot (after_play (sent_slot old slot)) (due_parts old slot)
+  SlotIdle : is_sending old.state ≡ false → old.heard < slot → SlotTo old slot (record old { heard = slot }) []
+  SlotPast : SlotTo old slot old []
+
+slot_by : {old : SessionState} {slot : ℕ} {taken sending : Bool} → (taken ≡ true → old.heard < slot)
+    → is_sending old.state ≡ sending → SlotTo old slot
+    (if taken then (if sending then after_play (sent_slot old slot) else record old { heard = slot }) else old)
+    (if taken && sending then due_parts old slot else [])
+slot_by {taken = true} {sending = true} later is = SlotSent is (later refl)
+slot_by {taken = true} {sending = false} later is = SlotIdle is (later refl)
+slot_by {taken = false} later is = SlotPast
+
+pub slot_to : (old : SessionState) (slot : ℕ) → SlotTo old slot (after_slot old slot) (slot_parts old slot)
+slot_to old slot =
+    slot_by (λ taken. ltb-true old.heard slot (and_parts (nat_lt old.heard slot) (nat_le slot (2 ^ 62)) taken).0) refl
 
 -- an event came: bytes, or a slot
 pub data ComesAs (old opened : Stage) : IoEvent → List SentPart → Outcome → Type 0 where

@@ -1,33 +1,35 @@
 -- A reply that waits, and where it is sent: what each doing of a connection makes of it.
-use Rattle.std.proofs.Common.{◌≡◌, ℕ, ◌+◌, ◌-◌, ◌<◌, ◌≤◌, ◌++◌, if◌then◌else◌, Bool, true, false, min, List, [], ◌∷◌}
-use Rattle.std.proofs.Common.{Option, Some, None, length, drop, refl, ap, sym, ◌∙◌, subst, inl, inr, arith, eq-eqb}
+use Rattle.std.proofs.Common.{◌≡◌, ℕ, ◌+◌, ◌-◌, ◌<◌, ◌≤◌, ◌++◌, if◌then◌else◌, Bool, true, false, min, List, ◌∷◌}
+use Rattle.std.proofs.Common.{Option, Some, None, length, refl, ap, sym, ◌∙◌, subst, inl, inr, arith, eq-eqb, ◌&&◌}
+use Rattle.std.proofs.Common.{take, []}
 use Rattle.conn.proofs.ReplyPlacement.{boundary_here}
 use Rattle.std.proofs.lemmas.Bool.{cases_lt, true≢false}
-use Rattle.std.proofs.lemmas.List.{append_assoc, length-take, length-drop}
+use Rattle.std.proofs.lemmas.List.{append_assoc}
 use Rattle.film_frames.specs.Tracks.{IsBoundary, IsBoundaryAfter, framed_bytes}
 use Rattle.pacer.specs.Boundaries.{boundary_from}
 use Rattle.pacer.specs.PacerStates.{IsPacerState, PacerState, due_by, first_slots, next_boundary, plan_bytes, at_slot}
 use Rattle.pacer.specs.PacerStates.{stands_at_boundary, step_end, after_step}
 use Rattle.pacer.proofs.PacerStateLemmas.{boundary-from, boundary-is, first-slots-rise}
 use Rattle.plan_cert.specs.PlanSlots.{total_bytes}
-use Rattle.conn.specs.InputSteps.{SentPart, Film, Text}
+use Rattle.conn.specs.InputSteps.{SentPart, Film, Text, film_bytes}
 use Rattle.pacer.proofs.SlotStepLemmas.{most-slots}
 use Rattle.conn.proofs.FilmBytes.{sent_through, slot_is, stopped_is}
 use Rattle.connection_laws.specs.ReplyPlaces.{AreSentAt}
 use Rattle.connection_laws.specs.Plays.{StationRequest, FilmPlay, due_of, kept_in, plays_of}
 use Rattle.connection_laws.specs.Replies.{placed_texts}
-use Rattle.connection_laws.proofs.JoinedFilms.{IsOnTime, play_with, through_time}
+use Rattle.connection_laws.proofs.JoinedFilms.{IsOnTime, play_with, through_time, film_holds, due_now, EndedPlay}
+use Rattle.connection_laws.proofs.JoinedFilms.{stays_due, film_in, spent}
 use Rattle.connection_laws.proofs.TextPlaces.{AreFrom, AreLater, IsAtNext, StandAt, film_at, later_lower, text_at}
-use Rattle.connection_laws.proofs.TextPlaces.{with_pending}
+use Rattle.connection_laws.proofs.TextPlaces.{with_pending, AreSent, ToCome, part_then, UpTo, past_all, PastPlay}
 use Rattle.connection_laws.proofs.RequestEffects.{Ending, Going, Idle, Sends}
+use Rattle.connection_laws.proofs.CourseInduction.{Piece, no_piece, joined}
 
--- what was sent and what is sent from here on, with the slots in which the requests were processed whose replies come
-abbrev pub Stand : Sends → Option ℕ → List StationRequest → ℕ → List ℕ → List SentPart → Type 0
-Stand Idle pending askings end slots parts = AreSentAt end (plays_of askings) (with_pending pending slots)
-    (placed_texts 0 parts)
-Stand (Going p) pending askings end slots parts =
-    StandAt p (kept_in askings (total_bytes p.plan)) pending (plays_of askings) end slots parts
-Stand (Ending p) pending askings end slots parts = StandAt p p.keep pending (plays_of askings) end slots parts
+-- what was sent and what is to come, by what is being sent
+abbrev pub Stand : Sends → List StationRequest → ToCome → Type 0
+Stand Idle askings come = AreSent (plays_of askings) come
+Stand (Going p) askings come =
+    StandAt (play_with p (kept_in askings (total_bytes p.plan))) p.sent (plays_of askings) come
+Stand (Ending p) askings come = StandAt (play_with p p.keep) p.sent (plays_of askings) come
 
 -- how a sending stands: what it sends, the slot that was received last, and the slot in which the request was processed
 -- whose reply is held up
@@ -39,30 +41,77 @@ pub record Point : Type 0 where
 abbrev pub point : Sends → ℕ → Option ℕ → Point
 point sends heard pending = record { sends = sends; heard = heard; pending = pending }
 
-pub record Fits (at : Point) (askings : List StationRequest) (end : ℕ) (slots : List ℕ) (parts : List SentPart) : Type 0
-  where
-    pub from : AreFrom at.heard slots
-    pub later : AreLater at.heard (plays_of askings)
-    pub stand : Stand at.sends at.pending askings end slots parts
+-- the reply that is held up is to come first
+abbrev pub pending_then : Option ℕ → ToCome → ToCome
+pending_then pending come = record come { slots = with_pending pending come.slots }
 
-pub record GoesTo (old new : Point) (made : List StationRequest) (slots : List ℕ) (parts : List SentPart) : Type 0 where
+pub record Fits (at : Point) (askings : List StationRequest) (come : ToCome) : Type 0 where
+  pub from : AreFrom at.heard come.slots
+  pub later : AreLater at.heard (plays_of askings)
+  pub stand : Stand at.sends askings (pending_then at.pending come)
+
+-- what is to come from before a doing on
+abbrev pub piece_then : Piece → ToCome → ToCome
+piece_then piece come =
+    record { end = come.end; slots = piece.slots ++ come.slots; parts = piece.parts ++ come.parts }
+
+pub record GoesTo (old new : Point) (piece : Piece) : Type 0 where
   pub later : old.heard ≤ new.heard
-  pub rest : (askings : List StationRequest) (end : ℕ) (more : List ℕ) (rest : List SentPart) → new.heard ≤ end
-      → Fits new askings end more rest → Fits old (made ++ askings) end (slots ++ more) (parts ++ rest)
+  pub rest : (askings : List StationRequest) (come : ToCome) → new.heard ≤ come.end → Fits new askings come
+      → Fits old (piece.askings ++ askings) (piece_then piece come)
 
-pub goes_then : {a b c : Point} {made asked : List StationRequest} {slots taken : List ℕ} {parts sent : List SentPart}
-    → GoesTo a b made slots parts → GoesTo b c asked taken sent
-    → GoesTo a c (made ++ asked) (slots ++ taken) (parts ++ sent)
-goes_then {a} {b} {c} {made} {asked} {slots} {taken} {parts} {sent} one two = record {
-  later = omega (arith, one.later, two.later);
-  rest = λ askings end more rest on fits.
-      let there = one.rest (asked ++ askings) end (taken ++ more) (sent ++ rest) (omega (arith, two.later, on))
-      (two.rest askings end more rest on fits) in
-      rw (append_assoc made asked askings, append_assoc slots taken more, append_assoc parts sent rest) there;
+pub goes_then : {a b c : Point} {one two : Piece} → GoesTo a b one → GoesTo b c two → GoesTo a c (joined one two)
+goes_then {a} {b} {c} {one} {two} first next = record {
+  later = omega (arith, first.later, next.later);
+  rest = λ askings come on fits.
+      let there = first.rest (two.askings ++ askings) (piece_then two come) (omega (arith, next.later, on))
+      (next.rest askings come on fits) in
+      rw (
+        append_assoc one.askings two.askings askings,
+        append_assoc one.slots two.slots come.slots,
+        append_assoc one.parts two.parts come.parts,
+      ) there;
 }
 
-pub goes_same : (at : Point) → GoesTo at at [] [] []
-goes_same at = record { later = omega arith; rest = λ askings end more rest on fits. fits }
+pub goes_same : (at : Point) → GoesTo at at no_piece
+goes_same at = record { later = omega arith; rest = λ askings come on fits. fits }
+
+-- a play was sent as far as it is kept, and others begin later
+pub over_at : {heard : ℕ} {askings : List StationRequest} {come : ToCome} (ended : EndedPlay heard) → heard ≤ come.end
+    → Fits (point Idle heard None) askings come
+    → StandAt (play_with ended.p ended.keep) ended.p.sent (plays_of askings) come
+over_at {heard} {askings} {come} ended ends fits =
+    let play : FilmPlay = play_with p keep in
+    let plays : List FilmPlay = plays_of askings in
+    let due : due_of come.end play ≡ keep = stays_due ended come.end ends in
+    let now : min (first_slots p.plan (heard + 1 - p.start)) p.keep ≡ p.sent = due_now p heard on in
+    let few : keep ≤ total_bytes p.plan = omega (arith, now, sent, on.pacing.most) in
+    let past : PastPlay = record {
+      play = play;
+      plays = plays;
+      from = heard;
+      end = come.end;
+      ends = ends;
+      over = stays_due ended;
+      begins = fits.later.begins;
+    } in
+    let shifted : AreSentAt come.end (play ∷ plays) come.slots (placed_texts (keep + 0) come.parts) =
+    past_all past 0 come.slots come.parts fits.from fits.stand.texts in
+    record {
+      holds = omega (arith, sent);
+      texts = subst (λ n. AreSentAt come.end (play ∷ plays) come.slots (placed_texts n come.parts)) (omega (arith, sent))
+          shifted;
+      film = (
+        film_bytes come.parts,
+        (
+          ap (λ n. take n (film_in p) ++ film_bytes come.parts) (sent ∙ sym due),
+          fits.stand.film,
+          spent come.end plays play due (film_holds p keep on.pacing few),
+        ),
+      );
+    }
+  where
+    open ended use {p, keep, on, sent}
 
 -- ---- a reply is held up: of the film no boundary was reached since its request was processed
 
@@ -147,21 +196,6 @@ at_here p heard on stands =
 
 -- ---- a slot
 
--- how many bytes are sent up to a place
-size_to : (p : PacerState) (to : ℕ) → IsPacerState p → p.sent ≤ to → to ≤ p.keep → p.sent + length (plan_bytes p p.sent
-    to) ≡ to
-size_to p to is from most =
-    let rest : List ℕ = drop (p.before + p.sent) (framed_bytes p.pieces) in
-    omega (
-      arith,
-      length-take (p.before + to - (p.before + p.sent)) rest,
-      length-drop (p.before + p.sent) (framed_bytes p.pieces),
-      is.whole,
-      is.most,
-      from,
-      most,
-    )
-
 -- the parts of a slot
 abbrev pub parts_in : Bool → Bool → PacerState → ℕ → List ℕ → List SentPart
 parts_in waits between p slot text =
@@ -220,68 +254,89 @@ module _ {p : PacerState} {taken heard : ℕ} where
             ];
       }
 
--- a play on time, a later slot that isn't past the end, and whether it stands at a boundary after it
-pub record SlotOn (p : PacerState) (heard slot end : ℕ) (between : Bool) : Type 0 where
+-- a later slot of a play on time, with the reply that is held up, and whether it stands at a boundary after it
+pub record PlaySlot (waits between : Bool) (pending : Option ℕ) : Type 0 where
+  pub p : PacerState
+  pub heard : ℕ
+  pub slot : ℕ
+  pub text : List ℕ
   pub on : IsOnTime p heard
   pub later : heard < slot
-  pub ends : slot ≤ end
   pub stands : stands_at_boundary (after_step true slot p) ≡ between
+  pub held : IsHeld pending (Going p) waits heard
 
--- what is due of a play up to a slot, and plays that come later
-pub record PlaysDue (p : PacerState) (keep slot : ℕ) (plays : List FilmPlay) : Type 0 where
-  pub due : ((taken : ℕ) → min (first_slots p.plan (taken + 1 - p.start)) p.keep ≤ keep
-      → due_of taken (play_with p keep) ≡ min (first_slots p.plan (taken + 1 - p.start)) p.keep)
-  pub later_plays : AreLater slot plays
+-- what is kept of the play, and what is to come after the slot
+pub record AfterSlot {waits between : Bool} {pending : Option ℕ} (s : PlaySlot waits between pending) : Type 0 where
+  pub keep : ℕ
+  pub plays : List FilmPlay
+  pub come : ToCome
+  pub ends : s.slot ≤ come.end
+  pub due : (taken : ℕ) → min (first_slots s.p.plan (taken + 1 - s.p.start)) s.p.keep ≤ keep
+      → due_of taken (play_with s.p keep) ≡ min (first_slots s.p.plan (taken + 1 - s.p.start)) s.p.keep
+  pub after : AreLater s.slot plays
+  pub stand : StandAt (play_with s.p keep) (due_by s.p s.slot) plays (pending_then (after_slot between pending) come)
 
--- the reply goes out between two parts of the film's bytes
-module _ {p : PacerState} {keep heard slot : ℕ} {plays : List FilmPlay} {end : ℕ} {slots : List ℕ}
-    {parts : List SentPart} where
-  slot_between : {taken : ℕ} (text : List ℕ) → SlotOn p heard slot end true → IsHeld (Some taken) (Going p) true heard
-      → PlaysDue p keep slot plays → StandAt (sent_through slot p) keep None plays end slots parts
-      → StandAt p keep (Some taken) plays end slots (parts_in true true p slot text ++ parts)
-  slot_between {taken} text slot_on held plays_due stand =
-      let q : PacerState = after_step true slot p in
-      let is = on.pacing in
-      let most : due_by p slot ≤ p.keep = due_most p slot is in
-      let last : step_end false (at_slot slot q) ≡ due_by p slot =
-      ap (λ (r : PacerState). r.sent) (slot_is true true slot p is stands) in
-      let next = boundary-from p.pieces (p.before + p.sent) (inside_of p is) in
-      let from : p.sent ≤ q.sent = omega (arith, next.after, is.sent) in
-      let to : q.sent ≤ due_by p slot = omega arith in
-      let rest : StandAt q keep None plays end slots
-      (Film (plan_bytes q q.sent (step_end false (at_slot slot q))) ∷ parts) =
-      rw last (film_at refl (size_to q (due_by p slot) (stopped_is slot p is) to most) stand) in
-      let at = next_reached slot is held.1 stands in
-      let far : (sent_through slot p).sent ≤ first_slots p.plan (end + 1 - p.start) =
-      due_far (sent_through slot p) slot end (through_time p heard slot on later) ends in
-      let reply = text_at
-      at (plays_due.due taken (omega (arith, at.after, rest.holds)))
-      (later_lower taken slot plays (omega (arith, held.1.before, later)) plays_due.later_plays).starts
-      (omega (arith, to, far)) rest in
-      film_at
-      refl (size_to p q.sent is from (omega (arith, to, most))) reply
-    where
-      open slot_on use {on, later, ends, stands}
+-- all that is due
+abbrev due_up : {waits between : Bool} {pending : Option ℕ} (s : PlaySlot waits between pending) → UpTo s.p
+due_up s = record {
+  to = due_by s.p s.slot;
+  pacing = s.on.pacing;
+  from = omega (arith, s.on.pacing.sent);
+  most = due_most s.p s.slot s.on.pacing;
+}
 
-  -- the bytes of a slot, with the reply that waits
-  pub slot_at : {pending : Option ℕ} {between : Bool} (waits : Bool) (text : List ℕ) → SlotOn p heard slot end between
-      → IsHeld pending (Going p) waits heard → PlaysDue p keep slot plays
-      → StandAt (sent_through slot p) keep (after_slot between pending) plays end slots parts
-      → StandAt p keep pending plays end slots (parts_in waits between p slot text ++ parts)
-  slot_at {pending = None} {between} true text slot_on held plays_due stand = absurd (true≢false held)
-  slot_at {pending = None} {between} false text slot_on held plays_due stand =
-      film_at refl
-      (size_to p (due_by p slot) slot_on.on.pacing (omega (arith, slot_on.on.pacing.sent))
-      (due_most p slot slot_on.on.pacing)) stand
-  slot_at {pending = Some taken} {between} false text slot_on held plays_due stand =
-      absurd (true≢false (sym held.0))
-  slot_at {pending = Some taken} {between = false} true text
-      slot_on held plays_due stand =
-      let all : step_end true (at_slot slot p) ≡ due_by p slot =
-      ap (λ (r : PacerState). r.sent) (slot_is true false slot p on.pacing stands) in
-      rw all (film_at refl
-      (size_to p (due_by p slot) on.pacing (omega (arith, on.pacing.sent)) (due_most p slot on.pacing)) stand)
-    where
-      open slot_on use {on, stands}
-  slot_at {pending = Some taken} {between = true} true text slot_on held plays_due stand =
-      slot_between text slot_on held plays_due stand
+-- the bytes of a slot, with the reply that waits
+pub slot_at : {waits between : Bool} {pending : Option ℕ} (s : PlaySlot waits between pending) (next : AfterSlot s)
+    → StandAt (play_with s.p next.keep) s.p.sent next.plays (record {
+      end = next.come.end;
+      slots = with_pending pending next.come.slots;
+      parts = parts_in waits between s.p s.slot s.text ++ next.come.parts;
+    })
+slot_at {waits = true} {pending = None} s next = absurd (true≢false s.held)
+slot_at {waits = false} {pending = Some taken} s next = absurd (true≢false (sym s.held.0))
+slot_at {waits = false} {pending = None} s next = film_at (due_up s) next.stand
+slot_at {waits = true} {between = false} {pending = Some taken} s next =
+    let all : step_end true (at_slot s.slot s.p) ≡ due_by s.p s.slot =
+    ap (λ (r : PacerState). r.sent) (slot_is true false s.slot s.p s.on.pacing s.stands) in
+    rw all (film_at (due_up s) next.stand)
+slot_at {waits = true} {between = true} {pending = Some taken} s next =
+    let q : PacerState = after_step true slot p in
+    let is = on.pacing in
+    let most : due_by p slot ≤ p.keep = due_most p slot is in
+    let last : step_end false (at_slot slot q) ≡ due_by p slot =
+    ap (λ (r : PacerState). r.sent) (slot_is true true slot p is stands) in
+    let near = boundary-from p.pieces (p.before + p.sent) (inside_of p is) in
+    let from : p.sent ≤ q.sent = omega (arith, near.after, is.sent) in
+    let to : q.sent ≤ due_by p slot = omega arith in
+    let rest : StandAt (play_with q keep) q.sent plays
+    (part_then (Film (plan_bytes q q.sent (step_end false (at_slot slot q)))) come) =
+    rw last (film_at {p = q} {keep = keep}
+    (record { to = due_by p slot; pacing = stopped_is slot p is; from = to; most = most }) stand) in
+    let at = next_reached slot is held.1 stands in
+    let far : (sent_through slot p).sent ≤ first_slots p.plan (come.end + 1 - p.start) =
+    due_far (sent_through slot p) slot come.end (through_time p heard slot on later) ends in
+    let reply = text_at {p = q} {keep = keep} (record {
+      slot = taken;
+      text = text;
+      due = min (first_slots p.plan (taken + 1 - p.start)) p.keep;
+      at = at;
+      is = due taken (omega (arith, at.after, rest.holds));
+      after = (later_lower taken slot plays (omega (arith, held.1.before, later)) after).starts;
+      far = omega (arith, to, far);
+    }) rest in
+    film_at {p = p} {keep = keep}
+    (record { to = q.sent; pacing = is; from = from; most = omega (arith, to, most) }) reply
+  where
+    open s use {p, heard, slot, text, on, later, stands, held}
+    open next use {keep, plays, come, ends, due, after, stand}
+
+-- whether a reply is held up then
+pub slot_held : {waits between : Bool} {pending : Option ℕ} (s : PlaySlot waits between pending)
+    → IsHeld (after_slot between pending) (Going (sent_through s.slot s.p)) (if waits && between then false else waits)
+    s.slot
+slot_held {waits = true} {pending = None} s = absurd (true≢false s.held)
+slot_held {waits = false} {pending = Some taken} s = absurd (true≢false (sym s.held.0))
+slot_held {waits = true} {between = false} {pending = Some taken} s =
+    (refl, still_held s.on.pacing s.later s.held.1 s.stands)
+slot_held {waits = true} {between = true} {pending = Some taken} s = refl
+slot_held {waits = false} {pending = None} s = refl

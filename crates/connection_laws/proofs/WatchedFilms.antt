@@ -2,7 +2,7 @@
 -- stream refuses none of it, and comes to `Done` once all of it came.
 use Rattle.std.proofs.Common.{ℕ, ◌-◌, List, [], ◌∷◌, ◌++◌, Some, ap, subst, sym, ◌∙◌, ◌≡◌, length, take, Ok, refl, inl}
 use Rattle.std.proofs.Common.{inr, ◌+◌, ◌^◌, ◌<◌, map, arith}
-use Rattle.vod_base.specs.Links.{IoEvent}
+use Rattle.vod_base.specs.Links.{IoEvent, HeardBytes, sends}
 use Rattle.film_frames.specs.declared.stored_films.Stored.{Stored}
 use Rattle.film_frames.specs.Tracks.{framed_bytes}
 use Rattle.conn.specs.EventSteps.{rounds_doings, IsPrefixOf}
@@ -96,24 +96,41 @@ quits_done {at = at} {end = end} wish s heard place (AtMoment moment next given)
       | inr gives ↦ gives-once wish at.history moment given gives
     ]
 
--- the answer after the last bytes
-record IsStopped (wish : Wish) (rounds : List Round) (mid : WatchStage) (bytes : List ℕ) (end : WatchEnd)
-    (sent out : List ℕ) : Type 0 where
-  runs : RunsAll (stage [] []) rounds mid
-  stops : StopsAt wish (stage mid.history (mid.rest ++ bytes)) end sent out
+-- a watching, as its link exposed it
+pub record Watching (wish : Wish) : Type 0 where
+  pub end : WatchEnd
+  pub heard : List IoEvent
+  pub out : List ℕ
+  pub client : HasCourse wish end (Some []) (Some heard) (Some []) (Some out)
 
-stopped_done : {wish : Wish} {rounds : List Round} {mid : WatchStage} {bytes : List ℕ} {end : WatchEnd}
-    {sent out : List ℕ} (s : FilmStream) (count : ℕ) → IsDecided end
-    → (stopped : IsStopped wish rounds mid bytes end sent out)
-    → rounds_heard rounds ++ bytes ≡ take count (framed_bytes (all_of s.x)) → (watched : Watched) × (end ≡ Done watched)
-stopped_done {wish} {rounds} {mid} {bytes} {end} s count decided stopped front =
-    let stops = stopped.stops in
+-- what it received is a prefix of a film's stream
+pub record IsReceived (s : FilmStream) (heard : List IoEvent) : Type 0 where
+  pub count : ℕ
+  pub front : heard_bytes heard ≡ take count (framed_bytes (all_of s.x))
+
+-- the answer after the last bytes
+record IsStopped {wish : Wish} (w : Watching wish) : Type 0 where
+  bytes : List ℕ
+  sent : List ℕ
+  out : List ℕ
+  stops : StopsAt wish (stage w.client.mid.history (w.client.mid.rest ++ bytes)) w.end sent out
+  doings : w.client.last_doings ≡ HeardBytes bytes ∷ sends sent
+
+stopped_done : {wish : Wish} {s : FilmStream} (w : Watching wish) → IsReceived s w.heard → IsStopped w → IsDecided w.end
+    → (watched : Watched) × (w.end ≡ Done watched)
+stopped_done {wish} {s} w received stopped decided =
+    let mid = w.client.mid in
+    let rounds = w.client.rounds in
+    let front : rounds_heard rounds ++ bytes ≡ take received.count (framed_bytes (all_of s.x)) =
+    ap (λ l. rounds_heard rounds ++ l) (sym (last_bytes bytes sent doings)) ∙ sym (told_bytes w.client) ∙ received.front in
     let heard = heard_more bytes stops.elements
-    (heard_all [] (stage [] []) mid rounds heard_none stopped.runs) stops.cut stops.good in
+    (heard_all [] (stage [] []) mid rounds heard_none w.client.runs) stops.cut stops.good in
     let at = stage (history_after mid.history (events_of_elements stops.elements)) stops.mid in
     let place : IsPlaceIn (all_of s.x) heard.elements at.rest =
-    place_in (all_of s.x) count s.x.alone heard.cut front in
+    place_in (all_of s.x) received.count s.x.alone heard.cut front in
     (watched_in wish at.history, quits_done wish s heard place (stops-quit decided stops).quits)
+  where
+    open stopped use {bytes, sent, stops, doings}
 
 -- an answer that is `Done` where the events decide it refuses nothing
 refuses_none : (end : WatchEnd) → (IsDecided end → (watched : Watched) × (end ≡ Done watched)) → RefusesNothing end
@@ -123,38 +140,32 @@ refuses_none _ decided = tt
 
 -- ---- the entire watching
 
--- what a client received is a prefix of a film's stream
-pub record IsReceived (s : FilmStream) (heard : List IoEvent) : Type 0 where
-  pub count : ℕ
-  pub front : heard_bytes heard ≡ take count (framed_bytes (all_of s.x))
+-- where nothing came last, the rounds are all that came
+last_none : {wish : Wish} (w : Watching wish) → heard_bytes w.client.last_doings ≡ []
+    → rounds_heard w.client.rounds ≡ heard_bytes w.heard
+last_none w none =
+    sym (told_bytes w.client ∙ ap (λ l. rounds_heard w.client.rounds ++ l) none
+    ∙ append-nil (rounds_heard w.client.rounds))
 
--- how it ended after these rounds, of which so many bytes came
-module _ {wish : Wish} {end : WatchEnd} {doings : List IoEvent} {out : List ℕ} (s : FilmStream) (count : ℕ)
-    (mid : WatchStage) (rounds : List Round) (runs : RunsAll (stage [] []) rounds mid) where
-  ended : Ends wish mid (length rounds) end doings out
-      → rounds_heard rounds ++ heard_bytes doings ≡ take count (framed_bytes (all_of s.x)) → RefusesNothing end
-  ended (inl (inl lost, none, empty)) front = subst RefusesNothing (sym lost.0) tt
-  ended (inl (inr spent, none, empty)) front = subst RefusesNothing (sym spent.0) tt
-  ended (inr (inl early)) front = subst RefusesNothing (sym early.0) tt
-  ended (inr (inr (bytes, (sent, (stops, doings_are, few))))) front =
-      let mine : rounds_heard rounds ++ bytes ≡ take count (framed_bytes (all_of s.x)) =
-      ap (λ l. rounds_heard rounds ++ l) (sym (last_bytes bytes sent doings_are)) ∙ front in
-      refuses_none end (λ decided. stopped_done s count decided (record { runs = runs; stops = stops }) mine)
+-- how it ended
+ended : {wish : Wish} {s : FilmStream} (w : Watching wish) → IsReceived s w.heard
+    → Ends wish w.client.mid (length w.client.rounds) w.end w.client.last_doings w.client.last_out → RefusesNothing w.end
+ended w received (inl (inl lost, none, empty)) = subst RefusesNothing (sym lost.0) tt
+ended w received (inl (inr spent, none, empty)) = subst RefusesNothing (sym spent.0) tt
+ended w received (inr (inl early)) = subst RefusesNothing (sym early.0) tt
+ended w received (inr (inr (bytes, (sent, (stops, doings, few))))) =
+    refuses_none w.end (stopped_done w received
+    (record { bytes = bytes; sent = sent; out = _; stops = stops; doings = doings }))
 
-  ended_done : IsDecided end → Ends wish mid (length rounds) end doings out
-      → rounds_heard rounds ++ heard_bytes doings ≡ take count (framed_bytes (all_of s.x))
-      → (rounds_heard rounds ++ [] ≡ rounds_heard rounds ++ heard_bytes doings → ⊥)
-      → (watched : Watched) × (end ≡ Done watched)
-  ended_done decided (inl (inl lost, none, empty)) front waits =
-      absurd (subst IsDecided lost.0 decided)
-  ended_done decided (inl (inr spent, none, empty)) front waits =
-      absurd (waits (ap (λ l. rounds_heard rounds ++ heard_bytes l) (sym none)))
-  ended_done decided (inr (inl early)) front waits =
-      absurd (waits (ap (λ l. rounds_heard rounds ++ heard_bytes l) (sym early.2)))
-  ended_done decided (inr (inr (bytes, (sent, (stops, doings_are, few))))) front waits =
-      let mine : rounds_heard rounds ++ bytes ≡ take count (framed_bytes (all_of s.x)) =
-      ap (λ l. rounds_heard rounds ++ l) (sym (last_bytes bytes sent doings_are)) ∙ front in
-      stopped_done s count decided (record { runs = runs; stops = stops }) mine
+ended_done : {wish : Wish} {s : FilmStream} (w : Watching wish) → IsReceived s w.heard → IsDecided w.end
+    → (rounds_heard w.client.rounds ≡ heard_bytes w.heard → ⊥)
+    → Ends wish w.client.mid (length w.client.rounds) w.end w.client.last_doings w.client.last_out
+    → (watched : Watched) × (w.end ≡ Done watched)
+ended_done w received decided waits (inl (inl lost, none, empty)) = absurd (subst IsDecided lost.0 decided)
+ended_done w received decided waits (inl (inr spent, none, empty)) = absurd (waits (last_none w (ap heard_bytes none)))
+ended_done w received decided waits (inr (inl early)) = absurd (waits (last_none w (ap heard_bytes early.2)))
+ended_done w received decided waits (inr (inr (bytes, (sent, (stops, doings, few))))) =
+    stopped_done w received (record { bytes = bytes; sent = sent; out = _; stops = stops; doings = doings }) decided
 
 -- ---- all of it came
 
@@ -202,19 +213,15 @@ pub record IsReceivedWhole (s : FilmStream) (heard : List IoEvent) : Type 0 wher
   pub received : IsReceived s heard
   pub whole : heard_bytes heard ≡ framed_bytes (all_of s.x)
 
-module _ {wish : Wish} {end : WatchEnd} {heard : List IoEvent} {out : List ℕ} (s : FilmStream)
-    (client : HasCourse wish end (Some []) (Some heard) (Some []) (Some out)) where
-  pub refuses_nothing : IsReceived s heard → RefusesNothing end
-  refuses_nothing received =
-      ended s received.count client.mid client.rounds client.runs client.ends (sym (told_bytes client) ∙ received.front)
+pub refuses_nothing : {wish : Wish} {s : FilmStream} (w : Watching wish) → IsReceived s w.heard → RefusesNothing w.end
+refuses_nothing w received = ended w received w.client.ends
 
-  pub comes_to_done : IsReceivedWhole s heard → IsDecided end → (watched : Watched) × (end ≡ Done watched)
-  comes_to_done received decided =
-      let told = told_bytes client in
-      ended_done s received.received.count client.mid client.rounds client.runs decided client.ends
-      (sym told ∙ received.received.front)
-      (λ none. not_waiting client.mid client.rounds s received.last received.others received.later client.runs
-      (sym (append-nil (rounds_heard client.rounds)) ∙ none ∙ sym told ∙ received.whole))
+pub comes_to_done : {wish : Wish} (s : FilmStream) (w : Watching wish) → IsReceivedWhole s w.heard → IsDecided w.end
+    → (watched : Watched) × (w.end ≡ Done watched)
+comes_to_done s w received decided =
+    ended_done w received.received decided
+    (λ all. not_waiting w.client.mid w.client.rounds s received.last received.others received.later w.client.runs
+    (all ∙ received.whole)) w.client.ends
 
 -- an entire film that a course played, with the clauses on its frames
 pub record IsServed (wish : Wish) (stored : Stored) (course : Course) : Type 0 where
@@ -242,21 +249,20 @@ film_stream {wish} {stored} {course} is =
       done = is.done;
     }
 
-module _ {wish : Wish} {stored : Stored} {course : Course} {heard : List IoEvent} where
-  received : (is : IsServed wish stored course) → IsPrefixOf (heard_bytes heard)
-      (sent_bytes (rounds_doings course.rounds)) → IsReceived (film_stream is) heard
-  unfolding film_stream
-  received is front =
-      let played = is.played in
-      let x = stream_of wish stored course played in
-      let its = front_again (heard_bytes heard) (sent_bytes (rounds_doings course.rounds)) (framed_bytes (all_of x))
-      front.0 front.1.1 (all_sent wish stored course played) in
-      record { count = its.count; front = its.is }
+received : {wish : Wish} {stored : Stored} {course : Course} {heard : List IoEvent} (is : IsServed wish stored course)
+    → IsPrefixOf (heard_bytes heard) (sent_bytes (rounds_doings course.rounds)) → IsReceived (film_stream is) heard
+unfolding film_stream
+received {wish} {stored} {course} {heard} is front =
+    let played = is.played in
+    let x = stream_of wish stored course played in
+    let its = front_again (heard_bytes heard) (sent_bytes (rounds_doings course.rounds)) (framed_bytes (all_of x))
+    front.0 front.1.1 (all_sent wish stored course played) in
+    record { count = its.count; front = its.is }
 
-  pub watched_unrefused : {end : WatchEnd} {out : List ℕ} → (is : IsServed wish stored course)
-      → HasCourse wish end (Some []) (Some heard) (Some []) (Some out) → IsPrefixOf (heard_bytes heard)
-      (sent_bytes (rounds_doings course.rounds)) → RefusesNothing end
-  watched_unrefused is client front = refuses_nothing (film_stream is) client (received is front)
+pub watched_unrefused : {wish : Wish} {stored : Stored} {course : Course} (is : IsServed wish stored course)
+    (w : Watching wish) → IsPrefixOf (heard_bytes w.heard) (sent_bytes (rounds_doings course.rounds))
+    → RefusesNothing w.end
+watched_unrefused is w front = refuses_nothing w (received is front)
 
 -- ---- `Done`
 
@@ -270,43 +276,42 @@ third_of : (later : List PlacedText) → length later + 2 ≡ 3 → HasThird lat
 third_of [] three = absurd (omega (arith, three))
 third_of (last ∷ others) three = record { last = last; others = others; are = refl }
 
-module _ {wish : Wish} {stored : Stored} {course : Course} {end : WatchEnd} {heard : List IoEvent} {out : List ℕ} where
-  comes_done : (is : IsServed wish stored course) → HasCourse wish end (Some []) (Some heard) (Some []) (Some out)
-      → IsDelivered course heard → IsDecided end → IsPrefixOf (heard_bytes heard)
-      (sent_bytes (rounds_doings course.rounds)) → (watched : Watched) × (end ≡ Done watched)
-  unfolding film_stream
-  comes_done is client delivered decided front =
-      let played = is.played in
-      let three : length played.later + 2 ≡ 3 =
-      omega (arith, delivered.replies, ap (λ (l : List PlacedText). length l) played.texts) in
-      let third = third_of played.later three in
-      let L : List ℕ → List ℕ → List (List ℕ) → Type 0 = λ first second later.
-      later ≡ third.last.text ∷ map text_of third.others in
-      comes_to_done (film_stream is) client (record {
-        last = third.last.text;
-        others = map text_of third.others;
-        later = stream_replies wish stored course played L (ap (λ l. map text_of l) third.are);
-        received = received is front;
-        whole = delivered.all ∙ all_sent_whole played third.last third.others third.are;
-      }) decided
+comes_done : {wish : Wish} {stored : Stored} {course : Course} (is : IsServed wish stored course) (w : Watching wish)
+    → IsDelivered course w.heard → IsDecided w.end
+    → IsPrefixOf (heard_bytes w.heard) (sent_bytes (rounds_doings course.rounds))
+    → (watched : Watched) × (w.end ≡ Done watched)
+unfolding film_stream
+comes_done {wish} {stored} {course} is w delivered decided front =
+    let played = is.played in
+    let three : length played.later + 2 ≡ 3 =
+    omega (arith, delivered.replies, ap (λ (l : List PlacedText). length l) played.texts) in
+    let third = third_of played.later three in
+    let L : List ℕ → List ℕ → List (List ℕ) → Type 0 = λ first second later.
+    later ≡ third.last.text ∷ map text_of third.others in
+    comes_to_done (film_stream is) w (record {
+      last = third.last.text;
+      others = map text_of third.others;
+      later = stream_replies wish stored course played L (ap (λ l. map text_of l) third.are);
+      received = received is front;
+      whole = delivered.all ∙ all_sent_whole played third.last third.others third.are;
+    }) decided
 
-  pub watched_done : IsWish wish → (is : IsServed wish stored course)
-      → (client : HasCourse wish end (Some []) (Some heard) (Some []) (Some out)) → IsDelivered course heard
-      → IsDecided end
-      → IsCarried (rounds_doings course.rounds) heard is.played.play.start (first_slot client.mid.history)
-      → EndsWhole wish stored end out
-  watched_done wished is client delivered decided carried =
-      let done = comes_done is client delivered decided carried.front in
-      let W : WatchEnd → Type 0 = λ e. (its : HasCourse wish e (Some []) (Some heard) (Some []) (Some out))
-      → IsCarried (rounds_doings course.rounds) heard is.played.play.start (first_slot its.mid.history)
-      → HasWatchedWhole wish stored done.0 out in
-      let whole : W (Done done.0) = λ its there.
-      watched_whole wish stored done.0 out (record {
-        course = course;
-        heard = heard;
-        wished = wished;
-        played = is.played;
-        client = its;
-        carried = there;
-      }) in
-      (done.0, (done.1, subst W (sym done.1) whole client carried))
+pub watched_done : {wish : Wish} {stored : Stored} {course : Course} (is : IsServed wish stored course)
+    (w : Watching wish) → IsWish wish → IsDelivered course w.heard → IsDecided w.end
+    → IsCarried (rounds_doings course.rounds) w.heard is.played.play.start (first_slot w.client.mid.history)
+    → EndsWhole wish stored w.end w.out
+watched_done {wish} {stored} {course} is w wished delivered decided carried =
+    let done = comes_done is w delivered decided carried.front in
+    let W : WatchEnd → Type 0 = λ e. (its : HasCourse wish e (Some []) (Some w.heard) (Some []) (Some w.out))
+    → IsCarried (rounds_doings course.rounds) w.heard is.played.play.start (first_slot its.mid.history)
+    → HasWatchedWhole wish stored done.0 w.out in
+    let whole : W (Done done.0) = λ its there.
+    watched_whole wish stored done.0 w.out (record {
+      course = course;
+      heard = w.heard;
+      wished = wished;
+      played = is.played;
+      client = its;
+      carried = there;
+    }) in
+    (done.0, (done.1, subst W (sym done.1) whole w.client carried))

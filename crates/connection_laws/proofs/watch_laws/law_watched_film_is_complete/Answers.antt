@@ -36,31 +36,29 @@ returns-clause-asked c = λ wish stored course watched heard out asked client ca
 
 pub returns-clause-unrefused : goal.returns-clause-unrefused
 returns-clause-unrefused c = λ wish stored course end heard out played small replies client front.
-    watched_unrefused {wish = wish} {stored = stored} {course = course} {heard = heard} {end = end} {out = out}
-    (record {
+    watched_unrefused (record {
       played = played;
       small = small;
       replies = replies;
       accepts = c.law_whole_film_ends_in_done.ensures.frame;
       done = c.law_whole_film_ends_in_done.ensures.done;
-    }) client front
+    }) (record { end = end; heard = heard; out = out; client = client }) front
 
 pub returns-clause-done : goal.returns-clause-done
 returns-clause-done c = λ wish stored course end heard out wished played small replies client carried delivered decided.
-    watched_done {wish = wish} {stored = stored} {course = course} {end = end} {heard = heard} {out = out} wished
-    (record {
+    watched_done (record {
       played = played;
       small = small;
       replies = replies;
       accepts = c.law_whole_film_ends_in_done.ensures.frame;
       done = c.law_whole_film_ends_in_done.ensures.done;
-    }) client delivered decided carried
+    }) (record { end = end; heard = heard; out = out; client = client }) wished delivered decided carried
 
 pub returns-clause-asked_unrefused : goal.returns-clause-asked_unrefused
 returns-clause-asked_unrefused c = λ wish stored course end heard out asked range client front.
-    watched_unrefused {wish = wish} {stored = stored} {course = course} {heard = heard} {end = end} {out = out}
+    watched_unrefused
     (asked_served asked range c.law_whole_film_ends_in_done.ensures.frame c.law_whole_film_ends_in_done.ensures.done)
-    client front
+    (record { end = end; heard = heard; out = out; client = client }) front
 
 pub returns-clause-asked_done : goal.returns-clause-asked_done
 returns-clause-asked_done c = λ wish stored course end heard out asked range client carried delivered decided.
@@ -68,8 +66,7 @@ returns-clause-asked_done c = λ wish stored course end heard out asked range cl
     c.law_whole_film_ends_in_done.ensures.done in
     let C : FilmPlay → Type 0 = λ play.
     IsCarried (rounds_doings course.rounds) heard play.start (first_slot client.mid.history) in
-    watched_done {wish = wish} {stored = stored} {course = course} {end = end} {heard = heard} {out = out}
-    asked.wished served client delivered decided
+    watched_done served (record { end = end; heard = heard; out = out; client = client }) asked.wished delivered decided
     (subst C (asked_play asked range c.law_whole_film_ends_in_done.ensures.frame
     c.law_whole_film_ends_in_done.ensures.done) carried)
 

@@ -1,0 +1,549 @@
+-- What a connection sends in its course: the film's bytes that are due of its plays, and each reply at its place.
+use Rattle.std.proofs.lemmas.List.{append-nil}
+use Rattle.std.proofs.Common.{◌≡◌, ℕ, ◌≤◌, ◌++◌, ◌&&◌, ◌==◌, if◌then◌else◌, Bool, true, false, nat_lt, List, ◌∷◌, refl}
+use Rattle.std.proofs.Common.{ap, sym, ◌∙◌, subst, arith, Option, Some, None, ◌+◌, inl, inr, ◌⊎◌, []}
+use Rattle.conn.proofs.PlayProgress.{reply_state, reply_heard}
+use Rattle.std.proofs.lemmas.Bool.{eqb-true, true≢false, and_parts}
+use Rattle.vod_base.specs.Links.{IoEvent}
+use Rattle.pacer.specs.PacerStates.{PacerState, is_done, IsPacerState}
+use Rattle.plan_cert.specs.PlanSlots.{total_bytes}
+use Rattle.admission.specs.Makers.{PlacedEntry}
+use Rattle.session.specs.declared.states.Awaited.{Awaited}
+use Rattle.session.specs.declared.states.Awaited.TheVariants.{Nothing, Halt}
+use Rattle.session.specs.declared.states.AfterHalt.TheVariants.{Done}
+use Rattle.session.specs.declared.states.Play.{Play as Played}
+use Rattle.film_streams.specs.declared.setups.Setup.{Setup}
+use Rattle.session.specs.declared.states.State.{State}
+use Rattle.session.specs.declared.states.State.TheVariants.{Playing, Stopping, Init, Ready}
+use Rattle.session.specs.SlotSteps.{can_reply, after_play, halted_in, is_between, is_sending, sent_due, sent_reply}
+use Rattle.session.specs.SlotSteps.{sent_slot, stepped_in, next_of, finished_in}
+use Rattle.session.specs.SessionStates.{SessionState}
+use Rattle.conn.specs.Films.{rounds_film, rounds_parts, round_parts, takings_parts}
+use Rattle.conn.specs.EventSteps.{Round, Runs}
+use Rattle.conn.specs.InputSteps.{Outcome, Unasked, Entered, SentPart, Stage, IsHaltAnswered, after_reply, film_bytes}
+use Rattle.conn.specs.InputSteps.{Text, reply_parts}
+use Rattle.connection_laws.specs.Courses.{IsCourseBetween, askings_of, first_stage, greatest_slot, Course, course_plays}
+use Rattle.connection_laws.specs.Courses.{course_film}
+use Rattle.connection_laws.specs.Plays.{StationRequest, Asks, plays_admitted, plays_begun, kept_by, kept_in, kept_with}
+use Rattle.connection_laws.specs.Plays.{plays_of, AreOver, FilmPlay}
+use Rattle.connection_laws.proofs.RequestEffects.{Ends, Going, Idle, IsAfter, Starts, Stays, TurnsAs, sends_in}
+use Rattle.connection_laws.proofs.RequestEffects.{turns_as, Sends, Ending}
+use Rattle.connection_laws.proofs.StationAnswers.{FinishesAs, NothingLeft, DoneHalted, ComesAs, BytesCame, SlotCame}
+use Rattle.connection_laws.proofs.StationAnswers.{SlotTo, SlotSent, SlotIdle, SlotPast, slot_to}
+use Rattle.connection_laws.proofs.CourseInduction.{IsKeptByCourse, Piece, course_kept, course_piece, event_piece}
+use Rattle.connection_laws.proofs.CourseInduction.{joined, no_piece, request_piece, course_heard, AnsweredRequest}
+use Rattle.connection_laws.proofs.CourseInduction.{parts_piece, asked_piece, begin_of, piece_of, round_kept}
+use Rattle.session.specs.RequestSteps.{is_answered}
+use Rattle.connection_laws.specs.ReplyPlaces.{AreSentAt, slots_from}
+use Rattle.connection_laws.specs.Replies.{course_texts}
+use Rattle.connection_laws.proofs.Slots.{sound_waits, turn_sound, state_after, waits_after}
+use Rattle.connection_laws.proofs.ReplyBoundaries.{Replying, replying, turn_goes, turn_piece, slot_moves, still_fits}
+use Rattle.connection_laws.proofs.ReplyBoundaries.{unasked}
+use Rattle.connection_laws.proofs.WaitingReplies.{GoesTo, IsHeld, Point, Stand, goes_same, goes_then, point, over_at}
+use Rattle.connection_laws.proofs.WaitingReplies.{due_here}
+use Rattle.connection_laws.proofs.JoinedFilms.{IsSound, IsOnTime, play_with, film_is, film_now, film_over_all}
+use Rattle.connection_laws.proofs.TextPlaces.{AreLater, AreSent, StandAt, due_first, from_lower, later_lower}
+use Rattle.connection_laws.proofs.TextPlaces.{with_pending}
+use Rattle.conn.proofs.ReplyPlacement.{film_bytes-append, takings_film}
+use Rattle.film_frames.specs.declared.stored_films.Stored.{Stored}
+use Rattle.film_streams.specs.declared.settings.Settings.{Settings}
+
+-- what is sent is on time, and a reply that waits is held up since its request was processed
+pub record IsPaced (s : SessionState) : Type 0 where
+  pub sound : IsSound (sends_in s.state) s.waits s.heard
+  pub pending : Option ℕ
+  pub held : IsHeld pending (sends_in s.state) s.waits s.heard
+
+-- between doings nothing is awaited either
+pub record Stands (session : SessionState) : Type 0 where
+  pub rest : session.awaited ≡ Nothing
+  pub paced : IsPaced session
+
+abbrev pub first_stands : (films : List Stored) (settings : Settings) (words : List ℕ)
+    → Stands (first_stage films settings words).session
+first_stands films settings words =
+    record { rest = refl; paced = record { sound = tt; pending = None; held = refl } }
+
+abbrev pub point_of : {s : SessionState} → IsPaced s → Point
+point_of {s} paced = point (sends_in s.state) s.heard paced.pending
+
+-- what a doing makes of a session, and of what is sent
+pub record Move {old : SessionState} (from : IsPaced old) (new : SessionState) (piece : Piece) : Type 0 where
+  pub after : IsPaced new
+  pub goes_on : GoesTo (point_of from) (point_of after) piece
+
+-- so it is between doings
+pub record Step {old : SessionState} (from : Stands old) (new : SessionState) (piece : Piece) : Type 0 where
+  pub rest : new.awaited ≡ Nothing
+  pub move : Move from.paced new piece
+
+abbrev pub stands_by : {old new : SessionState} {from : Stands old} {piece : Piece} → Step from new piece → Stands new
+stands_by step = record { rest = step.rest; paced = step.move.after }
+
+-- ---- a request
+
+pub turn_after : (old new : SessionState) (asked : Awaited) (outcome : Outcome) → TurnsAs old asked outcome new
+    → IsAfter old new
+turn_after old new asked outcome (Stays same after still) = after
+turn_after old new asked outcome (Starts after begins) = after
+turn_after old new asked outcome (Ends after halts) = after
+
+pub request_turns : {old new : Stage} (request : AnsweredRequest old new) → Stands old.session
+    → TurnsAs old.session request.replied.heard.asking.awaited request.outcome request.replied.answered
+request_turns {old} request stands =
+    turns_as old.session request.message request.outcome request.replied.answered request.replied.heard stands.rest
+
+unheld : (pending : Option ℕ) (sends : Sends) (waits : Bool) (heard : ℕ) → IsHeld pending sends waits heard
+    → waits ≡ false → pending ≡ None
+unheld None sends waits heard held none = refl
+unheld (Some slot) Idle waits heard held none = absurd held
+unheld (Some slot) _ waits heard held none = absurd (true≢false (sym held.0 ∙ none))
+
+-- the reply to a request goes out at once, or it waits
+record ReplyMove (s : SessionState) (goes : Bool) : Type 0 where
+  after : IsPaced (if goes then sent_reply s else s)
+  goes_on : GoesTo (point (sends_in s.state) s.heard (Some s.heard)) (point_of after)
+      (parts_piece (if goes then Text s.text ∷ [] else []))
+
+reply_as : (s : SessionState) (goes : Bool) → s.waits ≡ true → Replying s.state goes s.heard s.text → ReplyMove s goes
+reply_as s true waits reply = record {
+  after = record { sound = reply.sound; pending = reply.after; held = reply.held };
+  goes_on = reply.goes_on;
+}
+reply_as s false waits reply = record {
+  after = record {
+    sound = subst (λ w. IsSound (sends_in s.state) w s.heard) (sym waits) reply.sound;
+    pending = reply.after;
+    held = subst (λ w. IsHeld reply.after (sends_in s.state) w s.heard) (sym waits) reply.held;
+  };
+  goes_on = reply.goes_on;
+}
+
+reply_move : (s : SessionState) → s.waits ≡ true → IsSound (sends_in s.state) true s.heard → ReplyMove s (can_reply s)
+reply_move s waits sound =
+    let can : is_between s.state ≡ can_reply s = sym (ap (λ w. w && is_between s.state) waits) in
+    subst (ReplyMove s) can
+    (reply_as s (is_between s.state) waits (replying s.state (is_between s.state) s.heard s.text sound refl))
+
+pub reply_waits : (goes : Bool) (s : SessionState) → (if goes then sent_reply s else s).waits
+    ≡ (if goes then false else s.waits)
+reply_waits true s = refl
+reply_waits false s = refl
+
+pub reply_awaited : (goes : Bool) (s : SessionState) → (if goes then sent_reply s else s).awaited ≡ s.awaited
+reply_awaited true s = refl
+reply_awaited false s = refl
+
+request_step : {old new : Stage} (request : AnsweredRequest old new) (stands : Stands old.session)
+    → Step stands new.session (request_piece request)
+request_step {old} {new} request stands =
+    let asked : Awaited = replied.heard.asking.awaited in
+    let s : SessionState = replied.answered in
+    let turns = request_turns request stands in
+    let after = turn_after old.session s asked outcome turns in
+    let waited = sound_waits (sends_in old.session.state) old.session.waits true old.session.heard stands.paced.sound
+    refl in
+    let sound : IsSound (sends_in s.state) true s.heard = rw after.heard (turn_sound waited turns) in
+    let reply = reply_move s after.waits sound in
+    let none : stands.paced.pending ≡ None =
+    unheld stands.paced.pending (sends_in old.session.state) old.session.waits old.session.heard stands.paced.held
+    replied.next.replied in
+    let first : GoesTo (point_of stands.paced) (point (sends_in s.state) s.heard (Some s.heard))
+    (turn_piece asked outcome old.session.heard) =
+    rw (none, after.heard) (turn_goes turns) in
+    let both = goes_then first reply.goes_on in
+    let all : Step stands (after_reply s) (record {
+      requests = message ∷ [];
+      askings = Asks asked outcome ∷ [];
+      slots = old.session.heard ∷ [];
+      parts = reply_parts s;
+      replies = s.text ∷ [];
+    }) = record {
+      rest = reply_awaited (can_reply s) s ∙ after.awaited;
+      move = record { after = reply.after; goes_on = record { later = both.later; rest = both.rest } };
+    } in
+    rw (replied.parts_are, replied.new_is) all
+  where
+    open request use {message, outcome, replied}
+
+-- ---- what a slot asks for
+
+-- a session's play is done, and its halt, which keeps what was sent, is asked for
+pub record DonePlay (s : SessionState) : Type 0 where
+  pub setup : Setup
+  pub play : Played
+  pub keep : ℕ
+  pub state_is : s.state ≡ Playing setup play
+  pub ended : play.pacer.sent ≡ play.pacer.keep
+  pub sent : keep ≡ play.pacer.sent
+  pub asks : s.awaited ≡ Halt keep Done
+
+-- nothing, or that
+abbrev pub AsksDone : SessionState → Type 0
+AsksDone s = (s.awaited ≡ Nothing) ⊎ DonePlay s
+
+done_or : {s : SessionState} (setup : Setup) (play : Played) (done : Bool) → is_done play.pacer ≡ done
+    → s.state ≡ Playing setup play → s.awaited ≡ (if done then Halt play.pacer.sent Done else Nothing) → AsksDone s
+done_or setup play true done is asks = inr (record {
+  setup = setup;
+  play = play;
+  keep = play.pacer.sent;
+  state_is = is;
+  ended = eqb-true play.pacer.sent play.pacer.keep
+      (and_parts (nat_lt 0 play.pacer.passed) (play.pacer.sent == play.pacer.keep) done).1;
+  sent = refl;
+  asks = asks;
+})
+done_or setup play false done is asks = inl asks
+
+asks_in : {s : SessionState} (state : State) → s.state ≡ state → s.awaited ≡ finished_in state Nothing → AsksDone s
+asks_in (Playing setup play) is asks = done_or setup play (is_done play.pacer) refl is asks
+asks_in _ is asks = inl asks
+
+pub slot_asks : {old s : SessionState} {slot : ℕ} {parts : List SentPart} → SlotTo old slot s parts
+    → old.awaited ≡ Nothing → AsksDone s
+slot_asks {old} {slot = slot} (SlotSent sending later) rest =
+    let goes : Bool = old.waits && is_between (stepped_in true slot old.state) in
+    asks_in (sent_slot old slot).state refl
+    (ap (finished_in (sent_slot old slot).state) (reply_awaited goes (sent_due old slot) ∙ rest))
+slot_asks (SlotIdle none later) rest = rest_asks rest
+  where
+    rest_asks : {s : SessionState} → s.awaited ≡ Nothing → AsksDone s
+    rest_asks is = inl is
+slot_asks SlotPast rest = inl rest
+
+-- then no reply comes of it
+pub done_next : {s : SessionState} → AsksDone s → next_of s.awaited ≡ Done
+done_next (inl rest) = ap next_of rest
+done_next (inr done) = ap next_of done.asks
+
+halted_idle : {s : SessionState} (done : DonePlay s) → sends_in (halted_in s.state s.awaited) ≡ Idle
+halted_idle {s} done =
+    ap (λ (t : State). sends_in (halted_in t s.awaited)) done.state_is
+    ∙ ap (λ (a : Awaited). sends_in (halted_in (Playing done.setup done.play) a)) done.asks
+
+-- no reply is held up where a play is done
+done_unheld : {p : PacerState} (heard : ℕ) (pending : Option ℕ) (waits : Bool) → IsPacerState p → p.sent ≡ p.keep
+    → IsHeld pending (Going p) waits heard → pending ≡ None
+done_unheld heard None waits is done held = refl
+done_unheld {p} heard (Some slot) waits is done held =
+    let past = held.1.none (p.before + p.keep) is.ends (omega arith) in absurd (omega (arith, past, done))
+
+-- it is halted with all that was sent
+done_move : {s new : SessionState} {placed : PlacedEntry} (paced : IsPaced s) (done : DonePlay s)
+    → IsHaltAnswered s done.keep placed new → Move paced new (asked_piece (Asks s.awaited (Entered placed)))
+done_move {s} {new} {placed} paced done halted =
+    let p : PacerState = play.pacer in
+    let on = (subst (λ st. IsSound (sends_in st) s.waits s.heard) is paced.sound).0 in
+    let held : IsHeld paced.pending (Going p) s.waits s.heard =
+    subst (λ st. IsHeld paced.pending (sends_in st) s.waits s.heard) is paced.held in
+    let none : paced.pending ≡ None = done_unheld s.heard paced.pending s.waits on.pacing ended held in
+    let waits : s.waits ≡ false = subst (λ o. IsHeld o (Going p) s.waits s.heard) none held in
+    let sends : sends_in new.state ≡ Idle =
+    ap (λ (n : SessionState). sends_in n.state) halted.halts ∙ halted_idle done in
+    let heard : new.heard ≡ s.heard = ap (λ (n : SessionState). n.heard) halted.halts in
+    let later : new.waits ≡ false =
+    ap (λ (n : SessionState). n.waits) halted.halts
+    ∙ ap (λ (a : Awaited). if is_answered (next_of a) then true else s.waits) asks ∙ waits in
+    let goes : GoesTo (point (Going p) s.heard None) (point Idle s.heard None)
+    (asked_piece (Asks s.awaited (Entered placed))) = record {
+      later = omega arith;
+      rest = λ askings come ends fits.
+          let kept : kept_with (Entered placed) (kept_in askings (total_bytes p.plan)) ≡ keep =
+          ap (λ c. kept_by c (kept_in askings (total_bytes p.plan))) halted.command in
+          let begun : plays_begun s.awaited (Entered placed) askings ≡ [] =
+          ap (λ a. plays_admitted a placed.entry.answer askings) asks in
+          record {
+            from = fits.from;
+            later = subst (λ ps. AreLater s.heard (ps ++ plays_of askings)) (sym begun) fits.later;
+            stand = rw (kept, begun) (over_at (record { p = p; keep = keep; on = on; sent = sym sent }) ends fits);
+          };
+    } in
+    record {
+      after = record { sound = rw sends tt; pending = None; held = later };
+      goes_on = rw (none, ap sends_in is, sends, heard) goes;
+    }
+  where
+    open done use {play, keep, state_is as is, ended, sent, asks}
+
+-- nothing is asked
+quiet_move : {s new : SessionState} (paced : IsPaced s) (asked : Awaited) → new ≡ s
+    → Move paced new (asked_piece (Asks asked Unasked))
+quiet_move paced asked same =
+    rw same (record {
+      after = paced;
+      goes_on = record {
+        later = omega arith;
+        rest = λ askings come on fits. still_fits (unasked asked) fits;
+      };
+    })
+
+finish_move : {s new : SessionState} {awaited : Awaited} {halt : Outcome} (paced : IsPaced s) → AsksDone s
+    → s.awaited ≡ awaited → FinishesAs s new awaited halt → Move paced new (asked_piece (Asks s.awaited halt))
+finish_move {s} paced asks is (NothingLeft same) = quiet_move paced s.awaited same
+finish_move paced (inl rest) is (DoneHalted {keep = keep} {next = next} halted) =
+    let no : Nothing ≡ Halt keep next = sym rest ∙ is in absurd (let clash : ⊥ = cc in clash)
+finish_move {s} {new} paced (inr done) is (DoneHalted {keep = keep} {next = next} {placed = placed} halted) =
+    let same : Halt done.keep Done ≡ Halt keep next = sym done.asks ∙ is in
+    let size : keep ≡ done.keep = cc in
+    done_move paced done (subst (λ k. IsHaltAnswered s k placed new) size halted)
+
+finish_rest : {s new : SessionState} {awaited : Awaited} {halt : Outcome} → FinishesAs s new awaited halt
+    → s.awaited ≡ awaited → new.awaited ≡ Nothing
+finish_rest (NothingLeft same) is = ap (λ (n : SessionState). n.awaited) same ∙ is
+finish_rest (DoneHalted halted) is = ap (λ (n : SessionState). n.awaited) halted.halts
+
+-- ---- a slot
+
+-- nothing is being sent
+idle_none : (state : State) (pending : Option ℕ) (waits : Bool) (heard : ℕ) → is_sending state ≡ false
+    → IsHeld pending (sends_in state) waits heard → (pending ≡ None) × (sends_in state ≡ Idle)
+idle_none Init (Some slot) waits heard none held = absurd held
+idle_none (Ready setup paused) (Some slot) waits heard none held = absurd held
+idle_none (Playing setup play) pending waits heard none held = absurd (true≢false none)
+idle_none (Stopping setup stop) pending waits heard none held = absurd (true≢false none)
+idle_none _ None waits heard none held = (refl, refl)
+
+idle_later : (from to : ℕ) → from ≤ to → GoesTo (point Idle from None) (point Idle to None) no_piece
+idle_later from to less = record {
+  later = less;
+  rest = λ askings come on fits. record {
+    from = from_lower from to come.slots less fits.from;
+    later = later_lower from to (plays_of askings) less fits.later;
+    stand = fits.stand;
+  };
+}
+
+slot_move : {old s : SessionState} {slot : ℕ} {parts : List SentPart} (stands : Stands old) → SlotTo old slot s parts
+    → Move stands.paced s (parts_piece parts)
+slot_move {old} {slot = slot} stands (SlotSent sending later) =
+    let s : SessionState = after_play (sent_slot old slot) in
+    let goes : Bool = old.waits && is_between (stepped_in true slot old.state) in
+    let due : SessionState = sent_due old slot in
+    let state : s.state ≡ state_after old.waits old.state slot = reply_state goes due in
+    let heard : s.heard ≡ slot = reply_heard goes due in
+    let waits : s.waits ≡ waits_after old.waits old.state slot = reply_waits goes due in
+    let moves = slot_moves {waits = old.waits} old.state (record {
+      heard = old.heard;
+      slot = slot;
+      text = old.text;
+      pending = stands.paced.pending;
+      sound = stands.paced.sound;
+      held = stands.paced.held;
+      later = later;
+    }) sending in
+    record {
+      after = record {
+        sound = rw (state, waits, heard) moves.sound;
+        pending = moves.after;
+        held = rw (state, waits, heard) moves.held;
+      };
+      goes_on = rw (state, heard) moves.goes_on;
+    }
+slot_move {old} {slot = slot} stands (SlotIdle none later) =
+    let paced = stands.paced in
+    let idle = idle_none old.state paced.pending old.waits old.heard none paced.held in
+    let waits : old.waits ≡ false =
+    subst (λ o. IsHeld o (sends_in old.state) old.waits old.heard) idle.0 paced.held in
+    record {
+      after = record { sound = rw idle.1 tt; pending = None; held = waits };
+      goes_on = rw (idle.0, idle.1) (idle_later old.heard slot (omega (arith, later)));
+    }
+slot_move stands SlotPast = record { after = stands.paced; goes_on = goes_same (point_of stands.paced) }
+
+slot_step : {old s new : SessionState} {slot : ℕ} {parts : List SentPart} {halt : Outcome} (stands : Stands old)
+    → SlotTo old slot s parts → FinishesAs s new s.awaited halt
+    → Step stands new (record (asked_piece (Asks s.awaited halt)) { parts = parts })
+slot_step {s = s} {new} {parts = parts} {halt} stands to finishing =
+    let first = slot_move stands to in
+    let next = finish_move first.after (slot_asks to stands.rest) refl finishing in
+    record {
+      rest = finish_rest finishing refl;
+      move = subst (λ ps. Move stands.paced new (record (asked_piece (Asks s.awaited halt)) { parts = ps }))
+          (append-nil parts) (record { after = next.after; goes_on = goes_then first.goes_on next.goes_on });
+    }
+
+pub event_step : {old opened : Stage} {event : IoEvent} {due : List SentPart} {halt : Outcome} (stands : Stands old.session)
+    → ComesAs old opened event due halt → Step stands opened.session (event_piece old.session event due halt)
+event_step stands (BytesCame is) = record {
+  rest = ap (λ (s : Stage). s.session.awaited) is ∙ stands.rest;
+  move = quiet_move stands.paced Nothing (ap (λ (s : Stage). s.session) is);
+}
+event_step {old} stands (SlotCame {slot = slot} finish) = slot_step stands (slot_to old.session slot) finish
+
+-- ---- all that a connection does
+
+abbrev StepsOn : SessionState → Piece → SessionState → Type 0
+StepsOn old piece new = (stands : Stands old) → Step stands new piece
+
+steps_kept : IsKeptByCourse StepsOn
+steps_kept = record {
+  none = λ s stands. record {
+    rest = stands.rest;
+    move = record { after = stands.paced; goes_on = goes_same (point_of stands.paced) };
+  };
+  joins = λ a b c one two first rest stands.
+      let step = first stands in
+      let next = rest (stands_by step) in
+      record {
+        rest = next.rest;
+        move = record { after = next.move.after; goes_on = goes_then step.move.goes_on next.move.goes_on };
+      };
+  request = λ old new request stands. request_step request stands;
+  event = λ old opened event due halt comes stands. event_step stands comes;
+}
+
+course_step : (old new : Stage) (rounds : List Round) (follows : IsCourseBetween old rounds new)
+    (stands : Stands old.session) → Step stands new.session (course_piece old rounds new follows)
+course_step = course_kept steps_kept
+
+-- ---- so a session stands between doings
+
+pub request_stands : {old new : Stage} → AnsweredRequest old new → Stands old.session → Stands new.session
+request_stands request stands = stands_by (request_step request stands)
+
+pub round_stands : (old new : Stage) (round : Round) → Runs old round new → Stands old.session → Stands new.session
+round_stands old new round runs stands = stands_by (round_kept steps_kept old new round runs stands)
+
+pub course_stands : (old new : Stage) (rounds : List Round) → IsCourseBetween old rounds new → Stands old.session
+    → Stands new.session
+course_stands old new rounds follows stands = stands_by (course_step old new rounds follows stands)
+
+-- ---- one induction from a session that stands
+
+-- a relation between a session, what is done, and the session after it, which each request and each event satisfies
+-- where the session stands
+pub record IsKeptStanding (R : SessionState → Piece → SessionState → Type 0) : Type 0 where
+  pub none : (s : SessionState) → R s no_piece s
+  pub joins : (a b c : SessionState) (one two : Piece) → R a one b → R b two c → R a (joined one two) c
+  pub request : (old new : Stage) (request : AnsweredRequest old new) → Stands old.session
+      → R old.session (request_piece request) new.session
+  pub event : (old opened : Stage) (event : IoEvent) (due : List SentPart) (halt : Outcome)
+      → ComesAs old opened event due halt → Stands old.session
+      → R old.session (event_piece old.session event due halt) opened.session
+
+module _ {R : SessionState → Piece → SessionState → Type 0} (kept : IsKeptStanding R) where
+  abbrev FromStanding : SessionState → Piece → SessionState → Type 0
+  FromStanding old piece new = Stands old → Stands new × R old piece new
+
+  kept_from_standing : IsKeptByCourse FromStanding
+  kept_from_standing = record {
+    none = λ s stands. (stands, kept.none s);
+    joins = λ a b c one two first rest stands.
+        let mid = first stands in
+        let last = rest mid.0 in (last.0, kept.joins a b c one two mid.1 last.1);
+    request = λ old new request stands. (request_stands request stands, kept.request old new request stands);
+    event = λ old opened event due halt comes stands.
+        (stands_by (event_step stands comes), kept.event old opened event due halt comes stands);
+  }
+
+  pub standing_course_kept : (old new : Stage) (rounds : List Round) (follows : IsCourseBetween old rounds new)
+      → Stands old.session → R old.session (course_piece old rounds new follows) new.session
+  standing_course_kept old new rounds follows stands =
+      (course_kept kept_from_standing old new rounds follows stands).1
+
+  pub all_kept : (course : Course) → R (begin_of course).session (piece_of course) course.last.session
+  all_kept course =
+      standing_course_kept (begin_of course) course.last course.rounds course.follows
+      (first_stands course.films course.settings course.words)
+
+-- ---- where a course ends
+
+-- a play, or the rest of one, with the reply that waits
+end_at : (p : PacerState) (waits : Bool) (heard : ℕ) (pending : Option ℕ) → IsOnTime p heard
+    → IsHeld pending (Going p) waits heard
+    → StandAt (play_with p p.keep) p.sent []
+    (record { end = heard; slots = with_pending pending []; parts = [] })
+end_at p waits heard None on held = record {
+  holds = omega (arith, on.pacing.sent, on.pacing.due);
+  texts = tt;
+  film = film_now p heard on;
+}
+end_at p waits heard (Some slot) on held =
+    let play : FilmPlay = play_with p p.keep in
+    let here = due_here p heard on in
+    let first = due_first play [] slot tt in
+    let last = due_first play [] heard tt in
+    record {
+      holds = omega (arith, on.pacing.sent, on.pacing.due);
+      texts = (
+        λ place boundary due. elim boundary [
+          | inl own ↦
+              let past = held.1.none (p.before + place) own.1 (omega (arith, first, due)) in
+              omega (arith, past, last, here)
+          | inr over ↦
+              let past = held.1.none (p.before + p.keep) on.pacing.ends (omega arith) in
+              omega (arith, past, last, here, over.0)
+        ],
+        tt,
+      );
+      film = film_now p heard on;
+    }
+
+end_stand : (sends : Sends) (waits : Bool) (heard : ℕ) (pending : Option ℕ) → IsSound sends waits heard
+    → IsHeld pending sends waits heard
+    → Stand sends [] (record { end = heard; slots = with_pending pending []; parts = [] })
+end_stand Idle waits heard None sound held = record { texts = tt; film = refl }
+end_stand Idle waits heard (Some slot) sound held = absurd held
+end_stand (Going p) waits heard pending sound held =
+    subst (λ k. StandAt (play_with p k) p.sent []
+    (record { end = heard; slots = with_pending pending []; parts = [] })) sound.1
+    (end_at p waits heard pending sound.0 held)
+end_stand (Ending p) waits heard None sound held = end_at p waits heard None sound.0 held
+end_stand (Ending p) waits heard (Some slot) sound held = end_at p waits heard (Some slot) sound.0 held
+
+-- the film's bytes among all parts are those of the slots
+pub film_sent : (old new : Stage) (rounds : List Round) → IsCourseBetween old rounds new
+    → film_bytes (rounds_parts rounds) ≡ rounds_film rounds
+film_sent old new [] follows = refl
+film_sent old new (round ∷ rounds) follows =
+    film_bytes-append (round_parts round) (rounds_parts rounds)
+    ∙ ap (λ bs. bs ++ film_bytes (rounds_parts rounds)) (film_bytes-append round.due (takings_parts round.takings))
+    ∙ ap (λ bs. (film_bytes round.due ++ bs) ++ film_bytes (rounds_parts rounds))
+    (takings_film follows.1.0.opened follows.0 round.takings follows.1.0.takes)
+    ∙ ap (λ bs. bs ++ film_bytes (rounds_parts rounds)) (append-nil (film_bytes round.due))
+    ∙ ap (λ bs. film_bytes round.due ++ bs) (film_sent follows.0 new rounds follows.1.1)
+
+-- in its course a connection sends what is due of its plays, and each reply at its place
+course_sent : (course : Course) → AreSent (course_plays course) (record {
+  end = greatest_slot course.rounds;
+  slots = slots_from 0 course.rounds;
+  parts = rounds_parts course.rounds;
+})
+course_sent course =
+    let first : Stage = begin_of course in
+    let made : List StationRequest = askings_of first course.rounds course.last course.follows in
+    let slots : List ℕ = slots_from 0 course.rounds in
+    let parts : List SentPart = rounds_parts course.rounds in
+    let new : SessionState = course.last.session in
+    let step = course_step first course.last course.rounds course.follows
+    (first_stands course.films course.settings course.words) in
+    let paced = step.move.after in
+    let fits = step.move.goes_on.rest [] (record { end = new.heard; slots = []; parts = [] }) (omega arith) (record {
+      from = tt;
+      later = record { starts = tt; begins = refl };
+      stand = end_stand (sends_in new.state) new.waits new.heard paced.pending paced.sound paced.held;
+    }) in
+    let last : new.heard ≡ greatest_slot course.rounds =
+    course_heard first course.last course.rounds course.follows ∙ omega arith in
+    subst (λ t. AreSent (plays_of made) (record { end = t; slots = slots; parts = parts })) last
+    (subst (λ ms. AreSent (plays_of ms) (record { end = new.heard; slots = slots; parts = parts })) (append-nil made)
+    (subst (λ ss. AreSent (plays_of (made ++ [])) (record { end = new.heard; slots = ss; parts = parts }))
+    (append-nil slots)
+    (subst (λ ps. AreSent (plays_of (made ++ [])) (record { end = new.heard; slots = slots ++ []; parts = ps }))
+    (append-nil parts) fits.stand)))
+
+pub replies_sent : (course : Course) → AreSentAt (greatest_slot course.rounds) (course_plays course)
+    (slots_from 0 course.rounds) (course_texts course)
+replies_sent course = (course_sent course).texts
+
+pub film_written_is : (course : Course) → rounds_film course.rounds ≡ course_film course
+film_written_is course =
+    sym (film_sent (begin_of course) course.last course.rounds course.follows)
+    ∙ film_is (greatest_slot course.rounds) (course_plays course) (film_bytes (rounds_parts course.rounds))
+    (course_sent course).film
+
+pub plays_over : (course : Course) → AreOver (greatest_slot course.rounds) (course_plays course)
+plays_over course =
+    film_over_all (greatest_slot course.rounds) (course_plays course) (film_bytes (rounds_parts course.rounds))
+    (course_sent course).film
