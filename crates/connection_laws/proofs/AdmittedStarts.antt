@@ -23,7 +23,7 @@ use Rattle.session.specs.declared.commands.Ask.{Ask}
 use Rattle.film_streams.specs.declared.settings.Settings.{Settings}
 use Rattle.session.specs.declared.states.Awaited.{Awaited}
 use Rattle.session.specs.declared.states.Awaited.TheVariants.{Play}
-use Rattle.session.specs.SessionStates.{OpenBooking, SessionState}
+use Rattle.session.specs.SessionStates.{OpenBooking, SessionState, AwaitedAnswer}
 use Rattle.rtsp_client.specs.declared.watch_request.Wish.{Wish}
 use Rattle.conn.specs.Agreement.{Activity, HasDone, Visit, doings_outcomes}
 use Rattle.conn.specs.EventSteps.{Ending, AtElement, InReply, Round, ending_outcomes, entries_in, round_outcomes}
@@ -38,14 +38,14 @@ use Rattle.connection_laws.specs.Plays.{StationRequest, Asks, FilmPlay, kept_in,
 use Rattle.connection_laws.specs.StartRanges.{AreMadeByConnections, IsCourseIn, IsMadeByConnection, StartsInRange}
 use Rattle.connection_laws.proofs.BookedPlays.{course_outcomes, outcomes_in}
 use Rattle.connection_laws.proofs.StationAnswers.{AnswersAs, PlayAdmitted, PlayRefused, PlayHalted, LookMade}
-use Rattle.connection_laws.proofs.StationAnswers.{answers_as, FinishesAs, NothingLeft, DoneHalted, ClosesAs}
-use Rattle.connection_laws.proofs.StationAnswers.{NothingOpen, BookingHalted}
+use Rattle.connection_laws.proofs.StationAnswers.{answers_as, ClosesAs, NothingOpen, BookingHalted, halted_by}
 use Rattle.std.proofs.lemmas.List.{map-append}
 use Rattle.connection_laws.specs.Notes.{StationCall, outcome_of}
 use Rattle.connection_laws.proofs.CourseTurns.{IsKeptByDoings, doings_kept, turns_told}
 use Rattle.station.specs.Ledgers.{play_of}
 use Rattle.plan_cert.specs.declared.Segment.{Segment}
 use Rattle.connection_laws.proofs.CourseInduction.{begin_of}
+use Rattle.conn.proofs.StationAnswers.{FinishesAs, NothingLeft, DoneHalted}
 
 -- ---- the entries among what the station answered
 abbrev InEntry : (PlacedEntry → Type 0) → Outcome → Type 0
@@ -100,10 +100,10 @@ ask_range (LookMade {placed = placed} look) =
     let none : asked_in placed.entry.command ≡ 0 = ap asked_in look.command in omega (arith, none)
 ask_range _ = tt
 
-finish_range : {s new : SessionState} {awaited : Awaited} {halt : Outcome} → FinishesAs s new awaited halt
+finish_range : {s new : SessionState} {asks : AwaitedAnswer} {halt : Outcome} → FinishesAs s asks halt new
     → InEntry AsksInRange halt
-finish_range (NothingLeft is) = tt
-finish_range (DoneHalted halt) = halt_range halt
+finish_range NothingLeft = tt
+finish_range {s} (DoneHalted entry) = halt_range (halted_by {s = s} entry)
 
 close_range : {old new : SessionState} {booking : Option OpenBooking} {halt : Outcome} → ClosesAs old new booking halt
     → InEntry AsksInRange halt

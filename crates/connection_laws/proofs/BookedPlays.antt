@@ -3,25 +3,22 @@ use Rattle.std.specs.Prelude.{⊤}
 use Rattle.std.proofs.Common.{◌≡◌, ℕ, ◌++◌, List, ◌∷◌, map, refl, ap, sym, ◌∙◌, ◌<◌, ◌≤◌, ◌⊎◌, subst, append_assoc}
 use Rattle.std.proofs.Common.{arith, inl, inr, []}
 use Rattle.std.proofs.lemmas.List.{map-append}
-use Rattle.vod_base.specs.Links.{IoEvent}
 use Rattle.plan_cert.specs.PlanSlots.{total_bytes}
 use Rattle.slot_calendar.specs.Plays.{truncated_play}
 use Rattle.admission.specs.Histories.{play_admitted}
 use Rattle.admission.specs.Makers.{PlacedEntry}
-use Rattle.admission.specs.declared.entries.Answer.TheVariants.{Admitted}
+use Rattle.admission.specs.declared.entries.Answer.TheVariants.{Admitted, Halted}
 use Rattle.station.specs.Ledgers.{play_of}
 use Rattle.session.specs.declared.states.Awaited.{Awaited}
 use Rattle.session.specs.declared.states.Awaited.TheVariants.{Play, Nothing, Halt, Look, Offer}
-use Rattle.session.specs.SessionStates.{SessionState}
+use Rattle.session.specs.SessionStates.{SessionState, AwaitedAnswer}
 use Rattle.conn.specs.EventSteps.{Round, entries_in, round_outcomes, rounds_outcomes, takings_outcomes}
-use Rattle.conn.specs.InputSteps.{Outcome, Unasked, SentPart, Stage, ElementStep, Passed, Answered, TakesAll, entry_in}
-use Rattle.conn.specs.InputSteps.{Entered}
+use Rattle.conn.specs.InputSteps.{Outcome, Unasked, Stage, ElementStep, Passed, Answered, TakesAll, entry_in, Entered}
 use Rattle.connection_laws.specs.Courses.{IsCourseBetween, asked_by, askings_of, round_askings, takings_askings, Course}
 use Rattle.connection_laws.specs.Courses.{course_plays, IsCourseSplit}
 use Rattle.connection_laws.specs.Plays.{StationRequest, Asks, plays_admitted, plays_begun, booked_by, booked_plays}
 use Rattle.connection_laws.specs.Plays.{booking_of, kept_among, kept_in, kept_with, plays_of, FilmPlay, kept_by}
 use Rattle.connection_laws.proofs.RequestEffects.{Ends, Starts, Stays, TurnsAs, told_by, Begins}
-use Rattle.connection_laws.proofs.StationAnswers.{FinishesAs, NothingLeft, DoneHalted, ComesAs, BytesCame, SlotCame}
 use Rattle.connection_laws.proofs.CourseInduction.{Piece, parts_of, comes_heard, begin_of}
 use Rattle.connection_laws.proofs.CourseSteps.{IsKeptStanding, standing_course_kept, Stands, request_turns, all_kept}
 use Rattle.plan_cert.specs.Plan.{IsPlan}
@@ -31,6 +28,8 @@ use Rattle.admission.specs.declared.entries.Command.{Command}
 use Rattle.admission.specs.declared.entries.Command.TheVariants.{Halt as HaltCommand}
 use Rattle.session.specs.declared.states.Prepared.{Prepared}
 use Rattle.connection_laws.proofs.KeptParts.{LastingPart, taken_keeps}
+use Rattle.conn.proofs.StationAnswers.{FinishesAs, NothingLeft, DoneHalted, ComesAs, BytesCame, SlotCame}
+use Rattle.session.specs.SlotSteps.{after_slot}
 
 -- the play that begins is the one that the entry records, if any
 abbrev pub IsToldBy : Awaited → Outcome → Type 0
@@ -109,17 +108,35 @@ takes_outcomes old new (Passed n ∷ takings) takes = takes_outcomes takes.0 new
 takes_outcomes old new (Answered message outcome parts ∷ takings) takes =
     ap (λ os. outcome ∷ os) (takes_outcomes takes.0 new takings takes.1.1)
 
--- the halt of a play that is done records none
-finish_told : {s new : SessionState} {asked : Awaited} {halt : Outcome} → FinishesAs s new asked halt
-    → IsToldBy asked halt
-finish_told (NothingLeft is) = λ askings made keeps. refl
-finish_told (DoneHalted {placed = p} halt) = λ askings made keeps.
-    sym (ap (λ c. booked_by (play_admitted c p.entry.answer) made) halt.command)
+-- a halt's answer begins no play
+halted_none : (asked : Awaited) (answer : Answer) (askings : List StationRequest) → answer ≡ Halted
+    → plays_admitted asked answer askings ≡ []
+halted_none (Play prepared) answer askings is = ap (λ a. plays_admitted (Play prepared) a askings) is
+halted_none _ answer askings is = refl
 
-comes_told : {old opened : Stage} {event : IoEvent} {due : List SentPart} {halt : Outcome}
-    → ComesAs old opened event due halt → IsToldBy (asked_by old.session event) halt
-comes_told (BytesCame is) = λ askings made keeps. refl
-comes_told (SlotCame finish) = finish_told finish
+halt_none : {s new : SessionState} {asks : AwaitedAnswer} {halt : Outcome} (asked : Awaited)
+    → FinishesAs s asks halt new → (askings : List StationRequest) → plays_begun asked halt askings ≡ []
+halt_none asked NothingLeft askings = refl
+halt_none asked (DoneHalted {placed = p} entry) askings = halted_none asked p.entry.answer askings entry.answer_is
+
+pub comes_none : {old opened : Stage} {round : Round} → ComesAs old round opened → (askings : List StationRequest)
+    → plays_begun (asked_by old.session round.event) round.halt askings ≡ []
+comes_none BytesCame askings = refl
+comes_none {old} (SlotCame {slot = slot} finish) askings =
+    halt_none (after_slot old.session slot).awaited finish askings
+
+-- and records none
+finish_untold : {s new : SessionState} {asks : AwaitedAnswer} {halt : Outcome} → FinishesAs s asks halt new
+    → (made : List PlacedEntry) → told_by halt made ≡ []
+finish_untold NothingLeft made = refl
+finish_untold (DoneHalted {placed = p} entry) made =
+    ap (λ c. booked_by (play_admitted c p.entry.answer) made) entry.command
+
+comes_told : {old opened : Stage} {round : Round} → ComesAs old round opened
+    → IsToldBy (asked_by old.session round.event) round.halt
+comes_told BytesCame = λ askings made keeps. refl
+comes_told {old} (SlotCame {slot = slot} finish) = λ askings made keeps.
+    ap (map booking_of) (halt_none (after_slot old.session slot).awaited finish askings) ∙ sym (finish_untold finish made)
 
 abbrev ToldOn : SessionState → Piece → SessionState → Type 0
 ToldOn old piece new = AreTold piece.askings
@@ -133,7 +150,7 @@ told_kept = record {
         (request_turns request stands),
     tt,
   );
-  event = λ old opened event due halt comes stands. (comes_told comes, tt);
+  event = λ old opened round comes stands. (comes_told comes, tt);
 }
 
 pub course_outcomes : (old new : Stage) (rounds : List Round) (follows : IsCourseBetween old rounds new)
@@ -347,18 +364,6 @@ turn_late old new asked outcome (Stays same after still) = none_late old.heard a
 turn_late old new asked outcome (Starts after begins) = begins_late old new asked outcome begins
 turn_late old new asked outcome (Ends after halts) = none_late old.heard asked outcome halts.none
 
--- the halt of a play that is done begins none
-halt_none : {s new : SessionState} {asked : Awaited} {halt : Outcome} → FinishesAs s new asked halt
-    → (askings : List StationRequest) → plays_begun asked halt askings ≡ []
-halt_none (NothingLeft is) = λ askings. refl
-halt_none (DoneHalted halt) = λ askings. refl
-
-pub comes_none : {old opened : Stage} {event : IoEvent} {due : List SentPart} {halt : Outcome}
-    → ComesAs old opened event due halt → (askings : List StationRequest)
-    → plays_begun (asked_by old.session event) halt askings ≡ []
-comes_none (BytesCame is) = λ askings. refl
-comes_none (SlotCame finish) = halt_none finish
-
 -- the slot that was received last stays or rises, and plays begin after it
 record LateAskings (old : SessionState) (made : List StationRequest) (new : SessionState) : Type 0 where
   later : old.heard ≤ new.heard
@@ -383,9 +388,9 @@ late_kept = record {
       tt,
     );
   };
-  event = λ old opened event due halt comes stands. record {
+  event = λ old opened round comes stands. record {
     later = let heard = comes_heard comes in omega (arith, heard);
-    late = (none_late old.session.heard (asked_by old.session event) halt (comes_none comes), tt);
+    late = (none_late old.session.heard (asked_by old.session round.event) round.halt (comes_none comes), tt);
   };
 }
 

@@ -276,6 +276,6 @@ torn_back b = record {
   request = λ old new request later torn valid named are.
       let one = torn_reply {b = b} request are.0 valid named in
       let rest = torn one.named one.own are.1 in ((one.whole, rest.0), (one.answer, rest.1));
-  event = λ old opened event due halt comes later torn valid named are.
+  event = λ old opened round comes later torn valid named are.
       torn (named_as (comes_setup comes).names valid) (named_still (comes_setup comes) named) are;
 }

@@ -6,16 +6,16 @@ use Rattle.conn.specs.InputSteps.{Stage, Answered, ElementStep, IsReplied, Outco
 use Rattle.connection_laws.specs.Courses.{IsCourseBetween, IsCourseSplit, asked_by, askings_of, greatest_slot}
 use Rattle.connection_laws.specs.Courses.{round_askings, slot_in, takings_askings, Course, first_stage}
 use Rattle.std.proofs.lemmas.Bool.{ltb-true, ltb-false}
-use Rattle.vod_base.specs.Links.{IoEvent, HeardSlot}
+use Rattle.vod_base.specs.Links.{HeardSlot}
 use Rattle.session.specs.SlotSteps.{after_play, is_between, is_sending, sent_due, sent_slot, after_slot, stepped_in}
 use Rattle.session.specs.SessionStates.{SessionState}
 use Rattle.conn.specs.Films.{rounds_parts, round_parts, takings_parts}
 use Rattle.connection_laws.specs.Plays.{StationRequest, Asks}
 use Rattle.connection_laws.specs.Replies.{replies_of, takings_replies}
 use Rattle.connection_laws.specs.ReplyPlaces.{slots_from, takings_slots}
-use Rattle.connection_laws.proofs.StationAnswers.{ComesAs, BytesCame, SlotCame, comes_as}
 use Rattle.connection_laws.proofs.KeptParts.{LastingPart, finish_keeps, reply_keeps, taken_keeps, takes_heard}
 use Rattle.std.proofs.lemmas.List.{append_assoc, append-nil}
+use Rattle.conn.proofs.StationAnswers.{ComesAs, BytesCame, SlotCame, comes_as}
 
 -- where a course begins
 abbrev pub begin_of : Course → Stage
@@ -70,17 +70,16 @@ slotted_heard old slot =
     slot_cases old slot (nat_le slot (2 ^ 62)) (is_sending old.state) (ltb-true old.heard slot)
     (ltb-false old.heard slot)
 
-pub comes_heard : {old opened : Stage} {event : IoEvent} {due : List SentPart} {halt : Outcome}
-    → ComesAs old opened event due halt → opened.session.heard ≡ max old.session.heard (slot_in event)
-comes_heard {old} (BytesCame is) = ap (λ (s : Stage). s.session.heard) is ∙ omega arith
+pub comes_heard : {old opened : Stage} {round : Round} → ComesAs old round opened
+    → opened.session.heard ≡ max old.session.heard (slot_in round.event)
+comes_heard BytesCame = omega arith
 comes_heard {old} (SlotCame {slot = slot} finish) =
     ap (λ (part : LastingPart). part.heard) (finish_keeps finish) ∙ slotted_heard old.session slot
 
 pub round_heard : (old new : Stage) (round : Round) → Runs old round new
     → new.session.heard ≡ max old.session.heard (slot_in round.event)
 round_heard old new round runs =
-    takes_heard runs.opened new round.takings runs.takes
-    ∙ comes_heard (comes_as round.event round.due round.halt runs.comes)
+    takes_heard runs.opened new round.takings runs.takes ∙ comes_heard (comes_as round runs.comes)
 
 -- it is the greatest one
 pub course_heard : (old new : Stage) (rounds : List Round) → IsCourseBetween old rounds new
@@ -175,12 +174,12 @@ takings_piece old takings new takes = record {
   replies = takings_replies old takings new takes;
 }
 
-abbrev pub event_piece : SessionState → IoEvent → List SentPart → Outcome → Piece
-event_piece session event due halt = record {
+abbrev pub event_piece : SessionState → Round → Piece
+event_piece session round = record {
   requests = [];
-  askings = Asks (asked_by session event) halt ∷ [];
+  askings = Asks (asked_by session round.event) round.halt ∷ [];
   slots = [];
-  parts = due;
+  parts = round.due;
   replies = [];
 }
 
@@ -207,8 +206,8 @@ pub record IsKeptByCourse (R : SessionState → Piece → SessionState → Type 
   pub none : (s : SessionState) → R s no_piece s
   pub joins : (a b c : SessionState) (one two : Piece) → R a one b → R b two c → R a (joined one two) c
   pub request : (old new : Stage) (request : AnsweredRequest old new) → R old.session (request_piece request) new.session
-  pub event : (old opened : Stage) (event : IoEvent) (due : List SentPart) (halt : Outcome)
-      → ComesAs old opened event due halt → R old.session (event_piece old.session event due halt) opened.session
+  pub event : (old opened : Stage) (round : Round) → ComesAs old round opened
+      → R old.session (event_piece old.session round) opened.session
 
 module _ {R : SessionState → Piece → SessionState → Type 0} (kept : IsKeptByCourse R) where
   pub takings_kept : (old new : Stage) (takings : List ElementStep) (takes : TakesAll old takings new)
@@ -232,13 +231,13 @@ module _ {R : SessionState → Piece → SessionState → Type 0} (kept : IsKept
   pub round_kept : (old new : Stage) (round : Round) (runs : Runs old round new)
       → R old.session (round_piece old round new runs) new.session
   round_kept old new round runs =
-      let comes = comes_as round.event round.due round.halt runs.comes in
-      let first = event_piece old.session round.event round.due round.halt in
+      let comes = comes_as round runs.comes in
+      let first = event_piece old.session round in
       let rest = takings_piece runs.opened round.takings new runs.takes in
       subst (λ h. R old.session (joined first (record rest { slots = takings_slots h round.takings })) new.session)
       (comes_heard comes)
       (kept.joins old.session runs.opened.session new.session first rest
-      (kept.event old runs.opened round.event round.due round.halt comes)
+      (kept.event old runs.opened round comes)
       (takings_kept runs.opened new round.takings runs.takes))
 
   pub course_kept : (old new : Stage) (rounds : List Round) (follows : IsCourseBetween old rounds new)
@@ -261,9 +260,8 @@ piece_of course = course_piece (begin_of course) course.rounds course.last cours
 pub record GoesBack (Q : SessionState → Piece → Type 0) : Type 0 where
   pub request : (old new : Stage) (request : AnsweredRequest old new) (later : Piece) → Q new.session later
       → Q old.session (joined (request_piece request) later)
-  pub event : (old opened : Stage) (event : IoEvent) (due : List SentPart) (halt : Outcome)
-      → ComesAs old opened event due halt → (later : Piece) → Q opened.session later
-      → Q old.session (joined (event_piece old.session event due halt) later)
+  pub event : (old opened : Stage) (round : Round) → ComesAs old round opened → (later : Piece)
+      → Q opened.session later → Q old.session (joined (event_piece old.session round) later)
 
 module _ {Q : SessionState → Piece → Type 0} (back : GoesBack Q) where
   abbrev BackOver : SessionState → Piece → SessionState → Type 0
@@ -275,7 +273,7 @@ module _ {Q : SessionState → Piece → Type 0} (back : GoesBack Q) where
     joins = λ a b c one two first rest later is.
         subst (Q a) (sym (joined_assoc one two later)) (first (joined two later) (rest later is));
     request = λ old new request later is. back.request old new request later is;
-    event = λ old opened event due halt comes later is. back.event old opened event due halt comes later is;
+    event = λ old opened round comes later is. back.event old opened round comes later is;
   }
 
   pub course_back : (course : Course) → Q course.last.session no_piece → Q (begin_of course).session (piece_of course)

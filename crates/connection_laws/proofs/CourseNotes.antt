@@ -10,7 +10,7 @@ use Rattle.session.specs.declared.states.AfterHalt.{AfterHalt}
 use Rattle.session.specs.declared.states.State.{State}
 use Rattle.session.specs.declared.states.State.TheVariants.{Init, Ready, Playing, Stopping}
 use Rattle.session.specs.SlotSteps.{due_state, is_between, kept_of, after_slot, stepped_in}
-use Rattle.session.specs.SessionStates.{SessionState, open_in, OpenBooking, open_of}
+use Rattle.session.specs.SessionStates.{SessionState, open_in, OpenBooking, open_of, AwaitedAnswer, awaited_answer}
 use Rattle.session.specs.SlotTransitions.{IsCarried, after_stop}
 use Rattle.conn.specs.InputSteps.{Outcome, Unasked, Entered, entry_in, IsHaltAnswered}
 use Rattle.conn.specs.declared.reports.ConnReport.{ConnReport}
@@ -20,8 +20,7 @@ use Rattle.connection_laws.specs.Notes.{noted_play, outcome_of, placed_play, pla
 use Rattle.connection_laws.proofs.PlayNotes.{HaveSameNotes, note_part, Carries, IsKept, carries_to, carries_none}
 use Rattle.connection_laws.proofs.PlayNotes.{carries_then, halt_turn, halted_open, heard_on, no_halt_note, no_note}
 use Rattle.connection_laws.proofs.PlayNotes.{notes_until, open_note, unasked_turn, begun_note}
-use Rattle.connection_laws.proofs.StationAnswers.{FinishesAs, NothingLeft, DoneHalted, ClosesAs, NothingOpen}
-use Rattle.connection_laws.proofs.StationAnswers.{BookingHalted, closes_as}
+use Rattle.connection_laws.proofs.StationAnswers.{ClosesAs, NothingOpen, BookingHalted, closes_as, halted_by, halt_of}
 use Rattle.connection_laws.proofs.CourseTurns.{IsKeptByDoings, doings_kept, last_rest, all_calls, turns_told}
 use Rattle.connection_laws.proofs.KeptParts.{slot_keeps}
 use Rattle.std.specs.Prelude.{⊤}
@@ -37,6 +36,8 @@ use Rattle.connection_laws.specs.Plays.{booked_by, kept_among, kept_with}
 use Rattle.connection_laws.proofs.RequestEffects.{RequestAnswer, Admission, Refusal, HaltMade, LookAnswer, JournalFull}
 use Rattle.connection_laws.proofs.RequestEffects.{OfferAnswer, PlayRequest, request_answer}
 use Rattle.connection_laws.proofs.BookedPlays.{kept_more}
+use Rattle.conn.proofs.StationAnswers.{FinishesAs, NothingLeft, DoneHalted}
+use Rattle.session.specs.RequestSteps.{after_halt}
 
 abbrev CarriesOf : SessionState → List StationCall → SessionState → Type 0
 CarriesOf old turns new = Carries (note_part old) turns (note_part new)
@@ -84,14 +85,14 @@ kept_halt : (state : State) (awaited : Awaited) (keep : ℕ) (next : AfterHalt) 
 kept_halt (Playing setup play) awaited keep next is = ap (λ a. kept_of a play.pacer.due) is
 kept_halt _ awaited keep next is = tt
 
-finished_turn : {s new : SessionState} {awaited : Awaited} {halt : Outcome} → FinishesAs s new awaited halt
-    → s.awaited ≡ awaited → CarriesOf s (station_call s halt ∷ []) new
-finished_turn {s} (NothingLeft is) asks =
-    let C : SessionState → Type 0 = λ n. CarriesOf s (station_call s Unasked ∷ []) n in
-    subst C (sym is) (unasked_turn (note_part s) s)
-finished_turn {s} {new} (DoneHalted {keep = keep} {next = next} {placed = placed} halt) asks =
-    halt_turn {s = s} (record { keep = keep; placed = placed; new = new; halted = halt }) s
-    (kept_halt s.state s.awaited keep next asks) (no_halt_note s.state asks placed)
+finished_turn : {s new : SessionState} {asks : AwaitedAnswer} {halt : Outcome} → FinishesAs s asks halt new
+    → awaited_answer s ≡ asks → CarriesOf s (station_call s halt ∷ []) new
+finished_turn {s} NothingLeft asks = unasked_turn (note_part s) s
+finished_turn {s} (DoneHalted {keep = keep} {placed = placed} entry) asks =
+    let halts = halt_of s.awaited asks in
+    halt_turn {s = s}
+    (record { keep = keep; placed = placed; new = after_halt s placed.place; halted = halted_by entry }) s
+    (kept_halt s.state s.awaited keep halts.0 halts.1) (no_halt_note s.state halts.1 placed)
 
 -- a play that a failed send leaves as it was
 carried_open : (old new : State) → IsCarried old new → (later : List StationCall) → open_note new later ≡ open_note old
@@ -281,10 +282,11 @@ answered_noted (OfferAnswer sequence waiting is) = λ later. refl
 answered_noted {asking} _ = unasked_noted asking
 
 -- the halt of a play that is done
-finished_noted : {asking new : SessionState} {awaited : Awaited} {halt : Outcome} → FinishesAs asking new awaited halt
-    → asking.awaited ≡ awaited → IsNoted asking halt
-finished_noted {asking} (NothingLeft is) asks = unasked_noted asking
-finished_noted {asking} (DoneHalted halt) asks = halt_noted asking (not_halt asks) halt
+finished_noted : {asking new : SessionState} {asks : AwaitedAnswer} {halt : Outcome} → FinishesAs asking asks halt new
+    → awaited_answer asking ≡ asks → IsNoted asking halt
+finished_noted {asking} NothingLeft asks = unasked_noted asking
+finished_noted {asking} (DoneHalted entry) asks =
+    halt_noted asking (not_halt (halt_of asking.awaited asks).1) (halted_by entry)
 
 -- the halt of a booking that is open at the end
 shut_noted : {last closed : SessionState} {held : Option OpenBooking} {halt : Outcome} → ClosesAs last closed held halt

@@ -4,7 +4,6 @@ use Rattle.std.proofs.Common.{◌≡◌, ℕ, ◌≤◌, ◌++◌, ◌&&◌, ◌
 use Rattle.std.proofs.Common.{ap, sym, ◌∙◌, subst, arith, Option, Some, None, ◌+◌, inl, inr, ◌⊎◌, []}
 use Rattle.conn.proofs.PlayProgress.{reply_state, reply_heard}
 use Rattle.std.proofs.lemmas.Bool.{eqb-true, true≢false, and_parts}
-use Rattle.vod_base.specs.Links.{IoEvent}
 use Rattle.pacer.specs.PacerStates.{PacerState, is_done, IsPacerState}
 use Rattle.plan_cert.specs.PlanSlots.{total_bytes}
 use Rattle.admission.specs.Makers.{PlacedEntry}
@@ -17,23 +16,23 @@ use Rattle.session.specs.declared.states.State.{State}
 use Rattle.session.specs.declared.states.State.TheVariants.{Playing, Stopping, Init, Ready}
 use Rattle.session.specs.SlotSteps.{can_reply, after_play, halted_in, is_between, is_sending, sent_due, sent_reply}
 use Rattle.session.specs.SlotSteps.{sent_slot, stepped_in, next_of, finished_in}
-use Rattle.session.specs.SessionStates.{SessionState}
+use Rattle.session.specs.SessionStates.{SessionState, AwaitedAnswer, NoAnswer, HaltAnswer, awaited_answer}
+use Rattle.session.specs.SessionStates.{awaited_answer_of}
 use Rattle.conn.specs.Films.{rounds_film, rounds_parts, round_parts, takings_parts}
 use Rattle.conn.specs.EventSteps.{Round, Runs}
-use Rattle.conn.specs.InputSteps.{Outcome, Unasked, Entered, SentPart, Stage, IsHaltAnswered, after_reply, film_bytes}
-use Rattle.conn.specs.InputSteps.{Text, reply_parts}
+use Rattle.conn.specs.InputSteps.{Outcome, Unasked, Entered, SentPart, Stage, after_reply, film_bytes, Text}
+use Rattle.conn.specs.InputSteps.{reply_parts}
 use Rattle.connection_laws.specs.Courses.{IsCourseBetween, askings_of, first_stage, greatest_slot, Course, course_plays}
 use Rattle.connection_laws.specs.Courses.{course_film}
 use Rattle.connection_laws.specs.Plays.{StationRequest, Asks, plays_admitted, plays_begun, kept_by, kept_in, kept_with}
 use Rattle.connection_laws.specs.Plays.{plays_of, AreOver, FilmPlay}
 use Rattle.connection_laws.proofs.RequestEffects.{Ends, Going, Idle, IsAfter, Starts, Stays, TurnsAs, sends_in}
 use Rattle.connection_laws.proofs.RequestEffects.{turns_as, Sends, Ending}
-use Rattle.connection_laws.proofs.StationAnswers.{FinishesAs, NothingLeft, DoneHalted, ComesAs, BytesCame, SlotCame}
 use Rattle.connection_laws.proofs.StationAnswers.{SlotTo, SlotSent, SlotIdle, SlotPast, slot_to}
 use Rattle.connection_laws.proofs.CourseInduction.{IsKeptByCourse, Piece, course_kept, course_piece, event_piece}
 use Rattle.connection_laws.proofs.CourseInduction.{joined, no_piece, request_piece, course_heard, AnsweredRequest}
 use Rattle.connection_laws.proofs.CourseInduction.{parts_piece, asked_piece, begin_of, piece_of, round_kept}
-use Rattle.session.specs.RequestSteps.{is_answered}
+use Rattle.session.specs.RequestSteps.{is_answered, after_halt}
 use Rattle.connection_laws.specs.ReplyPlaces.{AreSentAt, slots_from}
 use Rattle.connection_laws.specs.Replies.{course_texts}
 use Rattle.connection_laws.proofs.Slots.{sound_waits, turn_sound, state_after, waits_after}
@@ -47,6 +46,7 @@ use Rattle.connection_laws.proofs.TextPlaces.{with_pending}
 use Rattle.conn.proofs.ReplyPlacement.{film_bytes-append, takings_film}
 use Rattle.film_frames.specs.declared.stored_films.Stored.{Stored}
 use Rattle.film_streams.specs.declared.settings.Settings.{Settings}
+use Rattle.conn.proofs.StationAnswers.{FinishesAs, NothingLeft, DoneHalted, ComesAs, BytesCame, SlotCame, IsHaltEntry}
 
 -- what is sent is on time, and a reply that waits is held up since its request was processed
 pub record IsPaced (s : SessionState) : Type 0 where
@@ -212,11 +212,6 @@ slot_asks (SlotIdle none later) rest = rest_asks rest
     rest_asks is = inl is
 slot_asks SlotPast rest = inl rest
 
--- then no reply comes of it
-pub done_next : {s : SessionState} → AsksDone s → next_of s.awaited ≡ Done
-done_next (inl rest) = ap next_of rest
-done_next (inr done) = ap next_of done.asks
-
 halted_idle : {s : SessionState} (done : DonePlay s) → sends_in (halted_in s.state s.awaited) ≡ Idle
 halted_idle {s} done =
     ap (λ (t : State). sends_in (halted_in t s.awaited)) done.state_is
@@ -229,28 +224,43 @@ done_unheld heard None waits is done held = refl
 done_unheld {p} heard (Some slot) waits is done held =
     let past = held.1.none (p.before + p.keep) is.ends (omega arith) in absurd (omega (arith, past, done))
 
--- it is halted with all that was sent
-done_move : {s new : SessionState} {placed : PlacedEntry} (paced : IsPaced s) (done : DonePlay s)
-    → IsHaltAnswered s done.keep placed new → Move paced new (asked_piece (Asks s.awaited (Entered placed)))
-done_move {s} {new} {placed} paced done halted =
+-- a slot is over: nothing was asked, or a play that is done was halted
+pub data Finished (s : SessionState) : Outcome → SessionState → Type 0 where
+  Quiet : s.awaited ≡ Nothing → Finished s Unasked s
+  Ended : {placed : PlacedEntry} (done : DonePlay s) → IsHaltEntry done.keep placed
+      → Finished s (Entered placed) (after_halt s placed.place)
+
+pub finish_by : {s new : SessionState} {asks : AwaitedAnswer} {halt : Outcome} → AsksDone s → awaited_answer s ≡ asks
+    → FinishesAs s asks halt new → Finished s halt new
+finish_by (inl rest) is NothingLeft = Quiet rest
+finish_by (inl rest) is (DoneHalted {keep = keep} entry) =
+    let no : NoAnswer ≡ HaltAnswer keep = sym (ap awaited_answer_of rest) ∙ is in absurd (let clash : ⊥ = cc in clash)
+finish_by (inr done) is NothingLeft =
+    let no : HaltAnswer done.keep ≡ NoAnswer = sym (ap awaited_answer_of done.asks) ∙ is in
+    absurd (let clash : ⊥ = cc in clash)
+finish_by (inr done) is (DoneHalted {keep = keep} {placed = placed} entry) =
+    let same : HaltAnswer done.keep ≡ HaltAnswer keep = sym (ap awaited_answer_of done.asks) ∙ is in
+    let size : keep ≡ done.keep = cc in
+    Ended done (subst (λ k. IsHaltEntry k placed) size entry)
+
+-- the halt keeps all that was sent
+done_move : {s : SessionState} {placed : PlacedEntry} (paced : IsPaced s) (done : DonePlay s)
+    → IsHaltEntry done.keep placed
+    → Move paced (after_halt s placed.place) (asked_piece (Asks s.awaited (Entered placed)))
+done_move {s} {placed} paced done entry =
     let p : PacerState = play.pacer in
     let on = (subst (λ st. IsSound (sends_in st) s.waits s.heard) is paced.sound).0 in
     let held : IsHeld paced.pending (Going p) s.waits s.heard =
     subst (λ st. IsHeld paced.pending (sends_in st) s.waits s.heard) is paced.held in
     let none : paced.pending ≡ None = done_unheld s.heard paced.pending s.waits on.pacing ended held in
     let waits : s.waits ≡ false = subst (λ o. IsHeld o (Going p) s.waits s.heard) none held in
-    let sends : sends_in new.state ≡ Idle =
-    ap (λ (n : SessionState). sends_in n.state) halted.halts ∙ halted_idle done in
-    let heard : new.heard ≡ s.heard = ap (λ (n : SessionState). n.heard) halted.halts in
-    let later : new.waits ≡ false =
-    ap (λ (n : SessionState). n.waits) halted.halts
-    ∙ ap (λ (a : Awaited). if is_answered (next_of a) then true else s.waits) asks ∙ waits in
+    let sends : sends_in (halted_in s.state s.awaited) ≡ Idle = halted_idle done in
     let goes : GoesTo (point (Going p) s.heard None) (point Idle s.heard None)
     (asked_piece (Asks s.awaited (Entered placed))) = record {
       later = omega arith;
       rest = λ askings come ends fits.
           let kept : kept_with (Entered placed) (kept_in askings (total_bytes p.plan)) ≡ keep =
-          ap (λ c. kept_by c (kept_in askings (total_bytes p.plan))) halted.command in
+          ap (λ c. kept_by c (kept_in askings (total_bytes p.plan))) entry.command in
           let begun : plays_begun s.awaited (Entered placed) askings ≡ [] =
           ap (λ a. plays_admitted a placed.entry.answer askings) asks in
           record {
@@ -260,8 +270,12 @@ done_move {s} {new} {placed} paced done halted =
           };
     } in
     record {
-      after = record { sound = rw sends tt; pending = None; held = later };
-      goes_on = rw (none, ap sends_in is, sends, heard) goes;
+      after = record {
+        sound = rw sends tt;
+        pending = None;
+        held = ap (λ (a : Awaited). if is_answered (next_of a) then true else s.waits) asks ∙ waits;
+      };
+      goes_on = rw (none, ap sends_in is, sends) goes;
     }
   where
     open done use {play, keep, state_is as is, ended, sent, asks}
@@ -278,20 +292,14 @@ quiet_move paced asked same =
       };
     })
 
-finish_move : {s new : SessionState} {awaited : Awaited} {halt : Outcome} (paced : IsPaced s) → AsksDone s
-    → s.awaited ≡ awaited → FinishesAs s new awaited halt → Move paced new (asked_piece (Asks s.awaited halt))
-finish_move {s} paced asks is (NothingLeft same) = quiet_move paced s.awaited same
-finish_move paced (inl rest) is (DoneHalted {keep = keep} {next = next} halted) =
-    let no : Nothing ≡ Halt keep next = sym rest ∙ is in absurd (let clash : ⊥ = cc in clash)
-finish_move {s} {new} paced (inr done) is (DoneHalted {keep = keep} {next = next} {placed = placed} halted) =
-    let same : Halt done.keep Done ≡ Halt keep next = sym done.asks ∙ is in
-    let size : keep ≡ done.keep = cc in
-    done_move paced done (subst (λ k. IsHaltAnswered s k placed new) size halted)
+finish_move : {s new : SessionState} {halt : Outcome} (paced : IsPaced s) → Finished s halt new
+    → Move paced new (asked_piece (Asks s.awaited halt))
+finish_move {s} paced (Quiet rest) = quiet_move paced s.awaited refl
+finish_move paced (Ended done entry) = done_move paced done entry
 
-finish_rest : {s new : SessionState} {awaited : Awaited} {halt : Outcome} → FinishesAs s new awaited halt
-    → s.awaited ≡ awaited → new.awaited ≡ Nothing
-finish_rest (NothingLeft same) is = ap (λ (n : SessionState). n.awaited) same ∙ is
-finish_rest (DoneHalted halted) is = ap (λ (n : SessionState). n.awaited) halted.halts
+finish_rest : {s new : SessionState} {halt : Outcome} → Finished s halt new → new.awaited ≡ Nothing
+finish_rest (Quiet rest) = rest
+finish_rest (Ended done entry) = refl
 
 -- ---- a slot
 
@@ -352,23 +360,21 @@ slot_move {old} {slot = slot} stands (SlotIdle none later) =
 slot_move stands SlotPast = record { after = stands.paced; goes_on = goes_same (point_of stands.paced) }
 
 slot_step : {old s new : SessionState} {slot : ℕ} {parts : List SentPart} {halt : Outcome} (stands : Stands old)
-    → SlotTo old slot s parts → FinishesAs s new s.awaited halt
+    → SlotTo old slot s parts → FinishesAs s (awaited_answer s) halt new
     → Step stands new (record (asked_piece (Asks s.awaited halt)) { parts = parts })
 slot_step {s = s} {new} {parts = parts} {halt} stands to finishing =
     let first = slot_move stands to in
-    let next = finish_move first.after (slot_asks to stands.rest) refl finishing in
+    let finished = finish_by (slot_asks to stands.rest) refl finishing in
+    let next = finish_move first.after finished in
     record {
-      rest = finish_rest finishing refl;
+      rest = finish_rest finished;
       move = subst (λ ps. Move stands.paced new (record (asked_piece (Asks s.awaited halt)) { parts = ps }))
           (append-nil parts) (record { after = next.after; goes_on = goes_then first.goes_on next.goes_on });
     }
 
-pub event_step : {old opened : Stage} {event : IoEvent} {due : List SentPart} {halt : Outcome} (stands : Stands old.session)
-    → ComesAs old opened event due halt → Step stands opened.session (event_piece old.session event due halt)
-event_step stands (BytesCame is) = record {
-  rest = ap (λ (s : Stage). s.session.awaited) is ∙ stands.rest;
-  move = quiet_move stands.paced Nothing (ap (λ (s : Stage). s.session) is);
-}
+pub event_step : {old opened : Stage} {round : Round} (stands : Stands old.session) → ComesAs old round opened
+    → Step stands opened.session (event_piece old.session round)
+event_step stands BytesCame = record { rest = stands.rest; move = quiet_move stands.paced Nothing refl }
 event_step {old} stands (SlotCame {slot = slot} finish) = slot_step stands (slot_to old.session slot) finish
 
 -- ---- all that a connection does
@@ -390,7 +396,7 @@ steps_kept = record {
         move = record { after = next.move.after; goes_on = goes_then step.move.goes_on next.move.goes_on };
       };
   request = λ old new request stands. request_step request stands;
-  event = λ old opened event due halt comes stands. event_step stands comes;
+  event = λ old opened round comes stands. event_step stands comes;
 }
 
 course_step : (old new : Stage) (rounds : List Round) (follows : IsCourseBetween old rounds new)
@@ -418,9 +424,8 @@ pub record IsKeptStanding (R : SessionState → Piece → SessionState → Type 
   pub joins : (a b c : SessionState) (one two : Piece) → R a one b → R b two c → R a (joined one two) c
   pub request : (old new : Stage) (request : AnsweredRequest old new) → Stands old.session
       → R old.session (request_piece request) new.session
-  pub event : (old opened : Stage) (event : IoEvent) (due : List SentPart) (halt : Outcome)
-      → ComesAs old opened event due halt → Stands old.session
-      → R old.session (event_piece old.session event due halt) opened.session
+  pub event : (old opened : Stage) (round : Round) → ComesAs old round opened → Stands old.session
+      → R old.session (event_piece old.session round) opened.session
 
 module _ {R : SessionState → Piece → SessionState → Type 0} (kept : IsKeptStanding R) where
   abbrev FromStanding : SessionState → Piece → SessionState → Type 0
@@ -433,8 +438,8 @@ module _ {R : SessionState → Piece → SessionState → Type 0} (kept : IsKept
         let mid = first stands in
         let last = rest mid.0 in (last.0, kept.joins a b c one two mid.1 last.1);
     request = λ old new request stands. (request_stands request stands, kept.request old new request stands);
-    event = λ old opened event due halt comes stands.
-        (stands_by (event_step stands comes), kept.event old opened event due halt comes stands);
+    event = λ old opened round comes stands.
+        (stands_by (event_step stands comes), kept.event old opened round comes stands);
   }
 
   pub standing_course_kept : (old new : Stage) (rounds : List Round) (follows : IsCourseBetween old rounds new)

@@ -2,18 +2,16 @@
 use Rattle.std.proofs.Common.{◌≡◌, ℕ, ◌++◌, if◌then◌else◌, Bool, true, false, List, ◌∷◌, Option, map, length, ap, refl}
 use Rattle.std.proofs.Common.{subst, sym, ◌∙◌, ◌+◌, ◌&&◌, arith, []}
 use Rattle.std.proofs.lemmas.List.{map-append}
-use Rattle.vod_base.specs.Links.{IoEvent}
 use Rattle.film_frames.specs.declared.stored_films.Stored.{Stored}
 use Rattle.film_streams.specs.declared.settings.Settings.{Settings}
-use Rattle.session.specs.declared.states.Awaited.{Awaited}
 use Rattle.session.specs.declared.states.Awaited.TheVariants.{Nothing}
 use Rattle.session.specs.SlotSteps.{can_reply, sent_reply, after_slot, after_play, is_between, is_sending, is_taken}
 use Rattle.session.specs.SlotSteps.{missed_between, sent_due, sent_slot, start_in, stepped_in}
-use Rattle.session.specs.SessionStates.{SessionState, OpenBooking, open_of}
+use Rattle.session.specs.SessionStates.{SessionState, OpenBooking, open_of, AwaitedAnswer, awaited_answer}
 use Rattle.conn.specs.EventSteps.{Ending, Overfull, AtElement, InSlot, InReply, Ends, Round, Runs, RunsAll}
 use Rattle.conn.specs.EventSteps.{ending_outcomes, round_outcomes, rounds_outcomes, takings_outcomes, HasFailedInSlot}
-use Rattle.conn.specs.InputSteps.{Outcome, Unasked, SentPart, Stage, ElementStep, Passed, Answered, TakesAll}
-use Rattle.conn.specs.InputSteps.{after_reply, HasHeard, IsClosed}
+use Rattle.conn.specs.InputSteps.{Outcome, Unasked, Stage, ElementStep, Passed, Answered, TakesAll, after_reply}
+use Rattle.conn.specs.InputSteps.{HasHeard, IsClosed}
 use Rattle.conn.specs.declared.reports.ConnEnd.{ConnEnd}
 use Rattle.conn.specs.declared.reports.ConnReport.{ConnReport}
 use Rattle.conn.specs.Agreement.{Activity, HasDone, doings_outcomes}
@@ -26,13 +24,13 @@ use Rattle.connection_laws.proofs.RequestEffects.{turns_as}
 use Rattle.connection_laws.proofs.CourseInduction.{follows_all}
 use Rattle.session.proofs.StepInvariantLemmas.{nothing_of}
 use Rattle.conn.proofs.ReplyContents.{CourseEnd}
-use Rattle.connection_laws.proofs.StationAnswers.{ClosesAs, closes_as, FinishesAs, ComesAs, BytesCame, SlotCame}
-use Rattle.connection_laws.proofs.StationAnswers.{comes_as}
+use Rattle.connection_laws.proofs.StationAnswers.{ClosesAs, closes_as}
 use Rattle.std.proofs.lemmas.Bool.{and_from}
 use Rattle.session_laws.specs.PlayLaws.{slots_missed}
 use Rattle.session_laws.proofs.SlotCountLemmas.{missed_is}
 use Rattle.connection_laws.proofs.KeptParts.{LastingPart, close_keeps, finish_keeps, reply_keeps, request_keeps}
 use Rattle.connection_laws.proofs.KeptParts.{takes_keep}
+use Rattle.conn.proofs.StationAnswers.{FinishesAs, ComesAs, BytesCame, SlotCame, comes_as}
 
 -- a relation between a session, what the station is asked and answers, and the session after it, which each doing of
 -- the session satisfies
@@ -43,8 +41,8 @@ pub record IsKeptByDoings (R : SessionState → List StationCall → SessionStat
       (heard : HasHeard old message outcome new) → R old (station_call heard.asking outcome ∷ []) new
   pub reply : (s : SessionState) → R s [] (sent_reply s)
   pub slot : (s : SessionState) (slot : ℕ) → R s [] (after_slot s slot)
-  pub finish : (awaited : Awaited) (halt : Outcome) (s new : SessionState) → FinishesAs s new awaited halt
-      → s.awaited ≡ awaited → R s (station_call s halt ∷ []) new
+  pub finish : (asks : AwaitedAnswer) (halt : Outcome) (s new : SessionState) → FinishesAs s asks halt new
+      → awaited_answer s ≡ asks → R s (station_call s halt ∷ []) new
   pub bytes : (s : SessionState) → R s (station_call s Unasked ∷ []) s
   pub failed : (old new : Stage) (slot : ℕ) (front : List ℕ) → HasFailedInSlot old slot front new
       → R old.session [] new.session
@@ -58,15 +56,13 @@ module _ {R : SessionState → List StationCall → SessionState → Type 0} (ke
   sent_if true s = kept.reply s
   sent_if false s = kept.none s
 
-  came : {old opened : Stage} {event : IoEvent} {due : List SentPart} {halt : Outcome}
-      → ComesAs old opened event due halt
-      → R old.session (station_call (asking_at old.session event) halt ∷ []) opened.session
-  came {old} (BytesCame is) =
-      rw is (kept.bytes old.session)
-  came {old} {opened} (SlotCame {slot = slot} {halt = halt} finish) =
+  came : {old opened : Stage} {round : Round} → ComesAs old round opened
+      → R old.session (station_call (asking_at old.session round.event) round.halt ∷ []) opened.session
+  came {old} BytesCame = kept.bytes old.session
+  came {old} (SlotCame {slot = slot} {halt = halt} {new = new} finish) =
       let s : SessionState = after_slot old.session slot in
-      kept.joins old.session s opened.session [] (station_call s halt ∷ []) (kept.slot old.session slot)
-      (kept.finish s.awaited halt s opened.session finish refl)
+      kept.joins old.session s new [] (station_call s halt ∷ []) (kept.slot old.session slot)
+      (kept.finish (awaited_answer s) halt s new finish refl)
 
   still : (old new : Stage) → new ≡ old → R old.session [] new.session
   still old new is = subst (λ (s : Stage). R old.session [] s.session) (sym is) (kept.none old.session)
@@ -94,7 +90,7 @@ module _ {R : SessionState → List StationCall → SessionState → Type 0} (ke
       kept.joins old.session runs.opened.session new.session
       (station_call (asking_at old.session round.event) round.halt ∷ [])
       (taken_calls runs.opened round.takings new runs.takes)
-      (came (comes_as round.event round.due round.halt runs.comes)) (taken runs.opened new round.takings runs.takes)
+      (came (comes_as round runs.comes)) (taken runs.opened new round.takings runs.takes)
 
   rounds_kept : (old new : Stage) (rounds : List Round) (runs : RunsAll old rounds new)
       → R old.session (rounds_calls old rounds new runs) new.session
@@ -235,9 +231,9 @@ slotted_late old slot =
     slotted_if old slot (is_taken old slot) (is_sending old.state)
     ∙ ap (λ n. old.late + n) (missed_if (is_taken old slot && is_sending old.state) old.heard (start_in old.state) slot)
 
-comes_late : {old opened : Stage} {event : IoEvent} {due : List SentPart} {halt : Outcome}
-    → ComesAs old opened event due halt → opened.session.late ≡ old.session.late + missed_by old.session event
-comes_late {old} (BytesCame is) = ap (λ (s : Stage). s.session.late) is ∙ omega arith
+comes_late : {old opened : Stage} {round : Round} → ComesAs old round opened
+    → opened.session.late ≡ old.session.late + missed_by old.session round.event
+comes_late BytesCame = omega arith
 comes_late {old} (SlotCame {slot = slot} finish) =
     ap (λ (part : LastingPart). part.late) (finish_keeps finish) ∙ slotted_late old.session slot
 
@@ -245,7 +241,7 @@ round_late : (old new : Stage) (round : Round) → Runs old round new
     → new.session.late ≡ old.session.late + missed_by old.session round.event
 round_late old new round runs =
     ap (λ (part : LastingPart). part.late) (takes_keep runs.opened new round.takings runs.takes)
-    ∙ comes_late (comes_as round.event round.due round.halt runs.comes)
+    ∙ comes_late (comes_as round runs.comes)
 
 rounds_late : (old new : Stage) (rounds : List Round) (runs : RunsAll old rounds new)
     → new.session.late ≡ old.session.late + rounds_missed old rounds new runs

@@ -8,16 +8,14 @@ use Rattle.session.specs.declared.commands.Ask.{Ask}
 use Rattle.session.specs.declared.states.Awaited.{Awaited}
 use Rattle.session.specs.SlotSteps.{after_play, after_slot, can_reply, is_between, is_sending, is_taken, sent_due}
 use Rattle.session.specs.SlotSteps.{sent_reply, sent_slot, stepped_in, halted_in, next_of, state_once_halted}
-use Rattle.session.specs.SessionStates.{OpenBooking, SessionState, awaited_answer}
+use Rattle.session.specs.SessionStates.{OpenBooking, SessionState, awaited_answer, AwaitedAnswer}
 use Rattle.session_laws.proofs.RequestShapes.{HearsAs, Replies, SetsUp, AsksPlay, Stops, AsksLook, AsksOffer, hears_as}
 use Rattle.conn.proofs.HaltAnswers.{finished_as_before}
 use Rattle.conn.specs.InputSteps.{Answered, ElementStep, HasHeard, HasStepped, IsAskAnswered, IsReplied, Outcome}
 use Rattle.conn.specs.InputSteps.{Passed, SentPart, Stage, TakesAll, after_reply}
 use Rattle.connection_laws.proofs.StationAnswers.{AnswersAs, NoneAsked, PlayAdmitted, PlayRefused, PlayFull, PlayHalted}
 use Rattle.connection_laws.proofs.StationAnswers.{LookMade, LookFull, OfferMade, answers_as, ClosesAs, NothingOpen}
-use Rattle.connection_laws.proofs.StationAnswers.{BookingHalted, FinishesAs, NothingLeft, DoneHalted, ComesAs}
-use Rattle.connection_laws.proofs.StationAnswers.{BytesCame, SlotCame}
-use Rattle.vod_base.specs.Links.{IoEvent}
+use Rattle.connection_laws.proofs.StationAnswers.{BookingHalted}
 use Rattle.session.specs.declared.states.AfterHalt.{AfterHalt}
 use Rattle.session.specs.declared.states.AfterHalt.TheVariants.{Done}
 use Rattle.session.specs.declared.states.Play.{Play as Played}
@@ -26,6 +24,8 @@ use Rattle.session.specs.declared.states.State.{State}
 use Rattle.session.specs.declared.states.State.TheVariants.{Init, Playing}
 use Rattle.session_laws.specs.MethodLaws.{setup_in}
 use Rattle.session.specs.SlotTransitions.{after_stop}
+use Rattle.conn.proofs.StationAnswers.{FinishesAs, NothingLeft, DoneHalted, ComesAs, BytesCame, SlotCame}
+use Rattle.conn.specs.EventSteps.{Round}
 
 -- what no request and no reply to one changes
 pub record LastingPart : Type 0 where
@@ -99,10 +99,10 @@ pub takes_heard : (old new : Stage) (takings : List ElementStep) → TakesAll ol
 takes_heard old new takings takes = ap (λ (part : LastingPart). part.heard) (takes_keep old new takings takes)
 
 -- the halt of a play that is done
-pub finish_keeps : {s new : SessionState} {awaited : Awaited} {outcome : Outcome} → FinishesAs s new awaited outcome
+pub finish_keeps : {s new : SessionState} {asks : AwaitedAnswer} {outcome : Outcome} → FinishesAs s asks outcome new
     → lasting_part new ≡ lasting_part s
-finish_keeps (NothingLeft is) = ap lasting_part is
-finish_keeps (DoneHalted halt) = ap lasting_part halt.halts
+finish_keeps NothingLeft = refl
+finish_keeps (DoneHalted entry) = refl
 
 -- the end of a connection
 pub close_keeps : {old new : SessionState} {held : Option OpenBooking} {outcome : Outcome}
@@ -204,11 +204,10 @@ slot_setup old slot =
       idle = λ s n. refl;
     }) old slot
 
-finish_setup : {s new : SessionState} {awaited : Awaited} {outcome : Outcome} → FinishesAs s new awaited outcome
+finish_setup : {s new : SessionState} {asks : AwaitedAnswer} {outcome : Outcome} → FinishesAs s asks outcome new
     → setup_in new.state ≡ setup_in s.state
-finish_setup (NothingLeft is) = ap (λ (t : SessionState). setup_in t.state) is
-finish_setup {s} (DoneHalted halt) =
-    ap (λ (t : SessionState). setup_in t.state) halt.halts ∙ halted_setup s.state s.awaited
+finish_setup NothingLeft = refl
+finish_setup {s} (DoneHalted entry) = halted_setup s.state s.awaited
 
 -- ---- events
 
@@ -217,15 +216,11 @@ pub record IsSameSetup (old new : SessionState) : Type 0 where
   pub names : names_in new ≡ names_in old
   pub setup : setup_in new.state ≡ setup_in old.state
 
-same_session : (old new : SessionState) → new ≡ old → IsSameSetup old new
-same_session old new is = record { names = ap names_in is; setup = ap (λ (s : SessionState). setup_in s.state) is }
-
-pub comes_setup : {old opened : Stage} {event : IoEvent} {due : List SentPart} {halt : Outcome}
-    → ComesAs old opened event due halt → IsSameSetup old.session opened.session
-comes_setup {old} {opened} (BytesCame is) =
-    same_session old.session opened.session (ap (λ (s : Stage). s.session) is)
-comes_setup {old} {opened} (SlotCame {slot = slot} finish) = record {
-  names = same_names (after_slot old.session slot) opened.session (finish_keeps finish) ∙ slot_names old.session slot;
+pub comes_setup : {old opened : Stage} {round : Round} → ComesAs old round opened
+    → IsSameSetup old.session opened.session
+comes_setup BytesCame = record { names = refl; setup = refl }
+comes_setup {old} (SlotCame {slot = slot} {new = new} finish) = record {
+  names = same_names (after_slot old.session slot) new (finish_keeps finish) ∙ slot_names old.session slot;
   setup = finish_setup finish ∙ slot_setup old.session slot;
 }
 

@@ -364,7 +364,7 @@ leads_back b out = record {
     torn = (torn_back b).request old new request later leads.torn;
     none = none_back.request old new request later leads.none;
   };
-  event = λ old opened event due halt comes later leads. record {
+  event = λ old opened round comes later leads. record {
     walk = λ ahead is.
         let same = comes_setup comes in
         let heard = comes_heard comes in
@@ -389,8 +389,8 @@ leads_back b out = record {
           ready = ready_still old.session opened.session (length ahead) same.setup rest.ready;
           read = rest.read;
         };
-    torn = (torn_back b).event old opened event due halt comes later leads.torn;
-    none = none_back.event old opened event due halt comes later leads.none;
+    torn = (torn_back b).event old opened round comes later leads.torn;
+    none = none_back.event old opened round comes later leads.none;
   };
 }
 

@@ -1,12 +1,12 @@
 -- The plays of a course send its runs in order.
-use Rattle.connection_laws.proofs.CourseSteps.{Stands, IsKeptStanding, AsksDone, slot_asks, all_kept}
+use Rattle.connection_laws.proofs.CourseSteps.{Stands, IsKeptStanding, slot_asks, all_kept, Finished, Quiet, Ended}
+use Rattle.connection_laws.proofs.CourseSteps.{finish_by}
 use Rattle.std.proofs.Common.{◌≡◌, ℕ, ◌+◌, ◌-◌, ◌%◌, ◌≤◌, ◌⊎◌, ◌&&◌, ◌++◌, if◌then◌else◌, Bool, true, false, List, ◌∷◌}
 use Rattle.std.proofs.Common.{Option, Some, None, slice_get, slice_index, add_assoc, refl, sym, ap, subst, ◌∙◌, inl}
 use Rattle.std.proofs.Common.{inr, arith, []}
 use Rattle.std.proofs.lemmas.Bool.{true≢false}
 use Rattle.std.proofs.lemmas.List.{append_assoc, append-nil}
 use Rattle.plan_cert.specs.PlanSlots.{total_bytes}
-use Rattle.vod_base.specs.Links.{IoEvent}
 use Rattle.film_frames.specs.declared.stored_films.Stored.{Stored}
 use Rattle.film_frames.specs.FramedRuns.{FramedRun, frames_before, octets_before, run_of, run_pieces}
 use Rattle.plan_cert.specs.declared.Segment.{Segment}
@@ -46,14 +46,15 @@ use Rattle.connection_laws.specs.Plays.{plays_of, booked_by}
 use Rattle.connection_laws.specs.LookLimits.{course_looks, look_in, looks_in}
 use Rattle.connection_laws.specs.PlayRuns.{AreRunsInOrder, IsFirstRun, IsLaterRun, RunPlace, SendsNext, run_place}
 use Rattle.connection_laws.proofs.StationAnswers.{AnswersAs, NoneAsked, PlayAdmitted, PlayRefused, PlayFull, PlayHalted}
-use Rattle.connection_laws.proofs.StationAnswers.{LookMade, LookFull, OfferMade, answers_as, FinishesAs, NothingLeft}
-use Rattle.connection_laws.proofs.StationAnswers.{DoneHalted, ComesAs, BytesCame, SlotCame, SlotTo, SlotSent, SlotIdle}
-use Rattle.connection_laws.proofs.StationAnswers.{SlotPast, slot_to, IsAdmitted}
+use Rattle.connection_laws.proofs.StationAnswers.{LookMade, LookFull, OfferMade, answers_as, SlotTo, SlotSent, SlotIdle}
+use Rattle.connection_laws.proofs.StationAnswers.{SlotPast, slot_to, IsAdmitted, halted_by}
 use Rattle.connection_laws.proofs.KeptParts.{reply_keeps, slot_keeps}
 use Rattle.connection_laws.proofs.CourseInduction.{Piece, AnsweredRequest, asking_of, begin_of}
 use Rattle.connection_laws.proofs.ReplyBoundaries.{StillRequest, still_asked, unasked}
 use Rattle.admission.specs.Histories.{play_admitted}
 use Rattle.station.specs.Ledgers.{play_of}
+use Rattle.conn.proofs.StationAnswers.{ComesAs, BytesCame, SlotCame}
+use Rattle.conn.specs.EventSteps.{Round}
 
 -- what the runs of a session go by, and what of a reply matters to them
 record Stream : Type 0 where
@@ -315,27 +316,21 @@ module _ (words : List ℕ) where
       rw (awaited, state)
       (halts (record { s = s; setup = setup; play = play; keep = keep; left = left }) placed new)
 
-  finishes : {awaited : Awaited} {halt : Outcome} (s new : SessionState) → AsksDone s → s.awaited ≡ awaited
-      → FinishesAs s new awaited halt → Leads s new (Asks s.awaited halt ∷ [])
-  finishes s new asks is (NothingLeft same) =
-      rw same (still (unasked s.awaited) (none_asked s.looks_left s.awaited is) (moves_none s))
-  finishes s new (inl rest) is (DoneHalted {keep = keep} {next = next} halted) =
-      let no : Nothing ≡ Halt keep next = sym rest ∙ is in absurd (let clash : ⊥ = cc in clash)
-  finishes s new (inr done) is (DoneHalted {keep = keep} {next = next} {placed = placed} halted) =
-      let asked : Halt done.keep Done ≡ Halt keep next = sym done.asks ∙ is in
-      let size : keep ≡ done.keep = cc in
-      halts_in s done.setup done.play done.keep Done placed new done.state_is done.asks tt
-      (subst (λ k. IsHaltAnswered s k placed new) size halted)
+  finishes : {s new : SessionState} {halt : Outcome} → Finished s halt new → Leads s new (Asks s.awaited halt ∷ [])
+  finishes {s} (Quiet rest) =
+      still (unasked s.awaited) (none_asked s.looks_left s.awaited rest) (moves_none s)
+  finishes {s} (Ended {placed = placed} done entry) =
+      halts_in s done.setup done.play done.keep Done placed (after_halt s placed.place) done.state_is done.asks tt
+      (halted_by entry)
 
-  comes_leads : {old opened : Stage} {event : IoEvent} {parts : List SentPart} {halt : Outcome} → Stands old.session
-      → ComesAs old opened event parts halt
-      → Leads old.session opened.session (Asks (asked_by old.session event) halt ∷ [])
-  comes_leads {old} stands (BytesCame is) =
-      rw is (still (unasked Nothing) (sym (minus_none old.session.looks_left)) (moves_none old.session))
-  comes_leads {old} {opened} stands (SlotCame {slot = slot} finish) =
+  comes_leads : {old opened : Stage} {round : Round} → Stands old.session → ComesAs old round opened
+      → Leads old.session opened.session (Asks (asked_by old.session round.event) round.halt ∷ [])
+  comes_leads {old} stands BytesCame =
+      still (unasked Nothing) (sym (minus_none old.session.looks_left)) (moves_none old.session)
+  comes_leads {old} stands (SlotCame {slot = slot} finish) =
       let to = slot_to old.session slot in
       leads_then (moves (slot_looks old.session slot) (slot_moves to))
-      (finishes (after_slot old.session slot) opened.session (slot_asks to stands.rest) refl finish)
+      (finishes (finish_by (slot_asks to stands.rest) refl finish))
 
   -- ---- requests
 
@@ -640,7 +635,7 @@ module _ (words : List ℕ) where
     none = λ s. moves words refl (moves_none words s);
     joins = λ a b c one two first rest. leads_then words first rest;
     request = λ old new request stands. answered_leads request stands;
-    event = λ old opened event due halt comes stands. comes_leads words stands comes;
+    event = λ old opened round comes stands. comes_leads words stands comes;
   }
 
 -- what leads through a course

@@ -5,13 +5,12 @@ use Rattle.film_frames.specs.declared.stored_films.Stored.{Stored}
 use Rattle.admission.specs.declared.entries.Answer.{Answer}
 use Rattle.admission.specs.Makers.{PlacedEntry}
 use Rattle.session.specs.declared.commands.Ask.{Ask}
-use Rattle.session.specs.declared.states.Awaited.{Awaited}
 use Rattle.session_records.specs.declared.notes.OfferNote.{OfferNote}
 use Rattle.session_records.specs.declared.notes.Receipt.{Receipt}
 use Rattle.session_records.specs.declared.notes.Receipt.TheVariants.{Entry as EntryReceipt, Full as FullReceipt}
 use Rattle.film_streams.specs.declared.settings.Settings.{Settings}
 use Rattle.session.specs.SlotSteps.{after_slot, sent_reply}
-use Rattle.session.specs.SessionStates.{OpenBooking, SessionState}
+use Rattle.session.specs.SessionStates.{OpenBooking, SessionState, AwaitedAnswer}
 use Rattle.session_laws.proofs.RequestShapes.{HearsAs, Replies, SetsUp, AsksPlay, Stops, AsksLook, AsksOffer, hears_as}
 use Rattle.conn.specs.InputSteps.{HasHeard, Outcome, Unasked, Entered, WasFull}
 use Rattle.conn.specs.declared.reports.ConnReport.{ConnReport}
@@ -19,11 +18,13 @@ use Rattle.conn.specs.Agreement.{Activity, HasDone, doings_outcomes}
 use Rattle.connection_laws.specs.Courses.{first_stage}
 use Rattle.connection_laws.specs.Receipts.{offer_in, offers_in, receipt_in, receipts_in}
 use Rattle.connection_laws.proofs.StationAnswers.{AnswersAs, NoneAsked, PlayAdmitted, PlayRefused, PlayFull, PlayHalted}
-use Rattle.connection_laws.proofs.StationAnswers.{LookMade, LookFull, OfferMade, answers_as, FinishesAs, NothingLeft}
-use Rattle.connection_laws.proofs.StationAnswers.{DoneHalted, ClosesAs, NothingOpen, BookingHalted}
+use Rattle.connection_laws.proofs.StationAnswers.{LookMade, LookFull, OfferMade, answers_as, ClosesAs, NothingOpen}
+use Rattle.connection_laws.proofs.StationAnswers.{BookingHalted}
 use Rattle.connection_laws.proofs.KeptParts.{slot_keeps}
 use Rattle.connection_laws.specs.Notes.{StationCall, outcome_of}
 use Rattle.connection_laws.proofs.CourseTurns.{IsKeptByDoings, doings_kept, turns_told}
+use Rattle.conn.proofs.StationAnswers.{FinishesAs, NothingLeft, DoneHalted}
+use Rattle.session.specs.RequestSteps.{after_halt}
 
 -- what is noted of answers grows by theirs
 record Logs (old new : SessionState) (outcomes : List Outcome) : Type 0 where
@@ -126,10 +127,10 @@ logs_slot old slot = logs_same old (after_slot old slot)
       idle = λ s n. refl;
     }) old slot)
 
-logs_finished : {s new : SessionState} {awaited : Awaited} {halt : Outcome} → FinishesAs s new awaited halt
+logs_finished : {s new : SessionState} {asks : AwaitedAnswer} {halt : Outcome} → FinishesAs s asks halt new
     → Logs s new (halt ∷ [])
-logs_finished {s} {new} (NothingLeft is) = logs_unasked s new (ap log_of is)
-logs_finished {s} {new} (DoneHalted {placed = p} halt) = logs_entry s new p halt.answer (ap log_of halt.halts)
+logs_finished {s} NothingLeft = logs_unasked s s refl
+logs_finished {s} (DoneHalted {placed = p} entry) = logs_entry s (after_halt s p.place) p entry.answer_is refl
 
 logs_closed : {last closed : SessionState} {booking : Option OpenBooking} {halt : Outcome}
     → ClosesAs last closed booking halt → Logs last closed (halt ∷ [])

@@ -12,17 +12,15 @@ use Rattle.conn.specs.InputSteps.{Answered, Film, SentPart, Passed, Stage, Eleme
 use Rattle.conn.specs.InputSteps.{parts_bytes, Outcome, due_parts}
 use Rattle.connection_laws.specs.Replies.{PlacedText, placed_texts, insert_texts, text_of, waiting_reply, course_texts}
 use Rattle.connection_laws.specs.Replies.{course_replies}
-use Rattle.vod_base.specs.Links.{IoEvent}
-use Rattle.session.specs.declared.states.Awaited.{Awaited}
 use Rattle.session.specs.declared.states.Awaited.TheVariants.{Nothing}
 use Rattle.session.specs.RequestSteps.{is_answered}
-use Rattle.session.specs.SlotSteps.{can_reply, is_between, sent_due, sent_reply, step_bytes, stepped_in}
-use Rattle.session.specs.SessionStates.{SessionState}
+use Rattle.session.specs.SlotSteps.{can_reply, is_between, sent_due, sent_reply, step_bytes, stepped_in, next_of}
+use Rattle.session.specs.SessionStates.{SessionState, awaited_answer}
 use Rattle.connection_laws.proofs.CourseSteps.{Stands, turn_after, IsKeptStanding, film_written_is, request_turns}
-use Rattle.connection_laws.proofs.CourseSteps.{all_kept, AsksDone, done_next, slot_asks, film_sent}
-use Rattle.connection_laws.proofs.StationAnswers.{FinishesAs, NothingLeft, DoneHalted, ComesAs, BytesCame, SlotCame}
+use Rattle.connection_laws.proofs.CourseSteps.{all_kept, slot_asks, film_sent, Finished, Quiet, Ended, finish_by}
 use Rattle.connection_laws.proofs.StationAnswers.{SlotTo, SlotSent, SlotIdle, SlotPast, slot_to}
 use Rattle.connection_laws.proofs.CourseInduction.{Piece, AnsweredRequest, begin_of}
+use Rattle.conn.proofs.StationAnswers.{FinishesAs, ComesAs, BytesCame, SlotCame}
 
 -- the first text stands at or after a place
 abbrev IsFrom : ℕ → List PlacedText → Type 0
@@ -148,12 +146,10 @@ answered_replies {old} request stands =
     open request use {outcome, parts, replied}
 
 -- a play that is done is halted without a reply
-finished_waiting : {s new : SessionState} {awaited : Awaited} {halt : Outcome} → FinishesAs s new awaited halt
-    → AsksDone s → waiting_reply new ≡ waiting_reply s
-finished_waiting (NothingLeft is) asks = ap waiting_reply is
-finished_waiting {s} (DoneHalted halt) asks =
-    ap waiting_reply halt.halts ∙ ap (λ n. if (if is_answered n then true else s.waits) then s.text ∷ [] else [])
-    (done_next asks)
+finished_waiting : {s new : SessionState} {halt : Outcome} → Finished s halt new → waiting_reply new ≡ waiting_reply s
+finished_waiting (Quiet rest) = refl
+finished_waiting {s} (Ended done entry) =
+    ap (λ n. if (if is_answered n then true else s.waits) then s.text ∷ [] else []) (ap next_of done.asks)
 
 reply_waiting : (goes : Bool) (s : SessionState)
     → waiting_reply (if goes then sent_reply s else s) ≡ (if (if goes then false else s.waits) then s.text ∷ [] else [])
@@ -179,15 +175,14 @@ sent_texts (SlotIdle none later) = refl
 sent_texts SlotPast = refl
 
 slot_replies : {old s new : SessionState} {slot : ℕ} {parts : List SentPart} {halt : Outcome} → old.awaited ≡ Nothing
-    → SlotTo old slot s parts → FinishesAs s new s.awaited halt → Replies old (texts_in parts) [] new
+    → SlotTo old slot s parts → FinishesAs s (awaited_answer s) halt new → Replies old (texts_in parts) [] new
 slot_replies {old} {parts = parts} rest to finishing =
-    ap (λ ts. texts_in parts ++ ts) (finished_waiting finishing (slot_asks to rest)) ∙ sent_texts to
+    ap (λ ts. texts_in parts ++ ts) (finished_waiting (finish_by (slot_asks to rest) refl finishing)) ∙ sent_texts to
     ∙ sym (append-nil (waiting_reply old))
 
-comes_replies : {old opened : Stage} {event : IoEvent} {due : List SentPart} {halt : Outcome}
-    → ComesAs old opened event due halt → Stands old.session → Replies old.session (texts_in due) [] opened.session
-comes_replies {old} {opened} (BytesCame is) stands =
-    waiting_same old.session opened.session (ap (λ (s : Stage). s.session) is)
+comes_replies : {old opened : Stage} {round : Round} → ComesAs old round opened → Stands old.session
+    → Replies old.session (texts_in round.due) [] opened.session
+comes_replies {old} BytesCame stands = waiting_same old.session old.session refl
 comes_replies {old} (SlotCame {slot = slot} finish) stands =
     slot_replies stands.rest (slot_to old.session slot) finish
 
@@ -206,7 +201,7 @@ replies_kept = record {
         replied = rest;
       }) (texts_in one.parts) one.replies first);
   request = λ old new request stands. answered_replies request stands;
-  event = λ old opened event due halt comes stands. comes_replies comes stands;
+  event = λ old opened round comes stands. comes_replies comes stands;
 }
 
 -- in a connection's course

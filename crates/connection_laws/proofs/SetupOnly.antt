@@ -5,9 +5,9 @@ use Rattle.std.proofs.Common.{ℕ, ◌≡◌, ◌≢◌, List, [], ◌∷◌, �
 use Rattle.std.proofs.Common.{true, false, None, sym, subst}
 use Rattle.session.specs.declared.states.Awaited.{Awaited}
 use Rattle.session.specs.RefusalOrder.{IsReadAs}
-use Rattle.session.specs.SessionStates.{SessionState}
+use Rattle.session.specs.SessionStates.{SessionState, awaited_answer_of}
 use Rattle.rtsp_text.specs.declared.requests.Request.{Request}
-use Rattle.conn.specs.InputSteps.{Outcome, SentPart, Stage, Entered, IsAskAnswered, Offered, Unasked, WasFull}
+use Rattle.conn.specs.InputSteps.{Outcome, Stage, Entered, IsAskAnswered, Offered, Unasked, WasFull}
 use Rattle.connection_laws.specs.Courses.{Course, course_plays}
 use Rattle.connection_laws.specs.Plays.{StationRequest, plays_begun, plays_of}
 use Rattle.connection_laws.proofs.CourseSteps.{Stands, request_turns, request_stands, stands_by, event_step}
@@ -15,9 +15,8 @@ use Rattle.connection_laws.proofs.CourseSteps.{first_stands}
 use Rattle.session_laws.proofs.PlayInReadyLemmas.{play_heard}
 use Rattle.connection_laws.proofs.BookedPlays.{comes_none}
 use Rattle.connection_laws.proofs.RequestEffects.{Begins, Ends, Starts, Stays, TurnsAs}
-use Rattle.connection_laws.proofs.StationAnswers.{nothing_left, ComesAs, BytesCame, SlotCame}
+use Rattle.connection_laws.proofs.StationAnswers.{nothing_left}
 use Rattle.std.proofs.lemmas.Bool.{true≢false}
-use Rattle.vod_base.specs.Links.{IoEvent}
 use Rattle.film_frames.specs.declared.stored_films.Stored.{Stored}
 use Rattle.rtsp_text.specs.RequestTexts.{request_head}
 use Rattle.rtsp_client.specs.RequestParts.{IsSessionId, setup_parts}
@@ -37,6 +36,8 @@ use Rattle.session.specs.SlotTransitions.{after_stop}
 use Rattle.connection_laws.proofs.ClientSetups.{IsSettled, settled_by, setup_is}
 use Rattle.session_laws.proofs.SetupLemmas.{IsSetupRequest, SetupHeard, Refused, Settled, setup_heard}
 use Rattle.connection_laws.proofs.CourseInduction.{AnsweredRequest, Piece, GoesBack, course_back, rounds_requests}
+use Rattle.conn.proofs.StationAnswers.{ComesAs, BytesCame, SlotCame}
+use Rattle.conn.specs.EventSteps.{Round}
 
 abbrev pub IsNoPlay : List ℕ → Type 0
 IsNoPlay message = (request : Request) → IsReadAs message request → request.method.now ≢ codes "PLAY"
@@ -75,7 +76,7 @@ none_back = record {
   request = λ old new request later none stands are.
       ap (λ l. l ++ plays_of later.askings) (no_play_begins request stands are.0 later.askings)
       ∙ none (request_stands request stands) are.1;
-  event = λ old opened event due halt comes later none stands are.
+  event = λ old opened round comes later none stands are.
       ap (λ l. l ++ plays_of later.askings) (comes_none comes later.askings)
       ∙ none (stands_by (event_step stands comes)) are;
 }
@@ -137,17 +138,16 @@ heard_on : (old : SessionState) (slot : ℕ) (taken sending : Bool) → sending 
 heard_on old slot true true is = absurd (true≢false is)
 heard_on old slot _ _ is = refl
 
-comes_same : {old opened : Stage} {event : IoEvent} {due : List SentPart} {halt : Outcome}
-    → ComesAs old opened event due halt → old.session.awaited ≡ Nothing → is_sending old.session.state ≡ false
-    → unsent_part opened.session ≡ unsent_part old.session
-comes_same (BytesCame is) rest idle = ap (λ (s : Stage). unsent_part s.session) is
+comes_same : {old opened : Stage} {round : Round} → ComesAs old round opened → old.session.awaited ≡ Nothing
+    → is_sending old.session.state ≡ false → unsent_part opened.session ≡ unsent_part old.session
+comes_same BytesCame rest idle = refl
 comes_same {old} (SlotCame {slot = slot} finish) rest idle =
     let on = heard_on old.session slot (is_taken old.session slot) (is_sending old.session.state) idle in
-    let same = nothing_left finish (ap (λ (part : UnsentPart). part.awaited) on ∙ rest) in
-    ap unsent_part same.0 ∙ on
+    let awaited = ap (λ (part : UnsentPart). part.awaited) on ∙ rest in
+    ap unsent_part (nothing_left finish (ap awaited_answer_of awaited)) ∙ on
 
-pub event_waits : {b : Beginning} {old opened : Stage} {event : IoEvent} {due : List SentPart} {halt : Outcome}
-    → ComesAs old opened event due halt → IsWaiting b old.session → IsWaiting b opened.session
+pub event_waits : {b : Beginning} {old opened : Stage} {round : Round} → ComesAs old round opened
+    → IsWaiting b old.session → IsWaiting b opened.session
 event_waits {b} {old} comes waits =
     let on = comes_same comes waits.stands.rest
     (unsending b.wish b.films old.session.state waits.unbegun) in

@@ -1,8 +1,7 @@
 -- What the station can answer, case by case: to what a session asks after a request, in a slot, and
 -- as its connection ends.
-use Rattle.std.proofs.Common.{◌≡◌, ℕ, ◌^◌, ◌<◌, ◌++◌, List, Option, Some, None, refl, ap, sym, ◌∙◌, ◌&&◌, if◌then◌else◌}
-use Rattle.std.proofs.Common.{Bool, nat_lt, nat_le, [], true, false}
-use Rattle.vod_base.specs.Links.{IoEvent, HeardBytes, HeardSlot}
+use Rattle.std.proofs.Common.{◌≡◌, ℕ, ◌^◌, ◌<◌, List, Option, Some, None, refl, ap, sym, ◌∙◌, ◌&&◌, if◌then◌else◌, Bool}
+use Rattle.std.proofs.Common.{nat_lt, nat_le, [], true, false}
 use Rattle.admission.specs.declared.entries.Answer.{Answer}
 use Rattle.admission.specs.declared.entries.Answer.TheVariants.{Admitted, Halted, Looked, Overflow}
 use Rattle.admission.specs.Makers.{PlacedEntry}
@@ -14,17 +13,17 @@ use Rattle.session.specs.declared.commands.Ask.TheVariants.{Reply as AskReply, P
 use Rattle.session.specs.declared.commands.Ask.TheVariants.{Look as AskLook, Offer as AskOffer}
 use Rattle.session.specs.declared.states.AfterHalt.{AfterHalt}
 use Rattle.session.specs.declared.states.Awaited.{Awaited}
-use Rattle.session.specs.declared.states.Awaited.TheVariants.{Nothing, Halt}
+use Rattle.session.specs.declared.states.Awaited.TheVariants.{Nothing, Halt, Play, Look, Offer}
 use Rattle.session.specs.RequestSteps.{after_admission, after_full, after_halt, after_look, after_offer, after_overflow}
 use Rattle.session.specs.SlotSteps.{after_slot, after_play, is_sending, sent_slot}
 use Rattle.session.specs.SlotTransitions.{IsPlayIn}
-use Rattle.session.specs.SessionStates.{OpenBooking, SessionState, awaited_answer_of}
+use Rattle.session.specs.SessionStates.{OpenBooking, SessionState, awaited_answer_of, AwaitedAnswer, NoAnswer}
+use Rattle.session.specs.SessionStates.{HaltAnswer}
 use Rattle.session_records.specs.declared.notes.OfferNote.{OfferNote}
-use Rattle.conn.specs.EventSteps.{Comes}
-use Rattle.conn.specs.InputSteps.{IsAskAnswered, IsClosed, IsFinished, IsHaltAnswered, IsHalted, IsLookAnswered}
-use Rattle.conn.specs.InputSteps.{IsPlayAnswered, Outcome, Unasked, Entered, WasFull, Offered, SentPart, Stage}
-use Rattle.conn.specs.InputSteps.{slot_parts, stage, due_parts}
+use Rattle.conn.specs.InputSteps.{IsAskAnswered, IsClosed, IsHaltAnswered, IsHalted, IsLookAnswered, IsPlayAnswered}
+use Rattle.conn.specs.InputSteps.{Outcome, Unasked, Entered, WasFull, Offered, SentPart, slot_parts, due_parts}
 use Rattle.std.proofs.lemmas.Bool.{and_parts, ltb-true}
+use Rattle.conn.proofs.StationAnswers.{FinishesAs, NothingLeft, DoneHalted, IsHaltEntry}
 
 -- a play of this plan was admitted
 pub record IsAdmitted (asking : SessionState) (plan : List Segment) (placed : PlacedEntry) (new : SessionState) : Type 0
@@ -162,31 +161,30 @@ answers_as (AskLook slot) (WasFull more entries live) answered = LookFull answer
 answers_as (AskOffer plan offers) (Offered at_slot note) answered = OfferMade answered.2
 answers_as _ _ answered = absurd answered
 
--- a slot leaves nothing to ask, or a play that is done is halted
-pub data FinishesAs (s new : SessionState) : Awaited → Outcome → Type 0 where
-  NothingLeft : new ≡ s → FinishesAs s new Nothing Unasked
-  DoneHalted : {keep : ℕ} {next : AfterHalt} {placed : PlacedEntry} → IsHaltAnswered s keep placed new
-      → FinishesAs s new (Halt keep next) (Entered placed)
+pub finish_leaves : {new : SessionState} {asks : AwaitedAnswer} {outcome : Outcome} (s : SessionState)
+    → FinishesAs s asks outcome new → new ≡ after_outcome s outcome
+finish_leaves s NothingLeft = refl
+finish_leaves s (DoneHalted {placed = p} entry) = entry_leaves s p entry.answer_is refl
 
-pub finish_leaves : {new : SessionState} {awaited : Awaited} {outcome : Outcome} (s : SessionState)
-    → FinishesAs s new awaited outcome → new ≡ after_outcome s outcome
-finish_leaves s (NothingLeft is) = is
-finish_leaves s (DoneHalted {placed = p} halt) = entry_leaves s p halt.answer halt.halts
+pub nothing_left : {s new : SessionState} {asks : AwaitedAnswer} {outcome : Outcome} → FinishesAs s asks outcome new
+    → asks ≡ NoAnswer → new ≡ s
+nothing_left NothingLeft none = refl
+nothing_left (DoneHalted {keep = keep} entry) none = absurd (let no : ⊥ = cc in no)
 
-pub nothing_left : {s new : SessionState} {awaited : Awaited} {outcome : Outcome} → FinishesAs s new awaited outcome
-    → awaited ≡ Nothing → (new ≡ s) × (outcome ≡ Unasked)
-nothing_left (NothingLeft is) none = (is, refl)
-nothing_left (DoneHalted {keep = keep} {next = next} halt) none = absurd (let no : ⊥ = cc in no)
+-- the session after a halt
+pub halted_by : {s : SessionState} {keep : ℕ} {placed : PlacedEntry} → IsHaltEntry keep placed
+    → IsHaltAnswered s keep placed (after_halt s placed.place)
+halted_by entry =
+    record { number = entry.number; command = entry.command; answer = entry.answer_is; halts = refl }
 
-done_as : {s new : SessionState} {keep : ℕ} {next : AfterHalt} {outcome : Outcome} → HaltsAs s new keep outcome
-    → FinishesAs s new (Halt keep next) outcome
-done_as (HaltEntered halted) = DoneHalted halted
-
-pub finishes_as : {s new : SessionState} (awaited : Awaited) (outcome : Outcome)
-    → IsFinished (awaited_answer_of awaited) s outcome new → FinishesAs s new awaited outcome
-finishes_as Nothing Unasked is = NothingLeft is
-finishes_as (Halt keep next) outcome is = done_as (halts_as outcome is)
-finishes_as _ _ is = absurd is
+-- what a halt was asked for
+pub halt_of : {keep : ℕ} (awaited : Awaited) → awaited_answer_of awaited ≡ HaltAnswer keep
+    → (next : AfterHalt) × (awaited ≡ Halt keep next)
+halt_of (Halt kept next) is = (next, cc)
+halt_of Nothing is = absurd (let no : ⊥ = cc in no)
+halt_of (Play prepared) is = absurd (let no : ⊥ = cc in no)
+halt_of (Look sequence) is = absurd (let no : ⊥ = cc in no)
+halt_of (Offer sequence) is = absurd (let no : ⊥ = cc in no)
 
 -- a connection ends without an open booking, or it halts its booking with what is due
 pub data ClosesAs (old new : SessionState) : Option OpenBooking → Outcome → Type 0 where
@@ -222,19 +220,3 @@ slot_by {taken = false} later is = SlotPast
 pub slot_to : (old : SessionState) (slot : ℕ) → SlotTo old slot (after_slot old slot) (slot_parts old slot)
 slot_to old slot =
     slot_by (λ taken. ltb-true old.heard slot (and_parts (nat_lt old.heard slot) (nat_le slot (2 ^ 62)) taken).0) refl
-
--- an event came: bytes, or a slot
-pub data ComesAs (old opened : Stage) : IoEvent → List SentPart → Outcome → Type 0 where
-  BytesCame : {bytes : List ℕ} → opened ≡ stage old.session (old.input ++ bytes)
-      → ComesAs old opened (HeardBytes bytes) [] Unasked
-  SlotCame : {slot : ℕ} {halt : Outcome}
-      → FinishesAs (after_slot old.session slot) opened.session (after_slot old.session slot).awaited halt
-      → ComesAs old opened (HeardSlot slot) (slot_parts old.session slot) halt
-
-pub comes_as : {old opened : Stage} (event : IoEvent) (due : List SentPart) (halt : Outcome)
-    → Comes old event due halt opened → ComesAs old opened event due halt
-comes_as {old} {opened} (HeardBytes bytes) due halt comes =
-    rw (comes.0, comes.1) (BytesCame comes.3)
-comes_as {old} {opened} (HeardSlot slot) due halt comes =
-    rw comes.1.parts_are (SlotCame (finishes_as (after_slot old.session slot).awaited halt comes.1.finished))
-comes_as _ due halt comes = absurd comes

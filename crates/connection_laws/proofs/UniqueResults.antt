@@ -3,18 +3,17 @@ use Rattle.std.specs.Prelude.{⊤}
 use Rattle.std.proofs.Common.{◌≡◌, ℕ, ◌++◌, Bool, true, false, List, [], ◌∷◌, refl, ap, sym, ◌∙◌, subst, inl, inr}
 use Rattle.session.specs.declared.commands.Ask.{Ask}
 use Rattle.session.specs.declared.commands.Ask.TheVariants.{Reply as AskReply}
-use Rattle.session.specs.declared.states.Awaited.{Awaited}
-use Rattle.session.specs.declared.states.Awaited.TheVariants.{Halt}
 use Rattle.session.specs.RequestSteps.{Hears}
 use Rattle.session.specs.Laws.{IsOneAnswer}
 use Rattle.film_streams.specs.SettingRanges.{AreFilms}
 use Rattle.session_laws.proofs.AnswerUniqueness.{hears_once}
 use Rattle.session.specs.SlotSteps.{after_slot}
-use Rattle.session.specs.SessionStates.{SessionState}
+use Rattle.session.specs.SessionStates.{SessionState, AwaitedAnswer, HaltAnswer, awaited_answer}
 use Rattle.conn.specs.InputSteps.{Outcome, Unasked, SentPart, HasStepped, IsAskAnswered}
 use Rattle.connection_laws.specs.InputSplits.{AreSameAnswers, HeardRequest, LackMemoryAlike, RanOutOfMemory, answer_in}
-use Rattle.connection_laws.proofs.StationAnswers.{AnswersAs, NoneAsked, answer_leaves, answers_as, FinishesAs}
-use Rattle.connection_laws.proofs.StationAnswers.{NothingLeft, DoneHalted, after_outcome, finish_leaves, finishes_as}
+use Rattle.connection_laws.proofs.StationAnswers.{AnswersAs, NoneAsked, answer_leaves, answers_as, after_outcome}
+use Rattle.connection_laws.proofs.StationAnswers.{finish_leaves}
+use Rattle.conn.proofs.StationAnswers.{FinishesAs, NothingLeft, DoneHalted, finishes_as}
 
 -- ---- a request is received
 
@@ -125,14 +124,14 @@ answers_same {one = one} {other = other} old ask alike answered =
 
 -- ---- a slot is processed
 
-abbrev is_halting : Awaited → Bool
-is_halting (Halt keep next) = true
+abbrev is_halting : AwaitedAnswer → Bool
+is_halting (HaltAnswer keep) = true
 is_halting _ = false
 
-finished_as : {s new : SessionState} {awaited : Awaited} {outcome : Outcome} → FinishesAs s new awaited outcome
-    → IsAsked (is_halting awaited) outcome
-finished_as (NothingLeft is) = refl
-finished_as (DoneHalted halt) = tt
+finished_as : {s new : SessionState} {asks : AwaitedAnswer} {outcome : Outcome} → FinishesAs s asks outcome new
+    → IsAsked (is_halting asks) outcome
+finished_as NothingLeft = refl
+finished_as (DoneHalted entry) = tt
 
 -- a slot was processed, with these parts sent, and a play that is then done was halted
 pub record SlotResult (old : SessionState) (slot : ℕ) (halt : Outcome) : Type 0 where
@@ -145,8 +144,8 @@ pub steps_same : {old : SessionState} {slot : ℕ} {one other : Outcome} (alike 
     → (also.due ≡ is.due) × (also.new ≡ is.new) × AreSameAnswers alike.ones alike.others
 steps_same {old} {slot} {one} {other} alike is also =
     let s = after_slot old slot in
-    let first = finishes_as s.awaited one is.stepped.finished in
-    let second = finishes_as s.awaited other also.stepped.finished in
-    let both = results_same s (is_halting s.awaited) alike (finished_as first, finished_as second)
+    let first = finishes_as (awaited_answer s) one is.stepped.finished in
+    let second = finishes_as (awaited_answer s) other also.stepped.finished in
+    let both = results_same s (is_halting (awaited_answer s)) alike (finished_as first, finished_as second)
     (finish_leaves s first, finish_leaves s second) in
     (also.stepped.parts_are ∙ sym is.stepped.parts_are, both.0, both.1)
