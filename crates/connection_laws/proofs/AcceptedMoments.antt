@@ -199,6 +199,10 @@ EndsInDone = (film : Film) (identity : Identity) (wish : Wish) (h : History) (me
     → identity.ssrc < 2 ^ 32 → AwaitsFilm film h → frames_of_film film identity ≡ frames_heard h → replies h ≡ 2
     → IsAnswer message 3 200 → Gives wish h (Reply message) (Done (watched_in wish h))
 
+pub record FilmClauses : Type 0 where
+  pub accepts : AcceptsFrames
+  pub done : EndsInDone
+
 -- a film's stream, and what a client makes of its frames
 pub record FilmStream : Type 0 where
   pub film : Film
@@ -207,8 +211,7 @@ pub record FilmStream : Type 0 where
   pub film_in : IsFilmIn film identity x
   pub small : identity.ssrc < 2 ^ 32
   pub readable : IsReadable film x
-  pub accepts : AcceptsFrames
-  pub done : EndsInDone
+  pub clauses : FilmClauses
 
 -- what a client has gone on at
 pub record HasAccepted (elements : List (List ℕ)) (h : History) : Type 0 where
@@ -323,7 +326,7 @@ module _ {h : History} {moment : ClientEvent} (wish : Wish) (s : FilmStream) whe
             ∙ frames_front qs b rest frame
             ∙ ap (λ l. l ++ b ∷ frames_of (events_of_elements rest)) (sym (accepted.frames ∙ two_frames x qs)) in
             let good : GoesOn h (Frame b) =
-            s.accepts film identity h b (frames_of (events_of_elements rest)) s.small inside.awaits frames in
+            s.clauses.accepts film identity h b (frames_of (events_of_elements rest)) s.small inside.awaits frames in
             subst (IsAccepted wish h) (same_moment b moment_is frame) (inl good)
         | inr report ↦ subst (IsAccepted wish h) (same_moment b moment_is report) (inl tt)
       ]
@@ -338,7 +341,7 @@ module _ {h : History} {moment : ClientEvent} (wish : Wish) (s : FilmStream) whe
       let texts : AreTexts (last ∷ rest) = subst AreTexts later x.later_are in
       let answers : AreAnswers (last ∷ rest) = subst AreAnswers later s.readable.later_are in
       reply_moment wish last moment_is refl texts.0.moment
-      (inr (s.done film identity wish h last s.small inside.awaits frames inside.two answers.0))
+      (inr (s.clauses.done film identity wish h last s.small inside.awaits frames inside.two answers.0))
 
   -- after the two first replies
   later_moment : (qs : List (List ℕ)) (e : List ℕ) (es : List (List ℕ)) → HasAccepted (x.first ∷ x.second ∷ qs) h

@@ -134,19 +134,6 @@ pub record IsSettled (wish : Wish) (films : List Stored) (setup : Setup) : Type 
   pub delay : setup.delay ≡ wish.startup
   pub film : (film : Stored) → IsFilmAt films setup.film film → string_bytes film.name ≡ string_bytes wish.name
 
-setup_transport : (wish : Wish) → value_named (codes "Transport") (setup_parts wish).fields
-    ≡ Some (codes "RTP/AVP/TCP;unicast;interleaved=0-1")
-unfolding value_named
-setup_transport wish = refl
-
-setup_buffer : (wish : Wish) → value_named (codes "x-Buffer") (setup_parts wish).fields ≡ Some (decimal wish.buffer)
-unfolding value_named
-setup_buffer wish = refl
-
-setup_delay : (wish : Wish) → value_named (codes "x-Startup") (setup_parts wish).fields ≡ Some (decimal wish.startup)
-unfolding value_named
-setup_delay wish = refl
-
 two_channels : (channels : Channels) → IsTransport (codes "RTP/AVP/TCP;unicast;interleaved=0-1") channels
     → channels ≡ record { media = 0; control = 1 }
 two_channels channels is =
@@ -183,30 +170,27 @@ name_at {films} {authority} {number} wish is port names film at =
 pub settled_by : {films : List Stored} {settings : Settings} {setup : Setup} {authority : List ℕ} (wish : Wish)
     → IsWish wish → wish.port < 2 ^ 16 → AsksForSetup settings (request_head (setup_parts wish)) setup.film setup
     → Names films (film_url wish ++ codes "/video") authority setup.film → IsSettled wish films setup
+unfolding value_named
 settled_by {films} {settings} {setup} wish is port asks names =
     let values = (setup-asked wish is port).values in
     let C : Option (List ℕ) → Type 0 = λ v. AreChannelsOf v (record { media = setup.media; control = setup.control }) in
     let B : Option (List ℕ) → Type 0 = λ v. IsChosen v settings.buffer 1 (2 ^ 42) setup.buffer in
     let D : Option (List ℕ) → Type 0 = λ v. IsChosen v settings.startup 0 10000 setup.delay in
     let channels = two_channels (record { media = setup.media; control = setup.control })
-    (subst C (values (codes "Transport") ∙ setup_transport wish) asks.channels) in
+    (subst C (values (codes "Transport")) asks.channels) in
     record {
       media = ap (λ (c : Channels). c.media) channels;
       control = ap (λ (c : Channels). c.control) channels;
       buffer = chosen_is wish.buffer
-          (subst B (values (codes "x-Buffer") ∙ setup_buffer wish) asks.buffer) (omega (arith, is.most_buffer));
+          (subst B (values (codes "x-Buffer")) asks.buffer) (omega (arith, is.most_buffer));
       delay = chosen_is wish.startup
-          (subst D (values (codes "x-Startup") ∙ setup_delay wish) asks.delay) (omega (arith, is.startup));
+          (subst D (values (codes "x-Startup")) asks.delay) (omega (arith, is.startup));
       film = name_at wish is port names;
     }
 
 -- ---- PLAY
 
-play_range : (wish : Wish) (session : List ℕ)
-    → value_named (codes "Range") (play_parts wish session).fields ≡ Some (codes "npt=0-")
-unfolding value_named
-play_range wish session = refl
-
 pub range_is : (wish : Wish) (session : List ℕ) → IsWish wish → wish.port < 2 ^ 16 → IsSessionId session
     → header_value (request_head (play_parts wish session)) (codes "Range") ≡ Some (codes "npt=0-")
-range_is wish session is port id = (play-asked wish session is port id).values (codes "Range") ∙ play_range wish session
+unfolding value_named
+range_is wish session is port id = (play-asked wish session is port id).values (codes "Range")

@@ -100,22 +100,22 @@ module _ {R : SessionState → List StationCall → SessionState → Type 0} (ke
       (rounds_calls runs.0 rounds new runs.1.2) (round_kept old runs.0 round runs.1.0)
       (rounds_kept runs.0 new rounds runs.1.2)
 
-  ending_kept : (old new : Stage) (count : ℕ) (ending : Ending) (end : ConnEnd)
-      (ends : Ends old count ending end new) → R old.session (ending_calls old count ending end new ends) new.session
-  ending_kept old new count (Overfull bytes) end ends = still old new ends.3
-  ending_kept old new count (AtElement round) end ends = round_kept old new round ends.0
-  ending_kept old new count (InSlot slot front) end ends = kept.failed old new slot front ends.1
-  ending_kept old new count (InReply round message outcome front) end ends =
-      let e = ends.1 in
+  ending_kept : (old : Stage) (ending : Ending) (ended : CourseEnd old ending)
+      → R old.session (ending_calls old ended.count ending ended.end ended.new ended.ends) ended.new.session
+  ending_kept old (Overfull bytes) ended = still old ended.new ended.ends.3
+  ending_kept old (AtElement round) ended = round_kept old ended.new round ended.ends.0
+  ending_kept old (InSlot slot front) ended = kept.failed old ended.new slot front ended.ends.1
+  ending_kept old (InReply round message outcome front) ended =
+      let e = ended.ends.1 in
       let s : SessionState = e.fails.answered in
       let turn = station_call e.fails.heard.asking outcome in
       let last : R e.mid.session (turn ∷ []) (record s { lost = true }) =
       kept.joins e.mid.session s (record s { lost = true }) (turn ∷ []) []
       (kept.request e.mid.session s message outcome e.fails.heard) (kept.lost s) in
-      kept.joins old.session e.mid.session new.session (round_calls old round e.mid e.runs) (turn ∷ [])
+      kept.joins old.session e.mid.session ended.new.session (round_calls old round e.mid e.runs) (turn ∷ [])
       (round_kept old e.mid round e.runs)
       (subst (λ (t : Stage). R e.mid.session (turn ∷ []) t.session) (sym e.fails.new_is) last)
-  ending_kept old new count _ end ends = still old new ends.1
+  ending_kept old _ ended = still old ended.new ended.ends.1
 
 -- ---- between doings nothing is awaited
 stands_all : (old new : Stage) (rounds : List Round) → RunsAll old rounds new → Stands old.session → Stands new.session
@@ -170,11 +170,13 @@ ending_outcomes_are old new count _ end ends = refl
 -- ---- all that a connection did, up to its report
 module _ {films : List Stored} {settings : Settings} {words : List ℕ} {doings : Activity} {report : ConnReport}
     (done : HasDone films settings words doings report) where
+  abbrev course_end : CourseEnd done.mid doings.ending
+  course_end = record { count = length doings.rounds; end = report.end; new = done.last; ends = done.ends }
+
   -- nothing is awaited as it ends
   pub last_rest : done.last.session.awaited ≡ Nothing
   last_rest =
-      ending_rest doings.ending
-      (record { count = length doings.rounds; end = report.end; new = done.last; ends = done.ends })
+      ending_rest doings.ending course_end
       (stands_all (first_stage films settings words) done.mid doings.rounds done.runs
       (first_stands films settings words))
 
@@ -195,7 +197,7 @@ module _ {films : List Stored} {settings : Settings} {words : List ℕ} {doings 
       kept.joins first.session last done.closed (heard_calls ++ ended_calls) (station_call last doings.halt ∷ [])
       (kept.joins first.session done.mid.session last heard_calls ended_calls
       (rounds_kept kept first done.mid doings.rounds done.runs)
-      (ending_kept kept done.mid done.last (length doings.rounds) doings.ending report.end done.ends))
+      (ending_kept kept done.mid doings.ending course_end))
       (kept.close (open_of last) doings.halt last done.closed (closes_as (open_of last) doings.halt done.closes) refl
       last_rest)
 

@@ -1,7 +1,7 @@
 -- The elements of a connection's input that are processed, one after another: each byte CR or LF,
 -- each block, each request.
 use Rattle.std.proofs.Common.{◌≡◌, ◌⊎◌, ℕ, zero, suc, ◌<◌, ◌≤◌, ◌++◌, true, false, List, [], ◌∷◌, Ok, Err, length, take}
-use Rattle.std.proofs.Common.{drop, get_or, refl, ap, sym, ◌∙◌, subst, inl, inr, arith}
+use Rattle.std.proofs.Common.{drop, get_or, refl, ap, sym, ◌∙◌, subst, inl, inr, arith, ap₂}
 use Rattle.std.proofs.lemmas.Bool.{both_ways, true≢false}
 use Rattle.std.proofs.lemmas.List.{append-nil, append_assoc, take-append-le, drop-append-le, length-append}
 use Rattle.std.proofs.lemmas.List.{get_or_append_left}
@@ -29,6 +29,7 @@ use Rattle.connection_laws.specs.InputSplits.{AllLackMemoryAlike, AreSameAnswers
 use Rattle.connection_laws.specs.InputSplits.{LackMemoryAlike, answer_in, answers_in, heard_requests_taken}
 use Rattle.connection_laws.proofs.KeptParts.{answered_names, replied_names}
 use Rattle.connection_laws.proofs.UniqueResults.{AnswersAlike, answers_same, hears_same}
+use Rattle.vod_base.specs.Links.{IoEvent}
 
 -- a request that was processed, what was asked, and what came of it
 pub record StationCall : Type 0 where
@@ -90,22 +91,56 @@ abbrev pub GoesAll : Stage → List Element → Stage → Type 0
 GoesAll old [] new = new ≡ old
 GoesAll old (element ∷ elements) new = (mid : Stage) × (Goes old element mid × GoesAll mid elements new)
 
--- what is sent meanwhile, what the station answers, and the requests that are received
+-- what a connection received, what it sent, what the station answered, and the requests that were received
+pub record Exchange : Type 0 where
+  pub heard : List IoEvent
+  pub bytes : List ℕ
+  pub answers : List Outcome
+  pub hearings : List HeardRequest
+
+abbrev pub no_exchange : Exchange
+no_exchange = record { heard = []; bytes = []; answers = []; hearings = [] }
+
+-- one after another
+abbrev pub joined : Exchange → Exchange → Exchange
+joined a b = record {
+  heard = a.heard ++ b.heard;
+  bytes = a.bytes ++ b.bytes;
+  answers = a.answers ++ b.answers;
+  hearings = a.hearings ++ b.hearings;
+}
+
+pub joined_assoc : (a b c : Exchange) → joined (joined a b) c ≡ joined a (joined b c)
+joined_assoc a b c =
+    rw (
+      append_assoc a.heard b.heard c.heard,
+      append_assoc a.bytes b.bytes c.bytes,
+      append_assoc a.answers b.answers c.answers,
+      append_assoc a.hearings b.hearings c.hearings,
+    )
+
+-- what is sent as elements are processed, what the station answers, and the requests that are received
+abbrev turn_exchange : StationCall → Exchange
+turn_exchange turn = record {
+  heard = [];
+  bytes = parts_bytes (reply_parts turn.answered);
+  answers = answer_in turn.outcome;
+  hearings = hearing turn.session turn.message turn.ask turn.asking ∷ [];
+}
+
+abbrev pub exchange_of : List Element → Exchange
+exchange_of [] = no_exchange
+exchange_of (Over n ∷ elements) = exchange_of elements
+exchange_of (RequestElement turn ∷ elements) = joined (turn_exchange turn) (exchange_of elements)
+
 abbrev pub elements_bytes : List Element → List ℕ
-elements_bytes [] = []
-elements_bytes (Over n ∷ elements) = elements_bytes elements
-elements_bytes (RequestElement turn ∷ elements) = parts_bytes (reply_parts turn.answered) ++ elements_bytes elements
+elements_bytes elements = (exchange_of elements).bytes
 
 abbrev pub elements_answers : List Element → List Outcome
-elements_answers [] = []
-elements_answers (Over n ∷ elements) = elements_answers elements
-elements_answers (RequestElement turn ∷ elements) = answer_in turn.outcome ++ elements_answers elements
+elements_answers elements = (exchange_of elements).answers
 
 abbrev pub elements_hearings : List Element → List HeardRequest
-elements_hearings [] = []
-elements_hearings (Over n ∷ elements) = elements_hearings elements
-elements_hearings (RequestElement turn ∷ elements) = hearing turn.session turn.message turn.ask turn.asking
-    ∷ elements_hearings elements
+elements_hearings elements = (exchange_of elements).hearings
 
 -- ---- joined, and with more input
 
@@ -121,24 +156,12 @@ pub join_goes : (a : Stage) (later : LaterElements) (xs : List Element) → Goes
 join_goes a later [] goes = subst (λ s. GoesAll s later.elements later.new) goes later.leads
 join_goes a later (x ∷ xs) goes = (goes.0, (goes.1.0, join_goes goes.0 later xs goes.1.1))
 
-pub join_bytes : (xs ys : List Element) → elements_bytes (xs ++ ys) ≡ elements_bytes xs ++ elements_bytes ys
-join_bytes [] ys = refl
-join_bytes (Over n ∷ xs) ys = join_bytes xs ys
-join_bytes (RequestElement turn ∷ xs) ys =
-    ap (λ bs. parts_bytes (reply_parts turn.answered) ++ bs) (join_bytes xs ys)
-    ∙ sym (append_assoc (parts_bytes (reply_parts turn.answered)) (elements_bytes xs) (elements_bytes ys))
-
-pub join_answers : (xs ys : List Element) → elements_answers (xs ++ ys) ≡ elements_answers xs ++ elements_answers ys
-join_answers [] ys = refl
-join_answers (Over n ∷ xs) ys = join_answers xs ys
-join_answers (RequestElement turn ∷ xs) ys =
-    rw (join_answers xs ys, append_assoc (answer_in turn.outcome) (elements_answers xs) (elements_answers ys))
-
-pub join_hearings : (xs ys : List Element) → elements_hearings (xs ++ ys) ≡ elements_hearings xs ++ elements_hearings ys
-join_hearings [] ys = refl
-join_hearings (Over n ∷ xs) ys = join_hearings xs ys
-join_hearings (RequestElement turn ∷ xs) ys = ap (λ hs. hearing turn.session turn.message turn.ask turn.asking ∷ hs)
-    (join_hearings xs ys)
+pub join_exchange : (xs ys : List Element) → exchange_of (xs ++ ys) ≡ joined (exchange_of xs) (exchange_of ys)
+join_exchange [] ys = refl
+join_exchange (Over n ∷ xs) ys = join_exchange xs ys
+join_exchange (RequestElement turn ∷ xs) ys =
+    ap (joined (turn_exchange turn)) (join_exchange xs ys)
+    ∙ sym (joined_assoc (turn_exchange turn) (exchange_of xs) (exchange_of ys))
 
 abbrev pub longer : Stage → List ℕ → Stage
 longer old more = stage old.session (old.input ++ more)
@@ -179,46 +202,28 @@ goes_grow old new (element ∷ elements) more goes =
 
 -- ---- what is processed
 
-pub record Path (old new : Stage) (bytes : List ℕ) (answers : List Outcome) (hearings : List HeardRequest) : Type 0
-  where
-    pub elements : List Element
-    pub goes : GoesAll old elements new
-    pub bytes_are : elements_bytes elements ≡ bytes
-    pub answers_are : elements_answers elements ≡ answers
-    pub hearings_are : elements_hearings elements ≡ hearings
+pub record Path (old new : Stage) (exchange : Exchange) : Type 0 where
+  pub elements : List Element
+  pub goes : GoesAll old elements new
+  pub is : exchange_of elements ≡ exchange
 
-path_none : (s : Stage) → Path s s [] [] []
-path_none s = record { elements = []; goes = refl; bytes_are = refl; answers_are = refl; hearings_are = refl }
+path_none : (s : Stage) → Path s s no_exchange
+path_none s = record { elements = []; goes = refl; is = refl }
 
-module _ {a b c : Stage} where
-  path_over : {n : ℕ} {bytes : List ℕ} {answers : List Outcome} {hearings : List HeardRequest} → IsPassing a n b
-      → Path b c bytes answers hearings → Path a c bytes answers hearings
-  path_over {n} {answers} passing path = record {
-    elements = Over n ∷ path.elements;
-    goes = (b, (passing, path.goes));
-    bytes_are = path.bytes_are;
-    answers_are = path.answers_are;
-    hearings_are = path.hearings_are;
-  }
+path_over : {a b c : Stage} {n : ℕ} {exchange : Exchange} → IsPassing a n b → Path b c exchange → Path a c exchange
+path_over {b = b} {n = n} passing path =
+    record { elements = Over n ∷ path.elements; goes = (b, (passing, path.goes)); is = path.is }
 
-  path_then : {first second : List ℕ} {one two : List Outcome} {heard later : List HeardRequest}
-      → Path a b first one heard → Path b c second two later → Path a c (first ++ second) (one ++ two) (heard ++ later)
-  path_then {first} {second} {one} {heard} {later} path after = record {
-    elements = path.elements ++ after.elements;
-    goes = join_goes a (record { old = b; new = c; elements = after.elements; leads = after.goes })
-        path.elements path.goes;
-    bytes_are = join_bytes path.elements after.elements ∙ ap (λ bs. bs ++ elements_bytes after.elements) path.bytes_are
-        ∙ ap (λ bs. first ++ bs) after.bytes_are;
-    answers_are = join_answers path.elements after.elements
-        ∙ ap (λ os. os ++ elements_answers after.elements) path.answers_are ∙ ap (λ os. one ++ os) after.answers_are;
-    hearings_are = join_hearings path.elements after.elements
-        ∙ ap (λ hs. hs ++ elements_hearings after.elements) path.hearings_are
-        ∙ ap (λ hs. heard ++ hs) after.hearings_are;
-  }
+path_then : {a b c : Stage} {one two : Exchange} → Path a b one → Path b c two → Path a c (joined one two)
+path_then {a} {b} {c} path after = record {
+  elements = path.elements ++ after.elements;
+  goes = join_goes a (record { old = b; new = c; elements = after.elements; leads = after.goes }) path.elements path.goes;
+  is = join_exchange path.elements after.elements ∙ ap₂ joined path.is after.is;
+}
 
 ends_over : (session : SessionState) (input : List ℕ) (n : ℕ) → session.torn ≡ false → n ≤ length input
     → ((k : ℕ) → k < n → is_line_end (get_or input k 0) ≡ true)
-    → Path (stage session input) (stage session (drop n input)) [] [] []
+    → Path (stage session input) (stage session (drop n input)) no_exchange
 ends_over session input zero torn inside ends = path_none (stage session input)
 ends_over session [] (suc n) torn inside ends = let bad : ⊥ = omega (arith, inside) in absurd bad
 ends_over session (c ∷ cs) (suc n) torn inside ends =
@@ -226,15 +231,19 @@ ends_over session (c ∷ cs) (suc n) torn inside ends =
     (ends_over session cs n torn (omega (arith, inside)) (λ k below. ends (suc k) (omega (arith, below))))
 
 passed_over : (session : SessionState) (input : List ℕ) (n : ℕ) → IsPassed input n → session.torn ≡ false
-    → Path (stage session input) (stage session (drop n input)) [] [] []
+    → Path (stage session input) (stage session (drop n input)) no_exchange
 passed_over session input n (inl skip) torn = ends_over session input n torn skip.1.within skip.1.line_ends
 passed_over session input n (inr block) torn =
     path_over (record { over = ABlock block.1.0 block.1.1 block.1.3 block.1.4; torn = torn; new_is = refl })
     (path_none (stage session (drop n input)))
 
 path_taken : (old new : Stage) (message : List ℕ) (outcome : Outcome) (parts : List SentPart)
-    (replied : IsReplied old message outcome parts new) → Path old new (parts_bytes parts) (answer_in outcome)
-    (hearing old.session message replied.heard.ask replied.heard.asking ∷ [])
+    (replied : IsReplied old message outcome parts new) → Path old new (record {
+      heard = [];
+      bytes = parts_bytes parts;
+      answers = answer_in outcome;
+      hearings = hearing old.session message replied.heard.ask replied.heard.asking ∷ [];
+    })
 path_taken old new message outcome parts replied = record {
   elements = RequestElement (record {
     session = old.session;
@@ -257,23 +266,26 @@ path_taken old new message outcome parts replied = record {
       refl,
     ),
   );
-  bytes_are = append-nil (parts_bytes (reply_parts replied.answered)) ∙ ap parts_bytes (sym replied.parts_are);
-  answers_are = append-nil (answer_in outcome);
-  hearings_are = refl;
+  is = rw (append-nil (parts_bytes (reply_parts replied.answered)), append-nil (answer_in outcome), replied.parts_are);
+}
+
+abbrev pub takings_exchange : (old : Stage) (takings : List ElementStep) (new : Stage) → TakesAll old takings new
+    → Exchange
+takings_exchange old takings new takes = record {
+  heard = [];
+  bytes = takings_bytes takings;
+  answers = answers_in (takings_outcomes takings);
+  hearings = heard_requests_taken old takings new takes;
 }
 
 pub path_of : (old new : Stage) (takings : List ElementStep) (takes : TakesAll old takings new)
-    → Path old new (takings_bytes takings) (answers_in (takings_outcomes takings))
-    (heard_requests_taken old takings new takes)
-path_of old new [] takes = subst (λ s. Path old s [] [] []) (sym takes) (path_none old)
+    → Path old new (takings_exchange old takings new takes)
+path_of old new [] takes = subst (λ s. Path old s no_exchange) (sym takes) (path_none old)
 path_of old new (Passed n ∷ takings) takes =
-    let over : Path old takes.0 [] [] [] =
-    subst (λ s. Path old s [] [] []) (sym takes.1.0.2) (passed_over old.session old.input n takes.1.0.0 takes.1.0.1) in
-    path_then
-    over (path_of takes.0 new takings takes.1.1)
+    path_then (subst (λ s. Path old s no_exchange) (sym takes.1.0.2)
+    (passed_over old.session old.input n takes.1.0.0 takes.1.0.1)) (path_of takes.0 new takings takes.1.1)
 path_of old new (Answered message outcome parts ∷ takings) takes =
-    let replied = takes.1.0 in
-    path_then (path_taken old takes.0 message outcome parts replied) (path_of takes.0 new takings takes.1.1)
+    path_then (path_taken old takes.0 message outcome parts takes.1.0) (path_of takes.0 new takings takes.1.1)
 
 -- ---- where nothing more can be processed
 

@@ -353,12 +353,21 @@ texts_long [] = refl
 texts_long (placed ∷ texts) =
     omega (arith, texts_long texts, length-append placed.text (framed_bytes (map text_of texts)))
 
+-- a third reply was sent
+pub record HasThird (later : List PlacedText) : Type 0 where
+  pub last : PlacedText
+  pub others : List PlacedText
+  pub are : later ≡ last ∷ others
+
+pub third_of : (later : List PlacedText) → length later + 2 ≡ 3 → HasThird later
+third_of [] three = absurd (omega (arith, three))
+third_of (last ∷ others) three = record { last = last; others = others; are = refl }
+
 -- where a reply after the film was sent, all of the stream was sent
 pub all_sent_whole : {wish : Wish} {stored : Stored} {course : Course} (played : HasPlayedWhole wish stored course)
-    (last : PlacedText) (others : List PlacedText) → played.later ≡ last ∷ others
-    → sent_bytes (rounds_doings course.rounds) ≡ framed_bytes (all_of (stream_of wish stored course played))
+    → HasThird played.later → sent_bytes (rounds_doings course.rounds) ≡ framed_bytes (all_of (stream_of wish stored course played))
 unfolding stream_of
-all_sent_whole {wish} {stored} {course} played last others later =
+all_sent_whole {wish} {stored} {course} played third =
     let begin = begin_of course in
     let x = stream_of wish stored course played in
     let blocks = framed_bytes x.blocks in
@@ -368,8 +377,8 @@ all_sent_whole {wish} {stored} {course} played last others later =
     let film = length (film_bytes parts) in
     let T : List PlacedText → Type 0 = λ l. IsFromTo 0 (0 + film) l in
     let within = subst T played.texts (texts_within 0 parts) in
-    let first = subst T later within.1.1.1.1 in
-    let after = subst (AreAfter (length blocks)) later played.after in
+    let first = subst T third.are within.1.1.1.1 in
+    let after = subst (AreAfter (length blocks)) third.are played.after in
     let events = events_are begin course.last course.rounds course.follows in
     let size : length sent ≡ film + texts_length (placed_texts 0 parts) =
     ap (λ (l : List ℕ). length l) (rounds_sent_are course.rounds events ∙ rounds_sent course.rounds)

@@ -50,14 +50,14 @@ more_reply y ys s is =
     let P : List ClientEvent → Type 0 = λ l. s.replies + 1 ≤ (steps s (l ++ events_of_elements ys)).replies in
     subst P (sym is) (replies_grow (step (Reply y) s) (events_of_elements ys))
 
-block_reply : (b : List ℕ) (ys : List (List ℕ)) (s : Sum) (n : ℕ) → (element_events b ≡ Frame b ∷ [])
+block_reply : (b : List ℕ) (ys : List (List ℕ)) (s : Sum) → (element_events b ≡ Frame b ∷ [])
     ⊎ (element_events b ≡ Report b ∷ [])
     → (steps s (events_of_elements (b ∷ ys))).replies ≡ s.replies → (t : Sum) × ((steps t (events_of_elements
     ys)).replies ≡ t.replies)
-block_reply b ys s n (inl frame) same =
+block_reply b ys s (inl frame) same =
     let P : List ClientEvent → Type 0 =
     λ l. (steps s (l ++ events_of_elements ys)).replies ≡ s.replies in (step (Frame b) s, subst P frame same)
-block_reply b ys s n (inr report) same =
+block_reply b ys s (inr report) same =
     let P : List ClientEvent → Type 0 =
     λ l. (steps s (l ++ events_of_elements ys)).replies ≡ s.replies in (step (Report b) s, subst P report same)
 
@@ -87,7 +87,7 @@ all_blocks {bs = b ∷ bs} {ps = y ∷ ys} {m} later reply_then silent are texts
     let first : y ≡ b = cc in
     let rest : ys ++ reply_then.block ∷ reply_then.rest ≡ bs ++ later = cc in
     let P : List ℕ → Type 0 = λ q. (steps s (events_of_elements (q ∷ ys))).replies ≡ s.replies in
-    let next = block_reply b ys s 0 are.0.moment (subst P first same) in
+    let next = block_reply b ys s are.0.moment (subst P first same) in
     ap (λ q. q ∷ ys) first
     ∙ ap (λ l. b ∷ l) (all_blocks later reply_then (record { sum = next.0; same = next.1 }) are.1 texts rest)
   where

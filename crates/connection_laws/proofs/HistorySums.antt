@@ -115,57 +115,39 @@ pub record IsSame (s t : Sum) : Type 0 where
   pub replies : t.replies ≡ s.replies
   pub end_ms : t.end_ms ≡ s.end_ms
 
-same_one : (b : List ℕ) (ms : List ClientEvent) (s : Sum)
-    → (element_events b ≡ Frame b ∷ []) ⊎ (element_events b ≡ Report b ∷ []) → ((t : Sum) → IsSame t (steps t ms))
-    → IsSame s (steps s (element_events b ++ ms))
-same_one b ms s (inl frame) rest =
-    let r = rest (step (Frame b) s) in
-    subst (λ l. IsSame s (steps s (l ++ ms))) (sym frame) (record { replies = r.replies; end_ms = r.end_ms })
-same_one b ms s (inr report) rest =
-    let r = rest (step (Report b) s) in
-    subst (λ l. IsSame s (steps s (l ++ ms))) (sym report) (record { replies = r.replies; end_ms = r.end_ms })
+-- a block is a frame or a report
+pub block_moved : (b : List ℕ) (ms : List ClientEvent) (s : Sum) (P : Sum → Type 0)
+    → (element_events b ≡ Frame b ∷ []) ⊎ (element_events b ≡ Report b ∷ []) → P (steps (step (Frame b) s) ms)
+    → P (steps (step (Report b) s) ms) → P (steps s (element_events b ++ ms))
+block_moved b ms s P (inl frame) one two = subst (λ l. P (steps s (l ++ ms))) (sym frame) one
+block_moved b ms s P (inr report) one two = subst (λ l. P (steps s (l ++ ms))) (sym report) two
 
 pub blocks_same : (bs : List (List ℕ)) (s : Sum) → AreOneBlocks bs → IsSame s (steps s (events_of_elements bs))
 blocks_same [] s are = record { replies = refl; end_ms = refl }
-blocks_same (b ∷ bs) s are = same_one b (events_of_elements bs) s are.0.moment (λ t. blocks_same bs t are.1)
+blocks_same (b ∷ bs) s are =
+    let one = blocks_same bs (step (Frame b) s) are.1 in
+    let two = blocks_same bs (step (Report b) s) are.1 in
+    block_moved b (events_of_elements bs) s (IsSame s) are.0.moment
+    (record { replies = one.replies; end_ms = one.end_ms }) (record { replies = two.replies; end_ms = two.end_ms })
 
 -- the bytes of all are received
-received_one : (b : List ℕ) (bs : List (List ℕ)) (s : Sum)
-    → (element_events b ≡ Frame b ∷ []) ⊎ (element_events b ≡ Report b ∷ []) → plays s ≡ true
-    → ((t : Sum) → plays t ≡ true → (steps t (events_of_elements bs)).received ≡ t.received + length (framed_bytes bs))
-    → (steps s (element_events b ++ events_of_elements bs)).received ≡ s.received + length (framed_bytes (b ∷ bs))
-received_one b bs s (inl frame) on rest =
-    let P : List ClientEvent → Type 0 = λ l. (steps s (l ++ events_of_elements bs)).received ≡ s.received + length
-    (b ++ framed_bytes bs) in
-    subst P (sym frame) (omega (arith, rest (step (Frame b) s) on, length-append b (framed_bytes bs)))
-received_one b bs s (inr report) on rest =
-    let P : List ClientEvent → Type 0 = λ l. (steps s (l ++ events_of_elements bs)).received ≡ s.received + length
-    (b ++ framed_bytes bs) in
-    let one = cond-true (plays s) (s.received + length b) s.received on in
-    subst P (sym report) (omega (arith, rest (step (Report b) s) on, one, length-append b (framed_bytes bs)))
-
 pub blocks_received : (bs : List (List ℕ)) (s : Sum) → AreOneBlocks bs → plays s ≡ true
     → (steps s (events_of_elements bs)).received ≡ s.received + length (framed_bytes bs)
 blocks_received [] s are on = omega arith
-blocks_received (b ∷ bs) s are on = received_one b bs s are.0.moment on (λ t still. blocks_received bs t are.1 still)
+blocks_received (b ∷ bs) s are on =
+    let one = cond-true (plays s) (s.received + length b) s.received on in
+    block_moved b (events_of_elements bs) s (λ t. t.received ≡ s.received + length (framed_bytes (b ∷ bs))) are.0.moment
+    (omega (arith, blocks_received bs (step (Frame b) s) are.1 on, length-append b (framed_bytes bs)))
+    (omega (arith, blocks_received bs (step (Report b) s) are.1 on, one, length-append b (framed_bytes bs)))
 
 -- the first frame stays
 some_frames : (n : ℕ) → 0 < n → (n == 0) ≡ false
 some_frames n some = ne_eqb n 0 (λ none. omega (arith, some, none))
 
-first_one : (b : List ℕ) (ms : List ClientEvent) (s : Sum)
-    → (element_events b ≡ Frame b ∷ []) ⊎ (element_events b ≡ Report b ∷ []) → 0 < s.frames
-    → ((t : Sum) → 0 < t.frames → (steps t ms).first ≡ t.first) → (steps s (element_events b ++ ms)).first ≡ s.first
-first_one b ms s (inl frame) some rest =
-    let P : List ClientEvent → Type 0 = λ l. (steps s (l ++ ms)).first ≡ s.first in
-    subst P (sym frame) (rest (step (Frame b) s) (omega arith)
-    ∙ cond-false (s.frames == 0) b s.first (some_frames s.frames some))
-first_one b ms s (inr report) some rest =
-    let P : List ClientEvent → Type 0 = λ l. (steps s (l ++ ms)).first ≡ s.first in
-    subst P (sym report) (rest (step (Report b) s) some)
-
 pub blocks_first : (bs : List (List ℕ)) (s : Sum) → AreOneBlocks bs → 0 < s.frames
     → (steps s (events_of_elements bs)).first ≡ s.first
 blocks_first [] s are some = refl
-blocks_first (b ∷ bs) s are some = first_one b (events_of_elements bs) s are.0.moment some
-    (λ t more. blocks_first bs t are.1 more)
+blocks_first (b ∷ bs) s are some =
+    block_moved b (events_of_elements bs) s (λ t. t.first ≡ s.first) are.0.moment
+    (blocks_first bs (step (Frame b) s) are.1 (omega arith)
+    ∙ cond-false (s.frames == 0) b s.first (some_frames s.frames some)) (blocks_first bs (step (Report b) s) are.1 some)

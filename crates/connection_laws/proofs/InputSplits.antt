@@ -1,5 +1,6 @@
 -- However the same bytes between the same slots are split, a connection sends the same.
 use Rattle.std.proofs.Common.{◌≡◌, ℕ, ◌++◌, Bool, true, false, List, [], ◌∷◌, map, refl, ap, sym, ◌∙◌, subst, inl, inr}
+use Rattle.std.proofs.Common.{ap₂}
 use Rattle.std.proofs.lemmas.Bool.{true≢false}
 use Rattle.std.proofs.lemmas.List.{append-nil, append_assoc}
 use Rattle.vod_base.specs.Links.{IoEvent, HeardBytes, HeardSlot}
@@ -12,12 +13,13 @@ use Rattle.conn.specs.declared.reports.ConnEnd.{ConnEnd}
 use Rattle.connection_laws.specs.Courses.{first_stage, rounds_bytes}
 use Rattle.connection_laws.specs.InputSplits.{AllLackMemoryAlike, HaveSameInput, HaveSameOutput, AreSameAnswers}
 use Rattle.connection_laws.specs.InputSplits.{Beginning, InputSplit, HeardRequest, IsDrained, TakesUp, all_heard}
-use Rattle.connection_laws.specs.InputSplits.{answer_in, answers_in, heard_in, heard_requests_in, heard_requests_taken}
+use Rattle.connection_laws.specs.InputSplits.{answer_in, answers_in, heard_in, heard_requests_in}
 use Rattle.connection_laws.proofs.KeptParts.{stepped_names}
 use Rattle.connection_laws.proofs.UniqueResults.{steps_same}
-use Rattle.connection_laws.proofs.ElementPaths.{GoesAll, Path, Element, ends_same, goes_films, goes_grow, join_answers}
-use Rattle.connection_laws.proofs.ElementPaths.{join_bytes, join_goes, join_hearings, longer, path_of, elements_answers}
-use Rattle.connection_laws.proofs.ElementPaths.{elements_bytes, elements_hearings}
+use Rattle.connection_laws.proofs.ElementPaths.{GoesAll, Path, Element, ends_same, goes_films, goes_grow, join_goes}
+use Rattle.connection_laws.proofs.ElementPaths.{longer, path_of, elements_answers, elements_bytes, Exchange}
+use Rattle.connection_laws.proofs.ElementPaths.{no_exchange, joined, joined_assoc, exchange_of, join_exchange}
+use Rattle.connection_laws.proofs.ElementPaths.{takings_exchange}
 
 -- a slot, and the bytes that came after it
 record Leg : Type 0 where
@@ -42,46 +44,9 @@ LegsAll old (leg ∷ legs) new = IsLeg old leg × LegsAll leg.until legs new
 abbrev bytes_heard : List ℕ → List IoEvent
 bytes_heard bytes = map (λ byte. HeardBytes (byte ∷ [])) bytes
 
-abbrev legs_heard : List Leg → List IoEvent
-legs_heard [] = []
-legs_heard (leg ∷ legs) = HeardSlot leg.slot ∷ (bytes_heard leg.bytes ++ legs_heard legs)
-
-abbrev legs_bytes : List Leg → List ℕ
-legs_bytes [] = []
-legs_bytes (leg ∷ legs) = parts_bytes leg.due ++ (elements_bytes leg.elements ++ legs_bytes legs)
-
-abbrev legs_answers : List Leg → List Outcome
-legs_answers [] = []
-legs_answers (leg ∷ legs) = answer_in leg.halt ++ (elements_answers leg.elements ++ legs_answers legs)
-
-abbrev legs_hearings : List Leg → List HeardRequest
-legs_hearings [] = []
-legs_hearings (leg ∷ legs) = elements_hearings leg.elements ++ legs_hearings legs
-
--- what a connection received, what it sent, what the station answered, and the requests that were received
-record Exchange : Type 0 where
-  heard : List IoEvent
-  bytes : List ℕ
-  answers : List Outcome
-  hearings : List HeardRequest
-
--- one after another
-abbrev joined : Exchange → Exchange → Exchange
-joined a b = record {
-  heard = a.heard ++ b.heard;
-  bytes = a.bytes ++ b.bytes;
-  answers = a.answers ++ b.answers;
-  hearings = a.hearings ++ b.hearings;
-}
-
 -- bytes, and the elements that were processed after them
 abbrev elements_exchange : List ℕ → List Element → Exchange
-elements_exchange bytes elements = record {
-  heard = bytes_heard bytes;
-  bytes = elements_bytes elements;
-  answers = elements_answers elements;
-  hearings = elements_hearings elements;
-}
+elements_exchange bytes elements = record (exchange_of elements) { heard = bytes_heard bytes }
 
 -- an event, before elements are processed
 abbrev event_exchange : IoEvent → List SentPart → Outcome → Exchange
@@ -93,24 +58,21 @@ event_exchange event due halt = record {
 }
 
 abbrev legs_exchange : List Leg → Exchange
-legs_exchange legs = record {
-  heard = legs_heard legs;
-  bytes = legs_bytes legs;
-  answers = legs_answers legs;
-  hearings = legs_hearings legs;
-}
+legs_exchange [] = no_exchange
+legs_exchange (leg ∷ legs) = joined (event_exchange (HeardSlot leg.slot) leg.due leg.halt)
+    (joined (elements_exchange leg.bytes leg.elements) (legs_exchange legs))
 
-exchange_same : (a b : Exchange) → a.heard ≡ b.heard → a.bytes ≡ b.bytes → a.answers ≡ b.answers
-    → a.hearings ≡ b.hearings → a ≡ b
-exchange_same a b heard bytes answers hearings =
-    ap (λ l. record a { heard = l }) heard ∙ ap (λ l. record a { heard = b.heard; bytes = l }) bytes
-    ∙ ap (λ l. record b { answers = l; hearings = a.hearings }) answers ∙ ap (λ l. record b { hearings = l }) hearings
+abbrev legs_heard : List Leg → List IoEvent
+legs_heard legs = (legs_exchange legs).heard
 
-joined_assoc : (a b c : Exchange) → joined (joined a b) c ≡ joined a (joined b c)
-joined_assoc a b c =
-    exchange_same (joined (joined a b) c) (joined a (joined b c)) (append_assoc a.heard b.heard c.heard)
-    (append_assoc a.bytes b.bytes c.bytes) (append_assoc a.answers b.answers c.answers)
-    (append_assoc a.hearings b.hearings c.hearings)
+abbrev legs_bytes : List Leg → List ℕ
+legs_bytes legs = (legs_exchange legs).bytes
+
+abbrev legs_answers : List Leg → List Outcome
+legs_answers legs = (legs_exchange legs).answers
+
+abbrev legs_hearings : List Leg → List HeardRequest
+legs_hearings legs = (legs_exchange legs).hearings
 
 heard_append : (xs ys : List ℕ) → bytes_heard (xs ++ ys) ≡ bytes_heard xs ++ bytes_heard ys
 heard_append [] ys = refl
@@ -119,9 +81,7 @@ heard_append (x ∷ xs) ys = ap (λ ds. HeardBytes (x ∷ []) ∷ ds) (heard_app
 elements_join : (xs ys : List ℕ) (one two : List Element)
     → elements_exchange (xs ++ ys) (one ++ two) ≡ joined (elements_exchange xs one) (elements_exchange ys two)
 elements_join xs ys one two =
-    exchange_same (elements_exchange (xs ++ ys) (one ++ two))
-    (joined (elements_exchange xs one) (elements_exchange ys two)) (heard_append xs ys) (join_bytes one two)
-    (join_answers one two) (join_hearings one two)
+    ap₂ (λ hs (e : Exchange). record e { heard = hs }) (heard_append xs ys) (join_exchange one two)
 
 answers_append : (xs ys : List Outcome) → answers_in (xs ++ ys) ≡ answers_in xs ++ answers_in ys
 answers_append [] ys = refl
@@ -243,20 +203,18 @@ rounds_exchange cur rounds new takes = record {
 
 round_exchange : {cur : Stage} (new : Stage) (round : Round) (rounds : List Round)
     (takes : TakesUp cur (round ∷ rounds) new)
-    (path : Path takes.1.0.opened takes.0 (takings_bytes round.takings) (answers_in (takings_outcomes round.takings))
-    (heard_requests_taken takes.1.0.opened round.takings takes.0 takes.1.0.takes))
+    (path : Path takes.1.0.opened takes.0 (takings_exchange takes.1.0.opened round.takings takes.0 takes.1.0.takes))
     → joined (event_exchange round.event round.due round.halt)
     (joined (elements_exchange [] path.elements) (rounds_exchange takes.0 rounds new takes.1.2))
     ≡ rounds_exchange cur (round ∷ rounds) new takes
 round_exchange {cur} new round rounds takes path =
     let rest = rounds_exchange takes.0 rounds new takes.1.2 in
-    exchange_same (joined (event_exchange round.event round.due round.halt)
-    (joined (elements_exchange [] path.elements) rest)) (rounds_exchange cur (round ∷ rounds) new takes) refl
-    (ap (λ bs. parts_bytes round.due ++ (bs ++ rest.bytes)) path.bytes_are
-    ∙ sym (append_assoc (parts_bytes round.due) (takings_bytes round.takings) rest.bytes))
-    (ap (λ os. answer_in round.halt ++ (os ++ rest.answers)) path.answers_are ∙ ap (λ os. answer_in round.halt ++ os)
-    (sym (answers_append (takings_outcomes round.takings) (rounds_outcomes rounds))))
-    (ap (λ hs. hs ++ rest.hearings) path.hearings_are)
+    ap (λ (e : Exchange). joined (event_exchange round.event round.due round.halt)
+    (joined (record e { heard = [] }) rest)) path.is
+    ∙ rw (
+      append_assoc (parts_bytes round.due) (takings_bytes round.takings) rest.bytes,
+      answers_append (takings_outcomes round.takings) (rounds_outcomes rounds),
+    )
 
 rounds_split : (cur new : Stage) (rounds : List Round) (takes : TakesUp cur rounds new) → IsDrained cur
     → Later cur new (rounds_exchange cur rounds new takes)

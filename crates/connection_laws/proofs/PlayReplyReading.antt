@@ -175,26 +175,6 @@ play_named id range info slots =
     record { name = codes "Session"; value = id } ∷ record { name = codes "Range"; value = range }
     ∷ record { name = codes "RTP-Info"; value = info } ∷ record { name = codes "x-Start"; value = decimal slots } ∷ []
 
-named_session : (id range info : List ℕ) (sequence slots : ℕ)
-    → value_named (codes "Session") (all_fields (Some sequence) (play_named id range info slots)) ≡ Some id
-unfolding value_named
-named_session id range info sequence slots = refl
-
-named_range : (id range info : List ℕ) (sequence slots : ℕ)
-    → value_named (codes "Range") (all_fields (Some sequence) (play_named id range info slots)) ≡ Some range
-unfolding value_named
-named_range id range info sequence slots = refl
-
-named_start : (id range info : List ℕ) (sequence slots : ℕ)
-    → value_named (codes "x-Start") (all_fields (Some sequence) (play_named id range info slots)) ≡ Some (decimal slots)
-unfolding value_named
-named_start id range info sequence slots = refl
-
-named_sequence : (id range info : List ℕ) (sequence slots : ℕ)
-    → value_named (codes "CSeq") (all_fields (Some sequence) (play_named id range info slots)) ≡ Some (decimal sequence)
-unfolding value_named
-named_sequence id range info sequence slots = refl
-
 start_read : (slots : ℕ) → 1 ≤ slots → slots ≤ 2 ^ 62 + 1
     → option_and_then start_within (number_of (decimal slots)) ≡ Some slots
 start_read slots some few =
@@ -218,7 +198,7 @@ named_read : {message id : List ℕ} (info : List ℕ) (numbers : PlayNumbers) �
     message ≡ reply_text 200 (Some numbers.sequence)
     (play_named id (codes "npt=0.000-" ++ seconds_text numbers.end_ms) info numbers.slots) [] →
     IsPlayRead message id numbers.sequence numbers.end_ms numbers.slots
-unfolding reply_text
+unfolding reply_text value_named
 named_read {message} {id} info numbers size plain is =
     let range = codes "npt=0.000-" ++ seconds_text end_ms in
     let fields = play_named id range info slots in
@@ -234,14 +214,12 @@ named_read {message} {id} info numbers size plain is =
         phrase = phrase 200;
         line = back.reply.line;
         sequence = ap (λ v. option_and_then number_of v)
-            (value (codes "CSeq") ∙ named_sequence id range info sequence slots) ∙ decimal_read sequence small;
+            (value (codes "CSeq")) ∙ decimal_read sequence small;
       };
-      session = ap (λ v. option_map session_id v)
-          (value (codes "Session") ∙ named_session id range info sequence slots);
-      range = ap (λ v. option_and_then range_end v)
-          (value (codes "Range") ∙ named_range id range info sequence slots) ∙ range_read end_ms short;
+      session = ap (λ v. option_map session_id v) (value (codes "Session"));
+      range = ap (λ v. option_and_then range_end v) (value (codes "Range")) ∙ range_read end_ms short;
       start = ap (λ v. option_and_then start_within (option_and_then number_of v))
-          (value (codes "x-Start") ∙ named_start id range info sequence slots) ∙ start_read slots some few;
+          (value (codes "x-Start")) ∙ start_read slots some few;
     }
   where
     open numbers use {sequence, end_ms, slots, small, short, some, few}

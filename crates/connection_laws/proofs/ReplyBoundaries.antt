@@ -201,7 +201,7 @@ replying (Playing setup play) true heard text sound is =
     }
 replying (Stopping setup stop) true heard text sound is =
     let p : PacerState = stop.pacer in
-    let ended = ended_at sound.0 sound.2 (boundary_here p sound.0.pacing is) refl in
+    let ended = ended_at sound.0 sound.2 (boundary_here p sound.0.pacing is) in
     record {
       after = None;
       sound = tt;

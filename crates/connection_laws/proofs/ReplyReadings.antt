@@ -134,11 +134,6 @@ record IsReplyRead (message : List ℕ) (number : ℕ) (fields : List Field) : T
   answer : IsAnswer message number 200
   values : (name : List ℕ) → header_value message name ≡ value_named name (all_fields (Some number) fields)
 
-named_number : (number : ℕ) (fields : List Field)
-    → value_named (codes "CSeq") (all_fields (Some number) fields) ≡ Some (decimal number)
-unfolding value_named
-named_number number fields = refl
-
 -- plain fields, with the number's
 with_number : (number : ℕ) (fields : List Field) → number < 2 ^ 64 → All IsPlain fields
     → All IsPlain (all_fields (Some number) fields)
@@ -152,7 +147,7 @@ one_more {value} name fields plain rest = All-cons IsPlain (field name value) fi
 
 read_reply : {message : List ℕ} (number : ℕ) (fields : List Field) → number < 2 ^ 64 → IsMessage message
     → All IsPlain fields → message ≡ reply_text 200 (Some number) fields [] → IsReplyRead message number fields
-unfolding reply_text
+unfolding reply_text value_named
 read_reply {message} number fields small whole plain is =
     let head = reply_front 200 (Some number) fields ++ codes "\r\n" in
     let back = read_back (record { code = 200; sequence = Some number; fields = fields; body = [] }) whole.size
@@ -165,7 +160,7 @@ read_reply {message} number fields small whole plain is =
       answer = record {
         phrase = phrase 200;
         line = back.reply.line;
-        sequence = ap (λ v. option_and_then number_of v) (value (codes "CSeq") ∙ named_number number fields)
+        sequence = ap (λ v. option_and_then number_of v) (value (codes "CSeq"))
             ∙ decimal_read number small;
       };
       values = value;
@@ -198,14 +193,9 @@ pub record IsSetupRead (message : List ℕ) : Type 0 where
   pub answer : IsAnswer message 1 200
   pub named : is_some (setup_session message) ≡ true
 
-setup_id : (ssrc : ℕ) (id : List ℕ)
-    → value_named (codes "Session") (all_fields (Some 1)
-    (field (codes "Transport") (transport_value 0 1 ssrc) ∷ field (codes "Session") id ∷ [])) ≡ Some id
-unfolding value_named
-setup_id ssrc id = refl
-
 pub setup_read : {message : List ℕ} (ssrc : ℕ) (id : List ℕ) → IsMessage message → IsPrinted id
     → message ≡ setup_text 1 0 1 ssrc id → IsSetupRead message
+unfolding value_named
 setup_read {message} ssrc id whole printed is =
     let named = field (codes "Session") id ∷ [] in
     let fields = field (codes "Transport") (transport_value 0 1 ssrc) ∷ named in
@@ -224,7 +214,7 @@ setup_read {message} ssrc id whole printed is =
     let read : IsReplyRead message 1 fields = read_reply 1 fields (omega arith) whole plain is in
     record {
       answer = read.answer;
-      named = session_named message (read.values (codes "Session") ∙ setup_id ssrc id) printed;
+      named = session_named message (read.values (codes "Session")) printed;
     }
 
 -- ---- TEARDOWN

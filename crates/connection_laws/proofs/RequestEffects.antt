@@ -97,24 +97,20 @@ module _ {old asking new : SessionState} where
       → (new ≡ asking → RequestAnswer old asking new Unasked) → RequestAnswer old asking new outcome
   reply_answer (NoneAsked is) reply = reply is
 
-  play_answer : {plan : List Segment} {outcome : Outcome} (play : PlayRequest old asking) → plan ≡ play.prepared.plan
-      → AnswersAs asking new (AskPlay plan) outcome → RequestAnswer old asking new outcome
-  play_answer play same (PlayAdmitted {placed = p} is) =
-      Admission play (subst (λ plan. IsAdmitted asking plan p new) same is)
-  play_answer play same (PlayRefused {placed = p} is) =
-      Refusal play (subst (λ plan. IsRefused asking plan p new) same is)
-  play_answer play same (PlayFull is) = JournalFull (Play play.prepared) play.waiting is
+  play_answer : {outcome : Outcome} (play : PlayRequest old asking)
+      → AnswersAs asking new (AskPlay play.prepared.plan) outcome → RequestAnswer old asking new outcome
+  play_answer play (PlayAdmitted is) = Admission play is
+  play_answer play (PlayRefused is) = Refusal play is
+  play_answer play (PlayFull is) = JournalFull (Play play.prepared) play.waiting is
 
-  halt_answer : {keep : ℕ} {outcome : Outcome} (halt : HaltRequest old asking) → keep ≡ halt.keep
-      → AnswersAs asking new (AskHalt keep) outcome → RequestAnswer old asking new outcome
-  halt_answer halt same (PlayHalted {placed = p} is) =
-      HaltMade halt (subst (λ keep. IsHaltAnswered asking keep p new) same is)
+  halt_answer : {outcome : Outcome} (halt : HaltRequest old asking) → AnswersAs asking new (AskHalt halt.keep) outcome
+      → RequestAnswer old asking new outcome
+  halt_answer halt (PlayHalted is) = HaltMade halt is
 
-  look_answer : {slot : ℕ} {outcome : Outcome} (look : LookRequest old asking) → slot ≡ old.heard
-      → AnswersAs asking new (AskLook slot) outcome → RequestAnswer old asking new outcome
-  look_answer look same (LookMade {placed = p} is) =
-      LookAnswer look (subst (λ slot. IsLooked asking slot p new) same is)
-  look_answer look same (LookFull is) = JournalFull (Look look.sequence) look.waiting is
+  look_answer : {outcome : Outcome} (look : LookRequest old asking) → AnswersAs asking new (AskLook old.heard) outcome
+      → RequestAnswer old asking new outcome
+  look_answer look (LookMade is) = LookAnswer look is
+  look_answer look (LookFull is) = JournalFull (Look look.sequence) look.waiting is
 
   offer_answer : {plan : List Segment} {offers : Offers} {outcome : Outcome} (sequence : ℕ)
       → IsAsking old asking (Offer sequence) → AnswersAs asking new (AskOffer plan offers) outcome
@@ -134,7 +130,7 @@ module _ {old asking new : SessionState} where
         prepared = prepared;
         ready = ready;
         waiting = record { text = text; looks = old.looks_left; asking_is = is };
-      }) refl (subst (λ a. AnswersAs asking new a o) ask_is answers)
+      }) (subst (λ a. AnswersAs asking new a o) ask_is answers)
   answer_of {outcome = o} (Stops setup play keep next text playing told keep_is ask_is is) answers =
       halt_answer (record {
         setup = setup;
@@ -146,12 +142,12 @@ module _ {old asking new : SessionState} where
         told = told;
         keep_is = keep_is;
         asking_is = is;
-      }) refl (subst (λ a. AnswersAs asking new a o) ask_is answers)
+      }) (subst (λ a. AnswersAs asking new a o) ask_is answers)
   answer_of {outcome = o} (AsksLook looks sequence ask_is is) answers =
       look_answer (record {
         sequence = sequence;
         waiting = record { text = old.text; looks = looks; asking_is = is };
-      }) refl (subst (λ a. AnswersAs asking new a o) ask_is answers)
+      }) (subst (λ a. AnswersAs asking new a o) ask_is answers)
   answer_of {outcome = o} (AsksOffer plan offers sequence ask_is is) answers =
       offer_answer sequence (record { text = old.text; looks = old.looks_left; asking_is = is })
       (subst (λ a. AnswersAs asking new a o) ask_is answers)

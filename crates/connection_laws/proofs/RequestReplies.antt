@@ -97,10 +97,7 @@ asked_named asked = record {
 play_session : (b : Beginning)
     → header_value (request_head (play_parts b.wish b.session)) (codes "Session") ≡ Some b.session
 unfolding value_named
-play_session b =
-    let asked = play-asked b.wish b.session b.wished b.port b.session_is in
-    let is : value_named (codes "Session") (play_parts b.wish b.session).fields ≡ Some b.session = refl in
-    asked.values (codes "Session") ∙ is
+play_session b = (play-asked b.wish b.session b.wished b.port b.session_is).values (codes "Session")
 
 -- the times of an entire film
 whole_front : (stored : Stored) (run : Run) (front : ℕ → ℕ → List ℕ) → run ≡ whole_run stored
@@ -118,12 +115,6 @@ pub record AnswersTeardown (old new : SessionState) : Type 0 where
   pub text : new.text ≡ session_text 3 old.id
   pub same : IsSameSetup old new
 
-teardown_fields : (b : Beginning) (name : List ℕ) (found : Option (List ℕ))
-    → value_named name (teardown_parts b.wish b.session).fields ≡ found
-    → header_value (request_head (teardown_parts b.wish b.session)) name ≡ found
-teardown_fields b name found is =
-    (teardown-asked b.wish b.session b.wished b.port b.session_is).values name ∙ is
-
 -- no option is required, and the session is named
 record IsTeardownHead (b : Beginning) (head : List ℕ) : Type 0 where
   require : header_value head (codes "Require") ≡ None
@@ -132,11 +123,13 @@ record IsTeardownHead (b : Beginning) (head : List ℕ) : Type 0 where
 
 teardown_head : (b : Beginning) → IsTeardownHead b (request_head (teardown_parts b.wish b.session))
 unfolding value_named
-teardown_head b = record {
-  require = teardown_fields b (codes "Require") None refl;
-  proxy = teardown_fields b (codes "Proxy-Require") None refl;
-  session = teardown_fields b (codes "Session") (Some b.session) refl;
-}
+teardown_head b =
+    let values = (teardown-asked b.wish b.session b.wished b.port b.session_is).values in
+    record {
+      require = values (codes "Require");
+      proxy = values (codes "Proxy-Require");
+      session = values (codes "Session");
+    }
 
 has_one : {setup : Setup} (state : State) → setup_in state ≡ Some setup → has_session_in state ≡ true
 has_one Init is = absurd (let no : ⊥ = cc in no)

@@ -41,7 +41,7 @@ use Rattle.connection_laws.specs.WatchEnds.{AreAnswers, AreGoodReplies}
 use Rattle.connection_laws.proofs.FilmReplies.{IsFilmAnswer}
 use Rattle.connection_laws.proofs.ReplyReadings.{IsPlayAnswer}
 use Rattle.connection_laws.proofs.WatchedFilms.{IsServed}
-use Rattle.connection_laws.proofs.AcceptedMoments.{AcceptsFrames, EndsInDone}
+use Rattle.connection_laws.proofs.AcceptedMoments.{FilmClauses}
 use Rattle.connection_laws.proofs.CourseInduction.{begin_of, piece_of, rounds_requests}
 
 first_boundary : (play : FilmPlay) → play.before ≡ 0 → IsBoundaryIn (play ∷ []) 0
@@ -341,20 +341,19 @@ module _ {wish : Wish} {stored : Stored} {course : Course} where
       }
 
   -- a film that was asked for is served to a client, whose clauses on frames these are
-  pub asked_served : (asked : IsAskedFor wish stored course) → AreInRange course asked.play → AcceptsFrames → EndsInDone
+  pub asked_served : (asked : IsAskedFor wish stored course) → AreInRange course asked.play → FilmClauses
       → IsServed wish stored course
-  asked_served asked range accepts done =
+  asked_served asked range clauses =
       let played = (asked_played asked).0 in
       record {
         played = played;
         small = let small = range.ssrc in omega (arith, small, asked_source asked);
         replies = good_replies asked range.start played;
-        accepts = accepts;
-        done = done;
+        clauses = clauses;
       }
 
   -- its play is the one that was admitted
   pub asked_play : (asked : IsAskedFor wish stored course) (range : AreInRange course asked.play)
-      (accepts : AcceptsFrames) (done : EndsInDone) → asked.play ≡ (asked_served asked range accepts done).played.play
+      (clauses : FilmClauses) → asked.play ≡ (asked_served asked range clauses).played.play
   unfolding asked_served
-  asked_play asked range accepts done = sym (asked_played asked).1
+  asked_play asked range clauses = sym (asked_played asked).1

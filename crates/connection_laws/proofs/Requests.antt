@@ -20,7 +20,7 @@ use Rattle.connection_laws.specs.InputSplits.{heard_requests_in, heard_requests_
 use Rattle.connection_laws.specs.Requests.{AreTaken, AwaitsReply, bytes_in, is_no_request, message_of, requests_in}
 use Rattle.connection_laws.specs.Requests.{rounds_input}
 use Rattle.connection_laws.proofs.ElementPaths.{GoesAll, IsOver, AnEnd, ABlock, Over, Element, RequestElement}
-use Rattle.connection_laws.proofs.ElementPaths.{over_element, path_of, elements_hearings}
+use Rattle.connection_laws.proofs.ElementPaths.{over_element, path_of, elements_hearings, Exchange}
 use Rattle.std.specs.Prelude.{⊤}
 use Rattle.connection_laws.proofs.CourseInduction.{begin_of, takings_requests, rounds_requests}
 
@@ -180,7 +180,7 @@ follows_cut {new} {messages} old (round ∷ rounds) follows heard_cut =
     let more : List (List ℕ) = takings_requests round.takings in
     let these : requests_in (elements ++ cuts.elements) ≡ messages ++ more =
     requests_append elements cuts.elements ∙ ap (λ rs. rs ++ requests_in cuts.elements) requests
-    ∙ ap (λ rs. messages ++ rs) (cuts.requests ∙ ap (λ hs. map message_of hs) path.hearings_are
+    ∙ ap (λ rs. messages ++ rs) (cuts.requests ∙ ap (λ (e : Exchange). map message_of e.hearings) path.is
     ∙ takings_heard opened mid round.takings runs.takes) in
     let rest = follows_cut {new = new} {messages = messages ++ more} mid rounds follows.1.1
     (record {

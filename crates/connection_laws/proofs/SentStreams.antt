@@ -255,11 +255,6 @@ past_sends (b ∷ bytes) rest (d ∷ front) after is whole =
     let next = past_sends bytes rest front after tail whole in
     (next.0, (ap (λ l. d ∷ l) next.1.0 ∙ ap (λ x. x ∷ (sends bytes ++ next.0)) first, next.1.1))
 
-joined_front : {event d : IoEvent} {front more rest : List IoEvent} (sent : List IoEvent) → d ≡ event
-    → front ≡ sent ++ more → more ≡ rest → d ∷ front ≡ (event ∷ sent) ++ rest
-joined_front {event} {front} {more} sent first is same =
-    ap (λ x. x ∷ front) first ∙ (ap (λ l. event ∷ l) is ∙ ap (λ l. event ∷ (sent ++ l)) same)
-
 pub whole_rounds : (rounds : List Round) (front after : List IoEvent) → rounds_doings rounds ≡ front ++ after
     → ((byte : ℕ) (later : List IoEvent) → after ≡ Sent byte ∷ later → ⊥) → AreWhole rounds front
 whole_rounds rounds [] after is whole = record { first = []; later = rounds; parts = refl; front_is = refl }
@@ -273,5 +268,6 @@ whole_rounds (round ∷ rounds) (d ∷ front) after is whole =
       first = round ∷ rest.first;
       later = rest.later;
       parts = ap (λ l. round ∷ l) rest.parts;
-      front_is = joined_front (sends (round_bytes round)) first next.1.0 rest.front_is;
+      front_is = ap (λ x. x ∷ front) first ∙ (ap (λ l. round.event ∷ l) next.1.0
+          ∙ ap (λ l. round.event ∷ (sends (round_bytes round) ++ l)) rest.front_is);
     }

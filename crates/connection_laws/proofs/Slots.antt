@@ -22,11 +22,11 @@ use Rattle.pacer.specs.Boundaries.{boundary_from}
 use Rattle.pacer.proofs.SlotStepLemmas.{most-slots}
 
 -- at a boundary the rest of a halted play was sent
-pub ended_at : {p : PacerState} {slot place : ℕ} → IsOnTime p slot → IsAtLast p → IsBoundary p.pieces place
-    → place ≡ p.before + p.sent → p.sent ≡ p.keep
-ended_at {p} {slot} {place} on last boundary is =
-    let least : p.before + p.keep ≤ place = last place boundary (omega (arith, is)) in
-    omega (arith, least, is, on.even, on.pacing.due)
+pub ended_at : {p : PacerState} {slot : ℕ} → IsOnTime p slot → IsAtLast p → IsBoundary p.pieces (p.before + p.sent)
+    → p.sent ≡ p.keep
+ended_at {p} on last boundary =
+    let least : p.before + p.keep ≤ p.before + p.sent = last (p.before + p.sent) boundary (omega arith) in
+    omega (arith, least, on.even, on.pacing.due)
 
 -- ---- a request
 

@@ -238,17 +238,6 @@ unit_marked : (starts : List ℕ) (unit : PictureUnit) → IsLaid starts unit �
 unit_marked starts unit laid =
     last-marked starts unit (unit_packets starts unit) (packets-are starts unit laid) (packets-cover starts unit laid)
 
-unit_size : {starts : List ℕ} {unit : PictureUnit} (run : FramedRun) (f o : ℕ) → IsLaid starts unit
-    → unit.to ≤ length run.film → length (framed_bytes (unit_blocks run starts unit f o)) ≡ wire_size starts unit
-unit_size {starts} {unit} run f o laid short =
-    let pieces = unit_pieces starts unit in
-    let sound = unit-sound run.film starts unit laid short in
-    let n = length (blocks_from run f o pieces) in
-    ap (λ bs. length (framed_bytes bs)) (sym (unit_made run f o starts unit))
-    ∙ (sym (begin-all (blocks_from run f o pieces)) ∙ (blocks_from-begin run f o pieces n sound
-    ∙ (ap (λ l. wire_in l) (take_all n pieces (omega (arith, blocks_from-count run f o pieces)))
-    ∙ unit-wire starts unit laid)))
-
 one_more : (n : ℕ) → suc n + 1 ≡ suc (n + 1)
 one_more n = omega arith
 
@@ -301,8 +290,18 @@ first_marked first = record {
 
 first_sized : {s : Sum} (first : FirstUnit s) → length (framed_bytes (first_blocks first)) ≡ first_size first
 first_sized first =
-    unit_size {starts = first.starts} {unit = first.unit} first.from.run first.from.frames first.from.octets first.laid
-    first.short
+    let run = from.run in
+    let f = from.frames in
+    let o = from.octets in
+    let pieces = unit_pieces starts unit in
+    let sound = unit-sound run.film starts unit laid short in
+    let n = length (blocks_from run f o pieces) in
+    ap (λ bs. length (framed_bytes bs)) (sym (unit_made run f o starts unit))
+    ∙ (sym (begin-all (blocks_from run f o pieces)) ∙ (blocks_from-begin run f o pieces n sound
+    ∙ (ap (λ l. wire_in l) (take_all n pieces (omega (arith, blocks_from-count run f o pieces)))
+    ∙ unit-wire starts unit laid)))
+  where
+    open first use {from, starts, unit, laid, short}
 
 -- of blocks those have come that end in so many bytes
 abbrev HaveCome : List ℕ → ℕ → Sum → List (List ℕ) → Type 0

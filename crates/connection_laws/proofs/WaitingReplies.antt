@@ -164,24 +164,19 @@ boundary_stands p is boundary =
     eq-eqb (next_boundary p) p.sent (omega (arith, stays))
 
 -- where what was sent doesn't end at a boundary, a reply is held up
-past_here : {p : PacerState} {heard place : ℕ} → IsOnTime p heard → stands_at_boundary p ≡ false → IsBoundary p.pieces
-    place → p.before + min (first_slots p.plan (heard + 1 - p.start)) p.keep ≤ place → p.before + p.sent < place
-past_here {p} {heard} {place} on stands boundary from =
-    let here = due_here p heard on in
-    elim (cases_lt (p.before + p.sent) place) [
-      | inl less ↦ less
-      | inr more ↦
-          let same : place ≡ p.before + p.sent = omega (arith, here, from, more) in
-          absurd (true≢false (sym (boundary_stands p on.pacing (subst (IsBoundary p.pieces) same boundary)) ∙ stands))
-    ]
-
 pub held_here : (p : PacerState) (heard : ℕ) → IsOnTime p heard → stands_at_boundary p ≡ false → IsHeldUp p heard heard
 held_here p heard on stands =
     let here = due_here p heard on in
     record {
       before = omega arith;
       due = omega (arith, here);
-      none = λ place boundary from. past_here on stands boundary from;
+      none = λ place boundary from. elim (cases_lt (p.before + p.sent) place) [
+        | inl less ↦ less
+        | inr more ↦
+            let same : place ≡ p.before + p.sent = omega (arith, here, from, more) in
+            absurd (true≢false
+            (sym (boundary_stands p on.pacing (subst (IsBoundary p.pieces) same boundary)) ∙ stands))
+      ];
     }
 
 pub at_here : (p : PacerState) (heard : ℕ) → IsOnTime p heard → stands_at_boundary p ≡ true

@@ -17,7 +17,7 @@ use Rattle.connection_laws.specs.LinkDelivery.{IsCarried, heard_bytes, sent_byte
 use Rattle.connection_laws.specs.Courses.{Course}
 use Rattle.connection_laws.specs.WholePlays.{HasPlayedWhole}
 use Rattle.connection_laws.proofs.EndToEndMeter.{all_sent, fed, film_in, front_again, stream_of, all_sent_whole}
-use Rattle.connection_laws.proofs.EndToEndMeter.{stream_replies}
+use Rattle.connection_laws.proofs.EndToEndMeter.{stream_replies, third_of}
 use Rattle.connection_laws.proofs.MeterInput.{all_of, AreTexts}
 use Rattle.connection_laws.proofs.MeterBounds.{AreFed, IsFed}
 use Rattle.connection_laws.proofs.WatchCourses.{kept_promise, told_course, last_bytes, told_bytes}
@@ -32,7 +32,7 @@ use Rattle.rtsp_client.specs.Outcomes.{IsDecided}
 use Rattle.rtsp_client.proofs.UniqueEnd.{Quits, AtFraming, AtMoment, gives-not-on, gives-once, stops-quit}
 use Rattle.connection_laws.specs.WatchEnds.{RefusesNothing, AreGoodReplies}
 use Rattle.connection_laws.proofs.AcceptedMoments.{HasAccepted, IsPlaceIn, all_cut, moment_accepted, next_in, no_fault}
-use Rattle.connection_laws.proofs.AcceptedMoments.{no_third, none_more, place_in, FilmStream, AcceptsFrames, EndsInDone}
+use Rattle.connection_laws.proofs.AcceptedMoments.{no_third, none_more, place_in, FilmStream, FilmClauses}
 use Rattle.connection_laws.proofs.ClientInput.{Heard, heard_all, heard_more, heard_none, rounds_heard}
 use Rattle.connection_laws.proofs.ElementStreams.{AreAlone}
 use Rattle.connection_laws.specs.Replies.{PlacedText, text_of}
@@ -228,8 +228,7 @@ pub record IsServed (wish : Wish) (stored : Stored) (course : Course) : Type 0 w
   pub played : HasPlayedWhole wish stored course
   pub small : played.identity.ssrc < 2 ^ 32
   pub replies : AreGoodReplies stored.film played.setup played.played (map text_of played.later)
-  pub accepts : AcceptsFrames
-  pub done : EndsInDone
+  pub clauses : FilmClauses
 
 -- ---- the stream
 
@@ -245,8 +244,7 @@ film_stream {wish} {stored} {course} is =
       film_in = film_in wish stored course played;
       small = is.small;
       readable = stream_replies wish stored course played R is.replies;
-      accepts = is.accepts;
-      done = is.done;
+      clauses = is.clauses;
     }
 
 received : {wish : Wish} {stored : Stored} {course : Course} {heard : List IoEvent} (is : IsServed wish stored course)
@@ -266,16 +264,6 @@ watched_unrefused is w front = refuses_nothing w (received is front)
 
 -- ---- `Done`
 
--- a third reply was sent
-record HasThird (later : List PlacedText) : Type 0 where
-  last : PlacedText
-  others : List PlacedText
-  are : later ≡ last ∷ others
-
-third_of : (later : List PlacedText) → length later + 2 ≡ 3 → HasThird later
-third_of [] three = absurd (omega (arith, three))
-third_of (last ∷ others) three = record { last = last; others = others; are = refl }
-
 comes_done : {wish : Wish} {stored : Stored} {course : Course} (is : IsServed wish stored course) (w : Watching wish)
     → IsDelivered course w.heard → IsDecided w.end
     → IsPrefixOf (heard_bytes w.heard) (sent_bytes (rounds_doings course.rounds))
@@ -293,7 +281,7 @@ comes_done {wish} {stored} {course} is w delivered decided front =
       others = map text_of third.others;
       later = stream_replies wish stored course played L (ap (λ l. map text_of l) third.are);
       received = received is front;
-      whole = delivered.all ∙ all_sent_whole played third.last third.others third.are;
+      whole = delivered.all ∙ all_sent_whole played third;
     }) decided
 
 pub watched_done : {wish : Wish} {stored : Stored} {course : Course} (is : IsServed wish stored course)

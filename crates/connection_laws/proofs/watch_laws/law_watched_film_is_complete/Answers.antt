@@ -7,6 +7,7 @@ use Rattle.connection_laws.specs.Plays.{FilmPlay}
 use Rattle.connection_laws.proofs.AdmittedStarts.{asked_start}
 use Rattle.connection_laws.proofs.RequestedPlays.{asked_played, asked_play, asked_served}
 use Rattle.connection_laws.proofs.WatchedFilms.{watched_whole, watched_done, watched_unrefused}
+use Rattle.connection_laws.proofs.AcceptedMoments.{FilmClauses}
 use Rattle.connection_laws.proofs.watch_laws.law_watched_film_is_complete.Goals as goal
 
 pub returns-clause-played : goal.returns-clause-played
@@ -40,8 +41,10 @@ returns-clause-unrefused c = λ wish stored course end heard out played small re
       played = played;
       small = small;
       replies = replies;
-      accepts = c.law_whole_film_ends_in_done.ensures.frame;
-      done = c.law_whole_film_ends_in_done.ensures.done;
+      clauses = record {
+        accepts = c.law_whole_film_ends_in_done.ensures.frame;
+        done = c.law_whole_film_ends_in_done.ensures.done;
+      };
     }) (record { end = end; heard = heard; out = out; client = client }) front
 
 pub returns-clause-done : goal.returns-clause-done
@@ -50,25 +53,32 @@ returns-clause-done c = λ wish stored course end heard out wished played small 
       played = played;
       small = small;
       replies = replies;
-      accepts = c.law_whole_film_ends_in_done.ensures.frame;
-      done = c.law_whole_film_ends_in_done.ensures.done;
+      clauses = record {
+        accepts = c.law_whole_film_ends_in_done.ensures.frame;
+        done = c.law_whole_film_ends_in_done.ensures.done;
+      };
     }) (record { end = end; heard = heard; out = out; client = client }) wished delivered decided carried
 
 pub returns-clause-asked_unrefused : goal.returns-clause-asked_unrefused
 returns-clause-asked_unrefused c = λ wish stored course end heard out asked range client front.
     watched_unrefused
-    (asked_served asked range c.law_whole_film_ends_in_done.ensures.frame c.law_whole_film_ends_in_done.ensures.done)
+    (asked_served asked range (record {
+      accepts = c.law_whole_film_ends_in_done.ensures.frame;
+      done = c.law_whole_film_ends_in_done.ensures.done;
+    }))
     (record { end = end; heard = heard; out = out; client = client }) front
 
 pub returns-clause-asked_done : goal.returns-clause-asked_done
 returns-clause-asked_done c = λ wish stored course end heard out asked range client carried delivered decided.
-    let served = asked_served asked range c.law_whole_film_ends_in_done.ensures.frame
-    c.law_whole_film_ends_in_done.ensures.done in
+    let clauses : FilmClauses = record {
+      accepts = c.law_whole_film_ends_in_done.ensures.frame;
+      done = c.law_whole_film_ends_in_done.ensures.done;
+    } in
+    let served = asked_served asked range clauses in
     let C : FilmPlay → Type 0 = λ play.
     IsCarried (rounds_doings course.rounds) heard play.start (first_slot client.mid.history) in
     watched_done served (record { end = end; heard = heard; out = out; client = client }) asked.wished delivered decided
-    (subst C (asked_play asked range c.law_whole_film_ends_in_done.ensures.frame
-    c.law_whole_film_ends_in_done.ensures.done) carried)
+    (subst C (asked_play asked range clauses) carried)
 
 pub returns-clause-served_done : goal.returns-clause-served_done
 returns-clause-served_done c =
