@@ -32,7 +32,7 @@ use Rattle.rtsp_client.specs.WholeFilms.{AwaitsFilm, frames_of_film}
 use Rattle.connection_laws.specs.WatchEnds.{AreAnswers, AreGoodReplies}
 use Rattle.connection_laws.proofs.ClientInput.{no_sum}
 use Rattle.connection_laws.proofs.ElementStreams.{AreAlone, no_element}
-use Rattle.connection_laws.proofs.FilmReading.{IsFilmIn, film_run, units_all, more_reply}
+use Rattle.connection_laws.proofs.FilmReading.{film_run, units_all, more_reply, WholeStream, run_from}
 use Rattle.connection_laws.proofs.FirstFrames.{HasGoneOn}
 use Rattle.connection_laws.proofs.HistorySums.{AreOneBlocks, Sum, blocks_same, steps, steps_on, sum_of}
 use Rattle.connection_laws.proofs.MeterInput.{AreTexts, Stream, all_of, begun_sum, two_moments}
@@ -205,12 +205,9 @@ pub record FilmClauses : Type 0 where
 
 -- a film's stream, and what a client makes of its frames
 pub record FilmStream : Type 0 where
-  pub film : Film
-  pub identity : Identity
-  pub x : Stream
-  pub film_in : IsFilmIn film identity x
-  pub small : identity.ssrc < 2 ^ 32
-  pub readable : IsReadable film x
+  pub stream : WholeStream
+  pub small : stream.identity.ssrc < 2 ^ 32
+  pub readable : IsReadable stream.film stream.x
   pub clauses : FilmClauses
 
 -- what a client has gone on at
@@ -219,15 +216,16 @@ pub record HasAccepted (elements : List (List ℕ)) (h : History) : Type 0 where
   pub frames : frames_heard h ≡ frames_of (events_of_elements elements)
   pub gone : HasGoneOn h
 
-stream_frames : {film : Film} {identity : Identity} {x : Stream} → IsFilmIn film identity x
-    → frames_of (events_of_elements x.blocks) ≡ frames_of_film film identity
-stream_frames {film} {identity} {x} is =
+stream_frames : (s : WholeStream)
+    → frames_of (events_of_elements s.x.blocks) ≡ frames_of_film s.film s.identity
+stream_frames s =
     let run = film_run film identity in
     let starts = film.slice_starts.items in
-    ap (λ bs. frames_of (events_of_elements bs)) is.blocks
-    ∙ (units_told (record { run = run; frames = 0; octets = 0; media = is.media; control = is.control })
-    starts film.units.items ∙ ap (λ us. frames_among (pieces_of starts us) (blocks_from run 0 0 (pieces_of starts us)))
+    ap (λ bs. frames_of (events_of_elements bs)) blocks
+    ∙ (units_told (run_from s) starts film.units.items ∙ ap (λ us. frames_among (pieces_of starts us) (blocks_from run 0 0 (pieces_of starts us)))
     (sym (units_all film)))
+  where
+    open s use {film, identity, blocks}
 
 -- after the two first replies
 two_frames : (x : Stream) (qs : List (List ℕ))
@@ -241,16 +239,16 @@ record IsInFilm (film : Film) (h : History) : Type 0 where
   two : replies h ≡ 2
 
 in_film : {h : History} (s : FilmStream) (qs : List (List ℕ)) → AreOneBlocks qs
-    → sum_of h ≡ steps (begun_sum s.x) (events_of_elements qs) → IsInFilm s.film h
+    → sum_of h ≡ steps (begun_sum s.stream.x) (events_of_elements qs) → IsInFilm s.stream.film h
 in_film {h} s qs are sum =
-    let same = blocks_same qs (begun_sum s.x) are in
+    let same = blocks_same qs (begun_sum s.stream.x) are in
     let two : replies h ≡ 2 = ap (λ (s : Sum). s.replies) sum ∙ same.replies in
-    let end : end_ms h ≡ length_ms s.film =
+    let end : end_ms h ≡ length_ms s.stream.film =
     ap (λ (s : Sum). s.end_ms) sum ∙ same.end_ms ∙ ap (λ r. unwrap_or r 0) s.readable.range in
     record {
       awaits = record {
         playing = lt-ltb 1 (replies h) (omega (arith, two));
-        end_is = ap (λ e. units_until e (picture_time s.film.rate)) end ∙ film_counted s.film;
+        end_is = ap (λ e. units_until e (picture_time s.stream.film.rate)) end ∙ film_counted s.stream.film;
       };
       two = two;
     }
@@ -311,81 +309,79 @@ stands_in (b ∷ bs) ls (q ∷ qs) e es is =
 -- ---- each next moment of a film's stream is accepted
 
 module _ {h : History} {moment : ClientEvent} (wish : Wish) (s : FilmStream) where
-  open s use {film, identity, x}
-
   -- the next element is a block of the film
-  film_moment : (qs : List (List ℕ)) (b : List ℕ) (rest : List (List ℕ)) → HasAccepted (x.first ∷ x.second ∷ qs) h
-      → x.blocks ≡ qs ++ b ∷ rest → element_events b ≡ moment ∷ [] → IsAccepted wish h moment
+  film_moment : (qs : List (List ℕ)) (b : List ℕ) (rest : List (List ℕ)) → HasAccepted (s.stream.x.first ∷ s.stream.x.second ∷ qs) h
+      → s.stream.x.blocks ≡ qs ++ b ∷ rest → element_events b ≡ moment ∷ [] → IsAccepted wish h moment
   film_moment qs b rest accepted blocks moment_is =
-      let are : AreOneBlocks (qs ++ b ∷ rest) = subst AreOneBlocks blocks x.blocks_are in
-      let inside = in_film s qs (blocks_front qs (b ∷ rest) are) (accepted.sum ∙ two_moments x qs) in
+      let are : AreOneBlocks (qs ++ b ∷ rest) = subst AreOneBlocks blocks s.stream.x.blocks_are in
+      let inside = in_film s qs (blocks_front qs (b ∷ rest) are) (accepted.sum ∙ two_moments s.stream.x qs) in
       elim (block_at qs b rest are) [
         | inl frame ↦
-            let frames : frames_of_film film identity ≡ frames_heard h ++ b ∷ frames_of (events_of_elements rest) =
-            sym (stream_frames s.film_in) ∙ ap (λ bs. frames_of (events_of_elements bs)) blocks
+            let frames : frames_of_film s.stream.film s.stream.identity ≡ frames_heard h ++ b ∷ frames_of (events_of_elements rest) =
+            sym (stream_frames s.stream) ∙ ap (λ bs. frames_of (events_of_elements bs)) blocks
             ∙ frames_front qs b rest frame
-            ∙ ap (λ l. l ++ b ∷ frames_of (events_of_elements rest)) (sym (accepted.frames ∙ two_frames x qs)) in
+            ∙ ap (λ l. l ++ b ∷ frames_of (events_of_elements rest)) (sym (accepted.frames ∙ two_frames s.stream.x qs)) in
             let good : GoesOn h (Frame b) =
-            s.clauses.accepts film identity h b (frames_of (events_of_elements rest)) s.small inside.awaits frames in
+            s.clauses.accepts s.stream.film s.stream.identity h b (frames_of (events_of_elements rest)) s.small inside.awaits frames in
             subst (IsAccepted wish h) (same_moment b moment_is frame) (inl good)
         | inr report ↦ subst (IsAccepted wish h) (same_moment b moment_is report) (inl tt)
       ]
 
   -- it is the reply after the film
-  last_moment : (last : List ℕ) (rest : List (List ℕ)) → HasAccepted (x.first ∷ x.second ∷ x.blocks) h
-      → x.later ≡ last ∷ rest → element_events last ≡ moment ∷ [] → IsAccepted wish h moment
+  last_moment : (last : List ℕ) (rest : List (List ℕ)) → HasAccepted (s.stream.x.first ∷ s.stream.x.second ∷ s.stream.x.blocks) h
+      → s.stream.x.later ≡ last ∷ rest → element_events last ≡ moment ∷ [] → IsAccepted wish h moment
   last_moment last rest accepted later moment_is =
-      let inside = in_film s x.blocks x.blocks_are (accepted.sum ∙ two_moments x x.blocks) in
-      let frames : frames_of_film film identity ≡ frames_heard h =
-      sym (stream_frames s.film_in) ∙ sym (accepted.frames ∙ two_frames x x.blocks) in
-      let texts : AreTexts (last ∷ rest) = subst AreTexts later x.later_are in
+      let inside = in_film s s.stream.x.blocks s.stream.x.blocks_are (accepted.sum ∙ two_moments s.stream.x s.stream.x.blocks) in
+      let frames : frames_of_film s.stream.film s.stream.identity ≡ frames_heard h =
+      sym (stream_frames s.stream) ∙ sym (accepted.frames ∙ two_frames s.stream.x s.stream.x.blocks) in
+      let texts : AreTexts (last ∷ rest) = subst AreTexts later s.stream.x.later_are in
       let answers : AreAnswers (last ∷ rest) = subst AreAnswers later s.readable.later_are in
       reply_moment wish last moment_is refl texts.0.moment
-      (inr (s.clauses.done film identity wish h last s.small inside.awaits frames inside.two answers.0))
+      (inr (s.clauses.done s.stream.film s.stream.identity wish h last s.small inside.awaits frames inside.two answers.0))
 
   -- after the two first replies
-  later_moment : (qs : List (List ℕ)) (e : List ℕ) (es : List (List ℕ)) → HasAccepted (x.first ∷ x.second ∷ qs) h
-      → x.blocks ++ x.later ≡ qs ++ e ∷ es → element_events e ≡ moment ∷ [] → IsAccepted wish h moment
+  later_moment : (qs : List (List ℕ)) (e : List ℕ) (es : List (List ℕ)) → HasAccepted (s.stream.x.first ∷ s.stream.x.second ∷ qs) h
+      → s.stream.x.blocks ++ s.stream.x.later ≡ qs ++ e ∷ es → element_events e ≡ moment ∷ [] → IsAccepted wish h moment
   later_moment qs e es accepted all moment_is =
-      elim (stands_in x.blocks x.later qs e es all) [
+      elim (stands_in s.stream.x.blocks s.stream.x.later qs e es all) [
         | Within rest inside ↦ film_moment qs e rest accepted inside moment_is
         | Past more past after ↦ by_more more past after
       ]
     where
       A : List (List ℕ) → Type 0
-      A = λ l. HasAccepted (x.first ∷ x.second ∷ l) h
+      A = λ l. HasAccepted (s.stream.x.first ∷ s.stream.x.second ∷ l) h
 
-      by_more : (more : List (List ℕ)) → qs ≡ x.blocks ++ more → x.later ≡ more ++ e ∷ es → IsAccepted wish h moment
+      by_more : (more : List (List ℕ)) → qs ≡ s.stream.x.blocks ++ more → s.stream.x.later ≡ more ++ e ∷ es → IsAccepted wish h moment
       by_more [] past after =
-          last_moment e es (subst A (past ∙ append-nil x.blocks) accepted) after moment_is
+          last_moment e es (subst A (past ∙ append-nil s.stream.x.blocks) accepted) after moment_is
       by_more (y ∷ more) past after =
-          let texts : AreTexts (y ∷ (more ++ e ∷ es)) = subst AreTexts after x.later_are in
-          absurd (no_third x y more (subst A past accepted) texts.0.moment)
+          let texts : AreTexts (y ∷ (more ++ e ∷ es)) = subst AreTexts after s.stream.x.later_are in
+          absurd (no_third s.stream.x y more (subst A past accepted) texts.0.moment)
 
   -- each next moment of a film's stream is accepted
-  pub moment_accepted : (elements : List (List ℕ)) → HasAccepted elements h → IsNextIn (all_of x) elements moment
+  pub moment_accepted : (elements : List (List ℕ)) → HasAccepted elements h → IsNextIn (all_of s.stream.x) elements moment
       → IsAccepted wish h moment
   moment_accepted [] accepted next =
-      let all : x.first ∷ x.second ∷ (x.blocks ++ x.later) ≡ next.element ∷ next.more = next.all_is in
-      let first : next.element ≡ x.first = cc in
+      let all : s.stream.x.first ∷ s.stream.x.second ∷ (s.stream.x.blocks ++ s.stream.x.later) ≡ next.element ∷ next.more = next.all_is in
+      let first : next.element ≡ s.stream.x.first = cc in
       let none : replies h ≡ 0 = ap (λ (s : Sum). s.replies) accepted.sum in
-      reply_moment wish next.element next.moment_is first x.first_is.moment
-      (inl (good_reply 0 none (omega arith) s.readable.setup_is (setup_fields h x.first none s.readable.session)))
+      reply_moment wish next.element next.moment_is first s.stream.x.first_is.moment
+      (inl (good_reply 0 none (omega arith) s.readable.setup_is (setup_fields h s.stream.x.first none s.readable.session)))
   moment_accepted (a ∷ []) accepted next =
-      let all : x.first ∷ x.second ∷ (x.blocks ++ x.later) ≡ a ∷ next.element ∷ next.more = next.all_is in
-      let first : a ≡ x.first = cc in
-      let second : next.element ≡ x.second = cc in
-      let single : steps no_sum (events_of_elements (a ∷ [])) ≡ steps no_sum (Reply x.first ∷ []) =
-      ap (λ t. steps no_sum (events_of_elements (t ∷ []))) first ∙ ap (λ l. steps no_sum (l ++ [])) x.first_is.moment in
+      let all : s.stream.x.first ∷ s.stream.x.second ∷ (s.stream.x.blocks ++ s.stream.x.later) ≡ a ∷ next.element ∷ next.more = next.all_is in
+      let first : a ≡ s.stream.x.first = cc in
+      let second : next.element ≡ s.stream.x.second = cc in
+      let single : steps no_sum (events_of_elements (a ∷ [])) ≡ steps no_sum (Reply s.stream.x.first ∷ []) =
+      ap (λ t. steps no_sum (events_of_elements (t ∷ []))) first ∙ ap (λ l. steps no_sum (l ++ [])) s.stream.x.first_is.moment in
       let one : replies h ≡ 1 = ap (λ (s : Sum). s.replies) (accepted.sum ∙ single) in
-      reply_moment wish next.element next.moment_is second x.second_is.moment
+      reply_moment wish next.element next.moment_is second s.stream.x.second_is.moment
       (inl (good_reply 1 one (omega arith) s.readable.played_is
-      (play_fields h x.second one s.readable.range s.readable.start)))
+      (play_fields h s.stream.x.second one s.readable.range s.readable.start)))
   moment_accepted (a ∷ b ∷ qs) accepted next =
-      let all : x.first ∷ x.second ∷ (x.blocks ++ x.later) ≡ a ∷ b ∷ (qs ++ next.element ∷ next.more) = next.all_is in
-      let first : a ≡ x.first = cc in
-      let second : b ≡ x.second = cc in
-      let rest : x.blocks ++ x.later ≡ qs ++ next.element ∷ next.more = cc in
+      let all : s.stream.x.first ∷ s.stream.x.second ∷ (s.stream.x.blocks ++ s.stream.x.later) ≡ a ∷ b ∷ (qs ++ next.element ∷ next.more) = next.all_is in
+      let first : a ≡ s.stream.x.first = cc in
+      let second : b ≡ s.stream.x.second = cc in
+      let rest : s.stream.x.blocks ++ s.stream.x.later ≡ qs ++ next.element ∷ next.more = cc in
       let A : List ℕ → List ℕ → Type 0 = λ s t. HasAccepted (s ∷ t ∷ qs) h in
       later_moment qs next.element next.more
-      (subst (A x.first) second (subst (λ s. A s b) first accepted)) rest next.moment_is
+      (subst (A s.stream.x.first) second (subst (λ s. A s b) first accepted)) rest next.moment_is

@@ -38,7 +38,7 @@ use Rattle.rtsp_client.specs.MeterGuarantee.{IsBetween}
 use Rattle.connection_laws.specs.LinkDelivery.{IsWrittenBy, latest_slot, sent_bytes}
 use Rattle.connection_laws.specs.WholePlays.{AreAfter, HasPlayedWhole, IsWholePlay, film_blocks, playback_of, whole_run}
 use Rattle.connection_laws.proofs.Curves.{curves_same}
-use Rattle.connection_laws.proofs.FilmReading.{IsFilmIn, blocks_sum, film_sizes, run_blocks}
+use Rattle.connection_laws.proofs.FilmReading.{blocks_sum, film_sizes, run_blocks, WholeStream}
 use Rattle.connection_laws.proofs.MeterInput.{AreTexts, Stream, all_of, text_is}
 use Rattle.connection_laws.proofs.MeterBounds.{IsFed}
 use Rattle.connection_laws.proofs.BookedPlays.{askings_parts, course_late, late_play, one_so_far}
@@ -67,8 +67,8 @@ alone_texts : (ms : List (List ℕ)) → AreTexts ms → AreAlone ms
 alone_texts [] are = tt
 alone_texts (m ∷ ms) are = (are.0.alone, alone_texts ms are.1)
 
-pub stream_of : (wish : Wish) (stored : Stored) (course : Course) → HasPlayedWhole wish stored course → Stream
-stream_of wish stored course played =
+pub stream_of : {wish : Wish} {stored : Stored} {course : Course} → HasPlayedWhole wish stored course → Stream
+stream_of {stored = stored} played =
     let blocks = film_blocks stored played.identity in
     let run = run_of stored.film 0 (length stored.film.units.items) played.identity in
     let setup = text_is played.setup played.setup_is.starts played.setup_is.size in
@@ -100,12 +100,12 @@ stream_of wish stored course played =
     }
 
 -- its replies are those of the connection
-pub stream_replies : (wish : Wish) (stored : Stored) (course : Course) (played : HasPlayedWhole wish stored course)
+pub stream_replies : {wish : Wish} {stored : Stored} {course : Course} (played : HasPlayedWhole wish stored course)
     (P : List ℕ → List ℕ → List (List ℕ) → Type 0) → P played.setup played.played (map text_of played.later)
-    → P (stream_of wish stored course played).first (stream_of wish stored course played).second
-    (stream_of wish stored course played).later
+    → P (stream_of played).first (stream_of played).second
+    (stream_of played).later
 unfolding stream_of
-stream_replies wish stored course played P is = is
+stream_replies played P is = is
 
 -- ---- the film by the step of a slot
 
@@ -175,43 +175,6 @@ pub record IsSentBetween (wish : Wish) (film : Film) (total place count : ℕ) :
   pub few : count ≤ total
   pub between : IsBetween wish (film_sizes film) (picture_time film.rate) place count
 
-module _ {wish : Wish} {stored : Stored} {identity : Identity} {play : FilmPlay} {x : Stream} where
-  whole_bytes : IsWholePlay wish stored identity play → IsFilmIn stored.film identity x
-      → total_bytes play.plan ≡ length (framed_bytes x.blocks)
-  whole_bytes whole is =
-      let keeps = sending-keeps (stored_sizes stored) (playback_of wish stored) (whole_run stored) play.plan
-      whole.sending in
-      omega (arith, keeps.bytes, ap sum (rest_all stored), blocks_sum stored.film identity x is)
-
-  sent_between : {rounds : List Round} {j : ℕ} → IsWholePlay wish stored identity play → IsFilmIn stored.film identity x
-      → x.blocks ≡ film_blocks stored identity → IsSentThrough play rounds → greatest_slot rounds ≡ play.start + j
-      → IsSentBetween wish stored.film (length (framed_bytes x.blocks)) j (length (rounds_film rounds))
-  sent_between {rounds} {j} whole is blocks sent slot =
-      let g = greatest_slot rounds in
-      let n = first_slots play.plan (j + 1) in
-      let total = length (framed_bytes x.blocks) in
-      let film : rounds_film rounds ≡ take (due_of g play) (framed_bytes x.blocks) =
-      sent.film ∙ (one_written g play
-      ∙ ap (take (due_of g play)) (film_blocks_are wish stored identity play whole ∙ ap framed_bytes (sym blocks))) in
-      let at : g + 1 - play.start ≡ j + 1 = omega (arith, slot) in
-      let due : first_slots play.plan (g + 1 - play.start) ≡ n = ap (first_slots play.plan) at in
-      let bytes = whole_bytes whole is in
-      let most = slots_most play (j + 1) sent.plan in
-      let size : length (rounds_film rounds) ≡ n =
-      ap (λ (l : List ℕ). length l) film
-      ∙ (length-take (due_of g play) (framed_bytes x.blocks) ∙ omega (arith, due, whole.keep, most, bytes)) in
-      let run = whole_run stored in
-      let playback = playback_of wish stored in
-      let curves = planned_between sent.plan whole.sending refl in
-      let came : 0 + n ≡ length (rounds_film rounds) = omega (arith, size) in
-      let P : List ℕ → Type 0 = λ sizes. IsBetween wish sizes (picture_time stored.film.rate) j (0 + n) in
-      let Q : ℕ → Type 0 = λ m. IsBetween wish (film_sizes stored.film) (picture_time stored.film.rate) j m in
-      record {
-        few = omega (arith, size, most, bytes);
-        between = subst Q came (subst P (rest_all stored)
-            (curves_same (record { units = refl; delay = refl }) refl refl curves.above curves.below));
-      }
-
 -- ---- what the client is fed
 
 event_is : (old opened : Stage) (event : IoEvent) (due : List SentPart) (halt : Outcome)
@@ -230,15 +193,61 @@ events_front : (a b : List Round) → AreEvents (a ++ b) → AreEvents a
 events_front [] b are = tt
 events_front (round ∷ a) b are = (are.0, events_front a b are.1)
 
-pub film_in : (wish : Wish) (stored : Stored) (course : Course) (played : HasPlayedWhole wish stored course)
-    → IsFilmIn stored.film played.identity (stream_of wish stored course played)
+pub stream_blocks : {wish : Wish} {stored : Stored} {course : Course} (played : HasPlayedWhole wish stored course)
+    → (stream_of played).blocks ≡ film_blocks stored played.identity
 unfolding stream_of
-film_in wish stored course played =
-    record {
-      media = played.whole.media;
-      control = played.whole.control;
-      blocks = run_blocks stored.film played.identity;
-    }
+stream_blocks played = refl
+
+-- of an entire film
+abbrev pub played_stream : {wish : Wish} {stored : Stored} {course : Course} → HasPlayedWhole wish stored course
+    → WholeStream
+played_stream {stored = stored} played = record {
+  film = stored.film;
+  identity = played.identity;
+  x = stream_of played;
+  media = played.whole.media;
+  control = played.whole.control;
+  blocks = stream_blocks played ∙ run_blocks stored.film played.identity;
+}
+
+module _ {wish : Wish} {stored : Stored} {course : Course} (played : HasPlayedWhole wish stored course) where
+  open played use {play, whole}
+
+  whole_bytes : total_bytes play.plan ≡ length (framed_bytes (stream_of played).blocks)
+  whole_bytes =
+      let keeps = sending-keeps (stored_sizes stored) (playback_of wish stored) (whole_run stored) play.plan
+      whole.sending in
+      omega (arith, keeps.bytes, ap sum (rest_all stored), blocks_sum (played_stream played))
+
+  sent_between : {rounds : List Round} {j : ℕ} → IsSentThrough play rounds → greatest_slot rounds ≡ play.start + j
+      → IsSentBetween wish stored.film (length (framed_bytes (stream_of played).blocks)) j (length (rounds_film rounds))
+  sent_between {rounds} {j} sent slot =
+      let x = stream_of played in
+      let g = greatest_slot rounds in
+      let n = first_slots play.plan (j + 1) in
+      let total = length (framed_bytes x.blocks) in
+      let film : rounds_film rounds ≡ take (due_of g play) (framed_bytes x.blocks) =
+      sent.film ∙ (one_written g play
+      ∙ ap (take (due_of g play)) (film_blocks_are wish stored played.identity play whole
+      ∙ ap framed_bytes (sym (stream_blocks played)))) in
+      let at : g + 1 - play.start ≡ j + 1 = omega (arith, slot) in
+      let due : first_slots play.plan (g + 1 - play.start) ≡ n = ap (first_slots play.plan) at in
+      let bytes = whole_bytes in
+      let most = slots_most play (j + 1) sent.plan in
+      let size : length (rounds_film rounds) ≡ n =
+      ap (λ (l : List ℕ). length l) film
+      ∙ (length-take (due_of g play) (framed_bytes x.blocks) ∙ omega (arith, due, whole.keep, most, bytes)) in
+      let run = whole_run stored in
+      let playback = playback_of wish stored in
+      let curves = planned_between sent.plan whole.sending refl in
+      let came : 0 + n ≡ length (rounds_film rounds) = omega (arith, size) in
+      let P : List ℕ → Type 0 = λ sizes. IsBetween wish sizes (picture_time stored.film.rate) j (0 + n) in
+      let Q : ℕ → Type 0 = λ m. IsBetween wish (film_sizes stored.film) (picture_time stored.film.rate) j m in
+      record {
+        few = omega (arith, size, most, bytes);
+        between = subst Q came (subst P (rest_all stored)
+            (curves_same (record { units = refl; delay = refl }) refl refl curves.above curves.below));
+      }
 
 -- the texts of a course in two parts, by where the first part's film ends
 split_texts : {texts : List PlacedText} (course : Course) (first later : List Round) → course.rounds ≡ first ++ later
@@ -258,20 +267,19 @@ later_text film place parts same placed rest at =
 
 module _ {wish : Wish} {stored : Stored} {course : Course} (played : HasPlayedWhole wish stored course) where
   fed_by : (first later : List Round) (j : ℕ) → course.rounds ≡ first ++ later
-      → greatest_slot first ≡ played.play.start + j → IsFed wish stored.film (stream_of wish stored course played)
+      → greatest_slot first ≡ played.play.start + j → IsFed wish stored.film (stream_of played)
       (rounds_bytes first) j
   unfolding stream_of
   fed_by first later j split slot =
       let begin = begin_of course in
       let play = played.play in
-      let x = stream_of wish stored course played in
-      let is = film_in wish stored course played in
+      let x = stream_of played in
       let G : (rs : List Round) → IsCourseBetween begin rs course.last → Type 0 =
       λ rs f. plays_of (askings_of begin rs course.last f) ≡ play ∷ [] in
       let H : List Round → Type 0 = λ rs. (f : IsCourseBetween begin rs course.last) × G rs f in
       let there : H (first ++ later) = subst H split (course.follows, played.plays) in
       let sent = sent_through course later (record { place = j; slot_is = slot }) there.0 there.1 played.whole.keep in
-      let between = sent_between played.whole is refl sent slot in
+      let between = sent_between played sent slot in
       let one = rounds_parts first in
       let two = rounds_parts later in
       let film = length (rounds_film first) in
@@ -296,7 +304,7 @@ module _ {wish : Wish} {stored : Stored} {course : Course} (played : HasPlayedWh
       record { between = λ much. subst P (sym (here.is much)) between.between }
 
   pub fed : {bytes : List ℕ} {j : ℕ} → IsWrittenBy (rounds_doings course.rounds) (played.play.start + j) bytes
-      → IsFed wish stored.film (stream_of wish stored course played) bytes j
+      → IsFed wish stored.film (stream_of played) bytes j
   fed {bytes} {j} written =
       let begin = begin_of course in
       let whole = whole_rounds course.rounds written.front written.rest written.parts written.whole in
@@ -308,18 +316,18 @@ module _ {wish : Wish} {stored : Stored} {course : Course} (played : HasPlayedWh
       sym (rounds_latest whole.first) ∙ (ap latest_slot (sym whole.front_is) ∙ written.slot_is) in
       let are : rounds_bytes whole.first ≡ bytes =
       sym (written.bytes_are ∙ (ap sent_bytes whole.front_is ∙ rounds_sent_are whole.first events)) in
-      let F : List ℕ → Type 0 = λ b. IsFed wish stored.film (stream_of wish stored course played) b j in
+      let F : List ℕ → Type 0 = λ b. IsFed wish stored.film (stream_of played) b j in
       subst F are (fed_by whole.first whole.later j whole.parts slot)
 
 -- ---- all that was sent is a prefix of the stream
 
-pub all_sent : (wish : Wish) (stored : Stored) (course : Course) (played : HasPlayedWhole wish stored course)
-    → IsFrontOf (sent_bytes (rounds_doings course.rounds)) (framed_bytes (all_of (stream_of wish stored course played)))
+pub all_sent : {wish : Wish} {stored : Stored} {course : Course} (played : HasPlayedWhole wish stored course)
+    → IsFrontOf (sent_bytes (rounds_doings course.rounds)) (framed_bytes (all_of (stream_of played)))
 unfolding stream_of
-all_sent wish stored course played =
+all_sent {wish} {stored} {course} played =
     let begin = begin_of course in
     let play = played.play in
-    let x = stream_of wish stored course played in
+    let x = stream_of played in
     let g = greatest_slot course.rounds in
     let blocks = framed_bytes x.blocks in
     let parts = rounds_parts course.rounds in
@@ -365,15 +373,15 @@ third_of (last ∷ others) three = record { last = last; others = others; are = 
 
 -- where a reply after the film was sent, all of the stream was sent
 pub all_sent_whole : {wish : Wish} {stored : Stored} {course : Course} (played : HasPlayedWhole wish stored course)
-    → HasThird played.later → sent_bytes (rounds_doings course.rounds) ≡ framed_bytes (all_of (stream_of wish stored course played))
+    → HasThird played.later → sent_bytes (rounds_doings course.rounds) ≡ framed_bytes (all_of (stream_of played))
 unfolding stream_of
 all_sent_whole {wish} {stored} {course} played third =
     let begin = begin_of course in
-    let x = stream_of wish stored course played in
+    let x = stream_of played in
     let blocks = framed_bytes x.blocks in
     let parts = rounds_parts course.rounds in
     let sent = sent_bytes (rounds_doings course.rounds) in
-    let front = all_sent wish stored course played in
+    let front = all_sent played in
     let film = length (film_bytes parts) in
     let T : List PlacedText → Type 0 = λ l. IsFromTo 0 (0 + film) l in
     let within = subst T played.texts (texts_within 0 parts) in

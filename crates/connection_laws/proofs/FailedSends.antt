@@ -1,6 +1,6 @@
 -- What was sent where a send failed is a prefix of what a longer course sends.
 use Rattle.std.proofs.Common.{◌≡◌, ℕ, ◌+◌, ◌++◌, ◌&&◌, if◌then◌else◌, Bool, true, false, List, ◌∷◌, length, drop, arith}
-use Rattle.std.proofs.Common.{refl, sym, ap, subst, ◌∙◌, []}
+use Rattle.std.proofs.Common.{refl, sym, ap, subst, ◌∙◌, [], inl, inr}
 use Rattle.conn.proofs.CourseSteps.{takings_bytes-append}
 use Rattle.std.proofs.lemmas.Bool.{and_from, cond-true}
 use Rattle.std.proofs.lemmas.List.{append_assoc, append-nil, length-append, take_at}
@@ -13,16 +13,16 @@ use Rattle.session.specs.declared.states.Awaited.{Awaited}
 use Rattle.session.specs.declared.states.Awaited.TheVariants.{Nothing, Halt}
 use Rattle.session.specs.declared.states.AfterHalt.TheVariants.{Done}
 use Rattle.session.specs.RequestSteps.{after_halt}
-use Rattle.session.specs.SlotSteps.{can_reply, due_bytes, after_play, is_between, is_done_in, is_sending, is_taken}
-use Rattle.session.specs.SlotSteps.{sent_due, sent_in, sent_slot, step_bytes, stepped_in}
+use Rattle.session.specs.SlotSteps.{can_reply, due_bytes, is_between, is_sending, is_taken, step_bytes, stepped_in}
 use Rattle.session.specs.SessionStates.{SessionState, awaited_answer, awaited_answer_of}
 use Rattle.conn.specs.EventSteps.{EndsInReply, HasFailedInSlot, IsPrefixOf, Round, Runs, round_bytes, takings_bytes}
 use Rattle.conn.specs.InputSteps.{Answered, Entered, Film, IsFinished, Outcome, Stage, ElementStep, TakesAll, Text}
 use Rattle.conn.specs.InputSteps.{Unasked, after_reply, due_parts, parts_bytes, reply_parts, slot_parts, stage}
 use Rattle.connection_laws.specs.Courses.{Course, rounds_bytes}
 use Rattle.connection_laws.specs.Failures.{IsCutShort}
-use Rattle.connection_laws.proofs.CourseSteps.{Stands, reply_awaited, course_stands, first_stands}
+use Rattle.connection_laws.proofs.CourseSteps.{Stands, course_stands, first_stands, AsksDone, slot_asks}
 use Rattle.connection_laws.proofs.CourseInduction.{follows_more, begin_of}
+use Rattle.connection_laws.proofs.StationAnswers.{slot_to}
 
 -- ---- prefixes
 front_of : (xs ys : List ℕ) → IsPrefixOf xs (xs ++ ys)
@@ -91,24 +91,9 @@ finish_halt s keep halts =
       finished = subst F (sym halts) (record { number = 0; command = refl; answer = refl; halts = refl });
     }
 
-finish_if : (done : Bool) (s : SessionState) (keep : ℕ) → s.awaited ≡ (if done then Halt keep Done else Nothing)
-    → CanFinish s
-finish_if true s keep is = finish_halt s keep is
-finish_if false s keep is = finish_none s is
-
-finish_sent : (s : SessionState) → s.awaited ≡ Nothing → CanFinish (after_play s)
-finish_sent s rest =
-    finish_if (is_done_in s.state) (after_play s) (sent_in s.state)
-    (ap (λ a. if is_done_in s.state then Halt (sent_in s.state) Done else a) rest)
-
-finish_slotted : (old : SessionState) (slot : ℕ) (taken sending : Bool) → old.awaited ≡ Nothing
-    → CanFinish (if taken then (if sending then after_play (sent_slot old slot) else record old
-    { heard = slot }) else old)
-finish_slotted old slot true true rest =
-    finish_sent (sent_slot old slot)
-    (reply_awaited (old.waits && is_between (stepped_in true slot old.state)) (sent_due old slot) ∙ rest)
-finish_slotted old slot true false rest = finish_none (record old { heard = slot }) rest
-finish_slotted old slot false sending rest = finish_none old rest
+can_finish : {s : SessionState} → AsksDone s → CanFinish s
+can_finish {s} (inl rest) = finish_none s rest
+can_finish {s} (inr done) = finish_halt s done.keep done.asks
 
 between_bytes : (old : SessionState) (slot : ℕ) (between : Bool)
     → parts_bytes (if between then Text old.text ∷ Film (step_bytes false slot (stepped_in true slot old.state))
@@ -135,7 +120,7 @@ failed_slot course slot front new failed =
     let stands : Stands old.session =
     course_stands (begin_of course) old course.rounds course.follows
     (first_stands course.films course.settings course.words) in
-    let can = finish_slotted old.session slot (is_taken old.session slot) (is_sending old.session.state) stands.rest in
+    let can = can_finish (slot_asks (slot_to old.session slot) stands.rest) in
     let round : Round = record {
       event = HeardSlot slot;
       due = slot_parts old.session slot;

@@ -35,6 +35,7 @@ use Rattle.rtsp_client.proofs.OutputPayloads.{payloads-are}
 use Rattle.connection_laws.proofs.PieceCounts.{count_whole}
 use Rattle.connection_laws.proofs.FirstFrames.{HasGoneOn, first_frame_is, first_good, frame_time_is}
 use Rattle.connection_laws.proofs.UnitSizes.{HasCome, units_come, units_told}
+use Rattle.connection_laws.proofs.Blocks.{RunFrom}
 
 -- a block is no reply
 no_reply : (b x : List ℕ) (m : List ℕ) → (element_events b ≡ Frame b ∷ []) ⊎ (element_events b ≡ Report b ∷ [])
@@ -143,11 +144,24 @@ film_run film identity = run_of film 0 (length film.units.items) identity
 abbrev pub film_sizes : Film → List ℕ
 film_sizes film = map (λ u. wire_size film.slice_starts.items u) film.units.items
 
--- the blocks of a stream are those of an entire film
-pub record IsFilmIn (film : Film) (identity : Identity) (x : Stream) : Type 0 where
+-- a stream whose blocks are those of an entire film
+pub record WholeStream : Type 0 where
+  pub film : Film
+  pub identity : Identity
+  pub x : Stream
   pub media : identity.channel ≡ 0
   pub control : identity.control ≡ 1
   pub blocks : x.blocks ≡ blocks_from (film_run film identity) 0 0 (pieces_of film.slice_starts.items film.units.items)
+
+-- its run, from the first frame on
+abbrev pub run_from : WholeStream → RunFrom
+run_from s = record {
+  run = film_run s.film s.identity;
+  frames = 0;
+  octets = 0;
+  media = s.media;
+  control = s.control;
+}
 
 -- all units are the run's
 pub units_all : (film : Film) → take (length film.units.items - 0) (drop 0 film.units.items) ≡ film.units.items
@@ -160,64 +174,58 @@ run_blocks film identity =
 
 -- ---- sizes
 
-come : (film : Film) (identity : Identity) (x : Stream) (d : ℕ) → IsFilmIn film identity x
-    → HasCome (film_sizes film) d (begun_sum x)
-    (steps (begun_sum x) (events_of_elements (take (count_ended d x.blocks) x.blocks)))
-come film identity x d is =
-    let P : List (List ℕ) → Type 0 =
-    λ bs. HasCome (film_sizes film) d (begun_sum x) (steps (begun_sum x) (events_of_elements (take (count_ended d bs)
-    bs))) in
-    subst P (sym is.blocks) (units_come (record {
-      run = film_run film identity;
-      frames = 0;
-      octets = 0;
-      media = is.media;
-      control = is.control;
-    }) film.slice_starts.items film.units.items (laid-film film) (record { on = refl; none = refl; outside = refl }))
+come : (s : WholeStream) (d : ℕ) → HasCome (film_sizes s.film) d (begun_sum s.x)
+    (steps (begun_sum s.x) (events_of_elements (take (count_ended d s.x.blocks) s.x.blocks)))
+come s d =
+    subst (λ bs. HasCome (film_sizes film) d (begun_sum x)
+    (steps (begun_sum x) (events_of_elements (take (count_ended d bs) bs)))) (sym blocks)
+    (units_come (run_from s) film.slice_starts.items film.units.items (laid-film film)
+    (record { on = refl; none = refl; outside = refl }))
+  where
+    open s use {film, x, blocks}
 
 -- ---- the time of a picture
 
-time_by : {film : Film} {identity : Identity} {x : Stream} (k : ℕ) (items : List PictureUnit) →
-    items ≡ film.units.items → IsFilmIn film identity x →
-    let t : Sum = steps (begun_sum x) (events_of_elements (take k x.blocks)) in 0 < t.frames →
-    begins_film (drop 20 t.first) ≡ true → time_in t.first ≡ picture_time film.rate
-time_by {film} k [] items_are is =
+time_by : (s : WholeStream) (k : ℕ) (items : List PictureUnit) → items ≡ s.film.units.items →
+    let t : Sum = steps (begun_sum s.x) (events_of_elements (take k s.x.blocks)) in 0 < t.frames →
+    begins_film (drop 20 t.first) ≡ true → time_in t.first ≡ picture_time s.film.rate
+time_by s k [] items_are =
     λ some good. absurd
     (omega (
       arith,
       ap (λ (l : List PictureUnit). length l) items_are,
       film-some film.bytes.items film.rate film.units.items film.slice_starts.items film.grammar,
     ))
-time_by {film} {identity} {x} k (unit ∷ items) items_are is =
+  where
+    open s use {film}
+time_by s k (unit ∷ items) items_are =
     let run = film_run film identity in
     let starts = film.slice_starts.items in
     let L : List PictureUnit → Type 0 = λ us. AreLaid (length film.bytes.items) starts us in
     let laid = subst L (sym items_are) (laid-film film) in
     let at : slice_get film.units.items 0 ≡ Some unit = ap (λ us. slice_get us 0) (sym items_are) in
     let begins = film-begins film.grammar unit at in
-    let blocks : blocks_from run 0 0 (pieces_of starts (unit ∷ items)) ≡ x.blocks =
-    ap (λ us. blocks_from run 0 0 (pieces_of starts us)) items_are ∙ sym is.blocks in
+    let all : blocks_from run 0 0 (pieces_of starts (unit ∷ items)) ≡ x.blocks =
+    ap (λ us. blocks_from run 0 0 (pieces_of starts us)) items_are ∙ sym blocks in
     let P : List (List ℕ) → Type 0 = λ bs. 0 < (steps (begun_sum x) (events_of_elements (take k bs))).frames
     → begins_film (drop 20 (steps (begun_sum x) (events_of_elements (take k bs))).first) ≡ true
     → time_in (steps (begun_sum x) (events_of_elements (take k bs))).first ≡ picture_time film.rate in
-    subst P blocks (λ some good. frame_time_is laid.0.1
-    (first_frame_is {starts = starts} {unit = unit} (record {
-      run = run;
-      frames = 0;
-      octets = 0;
-      media = is.media;
-      control = is.control;
-    }) k items (begun_sum x) refl some) begins good)
+    subst P all (λ some good. frame_time_is laid.0.1
+    (first_frame_is {starts = starts} {unit = unit} (run_from s) k items (begun_sum x) refl some) begins good)
+  where
+    open s use {film, identity, x, blocks}
 
 -- the time of a picture and the number of units, by what was received
 pub record IsTimed (film : Film) (x : Stream) (h : History) : Type 0 where
   pub time_is : 0 < frames h → time h ≡ picture_time film.rate
   pub units_are : 0 < frames h → units h ≡ units_until (begun_sum x).end_ms (picture_time film.rate)
 
-module _ {film : Film} {identity : Identity} {x : Stream} where
-  pub timed : {h : History} (k : ℕ) → IsFilmIn film identity x → HasGoneOn h → sum_of h ≡ steps (begun_sum x)
-      (events_of_elements (take k x.blocks)) → IsTimed film x h
-  timed {h} k is gone sum_is =
+module _ (s : WholeStream) where
+  open s use {film, identity, x}
+
+  timed : {h : History} (k : ℕ) → HasGoneOn h → sum_of h ≡ steps (begun_sum x) (events_of_elements (take k x.blocks))
+      → IsTimed film x h
+  timed {h} k gone sum_is =
       let t = steps (begun_sum x) (events_of_elements (take k x.blocks)) in
       let first : first_frame h ≡ t.first = ap (λ (s : Sum). s.first) sum_is in
       let count : frames h ≡ t.frames = ap (λ (s : Sum). s.frames) sum_is in
@@ -226,7 +234,7 @@ module _ {film : Film} {identity : Identity} {x : Stream} where
       ∙ (blocks_same (take k x.blocks) (begun_sum x) (blocks_one_take k x.blocks x.blocks_are)).end_ms in
       let B : List ℕ → Type 0 = λ f. begins_film (drop 20 f) ≡ true in
       let frame_time : 0 < frames h → time_in (first_frame h) ≡ picture_time film.rate = λ some.
-      ap time_in first ∙ time_by k film.units.items refl is (omega (arith, count, some))
+      ap time_in first ∙ time_by s k film.units.items refl (omega (arith, count, some))
       (subst B first (first_good h gone some)) in
       record {
         time_is = λ some. cond-false (frames h == 0) 0 (time_in (first_frame h))
@@ -240,15 +248,15 @@ module _ {film : Film} {identity : Identity} {x : Stream} where
 
   -- ---- a reading
 
-  pub heard_of : {c : ℕ} {at : WatchStage} → IsFilmIn film identity x → HasGoneOn at.history → IsReadingOf x c at
+  pub heard_of : {c : ℕ} {at : WatchStage} → HasGoneOn at.history → IsReadingOf x c at
       → units_until (begun_sum x).end_ms (picture_time film.rate) ≡ length (film_sizes film)
       → IsFilmHeard (film_sizes film) (picture_time film.rate) at.history (cut_bytes at.rest)
       × (bytes_received at.history + cut_bytes at.rest ≡ min (film_place x c) (length (framed_bytes x.blocks)))
-  heard_of {c} {at} is gone reading count =
+  heard_of {c} {at} gone reading count =
       let d = film_place x c in
       let k = count_ended d x.blocks in
       let t = steps (begun_sum x) (events_of_elements (take k x.blocks)) in
-      let its = come film identity x d is in
+      let its = come s d in
       let all = film_sizes film in
       let are : sizes at.history ≡ take its.count all = ap (λ (s : Sum). s.sizes) reading.sum ∙ its.sizes_are in
       let many : length (sizes at.history) ≡ its.count =
@@ -257,7 +265,7 @@ module _ {film : Film} {identity : Identity} {x : Stream} where
       ∙ blocks_received (take k x.blocks) (begun_sum x) (blocks_one_take k x.blocks x.blocks_are) refl in
       let came : bytes_received at.history + cut_bytes at.rest ≡ min d (length (framed_bytes x.blocks)) =
       omega (arith, bytes, reading.cut) in
-      let its_time = timed k is gone reading.sum in (
+      let its_time = timed k gone reading.sum in (
         record {
           sizes_are = are ∙ ap (λ n. take n all) (sym many);
           among = omega (arith, many, its.among);
@@ -281,30 +289,31 @@ run_total film identity =
     (run-sum film 0 (length film.units.items) identity (omega arith) (omega arith)).1
     ∙ ap (λ us. sum (map (λ u. wire_size film.slice_starts.items u) us)) (units_all film)
 
-pub blocks_sum : (film : Film) (identity : Identity) (x : Stream) → IsFilmIn film identity x
-    → length (framed_bytes x.blocks) ≡ sum (film_sizes film)
-blocks_sum film identity x is =
-    ap (λ bs. length (framed_bytes bs)) (is.blocks ∙ sym (run_blocks film identity)) ∙ run_total film identity
+pub blocks_sum : (s : WholeStream) → length (framed_bytes s.x.blocks) ≡ sum (film_sizes s.film)
+blocks_sum s =
+    ap (λ bs. length (framed_bytes bs)) (s.blocks ∙ sym (run_blocks s.film s.identity)) ∙ run_total s.film s.identity
 
 -- what was received of an entire film
 pub record IsWholeOf (film : Film) (x : Stream) (h : History) : Type 0 where
   pub sizes_are : sizes h ≡ film_sizes film
   pub count : units_until (begun_sum x).end_ms (picture_time film.rate) ≡ length (film_sizes film)
 
-module _ {film : Film} {identity : Identity} {x : Stream} where
-  pub whole_of : {h : History} → IsFilmIn film identity x → HasGoneOn h → sum_of h ≡ steps (begun_sum x)
-      (events_of_elements x.blocks) → is_complete h ≡ true → IsWholeOf film x h
-  whole_of {h} is gone sum_is complete =
+module _ (s : WholeStream) where
+  open s use {film, identity, x, blocks}
+
+  pub whole_of : {h : History} → HasGoneOn h → sum_of h ≡ steps (begun_sum x) (events_of_elements x.blocks)
+      → is_complete h ≡ true → IsWholeOf film x h
+  whole_of {h} gone sum_is complete =
       let all = film_sizes film in
       let total = length (framed_bytes x.blocks) in
       let k = count_ended total x.blocks in
       let front : take k x.blocks ≡ x.blocks =
       take_all k x.blocks (omega (arith, count_whole x.blocks total (omega arith))) in
-      let its = come film identity x total is in
+      let its = come s total in
       let sum_here : sum_of h ≡ steps (begun_sum x) (events_of_elements (take k x.blocks)) =
       sum_is ∙ ap (λ l. steps (begun_sum x) (events_of_elements l)) (sym front) in
       let every : its.count ≡ length all = elim (cases_lt its.count (length all)) [
-        | inl fewer ↦ absurd (omega (arith, its.next fewer, blocks_sum film identity x is, sum_most all (its.count + 1)))
+        | inl fewer ↦ absurd (omega (arith, its.next fewer, blocks_sum s, sum_most all (its.count + 1)))
         | inr more ↦ omega (arith, more, its.among)
       ] in
       let are : sizes h ≡ all =
@@ -313,14 +322,13 @@ module _ {film : Film} {identity : Identity} {x : Stream} where
       ltb-true 0 (frames h) (and_parts (nat_lt 0 (frames h)) (length (sizes h) == units h) complete).0 in
       let same : length (sizes h) ≡ units h =
       eqb-true (length (sizes h)) (units h) (and_parts (nat_lt 0 (frames h)) (length (sizes h) == units h) complete).1 in
-      let its_time = timed k is gone sum_here in
+      let its_time = timed s k gone sum_here in
       record { sizes_are = are; count = sym (its_time.units_are some) ∙ (sym same ∙ ap (λ (l : List ℕ). length l) are) }
 
-  pub film_comes_back : {first last : PictureUnit} (h : History) → IsFilmIn film identity x
-      → sum_of h ≡ steps (begun_sum x) (events_of_elements x.blocks) → slice_get film.units.items 0 ≡ Some first
+  pub film_comes_back : {first last : PictureUnit} (h : History) → sum_of h ≡ steps (begun_sum x) (events_of_elements x.blocks) → slice_get film.units.items 0 ≡ Some first
       → slice_get film.units.items (length film.units.items - 1) ≡ Some last → payloads h ≡ take (last.to - first.from)
       (drop first.from film.bytes.items)
-  film_comes_back {first} {last} h is sum_is at_first at_last =
+  film_comes_back {first} {last} h sum_is at_first at_last =
       let run = film_run film identity in
       let starts = film.slice_starts.items in
       let items = film.units.items in
@@ -332,9 +340,8 @@ module _ {film : Film} {identity : Identity} {x : Stream} where
       } in
       ap (λ (s : Sum). s.payloads) sum_is
       ∙ (steps_payloads (begun_sum x) (events_of_elements x.blocks)
-      ∙ (ap (λ l. payloads_of (events_of_elements l)) is.blocks
+      ∙ (ap (λ l. payloads_of (events_of_elements l)) blocks
       ∙ (payloads-are (events_of_elements bs)
-      ∙ (ap joined (units_told (record { run = run; frames = 0; octets = 0; media = is.media; control = is.control })
-      starts items)
+      ∙ (ap joined (units_told (run_from s) starts items)
       ∙ (ap (λ us. joined (frames_among (pieces_of starts us) (blocks_from run 0 0 (pieces_of starts us))))
       (sym (units_all film)) ∙ comes-back identity units)))))

@@ -12,7 +12,6 @@ use Rattle.interleave.specs.declared.elements.Step.TheVariants.{More}
 use Rattle.interleave.proofs.StreamElements.{tells_none}
 use Rattle.mpeg_scan.specs.declared.films.Film.{Film}
 use Rattle.mpeg_scan.specs.PictureRates.{picture_time}
-use Rattle.rtp_pack.specs.declared.reports.Identity.{Identity}
 use Rattle.film_frames.specs.Tracks.{framed_bytes}
 use Rattle.rtsp_client.specs.declared.watch_request.Wish.{Wish}
 use Rattle.rtsp_client.specs.Answers.{history_after, cut_bytes, events_of_elements, element_events}
@@ -23,7 +22,7 @@ use Rattle.rtsp_client.specs.ClientHistory.{History, ClientEvent, Frame, Reply, 
 use Rattle.rtsp_client.specs.ClientHistory.{bytes_received, replies}
 use Rattle.rtsp_client.specs.MeterGuarantee.{IsBetween, IsBetweenAlways, IsFilmHeard}
 use Rattle.rtsp_client.proofs.EventCourses.{history-later}
-use Rattle.connection_laws.proofs.FilmReading.{IsFilmIn, film_sizes, heard_of}
+use Rattle.connection_laws.proofs.FilmReading.{film_sizes, heard_of, WholeStream}
 use Rattle.connection_laws.specs.Requests.{bytes_in}
 use Rattle.connection_laws.proofs.ClientInput.{Heard, heard_round, replies_later, rounds_heard, slot_stays}
 use Rattle.connection_laws.proofs.MeterInput.{Stream, all_of, begun_sum, film_place, reading_of}
@@ -113,16 +112,13 @@ AreFed wish film x begin bytes rounds =
 -- a stream's film for a wish, as many units by its time as it has, and the first slot of its play
 pub record WatchedStream : Type 0 where
   pub wish : Wish
-  pub film : Film
-  pub identity : Identity
-  pub x : Stream
+  pub stream : WholeStream
   pub begin : ℕ
-  pub film_is : IsFilmIn film identity x
-  pub count : units_until (begun_sum x).end_ms (picture_time film.rate) ≡ length (film_sizes film)
+  pub count : units_until (begun_sum stream.x).end_ms (picture_time stream.film.rate) ≡ length (film_sizes stream.film)
 
 -- what came lies between the film's curves at each reading
 abbrev pub IsMet : WatchedStream → History → Type 0
-IsMet s h = IsBetweenAlways s.wish (film_sizes s.film) (picture_time s.film.rate) h
+IsMet s h = IsBetweenAlways s.wish (film_sizes s.stream.film) (picture_time s.stream.film.rate) h
 
 -- what was received by a stage at which nothing more can be processed is a prefix of a stream
 record HeardFront (x : Stream) (bytes : List ℕ) (at : WatchStage) : Type 0 where
@@ -135,10 +131,10 @@ record TwoReplies (at : WatchStage) (begin : ℕ) : Type 0 where
   few : replies at.history ≤ 2
   begins : (1 < replies at.history → first_slot at.history ≡ begin)
 
-slot_met : {bytes : List ℕ} {at : WatchStage} (s : WatchedStream) (slot : ℕ) → HeardFront s.x bytes at →
-    TwoReplies at s.begin → (s.begin ≤ slot → IsFed s.wish s.film s.x bytes (slot - s.begin)) → is_read at.history slot ≡ true →
-    IsFilmHeard (film_sizes s.film) (picture_time s.film.rate) at.history (cut_bytes at.rest)
-    × IsBetween s.wish (film_sizes s.film) (picture_time s.film.rate) (place_in at.history slot)
+slot_met : {bytes : List ℕ} {at : WatchStage} (s : WatchedStream) (slot : ℕ) → HeardFront s.stream.x bytes at →
+    TwoReplies at s.begin → (s.begin ≤ slot → IsFed s.wish s.stream.film s.stream.x bytes (slot - s.begin)) → is_read at.history slot ≡ true →
+    IsFilmHeard (film_sizes s.stream.film) (picture_time s.stream.film.rate) at.history (cut_bytes at.rest)
+    × IsBetween s.wish (film_sizes s.stream.film) (picture_time s.stream.film.rate) (place_in at.history slot)
     (bytes_received at.history + cut_bytes at.rest)
 slot_met {at} s slot front two fed read =
     let h = at.history in
@@ -150,14 +146,15 @@ slot_met {at} s slot front two fed read =
     (and_parts (is_playing h) (nat_le (first_slot h) slot && nat_lt (last_slot h) slot) read).1).0 in
     let first : first_slot h ≡ begin = two.begins playing in
     let reading = reading_of front.heard (tells_none at.rest (Ok More) front.idle) front.front_is playing two.few in
-    let its = heard_of film_is front.heard.gone reading count in
+    let its = heard_of stream front.heard.gone reading count in
     let between = (fed (omega (arith, there, first))).between reading.past in
     let P : ℕ → ℕ → Type 0 = λ place came. IsBetween wish (film_sizes film) (picture_time film.rate) place came in (
       its.0,
       rw (← (ap (λ n. slot - n) (sym first))) (subst (λ n. P (slot - begin) n) (sym its.1) between),
     )
   where
-    open s use {wish, film, begin, film_is, count}
+    open s use {wish, stream, begin, count}
+    open stream use {film}
 
 -- ---- all events
 
@@ -167,14 +164,14 @@ record RoundHeard (event : IoEvent) (old : WatchStage) (round : Round) (new : Wa
   runs : Runs old round new
 
 always_round : {event : IoEvent} {bytes : List ℕ} {old new : WatchStage} {round : Round} (s : WatchedStream)
-    → RoundHeard event old round new → HeardFront s.x bytes old → TwoReplies new s.begin
-    → ((slot : ℕ) → event ≡ HeardSlot slot → s.begin ≤ slot → IsFed s.wish s.film s.x bytes (slot - s.begin))
+    → RoundHeard event old round new → HeardFront s.stream.x bytes old → TwoReplies new s.begin
+    → ((slot : ℕ) → event ≡ HeardSlot slot → s.begin ≤ slot → IsFed s.wish s.stream.film s.stream.x bytes (slot - s.begin))
     → IsMet s old.history → IsMet s new.history
 always_round {event = HeardBytes more} {old} {new} {round} s round_heard front two fed met =
     let B : IoEvent → Type 0 = λ e. Brings e old.rest round.moments new.rest in
     let brings = subst B round_heard.event_is round_heard.runs.brings in
     subst (IsMet s) (sym (round_heard.runs.history_is ∙ ap (history_after old.history) brings.1.1))
-    (always_elements s.wish (film_sizes s.film) (picture_time s.film.rate) old.history brings.0 met)
+    (always_elements s.wish (film_sizes s.stream.film) (picture_time s.stream.film.rate) old.history brings.0 met)
 always_round {event = HeardSlot slot} {old} {new} {round} s round_heard front two fed met =
     let B : IoEvent → Type 0 = λ e. Brings e old.rest round.moments new.rest in
     let brings = subst B round_heard.event_is round_heard.runs.brings in
@@ -208,8 +205,8 @@ pub record RepliesKnown (new : WatchStage) (begin : ℕ) : Type 0 where
   pub begins : first_slot new.history ≡ begin
 
 pub always_all : {bytes : List ℕ} {old : WatchStage} {rounds : List Round} {new : WatchStage} (s : WatchedStream)
-    → HeardThrough s.x bytes rounds old → RunsAll old rounds new → RepliesKnown new s.begin
-    → AreFed s.wish s.film s.x s.begin bytes rounds → IsMet s old.history → IsMet s new.history
+    → HeardThrough s.stream.x bytes rounds old → RunsAll old rounds new → RepliesKnown new s.begin
+    → AreFed s.wish s.stream.film s.stream.x s.begin bytes rounds → IsMet s old.history → IsMet s new.history
 always_all {rounds = []} s through all known fed met =
     subst (λ (at : WatchStage). IsMet s at.history) (sym all) met
 always_all {bytes} {old} {rounds = round ∷ rounds} {new} s through all known fed met =
@@ -243,4 +240,5 @@ always_all {bytes} {old} {rounds = round ∷ rounds} {new} s through all known f
     }) all.1.2 known fed_next now
   where
     open through use {heard, idle, count as c, front}
-    open s use {wish, film, x, begin}
+    open s use {wish, stream, begin}
+    open stream use {film, x}

@@ -8,7 +8,6 @@ use Rattle.mpeg_scan.specs.declared.films.Film.{Film}
 use Rattle.mpeg_scan.specs.declared.units.Unit.{Unit as PictureUnit}
 use Rattle.mpeg_scan.specs.PictureRates.{picture_time}
 use Rattle.mpeg_scan.proofs.FirstUnitLemmas.{film-some}
-use Rattle.rtp_pack.specs.declared.reports.Identity.{Identity}
 use Rattle.film_frames.specs.Pieces.{wire_size}
 use Rattle.film_frames.specs.Tracks.{framed_bytes}
 use Rattle.rtsp_client.specs.declared.watch_request.Wish.{Wish}
@@ -27,11 +26,11 @@ use Rattle.rtsp_client.proofs.MeterBounds.{quiet-always}
 use Rattle.rtsp_client.proofs.ElementSteps.{after-on}
 use Rattle.rtsp_client.proofs.EventCourses.{history-later}
 use Rattle.connection_laws.specs.LinkDelivery.{heard_bytes}
-use Rattle.connection_laws.proofs.FilmReading.{IsFilmIn, film_comes_back, film_sizes, whole_of, done_sum}
+use Rattle.connection_laws.proofs.FilmReading.{film_comes_back, film_sizes, whole_of, done_sum, WholeStream}
 use Rattle.connection_laws.specs.Requests.{bytes_in}
 use Rattle.connection_laws.proofs.ClientInput.{Heard, IsDrained, at_done, heard_all, heard_more, heard_none}
 use Rattle.connection_laws.proofs.ClientInput.{replies_later, rounds_heard}
-use Rattle.connection_laws.proofs.MeterInput.{Stream, all_of}
+use Rattle.connection_laws.proofs.MeterInput.{all_of}
 use Rattle.connection_laws.proofs.MeterBounds.{AreFed, always_all, always_elements, front_of}
 use Rattle.connection_laws.proofs.HistorySums.{Sum, steps_payloads, sum_after, sum_of}
 
@@ -105,22 +104,19 @@ pub record IsPromise (wish : Wish) (film : Film) (watched : Watched) (out : List
 -- a stream's film for a wish, with some time for its pictures
 pub record WishedStream : Type 0 where
   pub wish : Wish
-  pub film : Film
-  pub identity : Identity
-  pub x : Stream
+  pub stream : WholeStream
   pub wished : IsWish wish
-  pub timed : 0 < picture_time film.rate
-  pub film_is : IsFilmIn film identity x
+  pub timed : 0 < picture_time stream.film.rate
 
 pub kept_promise : {watched : Watched} {rounds : List Round} {mid : WatchStage} {bytes out : List ℕ} (c : ℕ)
     (s : WishedStream) → RunsAll (stage [] []) rounds mid → HasWatchedAll s.wish watched rounds mid bytes out →
-    rounds_heard rounds ++ bytes ≡ take c (framed_bytes (all_of s.x)) →
-    AreFed s.wish s.film s.x (first_slot mid.history) [] rounds → IsPromise s.wish s.film watched out
+    rounds_heard rounds ++ bytes ≡ take c (framed_bytes (all_of s.stream.x)) →
+    AreFed s.wish s.stream.film s.stream.x (first_slot mid.history) [] rounds → IsPromise s.wish s.stream.film watched out
 kept_promise {rounds} {mid} {bytes} {out} c s runs all front fed =
     let done = all.done in
     let h = done.at.history in
     let sum = done_sum x c done front in
-    let whole = whole_of is done.heard.gone sum done.complete in
+    let whole = whole_of stream done.heard.gone sum done.complete in
     let few : replies mid.history ≤ 2 =
     omega (arith, replies_later mid.history (events_of_elements all.elements), ap replies all.history, done.replies_are)
     in
@@ -129,11 +125,8 @@ kept_promise {rounds} {mid} {bytes} {out} c s runs all front fed =
     let always =
     always_all (record {
       wish = wish;
-      film = film;
-      identity = identity;
-      x = x;
+      stream = stream;
       begin = first_slot mid.history;
-      film_is = is;
       count = whole.count;
     }) (record { heard = heard_none; idle = inl refl; count = length (rounds_heard rounds); front = mine }) runs
     (record { few = few; begins = refl }) fed tt in
@@ -150,10 +143,11 @@ kept_promise {rounds} {mid} {bytes} {out} c s runs all front fed =
       most_fits = omega (arith, ap (λ (w : Watched). w.most) done.watched_is, quiet.most_fits);
       film_back = λ first last_ at_first at_last. done.out_is
           ∙ (sym (ap (λ (s : Sum). s.payloads) (sum_after [] done.moments) ∙ steps_payloads (sum_of []) done.moments)
-          ∙ (ap payloads (sym done.history_is) ∙ film_comes_back h is sum at_first at_last));
+          ∙ (ap payloads (sym done.history_is) ∙ film_comes_back stream h sum at_first at_last));
     }
   where
-    open s use {wish, film, identity, x, wished, timed, film_is as is}
+    open s use {wish, stream, wished, timed}
+    open stream use {film, x}
 
 -- ---- what the link exposed
 

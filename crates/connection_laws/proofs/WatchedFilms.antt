@@ -16,8 +16,8 @@ use Rattle.connection_laws.specs.ClientRequests.{HasWatchedWhole, EndsWhole}
 use Rattle.connection_laws.specs.LinkDelivery.{IsCarried, heard_bytes, sent_bytes, IsDelivered}
 use Rattle.connection_laws.specs.Courses.{Course}
 use Rattle.connection_laws.specs.WholePlays.{HasPlayedWhole}
-use Rattle.connection_laws.proofs.EndToEndMeter.{all_sent, fed, film_in, front_again, stream_of, all_sent_whole}
-use Rattle.connection_laws.proofs.EndToEndMeter.{stream_replies, third_of}
+use Rattle.connection_laws.proofs.EndToEndMeter.{all_sent, fed, front_again, stream_of, all_sent_whole, stream_replies}
+use Rattle.connection_laws.proofs.EndToEndMeter.{third_of, played_stream}
 use Rattle.connection_laws.proofs.MeterInput.{all_of, AreTexts}
 use Rattle.connection_laws.proofs.MeterBounds.{AreFed, IsFed}
 use Rattle.connection_laws.proofs.WatchCourses.{kept_promise, told_course, last_bytes, told_bytes}
@@ -54,11 +54,11 @@ watched_whole wish stored watched out is =
     let played = is.played in
     let client = is.client in
     let carried = is.carried in
-    let x = stream_of wish stored course played in
+    let x = stream_of played in
     let told = told_course wish watched heard out client in
     let begin = first_slot client.mid.history in
     let front = front_again (heard_bytes heard) (sent_bytes (rounds_doings course.rounds))
-    (framed_bytes (all_of x)) carried.front.0 carried.front.1.1 (all_sent wish stored course played) in
+    (framed_bytes (all_of x)) carried.front.0 carried.front.1.1 (all_sent played) in
     let feeds : AreFed wish stored.film x begin [] client.rounds = λ before later round slot split event after_begin.
     let its = told.split before later round split in
     let P : List ℕ → ℕ → Type 0 = λ b n. IsFed wish stored.film x b n in
@@ -66,12 +66,9 @@ watched_whole wish stored watched out is =
     (fed played (carried.each its.0 its.1.0 slot (its.1.1.0 ∙ ap (λ e. its.0 ++ e ∷ its.1.0) event) after_begin)) in
     let kept = kept_promise front.count (record {
       wish = wish;
-      film = stored.film;
-      identity = played.identity;
-      x = stream_of wish stored course played;
+      stream = played_stream played;
       wished = is.wished;
       timed = played.whole.sending.can_play.playback_is.some_picture_units;
-      film_is = film_in wish stored course played;
     })
     client.runs told.all (sym told.heard_is ∙ front.is) feeds in (
       kept.over_none,
@@ -87,7 +84,7 @@ accepted_of heard = record { sum = heard.sum; frames = heard.frames; gone = hear
 
 -- where what waits gives the answer, it is `Done`
 quits_done : {bytes : List ℕ} {at : WatchStage} {end : WatchEnd} (wish : Wish) (s : FilmStream) (heard : Heard bytes at)
-    → IsPlaceIn (all_of s.x) heard.elements at.rest → Quits wish at.history at.rest end
+    → IsPlaceIn (all_of s.stream.x) heard.elements at.rest → Quits wish at.history at.rest end
     → end ≡ Done (watched_in wish at.history)
 quits_done wish s heard place (AtFraming is fault first) = absurd (no_fault fault place first)
 quits_done {at = at} {end = end} wish s heard place (AtMoment moment next given) =
@@ -106,7 +103,7 @@ pub record Watching (wish : Wish) : Type 0 where
 -- what it received is a prefix of a film's stream
 pub record IsReceived (s : FilmStream) (heard : List IoEvent) : Type 0 where
   pub count : ℕ
-  pub front : heard_bytes heard ≡ take count (framed_bytes (all_of s.x))
+  pub front : heard_bytes heard ≡ take count (framed_bytes (all_of s.stream.x))
 
 -- the answer after the last bytes
 record IsStopped {wish : Wish} (w : Watching wish) : Type 0 where
@@ -121,13 +118,13 @@ stopped_done : {wish : Wish} {s : FilmStream} (w : Watching wish) → IsReceived
 stopped_done {wish} {s} w received stopped decided =
     let mid = w.client.mid in
     let rounds = w.client.rounds in
-    let front : rounds_heard rounds ++ bytes ≡ take received.count (framed_bytes (all_of s.x)) =
+    let front : rounds_heard rounds ++ bytes ≡ take received.count (framed_bytes (all_of s.stream.x)) =
     ap (λ l. rounds_heard rounds ++ l) (sym (last_bytes bytes sent doings)) ∙ sym (told_bytes w.client) ∙ received.front in
     let heard = heard_more bytes stops.elements
     (heard_all [] (stage [] []) mid rounds heard_none w.client.runs) stops.cut stops.good in
     let at = stage (history_after mid.history (events_of_elements stops.elements)) stops.mid in
-    let place : IsPlaceIn (all_of s.x) heard.elements at.rest =
-    place_in (all_of s.x) received.count s.x.alone heard.cut front in
+    let place : IsPlaceIn (all_of s.stream.x) heard.elements at.rest =
+    place_in (all_of s.stream.x) received.count s.stream.x.alone heard.cut front in
     (watched_in wish at.history, quits_done wish s heard place (stops-quit decided stops).quits)
   where
     open stopped use {bytes, sent, stops, doings}
@@ -191,9 +188,9 @@ whole_stream {elements} {rest} all alone cut idle =
 
 -- a client doesn't wait for more after the last reply
 not_waiting : (mid : WatchStage) (rounds : List Round) (s : FilmStream) (last : List ℕ) (others : List (List ℕ))
-    → s.x.later ≡ last ∷ others → RunsAll (stage [] []) rounds mid → rounds_heard rounds ≡ framed_bytes (all_of s.x) → ⊥
+    → s.stream.x.later ≡ last ∷ others → RunsAll (stage [] []) rounds mid → rounds_heard rounds ≡ framed_bytes (all_of s.stream.x) → ⊥
 not_waiting mid rounds s last others later runs whole =
-    let x = s.x in
+    let x = s.stream.x in
     let heard : Heard (rounds_heard rounds) mid = heard_all [] (stage [] []) mid rounds heard_none runs in
     let idle : IsFirst mid.rest (Ok More) = runs_idle (stage [] []) mid rounds (inl refl) runs in
     let cut : AreInputElements (framed_bytes (all_of x)) heard.elements mid.rest =
@@ -209,9 +206,9 @@ not_waiting mid rounds s last others later runs whole =
 pub record IsReceivedWhole (s : FilmStream) (heard : List IoEvent) : Type 0 where
   pub last : List ℕ
   pub others : List (List ℕ)
-  pub later : s.x.later ≡ last ∷ others
+  pub later : s.stream.x.later ≡ last ∷ others
   pub received : IsReceived s heard
-  pub whole : heard_bytes heard ≡ framed_bytes (all_of s.x)
+  pub whole : heard_bytes heard ≡ framed_bytes (all_of s.stream.x)
 
 pub refuses_nothing : {wish : Wish} {s : FilmStream} (w : Watching wish) → IsReceived s w.heard → RefusesNothing w.end
 refuses_nothing w received = ended w received w.client.ends
@@ -238,12 +235,9 @@ film_stream {wish} {stored} {course} is =
     let R : List ℕ → List ℕ → List (List ℕ) → Type 0 = λ first second later.
     AreGoodReplies stored.film first second later in
     record {
-      film = stored.film;
-      identity = played.identity;
-      x = stream_of wish stored course played;
-      film_in = film_in wish stored course played;
+      stream = played_stream played;
       small = is.small;
-      readable = stream_replies wish stored course played R is.replies;
+      readable = stream_replies played R is.replies;
       clauses = is.clauses;
     }
 
@@ -252,9 +246,9 @@ received : {wish : Wish} {stored : Stored} {course : Course} {heard : List IoEve
 unfolding film_stream
 received {wish} {stored} {course} {heard} is front =
     let played = is.played in
-    let x = stream_of wish stored course played in
+    let x = stream_of played in
     let its = front_again (heard_bytes heard) (sent_bytes (rounds_doings course.rounds)) (framed_bytes (all_of x))
-    front.0 front.1.1 (all_sent wish stored course played) in
+    front.0 front.1.1 (all_sent played) in
     record { count = its.count; front = its.is }
 
 pub watched_unrefused : {wish : Wish} {stored : Stored} {course : Course} (is : IsServed wish stored course)
@@ -279,7 +273,7 @@ comes_done {wish} {stored} {course} is w delivered decided front =
     comes_to_done (film_stream is) w (record {
       last = third.last.text;
       others = map text_of third.others;
-      later = stream_replies wish stored course played L (ap (λ l. map text_of l) third.are);
+      later = stream_replies played L (ap (λ l. map text_of l) third.are);
       received = received is front;
       whole = delivered.all ∙ all_sent_whole played third;
     }) decided
