@@ -250,52 +250,46 @@ either asked (Entered placed) = entered_either asked placed placed.entry.answer 
 either asked _ = BeginsNone (λ askings. refl)
 
 -- none at all, none so far
-before_by : {asked : Awaited} {outcome : Outcome} (a b : List StationRequest)
-    → (plays_of (a ++ b) ≡ [] → plays_of a ≡ []) → Beginning asked outcome
-    → plays_of (Asks asked outcome ∷ (a ++ b)) ≡ [] → plays_of (Asks asked outcome ∷ a) ≡ []
-before_by a b rest (BeginsNone is) none =
-    ap (λ l. l ++ plays_of a) (is a) ∙ rest (sym (ap (λ l. l ++ plays_of (a ++ b)) (is (a ++ b))) ∙ none)
-before_by a b rest (BeginsOne prepared start is) none =
-    let some : begun_play prepared start (a ++ b) ∷ plays_of (a ++ b) ≡ [] =
-    sym (ap (λ l. l ++ plays_of (a ++ b)) (is (a ++ b))) ∙ none in
-    absurd (let no : ⊥ = cc in no)
-
 none_before : (a b : List StationRequest) → plays_of (a ++ b) ≡ [] → plays_of a ≡ []
 none_before [] b none = refl
-none_before (Asks asked outcome ∷ a) b none = before_by a b (none_before a b) (either asked outcome) none
+none_before (Asks asked outcome ∷ a) b none = elim (either asked outcome) [
+  | BeginsNone is ↦
+      ap (λ l. l ++ plays_of a) (is a)
+      ∙ none_before a b (sym (ap (λ l. l ++ plays_of (a ++ b)) (is (a ++ b))) ∙ none)
+  | BeginsOne prepared start is ↦
+      let some : begun_play prepared start (a ++ b) ∷ plays_of (a ++ b) ≡ [] =
+      sym (ap (λ l. l ++ plays_of (a ++ b)) (is (a ++ b))) ∙ none in
+      absurd (let no : ⊥ = cc in no)
+]
 
 -- one play that is kept entirely: it began already, and is the same, or it begins later
 abbrev pub IsSoFar : List StationRequest → List StationRequest → FilmPlay → Type 0
 IsSoFar a b play = (plays_of a ≡ play ∷ []) ⊎ ((plays_of a ≡ []) × (plays_of b ≡ play ∷ []))
 
-one_by : {asked : Awaited} {outcome : Outcome} {play : FilmPlay} (a b : List StationRequest)
-    → (plays_of (a ++ b) ≡ play ∷ [] → IsSoFar a b play) → Beginning asked outcome
-    → plays_of (Asks asked outcome ∷ (a ++ b)) ≡ play ∷ [] → play.keep ≡ total_bytes play.plan
-    → IsSoFar (Asks asked outcome ∷ a) b play
-one_by {play} a b rest (BeginsNone is) one whole =
-    let P : List FilmPlay → Type 0 = λ l. (l ++ plays_of a ≡ play ∷ [])
-    ⊎ ((l ++ plays_of a ≡ []) × (plays_of b ≡ play ∷ [])) in
-    subst P (sym (is a)) (rest (sym (ap (λ l. l ++ plays_of (a ++ b)) (is (a ++ b))) ∙ one))
-one_by {play} a b rest (BeginsOne prepared start is) one whole =
-    let there : begun_play prepared start (a ++ b) ∷ plays_of (a ++ b) ≡ play ∷ [] =
-    sym (ap (λ l. l ++ plays_of (a ++ b)) (is (a ++ b))) ∙ one in
-    let same : begun_play prepared start (a ++ b) ≡ play = cc in
-    let none : plays_of (a ++ b) ≡ [] = cc in
-    let all : kept_in (a ++ b) (total_bytes prepared.plan) ≡ total_bytes prepared.plan =
-    ap (λ (p : FilmPlay). p.keep) same ∙ (whole ∙ sym (ap (λ (p : FilmPlay). total_bytes p.plan) same)) in
-    let kept : kept_in a (total_bytes prepared.plan) ≡ kept_in (a ++ b) (total_bytes prepared.plan) =
-    kept_all a (kept_in b (total_bytes prepared.plan)) (total_bytes prepared.plan) (kept_some a)
-    (sym (kept_append a b (total_bytes prepared.plan)) ∙ all) ∙ sym all in
-    let mine : begun_play prepared start a ≡ begun_play prepared start (a ++ b) =
-    ap (λ k. record (begun_play prepared start a) { keep = k }) kept in
-    inl (ap (λ l. l ++ plays_of a) (is a)
-    ∙ (ap (λ l. begun_play prepared start a ∷ l) (none_before a b none) ∙ ap (λ p. p ∷ []) (mine ∙ same)))
-
 pub one_so_far : (a b : List StationRequest) (play : FilmPlay) → plays_of (a ++ b) ≡ play ∷ []
     → play.keep ≡ total_bytes play.plan → IsSoFar a b play
 one_so_far [] b play one whole = inr (refl, one)
-one_so_far (Asks asked outcome ∷ a) b play one whole =
-    one_by a b (λ is. one_so_far a b play is whole) (either asked outcome) one whole
+one_so_far (Asks asked outcome ∷ a) b play one whole = elim (either asked outcome) [
+  | BeginsNone is ↦
+      let P : List FilmPlay → Type 0 = λ l. (l ++ plays_of a ≡ play ∷ [])
+      ⊎ ((l ++ plays_of a ≡ []) × (plays_of b ≡ play ∷ [])) in
+      subst P (sym (is a))
+      (one_so_far a b play (sym (ap (λ l. l ++ plays_of (a ++ b)) (is (a ++ b))) ∙ one) whole)
+  | BeginsOne prepared start is ↦
+      let there : begun_play prepared start (a ++ b) ∷ plays_of (a ++ b) ≡ play ∷ [] =
+      sym (ap (λ l. l ++ plays_of (a ++ b)) (is (a ++ b))) ∙ one in
+      let same : begun_play prepared start (a ++ b) ≡ play = cc in
+      let none : plays_of (a ++ b) ≡ [] = cc in
+      let all : kept_in (a ++ b) (total_bytes prepared.plan) ≡ total_bytes prepared.plan =
+      ap (λ (p : FilmPlay). p.keep) same ∙ (whole ∙ sym (ap (λ (p : FilmPlay). total_bytes p.plan) same)) in
+      let kept : kept_in a (total_bytes prepared.plan) ≡ kept_in (a ++ b) (total_bytes prepared.plan) =
+      kept_all a (kept_in b (total_bytes prepared.plan)) (total_bytes prepared.plan) (kept_some a)
+      (sym (kept_append a b (total_bytes prepared.plan)) ∙ all) ∙ sym all in
+      let mine : begun_play prepared start a ≡ begun_play prepared start (a ++ b) =
+      ap (λ k. record (begun_play prepared start a) { keep = k }) kept in
+      inl (ap (λ l. l ++ plays_of a) (is a)
+      ∙ (ap (λ l. begun_play prepared start a ∷ l) (none_before a b none) ∙ ap (λ p. p ∷ []) (mine ∙ same)))
+]
 
 -- ---- a play begins after the slot that was received, with a plan of segments
 
@@ -324,21 +318,17 @@ late_lower low heard (Asks asked outcome ∷ a) less are = (
   late_lower low heard a less are.1,
 )
 
-late_by : {heard : ℕ} {asked : Awaited} {outcome : Outcome} {play : FilmPlay} {rest : List FilmPlay}
-    (a : List StationRequest) → (plays_of a ≡ play ∷ rest → IsLatePlay heard play) → Beginning asked outcome
-    → AreLate heard (Asks asked outcome ∷ a) → plays_of (Asks asked outcome ∷ a) ≡ play ∷ rest → IsLatePlay heard play
-late_by a next (BeginsNone none) are is =
-    next (sym (ap (λ l. l ++ plays_of a) (none a)) ∙ is)
-late_by {play} {rest} a next (BeginsOne prepared start one) are is =
-    let all : begun_play prepared start a ∷ plays_of a ≡ play ∷ rest = sym (ap (λ l. l ++ plays_of a) (one a)) ∙ is in
-    let same : begun_play prepared start a ≡ play = cc in
-    are.0 a play [] (one a ∙ ap (λ p. p ∷ []) same)
-
 pub late_play : (heard : ℕ) (a : List StationRequest) (play : FilmPlay) (rest : List FilmPlay) → AreLate heard a
     → plays_of a ≡ play ∷ rest → IsLatePlay heard play
 late_play heard [] play rest are is = absurd (let no : ⊥ = cc in no)
-late_play heard (Asks asked outcome ∷ a) play rest are is =
-    late_by a (λ same. late_play heard a play rest are.1 same) (either asked outcome) are is
+late_play heard (Asks asked outcome ∷ a) play rest are is = elim (either asked outcome) [
+  | BeginsNone none ↦ late_play heard a play rest are.1 (sym (ap (λ l. l ++ plays_of a) (none a)) ∙ is)
+  | BeginsOne prepared start one ↦
+      let all : begun_play prepared start a ∷ plays_of a ≡ play ∷ rest =
+      sym (ap (λ l. l ++ plays_of a) (one a)) ∙ is in
+      let same : begun_play prepared start a ≡ play = cc in
+      are.0 a play [] (one a ∙ ap (λ p. p ∷ []) same)
+]
 
 -- by what was asked
 none_late : (heard : ℕ) (asked : Awaited) (outcome : Outcome)

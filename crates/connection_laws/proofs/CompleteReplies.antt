@@ -25,7 +25,7 @@ use Rattle.session_laws.specs.EndLaws.{HaltsPlay}
 use Rattle.session.specs.Laws.{IsTeardown, PlayingStage, StateKind as SessionStage, stage_of}
 use Rattle.session_laws.specs.MethodLaws.{setup_in}
 use Rattle.rtsp_replies.specs.Replies.{session_text}
-use Rattle.session.specs.RequestSteps.{Hears, after_admission}
+use Rattle.session.specs.RequestSteps.{after_admission}
 use Rattle.film_streams.specs.SettingRanges.{AreFilms}
 use Rattle.session.specs.SessionStates.{SessionState}
 use Rattle.session_laws.specs.CompleteReplies.{HasValidIds, LeavesRoom, RepliesAreComplete}
@@ -132,25 +132,30 @@ own_halt : (stage : SessionStage) (ask : Ask) → HaltsPlay stage ask → IsOwnR
 own_halt PlayingStage ask is = subst IsOwnReply (sym is.1) tt
 own_halt _ ask is = subst IsOwnReply (sym is) tt
 
-module _ (b : Beginning) (old new : SessionState) {message : List ℕ} where
-  teardown_read : {ask : Ask} → message ≡ teardown_text b.wish b.session → Hears old message ask new
-      → (ask ≡ AskReply) ⊎ IsTeardown message
-  teardown_read is (inl fault) = inl fault.refused.0
-  teardown_read is (inr whole) =
+teardown_read : (b : Beginning) {old new : Stage} (request : AnsweredRequest old new)
+    → request.message ≡ teardown_text b.wish b.session
+    → (request.replied.heard.ask ≡ AskReply) ⊎ IsTeardown request.message
+teardown_read b request is = elim request.replied.heard.hears [
+  | inl fault ↦ inl fault.refused.0
+  | inr whole ↦
       let asked = teardown-asked b.wish b.session b.wished b.port b.session_is in
       let R : List ℕ → Type 0 = λ m.
       IsRequest m (codes "TEARDOWN") (film_url b.wish) 3 (request_head (teardown_parts b.wish b.session)) [] in
       let same = request_once whole.is_request (subst R (sym is) asked.read) in
       inr (record { request = whole.request; is_request = whole.is_request; method_is = same.method_is })
+]
 
-  teardown_own : (ask : Ask) → message ≡ teardown_text b.wish b.session → Hears old message ask new → IsOwnReply ask
-  teardown_own ask is hears = elim (teardown_read is hears) [
-    | inl reply ↦ subst IsOwnReply (sym reply) tt
-    | inr teardown ↦ elim (teardown_ends old new message ask teardown hears) [
-      | inl declined ↦ subst IsOwnReply (sym declined.command) tt
-      | inr torn ↦ own_halt (stage_of old.state) ask torn.halts
+teardown_own : (b : Beginning) {old new : Stage} (request : AnsweredRequest old new)
+    → request.message ≡ teardown_text b.wish b.session → IsOwnReply request.replied.heard.ask
+teardown_own b {old} request is =
+    let heard = request.replied.heard in
+    elim (teardown_read b request is) [
+      | inl reply ↦ subst IsOwnReply (sym reply) tt
+      | inr teardown ↦ elim (teardown_ends old.session heard.asking request.message heard.ask teardown heard.hears) [
+        | inl declined ↦ subst IsOwnReply (sym declined.command) tt
+        | inr torn ↦ own_halt (stage_of old.session.state) heard.ask torn.halts
+      ]
     ]
-  ]
 
 -- ---- the requests leave room for what replies repeat of them
 
@@ -245,9 +250,9 @@ torn_reply : {b : Beginning} {old new : Stage} (request : AnsweredRequest old ne
     → IsTorn b new.session request.replied.answered.text
 torn_reply {b} {old} request is valid named =
     let heard = replied.heard in
-    let own = teardown_own b old.session heard.asking {message = message} heard.ask is heard.hears in
+    let own = teardown_own b request is in
     let complete = replies_whole old.session message heard.ask heard.asking valid (teardown_room b is) heard.hears in
-    let told = teardown_replied b old.session heard.ask heard.asking named is heard.hears in
+    let told = teardown_replied b request is named in
     let its = own_reply (answers_as heard.ask outcome heard.answered) own in
     let whole = its.whole complete in
     let text : replied.answered.text ≡ session_text 3 old.session.id =

@@ -338,22 +338,6 @@ goes_films old new (Over n ∷ elements) goes =
 goes_films old new (RequestElement turn ∷ elements) goes =
     goes_films goes.0 new elements goes.1.1 ∙ taken_films old goes.0 turn goes.1.0
 
--- where a path ends, with what was sent on it, and the answers and the hearings on it and after it
-pub record PathEnd : Type 0 where
-  pub last : Stage
-  pub sent : List ℕ
-  pub outcomes : List Outcome
-  pub hearings : List HeardRequest
-
-abbrev path_end : Stage → List ℕ → List Outcome → List HeardRequest → PathEnd
-path_end last sent outcomes hearings = record { last = last; sent = sent; outcomes = outcomes; hearings = hearings }
-
-pub record SameEnds (one other : PathEnd) : Type 0 where
-  pub last : other.last ≡ one.last
-  pub bytes : other.sent ≡ one.sent
-  pub answers : AreSameAnswers one.outcomes other.outcomes
-  pub memory : AllLackMemoryAlike one.hearings other.hearings
-
 message_same : (old : Stage) (one other : List ℕ) → IsNext old one → IsNext old other → other ≡ one
 message_same old one other is also =
     also.message_is
@@ -402,19 +386,18 @@ pub record PathDone (old : Stage) (xs : List Element) : Type 0 where
   pub goes : GoesAll old xs last
   pub done : IsDrained last
 
--- two paths that go on with the same answers, and that run out of memory alike
-pub record PathsAlike (xs ys : List Element) (ones others : List Outcome) (heard also : List HeardRequest) : Type 0
-  where
-    pub answers : AreSameAnswers (elements_answers xs ++ ones) (elements_answers ys ++ others)
-    pub memory : AllLackMemoryAlike (elements_hearings xs ++ heard) (elements_hearings ys ++ also)
+-- two paths that go on with the same answers, and that run out of memory alike, with what comes after them
+pub record PathsAlike (xs ys : List Element) (one other : Exchange) : Type 0 where
+  pub answers : AreSameAnswers (elements_answers xs ++ one.answers) (elements_answers ys ++ other.answers)
+  pub memory : AllLackMemoryAlike (elements_hearings xs ++ one.hearings) (elements_hearings ys ++ other.hearings)
 
-answers_from : {turn again : StationCall} {xs ys : List Element} {ones others : List Outcome}
-    {heard also : List HeardRequest}
-    → PathsAlike (RequestElement turn ∷ xs) (RequestElement again ∷ ys) ones others heard also
-    → AreSameAnswers (answer_in turn.outcome ++ (elements_answers xs ++ ones))
-    (answer_in again.outcome ++ (elements_answers ys ++ others))
-answers_from {turn} {again} {xs} {ys} {ones} {others} alike =
-    rw (← (append_assoc (answer_in turn.outcome) (elements_answers xs) ones)) (rw (← (append_assoc (answer_in again.outcome) (elements_answers ys) others)) alike.answers)
+-- they end alike
+pub record SameEnds {old : Stage} {xs ys : List Element} (way : PathDone old xs) (also : PathDone old ys)
+    (one other : Exchange) : Type 0 where
+  pub last : also.last ≡ way.last
+  pub bytes : elements_bytes ys ≡ elements_bytes xs
+  pub answers : AreSameAnswers one.answers other.answers
+  pub memory : AllLackMemoryAlike one.hearings other.hearings
 
 passing_films : {old new : Stage} {n : ℕ} → IsPassing old n new → AreFilms old.session.films
     → AreFilms new.session.films
@@ -426,40 +409,43 @@ overs_same {old} {n = n} {m = m} is also =
     element_once old.input m n (over_element old.input m also.over) (over_element old.input n is.over) in
     also.new_is ∙ ap (λ k. stage old.session (drop k old.input)) size ∙ sym is.new_is
 
-pub ends_same : {ones others : List Outcome} {heard also : List HeardRequest} {old : Stage} (xs ys : List Element)
-    → AreFilms old.session.films → (way : PathDone old xs) (other_way : PathDone old ys)
-    → PathsAlike xs ys ones others heard also
-    → SameEnds (path_end way.last (elements_bytes xs) ones heard) (path_end other_way.last (elements_bytes ys) others also)
-ends_same [] [] films way other_way alike =
-    record { last = other_way.goes ∙ sym way.goes; bytes = refl; answers = alike.answers; memory = alike.memory }
-ends_same {old} [] (y ∷ ys) films way other_way alike =
-    absurd (done_goes old other_way.goes.0 y (subst IsDrained way.goes way.done) other_way.goes.1.0)
-ends_same {old} (x ∷ xs) [] films way other_way alike =
-    absurd (done_goes old way.goes.0 x (subst IsDrained other_way.goes other_way.done) way.goes.1.0)
-ends_same {old} (Over n ∷ xs) (Over m ∷ ys) films way other_way alike =
-    ends_same xs ys (passing_films goes.1.0 films) (record { last = way.last; goes = goes.1.1; done = done })
+pub ends_same : {old : Stage} {xs ys : List Element} (one other : Exchange) → AreFilms old.session.films
+    → (way : PathDone old xs) (also : PathDone old ys) → PathsAlike xs ys one other → SameEnds way also one other
+ends_same {xs = []} {ys = []} one other films way also alike =
+    record { last = also.goes ∙ sym way.goes; bytes = refl; answers = alike.answers; memory = alike.memory }
+ends_same {old} {xs = []} {ys = y ∷ ys} one other films way also alike =
+    absurd (done_goes old also.goes.0 y (subst IsDrained way.goes way.done) also.goes.1.0)
+ends_same {old} {xs = x ∷ xs} {ys = []} one other films way also alike =
+    absurd (done_goes old way.goes.0 x (subst IsDrained also.goes also.done) way.goes.1.0)
+ends_same {old} {xs = Over n ∷ xs} {ys = Over m ∷ ys} one other films way also alike =
+    let rest = ends_same {xs = xs} {ys = ys} one other (passing_films goes.1.0 films)
+    (record { last = way.last; goes = goes.1.1; done = done })
     (record {
-      last = other_way.last;
-      goes = subst (λ s. GoesAll s ys other_way.last) (overs_same goes.1.0 too.1.0) too.1.1;
+      last = also.last;
+      goes = subst (λ s. GoesAll s ys also.last) (overs_same goes.1.0 too.1.0) too.1.1;
       done = stops;
-    }) (record { answers = alike.answers; memory = alike.memory })
+    }) (record { answers = alike.answers; memory = alike.memory }) in
+    record { last = rest.last; bytes = rest.bytes; answers = rest.answers; memory = rest.memory }
   where
     open way use {goes, done}
-    open other_way use {goes as too, done as stops}
-ends_same {old = old} (Over n ∷ xs) (RequestElement turn ∷ ys) films way other_way alike =
-    absurd (over_no_request old.input n way.goes.1.0.over other_way.goes.1.0.next.first.0)
-ends_same {old} (RequestElement turn ∷ xs) (Over m ∷ ys) films way other_way alike =
-    absurd (over_no_request old.input m other_way.goes.1.0.over way.goes.1.0.next.first.0)
-ends_same {ones} {others} {old = old} (RequestElement turn ∷ xs) (RequestElement again ∷ ys) films way
-    other_way alike =
-    let both = turns_same {old = old} {turn = turn} {again = again}
-    (record { ones = elements_answers xs ++ ones; others = elements_answers ys ++ others; same = answers_from alike })
+    open also use {goes as too, done as stops}
+ends_same {old} {xs = Over n ∷ xs} {ys = RequestElement turn ∷ ys} one other films way also alike =
+    absurd (over_no_request old.input n way.goes.1.0.over also.goes.1.0.next.first.0)
+ends_same {old} {xs = RequestElement turn ∷ xs} {ys = Over m ∷ ys} one other films way also alike =
+    absurd (over_no_request old.input m also.goes.1.0.over way.goes.1.0.next.first.0)
+ends_same {old} {xs = RequestElement turn ∷ xs} {ys = RequestElement again ∷ ys} one other films way also alike =
+    let both = turns_same {old = old} {turn = turn} {again = again} (record {
+      ones = elements_answers xs ++ one.answers;
+      others = elements_answers ys ++ other.answers;
+      same = rw (← (append_assoc (answer_in turn.outcome) (elements_answers xs) one.answers))
+          (rw (← (append_assoc (answer_in again.outcome) (elements_answers ys) other.answers)) alike.answers);
+    })
     (record { one = goes.0; other = too.0; films = films; taken = goes.1.0; also = too.1.0; alike = alike.memory.0 }) in
     let kept : AreFilms goes.0.session.films = subst AreFilms (sym (taken_films old goes.0 turn goes.1.0)) films in
-    let rest = ends_same xs ys kept (record { last = way.last; goes = goes.1.1; done = done })
+    let rest = ends_same {xs = xs} {ys = ys} one other kept (record { last = way.last; goes = goes.1.1; done = done })
     (record {
-      last = other_way.last;
-      goes = subst (λ s. GoesAll s ys other_way.last) both.0 too.1.1;
+      last = also.last;
+      goes = subst (λ s. GoesAll s ys also.last) both.0 too.1.1;
       done = stops;
     }) (record { answers = both.2; memory = alike.memory.1 }) in
     record {
@@ -471,4 +457,4 @@ ends_same {ones} {others} {old = old} (RequestElement turn ∷ xs) (RequestEleme
     }
   where
     open way use {goes, done}
-    open other_way use {goes as too, done as stops}
+    open also use {goes as too, done as stops}

@@ -329,7 +329,7 @@ legs_same {one} {other} {xs = x ∷ xs} {ys = y ∷ ys} old films legs too alike
     let kept : AreFilms x.opened.session.films =
     subst AreFilms (sym (ap (λ (n : List Stored × List ℕ). n.0)
     (stepped_names old.session x.slot x.due x.halt x.opened.session leg.stepped))) films in
-    let ends = ends_same x.elements y.elements kept (record { last = x.until; goes = leg.goes; done = leg.done })
+    let ends = ends_same (legs_exchange xs) (legs_exchange ys) kept (record { last = x.until; goes = leg.goes; done = leg.done })
     (record {
       last = y.until;
       goes = subst (λ s. GoesAll s y.elements y.until) place again.goes;
@@ -365,7 +365,7 @@ splits_same {base} {other = other} {a} {b} films x y alike =
     (joined (elements_exchange y.first y.elements) (legs_exchange y.legs)) =
     subst (ExchangesAlike (joined (elements_exchange x.first x.elements) (legs_exchange x.legs))) y.all_is
     (subst (λ e. ExchangesAlike e b) x.all_is alike) in
-    let ends = ends_same x.elements y.elements films (record { last = x.until; goes = x.goes; done = x.done })
+    let ends = ends_same (legs_exchange x.legs) (legs_exchange y.legs) films (record { last = x.until; goes = x.goes; done = x.done })
     (record {
       last = y.until;
       goes = subst (λ bs. GoesAll (longer base bs) y.elements y.until) (sym cut.0) y.goes;

@@ -322,7 +322,7 @@ setup_walk {b} {out} taken one is =
     let whole = reply_whole heard reply
     (replies_whole old.session message heard.ask heard.asking is.named (setup_room b at) heard.hears) in
     let read : IsSetupRead replied.answered.text =
-    elim (setup_replied b old.session heard.ask heard.asking at heard.hears) [
+    elim (setup_replied b request at) [
       | inl still ↦
           let unset : setup_in new.session.state ≡ None =
           ap (λ (s : Stage). setup_in s.session.state) replied.new_is

@@ -32,6 +32,8 @@ use Rattle.connection_laws.proofs.ClientSetups.{range_is, settled_by}
 use Rattle.connection_laws.proofs.KeptParts.{IsSameSetup, names_in}
 use Rattle.connection_laws.proofs.SetupOnly.{Beginning, IsUnbegun, IsWaiting}
 use Rattle.connection_laws.proofs.FirstPlays.{planned_whole}
+use Rattle.connection_laws.proofs.CourseInduction.{AnsweredRequest}
+use Rattle.conn.specs.InputSteps.{Stage}
 
 same_names : (old new : SessionState) → new.films ≡ old.films → new.id ≡ old.id → names_in new ≡ names_in old
 same_names old new films id = ap₂ (λ (f : List Stored) (i : List ℕ). (f, i)) films id
@@ -135,22 +137,27 @@ has_one : {setup : Setup} (state : State) → setup_in state ≡ Some setup → 
 has_one Init is = absurd (let no : ⊥ = cc in no)
 has_one _ is = refl
 
-module _ {message : List ℕ} (b : Beginning) (old : SessionState) (ask : Ask) (new : SessionState) where
-  pub setup_replied : message ≡ setup_text b.wish → Hears old message ask new → AnswersSetup old new
-  setup_replied is hears =
-      let asked = setup-asked b.wish b.wished b.port in
-      let url = film_url b.wish ++ codes "/video" in
-      let head = request_head (setup_parts b.wish) in
-      let R : List ℕ → Type 0 = λ m. IsRequest m (codes "SETUP") url 1 head [] in
-      let call : IsCall message (codes "SETUP") url 1 head = record { body = []; read = subst R (sym is) asked.read } in
-      elim (setup_answered old message url 1 head ask new call hears) [
-        | inl same ↦ inl same
-        | inr told ↦
-            let settled = settled_by b.wish b.wished b.port told.asks told.names in
-            inr (told.text ∙ (ap (λ n. setup_reply 1 n told.setup.control old.source.ssrc old.id) settled.media
-            ∙ ap (λ n. setup_reply 1 0 n old.source.ssrc old.id) settled.control))
-      ]
+pub setup_replied : (b : Beginning) {old new : Stage} (request : AnsweredRequest old new)
+    → request.message ≡ setup_text b.wish → AnswersSetup old.session request.replied.heard.asking
+setup_replied b {old} request is =
+    let source = old.session.source in
+    let heard = replied.heard in
+    let asked = setup-asked b.wish b.wished b.port in
+    let url = film_url b.wish ++ codes "/video" in
+    let head = request_head (setup_parts b.wish) in
+    let R : List ℕ → Type 0 = λ m. IsRequest m (codes "SETUP") url 1 head [] in
+    let call : IsCall request.message (codes "SETUP") url 1 head = record { body = []; read = subst R (sym is) asked.read } in
+    elim (setup_answered old.session request.message url 1 head heard.ask heard.asking call heard.hears) [
+      | inl same ↦ inl same
+      | inr told ↦
+          let settled = settled_by b.wish b.wished b.port told.asks told.names in
+          inr (told.text ∙ (ap (λ n. setup_reply 1 n told.setup.control source.ssrc old.session.id) settled.media
+          ∙ ap (λ n. setup_reply 1 0 n source.ssrc old.session.id) settled.control))
+    ]
+  where
+    open request use {replied}
 
+module _ {message : List ℕ} (b : Beginning) (old : SessionState) (ask : Ask) (new : SessionState) where
   pub play_asked : (prepared : Prepared) → IsWaiting b old → new.awaited ≡ Play prepared
       → message ≡ play_text b.wish b.session → Hears old message ask new → AsksClientPlay b old new
   play_asked prepared waits asks is hears =
@@ -189,22 +196,24 @@ module _ {message : List ℕ} (b : Beginning) (old : SessionState) (ask : Ask) (
         own = own.1;
       }
 
-  pub teardown_replied : IsNamed b old → message ≡ teardown_text b.wish b.session → Hears old message ask new
-      → AnswersTeardown old new
-  teardown_replied named is hears =
-      let asked = teardown-asked b.wish b.session b.wished b.port b.session_is in
-      let head = request_head (teardown_parts b.wish b.session) in
-      let its = teardown_head b in
-      let R : List ℕ → Type 0 = λ m. IsRequest m (codes "TEARDOWN") (film_url b.wish) 3 head [] in
-      let call : IsCall message (codes "TEARDOWN") (film_url b.wish) 3 head =
-      record { body = []; read = subst R (sym is) asked.read } in
-      let S : Option (List ℕ) → Type 0 = λ v. IsOwnSession (has_session_in old.state) old.id v ⊥ in
-      let told = teardown_answered old message (film_url b.wish) 3 head ask new call (record {
-        free = ap (λ v. first_of v (header_value head (codes "Proxy-Require"))) its.require ∙ its.proxy;
-        session = subst S (sym its.session) (has_one old.state named.setup_is, named.own);
-        authority = named.authority;
-        setup = named.setup;
-        setup_is = named.setup_is;
-        names = named.names;
-      }) hears in
-      record { text = told.text; same = record { names = same_names old new told.films told.id; setup = told.setup } }
+pub teardown_replied : (b : Beginning) {old new : Stage} (request : AnsweredRequest old new)
+    → request.message ≡ teardown_text b.wish b.session → IsNamed b old.session
+    → AnswersTeardown old.session request.replied.heard.asking
+teardown_replied b {old} request is named =
+    let heard = request.replied.heard in
+    let asked = teardown-asked b.wish b.session b.wished b.port b.session_is in
+    let head = request_head (teardown_parts b.wish b.session) in
+    let its = teardown_head b in
+    let R : List ℕ → Type 0 = λ m. IsRequest m (codes "TEARDOWN") (film_url b.wish) 3 head [] in
+    let call : IsCall request.message (codes "TEARDOWN") (film_url b.wish) 3 head =
+    record { body = []; read = subst R (sym is) asked.read } in
+    let S : Option (List ℕ) → Type 0 = λ v. IsOwnSession (has_session_in old.session.state) old.session.id v ⊥ in
+    let told = teardown_answered old.session request.message (film_url b.wish) 3 head heard.ask heard.asking call (record {
+      free = ap (λ v. first_of v (header_value head (codes "Proxy-Require"))) its.require ∙ its.proxy;
+      session = subst S (sym its.session) (has_one old.session.state named.setup_is, named.own);
+      authority = named.authority;
+      setup = named.setup;
+      setup_is = named.setup_is;
+      names = named.names;
+    }) heard.hears in
+    record { text = told.text; same = record { names = same_names old.session heard.asking told.films told.id; setup = told.setup } }

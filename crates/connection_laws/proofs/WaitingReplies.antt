@@ -224,31 +224,6 @@ module _ {p : PacerState} {taken heard : ℕ} where
             omega (arith, least, next.after);
       }
 
-  -- or it isn't
-  pub still_held : {slot : ℕ} → IsPacerState p → heard < slot → IsHeldUp p taken heard
-      → stands_at_boundary (after_step true slot p) ≡ false → IsHeldUp (sent_through slot p) taken slot
-  still_held {slot} is later held stands =
-      let q : PacerState = after_step true slot p in
-      let all : step_end true (at_slot slot p) ≡ due_by p slot =
-      ap (λ (r : PacerState). r.sent) (slot_is true false slot p is stands) in
-      let next = boundary-from p.pieces (p.before + p.sent) (inside_of p is) in
-      let nearest : ℕ = boundary_from p.pieces (p.before + p.sent) in
-      record {
-        before = omega (arith, held.before, later);
-        due = omega (arith, held.due, is.sent);
-        none = λ place boundary from.
-            let past = held.none place boundary from in
-            let least : nearest ≤ place = next.least place boundary (omega (arith, past)) in
-            elim (cases_lt (p.before + due_by p slot) place) [
-              | inl less ↦ less
-              | inr more ↦
-                  let there : nearest ≡ p.before + q.sent = omega (arith, all, least, more, next.after) in
-                  absurd (true≢false
-                  (sym (boundary_stands q (stopped_is slot p is)
-                  (subst (IsBoundary p.pieces) there next.boundary)) ∙ stands))
-            ];
-      }
-
 -- a later slot of a play on time, with the reply that is held up, and whether it stands at a boundary after it
 pub record PlaySlot (waits between : Bool) (pending : Option ℕ) : Type 0 where
   pub p : PacerState
@@ -332,6 +307,31 @@ pub slot_held : {waits between : Bool} {pending : Option ℕ} (s : PlaySlot wait
 slot_held {waits = true} {pending = None} s = absurd (true≢false s.held)
 slot_held {waits = false} {pending = Some taken} s = absurd (true≢false (sym s.held.0))
 slot_held {waits = true} {between = false} {pending = Some taken} s =
-    (refl, still_held s.on.pacing s.later s.held.1 s.stands)
+    let all : step_end true (at_slot slot p) ≡ due_by p slot =
+    ap (λ (r : PacerState). r.sent) (slot_is true false slot p is stands) in
+    let next = boundary-from p.pieces (p.before + p.sent) (inside_of p is) in
+    let nearest : ℕ = boundary_from p.pieces (p.before + p.sent) in (
+      refl,
+      record {
+        before = omega (arith, held.1.before, later);
+        due = omega (arith, held.1.due, is.sent);
+        none = λ place boundary from.
+            let past = held.1.none place boundary from in
+            let least : nearest ≤ place = next.least place boundary (omega (arith, past)) in
+            elim (cases_lt (p.before + due_by p slot) place) [
+              | inl less ↦ less
+              | inr more ↦
+                  let there : nearest ≡ p.before + (after_step true slot p).sent =
+                  omega (arith, all, least, more, next.after) in
+                  absurd (true≢false (sym (boundary_stands (after_step true slot p) (stopped_is slot p is)
+                  (subst (IsBoundary p.pieces) there next.boundary)) ∙ stands))
+            ];
+      },
+    )
+  where
+    open s use {p, slot, on, later, stands, held}
+
+    is : IsPacerState p
+    is = on.pacing
 slot_held {waits = true} {between = true} {pending = Some taken} s = refl
 slot_held {waits = false} {pending = None} s = refl
