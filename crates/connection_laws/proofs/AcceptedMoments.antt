@@ -174,12 +174,6 @@ same_moment : {moment other : ClientEvent} (element : List ℕ) → element_even
     → element_events element ≡ other ∷ [] → other ≡ moment
 same_moment element is its = let same = sym its ∙ is in cc
 
-reply_moment : {h : History} {message : List ℕ} {moment : ClientEvent} (wish : Wish) (element : List ℕ)
-    → element_events element ≡ moment ∷ [] → element ≡ message → element_events message ≡ Reply message ∷ []
-    → IsAccepted wish h (Reply message) → IsAccepted wish h moment
-reply_moment {h} wish element moment_is same reply accepted =
-    subst (IsAccepted wish h) (same_moment element moment_is (ap element_events same ∙ reply)) accepted
-
 -- at most two replies let a watching go on
 pub two_replies : (h : History) → HasGoneOn h → replies h ≤ 2
 two_replies [] gone = omega arith
@@ -308,11 +302,28 @@ stands_in (b ∷ bs) ls (q ∷ qs) e es is =
 
 -- ---- each next moment of a film's stream is accepted
 
-module _ {h : History} {moment : ClientEvent} (wish : Wish) (s : FilmStream) where
+-- a film's stream that a client watches, with what it has gone on at, and the next moment
+pub record FilmWatch : Type 0 where
+  pub wish : Wish
+  pub s : FilmStream
+  pub h : History
+  pub moment : ClientEvent
+
+module _ (w : FilmWatch) where
+  open w use {wish, s, h, moment}
+
+  reply_moment : {message : List ℕ} (element : List ℕ) → element_events element ≡ moment ∷ []
+      → element_events element ≡ Reply message ∷ [] → IsAccepted wish h (Reply message) → IsAccepted wish h moment
+  reply_moment element moment_is reply accepted =
+      subst (IsAccepted wish h) (same_moment element moment_is reply) accepted
+
   -- the next element is a block of the film
-  film_moment : (qs : List (List ℕ)) (b : List ℕ) (rest : List (List ℕ)) → HasAccepted (s.stream.x.first ∷ s.stream.x.second ∷ qs) h
-      → s.stream.x.blocks ≡ qs ++ b ∷ rest → element_events b ≡ moment ∷ [] → IsAccepted wish h moment
-  film_moment qs b rest accepted blocks moment_is =
+  film_moment : (qs : List (List ℕ)) → HasAccepted (s.stream.x.first ∷ s.stream.x.second ∷ qs) h
+      → IsNextIn s.stream.x.blocks qs moment → IsAccepted wish h moment
+  film_moment qs accepted next =
+      let b = next.element in
+      let rest = next.more in
+      let blocks = next.all_is in
       let are : AreOneBlocks (qs ++ b ∷ rest) = subst AreOneBlocks blocks s.stream.x.blocks_are in
       let inside = in_film s qs (blocks_front qs (b ∷ rest) are) (accepted.sum ∙ two_moments s.stream.x qs) in
       elim (block_at qs b rest are) [
@@ -323,37 +334,44 @@ module _ {h : History} {moment : ClientEvent} (wish : Wish) (s : FilmStream) whe
             ∙ ap (λ l. l ++ b ∷ frames_of (events_of_elements rest)) (sym (accepted.frames ∙ two_frames s.stream.x qs)) in
             let good : GoesOn h (Frame b) =
             s.clauses.accepts s.stream.film s.stream.identity h b (frames_of (events_of_elements rest)) s.small inside.awaits frames in
-            subst (IsAccepted wish h) (same_moment b moment_is frame) (inl good)
-        | inr report ↦ subst (IsAccepted wish h) (same_moment b moment_is report) (inl tt)
+            subst (IsAccepted wish h) (same_moment b next.moment_is frame) (inl good)
+        | inr report ↦ subst (IsAccepted wish h) (same_moment b next.moment_is report) (inl tt)
       ]
 
   -- it is the reply after the film
-  last_moment : (last : List ℕ) (rest : List (List ℕ)) → HasAccepted (s.stream.x.first ∷ s.stream.x.second ∷ s.stream.x.blocks) h
-      → s.stream.x.later ≡ last ∷ rest → element_events last ≡ moment ∷ [] → IsAccepted wish h moment
-  last_moment last rest accepted later moment_is =
+  last_moment : HasAccepted (s.stream.x.first ∷ s.stream.x.second ∷ s.stream.x.blocks) h
+      → IsNextIn s.stream.x.later [] moment → IsAccepted wish h moment
+  last_moment accepted next =
+      let last = next.element in
+      let rest = next.more in
+      let later = next.all_is in
       let inside = in_film s s.stream.x.blocks s.stream.x.blocks_are (accepted.sum ∙ two_moments s.stream.x s.stream.x.blocks) in
       let frames : frames_of_film s.stream.film s.stream.identity ≡ frames_heard h =
       sym (stream_frames s.stream) ∙ sym (accepted.frames ∙ two_frames s.stream.x s.stream.x.blocks) in
       let texts : AreTexts (last ∷ rest) = subst AreTexts later s.stream.x.later_are in
       let answers : AreAnswers (last ∷ rest) = subst AreAnswers later s.readable.later_are in
-      reply_moment wish last moment_is refl texts.0.moment
+      reply_moment last next.moment_is texts.0.moment
       (inr (s.clauses.done s.stream.film s.stream.identity wish h last s.small inside.awaits frames inside.two answers.0))
 
   -- after the two first replies
-  later_moment : (qs : List (List ℕ)) (e : List ℕ) (es : List (List ℕ)) → HasAccepted (s.stream.x.first ∷ s.stream.x.second ∷ qs) h
-      → s.stream.x.blocks ++ s.stream.x.later ≡ qs ++ e ∷ es → element_events e ≡ moment ∷ [] → IsAccepted wish h moment
-  later_moment qs e es accepted all moment_is =
-      elim (stands_in s.stream.x.blocks s.stream.x.later qs e es all) [
-        | Within rest inside ↦ film_moment qs e rest accepted inside moment_is
+  later_moment : (qs : List (List ℕ)) → HasAccepted (s.stream.x.first ∷ s.stream.x.second ∷ qs) h
+      → IsNextIn (s.stream.x.blocks ++ s.stream.x.later) qs moment → IsAccepted wish h moment
+  later_moment qs accepted next =
+      elim (stands_in s.stream.x.blocks s.stream.x.later qs e es next.all_is) [
+        | Within rest inside ↦
+            film_moment qs accepted (record { element = e; more = rest; all_is = inside; moment_is = next.moment_is })
         | Past more past after ↦ by_more more past after
       ]
     where
+      open next use {element as e, more as es}
+
       A : List (List ℕ) → Type 0
       A = λ l. HasAccepted (s.stream.x.first ∷ s.stream.x.second ∷ l) h
 
       by_more : (more : List (List ℕ)) → qs ≡ s.stream.x.blocks ++ more → s.stream.x.later ≡ more ++ e ∷ es → IsAccepted wish h moment
       by_more [] past after =
-          last_moment e es (subst A (past ∙ append-nil s.stream.x.blocks) accepted) after moment_is
+          last_moment (subst A (past ∙ append-nil s.stream.x.blocks) accepted)
+          (record { element = e; more = es; all_is = after; moment_is = next.moment_is })
       by_more (y ∷ more) past after =
           let texts : AreTexts (y ∷ (more ++ e ∷ es)) = subst AreTexts after s.stream.x.later_are in
           absurd (no_third s.stream.x y more (subst A past accepted) texts.0.moment)
@@ -365,7 +383,7 @@ module _ {h : History} {moment : ClientEvent} (wish : Wish) (s : FilmStream) whe
       let all : s.stream.x.first ∷ s.stream.x.second ∷ (s.stream.x.blocks ++ s.stream.x.later) ≡ next.element ∷ next.more = next.all_is in
       let first : next.element ≡ s.stream.x.first = cc in
       let none : replies h ≡ 0 = ap (λ (s : Sum). s.replies) accepted.sum in
-      reply_moment wish next.element next.moment_is first s.stream.x.first_is.moment
+      reply_moment next.element next.moment_is (ap element_events first ∙ s.stream.x.first_is.moment)
       (inl (good_reply 0 none (omega arith) s.readable.setup_is (setup_fields h s.stream.x.first none s.readable.session)))
   moment_accepted (a ∷ []) accepted next =
       let all : s.stream.x.first ∷ s.stream.x.second ∷ (s.stream.x.blocks ++ s.stream.x.later) ≡ a ∷ next.element ∷ next.more = next.all_is in
@@ -374,7 +392,7 @@ module _ {h : History} {moment : ClientEvent} (wish : Wish) (s : FilmStream) whe
       let single : steps no_sum (events_of_elements (a ∷ [])) ≡ steps no_sum (Reply s.stream.x.first ∷ []) =
       ap (λ t. steps no_sum (events_of_elements (t ∷ []))) first ∙ ap (λ l. steps no_sum (l ++ [])) s.stream.x.first_is.moment in
       let one : replies h ≡ 1 = ap (λ (s : Sum). s.replies) (accepted.sum ∙ single) in
-      reply_moment wish next.element next.moment_is second s.stream.x.second_is.moment
+      reply_moment next.element next.moment_is (ap element_events second ∙ s.stream.x.second_is.moment)
       (inl (good_reply 1 one (omega arith) s.readable.played_is
       (play_fields h s.stream.x.second one s.readable.range s.readable.start)))
   moment_accepted (a ∷ b ∷ qs) accepted next =
@@ -383,5 +401,5 @@ module _ {h : History} {moment : ClientEvent} (wish : Wish) (s : FilmStream) whe
       let second : b ≡ s.stream.x.second = cc in
       let rest : s.stream.x.blocks ++ s.stream.x.later ≡ qs ++ next.element ∷ next.more = cc in
       let A : List ℕ → List ℕ → Type 0 = λ s t. HasAccepted (s ∷ t ∷ qs) h in
-      later_moment qs next.element next.more
-      (subst (A s.stream.x.first) second (subst (λ s. A s b) first accepted)) rest next.moment_is
+      later_moment qs (subst (A s.stream.x.first) second (subst (λ y. A y b) first accepted))
+      (record { element = next.element; more = next.more; all_is = rest; moment_is = next.moment_is })

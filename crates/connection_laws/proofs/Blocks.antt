@@ -60,20 +60,22 @@ unit_blocks run starts unit f o = report_if unit.starts_group run unit f o ++ fr
     (unit_packets starts unit)
 
 -- frames are made of packets
-pub record IsMaker (run : FramedRun) (unit : PictureUnit) (make : Packet → Part) : Type 0 where
-  pub bytes : (p : Packet) (f o : ℕ) → piece_bytes run f o (make p) ≡ frame_block run unit p f
-  pub count : (p : Packet) → count_of (make p) ≡ 1
-  pub among : (p : Packet) (ps : List Part) (b : List ℕ) (bs : List (List ℕ))
+record Maker (run : FramedRun) (unit : PictureUnit) : Type 0 where
+  make : Packet → Part
+  bytes : (p : Packet) (f o : ℕ) → piece_bytes run f o (make p) ≡ frame_block run unit p f
+  count : (p : Packet) → count_of (make p) ≡ 1
+  among : (p : Packet) (ps : List Part) (b : List ℕ) (bs : List (List ℕ))
       → frames_among (make p ∷ ps) (b ∷ bs) ≡ b ∷ frames_among ps bs
 
-frames_made : {run : FramedRun} {unit : PictureUnit} {make : Packet → Part} (f o : ℕ) (packets : List Packet)
-    → IsMaker run unit make → blocks_from run f o (map make packets) ≡ frame_blocks run unit f packets
-frames_made f o [] is = refl
-frames_made {run} {unit} {make} f o (p ∷ packets) is =
+frames_made : {run : FramedRun} {unit : PictureUnit} (is : Maker run unit) (f o : ℕ) (packets : List Packet)
+    → blocks_from run f o (map is.make packets) ≡ frame_blocks run unit f packets
+frames_made is f o [] = refl
+frames_made {run} {unit} is f o (p ∷ packets) =
+    let make = is.make in
     ap (λ b. b ∷ blocks_from run (f + count_of (make p)) (o + octets_of (make p)) (map make packets)) (is.bytes p f o)
     ∙ (ap (λ n. frame_block run unit p f ∷ blocks_from run (f + n) (o + octets_of (make p))
     (map make packets)) (is.count p)
-    ∙ ap (λ bs. frame_block run unit p f ∷ bs) (frames_made (f + 1) (o + octets_of (make p)) packets is))
+    ∙ ap (λ bs. frame_block run unit p f ∷ bs) (frames_made is (f + 1) (o + octets_of (make p)) packets))
 
 plain : (f : ℕ) → f + 0 ≡ f
 plain f = omega arith
@@ -84,35 +86,29 @@ record ReportPart (run : FramedRun) (unit : PictureUnit) (f o : ℕ) : Type 0 wh
   bytes : piece_bytes run f o report ≡ report_block run unit f o
   count : count_of report ≡ 0
 
-with_report : {run : FramedRun} {unit : PictureUnit} {make : Packet → Part} {f o : ℕ} (starts : Bool)
-    (part : ReportPart run unit f o) (packets : List Packet) → IsMaker run unit make →
-    blocks_from run f o (cond starts (part.report ∷ []) [] ++ map make packets)
+with_report : {run : FramedRun} {unit : PictureUnit} {f o : ℕ} (starts : Bool) (part : ReportPart run unit f o)
+    (packets : List Packet) (is : Maker run unit)
+    → blocks_from run f o (cond starts (part.report ∷ []) [] ++ map is.make packets)
     ≡ report_if starts run unit f o ++ frame_blocks run unit f packets
-with_report {f} {o} false part packets is = frames_made f o packets is
-with_report {run} {unit} {make} {f} {o} true part packets is =
+with_report {f = f} {o = o} false part packets is = frames_made is f o packets
+with_report {run} {unit} {f} {o} true part packets is =
+    let make = is.make in
     ap (λ b. b ∷ blocks_from run (f + count_of report) (o + octets_of report) (map make packets)) bytes
     ∙ (ap (λ n. report_block run unit f o ∷ blocks_from run n (o + octets_of report) (map make packets))
     (ap (λ n. f + n) count ∙ plain f)
-    ∙ ap (λ bs. report_block run unit f o ∷ bs) (frames_made f (o + octets_of report) packets is))
+    ∙ ap (λ bs. report_block run unit f o ∷ bs) (frames_made is f (o + octets_of report) packets))
   where
     open part use {report, bytes, count}
 
 pub unit_made : (run : FramedRun) (f o : ℕ) (starts : List ℕ) (unit : PictureUnit)
     → blocks_from run f o (unit_pieces starts unit) ≡ unit_blocks run starts unit f o
 unit_made run f o starts unit =
-    with_report {run = run} {unit = unit} {make = _} unit.starts_group
+    with_report {run = run} {unit = unit} unit.starts_group
     (record { report = _; bytes = refl; count = refl })
-    (unit_packets starts unit) (record { bytes = λ p g n. refl; count = λ p. refl; among = λ p ps b bs. refl })
+    (unit_packets starts unit)
+    (record { make = _; bytes = λ p g n. refl; count = λ p. refl; among = λ p ps b bs. refl })
 
 -- ---- the frames among them
-
-frames_among_made : {run : FramedRun} {unit : PictureUnit} {make : Packet → Part} (f : ℕ) (packets : List Packet)
-    (ps : List Part) (bs : List (List ℕ)) → IsMaker run unit make → frames_among (map make packets ++ ps)
-    (frame_blocks run unit f packets ++ bs) ≡ frame_blocks run unit f packets ++ frames_among ps bs
-frames_among_made f [] ps bs is = refl
-frames_among_made {run} {unit} {make} f (p ∷ packets) ps bs is =
-    is.among p (map make packets ++ ps) (frame_block run unit p f) (frame_blocks run unit (f + 1) packets ++ bs)
-    ∙ ap (λ l. frame_block run unit p f ∷ l) (frames_among_made (f + 1) packets ps bs is)
 
 -- a part that is a report: it is no frame among the pieces
 record UncountedReport : Type 0 where
@@ -130,16 +126,24 @@ pub record AfterUnit : Type 0 where
   pub parts : List Part
   pub blocks : List (List ℕ)
 
-among_report : {run : FramedRun} {unit : PictureUnit} {make : Packet → Part} (starts : Bool)
-    (uncounted : UncountedReport) (from : PacketsFrom) (rest : AfterUnit) → IsMaker run unit make
-    → frames_among ((cond starts (uncounted.report ∷ []) [] ++ map make from.packets) ++ rest.parts)
+frames_among_made : {run : FramedRun} {unit : PictureUnit} (is : Maker run unit) (f : ℕ) (packets : List Packet)
+    (rest : AfterUnit) → frames_among (map is.make packets ++ rest.parts) (frame_blocks run unit f packets ++ rest.blocks)
+    ≡ frame_blocks run unit f packets ++ frames_among rest.parts rest.blocks
+frames_among_made is f [] rest = refl
+frames_among_made {run} {unit} is f (p ∷ packets) rest =
+    is.among p (map is.make packets ++ rest.parts) (frame_block run unit p f)
+    (frame_blocks run unit (f + 1) packets ++ rest.blocks)
+    ∙ ap (λ l. frame_block run unit p f ∷ l) (frames_among_made is (f + 1) packets rest)
+
+among_report : {run : FramedRun} {unit : PictureUnit} (is : Maker run unit) (starts : Bool)
+    (uncounted : UncountedReport) (from : PacketsFrom) (rest : AfterUnit)
+    → frames_among ((cond starts (uncounted.report ∷ []) [] ++ map is.make from.packets) ++ rest.parts)
     ((report_if starts run unit from.frames from.octets ++ frame_blocks run unit from.frames from.packets)
     ++ rest.blocks) ≡ frame_blocks run unit from.frames from.packets ++ frames_among rest.parts rest.blocks
-among_report false uncounted from rest is = frames_among_made from.frames from.packets rest.parts rest.blocks is
-among_report {run} {unit} {make} true uncounted from rest is =
-    uncounted.none (map make packets ++ rest.parts) (report_block run unit f o)
-    (frame_blocks run unit f packets ++ rest.blocks) ∙
-    frames_among_made f packets rest.parts rest.blocks is
+among_report is false uncounted from rest = frames_among_made is from.frames from.packets rest
+among_report {run} {unit} is true uncounted from rest =
+    uncounted.none (map is.make packets ++ rest.parts) (report_block run unit f o)
+    (frame_blocks run unit f packets ++ rest.blocks) ∙ frames_among_made is f packets rest
   where
     open from use {frames as f, octets as o, packets}
 
@@ -147,9 +151,10 @@ pub unit_among : (run : FramedRun) (f o : ℕ) (starts : List ℕ) (unit : Pictu
     frames_among (unit_pieces starts unit ++ rest.parts) (unit_blocks run starts unit f o ++ rest.blocks)
     ≡ frame_blocks run unit f (unit_packets starts unit) ++ frames_among rest.parts rest.blocks
 unit_among run f o starts unit rest =
-    among_report {run = run} {unit = unit} {make = _} unit.starts_group (record { report = _; none = λ qs b cs. refl })
+    among_report {run = run} {unit = unit}
+    (record { make = _; bytes = λ p g n. refl; count = λ p. refl; among = λ p qs b cs. refl }) unit.starts_group
+    (record { report = _; none = λ qs b cs. refl })
     (record { frames = f; octets = o; packets = unit_packets starts unit }) rest
-    (record { bytes = λ p g n. refl; count = λ p. refl; among = λ p qs b cs. refl })
 
 -- ---- what a client reads of them
 

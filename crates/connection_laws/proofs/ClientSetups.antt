@@ -159,14 +159,6 @@ setup_is wish is port =
     let asked = setup-asked wish is port in
     record { sequence = 1; body = []; read = asked.read }
 
-name_at : {films : List Stored} {authority : List ℕ} {number : ℕ} (wish : Wish) → IsWish wish → wish.port < 2 ^ 16
-    → Names films (film_url wish ++ codes "/video") authority number
-    → (film : Stored) → IsFilmAt films number film → string_bytes film.name ≡ string_bytes wish.name
-name_at {films} {authority} {number} wish is port names film at =
-    let same : names.film.stored ≡ film = same_Some names.film.stored film (sym names.film.at ∙ at) in
-    ap (λ (s : Stored). string_bytes s.name) (sym same)
-    ∙ (names.film.name_is ∙ url_name wish (codes "/video") is port (inr (inr (inl refl))) names.read)
-
 pub settled_by : {films : List Stored} {settings : Settings} {setup : Setup} {authority : List ℕ} (wish : Wish)
     → IsWish wish → wish.port < 2 ^ 16 → AsksForSetup settings (request_head (setup_parts wish)) setup.film setup
     → Names films (film_url wish ++ codes "/video") authority setup.film → IsSettled wish films setup
@@ -185,7 +177,10 @@ settled_by {films} {settings} {setup} wish is port asks names =
           (subst B (values (codes "x-Buffer")) asks.buffer) (omega (arith, is.most_buffer));
       delay = chosen_is wish.startup
           (subst D (values (codes "x-Startup")) asks.delay) (omega (arith, is.startup));
-      film = name_at wish is port names;
+      film = λ film at.
+          let same : names.film.stored ≡ film = same_Some names.film.stored film (sym names.film.at ∙ at) in
+          ap (λ (s : Stored). string_bytes s.name) (sym same)
+          ∙ (names.film.name_is ∙ url_name wish (codes "/video") is port (inr (inr (inl refl))) names.read);
     }
 
 -- ---- PLAY

@@ -32,7 +32,7 @@ use Rattle.session_laws.specs.CompleteReplies.{HasValidIds, LeavesRoom, RepliesA
 use Rattle.rtsp_replies.specs.Messages.{IsMessage}
 use Rattle.session_laws.proofs.PauseTeardownLemmas.{teardown_ends}
 use Rattle.session_laws.proofs.CompleteReplyLemmas.{keeps_named, replies_whole}
-use Rattle.conn.specs.InputSteps.{Entered, HasHeard, Outcome, Stage}
+use Rattle.conn.specs.InputSteps.{Entered, Outcome, Stage}
 use Rattle.connection_laws.specs.Replies.{PlacedText, text_of}
 use Rattle.connection_laws.proofs.KeptParts.{answered_names, names_in, replied_names, IsSameSetup, halted_setup}
 use Rattle.connection_laws.proofs.KeptParts.{replied_setup, comes_setup}
@@ -67,18 +67,18 @@ answered_named {old} request named =
 -- ---- one reply
 
 -- the reply is the session's own, at once or once a play was halted
-abbrev IsOwnReply : Ask → Type 0
+abbrev pub IsOwnReply : Ask → Type 0
 IsOwnReply AskReply = ⊤
 IsOwnReply (AskHalt keep) = ⊤
 IsOwnReply _ = ⊥
 
 -- the session's own reply is the one that it made, and what SETUP settled stays
-record OwnReply (asking new : SessionState) (ask : Ask) : Type 0 where
-  whole : RepliesAreComplete ask asking → IsMessage new.text
-  text : new.text ≡ asking.text
-  setup : setup_in new.state ≡ setup_in asking.state
+pub record OwnReply (asking new : SessionState) (ask : Ask) : Type 0 where
+  pub whole : RepliesAreComplete ask asking → IsMessage new.text
+  pub text : new.text ≡ asking.text
+  pub setup : setup_in new.state ≡ setup_in asking.state
 
-own_reply : {asking new : SessionState} {ask : Ask} {outcome : Outcome} → AnswersAs asking new ask outcome
+pub own_reply : {asking new : SessionState} {ask : Ask} {outcome : Outcome} → AnswersAs asking new ask outcome
     → IsOwnReply ask → OwnReply asking new ask
 own_reply (NoneAsked is) own = record {
   whole = λ whole. subst IsMessage (sym (ap (λ (s : SessionState). s.text) is)) whole;
@@ -120,11 +120,6 @@ admitted_from {start} is (PlayHalted halt) =
 admitted_from {start} is (LookMade look) =
     let clash : Looked look.now look.at look.booked ≡ Admitted start = sym look.answer ∙ is in
     absurd (let no : ⊥ = cc in no)
-
-pub reply_whole : {old new : SessionState} {message : List ℕ} {outcome : Outcome} (heard : HasHeard old message outcome
-    new) → heard.ask ≡ AskReply → RepliesAreComplete heard.ask heard.asking → IsMessage new.text
-reply_whole {outcome = outcome} heard is whole =
-    (own_reply (answers_as heard.ask outcome heard.answered) (subst IsOwnReply (sym is) tt)).whole whole
 
 -- ---- TEARDOWN
 

@@ -1,7 +1,7 @@
 -- The notes of a connection's report, event by event: each play that its entries admit has its note.
 use Rattle.std.proofs.Common.{◌≡◌, ℕ, ◌++◌, if◌then◌else◌, Bool, true, false, List, [], ◌∷◌, None, refl, sym, ap, subst}
 use Rattle.std.proofs.Common.{◌∙◌, Option, Some, map}
-use Rattle.std.proofs.lemmas.List.{append-nil, map-append}
+use Rattle.std.proofs.lemmas.List.{append-nil, map-append, append_assoc}
 use Rattle.film_frames.specs.declared.stored_films.Stored.{Stored}
 use Rattle.film_streams.specs.declared.settings.Settings.{Settings}
 use Rattle.session.specs.declared.states.Awaited.{Awaited}
@@ -18,8 +18,8 @@ use Rattle.conn.specs.Agreement.{Activity, HasDone, doings_outcomes}
 use Rattle.connection_laws.specs.Notes.{StationCall, notes_of_calls, notes_of, station_call, kept_later, noted_for}
 use Rattle.connection_laws.specs.Notes.{noted_play, outcome_of, placed_play, placed_plays, PlacedPlay}
 use Rattle.connection_laws.proofs.PlayNotes.{HaveSameNotes, note_part, Carries, IsKept, carries_to, carries_none}
-use Rattle.connection_laws.proofs.PlayNotes.{carries_then, halt_turn, halted_open, heard_on, no_halt_note, no_note}
-use Rattle.connection_laws.proofs.PlayNotes.{notes_until, open_note, unasked_turn, begun_note}
+use Rattle.connection_laws.proofs.PlayNotes.{halt_turn, halted_open, heard_on, no_halt_note, no_note, notes_until}
+use Rattle.connection_laws.proofs.PlayNotes.{open_note, unasked_turn, begun_note, until_append}
 use Rattle.connection_laws.proofs.StationAnswers.{ClosesAs, NothingOpen, BookingHalted, closes_as, halted_by, halt_of}
 use Rattle.connection_laws.proofs.CourseTurns.{IsKeptByDoings, doings_kept, last_rest, all_calls, turns_told}
 use Rattle.connection_laws.proofs.KeptParts.{slot_keeps}
@@ -141,7 +141,14 @@ shut {last} {closed} (BookingHalted {booking = booking} {placed = placed} halted
 carries_kept : IsKeptByDoings CarriesOf
 carries_kept = record {
   none = λ s. carries_none (note_part s);
-  joins = λ a b c xs ys one two. carries_then one two;
+  joins = λ a b c xs ys one two. record {
+    on = λ later.
+        let front = a.plays ++ open_note a.state (xs ++ (ys ++ later)) in
+        ap (λ ns. (a.plays ++ open_note a.state ns) ++ notes_until (xs ++ ys) later) (append_assoc xs ys later)
+        ∙ ap (λ ns. front ++ ns) (until_append xs ys later)
+        ∙ sym (append_assoc front (notes_until xs (ys ++ later)) (notes_until ys later))
+        ∙ ap (λ ns. ns ++ notes_until ys later) (one.on (ys ++ later)) ∙ two.on later;
+  };
   request = λ old new message outcome heard. heard_on old new message outcome heard;
   reply = λ s. carries_to (record { plays = refl; under_way = λ later. settled_open s.state later })
       (carries_none (note_part s));

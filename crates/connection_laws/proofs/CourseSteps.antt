@@ -3,7 +3,7 @@ use Rattle.std.proofs.lemmas.List.{append-nil}
 use Rattle.std.proofs.Common.{◌≡◌, ℕ, ◌≤◌, ◌++◌, ◌&&◌, ◌==◌, if◌then◌else◌, Bool, true, false, nat_lt, List, ◌∷◌, refl}
 use Rattle.std.proofs.Common.{ap, sym, ◌∙◌, subst, arith, Option, Some, None, ◌+◌, inl, inr, ◌⊎◌, []}
 use Rattle.conn.proofs.PlayProgress.{reply_state, reply_heard}
-use Rattle.std.proofs.lemmas.Bool.{eqb-true, true≢false, and_parts}
+use Rattle.std.proofs.lemmas.Bool.{eqb-true, true≢false, and_parts, cases_Bool}
 use Rattle.pacer.specs.PacerStates.{PacerState, is_done, IsPacerState}
 use Rattle.plan_cert.specs.PlanSlots.{total_bytes}
 use Rattle.admission.specs.Makers.{PlacedEntry}
@@ -182,22 +182,22 @@ pub record DonePlay (s : SessionState) : Type 0 where
 abbrev pub AsksDone : SessionState → Type 0
 AsksDone s = (s.awaited ≡ Nothing) ⊎ DonePlay s
 
-done_or : {s : SessionState} (setup : Setup) (play : Played) (done : Bool) → is_done play.pacer ≡ done
-    → s.state ≡ Playing setup play → s.awaited ≡ (if done then Halt play.pacer.sent Done else Nothing) → AsksDone s
-done_or setup play true done is asks = inr (record {
-  setup = setup;
-  play = play;
-  keep = play.pacer.sent;
-  state_is = is;
-  ended = eqb-true play.pacer.sent play.pacer.keep
-      (and_parts (nat_lt 0 play.pacer.passed) (play.pacer.sent == play.pacer.keep) done).1;
-  sent = refl;
-  asks = asks;
-})
-done_or setup play false done is asks = inl asks
-
 asks_in : {s : SessionState} (state : State) → s.state ≡ state → s.awaited ≡ finished_in state Nothing → AsksDone s
-asks_in (Playing setup play) is asks = done_or setup play (is_done play.pacer) refl is asks
+asks_in (Playing setup play) is asks =
+    let next = λ (b : Bool). if b then Halt play.pacer.sent Done else Nothing in
+    elim (cases_Bool (is_done play.pacer)) [
+      | inl done ↦ inr (record {
+        setup = setup;
+        play = play;
+        keep = play.pacer.sent;
+        state_is = is;
+        ended = eqb-true play.pacer.sent play.pacer.keep
+            (and_parts (nat_lt 0 play.pacer.passed) (play.pacer.sent == play.pacer.keep) done).1;
+        sent = refl;
+        asks = asks ∙ ap next done;
+      })
+      | inr more ↦ inl (asks ∙ ap next more)
+    ]
 asks_in _ is asks = inl asks
 
 pub slot_asks : {old s : SessionState} {slot : ℕ} {parts : List SentPart} → SlotTo old slot s parts

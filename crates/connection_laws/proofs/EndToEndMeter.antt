@@ -258,13 +258,6 @@ split_texts course first later split are =
     sym (texts_parts 0 (rounds_parts first) (rounds_parts later))
     ∙ (ap (placed_texts 0) (sym (ap rounds_parts split ∙ parts-more first later)) ∙ are)
 
--- a text of the later part stands at or after that film's end
-later_text : (film place : ℕ) (parts : List SentPart) → place ≡ film → (placed : PlacedText) (rest : List PlacedText)
-    → placed_texts place parts ≡ placed ∷ rest → film ≤ placed.place
-later_text film place parts same placed rest at =
-    let T : List PlacedText → Type 0 = λ l. IsFromTo place (place + length (film_bytes parts)) l in
-    let its = subst T at (texts_within place parts) in omega (arith, its.0, same)
-
 module _ {wish : Wish} {stored : Stored} {course : Course} (played : HasPlayedWhole wish stored course) where
   fed_by : (first later : List Round) (j : ℕ) → course.rounds ≡ first ++ later
       → greatest_slot first ≡ played.play.start + j → IsFed wish stored.film (stream_of played)
@@ -296,7 +289,11 @@ module _ {wish : Wish} {stored : Stored} {course : Course} (played : HasPlayedWh
         played = played.played;
         some_setup = played.setup_is.starts.0;
         some_played = played.played_is.starts.0;
-      }) (placed_texts 0 one) texts within (later_text film (0 + length (film_bytes one)) two same)
+      }) (placed_texts 0 one) texts within
+      (λ placed rest at.
+      let T : List PlacedText → Type 0 = λ l. IsFromTo (0 + length (film_bytes one))
+      (0 + length (film_bytes one) + length (film_bytes two)) l in
+      let its = subst T at (texts_within (0 + length (film_bytes one)) two) in omega (arith, its.0, same))
       (record { after = played.after; few = between.few }) in
       let C : ℕ → Type 0 = λ n. IsCounted (length x.first) (length x.second) film (length (framed_bytes x.blocks)) n in
       let here = subst C (sym bytes) counted in

@@ -121,76 +121,85 @@ record EventTaken (cur mid : Stage) (event : IoEvent) : Type 0 where
   elements : List Element
   goes : GoesAll opened elements mid
 
+-- an event, with what came before it and what comes after
+record Splitting (event : IoEvent) : Type 0 where
+  base : Stage
+  cur : Stage
+  mid : Stage
+  new : Stage
+  all : Exchange
+  front : FrontTaken base cur
+  taken : EventTaken cur mid event
+  later : Later mid new all
+
 -- bytes came
-module _ {base cur mid new : Stage} {all : Exchange} where
-  bytes_split : {bytes : List ℕ} (front : FrontTaken base cur) (taken : EventTaken cur mid (HeardBytes bytes))
-      → Later mid new all
-      → Split base new (joined (front_exchange front) (joined (elements_exchange bytes taken.elements) all))
-  bytes_split {bytes} front taken later =
-      let ps : List Element = taken.elements in
-      let before : GoesAll (longer base (first ++ bytes)) elements taken.opened =
-      rw (← (ap (λ input. stage base.session input) (append_assoc base.input first bytes))) (subst (GoesAll (longer (longer base first) bytes) elements) (sym taken.comes.3)
-      (goes_grow (longer base first) cur elements bytes goes)) in
-      let whole : GoesAll (longer base (first ++ bytes)) (elements ++ ps) mid =
-      join_goes (longer base (first ++ bytes)) (record {
-        old = taken.opened;
-        new = mid;
-        elements = ps;
-        leads = taken.goes;
-      }) elements before in
-      subst (Split base new)
-      (ap (λ x. joined x all) (elements_join first bytes elements ps)
-      ∙ joined_assoc (elements_exchange first elements) (elements_exchange bytes ps) all)
-      (later.each base (first ++ bytes) (elements ++ ps) whole)
-    where
-      open front use {bytes as first, elements, goes}
+bytes_split : {bytes : List ℕ} (s : Splitting (HeardBytes bytes))
+    → Split s.base s.new (joined (front_exchange s.front) (joined (elements_exchange bytes s.taken.elements) s.all))
+bytes_split {bytes} s =
+    let ps : List Element = taken.elements in
+    let before : GoesAll (longer base (first ++ bytes)) elements taken.opened =
+    rw (← (ap (λ input. stage base.session input) (append_assoc base.input first bytes))) (subst (GoesAll (longer (longer base first) bytes) elements) (sym taken.comes.3)
+    (goes_grow (longer base first) cur elements bytes goes)) in
+    let whole : GoesAll (longer base (first ++ bytes)) (elements ++ ps) mid =
+    join_goes (longer base (first ++ bytes)) (record {
+      old = taken.opened;
+      new = mid;
+      elements = ps;
+      leads = taken.goes;
+    }) elements before in
+    subst (Split base new)
+    (ap (λ x. joined x all) (elements_join first bytes elements ps)
+    ∙ joined_assoc (elements_exchange first elements) (elements_exchange bytes ps) all)
+    (later.each base (first ++ bytes) (elements ++ ps) whole)
+  where
+    open s use {base, cur, mid, new, all, front, taken, later}
+    open front use {bytes as first, elements, goes}
 
-  -- a slot came
-  slot_split : {slot : ℕ} (front : FrontTaken base cur) (taken : EventTaken cur mid (HeardSlot slot)) → IsDrained cur
-      → Later mid new all → Split base new
-      (joined (front_exchange front)
-      (joined (event_exchange (HeardSlot slot) taken.due taken.halt)
-      (joined (elements_exchange [] taken.elements) all)))
-  slot_split {slot = slot} front taken done later =
-      let there : GoesAll (longer opened []) taken.elements mid =
-      rw (← (ap (λ i. stage opened.session i) (sym (append-nil opened.input)))) taken.goes in
-      let rest = later.each opened [] taken.elements there in
-      let leg : Leg = record {
-        slot = slot;
-        due = due;
-        halt = halt;
-        opened = opened;
-        bytes = rest.first;
-        elements = rest.elements;
-        until = rest.until;
-      } in
-      record {
-        first = front.bytes;
-        elements = front.elements;
-        until = cur;
-        legs = leg ∷ rest.legs;
-        goes = front.goes;
-        done = done;
-        legs_are = (
-          record { stepped = taken.comes.1; input = taken.comes.0; goes = rest.goes; done = rest.done },
-          rest.legs_are,
-        );
-        all_is =
-            ap (λ x. joined (front_exchange front) (joined (event_exchange (HeardSlot slot) due halt) x)) rest.all_is;
-      }
-    where
-      open taken use {opened, due, halt}
+-- a slot came
+slot_split : {slot : ℕ} (s : Splitting (HeardSlot slot)) → IsDrained s.cur → Split s.base s.new
+    (joined (front_exchange s.front)
+    (joined (event_exchange (HeardSlot slot) s.taken.due s.taken.halt)
+    (joined (elements_exchange [] s.taken.elements) s.all)))
+slot_split {slot = slot} s done =
+    let there : GoesAll (longer opened []) taken.elements mid =
+    rw (← (ap (λ i. stage opened.session i) (sym (append-nil opened.input)))) taken.goes in
+    let rest = later.each opened [] taken.elements there in
+    let leg : Leg = record {
+      slot = slot;
+      due = due;
+      halt = halt;
+      opened = opened;
+      bytes = rest.first;
+      elements = rest.elements;
+      until = rest.until;
+    } in
+    record {
+      first = front.bytes;
+      elements = front.elements;
+      until = cur;
+      legs = leg ∷ rest.legs;
+      goes = front.goes;
+      done = done;
+      legs_are = (
+        record { stepped = taken.comes.1; input = taken.comes.0; goes = rest.goes; done = rest.done },
+        rest.legs_are,
+      );
+      all_is =
+          ap (λ x. joined (front_exchange front) (joined (event_exchange (HeardSlot slot) due halt) x)) rest.all_is;
+    }
+  where
+    open s use {cur, mid, front, taken, later}
+    open taken use {opened, due, halt}
 
-  event_split : {event : IoEvent} (front : FrontTaken base cur) (taken : EventTaken cur mid event) → IsDrained cur
-      → Later mid new all → Split base new
-      (joined (front_exchange front)
-      (joined (event_exchange event taken.due taken.halt) (joined (elements_exchange [] taken.elements) all)))
-  event_split {event = HeardBytes bytes} front taken done later =
-      let S : List SentPart → Outcome → Type 0 = λ ps o. Split base new (joined (front_exchange front)
-      (joined (event_exchange (HeardBytes bytes) ps o) (joined (elements_exchange [] taken.elements) all))) in
-      rw taken.comes.0 (subst (S []) (sym taken.comes.1) (bytes_split front taken later))
-  event_split {event = HeardSlot slot} front taken done later = slot_split front taken done later
-  event_split front taken done later = absurd taken.comes
+event_split : {event : IoEvent} (s : Splitting event) → IsDrained s.cur → Split s.base s.new
+    (joined (front_exchange s.front)
+    (joined (event_exchange event s.taken.due s.taken.halt) (joined (elements_exchange [] s.taken.elements) s.all)))
+event_split {event = HeardBytes bytes} s done =
+    let S : List SentPart → Outcome → Type 0 = λ ps o. Split s.base s.new (joined (front_exchange s.front)
+    (joined (event_exchange (HeardBytes bytes) ps o) (joined (elements_exchange [] s.taken.elements) s.all))) in
+    rw s.taken.comes.0 (subst (S []) (sym s.taken.comes.1) (bytes_split s))
+event_split {event = HeardSlot slot} s done = slot_split s done
+event_split s done = absurd s.taken.comes
 
 -- event after event
 abbrev rounds_exchange : (cur : Stage) (rounds : List Round) (new : Stage) → TakesUp cur rounds new → Exchange
@@ -247,7 +256,16 @@ rounds_split cur new (round ∷ rounds) takes done =
       each = λ base first elements goes.
           subst (Split base new)
           (ap (joined (elements_exchange first elements)) (round_exchange new round rounds takes path))
-          (event_split (record { bytes = first; elements = elements; goes = goes }) taken done later);
+          (event_split (record {
+            base = base;
+            cur = cur;
+            mid = mid;
+            new = new;
+            all = rounds_exchange mid rounds new takes.1.2;
+            front = record { bytes = first; elements = elements; goes = goes };
+            taken = taken;
+            later = later;
+          }) done);
     }
 
 -- ---- what was received has one split

@@ -136,7 +136,7 @@ slot_met : {bytes : List ℕ} {at : WatchStage} (s : WatchedStream) (slot : ℕ)
     IsFilmHeard (film_sizes s.stream.film) (picture_time s.stream.film.rate) at.history (cut_bytes at.rest)
     × IsBetween s.wish (film_sizes s.stream.film) (picture_time s.stream.film.rate) (place_in at.history slot)
     (bytes_received at.history + cut_bytes at.rest)
-slot_met {at} s slot front two fed read =
+slot_met {bytes} {at} s slot front two fed read =
     let h = at.history in
     let playing : 1 < replies h =
     ltb-true 1 (replies h)
@@ -145,7 +145,13 @@ slot_met {at} s slot front two fed read =
     (and_parts (nat_le (first_slot h) slot) (nat_lt (last_slot h) slot)
     (and_parts (is_playing h) (nat_le (first_slot h) slot && nat_lt (last_slot h) slot) read).1).0 in
     let first : first_slot h ≡ begin = two.begins playing in
-    let reading = reading_of front.heard (tells_none at.rest (Ok More) front.idle) front.front_is playing two.few in
+    let reading = reading_of (record {
+      bytes = bytes;
+      count = length bytes;
+      heard = front.heard;
+      none = tells_none at.rest (Ok More) front.idle;
+      is = front.front_is;
+    }) playing two.few in
     let its = heard_of stream front.heard.gone reading count in
     let between = (fed (omega (arith, there, first))).between reading.past in
     let P : ℕ → ℕ → Type 0 = λ place came. IsBetween wish (film_sizes film) (picture_time film.rate) place came in (

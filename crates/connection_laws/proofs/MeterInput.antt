@@ -201,12 +201,21 @@ module _ {at : WatchStage} where
     | inr after ↦ reading_past two after
   ]
 
-  -- the elements of what was received, as a sum
-  reading_sum : {bytes : List ℕ} (x : Stream) (c : ℕ) → Heard bytes at → ((n : ℕ) → IsElementLength at.rest n → ⊥)
-      → bytes ≡ take c (framed_bytes (all_of x))
-      → (sum_of at.history ≡ steps no_sum (events_of_elements (take (count_ended c (all_of x)) (all_of x))))
+-- what was received, of which no complete element waits, is so much of a stream
+pub record StreamHeard (x : Stream) (at : WatchStage) : Type 0 where
+  pub bytes : List ℕ
+  pub count : ℕ
+  pub heard : Heard bytes at
+  pub none : (n : ℕ) → IsElementLength at.rest n → ⊥
+  pub is : bytes ≡ take count (framed_bytes (all_of x))
+
+-- its elements, as a sum
+module _ {x : Stream} {at : WatchStage} (received : StreamHeard x at) where
+  open received use {bytes, count as c, heard, none, is}
+
+  reading_sum : (sum_of at.history ≡ steps no_sum (events_of_elements (take (count_ended c (all_of x)) (all_of x))))
       × (at.rest ≡ rest_at c (all_of x))
-  reading_sum {bytes} x c heard none is =
+  reading_sum =
       let all = all_of x in
       let P : List ℕ → Type 0 = λ b. IsStream b (take (count_ended c all) all) (rest_at c all) in
       let streams : TwoStreams bytes heard.elements (take (count_ended c all) all) at.rest (rest_at c all) =
@@ -214,43 +223,41 @@ module _ {at : WatchStage} where
       let once = stream_once streams in
       (heard.sum ∙ ap (λ l. steps no_sum (events_of_elements l)) once.0, once.1)
 
-pub reading_of : {x : Stream} {bytes : List ℕ} {c : ℕ} {at : WatchStage} → Heard bytes at
-    → ((n : ℕ) → IsElementLength at.rest n → ⊥)
-    → bytes ≡ take c (framed_bytes (all_of x)) → 1 < replies at.history → replies at.history ≤ 2 → IsReadingOf x c at
-reading_of {x} {bytes} {c} {at} heard none is playing few =
-    let all = all_of x in
-    let whole = reading_sum x c heard none is in
-    let after_first = x.second ∷ (x.blocks ++ x.later) in
-    elim (cases_lt c (length x.first)) [
-      | inl short ↦
-          let nothing = ap (λ n. steps no_sum (events_of_elements (take n all))) (count_less x.first after_first c
-          short) in
-          absurd (omega (arith, playing, ap (λ (z : Sum). z.replies) (whole.0 ∙ nothing)))
-      | inr long ↦
-          let c1 = c - length x.first in
-          let one = count_more x.first after_first c long in
-          let rest_one = rest_more x.first after_first c long in
-          elim (cases_lt c1 (length x.second)) [
-            | inl short ↦
-                let only : take (count_ended c all) all ≡ x.first ∷ [] =
-                ap (λ n. take n all) (one ∙ ap suc (count_less x.second (x.blocks ++ x.later) c1 short)) in
-                let single : steps no_sum (events_of_elements (x.first ∷ [])) ≡ steps no_sum (Reply x.first ∷ []) =
-                ap (λ l. steps no_sum (l ++ [])) x.first_is.moment in
-                absurd (omega (
-                  arith,
-                  playing,
-                  ap (λ (z : Sum). z.replies) (whole.0 ∙ (ap (λ l. steps no_sum (events_of_elements l)) only ∙ single)),
-                ))
-            | inr more ↦
-                let k = count_ended (film_place x c) (x.blocks ++ x.later) in
-                let two : take (count_ended c all) all ≡ x.first ∷ x.second ∷ take k (x.blocks ++ x.later) =
-                ap (λ n. take n all) (one ∙ ap suc (count_more x.second (x.blocks ++ x.later) c1 more)) in
-                reading_film {x = x} {c = c} (record {
-                  past = omega (arith, long, more);
-                  sum = whole.0 ∙ (ap (λ l. steps no_sum (events_of_elements l)) two
-                      ∙ two_moments x (take k (x.blocks ++ x.later)));
-                  rest = whole.1 ∙ (rest_one ∙ rest_more x.second (x.blocks ++ x.later) c1 more);
-                  few = few;
-                })
-          ]
-    ]
+  pub reading_of : 1 < replies at.history → replies at.history ≤ 2 → IsReadingOf x c at
+  reading_of playing few =
+      let all = all_of x in
+      let whole = reading_sum in
+      let after_first = x.second ∷ (x.blocks ++ x.later) in
+      elim (cases_lt c (length x.first)) [
+        | inl short ↦
+            let nothing = ap (λ n. steps no_sum (events_of_elements (take n all))) (count_less x.first after_first c
+            short) in
+            absurd (omega (arith, playing, ap (λ (z : Sum). z.replies) (whole.0 ∙ nothing)))
+        | inr long ↦
+            let c1 = c - length x.first in
+            let one = count_more x.first after_first c long in
+            let rest_one = rest_more x.first after_first c long in
+            elim (cases_lt c1 (length x.second)) [
+              | inl short ↦
+                  let only : take (count_ended c all) all ≡ x.first ∷ [] =
+                  ap (λ n. take n all) (one ∙ ap suc (count_less x.second (x.blocks ++ x.later) c1 short)) in
+                  let single : steps no_sum (events_of_elements (x.first ∷ [])) ≡ steps no_sum (Reply x.first ∷ []) =
+                  ap (λ l. steps no_sum (l ++ [])) x.first_is.moment in
+                  absurd (omega (
+                    arith,
+                    playing,
+                    ap (λ (z : Sum). z.replies) (whole.0 ∙ (ap (λ l. steps no_sum (events_of_elements l)) only ∙ single)),
+                  ))
+              | inr more ↦
+                  let k = count_ended (film_place x c) (x.blocks ++ x.later) in
+                  let two : take (count_ended c all) all ≡ x.first ∷ x.second ∷ take k (x.blocks ++ x.later) =
+                  ap (λ n. take n all) (one ∙ ap suc (count_more x.second (x.blocks ++ x.later) c1 more)) in
+                  reading_film {x = x} {c = c} (record {
+                    past = omega (arith, long, more);
+                    sum = whole.0 ∙ (ap (λ l. steps no_sum (events_of_elements l)) two
+                        ∙ two_moments x (take k (x.blocks ++ x.later)));
+                    rest = whole.1 ∙ (rest_one ∙ rest_more x.second (x.blocks ++ x.later) c1 more);
+                    few = few;
+                  })
+            ]
+      ]

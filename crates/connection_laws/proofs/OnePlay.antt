@@ -35,7 +35,8 @@ use Rattle.connection_laws.proofs.ClientSetups.{setup_is}
 use Rattle.session_laws.proofs.SetupLemmas.{IsSetupRequest}
 use Rattle.connection_laws.proofs.RequestEffects.{Begins, Ends, Starts, Stays, TurnsAs, turns_as}
 use Rattle.connection_laws.proofs.CompleteReplies.{AreTeardowns, AreWhole, admitted_from, answered_named, id_printed}
-use Rattle.connection_laws.proofs.CompleteReplies.{play_room, reply_whole, setup_room, TornFrom, torn_back, named_as}
+use Rattle.connection_laws.proofs.CompleteReplies.{play_room, setup_room, TornFrom, torn_back, named_as, own_reply}
+use Rattle.connection_laws.proofs.CompleteReplies.{IsOwnReply}
 use Rattle.connection_laws.proofs.FirstPlays.{IsWished, wished_play}
 use Rattle.connection_laws.proofs.FilmReplies.{IsFilmAnswer, IsPlayBegun as IsPlayBegunAt, play_begun as play_begun_at}
 use Rattle.connection_laws.specs.WatchEnds.{AreAnswers}
@@ -319,8 +320,8 @@ setup_walk {b} {out} taken one is =
     let reply : heard.ask ≡ Reply = (setup_asked request at is.waits).0 in
     let same : replied.answered ≡ heard.asking =
     reply_same heard.asking heard.ask outcome replied.answered reply heard.answered in
-    let whole = reply_whole heard reply
-    (replies_whole old.session message heard.ask heard.asking is.named (setup_room b at) heard.hears) in
+    let own = own_reply (answers_as heard.ask outcome heard.answered) (subst IsOwnReply (sym reply) tt) in
+    let whole = own.whole (replies_whole old.session message heard.ask heard.asking is.named (setup_room b at) heard.hears) in
     let read : IsSetupRead replied.answered.text =
     elim (setup_replied b request at) [
       | inl still ↦

@@ -56,7 +56,7 @@ pub record Carries (old : NotePart) (turns : List StationCall) (new : NotePart) 
 pub carries_none : (part : NotePart) → Carries part [] part
 carries_none part = record { on = λ later. append-nil (part.plays ++ open_note part.state later) }
 
-until_append : (ts us later : List StationCall) → notes_until (ts ++ us) later ≡ notes_until ts (us ++ later)
+pub until_append : (ts us later : List StationCall) → notes_until (ts ++ us) later ≡ notes_until ts (us ++ later)
     ++ notes_until us later
 until_append [] us later = refl
 until_append (t ∷ ts) us later =
@@ -64,16 +64,6 @@ until_append (t ∷ ts) us later =
     ∙ ap (λ ns. notes_of_calls t.asking t.outcome (ts ++ (us ++ later)) ++ ns) (until_append ts us later)
     ∙ sym (append_assoc (notes_of_calls t.asking t.outcome (ts ++ (us ++ later))) (notes_until ts (us ++ later))
     (notes_until us later))
-
-pub carries_then : {a b c : NotePart} {ts us : List StationCall} → Carries a ts b → Carries b us c
-    → Carries a (ts ++ us) c
-carries_then {a} {ts} {us} one two = record {
-  on = λ later.
-      ap (λ ns. (a.plays ++ open_note a.state ns) ++ notes_until (ts ++ us) later) (append_assoc ts us later)
-      ∙ ap (λ ns. (a.plays ++ open_note a.state (ts ++ (us ++ later))) ++ ns) (until_append ts us later)
-      ∙ sym (append_assoc (a.plays ++ open_note a.state (ts ++ (us ++ later))) (notes_until ts (us ++ later))
-      (notes_until us later)) ∙ ap (λ ns. ns ++ notes_until us later) (one.on (us ++ later)) ∙ two.on later;
-}
 
 -- the same notes, and the same play under way
 pub record HaveSameNotes (a b : NotePart) : Type 0 where

@@ -182,8 +182,9 @@ start_read slots some few =
     ∙ cond-true (nat_le 1 slots && nat_le slots (2 ^ 62 + 1)) (Some slots) None
     (ap (λ b. b && nat_le slots (2 ^ 62 + 1)) (le-leb 1 slots some) ∙ le-leb slots (2 ^ 62 + 1) few)
 
--- the numbers of a PLAY's reply, in their ranges
+-- the session and the numbers of a PLAY's reply, in their ranges
 pub record PlayNumbers : Type 0 where
+  pub id : List ℕ
   pub sequence : ℕ
   pub end_ms : ℕ
   pub slots : ℕ
@@ -192,14 +193,14 @@ pub record PlayNumbers : Type 0 where
   pub some : 1 ≤ slots
   pub few : slots ≤ 2 ^ 62 + 1
 
-named_read : {message id : List ℕ} (info : List ℕ) (numbers : PlayNumbers) → IsMessageLength message (length message) →
+named_read : {message : List ℕ} (info : List ℕ) (numbers : PlayNumbers) → IsMessageLength message (length message) →
     All IsPlain (all_fields (Some numbers.sequence)
-    (play_named id (codes "npt=0.000-" ++ seconds_text numbers.end_ms) info numbers.slots)) →
+    (play_named numbers.id (codes "npt=0.000-" ++ seconds_text numbers.end_ms) info numbers.slots)) →
     message ≡ reply_text 200 (Some numbers.sequence)
-    (play_named id (codes "npt=0.000-" ++ seconds_text numbers.end_ms) info numbers.slots) [] →
-    IsPlayRead message id numbers.sequence numbers.end_ms numbers.slots
+    (play_named numbers.id (codes "npt=0.000-" ++ seconds_text numbers.end_ms) info numbers.slots) [] →
+    IsPlayRead message numbers.id numbers.sequence numbers.end_ms numbers.slots
 unfolding reply_text value_named
-named_read {message} {id} info numbers size plain is =
+named_read {message} info numbers size plain is =
     let range = codes "npt=0.000-" ++ seconds_text end_ms in
     let fields = play_named id range info slots in
     let head = reply_front 200 (Some sequence) fields ++ codes "\r\n" in
@@ -222,7 +223,7 @@ named_read {message} {id} info numbers size plain is =
           (value (codes "x-Start")) ∙ start_read slots some few;
     }
   where
-    open numbers use {sequence, end_ms, slots, small, short, some, few}
+    open numbers use {id, sequence, end_ms, slots, small, short, some, few}
 
 -- no time before it
 zero_text : seconds_text 0 ≡ codes "0.000"
@@ -241,15 +242,15 @@ pub record StreamInfo : Type 0 where
   pub number : ℕ
   pub time : ℕ
 
-pub play_read : {message id : List ℕ} (stream_info : StreamInfo) (numbers : PlayNumbers) →
+pub play_read : {message : List ℕ} (stream_info : StreamInfo) (numbers : PlayNumbers) →
     IsMessageLength message (length message) → message ≡ play_text numbers.sequence
-    (play_fields id 0 numbers.end_ms stream_info.authority stream_info.name stream_info.number
+    (play_fields numbers.id 0 numbers.end_ms stream_info.authority stream_info.name stream_info.number
     stream_info.time) numbers.slots →
     All IsPlain (all_fields (Some numbers.sequence)
-    (play_fields id 0 numbers.end_ms stream_info.authority stream_info.name
+    (play_fields numbers.id 0 numbers.end_ms stream_info.authority stream_info.name
     stream_info.number stream_info.time ++ field (codes "x-Start") (decimal numbers.slots) ∷ [])) →
-    IsPlayRead message id numbers.sequence numbers.end_ms numbers.slots
-play_read {id} stream_info numbers size is plain =
+    IsPlayRead message numbers.id numbers.sequence numbers.end_ms numbers.slots
+play_read stream_info numbers size is plain =
     let info : List ℕ =
     joined_parts (codes "url=rtsp://" ∷ stream_info.authority ∷ codes "/" ∷ stream_info.name ∷ codes "/video;seq="
     ∷ decimal stream_info.number ∷ codes ";rtptime=" ∷ decimal stream_info.time ∷ []) in
@@ -257,7 +258,7 @@ play_read {id} stream_info numbers size is plain =
     named_read info numbers size (subst P (range_text end_ms) plain)
     (is ∙ ap (λ r. reply_text 200 (Some sequence) (play_named id r info slots) []) (range_text end_ms))
   where
-    open numbers use {sequence, end_ms, slots}
+    open numbers use {id, sequence, end_ms, slots}
 
 -- ---- the number of a film's units
 

@@ -92,12 +92,6 @@ begun_is {asked = asked} begins askings =
     ∙ ap (λ a. plays_admitted a begins.placed.entry.answer askings) begins.asked_is
     ∙ ap (λ a. plays_admitted (Play begins.prepared) a askings) begins.answer
 
-begun_sent : {plan : List Segment} {come : ToCome} (prepared : Prepared) (start : ℕ) (askings : List StationRequest)
-    → prepared.paced ≡ plan
-    → AreSent (play_for prepared start prepared.paced (kept_in askings (total_bytes prepared.paced)) ∷ plays_of askings)
-    come → AreSent (play_for prepared start plan (kept_in askings (total_bytes plan)) ∷ plays_of askings) come
-begun_sent prepared start askings same sent = rw (← same) sent
-
 pub turn_goes : {old new : SessionState} {asked : Awaited} {outcome : Outcome} → TurnsAs old asked outcome new
     → GoesTo (point (sends_in old.state) old.heard None) (point (sends_in new.state) old.heard (Some old.heard))
     (turn_piece asked outcome old.heard)
@@ -118,8 +112,9 @@ turn_goes {old} (Starts after begins) = record {
       rw begins.idle (record {
         from = (omega arith, there.from);
         later = rw made (record { starts = (begins.later, there.later.starts); begins = inl (omega arith, starts) });
-        stand = rw made (begun_sent begins.prepared begins.start askings begins.paced
-            (record { texts = there.stand.texts; film = there.stand.film }));
+        stand = rw made (subst (λ plan. AreSent (play_for begins.prepared begins.start plan
+            (kept_in askings (total_bytes plan)) ∷ plays_of askings) (record come { slots = old.heard ∷ come.slots }))
+            begins.paced (record { texts = there.stand.texts; film = there.stand.film }));
       });
 }
 turn_goes {old} {outcome = outcome} (Ends after halts) = record {

@@ -300,6 +300,7 @@ play_answer {message} p whole is =
     let info : StreamInfo = record { authority = p.authority; name = p.name; number = p.number; time = p.time } in
     let fields = play_fields p.id 0 p.end_ms p.authority p.name p.number p.time in
     let numbers : PlayNumbers = record {
+      id = p.id;
       sequence = 2;
       end_ms = p.end_ms;
       slots = p.slots;

@@ -9,14 +9,14 @@ use Rattle.film_streams.specs.declared.settings.Settings.{Settings}
 use Rattle.session.specs.RequestSteps.{new_session_state}
 use Rattle.conn.specs.Agreement.{Activity, HasDone}
 use Rattle.conn.specs.ConnectionService.{HasServedFrom}
-use Rattle.conn.specs.EventSteps.{Ending, Ends, AtElement, InReply, Round, RunsAll}
+use Rattle.conn.specs.EventSteps.{Ending, AtElement, InReply, Round, RunsAll}
 use Rattle.conn.specs.InputSteps.{Stage}
 use Rattle.conn.specs.Plays.{ending_rounds}
-use Rattle.conn.specs.declared.reports.ConnEnd.{ConnEnd}
 use Rattle.conn.specs.declared.reports.ConnReport.{ConnReport}
 use Rattle.connection_laws.specs.Courses.{Course, IsCourseBetween, first_stage}
 use Rattle.connection_laws.specs.ReportCourses.{IsCourseOf, activity_of}
 use Rattle.connection_laws.proofs.CourseInduction.{follows_all, follows_last}
+use Rattle.conn.proofs.ReplyContents.{CourseEnd}
 
 -- rounds up to the end, and where they lead
 record LeadsTo (old : Stage) (rounds : List Round) : Type 0 where
@@ -29,19 +29,19 @@ no_more old mid rounds runs = record {
   follows = subst (λ rs. IsCourseBetween old rs mid) (sym (append-nil rounds)) (follows_all old mid rounds runs);
 }
 
-up_to_end : (old mid : Stage) (rounds : List Round) (ending : Ending) (end : ConnEnd) (new : Stage) (count : ℕ)
-    → RunsAll old rounds mid → Ends mid count ending end new → LeadsTo old (rounds ++ ending_rounds ending)
-up_to_end old mid rounds (AtElement round) end new count runs ends =
-    record { last = new; follows = follows_last old rounds runs ends.0 }
-up_to_end old mid rounds (InReply round message outcome front) end new count runs ends =
-    record { last = ends.1.mid; follows = follows_last old rounds runs ends.1.runs }
-up_to_end old mid rounds _ end new count runs ends = no_more old mid rounds runs
+up_to_end : (old mid : Stage) (rounds : List Round) (ending : Ending) (ended : CourseEnd mid ending)
+    → RunsAll old rounds mid → LeadsTo old (rounds ++ ending_rounds ending)
+up_to_end old mid rounds (AtElement round) ended runs =
+    record { last = ended.new; follows = follows_last old rounds runs ended.ends.0 }
+up_to_end old mid rounds (InReply round message outcome front) ended runs =
+    record { last = ended.ends.1.mid; follows = follows_last old rounds runs ended.ends.1.runs }
+up_to_end old mid rounds _ ended runs = no_more old mid rounds runs
 
 pub course_of : (films : List Stored) (settings : Settings) (words : List ℕ) (doings : Activity) (report : ConnReport)
     → HasDone films settings words doings report → (course : Course) × IsCourseOf films settings words doings course
 course_of films settings words doings report done =
-    let all = up_to_end (first_stage films settings words) done.mid doings.rounds doings.ending report.end done.last
-    (length doings.rounds) done.runs done.ends in (
+    let all = up_to_end (first_stage films settings words) done.mid doings.rounds doings.ending
+    (record { count = length doings.rounds; end = report.end; new = done.last; ends = done.ends }) done.runs in (
       record {
         films = films;
         settings = settings;

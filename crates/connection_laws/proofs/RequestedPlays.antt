@@ -79,16 +79,16 @@ record AreOnceDue (play : FilmPlay) (now : ℕ) (slots : List ℕ) (texts : List
   messages : AreMessages texts
 
 -- they stand after it
-after_film : {play : FilmPlay} {now total : ℕ} (slots : List ℕ) (texts : List PlacedText) → total ≡ play.keep
-    → AreOnceDue play now slots texts → AreAfter total texts
-after_film slots [] total_is replies = tt
-after_film [] (placed ∷ texts) total_is replies = absurd replies.sent
-after_film {play} {now} {total} (slot ∷ slots) (placed ∷ texts) total_is replies =
+after_film : {play : FilmPlay} {now : ℕ} (slots : List ℕ) (texts : List PlacedText) → AreOnceDue play now slots texts
+    → AreAfter play.keep texts
+after_film slots [] replies = tt
+after_film [] (placed ∷ texts) replies = absurd replies.sent
+after_film {play} {now} (slot ∷ slots) (placed ∷ texts) replies =
     let after : due_by slot (play ∷ []) ≤ placed.place = replies.sent.0.next.after in
     let all : due_of slot play ≡ play.keep = replies.due.0 in
     let rest : AreOnceDue play now slots texts =
     record { due = replies.due.1; sent = replies.sent.1; messages = replies.messages.1 } in
-    (omega (arith, after, all, total_is), replies.messages.0, after_film slots texts total_is rest)
+    (omega (arith, after, all), replies.messages.0, after_film slots texts rest)
 
 -- two first replies, and the others after the film
 pub record AreTwoFirst (total : ℕ) (texts : List PlacedText) : Type 0 where
@@ -129,7 +129,7 @@ two_first {play} {now} {total} (one ∷ two ∷ slots) (first ∷ second ∷ lat
       texts_are = ap (λ t. t ∷ second ∷ later) at_first ∙ ap (λ t. placed_text 0 first.text ∷ t ∷ later) at_second;
       first_is = replies.messages.0;
       second_is = replies.messages.1.0;
-      after = after_film slots later replies.total_is rest;
+      after = subst (λ n. AreAfter n later) (sym replies.total_is) (after_film slots later rest);
     }
 
 abbrev pub beginning_of : {wish : Wish} {stored : Stored} {course : Course} → IsAskedFor wish stored course → Beginning

@@ -54,16 +54,6 @@ record Cuts (old new : Stage) (messages : List (List ℕ)) : Type 0 where
   cut : AreInputElements old.input elements new.input
   requests : requests_in elements ≡ messages
 
--- so many bytes are an element, and after it stands another stage
-record IsElementAt (old : Stage) (n : ℕ) (mid : Stage) : Type 0 where
-  length_is : IsElementLength old.input n
-  after : mid.input ≡ drop n old.input
-
-more_elements : {old mid : Stage} {n : ℕ} (new : Stage) (elements : List (List ℕ)) → IsElementAt old n mid
-    → AreInputElements mid.input elements new.input → AreInputElements old.input (take n old.input ∷ elements) new.input
-more_elements {n = n} new elements at rest =
-    (n, (at.length_is, refl, subst (λ input. AreInputElements input elements new.input) at.after rest))
-
 goes_cut : (old new : Stage) (elements : List Element) → GoesAll old elements new
     → Cuts old new (map message_of (elements_hearings elements))
 goes_cut old new [] goes = record { elements = []; cut = ap (λ (s : Stage). s.input) (sym goes); requests = refl }
@@ -73,12 +63,15 @@ goes_cut old new (Over n ∷ elements) goes =
     let passing = goes.1.0 in
     record {
       elements = take n old.input ∷ rest.elements;
-      cut = more_elements {old = old} {mid = mid} {n = n} new rest.elements
-          (record {
-            length_is = over_element old.input n passing.over;
-            after = ap (λ (s : Stage). s.input)
-                passing.new_is;
-          }) rest.cut;
+      cut = (
+        n,
+        (
+          over_element old.input n passing.over,
+          refl,
+          subst (λ input. AreInputElements input rest.elements new.input)
+              (ap (λ (s : Stage). s.input) passing.new_is) rest.cut,
+        ),
+      );
       requests = ap (λ b. if b then requests_in rest.elements else take n old.input ∷ requests_in rest.elements)
           (over_other old.input n passing.over) ∙ rest.requests;
     }
@@ -90,10 +83,15 @@ goes_cut old new (RequestElement turn ∷ elements) goes =
     let some : 0 < n = omega (arith, taken.next.first.1.total_is, taken.next.first.1.is_head.some) in
     record {
       elements = take n old.input ∷ rest.elements;
-      cut = more_elements {old = old} {mid = mid} {n = n} new rest.elements (record {
-        length_is = WholeMessage taken.next.first.0 taken.next.first.1 taken.next.first.2;
-        after = ap (λ (s : Stage). s.input) taken.new_is;
-      }) rest.cut;
+      cut = (
+        n,
+        (
+          WholeMessage taken.next.first.0 taken.next.first.1 taken.next.first.2,
+          refl,
+          subst (λ input. AreInputElements input rest.elements new.input)
+              (ap (λ (s : Stage). s.input) taken.new_is) rest.cut,
+        ),
+      );
       requests = ap (λ b. if b then requests_in rest.elements else take n old.input ∷ requests_in rest.elements)
           (starts_request old.input n taken.next.first.0 some) ∙ ap (λ rs. take n old.input ∷ rs) rest.requests
           ∙ ap (λ m. m ∷ map message_of (elements_hearings elements)) (sym taken.next.message_is);

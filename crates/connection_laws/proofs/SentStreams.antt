@@ -144,13 +144,22 @@ front_same film blocks n is =
           ∙ ap (λ l. take (length film) l) (sym (append-nil blocks)))
     ]
 
+-- bytes that are a prefix of these blocks
+pub record BlocksFront (film : List ℕ) : Type 0 where
+  pub blocks : List ℕ
+  pub count : ℕ
+  pub front_is : film ≡ take count blocks
+
 -- after the two first replies
-film_woven : {film : List ℕ} (blocks : List ℕ) (later : List PlacedText) (n : ℕ) → film ≡ take n blocks
-    → AreAfter (length blocks) later → IsFromTo 0 (length film) later
-    → IsFrontOf (insert_texts 0 film later) (blocks ++ framed_bytes (map text_of later))
-film_woven {film} blocks [] n is after within =
-    record { count = length film; is = front_same film blocks n is }
-film_woven {film} blocks (placed ∷ texts) n is after within =
+film_woven : {film : List ℕ} (front : BlocksFront film) (later : List PlacedText) → AreAfter (length front.blocks) later
+    → IsFromTo 0 (length film) later
+    → IsFrontOf (insert_texts 0 film later) (front.blocks ++ framed_bytes (map text_of later))
+film_woven {film} front [] after within =
+    record { count = length film; is = front_same film front.blocks front.count front.front_is }
+film_woven {film} front (placed ∷ texts) after within =
+    let blocks = front.blocks in
+    let n = front.count in
+    let is = front.front_is in
     let long : length blocks ≤ length film = omega (arith, after.0, within.1.0) in
     let size : length film ≡ min n (length blocks) = ap (λ (l : List ℕ). length l) is ∙ length-take n blocks in
     let whole : film ≡ blocks = is ∙ take_all n blocks (omega (arith, size, long)) in
@@ -168,18 +177,12 @@ film_woven {film} blocks (placed ∷ texts) n is after within =
           (blocks ++ framed_bytes (map text_of (placed ∷ texts))) (omega arith));
     }
 
--- bytes that are a prefix of these blocks
-pub record BlocksFront (film : List ℕ) : Type 0 where
-  pub blocks : List ℕ
-  pub count : ℕ
-  pub front_is : film ≡ take count blocks
-
 pub all_woven : {film : List ℕ} (front : BlocksFront film) (setup played : List ℕ) (later : List PlacedText) →
     AreAfter (length front.blocks) later → IsFromTo 0 (length film) later →
     IsFrontOf (insert_texts 0 film (placed_text 0 setup ∷ placed_text 0 played ∷ later))
     (setup ++ (played ++ (front.blocks ++ framed_bytes (map text_of later))))
 all_woven front setup played later after within =
-    let rest = film_woven blocks later n is after within in
+    let rest = film_woven front later after within in
     let all = blocks ++ framed_bytes (map text_of later) in
     let both : setup ++ (played ++ take rest.count all)
     ≡ take (length setup + (length played + rest.count)) (setup ++ (played ++ all)) =
@@ -187,7 +190,7 @@ all_woven front setup played later after within =
     ∙ sym (take-append-add setup (played ++ all) (length played + rest.count)) in
     record { count = length setup + (length played + rest.count); is = ap (λ l. setup ++ (played ++ l)) rest.is ∙ both }
   where
-    open front use {blocks, count as n, front_is as is}
+    open front use {blocks}
 
 -- ---- what the link exposed of rounds
 

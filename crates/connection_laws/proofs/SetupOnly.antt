@@ -14,7 +14,7 @@ use Rattle.connection_laws.proofs.CourseSteps.{Stands, request_turns, request_st
 use Rattle.connection_laws.proofs.CourseSteps.{first_stands}
 use Rattle.session_laws.proofs.PlayInReadyLemmas.{play_heard}
 use Rattle.connection_laws.proofs.BookedPlays.{comes_none}
-use Rattle.connection_laws.proofs.RequestEffects.{Begins, Ends, Starts, Stays, TurnsAs}
+use Rattle.connection_laws.proofs.RequestEffects.{Ends, Starts, Stays}
 use Rattle.connection_laws.proofs.StationAnswers.{nothing_left}
 use Rattle.std.proofs.lemmas.Bool.{true≢false}
 use Rattle.film_frames.specs.declared.stored_films.Stored.{Stored}
@@ -46,26 +46,19 @@ abbrev pub AreNoPlays : List (List ℕ) → Type 0
 AreNoPlays [] = ⊤
 AreNoPlays (message ∷ messages) = IsNoPlay message × AreNoPlays messages
 
--- what a request that was answered begins: nothing, or the play that it asked for
-turn_none : {old new : SessionState} (asked : Awaited) (outcome : Outcome)
-    → ((begins : Begins old asked outcome new) → ⊥) → TurnsAs old asked outcome new
-    → (askings : List StationRequest) → plays_begun asked outcome askings ≡ []
-turn_none asked outcome never (Stays same after still) = still.none
-turn_none asked outcome never (Starts after begins) = absurd (never begins)
-turn_none asked outcome never (Ends after halts) = halts.none
-
 pub no_play_begins : {old new : Stage} (request : AnsweredRequest old new) → Stands old.session
     → IsNoPlay request.message → (askings : List StationRequest)
     → plays_begun request.replied.heard.asking.awaited request.outcome askings ≡ []
-no_play_begins {old} request stands none =
-    let heard = replied.heard in
-    turn_none {old = old.session} {new = replied.answered} heard.asking.awaited outcome
-    (λ begins.
-    let its = play_heard old.session message heard.ask heard.asking begins.prepared stands.rest begins.asked_is
-    heard.hears in
-    none its.request its.is_request its.method) (request_turns request stands)
-  where
-    open request use {message, outcome, replied}
+no_play_begins {old} request stands none askings =
+    elim (request_turns request stands) [
+      | Stays same after still ↦ still.none askings
+      | Starts after begins ↦
+          let heard = request.replied.heard in
+          let its = play_heard old.session request.message heard.ask heard.asking begins.prepared stands.rest
+          begins.asked_is heard.hears in
+          absurd (none its.request its.is_request its.method)
+      | Ends after halts ↦ halts.none askings
+    ]
 
 -- where no request that comes asks for a play, no play begins
 abbrev pub NonePlayed : SessionState → Piece → Type 0

@@ -207,23 +207,6 @@ after_slot between (Some slot) = if between then None else Some slot
 due_most : (p : PacerState) (slot : ℕ) → IsPacerState p → due_by p slot ≤ p.keep
 due_most p slot is = omega (arith, is.due)
 
--- the first boundary from what was due on is reached
-module _ {p : PacerState} {taken heard : ℕ} where
-  next_reached : (slot : ℕ) → IsPacerState p → IsHeldUp p taken heard
-      → stands_at_boundary (after_step true slot p) ≡ true → IsAtNext (after_step true slot p)
-      (min (first_slots p.plan (taken + 1 - p.start)) p.keep)
-  next_reached slot is held stands =
-      let q : PacerState = after_step true slot p in
-      let next = boundary-from p.pieces (p.before + p.sent) (inside_of p is) in
-      record {
-        boundary = boundary_here q (stopped_is slot p is) stands;
-        after = omega (arith, held.due, next.after, is.sent);
-        least = λ place boundary from.
-            let past = held.none place boundary from in
-            let least = next.least place boundary (omega (arith, past)) in
-            omega (arith, least, next.after);
-      }
-
 -- a later slot of a play on time, with the reply that is held up, and whether it stands at a boundary after it
 pub record PlaySlot (waits between : Bool) (pending : Option ℕ) : Type 0 where
   pub p : PacerState
@@ -245,6 +228,23 @@ pub record AfterSlot {waits between : Bool} {pending : Option ℕ} (s : PlaySlot
       → due_of taken (play_with s.p keep) ≡ min (first_slots s.p.plan (taken + 1 - s.p.start)) s.p.keep
   pub after : AreLater s.slot plays
   pub stand : StandAt (play_with s.p keep) (due_by s.p s.slot) plays (pending_then (after_slot between pending) come)
+
+-- the first boundary from what was due on is reached
+next_reached : {taken : ℕ} (s : PlaySlot true true (Some taken)) → IsAtNext (after_step true s.slot s.p)
+    (min (first_slots s.p.plan (taken + 1 - s.p.start)) s.p.keep)
+next_reached s =
+    let is = on.pacing in
+    let next = boundary-from p.pieces (p.before + p.sent) (inside_of p is) in
+    record {
+      boundary = boundary_here (after_step true slot p) (stopped_is slot p is) stands;
+      after = omega (arith, held.1.due, next.after, is.sent);
+      least = λ place boundary from.
+          let past = held.1.none place boundary from in
+          let least = next.least place boundary (omega (arith, past)) in
+          omega (arith, least, next.after);
+    }
+  where
+    open s use {p, slot, on, stands, held}
 
 -- all that is due
 abbrev due_up : {waits between : Bool} {pending : Option ℕ} (s : PlaySlot waits between pending) → UpTo s.p
@@ -282,7 +282,7 @@ slot_at {waits = true} {between = true} {pending = Some taken} s next =
     (part_then (Film (plan_bytes q q.sent (step_end false (at_slot slot q)))) come) =
     rw last (film_at {p = q} {keep = keep}
     (record { to = due_by p slot; pacing = stopped_is slot p is; from = to; most = most }) stand) in
-    let at = next_reached slot is held.1 stands in
+    let at = next_reached s in
     let far : (sent_through slot p).sent ≤ first_slots p.plan (come.end + 1 - p.start) =
     due_far (sent_through slot p) slot come.end (through_time p heard slot on later) ends in
     let reply = text_at {p = q} {keep = keep} (record {

@@ -88,7 +88,8 @@ quits_done : {bytes : List ℕ} {at : WatchStage} {end : WatchEnd} (wish : Wish)
     → end ≡ Done (watched_in wish at.history)
 quits_done wish s heard place (AtFraming is fault first) = absurd (no_fault fault place first)
 quits_done {at = at} {end = end} wish s heard place (AtMoment moment next given) =
-    elim (moment_accepted wish s heard.elements (accepted_of heard) (next_in place next)) [
+    elim (moment_accepted (record { wish = wish; s = s; h = at.history; moment = moment }) heard.elements
+    (accepted_of heard) (next_in place next)) [
       | inl on ↦ absurd (gives-not-on wish at.history end moment given on)
       | inr gives ↦ gives-once wish at.history moment given gives
     ]
@@ -186,22 +187,6 @@ whole_stream {elements} {rest} all alone cut idle =
     no_more [] is after = sym (append-nil elements) ∙ sym is
     no_more (element ∷ more) is after = absurd (tells_none rest (Ok More) idle after.0 after.1.0)
 
--- a client doesn't wait for more after the last reply
-not_waiting : (mid : WatchStage) (rounds : List Round) (s : FilmStream) (last : List ℕ) (others : List (List ℕ))
-    → s.stream.x.later ≡ last ∷ others → RunsAll (stage [] []) rounds mid → rounds_heard rounds ≡ framed_bytes (all_of s.stream.x) → ⊥
-not_waiting mid rounds s last others later runs whole =
-    let x = s.stream.x in
-    let heard : Heard (rounds_heard rounds) mid = heard_all [] (stage [] []) mid rounds heard_none runs in
-    let idle : IsFirst mid.rest (Ok More) = runs_idle (stage [] []) mid rounds (inl refl) runs in
-    let cut : AreInputElements (framed_bytes (all_of x)) heard.elements mid.rest =
-    subst (λ b. AreInputElements b heard.elements mid.rest) whole heard.cut in
-    let elements = whole_stream (all_of x) x.alone cut idle in
-    let all : heard.elements ≡ x.first ∷ x.second ∷ (x.blocks ++ last ∷ others) =
-    elements ∙ ap (λ l. x.first ∷ x.second ∷ (x.blocks ++ l)) later in
-    let accepted = subst (λ l. HasAccepted l mid.history) all (accepted_of heard) in
-    let texts : AreTexts (last ∷ others) = subst AreTexts later x.later_are in
-    no_third x last others accepted texts.0.moment
-
 -- the reply to TEARDOWN was received, and all before it
 pub record IsReceivedWhole (s : FilmStream) (heard : List IoEvent) : Type 0 where
   pub last : List ℕ
@@ -210,6 +195,27 @@ pub record IsReceivedWhole (s : FilmStream) (heard : List IoEvent) : Type 0 wher
   pub received : IsReceived s heard
   pub whole : heard_bytes heard ≡ framed_bytes (all_of s.stream.x)
 
+-- a client doesn't wait for more after the last reply
+not_waiting : {wish : Wish} (s : FilmStream) (w : Watching wish) → IsReceivedWhole s w.heard
+    → rounds_heard w.client.rounds ≡ heard_bytes w.heard → ⊥
+not_waiting s w received all =
+    let x = s.stream.x in
+    let mid = w.client.mid in
+    let rounds = w.client.rounds in
+    let runs = w.client.runs in
+    let heard : Heard (rounds_heard rounds) mid = heard_all [] (stage [] []) mid rounds heard_none runs in
+    let idle : IsFirst mid.rest (Ok More) = runs_idle (stage [] []) mid rounds (inl refl) runs in
+    let cut : AreInputElements (framed_bytes (all_of x)) heard.elements mid.rest =
+    subst (λ b. AreInputElements b heard.elements mid.rest) (all ∙ received.whole) heard.cut in
+    let elements = whole_stream (all_of x) x.alone cut idle in
+    let are : heard.elements ≡ x.first ∷ x.second ∷ (x.blocks ++ last ∷ others) =
+    elements ∙ ap (λ l. x.first ∷ x.second ∷ (x.blocks ++ l)) later in
+    let accepted = subst (λ l. HasAccepted l mid.history) are (accepted_of heard) in
+    let texts : AreTexts (last ∷ others) = subst AreTexts later x.later_are in
+    no_third x last others accepted texts.0.moment
+  where
+    open received use {last, others, later}
+
 pub refuses_nothing : {wish : Wish} {s : FilmStream} (w : Watching wish) → IsReceived s w.heard → RefusesNothing w.end
 refuses_nothing w received = ended w received w.client.ends
 
@@ -217,8 +223,7 @@ pub comes_to_done : {wish : Wish} (s : FilmStream) (w : Watching wish) → IsRec
     → (watched : Watched) × (w.end ≡ Done watched)
 comes_to_done s w received decided =
     ended_done w received.received decided
-    (λ all. not_waiting w.client.mid w.client.rounds s received.last received.others received.later w.client.runs
-    (all ∙ received.whole)) w.client.ends
+    (λ all. not_waiting s w received all) w.client.ends
 
 -- an entire film that a course played, with the clauses on its frames
 pub record IsServed (wish : Wish) (stored : Stored) (course : Course) : Type 0 where

@@ -5,6 +5,7 @@ pub returns : goal.returns
 returns c = λ message id authority name sequence end_ms number time slots size is plain small short some few.
     play_read (record { authority = authority; name = name; number = number; time = time })
     (record {
+      id = id;
       sequence = sequence;
       end_ms = end_ms;
       slots = slots;
