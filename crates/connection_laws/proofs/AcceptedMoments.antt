@@ -31,7 +31,7 @@ use Rattle.rtsp_client.specs.WatchCourses.{IsNext}
 use Rattle.rtsp_client.specs.WholeFilms.{AwaitsFilm, frames_of_film}
 use Rattle.connection_laws.specs.WatchEnds.{AreAnswers, AreGoodReplies}
 use Rattle.connection_laws.proofs.ClientInput.{no_sum}
-use Rattle.connection_laws.proofs.ElementStreams.{AreAlone, no_element}
+use Rattle.connection_laws.proofs.ElementStreams.{AreAlone, no_element, FramedFront}
 use Rattle.connection_laws.proofs.FilmReading.{film_run, units_all, more_reply, WholeStream, run_from}
 use Rattle.connection_laws.proofs.FirstFrames.{HasGoneOn}
 use Rattle.connection_laws.proofs.HistorySums.{AreOneBlocks, Sum, blocks_same, steps, steps_on, sum_of}
@@ -67,12 +67,12 @@ pub none_more : (more : List (List ℕ)) (end : List ℕ) → AreInputElements [
 none_more [] end cut = (refl, cut)
 none_more (element ∷ more) end cut = absurd (no_element cut.0 cut.1.0)
 
-pub place_in : {bytes rest : List ℕ} {elements : List (List ℕ)} (all : List (List ℕ)) (count : ℕ) → AreAlone all
-    → AreInputElements bytes elements rest → bytes ≡ take count (framed_bytes all) → IsPlaceIn all elements rest
-place_in {bytes} {rest} {elements} all count alone cut is =
+pub place_in : {bytes rest : List ℕ} {elements all : List (List ℕ)} → FramedFront bytes all
+    → AreInputElements bytes elements rest → IsPlaceIn all elements rest
+place_in {bytes} {rest} {elements} {all} front cut =
     let tail = drop count (framed_bytes all) in
     let whole : bytes ++ tail ≡ framed_bytes all =
-    ap (λ b. b ++ tail) is ∙ take-append-drop count (framed_bytes all) in
+    ap (λ b. b ++ tail) front_is ∙ take-append-drop count (framed_bytes all) in
     let grown : AreInputElements (framed_bytes all) elements (rest ++ tail) =
     subst (λ w. AreInputElements w elements (rest ++ tail)) whole (cut_grows bytes tail elements rest cut) in
     let cuts : TwoCuts (framed_bytes all) elements all (rest ++ tail) [] =
@@ -88,6 +88,8 @@ place_in {bytes} {rest} {elements} all count alone cut is =
             cut = sym none.1;
           }
     ]
+  where
+    open front use {count, alone, front_is}
 
 -- what waits begins an element, or more comes
 starts_some : (w : List ℕ) (fault : DemuxFault) → IsFirst w (Err fault) → 0 < length w

@@ -15,13 +15,13 @@ use Rattle.film_streams.specs.declared.setups.Setup.{Setup}
 use Rattle.session.specs.declared.states.State.{State}
 use Rattle.session.specs.declared.states.State.TheVariants.{Playing, Stopping, Init, Ready}
 use Rattle.session.specs.SlotSteps.{can_reply, after_play, halted_in, is_between, is_sending, sent_due, sent_reply}
-use Rattle.session.specs.SlotSteps.{sent_slot, stepped_in, next_of, finished_in}
+use Rattle.session.specs.SlotSteps.{sent_slot, stepped_in, next_of, finished_in, after_slot}
 use Rattle.session.specs.SessionStates.{SessionState, AwaitedAnswer, NoAnswer, HaltAnswer, awaited_answer}
 use Rattle.session.specs.SessionStates.{awaited_answer_of}
 use Rattle.conn.specs.Films.{rounds_film, rounds_parts, round_parts, takings_parts}
 use Rattle.conn.specs.EventSteps.{Round, Runs}
 use Rattle.conn.specs.InputSteps.{Outcome, Unasked, Entered, SentPart, Stage, after_reply, film_bytes, Text}
-use Rattle.conn.specs.InputSteps.{reply_parts}
+use Rattle.conn.specs.InputSteps.{reply_parts, slot_parts}
 use Rattle.connection_laws.specs.Courses.{IsCourseBetween, askings_of, first_stage, greatest_slot, Course, course_plays}
 use Rattle.connection_laws.specs.Courses.{course_film}
 use Rattle.connection_laws.specs.Plays.{StationRequest, Asks, plays_admitted, plays_begun, kept_by, kept_in, kept_with}
@@ -359,23 +359,21 @@ slot_move {old} {slot = slot} stands (SlotIdle none later) =
     }
 slot_move stands SlotPast = record { after = stands.paced; goes_on = goes_same (point_of stands.paced) }
 
-slot_step : {old s new : SessionState} {slot : ℕ} {parts : List SentPart} {halt : Outcome} (stands : Stands old)
-    → SlotTo old slot s parts → FinishesAs s (awaited_answer s) halt new
-    → Step stands new (record (asked_piece (Asks s.awaited halt)) { parts = parts })
-slot_step {s = s} {new} {parts = parts} {halt} stands to finishing =
-    let first = slot_move stands to in
-    let finished = finish_by (slot_asks to stands.rest) refl finishing in
-    let next = finish_move first.after finished in
-    record {
-      rest = finish_rest finished;
-      move = subst (λ ps. Move stands.paced new (record (asked_piece (Asks s.awaited halt)) { parts = ps }))
-          (append-nil parts) (record { after = next.after; goes_on = goes_then first.goes_on next.goes_on });
-    }
-
 pub event_step : {old opened : Stage} {round : Round} (stands : Stands old.session) → ComesAs old round opened
     → Step stands opened.session (event_piece old.session round)
 event_step stands BytesCame = record { rest = stands.rest; move = quiet_move stands.paced Nothing refl }
-event_step {old} stands (SlotCame {slot = slot} finish) = slot_step stands (slot_to old.session slot) finish
+event_step {old} {opened} stands (SlotCame {slot = slot} {halt = halt} finish) =
+    let to = slot_to old.session slot in
+    let parts = slot_parts old.session slot in
+    let asked : Piece = asked_piece (Asks (after_slot old.session slot).awaited halt) in
+    let first = slot_move stands to in
+    let finished = finish_by (slot_asks to stands.rest) refl finish in
+    let next = finish_move first.after finished in
+    record {
+      rest = finish_rest finished;
+      move = subst (λ ps. Move stands.paced opened.session (record asked { parts = ps })) (append-nil parts)
+          (record { after = next.after; goes_on = goes_then first.goes_on next.goes_on });
+    }
 
 -- ---- all that a connection does
 

@@ -95,27 +95,27 @@ all_blocks {bs = b ∷ bs} {ps = y ∷ ys} {m} later reply_then silent are texts
     open silent use {sum as s, same}
 
 -- with the two first replies before them
-all_elements : {ps : List (List ℕ)} {m : List ℕ} (x : Stream) (p : List ℕ) (tail : List (List ℕ))
-    → element_events p ≡ Reply m ∷ [] → all_of x ≡ ps ++ p ∷ tail → (steps no_sum (events_of_elements ps)).replies ≡ 2
+all_elements : {ps : List (List ℕ)} {m : List ℕ} (x : Stream) (reply_then : ReplyThen m)
+    → all_of x ≡ ps ++ reply_then.block ∷ reply_then.rest → (steps no_sum (events_of_elements ps)).replies ≡ 2
     → ps ≡ x.first ∷ x.second ∷ x.blocks
-all_elements {ps = []} {m} x p tail reply all two = absurd (omega (arith, two))
-all_elements {ps = a ∷ []} {m} x p tail reply all two =
+all_elements {ps = []} {m} x reply_then all two = absurd (omega (arith, two))
+all_elements {ps = a ∷ []} {m} x reply_then all two =
     let first : x.first ≡ a = cc in
     let P : List ℕ → Type 0 = λ q. element_events q ≡ Reply q ∷ [] in
     let one : steps no_sum (events_of_elements (a ∷ [])) ≡ steps no_sum (Reply a ∷ []) =
     ap (λ l. steps no_sum (l ++ [])) (subst P first x.first_is.moment) in
     absurd (omega (arith, two, ap (λ (s : Sum). s.replies) one))
-all_elements {ps = a ∷ b ∷ ps} {m} x p tail reply all two =
+all_elements {ps = a ∷ b ∷ ps} {m} x reply_then all two =
     let first : x.first ≡ a = cc in
     let second : x.second ≡ b = cc in
-    let rest : ps ++ p ∷ tail ≡ x.blocks ++ x.later = cc in
+    let rest : ps ++ reply_then.block ∷ reply_then.rest ≡ x.blocks ++ x.later = cc in
     let P : List ℕ → List ℕ → Type 0 = λ q r. (steps no_sum (events_of_elements (q ∷ r ∷ ps))).replies ≡ 2 in
     let there : (steps no_sum (events_of_elements (x.first ∷ x.second ∷ ps))).replies ≡ 2 =
     subst (λ r. P x.first r) (sym second) (subst (λ q. P q b) (sym first) two) in
     let same : (steps (begun_sum x) (events_of_elements ps)).replies ≡ 2 =
     sym (ap (λ (s : Sum). s.replies) (two_moments x ps)) ∙ there in
     ap (λ q. q ∷ b ∷ ps) (sym first) ∙ (ap (λ r. x.first ∷ r ∷ ps) (sym second)
-    ∙ ap (λ l. x.first ∷ x.second ∷ l) (all_blocks x.later (record { block = p; rest = tail; reply = reply })
+    ∙ ap (λ l. x.first ∷ x.second ∷ l) (all_blocks x.later reply_then
     (record { sum = begun_sum x; same = same }) x.blocks_are x.later_are rest))
 
 pub done_sum : {wish : Wish} {watched : Watched} {bytes out : List ℕ} (x : Stream) (c : ℕ)
@@ -135,7 +135,7 @@ done_sum {out} x c done is =
     ∙ append_assoc done.heard.elements (p ∷ []) tail)) in
     let two : (steps no_sum (events_of_elements done.heard.elements)).replies ≡ 2 =
     sym (ap (λ (s : Sum). s.replies) done.heard.sum) ∙ done.replies_are in
-    let are = all_elements x p tail done.moment whole two in
+    let are = all_elements x (record { block = p; rest = tail; reply = done.moment }) whole two in
     done.heard.sum ∙ (ap (λ l. steps no_sum (events_of_elements l)) are ∙ two_moments x x.blocks)
 
 abbrev pub film_run : Film → Identity → FramedRun

@@ -1,7 +1,6 @@
 -- The play that a client's PLAY begins after its SETUP: of the entire film, by the plan for the client for whom the
 -- session was set up.
-use Rattle.std.proofs.Common.{◌≡◌, ℕ, [], List, refl, ap, subst, ◌∙◌, arith, ◌≤◌, Option, Some, None, codes}
-use Rattle.std.proofs.Common.{string_bytes, sym}
+use Rattle.std.proofs.Common.{◌≡◌, ℕ, [], List, refl, ap, subst, ◌∙◌, arith, ◌≤◌, Some, None, codes, string_bytes, sym}
 use Rattle.std.proofs.lemmas.List.{length-map}
 use Rattle.mpeg_scan.specs.StartCodes.{read_after}
 use Rattle.mpeg_scan.proofs.FilmBoundLemmas.{film-rate}
@@ -111,13 +110,9 @@ some_time stored =
     (time_bounds film.rate (omega (arith, film.grammar.rate, rate.0)) (omega (arith, film.grammar.rate, rate.1))).0
 
 -- a play from `npt=0-` on, in a session that has played nothing, is planned for the entire film
-pub planned_whole : {old : SessionState} {stored : Stored} {setup : Setup} {paused : Option Run}
-    {range : Option (List ℕ)} {planned : Planned} → IsPlannedRun old stored setup paused range planned
-    → paused ≡ None → range ≡ Some (codes "npt=0-") → planned.run ≡ whole_run stored
-planned_whole {old} {stored} {setup} {range = range} {planned = planned} is none whole =
-    let P : Option Run → Option (List ℕ) → Type 0 = λ p r. IsPlannedRun old stored setup p r planned in
-    let its = subst (P None) whole (subst (λ p. P p range) none is) in
-    its.run_is ∙ asked-whole stored its.wanted (some_time stored) its.asked
+pub planned_whole : {old : SessionState} {stored : Stored} {setup : Setup} {planned : Planned}
+    → IsPlannedRun old stored setup None (Some (codes "npt=0-")) planned → planned.run ≡ whole_run stored
+planned_whole {stored = stored} is = is.run_is ∙ asked-whole stored is.wanted (some_time stored) is.asked
 
 -- a session planned a run for the client, which is the entire film
 record IsPlannedFor (b : Beginning) (settings : Settings) (stored : Stored) (setup : Setup) (planned : Planned)
@@ -151,7 +146,7 @@ module _ {b : Beginning} where
       record {
         settled = begun.1;
         slot_units = ap (λ (s : Settings). s.slot_units) waits.settings_are ∙ b.slot_units;
-        run_is = planned_whole heard.planned_is begun.0 range;
+        run_is = planned_whole (rw (begun.0, range) at heard.planned_is);
         sending = record { can_play = heard.planned_is.can_play; plan_is = heard.planned_is.plan_is };
       }
 

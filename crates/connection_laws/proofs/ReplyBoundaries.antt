@@ -364,6 +364,21 @@ as_going : (p : PacerState) (heard : ℕ) (pending : Option ℕ) → IsHeld pend
 as_going p heard None held = held
 as_going p heard (Some taken) held = held
 
+-- the slot of the play that is being sent
+abbrev play_slot : {state : State} {waits : Bool} (start : SlotStart state waits) (p : PacerState) → IsOnTime p start.heard
+    → IsHeld start.pending (Going p) waits start.heard
+    → PlaySlot waits (stands_at_boundary (after_step true start.slot p)) start.pending
+play_slot start p on held = record {
+  p = p;
+  heard = start.heard;
+  slot = start.slot;
+  text = start.text;
+  on = on;
+  later = start.later;
+  stands = refl;
+  held = held;
+}
+
 -- what is being sent
 pub slot_moves : {waits : Bool} (state : State) (start : SlotStart state waits) → is_sending state ≡ true
     → SlotMoves start
@@ -379,16 +394,7 @@ slot_moves {waits} (Playing setup play) start sending =
       front = one;
       plain = after_step false slot p;
     }) ∙ ap Going (slot_is waits between slot p sound.0.pacing refl) in
-    let s : PlaySlot waits between pending = record {
-      p = p;
-      heard = heard;
-      slot = slot;
-      text = text;
-      on = sound.0;
-      later = later;
-      stands = refl;
-      held = held;
-    } in
+    let s : PlaySlot waits between pending = play_slot start p sound.0 held in
     record {
       after = after_slot between pending;
       sound = rw sends (through_time p heard slot sound.0 later, sound.1);
@@ -396,7 +402,7 @@ slot_moves {waits} (Playing setup play) start sending =
       goes_on = rw sends (going_goes s sound.1);
     }
   where
-    open start use {heard, slot, text, pending, sound, held, later}
+    open start use {heard, slot, pending, sound, held, later}
 slot_moves {waits = false} (Stopping setup stop) start sending = absurd (true≢false (sym start.sound.1))
 slot_moves {waits = true} (Stopping setup stop) start sending =
     let p : PacerState = stop.pacer in
@@ -404,16 +410,7 @@ slot_moves {waits = true} (Stopping setup stop) start sending =
     let between : Bool = stands_at_boundary one in
     let sends : sends_in (state_after true (Stopping setup stop) slot) ≡ ends_in between (sent_through slot p) =
     ending_cases between setup stop (after_step false slot one) one ∙ ends_same between slot p sound.0.pacing refl in
-    let s : PlaySlot true between pending = record {
-      p = p;
-      heard = heard;
-      slot = slot;
-      text = text;
-      on = sound.0;
-      later = later;
-      stands = refl;
-      held = as_going p heard pending held;
-    } in
+    let s : PlaySlot true between pending = play_slot start p sound.0 (as_going p heard pending held) in
     record {
       after = after_slot between pending;
       sound = rw sends (ending_sound s sound.2);
@@ -421,5 +418,5 @@ slot_moves {waits = true} (Stopping setup stop) start sending =
       goes_on = rw sends (ending_goes s sound.2);
     }
   where
-    open start use {heard, slot, text, pending, sound, held, later}
+    open start use {heard, slot, pending, sound, held, later}
 slot_moves _ start sending = absurd (true≢false (sym sending))

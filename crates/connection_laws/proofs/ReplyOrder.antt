@@ -9,18 +9,17 @@ use Rattle.conn.specs.Films.{round_parts, rounds_parts, takings_parts}
 use Rattle.conn.specs.EventSteps.{Round, takings_bytes}
 use Rattle.connection_laws.specs.Courses.{rounds_bytes, Course, course_film}
 use Rattle.conn.specs.InputSteps.{Answered, Film, SentPart, Passed, Stage, ElementStep, Text, film_bytes, part_bytes}
-use Rattle.conn.specs.InputSteps.{parts_bytes, Outcome, due_parts}
+use Rattle.conn.specs.InputSteps.{parts_bytes, Outcome, due_parts, slot_parts}
 use Rattle.connection_laws.specs.Replies.{PlacedText, placed_texts, insert_texts, text_of, waiting_reply, course_texts}
 use Rattle.connection_laws.specs.Replies.{course_replies}
-use Rattle.session.specs.declared.states.Awaited.TheVariants.{Nothing}
 use Rattle.session.specs.RequestSteps.{is_answered}
 use Rattle.session.specs.SlotSteps.{can_reply, is_between, sent_due, sent_reply, step_bytes, stepped_in, next_of}
-use Rattle.session.specs.SessionStates.{SessionState, awaited_answer}
+use Rattle.session.specs.SessionStates.{SessionState}
 use Rattle.connection_laws.proofs.CourseSteps.{Stands, turn_after, IsKeptStanding, film_written_is, request_turns}
 use Rattle.connection_laws.proofs.CourseSteps.{all_kept, slot_asks, film_sent, Finished, Quiet, Ended, finish_by}
 use Rattle.connection_laws.proofs.StationAnswers.{SlotTo, SlotSent, SlotIdle, SlotPast, slot_to}
 use Rattle.connection_laws.proofs.CourseInduction.{Piece, AnsweredRequest, begin_of}
-use Rattle.conn.proofs.StationAnswers.{FinishesAs, ComesAs, BytesCame, SlotCame}
+use Rattle.conn.proofs.StationAnswers.{ComesAs, BytesCame, SlotCame}
 
 -- the first text stands at or after a place
 abbrev IsFrom : ℕ → List PlacedText → Type 0
@@ -174,17 +173,14 @@ sent_texts {old} {slot = slot} (SlotSent sending later) =
 sent_texts (SlotIdle none later) = refl
 sent_texts SlotPast = refl
 
-slot_replies : {old s new : SessionState} {slot : ℕ} {parts : List SentPart} {halt : Outcome} → old.awaited ≡ Nothing
-    → SlotTo old slot s parts → FinishesAs s (awaited_answer s) halt new → Replies old (texts_in parts) [] new
-slot_replies {old} {parts = parts} rest to finishing =
-    ap (λ ts. texts_in parts ++ ts) (finished_waiting (finish_by (slot_asks to rest) refl finishing)) ∙ sent_texts to
-    ∙ sym (append-nil (waiting_reply old))
-
 comes_replies : {old opened : Stage} {round : Round} → ComesAs old round opened → Stands old.session
     → Replies old.session (texts_in round.due) [] opened.session
 comes_replies {old} BytesCame stands = waiting_same old.session old.session refl
 comes_replies {old} (SlotCame {slot = slot} finish) stands =
-    slot_replies stands.rest (slot_to old.session slot) finish
+    let to = slot_to old.session slot in
+    let finished = finish_by (slot_asks to stands.rest) refl finish in
+    ap (λ ts. texts_in (slot_parts old.session slot) ++ ts) (finished_waiting finished) ∙ sent_texts to
+    ∙ sym (append-nil (waiting_reply old.session))
 
 abbrev RepliesOn : SessionState → Piece → SessionState → Type 0
 RepliesOn old piece new = Replies old (texts_in piece.parts) piece.replies new

@@ -170,7 +170,7 @@ module _ {message : List ℕ} (b : Beginning) (old : SessionState) (ask : Ask) (
       let setup = told.setup in
       let begun = subst (IsUnbegun b.wish b.films) told.ready waits.unbegun in
       let run : told.planned.run ≡ whole_run stored =
-      planned_whole told.planned_is begun.0 (range_is b.wish b.session b.wished b.port b.session_is) in
+      planned_whole (rw (begun.0, range_is b.wish b.session b.wished b.port b.session_is) at told.planned_is) in
       let number = first_number old stored setup told.planned in
       let time = timestamp_at stored.film old.source told.planned.run.from_unit in
       let F : ℕ → ℕ → List ℕ = λ from to.

@@ -70,12 +70,13 @@ pub record HasWatchedAll (wish : Wish) (watched : Watched) (rounds : List Round)
   pub elements : List (List ℕ)
   pub history : done.at.history ≡ history_after mid.history (events_of_elements elements)
 
-all_watched : {wish : Wish} {watched : Watched} {rounds : List Round} {mid : WatchStage} {last sent bytes out : List ℕ}
-    → RunsAll (stage [] []) rounds mid
-    → (stops : StopsAt wish (stage mid.history (mid.rest ++ bytes)) (Done watched) sent last)
-    → out ≡ payloads_of (events_of_rounds rounds) ++ last → HasWatchedAll wish watched rounds mid bytes out
-all_watched {wish} {watched} {rounds} {mid} {last} {bytes} {out} runs stops out_is =
+all_watched : {wish : Wish} {watched : Watched} {heard : List IoEvent} {out : List ℕ}
+    (client : HasCourse wish (Done watched) (Some []) (Some heard) (Some []) (Some out))
+    (end : IsEnd wish watched client.mid client.last_doings client.last_out)
+    → HasWatchedAll wish watched client.rounds client.mid end.0 out
+all_watched {wish} {watched} {out = out} client (bytes, (sent, (stops, doings_are))) =
     let moments = events_of_rounds rounds in
+    let out_is : out ≡ payloads_of moments ++ client.last_out = let e = client.out in cc in
     let at = stage (history_after mid.history (events_of_elements stops.elements)) stops.mid in
     let heard : Heard (rounds_heard rounds) mid = heard_all [] (stage [] []) mid rounds heard_none runs in
     let h : Heard (rounds_heard rounds ++ bytes) at = heard_more bytes stops.elements heard stops.cut stops.good in
@@ -90,6 +91,8 @@ all_watched {wish} {watched} {rounds} {mid} {last} {bytes} {out} runs stops out_
     ∙ sym (flat_map-append payload_of moments (events_of_elements stops.elements))) in
     let done = at_done (moments ++ events_of_elements stops.elements) h given.next given.gives told all_out in
     record { done = done.0; elements = stops.elements; history = ap (λ (s : WatchStage). s.history) done.1 }
+  where
+    open client use {rounds, mid, runs}
 
 -- ---- the promise
 
@@ -235,11 +238,10 @@ told_course wish watched heard out client =
     let doings = rounds_doings wish [] client.rounds in
     let end = end_of client.mid client.ends in
     let told : heard ≡ setup ++ (doings ++ client.last_doings) = let e = client.told in cc in
-    let out_is : out ≡ payloads_of (events_of_rounds client.rounds) ++ client.last_out = let e = client.out in cc in
     let last : heard_bytes client.last_doings ≡ end.0 = last_bytes end.0 end.1.0 end.1.1.1 in
     record {
       bytes = end.0;
-      all = all_watched client.runs end.1.1.0 out_is;
+      all = all_watched client end;
       heard_is = told_bytes client ∙ ap (λ l. rounds_heard client.rounds ++ l) last;
       split = λ before later round is.
           let its = split_at wish [] before later round in

@@ -125,7 +125,7 @@ stopped_done {wish} {s} w received stopped decided =
     (heard_all [] (stage [] []) mid rounds heard_none w.client.runs) stops.cut stops.good in
     let at = stage (history_after mid.history (events_of_elements stops.elements)) stops.mid in
     let place : IsPlaceIn (all_of s.stream.x) heard.elements at.rest =
-    place_in (all_of s.stream.x) received.count s.stream.x.alone heard.cut front in
+    place_in (record { count = received.count; alone = s.stream.x.alone; front_is = front }) heard.cut in
     (watched_in wish at.history, quits_done wish s heard place (stops-quit decided stops).quits)
   where
     open stopped use {bytes, sent, stops, doings}
