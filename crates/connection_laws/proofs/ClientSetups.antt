@@ -36,6 +36,7 @@ use Rattle.film_streams.specs.Films.{IsFilmAt, Names}
 use Rattle.vod_base.specs.Limits.{WritesNumber}
 use Rattle.film_streams.specs.Setups.{AreChannelsOf, AsksForSetup, IsChosen}
 use Rattle.session_laws.proofs.SetupLemmas.{IsSetupRequest}
+use Rattle.film_streams.specs.declared.stream_numbers.StreamSource.{StreamSource}
 
 -- ---- the film that a URL names
 
@@ -98,9 +99,21 @@ url_parts wish tail =
     (append_assoc (decimal wish.port) (codes "/" ++ string_bytes wish.name) tail) ∙ ap (λ l. codes "rtsp://" ++ l)
     (sym (append_assoc (codes "127.0.0.1:") (decimal wish.port) (47 ∷ (string_bytes wish.name ++ tail))))
 
-pub url_name : {authority name : List ℕ} (wish : Wish) (tail : List ℕ) → IsWish wish → wish.port < 2 ^ 16 → IsTail tail
-    → IsRead (film_url wish ++ tail) authority (Some name) → name ≡ string_bytes wish.name
-url_name {authority} {name} wish tail is port is_tail url_read =
+-- what a course begins with, and what it is asked for
+pub record Beginning : Type 0 where
+  pub wish : Wish
+  pub films : List Stored
+  pub settings : Settings
+  pub session : List ℕ
+  pub source : StreamSource
+  pub wished : IsWish wish
+  pub port : wish.port < 2 ^ 16
+  pub session_is : IsSessionId session
+  pub slot_units : settings.slot_units ≡ wish.slot_units
+
+url_name : {authority name : List ℕ} (b : Beginning) (tail : List ℕ) → IsTail tail
+    → IsRead (film_url b.wish ++ tail) authority (Some name) → name ≡ string_bytes b.wish.name
+url_name {authority} {name} b tail is_tail url_read =
     let small : wish.port < 2 ^ 64 = omega (arith, port) in
     let rest = string_bytes wish.name ++ tail in
     let front = codes "rtsp://" ++ authority_of wish.port in
@@ -123,7 +136,9 @@ url_name {authority} {name} wish tail is port is_tail url_read =
     let N : ℕ → Type 0 = λ k. NamesFilm (slice_range url k (length url)) name in
     let M : List ℕ → Type 0 = λ p. NamesFilm p name in
     name_once (47 ∷ rest) name (string_bytes wish.name) (subst M path (subst N at its.name_is))
-    (film_path (string_bytes wish.name) tail is.name is_tail)
+    (film_path (string_bytes wish.name) tail wished.name is_tail)
+  where
+    open b use {wish, wished, port}
 
 -- ---- SETUP
 
@@ -153,18 +168,16 @@ chosen_is : {least most number : ℕ} (written : ℕ) → WritesNumber least mos
 chosen_is {number = number} written is small =
     same_Some number written (sym is.is_number ∙ decimal_read written small)
 
-pub setup_is : (wish : Wish) → IsWish wish → wish.port < 2 ^ 16
-    → IsSetupRequest (setup_text wish) (film_url wish ++ codes "/video") (request_head (setup_parts wish))
-setup_is wish is port =
-    let asked = setup-asked wish is port in
-    record { sequence = 1; body = []; read = asked.read }
+pub setup_is : (b : Beginning)
+    → IsSetupRequest (setup_text b.wish) (film_url b.wish ++ codes "/video") (request_head (setup_parts b.wish))
+setup_is b = record { sequence = 1; body = []; read = (setup-asked b.wish b.wished b.port).read }
 
-pub settled_by : {films : List Stored} {settings : Settings} {setup : Setup} {authority : List ℕ} (wish : Wish)
-    → IsWish wish → wish.port < 2 ^ 16 → AsksForSetup settings (request_head (setup_parts wish)) setup.film setup
-    → Names films (film_url wish ++ codes "/video") authority setup.film → IsSettled wish films setup
+pub settled_by : {films : List Stored} {settings : Settings} {setup : Setup} {authority : List ℕ} (b : Beginning)
+    → AsksForSetup settings (request_head (setup_parts b.wish)) setup.film setup
+    → Names films (film_url b.wish ++ codes "/video") authority setup.film → IsSettled b.wish films setup
 unfolding value_named
-settled_by {films} {settings} {setup} wish is port asks names =
-    let values = (setup-asked wish is port).values in
+settled_by {films} {settings} {setup} b asks names =
+    let values = (setup-asked wish wished port).values in
     let C : Option (List ℕ) → Type 0 = λ v. AreChannelsOf v (record { media = setup.media; control = setup.control }) in
     let B : Option (List ℕ) → Type 0 = λ v. IsChosen v settings.buffer 1 (2 ^ 42) setup.buffer in
     let D : Option (List ℕ) → Type 0 = λ v. IsChosen v settings.startup 0 10000 setup.delay in
@@ -174,18 +187,20 @@ settled_by {films} {settings} {setup} wish is port asks names =
       media = ap (λ (c : Channels). c.media) channels;
       control = ap (λ (c : Channels). c.control) channels;
       buffer = chosen_is wish.buffer
-          (subst B (values (codes "x-Buffer")) asks.buffer) (omega (arith, is.most_buffer));
+          (subst B (values (codes "x-Buffer")) asks.buffer) (omega (arith, wished.most_buffer));
       delay = chosen_is wish.startup
-          (subst D (values (codes "x-Startup")) asks.delay) (omega (arith, is.startup));
+          (subst D (values (codes "x-Startup")) asks.delay) (omega (arith, wished.startup));
       film = λ film at.
           let same : names.film.stored ≡ film = same_Some names.film.stored film (sym names.film.at ∙ at) in
           ap (λ (s : Stored). string_bytes s.name) (sym same)
-          ∙ (names.film.name_is ∙ url_name wish (codes "/video") is port (inr (inr (inl refl))) names.read);
+          ∙ (names.film.name_is ∙ url_name b (codes "/video") (inr (inr (inl refl))) names.read);
     }
+  where
+    open b use {wish, wished, port}
 
 -- ---- PLAY
 
-pub range_is : (wish : Wish) (session : List ℕ) → IsWish wish → wish.port < 2 ^ 16 → IsSessionId session
-    → header_value (request_head (play_parts wish session)) (codes "Range") ≡ Some (codes "npt=0-")
+pub range_is : (b : Beginning)
+    → header_value (request_head (play_parts b.wish b.session)) (codes "Range") ≡ Some (codes "npt=0-")
 unfolding value_named
-range_is wish session is port id = (play-asked wish session is port id).values (codes "Range")
+range_is b = (play-asked b.wish b.session b.wished b.port b.session_is).values (codes "Range")

@@ -36,7 +36,6 @@ use Rattle.conn.specs.InputSteps.{Entered, Outcome, Stage}
 use Rattle.connection_laws.specs.Replies.{PlacedText, text_of}
 use Rattle.connection_laws.proofs.KeptParts.{answered_names, names_in, replied_names, IsSameSetup, halted_setup}
 use Rattle.connection_laws.proofs.KeptParts.{replied_setup, comes_setup}
-use Rattle.connection_laws.proofs.SetupOnly.{Beginning}
 use Rattle.connection_laws.proofs.ReplyReadings.{IsPrinted, printed_w64, teardown_read as read_teardown}
 use Rattle.connection_laws.specs.WatchEnds.{AreAnswers}
 use Rattle.connection_laws.proofs.RequestReplies.{IsNamed, named_still, teardown_replied}
@@ -44,6 +43,7 @@ use Rattle.connection_laws.proofs.StationAnswers.{AnswersAs, NoneAsked, PlayAdmi
 use Rattle.connection_laws.proofs.StationAnswers.{answers_as}
 use Rattle.connection_laws.proofs.CourseInduction.{AnsweredRequest, Piece, GoesBack}
 use Rattle.rtsp_client.specs.Replies.{IsAnswer}
+use Rattle.connection_laws.proofs.ClientSetups.{Beginning}
 
 -- ---- the films and the id stay
 

@@ -210,10 +210,6 @@ pub record Path (old new : Stage) (exchange : Exchange) : Type 0 where
 path_none : (s : Stage) → Path s s no_exchange
 path_none s = record { elements = []; goes = refl; is = refl }
 
-path_over : {a b c : Stage} {n : ℕ} {exchange : Exchange} → IsPassing a n b → Path b c exchange → Path a c exchange
-path_over {b = b} {n = n} passing path =
-    record { elements = Over n ∷ path.elements; goes = (b, (passing, path.goes)); is = path.is }
-
 path_then : {a b c : Stage} {one two : Exchange} → Path a b one → Path b c two → Path a c (joined one two)
 path_then {a} {b} {c} path after = record {
   elements = path.elements ++ after.elements;
@@ -227,15 +223,18 @@ ends_over : (session : SessionState) (input : List ℕ) (n : ℕ) → session.to
 ends_over session input zero torn inside ends = path_none (stage session input)
 ends_over session [] (suc n) torn inside ends = let bad : ⊥ = omega (arith, inside) in absurd bad
 ends_over session (c ∷ cs) (suc n) torn inside ends =
-    path_over (record { over = AnEnd refl (omega arith) (ends 0 (omega arith)); torn = torn; new_is = refl })
-    (ends_over session cs n torn (omega (arith, inside)) (λ k below. ends (suc k) (omega (arith, below))))
+    let path = ends_over session cs n torn (omega (arith, inside)) (λ k below. ends (suc k) (omega (arith, below))) in
+    let over : IsPassing (stage session (c ∷ cs)) 1 (stage session cs) =
+    record { over = AnEnd refl (omega arith) (ends 0 (omega arith)); torn = torn; new_is = refl } in
+    record { elements = Over 1 ∷ path.elements; goes = (stage session cs, (over, path.goes)); is = path.is }
 
 passed_over : (session : SessionState) (input : List ℕ) (n : ℕ) → IsPassed input n → session.torn ≡ false
     → Path (stage session input) (stage session (drop n input)) no_exchange
 passed_over session input n (inl skip) torn = ends_over session input n torn skip.1.within skip.1.line_ends
 passed_over session input n (inr block) torn =
-    path_over (record { over = ABlock block.1.0 block.1.1 block.1.3 block.1.4; torn = torn; new_is = refl })
-    (path_none (stage session (drop n input)))
+    let over : IsPassing (stage session input) n (stage session (drop n input)) =
+    record { over = ABlock block.1.0 block.1.1 block.1.3 block.1.4; torn = torn; new_is = refl } in
+    record { elements = Over n ∷ []; goes = (stage session (drop n input), (over, refl)); is = refl }
 
 path_taken : (old new : Stage) (message : List ℕ) (outcome : Outcome) (parts : List SentPart)
     (replied : IsReplied old message outcome parts new) → Path old new (record {
@@ -298,17 +297,13 @@ goes_on : (old new : Stage) (element : Element) → Goes old element new → old
 goes_on old new (Over n) goes = goes.torn
 goes_on old new (RequestElement turn) goes = goes.next.torn
 
-waits_on : {n : ℕ} (old new : Stage) (element : Element) → IsFirst old.input (Ok (Request n))
-    → old.session.waits ≡ true → Goes old element new → ⊥
-waits_on old new (Over m) first waits goes = over_no_request old.input m goes.over first.0
-waits_on old new (RequestElement turn) first waits goes = true≢false (sym waits ∙ goes.next.replied)
-
 idle_done : (old new : Stage) (element : Element)
     → (IsFirst old.input (Ok More) ⊎ ((n : ℕ) × (IsFirst old.input (Ok (Request n)) × (old.session.waits ≡ true))))
     → Goes old element new → ⊥
 idle_done old new element (inl more) goes =
     let first = first_element old new element goes in tells_none old.input (Ok More) more first.0 first.1
-idle_done old new element (inr request) goes = waits_on old new element request.1.0 request.1.1 goes
+idle_done old new (Over m) (inr request) goes = over_no_request old.input m goes.over request.1.0.0
+idle_done old new (RequestElement turn) (inr request) goes = true≢false (sym request.1.1 ∙ goes.next.replied)
 
 stopped_done : (old new : Stage) (element : Element) (end : ConnEnd) → IsStopped end old → Goes old element new → ⊥
 stopped_done old new element TornDown stopped goes = true≢false (sym stopped ∙ goes_on old new element goes)

@@ -33,8 +33,9 @@ use Rattle.connection_laws.proofs.KeptParts.{IsSameSetup, answered_names}
 use Rattle.connection_laws.proofs.ReplyReadings.{IsPrinted, IsPlayAnswer, play_answer}
 use Rattle.connection_laws.proofs.RequestEffects.{Begins}
 use Rattle.connection_laws.proofs.RequestReplies.{IsNamed, named_still, play_asked, asked_named, AsksClientPlay}
-use Rattle.connection_laws.proofs.SetupOnly.{Beginning, IsUnbegun, IsWaiting}
+use Rattle.connection_laws.proofs.SetupOnly.{IsUnbegun, IsWaiting}
 use Rattle.connection_laws.proofs.StationAnswers.{answers_as}
+use Rattle.connection_laws.proofs.ClientSetups.{Beginning}
 
 -- ---- numbers in their ranges
 

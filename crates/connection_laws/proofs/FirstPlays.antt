@@ -41,8 +41,8 @@ use Rattle.session.specs.SessionStates.{SessionState}
 use Rattle.session_laws.proofs.WholeFilmLemmas.{asked-whole}
 use Rattle.connection_laws.specs.Plays.{FilmPlay}
 use Rattle.session_laws.proofs.PlayInReadyLemmas.{IsPlayHeard}
-use Rattle.connection_laws.proofs.ClientSetups.{IsSettled, range_is}
-use Rattle.connection_laws.proofs.SetupOnly.{Beginning, IsUnbegun, IsWaiting}
+use Rattle.connection_laws.proofs.ClientSetups.{IsSettled, range_is, Beginning}
+use Rattle.connection_laws.proofs.SetupOnly.{IsUnbegun, IsWaiting}
 use Rattle.session.specs.declared.plans.Planned.{Planned}
 
 pub playback_same : (a b : Playback) → a.picture_units ≡ b.picture_units → a.slot_units ≡ b.slot_units
@@ -142,7 +142,7 @@ module _ {b : Beginning} where
       IsRequest m (codes "PLAY") (film_url b.wish) 2 (request_head (play_parts b.wish b.session)) [] in
       let same = request_once heard.is_request (subst R (sym is) asked.read) in
       let range : header_value heard.request.head.now (codes "Range") ≡ Some (codes "npt=0-") =
-      ap (λ h. header_value h (codes "Range")) same.head_is ∙ range_is b.wish b.session b.wished b.port b.session_is in
+      ap (λ h. header_value h (codes "Range")) same.head_is ∙ range_is b in
       record {
         settled = begun.1;
         slot_units = ap (λ (s : Settings). s.slot_units) waits.settings_are ∙ b.slot_units;

@@ -28,10 +28,10 @@ use Rattle.connection_laws.proofs.StationAnswers.{answers_as}
 use Rattle.connection_laws.proofs.KeptParts.{LastingPart, taken_keeps, replied_setup, comes_setup}
 use Rattle.connection_laws.proofs.CourseInduction.{comes_heard, AnsweredRequest, Piece, joined, request_piece}
 use Rattle.connection_laws.proofs.CourseInduction.{asking_of, GoesBack, course_back, begin_of, piece_of}
-use Rattle.connection_laws.proofs.SetupOnly.{AreNoPlays, IsNoPlay, no_play_begins, Beginning, IsWaiting, answered_waits}
+use Rattle.connection_laws.proofs.SetupOnly.{AreNoPlays, IsNoPlay, no_play_begins, IsWaiting, answered_waits}
 use Rattle.connection_laws.proofs.SetupOnly.{reply_same, setup_asked, NonePlayed, none_back, event_waits}
 use Rattle.session_laws.proofs.PlayInReadyLemmas.{IsPlayHeard, play_heard}
-use Rattle.connection_laws.proofs.ClientSetups.{setup_is}
+use Rattle.connection_laws.proofs.ClientSetups.{setup_is, Beginning}
 use Rattle.session_laws.proofs.SetupLemmas.{IsSetupRequest}
 use Rattle.connection_laws.proofs.RequestEffects.{Begins, Ends, Starts, Stays, TurnsAs, turns_as}
 use Rattle.connection_laws.proofs.CompleteReplies.{AreTeardowns, AreWhole, admitted_from, answered_named, id_printed}
@@ -132,7 +132,7 @@ pub setup_no_play : (b : Beginning) {message : List ℕ} → message ≡ setup_t
 setup_no_play b {message} is = λ request read method.
     let S : List ℕ → Type 0 = λ m.
     IsSetupRequest m (film_url b.wish ++ codes "/video") (request_head (setup_parts b.wish)) in
-    let setup = subst S (sym is) (setup_is b.wish b.wished b.port) in
+    let setup = subst S (sym is) (setup_is b) in
     let same = request_once setup.read read in
     let clash : 83 ≡ 80 = ap (λ name. get_or name 0 0) (same.method_is ∙ method) in omega (arith, clash)
 

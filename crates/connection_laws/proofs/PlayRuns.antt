@@ -309,19 +309,14 @@ module _ (words : List ℕ) where
     where
       open stop use {s, setup, play}
 
-  halts_in : (s : SessionState) (setup : Setup) (play : Played) (keep : ℕ) (next : AfterHalt) (placed : PlacedEntry)
-      (new : SessionState) → s.state ≡ Playing setup play → s.awaited ≡ Halt keep next → IsLeftBy play.run keep next
-      → Halts s keep placed new
-  halts_in s setup play keep next placed new state awaited left =
-      rw (awaited, state)
-      (halts (record { s = s; setup = setup; play = play; keep = keep; left = left }) placed new)
-
   finishes : {s new : SessionState} {halt : Outcome} → Finished s halt new → Leads s new (Asks s.awaited halt ∷ [])
   finishes {s} (Quiet rest) =
       still (unasked s.awaited) (none_asked s.looks_left s.awaited rest) (moves_none s)
   finishes {s} (Ended {placed = placed} done entry) =
-      halts_in s done.setup done.play done.keep Done placed (after_halt s placed.place) done.state_is done.asks tt
-      (halted_by entry)
+      let stop : Stopped Done = record { s = s; setup = done.setup; play = done.play; keep = done.keep; left = tt } in
+      let halt : (new : SessionState) → Halts s done.keep placed new =
+      λ new. rw (done.asks, done.state_is) (halts stop placed new) in
+      halt (after_halt s placed.place) (halted_by entry)
 
   comes_leads : {old opened : Stage} {round : Round} → Stands old.session → ComesAs old round opened
       → Leads old.session opened.session (Asks (asked_by old.session round.event) round.halt ∷ [])

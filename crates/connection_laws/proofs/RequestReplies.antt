@@ -28,9 +28,9 @@ use Rattle.session.specs.RequestSteps.{Hears}
 use Rattle.session.specs.SessionStates.{SessionState, has_session_in}
 use Rattle.session_laws.proofs.ClientReplyLemmas.{IsCall, play_answered, setup_answered, teardown_answered}
 use Rattle.connection_laws.specs.WholePlays.{whole_run}
-use Rattle.connection_laws.proofs.ClientSetups.{range_is, settled_by}
+use Rattle.connection_laws.proofs.ClientSetups.{range_is, settled_by, Beginning}
 use Rattle.connection_laws.proofs.KeptParts.{IsSameSetup, names_in}
-use Rattle.connection_laws.proofs.SetupOnly.{Beginning, IsUnbegun, IsWaiting}
+use Rattle.connection_laws.proofs.SetupOnly.{IsUnbegun, IsWaiting}
 use Rattle.connection_laws.proofs.FirstPlays.{planned_whole}
 use Rattle.connection_laws.proofs.CourseInduction.{AnsweredRequest}
 use Rattle.conn.specs.InputSteps.{Stage}
@@ -150,7 +150,7 @@ setup_replied b {old} request is =
     elim (setup_answered old.session request.message url 1 head heard.ask heard.asking call heard.hears) [
       | inl same ↦ inl same
       | inr told ↦
-          let settled = settled_by b.wish b.wished b.port told.asks told.names in
+          let settled = settled_by b told.asks told.names in
           inr (told.text ∙ (ap (λ n. setup_reply 1 n told.setup.control source.ssrc old.session.id) settled.media
           ∙ ap (λ n. setup_reply 1 0 n source.ssrc old.session.id) settled.control))
     ]
@@ -170,7 +170,7 @@ module _ {message : List ℕ} (b : Beginning) (old : SessionState) (ask : Ask) (
       let setup = told.setup in
       let begun = subst (IsUnbegun b.wish b.films) told.ready waits.unbegun in
       let run : told.planned.run ≡ whole_run stored =
-      planned_whole (rw (begun.0, range_is b.wish b.session b.wished b.port b.session_is) at told.planned_is) in
+      planned_whole (rw (begun.0, range_is b) at told.planned_is) in
       let number = first_number old stored setup told.planned in
       let time = timestamp_at stored.film old.source told.planned.run.from_unit in
       let F : ℕ → ℕ → List ℕ = λ from to.

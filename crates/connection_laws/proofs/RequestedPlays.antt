@@ -29,7 +29,7 @@ use Rattle.connection_laws.specs.Courses.{Course, course_plays, greatest_slot}
 use Rattle.connection_laws.specs.Requests.{rounds_input}
 use Rattle.connection_laws.proofs.Requests.{AreFound, joined, requests_front}
 use Rattle.connection_laws.proofs.FilmReading.{run_total}
-use Rattle.connection_laws.proofs.SetupOnly.{AreNoPlays, IsNoPlay, Beginning, IsWaiting, none_played}
+use Rattle.connection_laws.proofs.SetupOnly.{AreNoPlays, IsNoPlay, IsWaiting, none_played}
 use Rattle.connection_laws.proofs.ReplyOrder.{replies_in_order}
 use Rattle.film_streams.specs.StreamNumbers.{source_of}
 use Rattle.session_laws.proofs.CompleteReplyLemmas.{begins_named}
@@ -43,6 +43,7 @@ use Rattle.connection_laws.proofs.ReplyReadings.{IsPlayAnswer}
 use Rattle.connection_laws.proofs.WatchedFilms.{IsServed}
 use Rattle.connection_laws.proofs.AcceptedMoments.{FilmClauses}
 use Rattle.connection_laws.proofs.CourseInduction.{begin_of, piece_of, rounds_requests}
+use Rattle.connection_laws.proofs.ClientSetups.{Beginning}
 
 first_boundary : (play : FilmPlay) → play.before ≡ 0 → IsBoundaryIn (play ∷ []) 0
 first_boundary play before =

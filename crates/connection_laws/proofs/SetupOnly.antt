@@ -1,8 +1,8 @@
 -- Requests other than PLAY begin no play. A connection that is asked for SETUP alone, before PLAY, plays nothing; where
 -- SETUP was answered 200 it settled what was wished.
 use Rattle.std.specs.Prelude.{⊤}
-use Rattle.std.proofs.Common.{ℕ, ◌≡◌, ◌≢◌, List, [], ◌∷◌, ◌++◌, codes, refl, ap, ◌∙◌, ◌<◌, ◌^◌, if◌then◌else◌, Bool}
-use Rattle.std.proofs.Common.{true, false, None, sym, subst}
+use Rattle.std.proofs.Common.{ℕ, ◌≡◌, ◌≢◌, List, [], ◌∷◌, ◌++◌, codes, refl, ap, ◌∙◌, if◌then◌else◌, Bool, true, false}
+use Rattle.std.proofs.Common.{None, sym, subst}
 use Rattle.session.specs.declared.states.Awaited.{Awaited}
 use Rattle.session.specs.RefusalOrder.{IsReadAs}
 use Rattle.session.specs.SessionStates.{SessionState, awaited_answer_of}
@@ -19,9 +19,8 @@ use Rattle.connection_laws.proofs.StationAnswers.{nothing_left}
 use Rattle.std.proofs.lemmas.Bool.{true≢false}
 use Rattle.film_frames.specs.declared.stored_films.Stored.{Stored}
 use Rattle.rtsp_text.specs.RequestTexts.{request_head}
-use Rattle.rtsp_client.specs.RequestParts.{IsSessionId, setup_parts}
+use Rattle.rtsp_client.specs.RequestParts.{setup_parts}
 use Rattle.rtsp_client.specs.Requests.{film_url, setup_text}
-use Rattle.rtsp_client.specs.WatchRequests.{IsWish}
 use Rattle.rtsp_client.specs.declared.watch_request.Wish.{Wish}
 use Rattle.session.specs.declared.commands.Ask.{Ask}
 use Rattle.session.specs.declared.commands.Ask.TheVariants.{Reply}
@@ -33,11 +32,12 @@ use Rattle.session.specs.declared.states.State.TheVariants.{Init, Ready, Playing
 use Rattle.film_streams.specs.Films.{Names}
 use Rattle.session.specs.SlotSteps.{after_play, can_reply, is_sending, is_taken, sent_reply, sent_slot}
 use Rattle.session.specs.SlotTransitions.{after_stop}
-use Rattle.connection_laws.proofs.ClientSetups.{IsSettled, settled_by, setup_is}
+use Rattle.connection_laws.proofs.ClientSetups.{IsSettled, settled_by, setup_is, Beginning}
 use Rattle.session_laws.proofs.SetupLemmas.{IsSetupRequest, SetupHeard, Refused, Settled, setup_heard}
 use Rattle.connection_laws.proofs.CourseInduction.{AnsweredRequest, Piece, GoesBack, course_back, rounds_requests}
 use Rattle.conn.proofs.StationAnswers.{ComesAs, BytesCame, SlotCame}
 use Rattle.conn.specs.EventSteps.{Round}
+use Rattle.pacer.specs.PacerStates.{at_slot}
 
 abbrev pub IsNoPlay : List ℕ → Type 0
 IsNoPlay message = (request : Request) → IsReadAs message request → request.method.now ≢ codes "PLAY"
@@ -83,18 +83,6 @@ abbrev pub IsUnbegun : Wish → List Stored → State → Type 0
 IsUnbegun wish films Init = ⊤
 IsUnbegun wish films (Ready setup paused) = (paused ≡ None) × IsSettled wish films setup
 IsUnbegun wish films _ = ⊥
-
--- what a course begins with, and what it is asked for
-pub record Beginning : Type 0 where
-  pub wish : Wish
-  pub films : List Stored
-  pub settings : Settings
-  pub session : List ℕ
-  pub source : StreamSource
-  pub wished : IsWish wish
-  pub port : wish.port < 2 ^ 16
-  pub session_is : IsSessionId session
-  pub slot_units : settings.slot_units ≡ wish.slot_units
 
 pub record IsWaiting (b : Beginning) (s : SessionState) : Type 0 where
   pub stands : Stands s
@@ -200,7 +188,7 @@ setup_waits {b} {old} {asking} waits (Refused text reply is) = (
 )
 setup_waits {b} {old} {asking} waits (Settled setup text authority reply is asks names) =
     let N : List Stored → Type 0 = λ films. Names films (film_url b.wish ++ codes "/video") authority setup.film in
-    let settled = settled_by b.wish b.wished b.port asks (subst N waits.films_are names) in (
+    let settled = settled_by b asks (subst N waits.films_are names) in (
       reply,
       record {
         films_are = ap (λ (s : SessionState). s.films) is ∙ waits.films_are;
@@ -220,7 +208,7 @@ setup_asked {b} {old} request is waits =
     IsSetupRequest m (film_url b.wish ++ codes "/video") (request_head (setup_parts b.wish)) in
     setup_waits waits
     (setup_heard old.session request.message (film_url b.wish ++ codes "/video") (request_head (setup_parts b.wish))
-    heard.ask heard.asking (subst S (sym is) (setup_is b.wish b.wished b.port)) heard.hears)
+    heard.ask heard.asking (subst S (sym is) (setup_is b)) heard.hears)
 
 -- a SETUP was answered, and PLAY is still to come
 pub answered_waits : {b : Beginning} {old new : Stage} (request : AnsweredRequest old new)

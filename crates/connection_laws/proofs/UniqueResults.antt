@@ -94,15 +94,6 @@ outcomes_same {one} {other} false alike is also = (
       (subst (λ o. AreSameAnswers (answer_in one ++ alike.ones) (answer_in o ++ alike.others)) also alike.same),
 )
 
--- two answers after which a session is known are the same, and so is the session
-results_same : {one other : Outcome} {new again : SessionState} (old : SessionState) (asked : Bool)
-    (alike : AnswersAlike one other) → IsAsked asked one × IsAsked asked other
-    → (new ≡ after_outcome old one) × (again ≡ after_outcome old other)
-    → (again ≡ new) × AreSameAnswers alike.ones alike.others
-results_same old asked alike are leave =
-    let both = outcomes_same asked alike are.0 are.1 in
-    (leave.1 ∙ ap (after_outcome old) both.0 ∙ sym leave.0, both.1)
-
 -- a reply of the session's own asks the station for nothing
 abbrev is_asking : Ask → Bool
 is_asking AskReply = false
@@ -120,7 +111,8 @@ pub answers_same : {new again : SessionState} {one other : Outcome} (old : Sessi
 answers_same {one = one} {other = other} old ask alike answered =
     let is = answers_as ask one answered.0 in
     let also = answers_as ask other answered.1 in
-    results_same old (is_asking ask) alike (asked_as is, asked_as also) (answer_leaves old is, answer_leaves old also)
+    let both = outcomes_same (is_asking ask) alike (asked_as is) (asked_as also) in
+    (answer_leaves old also ∙ ap (after_outcome old) both.0 ∙ sym (answer_leaves old is), both.1)
 
 -- ---- a slot is processed
 
@@ -146,6 +138,8 @@ steps_same {old} {slot} {one} {other} alike is also =
     let s = after_slot old slot in
     let first = finishes_as (awaited_answer s) one is.stepped.finished in
     let second = finishes_as (awaited_answer s) other also.stepped.finished in
-    let both = results_same s (is_halting (awaited_answer s)) alike (finished_as first, finished_as second)
-    (finish_leaves s first, finish_leaves s second) in
-    (also.stepped.parts_are ∙ sym is.stepped.parts_are, both.0, both.1)
+    let both = outcomes_same (is_halting (awaited_answer s)) alike (finished_as first) (finished_as second) in (
+      also.stepped.parts_are ∙ sym is.stepped.parts_are,
+      finish_leaves s second ∙ ap (after_outcome s) both.0 ∙ sym (finish_leaves s first),
+      both.1,
+    )
