@@ -19,8 +19,8 @@ use Rattle.connection_laws.specs.Courses.{course_plays, IsCourseSplit}
 use Rattle.connection_laws.specs.Plays.{StationRequest, Asks, plays_admitted, plays_begun, booked_by, booked_plays}
 use Rattle.connection_laws.specs.Plays.{booking_of, kept_among, kept_in, kept_with, plays_of, FilmPlay, kept_by}
 use Rattle.connection_laws.proofs.RequestEffects.{Ends, Starts, Stays, TurnsAs, told_by, Begins}
-use Rattle.connection_laws.proofs.CourseInduction.{Piece, parts_of, comes_heard, begin_of}
-use Rattle.connection_laws.proofs.CourseSteps.{IsKeptStanding, standing_course_kept, Stands, request_turns, all_kept}
+use Rattle.connection_laws.proofs.CourseInduction.{Piece, parts_of, comes_heard, begin_of, course_kept}
+use Rattle.connection_laws.proofs.CourseSteps.{IsKeptStanding, Stands, request_turns, all_kept, kept_from_standing}
 use Rattle.plan_cert.specs.Plan.{IsPlan}
 use Rattle.film_frames.specs.FramedRuns.{run_pieces}
 use Rattle.admission.specs.declared.entries.Answer.{Answer}
@@ -386,4 +386,4 @@ late_kept = record {
 
 pub course_late : (old new : Stage) (rounds : List Round) (follows : IsCourseBetween old rounds new)
     → Stands old.session → AreLate old.session.heard (askings_of old rounds new follows)
-course_late old new rounds follows stands = (standing_course_kept late_kept old new rounds follows stands).late
+course_late old new rounds follows stands = (course_kept (kept_from_standing late_kept) old new rounds follows stands).1.late

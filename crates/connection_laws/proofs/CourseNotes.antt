@@ -18,8 +18,8 @@ use Rattle.conn.specs.Agreement.{Activity, HasDone, doings_outcomes}
 use Rattle.connection_laws.specs.Notes.{StationCall, notes_of_calls, notes_of, station_call, kept_later, noted_for}
 use Rattle.connection_laws.specs.Notes.{noted_play, outcome_of, placed_play, placed_plays, PlacedPlay}
 use Rattle.connection_laws.proofs.PlayNotes.{HaveSameNotes, note_part, Carries, IsKept, carries_to, carries_none}
-use Rattle.connection_laws.proofs.PlayNotes.{halt_turn, halted_open, heard_on, no_halt_note, no_note, notes_until}
-use Rattle.connection_laws.proofs.PlayNotes.{open_note, unasked_turn, begun_note, until_append}
+use Rattle.connection_laws.proofs.PlayNotes.{halt_turn, halted_open, heard_on, no_note, notes_until, open_note}
+use Rattle.connection_laws.proofs.PlayNotes.{unasked_turn, begun_note, until_append, no_play}
 use Rattle.connection_laws.proofs.StationAnswers.{ClosesAs, NothingOpen, BookingHalted, closes_as, halted_by, halt_of}
 use Rattle.connection_laws.proofs.CourseTurns.{IsKeptByDoings, doings_kept, last_rest, all_calls, turns_told}
 use Rattle.connection_laws.proofs.KeptParts.{slot_keeps}
@@ -92,7 +92,7 @@ finished_turn {s} (DoneHalted {keep = keep} {placed = placed} entry) asks =
     let halts = halt_of s.awaited asks in
     halt_turn {s = s}
     (record { keep = keep; placed = placed; new = after_halt s placed.place; halted = halted_by entry }) s
-    (kept_halt s.state s.awaited keep halts.0 halts.1) (no_halt_note s.state halts.1 placed)
+    (kept_halt s.state s.awaited keep halts.0 halts.1) (λ later. no_note s.state s.awaited placed later (no_play halts.1))
 
 -- a play that a failed send leaves as it was
 carried_open : (old new : State) → IsCarried old new → (later : List StationCall) → open_note new later ≡ open_note old

@@ -429,7 +429,7 @@ module _ {R : SessionState → Piece → SessionState → Type 0} (kept : IsKept
   abbrev FromStanding : SessionState → Piece → SessionState → Type 0
   FromStanding old piece new = Stands old → Stands new × R old piece new
 
-  kept_from_standing : IsKeptByCourse FromStanding
+  pub kept_from_standing : IsKeptByCourse FromStanding
   kept_from_standing = record {
     none = λ s stands. (stands, kept.none s);
     joins = λ a b c one two first rest stands.
@@ -440,15 +440,10 @@ module _ {R : SessionState → Piece → SessionState → Type 0} (kept : IsKept
         (stands_by (event_step stands comes), kept.event old opened round comes stands);
   }
 
-  pub standing_course_kept : (old new : Stage) (rounds : List Round) (follows : IsCourseBetween old rounds new)
-      → Stands old.session → R old.session (course_piece old rounds new follows) new.session
-  standing_course_kept old new rounds follows stands =
-      (course_kept kept_from_standing old new rounds follows stands).1
-
   pub all_kept : (course : Course) → R (begin_of course).session (piece_of course) course.last.session
   all_kept course =
-      standing_course_kept (begin_of course) course.last course.rounds course.follows
-      (first_stands course.films course.settings course.words)
+      (course_kept kept_from_standing (begin_of course) course.last course.rounds course.follows
+      (first_stands course.films course.settings course.words)).1
 
 -- ---- where a course ends
 

@@ -229,12 +229,10 @@ play_on {old} {asking} {placed} new play is =
   where
     open play use {setup, prepared, ready, waiting}
 
--- a halt that a request asks for
-pub no_halt_note : {awaited : Awaited} {keep : ℕ} {next : AfterHalt} (state : State) → awaited ≡ Halt keep next
-    → (placed : PlacedEntry) (later : List StationCall) → noted_entry state awaited placed later ≡ []
-no_halt_note {awaited} {keep} {next} state halts placed later =
-    no_note state awaited placed later (λ prepared asks. let no : Halt keep next ≡ Play prepared = sym halts
-    ∙ asks in cc no)
+-- a halt that is asked for is no play
+pub no_play : {awaited : Awaited} {keep : ℕ} {next : AfterHalt} → awaited ≡ Halt keep next
+    → (prepared : Prepared) → awaited ≡ Play prepared → ⊥
+no_play {keep = keep} {next} halts prepared asks = let no : Halt keep next ≡ Play prepared = sym halts ∙ asks in cc no
 
 halt_on : {old asking : SessionState} {placed : PlacedEntry} (new : SessionState) (halt : HaltRequest old asking)
     → IsHaltAnswered asking halt.keep placed new → CarriesOn old asking (Entered placed) new
@@ -249,7 +247,7 @@ halt_on {old} {asking} {placed} new halt halted =
       under_way = λ later. ap (λ s. open_note s later) playing ∙ sym (ap (λ s. open_note s later) state);
     })
     (halt_turn {s = asking} (record { keep = keep; placed = placed; new = new; halted = halted }) asking kept
-    (no_halt_note asking.state awaited placed))
+    (λ later. no_note asking.state asking.awaited placed later (no_play awaited)))
   where
     open halt use {setup, play, keep, next, playing, asking_is}
 

@@ -263,32 +263,25 @@ watched_unrefused is w front = refuses_nothing w (received is front)
 
 -- ---- `Done`
 
-comes_done : {wish : Wish} {stored : Stored} {course : Course} (is : IsServed wish stored course) (w : Watching wish)
-    → IsDelivered course w.heard → IsDecided w.end
-    → IsPrefixOf (heard_bytes w.heard) (sent_bytes (rounds_doings course.rounds))
-    → (watched : Watched) × (w.end ≡ Done watched)
+pub watched_done : {wish : Wish} {stored : Stored} {course : Course} (is : IsServed wish stored course)
+    (w : Watching wish) → IsWish wish → IsDelivered course w.heard → IsDecided w.end
+    → IsCarried (rounds_doings course.rounds) w.heard is.played.play.start (first_slot w.client.mid.history)
+    → EndsWhole wish stored w.end w.out
 unfolding film_stream
-comes_done {wish} {stored} {course} is w delivered decided front =
+watched_done {wish} {stored} {course} is w wished delivered decided carried =
     let played = is.played in
     let three : length played.later + 2 ≡ 3 =
     omega (arith, delivered.replies, ap (λ (l : List PlacedText). length l) played.texts) in
     let third = third_of played.later three in
     let L : List ℕ → List ℕ → List (List ℕ) → Type 0 = λ first second later.
     later ≡ third.last.text ∷ map text_of third.others in
-    comes_to_done (film_stream is) w (record {
+    let done = comes_to_done (film_stream is) w (record {
       last = third.last.text;
       others = map text_of third.others;
       later = stream_replies played L (ap (λ l. map text_of l) third.are);
-      received = received is front;
+      received = received is carried.front;
       whole = delivered.all ∙ all_sent_whole played third;
-    }) decided
-
-pub watched_done : {wish : Wish} {stored : Stored} {course : Course} (is : IsServed wish stored course)
-    (w : Watching wish) → IsWish wish → IsDelivered course w.heard → IsDecided w.end
-    → IsCarried (rounds_doings course.rounds) w.heard is.played.play.start (first_slot w.client.mid.history)
-    → EndsWhole wish stored w.end w.out
-watched_done {wish} {stored} {course} is w wished delivered decided carried =
-    let done = comes_done is w delivered decided carried.front in
+    }) decided in
     let W : WatchEnd → Type 0 = λ e. (its : HasCourse wish e (Some []) (Some w.heard) (Some []) (Some w.out))
     → IsCarried (rounds_doings course.rounds) w.heard is.played.play.start (first_slot its.mid.history)
     → HasWatchedWhole wish stored done.0 w.out in
@@ -297,7 +290,7 @@ watched_done {wish} {stored} {course} is w wished delivered decided carried =
       course = course;
       heard = w.heard;
       wished = wished;
-      played = is.played;
+      played = played;
       client = its;
       carried = there;
     }) in
