@@ -145,17 +145,14 @@ IsReadable film x = AreGoodReplies film x.first x.second x.later
 abbrev pub IsAccepted : Wish → History → ClientEvent → Type 0
 IsAccepted wish h moment = GoesOn h moment ⊎ Gives wish h moment (Done (watched_in wish h))
 
-good_reply : {h : History} {message : List ℕ} (k : ℕ) → replies h ≡ k → k < 2 → IsAnswer message (k + 1) 200
+good_reply : {h : History} {message : List ℕ} → replies h < 2 → IsAnswer message (replies h + 1) 200
     → has_fields h message ≡ true → GoesOn h (Reply message)
-good_reply {h} {message} k is few answer fields = (
+good_reply {h} few answer fields = (
   (
-    record {
-      awaited = or_left (nat_lt (replies h) 2) (is_complete h) (lt-ltb (replies h) 2 (omega (arith, is, few)));
-      answer = subst (λ n. IsAnswer message (n + 1) 200) (sym is) answer;
-    },
+    record { awaited = or_left (nat_lt (replies h) 2) (is_complete h) (lt-ltb (replies h) 2 few); answer = answer },
     fields,
   ),
-  omega (arith, is, few),
+  few,
 )
 
 setup_fields : (h : History) (message : List ℕ) → replies h ≡ 0 → is_some (setup_session message) ≡ true
@@ -386,7 +383,7 @@ module _ (w : FilmWatch) where
       let first : next.element ≡ s.stream.x.first = cc in
       let none : replies h ≡ 0 = ap (λ (s : Sum). s.replies) accepted.sum in
       reply_moment next.element next.moment_is (ap element_events first ∙ s.stream.x.first_is.moment)
-      (inl (good_reply 0 none (omega arith) s.readable.setup_is (setup_fields h s.stream.x.first none s.readable.session)))
+      (inl (good_reply (omega (arith, none)) (rw none s.readable.setup_is) (setup_fields h s.stream.x.first none s.readable.session)))
   moment_accepted (a ∷ []) accepted next =
       let all : s.stream.x.first ∷ s.stream.x.second ∷ (s.stream.x.blocks ++ s.stream.x.later) ≡ a ∷ next.element ∷ next.more = next.all_is in
       let first : a ≡ s.stream.x.first = cc in
@@ -395,7 +392,7 @@ module _ (w : FilmWatch) where
       ap (λ t. steps no_sum (events_of_elements (t ∷ []))) first ∙ ap (λ l. steps no_sum (l ++ [])) s.stream.x.first_is.moment in
       let one : replies h ≡ 1 = ap (λ (s : Sum). s.replies) (accepted.sum ∙ single) in
       reply_moment next.element next.moment_is (ap element_events second ∙ s.stream.x.second_is.moment)
-      (inl (good_reply 1 one (omega arith) s.readable.played_is
+      (inl (good_reply (omega (arith, one)) (rw one s.readable.played_is)
       (play_fields h s.stream.x.second one s.readable.range s.readable.start)))
   moment_accepted (a ∷ b ∷ qs) accepted next =
       let all : s.stream.x.first ∷ s.stream.x.second ∷ (s.stream.x.blocks ++ s.stream.x.later) ≡ a ∷ b ∷ (qs ++ next.element ∷ next.more) = next.all_is in

@@ -166,10 +166,9 @@ join_exchange (RequestElement turn ∷ xs) ys =
 abbrev pub longer : Stage → List ℕ → Stage
 longer old more = stage old.session (old.input ++ more)
 
-shorter : {new : Stage} (old : Stage) (session : SessionState) (more : List ℕ) (n : ℕ) → n ≤ length old.input
-    → new ≡ stage session (drop n old.input) → longer new more ≡ stage session (drop n (old.input ++ more))
-shorter {new} old session more n inside is =
-    ap (λ s. longer s more) is ∙ ap (λ input. stage session input) (sym (drop-append-le n old.input more inside))
+shorter : (old : Stage) (session : SessionState) (more : List ℕ) (n : ℕ) → n ≤ length old.input
+    → longer (stage session (drop n old.input)) more ≡ stage session (drop n (old.input ++ more))
+shorter old session more n inside = ap (λ input. stage session input) (sym (drop-append-le n old.input more inside))
 
 next_grows : (old : Stage) (message more : List ℕ) → IsNext old message → IsNext (longer old more) message
 next_grows old message more next = record {
@@ -184,14 +183,15 @@ element_grows : (old new : Stage) (element : Element) (more : List ℕ) → Goes
 element_grows old new (Over n) more goes = record {
   over = over_grows old.input more n goes.over;
   torn = goes.torn;
-  new_is = shorter old old.session more n (over_within old.input n goes.over) goes.new_is;
+  new_is = ap (λ s. longer s more) goes.new_is ∙ shorter old old.session more n (over_within old.input n goes.over);
 }
 element_grows old new (RequestElement turn) more goes = record {
   session_is = goes.session_is;
   next = next_grows old turn.message more goes.next;
   hears = goes.hears;
   answered = goes.answered;
-  new_is = shorter old (after_reply turn.answered) more (length turn.message) goes.next.first.2 goes.new_is;
+  new_is = ap (λ s. longer s more) goes.new_is
+      ∙ shorter old (after_reply turn.answered) more (length turn.message) goes.next.first.2;
 }
 
 pub goes_grow : (old new : Stage) (elements : List Element) (more : List ℕ) → GoesAll old elements new
