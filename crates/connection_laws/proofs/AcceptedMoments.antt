@@ -215,7 +215,8 @@ stream_frames s =
     let run = film_run film identity in
     let starts = film.slice_starts.items in
     ap (λ bs. frames_of (events_of_elements bs)) blocks
-    ∙ (units_told (run_from s) starts film.units.items ∙ ap (λ us. frames_among (pieces_of starts us) (blocks_from run 0 0 (pieces_of starts us)))
+    ∙ (units_told (run_from s) starts film.units.items
+    ∙ ap (λ us. frames_among (pieces_of starts us) (blocks_from run 0 0 (pieces_of starts us)))
     (sym (units_all film)))
   where
     open s use {film, identity, blocks}
@@ -327,12 +328,15 @@ module _ (w : FilmWatch) where
       let inside = in_film s qs (blocks_front qs (b ∷ rest) are) (accepted.sum ∙ two_moments s.stream.x qs) in
       elim (block_at qs b rest are) [
         | inl frame ↦
-            let frames : frames_of_film s.stream.film s.stream.identity ≡ frames_heard h ++ b ∷ frames_of (events_of_elements rest) =
+            let frames : frames_of_film s.stream.film s.stream.identity
+            ≡ frames_heard h ++ b ∷ frames_of (events_of_elements rest) =
             sym (stream_frames s.stream) ∙ ap (λ bs. frames_of (events_of_elements bs)) blocks
             ∙ frames_front qs b rest frame
-            ∙ ap (λ l. l ++ b ∷ frames_of (events_of_elements rest)) (sym (accepted.frames ∙ two_frames s.stream.x qs)) in
+            ∙ ap (λ l. l ++ b ∷ frames_of (events_of_elements rest))
+            (sym (accepted.frames ∙ two_frames s.stream.x qs)) in
             let good : GoesOn h (Frame b) =
-            s.clauses.accepts s.stream.film s.stream.identity h b (frames_of (events_of_elements rest)) s.small inside.awaits frames in
+            s.clauses.accepts s.stream.film s.stream.identity h b
+            (frames_of (events_of_elements rest)) s.small inside.awaits frames in
             subst (IsAccepted wish h) (same_moment b next.moment_is frame) (inl good)
         | inr report ↦ subst (IsAccepted wish h) (same_moment b next.moment_is report) (inl tt)
       ]
@@ -344,7 +348,8 @@ module _ (w : FilmWatch) where
       let last = next.element in
       let rest = next.more in
       let later = next.all_is in
-      let inside = in_film s s.stream.x.blocks s.stream.x.blocks_are (accepted.sum ∙ two_moments s.stream.x s.stream.x.blocks) in
+      let inside = in_film s s.stream.x.blocks s.stream.x.blocks_are
+      (accepted.sum ∙ two_moments s.stream.x s.stream.x.blocks) in
       let frames : frames_of_film s.stream.film s.stream.identity ≡ frames_heard h =
       sym (stream_frames s.stream) ∙ sym (accepted.frames ∙ two_frames s.stream.x s.stream.x.blocks) in
       let texts : AreTexts (last ∷ rest) = subst AreTexts later s.stream.x.later_are in
@@ -367,7 +372,8 @@ module _ (w : FilmWatch) where
       A : List (List ℕ) → Type 0
       A = λ l. HasAccepted (s.stream.x.first ∷ s.stream.x.second ∷ l) h
 
-      by_more : (more : List (List ℕ)) → qs ≡ s.stream.x.blocks ++ more → s.stream.x.later ≡ more ++ e ∷ es → IsAccepted wish h moment
+      by_more : (more : List (List ℕ)) → qs ≡ s.stream.x.blocks ++ more → s.stream.x.later ≡ more ++ e ∷ es
+          → IsAccepted wish h moment
       by_more [] past after =
           last_moment (subst A (past ∙ append-nil s.stream.x.blocks) accepted)
           (record { element = e; more = es; all_is = after; moment_is = next.moment_is })
@@ -376,26 +382,32 @@ module _ (w : FilmWatch) where
           absurd (no_third s.stream.x y more (subst A past accepted) texts.0.moment)
 
   -- each next moment of a film's stream is accepted
-  pub moment_accepted : (elements : List (List ℕ)) → HasAccepted elements h → IsNextIn (all_of s.stream.x) elements moment
+  pub moment_accepted : (elements : List (List ℕ)) → HasAccepted elements h
+      → IsNextIn (all_of s.stream.x) elements moment
       → IsAccepted wish h moment
   moment_accepted [] accepted next =
-      let all : s.stream.x.first ∷ s.stream.x.second ∷ (s.stream.x.blocks ++ s.stream.x.later) ≡ next.element ∷ next.more = next.all_is in
+      let all : s.stream.x.first ∷ s.stream.x.second ∷ (s.stream.x.blocks ++ s.stream.x.later)
+      ≡ next.element ∷ next.more = next.all_is in
       let first : next.element ≡ s.stream.x.first = cc in
       let none : replies h ≡ 0 = ap (λ (s : Sum). s.replies) accepted.sum in
       reply_moment next.element next.moment_is (ap element_events first ∙ s.stream.x.first_is.moment)
-      (inl (good_reply (omega (arith, none)) (rw none s.readable.setup_is) (setup_fields h s.stream.x.first none s.readable.session)))
+      (inl (good_reply (omega (arith, none)) (rw none s.readable.setup_is)
+      (setup_fields h s.stream.x.first none s.readable.session)))
   moment_accepted (a ∷ []) accepted next =
-      let all : s.stream.x.first ∷ s.stream.x.second ∷ (s.stream.x.blocks ++ s.stream.x.later) ≡ a ∷ next.element ∷ next.more = next.all_is in
+      let all : s.stream.x.first ∷ s.stream.x.second ∷ (s.stream.x.blocks ++ s.stream.x.later)
+      ≡ a ∷ next.element ∷ next.more = next.all_is in
       let first : a ≡ s.stream.x.first = cc in
       let second : next.element ≡ s.stream.x.second = cc in
       let single : steps no_sum (events_of_elements (a ∷ [])) ≡ steps no_sum (Reply s.stream.x.first ∷ []) =
-      ap (λ t. steps no_sum (events_of_elements (t ∷ []))) first ∙ ap (λ l. steps no_sum (l ++ [])) s.stream.x.first_is.moment in
+      ap (λ t. steps no_sum (events_of_elements (t ∷ []))) first
+      ∙ ap (λ l. steps no_sum (l ++ [])) s.stream.x.first_is.moment in
       let one : replies h ≡ 1 = ap (λ (s : Sum). s.replies) (accepted.sum ∙ single) in
       reply_moment next.element next.moment_is (ap element_events second ∙ s.stream.x.second_is.moment)
       (inl (good_reply (omega (arith, one)) (rw one s.readable.played_is)
       (play_fields h s.stream.x.second one s.readable.range s.readable.start)))
   moment_accepted (a ∷ b ∷ qs) accepted next =
-      let all : s.stream.x.first ∷ s.stream.x.second ∷ (s.stream.x.blocks ++ s.stream.x.later) ≡ a ∷ b ∷ (qs ++ next.element ∷ next.more) = next.all_is in
+      let all : s.stream.x.first ∷ s.stream.x.second ∷ (s.stream.x.blocks ++ s.stream.x.later)
+      ≡ a ∷ b ∷ (qs ++ next.element ∷ next.more) = next.all_is in
       let first : a ≡ s.stream.x.first = cc in
       let second : b ≡ s.stream.x.second = cc in
       let rest : s.stream.x.blocks ++ s.stream.x.later ≡ qs ++ next.element ∷ next.more = cc in

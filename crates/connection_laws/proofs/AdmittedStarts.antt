@@ -166,7 +166,8 @@ later_most most base (x ∷ xs) few all =
 made_range : (e : Entry) → IsMadeByConnection e → asked_in e.command ≤ 2 ^ 62
 made_range e made =
     let all = asked_range made.done in
-    rw (← made.entry_is) (All-contains AsksInRange (entries_in (doings_outcomes made.doings)) made.placed all made.among)
+    rw (← made.entry_is) (All-contains AsksInRange
+    (entries_in (doings_outcomes made.doings)) made.placed all made.among)
 
 -- in a journal that connections made, no play was asked for in a slot after 2^62
 pub latest_range : (journal : List Entry) → AreMadeByConnections journal → latest_asked journal ≤ 2 ^ 62

@@ -127,7 +127,8 @@ pub record AfterUnit : Type 0 where
   pub blocks : List (List ℕ)
 
 frames_among_made : {run : FramedRun} {unit : PictureUnit} (is : Maker run unit) (f : ℕ) (packets : List Packet)
-    (rest : AfterUnit) → frames_among (map is.make packets ++ rest.parts) (frame_blocks run unit f packets ++ rest.blocks)
+    (rest : AfterUnit) → frames_among (map is.make packets ++ rest.parts)
+    (frame_blocks run unit f packets ++ rest.blocks)
     ≡ frame_blocks run unit f packets ++ frames_among rest.parts rest.blocks
 frames_among_made is f [] rest = refl
 frames_among_made {run} {unit} is f (p ∷ packets) rest =

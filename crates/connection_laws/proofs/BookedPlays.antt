@@ -136,7 +136,8 @@ comes_told : {old opened : Stage} {round : Round} → ComesAs old round opened
     → IsToldBy (asked_by old.session round.event) round.halt
 comes_told BytesCame = λ askings made keeps. refl
 comes_told {old} (SlotCame {slot = slot} finish) = λ askings made keeps.
-    ap (map booking_of) (halt_none (after_slot old.session slot).awaited finish askings) ∙ sym (finish_untold finish made)
+    ap (map booking_of) (halt_none (after_slot old.session slot).awaited finish askings)
+    ∙ sym (finish_untold finish made)
 
 abbrev ToldOn : SessionState → Piece → SessionState → Type 0
 ToldOn old piece new = AreTold piece.askings
@@ -386,4 +387,5 @@ late_kept = record {
 
 pub course_late : (old new : Stage) (rounds : List Round) (follows : IsCourseBetween old rounds new)
     → Stands old.session → AreLate old.session.heard (askings_of old rounds new follows)
-course_late old new rounds follows stands = (course_kept (kept_from_standing late_kept) old new rounds follows stands).1.late
+course_late old new rounds follows stands = (course_kept
+    (kept_from_standing late_kept) old new rounds follows stands).1.late

@@ -205,7 +205,8 @@ course_piece old rounds new follows = record {
 pub record IsKeptByCourse (R : SessionState → Piece → SessionState → Type 0) : Type 0 where
   pub none : (s : SessionState) → R s no_piece s
   pub joins : (a b c : SessionState) (one two : Piece) → R a one b → R b two c → R a (joined one two) c
-  pub request : (old new : Stage) (request : AnsweredRequest old new) → R old.session (request_piece request) new.session
+  pub request : (old new : Stage) (request : AnsweredRequest old new)
+      → R old.session (request_piece request) new.session
   pub event : (old opened : Stage) (round : Round) → ComesAs old round opened
       → R old.session (event_piece old.session round) opened.session
 

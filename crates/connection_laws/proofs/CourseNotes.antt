@@ -92,7 +92,8 @@ finished_turn {s} (DoneHalted {keep = keep} {placed = placed} entry) asks =
     let halts = halt_of s.awaited asks in
     halt_turn {s = s}
     (record { keep = keep; placed = placed; new = after_halt s placed.place; halted = halted_by entry }) s
-    (kept_halt s.state s.awaited keep halts.0 halts.1) (λ later. no_note s.state s.awaited placed later (no_play halts.1))
+    (kept_halt s.state s.awaited keep halts.0 halts.1)
+    (λ later. no_note s.state s.awaited placed later (no_play halts.1))
 
 -- a play that a failed send leaves as it was
 carried_open : (old new : State) → IsCarried old new → (later : List StationCall) → open_note new later ≡ open_note old

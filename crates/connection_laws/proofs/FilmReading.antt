@@ -321,11 +321,13 @@ module _ (s : WholeStream) where
       let some : 0 < frames h =
       ltb-true 0 (frames h) (and_parts (nat_lt 0 (frames h)) (length (sizes h) == units h) complete).0 in
       let same : length (sizes h) ≡ units h =
-      eqb-true (length (sizes h)) (units h) (and_parts (nat_lt 0 (frames h)) (length (sizes h) == units h) complete).1 in
+      eqb-true (length (sizes h)) (units h) (and_parts (nat_lt 0 (frames h))
+      (length (sizes h) == units h) complete).1 in
       let its_time = timed s k gone sum_here in
       record { sizes_are = are; count = sym (its_time.units_are some) ∙ (sym same ∙ ap (λ (l : List ℕ). length l) are) }
 
-  pub film_comes_back : {first last : PictureUnit} (h : History) → sum_of h ≡ steps (begun_sum x) (events_of_elements x.blocks) → slice_get film.units.items 0 ≡ Some first
+  pub film_comes_back : {first last : PictureUnit} (h : History)
+      → sum_of h ≡ steps (begun_sum x) (events_of_elements x.blocks) → slice_get film.units.items 0 ≡ Some first
       → slice_get film.units.items (length film.units.items - 1) ≡ Some last → payloads h ≡ take (last.to - first.from)
       (drop first.from film.bytes.items)
   film_comes_back {first} {last} h sum_is at_first at_last =

@@ -138,7 +138,8 @@ bytes_split : {bytes : List ℕ} (s : Splitting (HeardBytes bytes))
 bytes_split {bytes} s =
     let ps : List Element = taken.elements in
     let before : GoesAll (longer base (first ++ bytes)) elements taken.opened =
-    rw (← (ap (λ input. stage base.session input) (append_assoc base.input first bytes))) (subst (GoesAll (longer (longer base first) bytes) elements) (sym taken.comes.3)
+    rw (← (ap (λ input. stage base.session input) (append_assoc base.input first bytes)))
+    (subst (GoesAll (longer (longer base first) bytes) elements) (sym taken.comes.3)
     (goes_grow (longer base first) cur elements bytes goes)) in
     let whole : GoesAll (longer base (first ++ bytes)) (elements ++ ps) mid =
     join_goes (longer base (first ++ bytes)) (record {
@@ -347,7 +348,8 @@ legs_same {one} {other} {xs = x ∷ xs} {ys = y ∷ ys} old films legs too alike
     let kept : AreFilms x.opened.session.films =
     subst AreFilms (sym (ap (λ (n : List Stored × List ℕ). n.0)
     (stepped_names old.session x.slot x.due x.halt x.opened.session leg.stepped))) films in
-    let ends = ends_same (legs_exchange xs) (legs_exchange ys) kept (record { last = x.until; goes = leg.goes; done = leg.done })
+    let ends = ends_same (legs_exchange xs) (legs_exchange ys) kept
+    (record { last = x.until; goes = leg.goes; done = leg.done })
     (record {
       last = y.until;
       goes = subst (λ s. GoesAll s y.elements y.until) place again.goes;
@@ -383,7 +385,8 @@ splits_same {base} {other = other} {a} {b} films x y alike =
     (joined (elements_exchange y.first y.elements) (legs_exchange y.legs)) =
     subst (ExchangesAlike (joined (elements_exchange x.first x.elements) (legs_exchange x.legs))) y.all_is
     (subst (λ e. ExchangesAlike e b) x.all_is alike) in
-    let ends = ends_same (legs_exchange x.legs) (legs_exchange y.legs) films (record { last = x.until; goes = x.goes; done = x.done })
+    let ends = ends_same (legs_exchange x.legs) (legs_exchange y.legs) films
+    (record { last = x.until; goes = x.goes; done = x.done })
     (record {
       last = y.until;
       goes = subst (λ bs. GoesAll (longer base bs) y.elements y.until) (sym cut.0) y.goes;

@@ -132,7 +132,8 @@ record TwoReplies (at : WatchStage) (begin : ℕ) : Type 0 where
   begins : (1 < replies at.history → first_slot at.history ≡ begin)
 
 slot_met : {bytes : List ℕ} {at : WatchStage} (s : WatchedStream) (slot : ℕ) → HeardFront s.stream.x bytes at →
-    TwoReplies at s.begin → (s.begin ≤ slot → IsFed s.wish s.stream.film s.stream.x bytes (slot - s.begin)) → is_read at.history slot ≡ true →
+    TwoReplies at s.begin → (s.begin ≤ slot → IsFed s.wish s.stream.film s.stream.x bytes (slot - s.begin))
+    → is_read at.history slot ≡ true →
     IsFilmHeard (film_sizes s.stream.film) (picture_time s.stream.film.rate) at.history (cut_bytes at.rest)
     × IsBetween s.wish (film_sizes s.stream.film) (picture_time s.stream.film.rate) (place_in at.history slot)
     (bytes_received at.history + cut_bytes at.rest)
@@ -171,7 +172,8 @@ record RoundHeard (event : IoEvent) (old : WatchStage) (round : Round) (new : Wa
 
 always_round : {event : IoEvent} {bytes : List ℕ} {old new : WatchStage} {round : Round} (s : WatchedStream)
     → RoundHeard event old round new → HeardFront s.stream.x bytes old → TwoReplies new s.begin
-    → ((slot : ℕ) → event ≡ HeardSlot slot → s.begin ≤ slot → IsFed s.wish s.stream.film s.stream.x bytes (slot - s.begin))
+    → ((slot : ℕ) → event ≡ HeardSlot slot → s.begin ≤ slot
+    → IsFed s.wish s.stream.film s.stream.x bytes (slot - s.begin))
     → IsMet s old.history → IsMet s new.history
 always_round {event = HeardBytes more} {old} {new} {round} s round_heard front two fed met =
     let B : IoEvent → Type 0 = λ e. Brings e old.rest round.moments new.rest in

@@ -246,7 +246,8 @@ module _ {x : Stream} {at : WatchStage} (received : StreamHeard x at) where
                   absurd (omega (
                     arith,
                     playing,
-                    ap (λ (z : Sum). z.replies) (whole.0 ∙ (ap (λ l. steps no_sum (events_of_elements l)) only ∙ single)),
+                    ap (λ (z : Sum). z.replies)
+                        (whole.0 ∙ (ap (λ l. steps no_sum (events_of_elements l)) only ∙ single)),
                   ))
               | inr more ↦
                   let k = count_ended (film_place x c) (x.blocks ++ x.later) in

@@ -251,7 +251,8 @@ abbrev from_taken : {b : Beginning} {out : Outlook} → Taken b out → Piece
 from_taken taken = joined (request_piece taken.request) taken.later
 
 -- where all SETUPs were processed, PLAY is processed
-play_first : {b : Beginning} {out : Outlook} (taken : Taken b out) → IsAhead b out taken.old.session [] (from_taken taken)
+play_first : {b : Beginning} {out : Outlook} (taken : Taken b out)
+    → IsAhead b out taken.old.session [] (from_taken taken)
     → IsPlayTaken b out taken.old.session taken.request.message (asking_of taken.request) taken.later.askings
     × (taken.later.requests ≡ out.last)
 play_first {b} {out} taken is =
@@ -263,7 +264,8 @@ play_first {b} {out} taken is =
   where
     open taken use {request, later, leads}
 
-play_walk : {b : Beginning} {out : Outlook} (taken : Taken b out) → IsAhead b out taken.old.session [] (from_taken taken)
+play_walk : {b : Beginning} {out : Outlook} (taken : Taken b out)
+    → IsAhead b out taken.old.session [] (from_taken taken)
     → IsPlayedWhole b out taken.old.session 0 (from_taken taken)
 play_walk {b} {out} taken is =
     let play = play_first taken is in
@@ -321,7 +323,8 @@ setup_walk {b} {out} taken one is =
     let same : replied.answered ≡ heard.asking =
     reply_same heard.asking heard.ask outcome replied.answered reply heard.answered in
     let own = own_reply (answers_as heard.ask outcome heard.answered) (subst IsOwnReply (sym reply) tt) in
-    let whole = own.whole (replies_whole old.session message heard.ask heard.asking is.named (setup_room b at) heard.hears) in
+    let whole = own.whole (replies_whole old.session message heard.ask heard.asking is.named
+    (setup_room b at) heard.hears) in
     let read : IsSetupRead replied.answered.text =
     elim (setup_replied b request at) [
       | inl still ↦

@@ -372,7 +372,8 @@ module _ (h : Hearing) where
   open h use {words, old, replied, linked}
 
   abbrev Answers : Outcome → SessionState → Ask → SessionState → Type 0
-  Answers outcome new ask asking = AnswersAs asking new ask outcome → Leads words old new (Asks asking.awaited outcome ∷ [])
+  Answers outcome new ask asking = AnswersAs asking new ask outcome
+      → Leads words old new (Asks asking.awaited outcome ∷ [])
 
   -- a reply waits, and else all is as before
   waiting : (tearing : Bool) (kept : ℕ → ℕ) (last : Option RunPlace) → IsLast words old kept last
@@ -522,7 +523,8 @@ module _ (h : Hearing) where
               (
                 refl,
                 subst (λ run. SendsNext words last run play) (sym frames)
-                    (next_run asked last (at_rest asked (kept_in (Asks (Play prepared) (Entered placed) ∷ later)) last was)
+                    (next_run asked last (at_rest asked
+                    (kept_in (Asks (Play prepared) (Entered placed) ∷ later)) last was)
                     next play refl),
                 follows (Some (run_place prepared.frames (play.before + play.keep))) under,
               ),

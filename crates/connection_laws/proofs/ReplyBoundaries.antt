@@ -108,7 +108,8 @@ turn_goes {old} (Starts after begins) = record {
       let there : Fits (point (Going p) old.heard (Some old.heard)) askings come =
       subst (λ s. Fits (point s old.heard (Some old.heard)) askings come) begins.sends fits in
       let made = begun_is begins askings in
-      let starts : IsBoundary p.pieces (p.before + 0) = subst (IsBoundary p.pieces) (omega arith) begins.pacing.begins in
+      let starts : IsBoundary p.pieces (p.before + 0) = subst (IsBoundary p.pieces)
+      (omega arith) begins.pacing.begins in
       rw begins.idle (record {
         from = (omega arith, there.from);
         later = rw made (record { starts = (begins.later, there.later.starts); begins = inl (omega arith, starts) });
@@ -254,7 +255,8 @@ pub record SlotStart (state : State) (waits : Bool) : Type 0 where
 pub record SlotMoves {state : State} {waits : Bool} (start : SlotStart state waits) : Type 0 where
   pub after : Option ℕ
   pub sound : IsSound (sends_in (state_after waits state start.slot)) (waits_after waits state start.slot) start.slot
-  pub held : IsHeld after (sends_in (state_after waits state start.slot)) (waits_after waits state start.slot) start.slot
+  pub held : IsHeld after (sends_in (state_after waits state start.slot))
+      (waits_after waits state start.slot) start.slot
   pub goes_on : GoesTo (point (sends_in state) start.heard start.pending)
       (point (sends_in (state_after waits state start.slot)) start.slot after)
       (parts_piece (parts_of waits state start.text start.slot))
@@ -365,7 +367,8 @@ as_going p heard None held = held
 as_going p heard (Some taken) held = held
 
 -- the slot of the play that is being sent
-abbrev play_slot : {state : State} {waits : Bool} (start : SlotStart state waits) (p : PacerState) → IsOnTime p start.heard
+abbrev play_slot : {state : State} {waits : Bool} (start : SlotStart state waits) (p : PacerState)
+    → IsOnTime p start.heard
     → IsHeld start.pending (Going p) waits start.heard
     → PlaySlot waits (stands_at_boundary (after_step true start.slot p)) start.pending
 play_slot start p on held = record {

@@ -135,7 +135,8 @@ reply_cases false s waits = ap (λ w. if w then s.text ∷ [] else []) waits
 answered_replies : {old new : Stage} (request : AnsweredRequest old new) → Stands old.session
     → Replies old.session (texts_in request.parts) (request.replied.answered.text ∷ []) new.session
 answered_replies {old} request stands =
-    let after = turn_after old.session replied.answered replied.heard.asking.awaited outcome (request_turns request stands) in
+    let after = turn_after old.session replied.answered replied.heard.asking.awaited outcome
+    (request_turns request stands) in
     ap (λ (s : Stage). texts_in parts ++ waiting_reply s.session) replied.new_is
     ∙ ap (λ ps. texts_in ps
     ++ waiting_reply (if can_reply replied.answered then sent_reply replied.answered else replied.answered))

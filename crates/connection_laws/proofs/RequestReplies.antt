@@ -146,7 +146,11 @@ setup_replied b {old} request is =
     let url = film_url b.wish ++ codes "/video" in
     let head = request_head (setup_parts b.wish) in
     let R : List ℕ → Type 0 = λ m. IsRequest m (codes "SETUP") url 1 head [] in
-    let call : IsCall request.message (codes "SETUP") url 1 head = record { body = []; read = subst R (sym is) asked.read } in
+    let call : IsCall request.message (codes "SETUP") url 1 head = record {
+      body = [];
+      read = subst R
+          (sym is) asked.read;
+    } in
     elim (setup_answered old.session request.message url 1 head heard.ask heard.asking call heard.hears) [
       | inl same ↦ inl same
       | inr told ↦
@@ -208,7 +212,8 @@ teardown_replied b {old} request is named =
     let call : IsCall request.message (codes "TEARDOWN") (film_url b.wish) 3 head =
     record { body = []; read = subst R (sym is) asked.read } in
     let S : Option (List ℕ) → Type 0 = λ v. IsOwnSession (has_session_in old.session.state) old.session.id v ⊥ in
-    let told = teardown_answered old.session request.message (film_url b.wish) 3 head heard.ask heard.asking call (record {
+    let told = teardown_answered old.session request.message (film_url b.wish) 3 head heard.ask heard.asking call
+    (record {
       free = ap (λ v. first_of v (header_value head (codes "Proxy-Require"))) its.require ∙ its.proxy;
       session = subst S (sym its.session) (has_one old.session.state named.setup_is, named.own);
       authority = named.authority;

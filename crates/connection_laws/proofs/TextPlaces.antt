@@ -162,7 +162,8 @@ text_at {p} {keep} {plays} {come} next stand =
             after = omega (arith, first, is, at.after);
             least = λ other boundary from. elim boundary [
               | inl mine ↦
-                  let least = at.least (p.before + other) mine.1 (omega (arith, first, is, from)) in omega (arith, least)
+                  let least = at.least (p.before + other) mine.1 (omega (arith, first, is, from)) in omega
+                  (arith, least)
               | inr past ↦ omega (arith, stand.holds, past.0)
             ];
           };

@@ -332,7 +332,8 @@ module _ {s : Sum} where
       (steps s (events_of_elements (first_blocks first)))
   first_done first =
       whole_unit {s = s} first.unit.starts_group first.from (first_marked first)
-      (packets_some first.unit (first_portion first.unit.from first.unit.head_end) (unit_lengths first.starts first.unit))
+      (packets_some first.unit (first_portion first.unit.from first.unit.head_end)
+      (unit_lengths first.starts first.unit))
       first.between
 
   come_past : {c : ℕ} (first : FirstUnit s) (ys : List (List ℕ)) (sizes : List ℕ) → first_size first ≤ c
@@ -352,7 +353,8 @@ module _ {s : Sum} where
       let come = later t (record { on = still; none = done.pending; outside = done.inside }) in
       let u = steps t (events_of_elements (take k ys)) in
       let all : steps s (events_of_elements (xs ++ take k ys)) ≡ u =
-      ap (steps s) (moments_parts xs (take k ys)) ∙ steps_on s (events_of_elements xs) (events_of_elements (take k ys)) in
+      ap (steps s) (moments_parts xs (take k ys))
+      ∙ steps_on s (events_of_elements xs) (events_of_elements (take k ys)) in
       let R : ℕ → Type 0 = λ n. HasCome (w ∷ sizes) c s (steps s (events_of_elements (take n (xs ++ ys)))) in
       let S : List (List ℕ) → Type 0 = λ bs. HasCome (w ∷ sizes) c s (steps s (events_of_elements bs)) in
       let T : Sum → Type 0 = λ v. HasCome (w ∷ sizes) c s v in

@@ -99,7 +99,8 @@ over_at {heard} {askings} {come} ended ends fits =
     past_all past 0 come.slots come.parts fits.from fits.stand.texts in
     record {
       holds = omega (arith, sent);
-      texts = subst (λ n. AreSentAt come.end (play ∷ plays) come.slots (placed_texts n come.parts)) (omega (arith, sent))
+      texts = subst (λ n. AreSentAt come.end (play ∷ plays) come.slots (placed_texts n come.parts))
+          (omega (arith, sent))
           shifted;
       film = (
         film_bytes come.parts,

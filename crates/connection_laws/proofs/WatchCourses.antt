@@ -114,7 +114,8 @@ pub record WishedStream : Type 0 where
 pub kept_promise : {watched : Watched} {rounds : List Round} {mid : WatchStage} {bytes out : List ℕ} (c : ℕ)
     (s : WishedStream) → RunsAll (stage [] []) rounds mid → HasWatchedAll s.wish watched rounds mid bytes out →
     rounds_heard rounds ++ bytes ≡ take c (framed_bytes (all_of s.stream.x)) →
-    AreFed s.wish s.stream.film s.stream.x (first_slot mid.history) [] rounds → IsPromise s.wish s.stream.film watched out
+    AreFed s.wish s.stream.film s.stream.x (first_slot mid.history) [] rounds
+    → IsPromise s.wish s.stream.film watched out
 kept_promise {rounds} {mid} {bytes} {out} c s runs all front fed =
     let done = all.done in
     let h = done.at.history in

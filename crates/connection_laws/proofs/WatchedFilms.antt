@@ -120,7 +120,8 @@ stopped_done {wish} {s} w received stopped decided =
     let mid = w.client.mid in
     let rounds = w.client.rounds in
     let front : rounds_heard rounds ++ bytes ≡ take received.count (framed_bytes (all_of s.stream.x)) =
-    ap (λ l. rounds_heard rounds ++ l) (sym (last_bytes bytes sent doings)) ∙ sym (told_bytes w.client) ∙ received.front in
+    ap (λ l. rounds_heard rounds ++ l) (sym (last_bytes bytes sent doings)) ∙ sym (told_bytes w.client)
+    ∙ received.front in
     let heard = heard_more bytes stops.elements
     (heard_all [] (stage [] []) mid rounds heard_none w.client.runs) stops.cut stops.good in
     let at = stage (history_after mid.history (events_of_elements stops.elements)) stops.mid in
@@ -147,7 +148,8 @@ last_none w none =
 
 -- how it ended
 ended : {wish : Wish} {s : FilmStream} (w : Watching wish) → IsReceived s w.heard
-    → Ends wish w.client.mid (length w.client.rounds) w.end w.client.last_doings w.client.last_out → RefusesNothing w.end
+    → Ends wish w.client.mid (length w.client.rounds) w.end w.client.last_doings w.client.last_out
+    → RefusesNothing w.end
 ended w received (inl (inl lost, none, empty)) = subst RefusesNothing (sym lost.0) tt
 ended w received (inl (inr spent, none, empty)) = subst RefusesNothing (sym spent.0) tt
 ended w received (inr (inl early)) = subst RefusesNothing (sym early.0) tt
