@@ -35,6 +35,8 @@ use Rattle.connection_laws.proofs.Slots.{ended_at, ending_cases, going_cases, pa
 use Rattle.connection_laws.proofs.RequestEffects.{Begins, Ends, Ending, Going, Idle, IsStill, Sends, Starts, Stays}
 use Rattle.connection_laws.proofs.RequestEffects.{TurnsAs, pacing_for, sends_in, unasked_still}
 use Rattle.connection_laws.proofs.CourseInduction.{Piece, parts_piece, no_piece}
+use Rattle.film_streams.specs.declared.setups.Setup.{Setup}
+use Rattle.session.specs.declared.states.Stop.{Stop}
 
 -- ---- a request is answered
 
@@ -170,6 +172,34 @@ pub record Replying (state : State) (goes : Bool) (heard : ℕ) (text : List ℕ
       (point (sends_in (if goes then after_stop state else state)) heard after)
       (parts_piece (if goes then Text text ∷ [] else []))
 
+-- at the end of a play that was halted
+ended_replying : (setup : Setup) (stop : Stop) (heard : ℕ) (text : List ℕ) → IsSound (Ending stop.pacer) true heard
+    → is_between (Stopping setup stop) ≡ true → Replying (Stopping setup stop) true heard text
+ended_replying setup stop heard text sound is =
+    let p : PacerState = stop.pacer in
+    let ended = ended_at sound.0 sound.2 (boundary_here p sound.0.pacing is) in
+    record {
+      after = None;
+      sound = tt;
+      held = refl;
+      goes_on = record {
+        later = omega arith;
+        rest = λ askings come on fits. record {
+          from = fits.from;
+          later = fits.later;
+          stand = text_at (record {
+            slot = heard;
+            text = text;
+            due = min (first_slots p.plan (heard + 1 - p.start)) p.keep;
+            at = at_here p heard sound.0 is;
+            is = refl;
+            after = fits.later.starts;
+            far = due_far p heard come.end sound.0 on;
+          }) (over_at (record { p = p; keep = p.keep; on = sound.0; sent = ended }) on fits);
+        };
+      };
+    }
+
 pub replying : (state : State) (goes : Bool) (heard : ℕ) (text : List ℕ) → IsSound (sends_in state) true heard
     → is_between state ≡ goes → Replying state goes heard text
 replying (Playing setup play) true heard text sound is =
@@ -195,30 +225,7 @@ replying (Playing setup play) true heard text sound is =
         };
       };
     }
-replying (Stopping setup stop) true heard text sound is =
-    let p : PacerState = stop.pacer in
-    let ended = ended_at sound.0 sound.2 (boundary_here p sound.0.pacing is) in
-    record {
-      after = None;
-      sound = tt;
-      held = refl;
-      goes_on = record {
-        later = omega arith;
-        rest = λ askings come on fits. record {
-          from = fits.from;
-          later = fits.later;
-          stand = text_at (record {
-            slot = heard;
-            text = text;
-            due = min (first_slots p.plan (heard + 1 - p.start)) p.keep;
-            at = at_here p heard sound.0 is;
-            is = refl;
-            after = fits.later.starts;
-            far = due_far p heard come.end sound.0 on;
-          }) (over_at (record { p = p; keep = p.keep; on = sound.0; sent = ended }) on fits);
-        };
-      };
-    }
+replying (Stopping setup stop) true heard text sound is = ended_replying setup stop heard text sound is
 replying Init false heard text sound is = absurd (true≢false is)
 replying (Ready setup paused) false heard text sound is = absurd (true≢false is)
 replying (Playing setup play) false heard text sound is = record {
