@@ -13,21 +13,19 @@ use Rattle.admission.specs.Machine.{booked_in}
 use Rattle.admission.proofs.HistoryPrefixes.{legal-take}
 use Rattle.admission.proofs.CapacityBounds.{sound-after}
 use Rattle.day_script.specs.declared.scripts.Line.{Line}
-use Rattle.day_run.specs.DayLaws.{SentIsBookedAfter}
 use Rattle.day_script.specs.Scripts.{AreClients, IsClient, AreLines, StandsAfter, latest_slot}
-use Rattle.day_run.specs.Days.{AreLineSteps, IsDay, SharedLink, DayState, last_halts, sent_up_to}
+use Rattle.day_run.specs.DayLaws.{SentIsBookedAfter}
+use Rattle.day_run.specs.Days.{AreLineSteps, IsDay, SharedLink, DayState, first_moment, last_halts, sent_up_to}
 use Rattle.day_run.proofs.LineOutcomes.{day-sent, HasGrown, grown-on, kept-grown, line-outcome, outcome-grown}
-use Rattle.day_run.proofs.LineOutcomes.{outcome-heard, run-keeps}
-use Rattle.day_run.proofs.ScriptLines.{LineStep, LinesTaken, StandingLines, first-standing, rest-standing}
+use Rattle.day_run.proofs.LineOutcomes.{rest_run, run-keeps}
+use Rattle.day_run.proofs.ScriptLines.{LineRun, LineStep, LinesTaken}
 
-run-grown : {n : ℕ} (link : SharedLink) (ls : List Line) (ts : List (List ℕ)) (old new : DayState)
-    → StandingLines old.heard n ls → AreLineSteps link ls ts old new → HasGrown old.entries new.entries
-run-grown link ls ts old new standing run =
-    run-keeps {link = link} {old = old} {new = new} (λ (m : DayState). HasGrown old.entries m.entries)
-    (λ line mid next text may is grown.
-    let step : LineStep = record { link = link; old = mid; new = next; text = text } in
-    grown-on old.entries mid.entries next.entries grown (outcome-grown step (line-outcome step line may is)))
-    ls ts standing run (kept-grown old old refl)
+run-grown : (ls : List Line) (ts : List (List ℕ)) (taken : LineRun ls ts) → HasGrown taken.old.entries taken.new.entries
+run-grown ls ts taken =
+    run-keeps ls ts taken (λ (m : DayState). HasGrown taken.old.entries m.entries) (λ line mid next text may is grown.
+    let step : LineStep = record { link = taken.link; old = mid; new = next; text = text } in
+    grown-on taken.old.entries mid.entries next.entries grown (outcome-grown step (line-outcome step line may is)))
+    (kept-grown taken.old taken.old refl)
 
 -- the moment after so many lines of a run
 record FrontOf (link : SharedLink) (ls : List Line) (count : ℕ) (old new : DayState) : Type 0 where
@@ -36,18 +34,21 @@ record FrontOf (link : SharedLink) (ls : List Line) (count : ℕ) (old new : Day
   front : AreLineSteps link (take count ls) texts old moment
   grown : HasGrown moment.entries new.entries
 
-run-front : {n : ℕ} (link : SharedLink) (ls : List Line) (ts : List (List ℕ)) (count : ℕ) {old new : DayState}
-    → StandingLines old.heard n ls → AreLineSteps link ls ts old new → FrontOf link ls count old new
-run-front link ls ts zero {old} {new} standing run =
-    record { texts = []; moment = old; front = refl; grown = run-grown link ls ts old new standing run }
-run-front link [] [] (suc count) {old} {new} standing run =
-    record { texts = []; moment = old; front = refl; grown = kept-grown old new run }
-run-front link (l ∷ ls) (t ∷ ts) (suc count) {old} {new} standing run =
-    let step : LineStep = record { link = link; old = old; new = run.0; text = t } in
-    let next = rest-standing standing (outcome-heard step (line-outcome step l (first-standing standing) run.1.0)) in
-    let rest = run-front link ls ts count {old = run.0} {new = new} next run.1.1 in
-    record { texts = t ∷ rest.texts; moment = rest.moment; front = (run.0, (run.1.0, rest.front)); grown = rest.grown }
-run-front link _ _ (suc count) standing run = absurd run
+run-front : (ls : List Line) (ts : List (List ℕ)) (count : ℕ) (taken : LineRun ls ts)
+    → FrontOf taken.link ls count taken.old taken.new
+run-front ls ts zero taken =
+    record { texts = []; moment = taken.old; front = refl; grown = run-grown ls ts taken }
+run-front [] [] (suc count) taken =
+    record { texts = []; moment = taken.old; front = refl; grown = kept-grown taken.old taken.new taken.run }
+run-front (l ∷ ls) (t ∷ ts) (suc count) taken =
+    let rest = run-front ls ts count (rest_run taken) in
+    record {
+      texts = t ∷ rest.texts;
+      moment = rest.moment;
+      front = (taken.run.0, (taken.run.1.0, rest.front));
+      grown = rest.grown;
+    }
+run-front _ _ (suc count) taken = absurd taken.run
 
 clients-take : {ls : List Line} (count : ℕ) → AreClients ls → AreClients (take count ls)
 clients-take {ls} count are = record {
@@ -89,10 +90,15 @@ pub day-keeps : {link : SharedLink} {n : ℕ} {lines : List Line} {text : List �
     → IsDay link lines text journal → IsLegal link.steps journal → SentIsBookedAfter link lines count
 day-keeps {link} {n} {lines} count clients are day legal =
     let L : List Entry → Type 0 = λ l. IsLegal link.steps l in
-    let standing : StandingLines 0 n lines = record { clients = clients.each; stands = are.each } in
-    let at = run-front link lines day.texts count standing day.run in
-    let evening = day.evening in
-    let last = front-legal evening.entries (last_halts evening) (subst L day.journal_is legal) in
+    let at = run-front lines day.texts count (record {
+      link = link;
+      n = n;
+      old = first_moment;
+      new = day.evening;
+      standing = record { clients = clients.each; stands = are.each };
+      run = day.run;
+    }) in
+    let last = front-legal day.evening.entries (last_halts day.evening) (subst L day.journal_is legal) in
     let here = front-legal at.moment.entries at.grown.made (subst L at.grown.new_is last) in
     let taken : LinesTaken link n = record {
       lines = take count lines;

@@ -16,6 +16,7 @@ use Rattle.slot_calendar.specs.Plays.{truncated_play}
 use Rattle.slot_calendar.specs.Profiles.{capacity_at}
 use Rattle.early_start.specs.StartSearch.{IsOffer, Offers}
 use Rattle.early_start.proofs.RefusedStarts.{same_start, same_tried}
+use Rattle.admission.specs.declared.entries.Answer.{Answer}
 use Rattle.admission.specs.declared.entries.Answer.TheVariants.{Halted}
 use Rattle.admission.specs.declared.entries.Command.TheVariants as commands
 use Rattle.admission.specs.declared.entries.Entry.{Entry}
@@ -24,32 +25,32 @@ use Rattle.admission.specs.Machine.{booked_in}
 use Rattle.admission.proofs.UniqueHistory.{answer-once}
 use Rattle.day_script.specs.declared.scripts.Line.{Line}
 use Rattle.day_script.specs.declared.scripts.Line.TheVariants as lines
-use Rattle.day_run.specs.DayLaws.{IsLink, IsSoundRest, IsSoundClient, IsSoundMedia}
+use Rattle.day_run.specs.DayLaws.{IsLink, IsSoundClient, IsSoundMedia}
 use Rattle.day_script.specs.Scripts.{AreClients, AreLines}
+use Rattle.day_run.specs.Days.{first_moment, last_lines}
 use Rattle.day_run.specs.Days.{AreLineSteps, AskedPlay, IsAnsweredPlay, IsAsked, IsDay, IsFaulty, IsFull, rest_at}
 use Rattle.day_run.specs.Days.{IsHaltedPlay, IsLine, IsLookLine, IsNoted, IsOfferLine, IsPauseLine, IsResumeLine}
-use Rattle.day_run.specs.Days.{IsTold, SharedLink, DayState, entry_by, last_journal, last_lines, state_at, with_play}
-use Rattle.day_run.specs.Days.{first_moment}
-use Rattle.day_script.specs.LineTexts.{fault_text, offer_text, state_text, fair_text}
-use Rattle.report.specs.EntryLines.{entry_line}
+use Rattle.day_run.specs.Days.{IsTold, SharedLink, DayState, entry_by, last_journal, state_at, with_play}
+use Rattle.day_script.specs.LineTexts.{fault_text, offer_text, state_text}
+use Rattle.film_run.specs.declared.runs.Run.{Run}
 use Rattle.day_run.specs.ClientStates.{IfBusy, Playing, Pausing, Paused, ClientPlay, Rest, ClientState, pausing_state}
 use Rattle.day_run.specs.ClientStates.{slot_sent, Idle, MediaContent, trace_content}
-use Rattle.day_run.proofs.LineOutcomes.{morning-ready, line-outcome, outcome-heard}
-use Rattle.day_run.proofs.SoundClients.{IsSound, idle-sound, line-sound, whole-sound, slot-sound}
-use Rattle.day_run.proofs.ScriptLines.{LineStep, StandingLine, StandingLines, first-standing, rest-standing}
+use Rattle.day_run.proofs.LineOutcomes.{TakenTurn, morning-ready, rest_run, turn_step}
+use Rattle.day_run.proofs.SoundClients.{IsSound, IsSoundIfAny, idle-sound, line-sound, whole-sound, slot-sound}
+use Rattle.day_run.proofs.ScriptLines.{LineRun, LineStep, StandingLine, first-standing, head_step}
 use Rattle.std.specs.List.{range_with_len}
 use Rattle.std.proofs.lemmas.List.{get_or-map, length-map}
 use Rattle.std.proofs.lemmas.List.FromFn.{length-map-range_with_len, length-range_with_len}
 use Rattle.std.proofs.lemmas.Nat.{mod_below}
-use Rattle.film_make.specs.Generator.{words_after, words_of}
+use Rattle.film_make.specs.Generator.{words_after}
 use Rattle.film_run.specs.Units.{AreUnitSizes}
 use Rattle.slot_calendar.specs.declared.profiles.CapStep.{CapStep}
 use Rattle.day_run.specs.declared.fairs.TheConstants.{BUFFER_SIZES, SLOT_UNITS}
-use Rattle.day_run.specs.FairDays.{AreTurns, IsDone, IsFair, IsTurn, FairTurn, after_traces, after_turn, at_later}
-use Rattle.day_run.specs.FairDays.{client_of, counts_of, entry_counts_of, fair_link, line_drawn, line_in, state_in}
+use Rattle.day_run.specs.FairDays.{AreTurns, IsDone, IsTurn, FairTurn, after_traces, after_turn, at_later}
+use Rattle.day_run.specs.FairDays.{client_of, fair_link, line_drawn, line_in, state_in}
 use Rattle.day_run.specs.FairDays.{trace_drawn, traces_drawn}
 use Rattle.day_run.proofs.FairTurns.{drawn-trace}
-use Rattle.day_run.proofs.FairLaws.{TurnRun, turn-mid}
+use Rattle.day_run.proofs.FairLaws.{TurnRun, first_turn, rest_turns, turn-mid}
 
 -- ---- one fault, one plan
 fault-apart : (sizes : List ℕ) (timing : Timing) (fault : CurveFault) → HasCurveFault sizes timing fault
@@ -79,32 +80,18 @@ pub record IsOne (pair : OutcomePair) : Type 0 where
   pub text_is : pair.one.text ≡ pair.other.text
 
 -- both are such outcomes
-record AreBoth (pair : OutcomePair) (Is : DayState → DayState → List ℕ → Type 0) : Type 0 where
-  a : Is pair.old pair.one.new pair.one.text
-  b : Is pair.old pair.other.new pair.other.text
+pub record AreBoth (pair : OutcomePair) (Is : DayState → DayState → List ℕ → Type 0) : Type 0 where
+  pub a : Is pair.old pair.one.new pair.one.text
+  pub b : Is pair.old pair.other.new pair.other.text
 
 pub one-told : {told : List ℕ} (pair : OutcomePair) → IsTold told pair.old pair.one.new pair.one.text
     → IsTold told pair.old pair.other.new pair.other.text → IsOne pair
 one-told pair a b = record { new_is = a.kept ∙ sym b.kept; text_is = a.text_is ∙ sym b.text_is }
 
--- the same entry and the same clients
-record SameNoted (one other : Entry) (states states' : List ClientState) : Type 0 where
-  entry : one ≡ other
-  clients : states ≡ states'
-
-one-noted : {one other : Entry} {states states' : List ClientState} (pair : OutcomePair)
-    → SameNoted one other states states' → IsNoted pair.link one states pair.old pair.one.new pair.one.text
-    → IsNoted pair.link other states' pair.old pair.other.new pair.other.text → IsOne pair
-one-noted {one} {other} {states} pair same a b =
-    let old = pair.old in
-    record {
-      new_is =
-          a.new_is
-          ∙ ap (λ x. record { entries = old.entries ++ x ∷ []; states = states; heard = old.heard }) same.entry
-          ∙ ap (λ l. record { entries = old.entries ++ other ∷ []; states = l; heard = old.heard }) same.clients
-          ∙ sym b.new_is;
-      text_is = a.text_is ∙ ap (entry_line (length old.entries)) same.entry ∙ sym b.text_is;
-    }
+one-noted : {entry : Entry} {states : List ClientState} (pair : OutcomePair)
+    → IsNoted pair.link entry states pair.old pair.one.new pair.one.text
+    → IsNoted pair.link entry states pair.old pair.other.new pair.other.text → IsOne pair
+one-noted pair a b = record { new_is = a.new_is ∙ sym b.new_is; text_is = a.text_is ∙ sym b.text_is }
 
 -- the journal is full, or the play is answered
 abbrev IsFullOrAnswered : SharedLink → AskedPlay → DayState → DayState → List ℕ → Type 0
@@ -121,10 +108,9 @@ one-planned {ask} pair (inr a) (inr b) =
     let same : a.answer ≡ b.answer =
     answer-once (record { steps = pair.link.steps; state = state_after old.entries })
     (commands.Play old.heard ask.plan) a.answer b.answer a.noted.answered b.noted.answered in
-    one-noted pair (record {
-      entry = ap (entry_by ask.client (commands.Play old.heard ask.plan)) same;
-      clients = ap (λ x. with_play ask.client ask.rest ask.plan (length old.entries) x old.states) same;
-    }) a.noted b.noted
+    let N : Answer → Type 0 = λ x. IsNoted pair.link (entry_by ask.client (commands.Play old.heard ask.plan) x)
+    (with_play ask.client ask.rest ask.plan (length old.entries) x old.states) old pair.one.new pair.one.text in
+    one-noted pair (subst N same a.noted) b.noted
 
 one-fault : {rest : Rest} (pair : OutcomePair) → IsFaulty rest pair.old pair.one.new pair.one.text
     → IsFaulty rest pair.old pair.other.new pair.other.text → IsOne pair
@@ -133,10 +119,6 @@ one-fault {rest} pair a b =
     b.fault a.fault_is b.fault_is in
     let T : CurveFault → Type 0 = λ f. IsTold (fault_text f) pair.old pair.one.new pair.one.text in
     one-told pair (subst T same a.told) b.told
-
--- what is to be sent is sound, if there is a picture
-abbrev IsSoundIfAny : Rest → Type 0
-IsSoundIfAny rest = 0 < length (rest_sizes rest.sizes rest.run) → IsSoundRest rest
 
 one-plan : {one other : List Segment} (rest : Rest) → IsSoundIfAny rest
     → IsPlanOf rest.sizes rest.playback rest.run one → IsPlanOf rest.sizes rest.playback rest.run other → one ≡ other
@@ -185,17 +167,13 @@ one-halted {c} {play} pair a b =
     (slot_sent play.start old.heard) k a.pause.left in
     let left : a.pause.left ≡ b.pause.left =
     left-one b.pause.left_is (subst L keep a.pause.left_is) in
+    let after : ℕ → Run → ClientState =
+    λ k r. pausing_state old.heard (truncated_play play.start play.plan k) (record play.rest { run = r }) in
     let state : a.state ≡ b.state =
-    a.pause.state_is
-    ∙ ap (λ k. pausing_state old.heard (truncated_play play.start play.plan k) (record play.rest {
-      run = a.pause.left;
-    })) keep
-    ∙ ap (λ r. pausing_state old.heard (truncated_play play.start play.plan b.keep) (record play.rest { run = r }))
-    left ∙ sym b.pause.state_is in
-    one-noted pair (record {
-      entry = ap (λ k. entry_by c (commands.Halt play.number k) Halted) keep;
-      clients = ap (set old.states c) state;
-    }) a.noted b.noted
+    a.pause.state_is ∙ ap (λ k. after k a.pause.left) keep ∙ ap (after b.keep) left ∙ sym b.pause.state_is in
+    let N : ℕ → ClientState → Type 0 = λ k s. IsNoted pair.link (entry_by c (commands.Halt play.number k) Halted)
+    (set old.states c s) old pair.one.new pair.one.text in
+    one-noted pair (subst (N b.keep) state (subst (λ (k : ℕ). N k a.state) keep a.noted)) b.noted
 
 one-pause : (pair : OutcomePair) (c : ℕ) (state : ClientState) → AreBoth pair (IsPauseLine pair.link c state)
     → IsOne pair
@@ -210,7 +188,9 @@ one-look pair (inr a) (inl b) = absurd (omega (arith, a.room, b.full))
 one-look {slot} pair (inr a) (inr b) =
     let same = answer-once (record { steps = pair.link.steps; state = state_after pair.old.entries })
     (commands.Look slot) a.answer b.answer a.noted.answered b.noted.answered in
-    one-noted pair (record { entry = ap (entry_by 0 (commands.Look slot)) same; clients = refl }) a.noted b.noted
+    let N : Answer → Type 0 = λ x. IsNoted pair.link (entry_by 0 (commands.Look slot) x) pair.old.states pair.old
+    pair.one.new pair.one.text in
+    one-noted pair (subst N same a.noted) b.noted
 
 one-found : (one other : Offers) → one.wait ≡ other.wait → one.start ≡ other.start → one.tried ≡ other.tried
     → one ≡ other
@@ -244,65 +224,87 @@ one-offer {rest} pair own (inr a) (inr b) =
 
 pub one-line : (pair : OutcomePair) (line : Line) → IsLink pair.link
     → StandingLine pair.old.heard (length pair.link.media) line → IsSound pair.old
-    → IsLine pair.link line pair.old pair.one.new pair.one.text
-    → IsLine pair.link line pair.old pair.other.new pair.other.text → IsOne pair
-one-line pair (lines.Play c source buffer delay) link-is standing sound a b =
+    → AreBoth pair (IsLine pair.link line) → IsOne pair
+one-line pair (lines.Play c source buffer delay) link-is standing sound both =
     one-play pair c (rest_at pair.link source buffer delay) (state_at pair.old c) (whole-sound link-is standing.stands)
-    (record { a = a; b = b })
-one-line pair (lines.Pause c) link-is standing sound a b =
-    one-pause pair c (state_at pair.old c) (record { a = a; b = b })
-one-line pair (lines.Resume c) link-is standing sound a b =
-    one-resume pair c (state_at pair.old c) (sound.each c standing.client) (record { a = a; b = b })
-one-line pair (lines.Look slot) link-is standing sound a b = one-look pair a b
-one-line pair (lines.Slot slot) link-is standing sound a b =
-    record { new_is = a.0 ∙ sym b.0; text_is = a.1 ∙ sym b.1 }
-one-line pair (lines.Offer c source buffer delay wait) link-is standing sound a b =
-    one-offer pair (whole-sound link-is standing.stands.0) a b
+    (record { a = both.a; b = both.b })
+one-line pair (lines.Pause c) link-is standing sound both =
+    one-pause pair c (state_at pair.old c) (record { a = both.a; b = both.b })
+one-line pair (lines.Resume c) link-is standing sound both =
+    one-resume pair c (state_at pair.old c) (sound.each c standing.client) (record { a = both.a; b = both.b })
+one-line pair (lines.Look slot) link-is standing sound both = one-look pair both.a both.b
+one-line pair (lines.Slot slot) link-is standing sound both =
+    record { new_is = both.a.0 ∙ sym both.b.0; text_is = both.a.1 ∙ sym both.b.1 }
+one-line pair (lines.Offer c source buffer delay wait) link-is standing sound both =
+    one-offer pair (whole-sound link-is standing.stands.0) both.a both.b
 
 -- ---- a run of lines has one outcome
 pub record IsOneRun (new new' : DayState) (texts texts' : List (List ℕ)) : Type 0 where
   pub new_is : new ≡ new'
   pub texts_are : texts ≡ texts'
 
-one-run : {link : SharedLink} {texts texts' : List (List ℕ)} {old new new' : DayState} (ls : List Line) → IsLink link
-    → StandingLines old.heard (length link.media) ls → IsSound old → AreLineSteps link ls texts old new
-    → AreLineSteps link ls texts' old new' → IsOneRun new new' texts texts'
-one-run {texts = []} {texts' = []} {new} [] link-is standing sound a b = record { new_is = a ∙ sym b; texts_are = refl }
-one-run {texts = t ∷ ts} {new} [] link-is standing sound a b = absurd a
-one-run {texts = []} {texts' = t ∷ ts} {new} [] link-is standing sound a b = absurd b
-one-run {texts = []} {new} (l ∷ ls) link-is standing sound a b = absurd a
-one-run {texts = t ∷ ts} {texts' = []} {new} (l ∷ ls) link-is standing sound a b = absurd b
-one-run {link} {texts = t ∷ ts} {texts' = t' ∷ ts'} {old} {new} {new'} (l ∷ ls) link-is standing sound a b =
-    let step : LineStep = record { link = link; old = old; new = a.0; text = t } in
-    let first = first-standing standing in
-    let pair : OutcomePair = record {
-      link = link;
-      old = old;
-      one = record { new = a.0; text = t };
-      other = record { new = b.0; text = t' };
-    } in
-    let one = one-line pair l link-is first sound a.1.0 b.1.0 in
-    let next = line-sound step l link-is first sound a.1.0 in
-    let after = rest-standing standing (outcome-heard step (line-outcome step l first a.1.0)) in
-    let rest = one-run {link = link} {texts = ts} {texts' = ts'} {old = a.0} {new = new} {new' = new'} ls
-    link-is after next a.1.1 (subst (λ (m : DayState). AreLineSteps link ls ts' m new') (sym one.new_is) b.1.1) in
-    record { new_is = rest.new_is; texts_are = ap (λ x. x ∷ ts) one.text_is ∙ ap (λ xs. t' ∷ xs) rest.texts_are }
+-- two runs of the same lines from a sound day
+pub record RunPair (lines : List Line) (texts others : List (List ℕ)) : Type 0 where
+  pub one : LineRun lines texts
+  pub new : DayState
+  pub other : AreLineSteps one.link lines others one.old new
+  pub link_is : IsLink one.link
+  pub count : one.n ≡ length one.link.media
+  pub sound : IsSound one.old
+
+pub one-run : (ls : List Line) (ts us : List (List ℕ)) (pair : RunPair ls ts us) → IsOneRun pair.one.new pair.new ts us
+one-run [] [] [] pair = record { new_is = pair.one.run ∙ sym pair.other; texts_are = refl }
+one-run (l ∷ ls) (t ∷ ts) (u ∷ us) pair =
+    let a = pair.one in
+    let b = pair.other in
+    let first = subst (λ n. StandingLine a.old.heard n l) pair.count (first-standing a.standing) in
+    let one = one-line (record {
+      link = a.link;
+      old = a.old;
+      one = record { new = a.run.0; text = t };
+      other = record { new = b.0; text = u };
+    }) l pair.link_is first pair.sound (record { a = a.run.1.0; b = b.1.0 }) in
+    let rest = one-run ls ts us (record {
+      one = rest_run a;
+      new = pair.new;
+      other = subst (λ (m : DayState). AreLineSteps a.link ls us m pair.new) (sym one.new_is) b.1.1;
+      link_is = pair.link_is;
+      count = pair.count;
+      sound = line-sound (head_step a) l pair.link_is first pair.sound a.run.1.0;
+    }) in
+    record { new_is = rest.new_is; texts_are = ap (λ x. x ∷ ts) one.text_is ∙ ap (λ xs. u ∷ xs) rest.texts_are }
+one-run [] [] (u ∷ us) pair = absurd pair.other
+one-run (l ∷ ls) (t ∷ ts) [] pair = absurd pair.other
+one-run _ _ _ pair = absurd pair.one.run
 
 pub one-day : {link : SharedLink} {ls : List Line} {text text' : List ℕ} {journal journal' : List Entry} → IsLink link
     → AreClients ls → AreLines (length link.media) ls → IsDay link ls text journal → IsDay link ls text' journal'
     → (text ≡ text') × (journal ≡ journal')
-one-day {ls} link-is clients are a b =
-    let one = one-run ls link-is (record { clients = clients.each; stands = are.each })
-    (record { ready = morning-ready; each = idle-sound }) a.run b.run in (
+one-day {link} {ls} link-is clients are a b =
+    let one = one-run ls a.texts b.texts (record {
+      one = record {
+        link = link;
+        n = length link.media;
+        old = first_moment;
+        new = a.evening;
+        standing = record { clients = clients.each; stands = are.each };
+        run = a.run;
+      };
+      new = b.evening;
+      other = b.run;
+      link_is = link-is;
+      count = refl;
+      sound = record { ready = morning-ready; each = idle-sound };
+    }) in (
       a.text_is ∙ ap (λ ts. flat_map (λ (t : List ℕ). t) ts ++ last_lines a.evening) one.texts_are
           ∙ ap (λ m. flat_map (λ (t : List ℕ). t) b.texts ++ last_lines m) one.new_is ∙ sym b.text_is,
       a.journal_is ∙ ap last_journal one.new_is ∙ sym b.journal_is,
     )
 
 -- ---- the 16 traces can be played
-record IsFairLink (link : SharedLink) : Type 0 where
-  link_is : IsLink link
-  count : length link.media ≡ 16
+pub record IsFairLink (link : SharedLink) : Type 0 where
+  pub link_is : IsLink link
+  pub count : length link.media ≡ 16
 
 trace-sizes : (words : ℕ → ℕ) → AreUnitSizes (trace_drawn words)
 trace-sizes words =
@@ -325,7 +327,7 @@ medium-drawn words i none inside =
     let R : MediaContent → Type 0 = λ r. IsSoundMedia r in
     subst R (sym at) (trace-medium _ (trace-sizes (after_traces (get_or (range_with_len 0 16) i 0) words)))
 
-fair-link : (steps : List CapStep) (words : ℕ → ℕ) → IsFairLink (fair_link steps words)
+pub fair-link : (steps : List CapStep) (words : ℕ → ℕ) → IsFairLink (fair_link steps words)
 fair-link steps words =
     let count : length (map (trace_content SLOT_UNITS) (traces_drawn 16 words)) ≡ 16 =
     length-map (traces_drawn 16 words) (trace_content SLOT_UNITS)
@@ -341,42 +343,42 @@ fair-link steps words =
 
 -- ---- what a client does has one outcome
 -- a moment of a large day from which turns come
-record IsBegun (link : SharedLink) (old : DayState) : Type 0 where
-  fair : IsFairLink link
-  sound : IsSound old
+pub record IsBegun (link : SharedLink) (old : DayState) : Type 0 where
+  pub fair : IsFairLink link
+  pub sound : IsSound old
 
 -- a line that may stand at a moment, or none
 abbrev MayStand : SharedLink → DayState → Option Line → Type 0
 MayStand link old line = IfSome line (StandingLine old.heard (length link.media))
 
-drawn-stands : {link : SharedLink} {client : ℕ} (old : DayState) (words : ℕ → ℕ) (state : ClientState) → IsFairLink link
-    → client < 256 → MayStand link old (line_drawn words client state)
-drawn-stands old words Idle fair small =
-    let source = mod_below (words 0) 16 (omega arith) in
-    let buffer = mod_below (words 1) BUFFER_SIZES (omega arith) in
-    let delay = mod_below (words 2) 26 (omega arith) in
-    record {
-      client = small;
-      stands = record {
-        inside = omega (arith, source, fair.count);
-        some_buffer = omega arith;
-        buffer_fits = omega (arith, buffer);
-        delay_fits = omega (arith, delay);
-      };
-    }
-drawn-stands old words (Pausing stop rest) fair small = tt
-drawn-stands old words _ fair small = record { client = small; stands = tt }
-
-line-stands : {link : SharedLink} (words : ℕ → ℕ) (turn : FairTurn) → IsFairLink link
-    → MayStand link turn.mid (line_in words turn)
-line-stands words turn fair =
-    drawn-stands turn.mid (words_after 2 words) (state_in words turn) fair (mod_below (words 1) 256 (omega arith))
+line-stands : (taken : TakenTurn) → IsFairLink taken.link
+    → MayStand taken.link taken.turn.mid (line_in taken.words taken.turn)
+line-stands taken fair = by-state (state_in taken.words taken.turn)
+  where
+    by-state : (state : ClientState) → MayStand taken.link taken.turn.mid
+        (line_drawn (words_after 2 taken.words) (client_of taken.words) state)
+    by-state Idle =
+        let words = words_after 2 taken.words in
+        let source = mod_below (words 0) 16 (omega arith) in
+        let buffer = mod_below (words 1) BUFFER_SIZES (omega arith) in
+        let delay = mod_below (words 2) 26 (omega arith) in
+        record {
+          client = mod_below (taken.words 1) 256 (omega arith);
+          stands = record {
+            inside = omega (arith, source, fair.count);
+            some_buffer = omega arith;
+            buffer_fits = omega (arith, buffer);
+            delay_fits = omega (arith, delay);
+          };
+        }
+    by-state (Pausing stop rest) = tt
+    by-state _ = record { client = mod_below (taken.words 1) 256 (omega arith); stands = tt }
 
 one-done : (pair : OutcomePair) (line : Option Line) → IsBegun pair.link pair.old → MayStand pair.link pair.old line
-    → IsDone pair.link line pair.old pair.one.new pair.one.text
-    → IsDone pair.link line pair.old pair.other.new pair.other.text → IsOne pair
-one-done pair (Some line) begun stands a b = one-line pair line begun.fair.link_is stands begun.sound a b
-one-done pair None begun stands a b = one-told pair a b
+    → AreBoth pair (IsDone pair.link line) → IsOne pair
+one-done pair (Some line) begun stands both =
+    one-line pair line begun.fair.link_is stands begun.sound (record { a = both.a; b = both.b })
+one-done pair None begun stands both = one-told pair both.a both.b
 
 done-sound : (step : LineStep) (line : Option Line) → IsBegun step.link step.old → MayStand step.link step.old line
     → IsDone step.link line step.old step.new step.text → IsSound step.new
@@ -385,27 +387,25 @@ done-sound step None begun stands is =
     subst IsSound (sym is.kept) begun.sound
 
 -- ---- a turn has one outcome
-mid-begun : {link : SharedLink} {words : ℕ → ℕ} (turn : FairTurn) → IsBegun link turn.old → IsTurn link words turn
-    → IsBegun link turn.mid
-mid-begun turn begun is = record {
+-- ---- a turn has one outcome
+mid-begun : (taken : TakenTurn) → IsBegun taken.link taken.turn.old → IsBegun taken.link taken.turn.mid
+mid-begun taken begun = record {
   fair = begun.fair;
-  sound = turn-mid IsSound is begun.sound (slot-sound turn.old _ (omega arith) begun.sound);
+  sound = turn-mid taken IsSound begun.sound (slot-sound taken.turn.old _ (omega arith) begun.sound);
 }
 
-next-begun : {link : SharedLink} {words : ℕ → ℕ} (turn : FairTurn) → IsBegun link turn.old → IsTurn link words turn
-    → IsBegun link turn.new
-next-begun {link} {words} turn begun is = record {
+next-begun : (taken : TakenTurn) → IsBegun taken.link taken.turn.old → IsBegun taken.link taken.turn.new
+next-begun taken begun = record {
   fair = begun.fair;
-  sound =
-      done-sound (record { link = link; old = turn.mid; new = turn.new; text = turn.text }) (line_in words turn)
-      (mid-begun turn begun is) (line-stands words turn begun.fair) is.done;
+  sound = done-sound (turn_step taken) (line_in taken.words taken.turn) (mid-begun taken begun)
+      (line-stands taken begun.fair) taken.is.done;
 }
 
-one-turn : {link : SharedLink} {words : ℕ → ℕ} (turn other : FairTurn) → IsBegun link turn.old → turn.old ≡ other.old
-    → IsTurn link words turn → IsTurn link words other → turn ≡ other
-one-turn {link} {words} turn other begun old a b =
+one-turn : (taken : TakenTurn) (other : FairTurn) → IsBegun taken.link taken.turn.old → taken.turn.old ≡ other.old
+    → IsTurn taken.link taken.words other → taken.turn ≡ other
+one-turn taken other begun old b =
     let mid : turn.mid ≡ other.mid =
-    a.slot ∙ ap (λ (m : DayState). at_later m (words 0 % 4)) old ∙ sym b.slot in
+    is.slot ∙ ap (λ (m : DayState). at_later m (words 0 % 4)) old ∙ sym b.slot in
     let line : DayState → Option Line =
     λ m. line_drawn (words_after 2 words) (client_of words) (state_at m (client_of words)) in
     let one =
@@ -414,56 +414,46 @@ one-turn {link} {words} turn other begun old a b =
       old = turn.mid;
       one = record { new = turn.new; text = turn.text };
       other = record { new = other.new; text = other.text };
-    }) (line_in words turn) (mid-begun turn begun a) (line-stands words turn begun.fair) a.done
-    (subst (λ (m : DayState). IsDone link (line m) m other.new other.text) (sym mid) b.done) in
+    }) (line_in words turn) (mid-begun taken begun) (line-stands taken begun.fair) (record {
+      a = is.done;
+      b = subst (λ (m : DayState). IsDone link (line m) m other.new other.text) (sym mid) b.done;
+    }) in
     ap (λ m. record { old = m; mid = turn.mid; new = turn.new; text = turn.text }) old
     ∙ ap (λ m. record { old = other.old; mid = m; new = turn.new; text = turn.text }) mid
     ∙ ap (λ m. record { old = other.old; mid = other.mid; new = m; text = turn.text }) one.new_is
     ∙ ap (λ t. record { old = other.old; mid = other.mid; new = other.new; text = t }) one.text_is
+  where
+    open taken use {link, words, turn, is}
 
 -- ---- turns have one outcome
-record AreOne (turns others : List FairTurn) (new new' : DayState) : Type 0 where
-  turns_are : turns ≡ others
-  new_is : new ≡ new'
+pub record AreOne (turns others : List FairTurn) (new new' : DayState) : Type 0 where
+  pub turns_are : turns ≡ others
+  pub new_is : new ≡ new'
 
-one-turns : {new' : DayState} (turns others : List FairTurn) (come : TurnRun turns) → IsBegun come.link come.old
-    → length turns ≡ length others → AreTurns come.link come.words others come.old new'
-    → AreOne turns others come.new new'
-one-turns [] [] come begun count b = record { turns_are = refl; new_is = come.run ∙ sym b }
-one-turns {new'} (turn ∷ turns) (other ∷ others) come begun count b =
-    let here : IsBegun link turn.old = subst (IsBegun link) (sym run.0) begun in
-    let one : turn ≡ other = one-turn turn other here (run.0 ∙ sym b.0) run.1.0 b.1.0 in
-    let later : TurnRun turns =
-    record { link = link; words = after_turn words turn; old = turn.new; new = new; run = run.1.1 } in
+-- turns beside others
+pub record OtherTurns (turns others : List FairTurn) : Type 0 where
+  pub come : TurnRun turns
+  pub new : DayState
+  pub count : length turns ≡ length others
+  pub run : AreTurns come.link come.words others come.old new
+
+pub one-turns : (turns others : List FairTurn) (pair : OtherTurns turns others) → IsBegun pair.come.link pair.come.old
+    → AreOne turns others pair.come.new pair.new
+one-turns [] [] pair begun = record { turns_are = refl; new_is = pair.come.run ∙ sym pair.run }
+one-turns (turn ∷ turns) (other ∷ others) pair begun =
+    let taken = first_turn pair.come in
+    let link = taken.link in
+    let words = taken.words in
+    let a = pair.come.run in
+    let b = pair.run in
+    let here : IsBegun link turn.old = subst (IsBegun link) (sym a.0) begun in
+    let one : turn ≡ other = one-turn taken other here (a.0 ∙ sym b.0) b.1.0 in
     let rest =
-    one-turns {new' = new'} turns others later (next-begun turn here run.1.0) (omega (arith, count))
-    (subst (λ (t : FairTurn). AreTurns link (after_turn words t) others t.new new') (sym one) b.1.1) in
+    one-turns turns others (record {
+      come = rest_turns pair.come;
+      new = pair.new;
+      count = omega (arith, pair.count);
+      run = subst (λ (t : FairTurn). AreTurns link (after_turn words t) others t.new pair.new) (sym one) b.1.1;
+    }) (next-begun taken here) in
     record { turns_are = ap (λ t. t ∷ turns) one ∙ ap (λ ts. other ∷ ts) rest.turns_are; new_is = rest.new_is }
-  where
-    open come use {link, words, new, run}
-one-turns _ _ come begun count b = absurd (omega (arith, count))
-
-pub one-fair : {steps : List CapStep} {number plays : ℕ} {text text' : List ℕ} {journal journal' : List Entry}
-    → IsFair steps number plays text journal → IsFair steps number plays text' journal'
-    → (text ≡ text') × (journal ≡ journal')
-one-fair {steps} {number} {journal} a b =
-    let one =
-    one-turns a.turns b.turns (record {
-      link = fair_link steps (words_of number);
-      words = after_traces 16 (words_of number);
-      old = first_moment;
-      new = a.evening;
-      run = a.run;
-    })
-    (record {
-      fair = fair-link steps (words_of number);
-      sound = record { ready = morning-ready; each = idle-sound };
-    }) (a.count ∙ sym b.count) b.run in
-    let journals = a.journal_is ∙ ap last_journal one.new_is ∙ sym b.journal_is in (
-      a.text_is
-          ∙ ap (λ (ts : List FairTurn). fair_text (counts_of ts a.evening) (entry_counts_of journal)) one.turns_are
-          ∙ ap (λ (m : DayState). fair_text (counts_of b.turns m) (entry_counts_of journal)) one.new_is
-          ∙ ap (λ (es : List Entry). fair_text (counts_of b.turns b.evening) (entry_counts_of es)) journals
-          ∙ sym b.text_is,
-      journals,
-    )
+one-turns _ _ pair begun = absurd (omega (arith, pair.count))

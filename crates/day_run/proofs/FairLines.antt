@@ -20,12 +20,12 @@ use Rattle.day_run.specs.BookingBalance.{IsReady}
 use Rattle.day_run.specs.DayLaws.{AreEntryCounts, is_play, IsDrawnLine, IsDrawnTurn, IsFairLine, IsTurnWithinCapacity}
 use Rattle.day_run.specs.DayLaws.{SentIsBookedEachTurn}
 use Rattle.day_run.specs.Days.{SharedLink, DayState, IsLine, IsTold, first_moment}
-use Rattle.day_run.specs.FairDays.{AreTurns, FairTurn, after_turn, client_of, entry_counts_of, is_halted, is_overflow}
+use Rattle.day_run.specs.FairDays.{FairTurn, client_of, entry_counts_of, is_halted, is_overflow}
 use Rattle.day_run.specs.FairDays.{is_refused, IsDone, IsTurn, line_drawn, state_in, IsFair, after_traces, counts_of}
 use Rattle.day_run.specs.FairDays.{fair_link}
-use Rattle.day_run.proofs.FairLaws.{turn-ready, TurnRun, evening-grown, turns-balanced, turns-heard, turns-ready}
-use Rattle.day_run.proofs.FairLaws.{turns-within}
-use Rattle.day_run.proofs.FullLineTexts.{done-other}
+use Rattle.day_run.proofs.FairLaws.{turn-ready, TurnRun, evening-grown, first_turn, rest_turns, turns-balanced}
+use Rattle.day_run.proofs.FairLaws.{turns-heard, turns-ready, turns-within}
+use Rattle.day_run.proofs.FullLineTexts.{done-text}
 use Rattle.day_run.proofs.JournalRoom.{turn-places}
 use Rattle.std.proofs.lemmas.Nat.{mod_below}
 use Rattle.day_script.specs.declared.scripts.Line.{Line}
@@ -34,9 +34,10 @@ use Rattle.day_run.specs.declared.fairs.TheConstants.{BUFFER_SIZES, LEAST_BUFFER
 use Rattle.day_run.specs.ClientStates.{Idle, Paused, Pausing, Playing, ClientState}
 use Rattle.slot_calendar.specs.Profiles.{capacity_at}
 use Rattle.admission.proofs.CapacityBounds.{sound-after}
-use Rattle.day_run.proofs.LineOutcomes.{morning-ready}
-use Rattle.day_run.proofs.PastSlots.{IsTurnBooked, fair-past}
-use Rattle.day_run.proofs.SlotBalance.{last-open}
+use Rattle.day_run.proofs.LineOutcomes.{morning-ready, turn_step}
+use Rattle.day_run.proofs.PastSlots.{AreBooked, IsTurnBooked, turns-past}
+use Rattle.day_run.proofs.ScriptLines.{LineStep}
+use Rattle.day_run.proofs.SlotBalance.{last-halted, last-open}
 use Rattle.day_run.proofs.SlotTotals.{sum-slots}
 
 -- ---- entries
@@ -105,22 +106,24 @@ entry-counts {steps} journal legal closed =
     }
 
 -- ---- no turn finds the journal full
-pub never-full : {old : DayState} (link : SharedLink) (words : ℕ → ℕ) (turns : List FairTurn) (new : DayState)
-    → AreTurns link words turns old new → IsReady old
-    → places_taken old.entries + 2 * length turns ≤ link.limit → link.limit < 2 ^ 64
+pub never-full : (turns : List FairTurn) (come : TurnRun turns) → IsReady come.old
+    → places_taken come.old.entries + 2 * length turns ≤ come.link.limit → come.link.limit < 2 ^ 64
     → count_by is_refused turns ≡ 0
-never-full link words [] new run ready room small = refl
-never-full {old} link words (turn ∷ turns) new run ready room small =
-    let is = run.1.0 in
-    let begun : IsReady turn.old = subst IsReady (sym run.0) ready in
-    let at : places_taken turn.old.entries ≡ places_taken old.entries =
-    ap (λ (m : DayState). places_taken m.entries) run.0 in
-    let places = turn-places turn is begun in
+never-full [] come ready room small = refl
+never-full (turn ∷ turns) come ready room small =
+    let taken = first_turn come in
+    let begun : IsReady turn.old = subst IsReady (sym come.run.0) ready in
+    let at : places_taken turn.old.entries ≡ places_taken come.old.entries =
+    ap (λ (m : DayState). places_taken m.entries) come.run.0 in
+    let places = turn-places taken begun in
     let here : is_refused turn ≡ false =
-    done-other (client_of words) (record { link = link; old = turn.mid; new = turn.new; text = turn.text })
-    (words_after 2 words) _ (omega (arith, at, places.mid, room)) small is.done in
+    elim (done-text (client_of come.words) (turn_step taken) (words_after 2 come.words) _
+    (omega (arith, at, places.mid, room, small)) taken.is.done) [
+      | inl other ↦ other
+      | inr full ↦ absurd (omega (arith, full.full, at, places.mid, room))
+    ] in
     let later : count_by is_refused turns ≡ 0 =
-    never-full {old = turn.new} link (after_turn words turn) turns new run.1.1 (turn-ready is begun)
+    never-full turns (rest_turns come) (turn-ready taken begun)
     (omega (arith, at, places.mid, places.done.few, room)) small in
     let whole : count_by is_refused (turn ∷ turns) ≡ one (is_refused turn) + count_by is_refused turns =
     sum_by-cons (λ t. one (is_refused t)) turn turns in
@@ -128,13 +131,13 @@ never-full {old} link words (turn ∷ turns) new run ready room small =
 
 -- ---- what a turn of a large day brings
 -- nothing, or a line
-abbrev HasDone : SharedLink → DayState → DayState → List ℕ → Type 0
-HasDone link old new text =
-    IsTold [] old new text ⊎ ((line : Line) × (IsDrawnLine line × IsLine link line old new text))
+abbrev HasDone : LineStep → Type 0
+HasDone step = IsTold [] step.old step.new step.text
+    ⊎ ((line : Line) × (IsDrawnLine line × IsLine step.link line step.old step.new step.text))
 
-drawn-done : {link : SharedLink} {client : ℕ} {old new : DayState} {text : List ℕ} (words : ℕ → ℕ) (state : ClientState)
-    → client < 256 → IsDone link (line_drawn words client state) old new text → HasDone link old new text
-drawn-done {client} {new} {text} words Idle small is =
+drawn-done : {client : ℕ} (step : LineStep) (words : ℕ → ℕ) (state : ClientState) → client < 256
+    → IsDone step.link (line_drawn words client state) step.old step.new step.text → HasDone step
+drawn-done {client} step words Idle small is =
     let source = mod_below (words 0) 16 (omega arith) in
     let buffer = mod_below (words 1) BUFFER_SIZES (omega arith) in
     let delay = mod_below (words 2) 26 (omega arith) in
@@ -142,55 +145,72 @@ drawn-done {client} {new} {text} words Idle small is =
       lines.Play client (words 0 % 16) (LEAST_BUFFER + words 1 % BUFFER_SIZES) (words 2 % 26),
       ((small, source, omega arith, omega (arith, buffer), omega (arith, delay)), is),
     )
-drawn-done {client} {new} {text} words (Playing play) small is = inr (lines.Pause client, (small, is))
-drawn-done {new} {text} words (Pausing stop rest) small is = inl is
-drawn-done {client} {new} {text} words (Paused rest) small is = inr (lines.Resume client, (small, is))
+drawn-done {client} step words (Playing play) small is = inr (lines.Pause client, (small, is))
+drawn-done step words (Pausing stop rest) small is = inl is
+drawn-done {client} step words (Paused rest) small is = inr (lines.Resume client, (small, is))
 
 pub drawn-turn : (link : SharedLink) (words : ℕ → ℕ) (turn : FairTurn) → IsTurn link words turn → IsDrawnTurn link turn
 drawn-turn link words turn is =
     let later = mod_below (words 0) 4 (omega arith) in
+    let step : LineStep = record { link = link; old = turn.mid; new = turn.new; text = turn.text } in
     record {
       later = words 0 % 4;
       few = omega (arith, later);
       mid_is = is.slot;
-      done = drawn-done (words_after 2 words) (state_in words turn) (mod_below (words 1) 256 (omega arith)) is.done;
+      done =
+          drawn-done step (words_after 2 words) (state_in words turn) (mod_below (words 1) 256 (omega arith)) is.done;
     }
 
 -- ---- what the line of a large day says
+-- its turns
+abbrev pub turns_of : {steps : List CapStep} {number plays : ℕ} {text : List ℕ} {journal : List Entry}
+    (fair : IsFair steps number plays text journal) → TurnRun fair.turns
+turns_of {steps} {number} fair = record {
+  link = fair_link steps (words_of number);
+  words = after_traces 16 (words_of number);
+  old = first_moment;
+  new = fair.evening;
+  run = fair.run;
+}
+
+fair-ready : {steps : List CapStep} {number plays : ℕ} {text : List ℕ} {journal : List Entry}
+    (fair : IsFair steps number plays text journal) → IsReady fair.evening
+fair-ready fair = turns-ready fair.turns (turns_of fair) morning-ready
+
+fair-past : {steps : List CapStep} {number plays : ℕ} {text : List ℕ} {journal : List Entry}
+    (fair : IsFair steps number plays text journal)
+    → AreBooked (booked_after journal) fair.turns 0 fair.evening.heard
+fair-past {journal} fair =
+    (turns-past fair.turns (booked_after journal) (turns_of fair) morning-ready (λ t past.
+    ap (λ es. booked_after es t) fair.journal_is
+    ∙ (last-halted fair.evening (fair-ready fair).balanced).stays t past)).0
+
 pub fair-line : {number : ℕ} (steps : List CapStep) (plays : ℕ) (text : List ℕ) (journal : List Entry)
     → IsFair steps number plays text journal → IsLegal steps journal → IsFairLine steps plays text journal
-fair-line {number} steps plays text journal fair legal =
-    let link = fair_link steps (words_of number) in
-    let words = after_traces 16 (words_of number) in
+fair-line steps plays text journal fair legal =
     let turns = fair.turns in
+    let evening = fair.evening in
+    let come = turns_of fair in
     let none : first_moment.heard ≡ 0 = refl in
-    let whole : fair.evening.heard - 0 ≡ fair.evening.heard = omega arith in
-    let evening = turns-ready link words turns fair.run morning-ready in
-    let past = fair-past link words fair.run fair.journal_is evening in
+    let whole : evening.heard - 0 ≡ evening.heard = omega arith in
+    let past = fair-past fair in
     record {
-      counts = counts_of turns fair.evening;
+      counts = counts_of turns evening;
       entries = entry_counts_of journal;
       text_is = fair.text_is;
-      entries_are =
-          entry-counts journal legal
-          (ap open_count fair.journal_is ∙ last-open fair.evening evening.balanced);
+      entries_are = entry-counts journal legal
+          (ap open_count fair.journal_is ∙ last-open evening (fair-ready fair).balanced);
       turns_are = fair.count;
-      never_full = λ few.
-          never-full {old = first_moment} link words turns fair.evening fair.run morning-ready
-          (omega (arith, few, fair.count)) (omega arith);
-      last = omega (arith, turns-heard link words turns first_moment fair.evening fair.run, fair.count, none);
-      balanced = turns-balanced link words turns fair.evening fair.run morning-ready;
+      never_full = λ few. never-full turns come morning-ready (omega (arith, few, fair.count)) (omega arith);
+      last = omega (arith, turns-heard turns come, fair.count, none);
+      balanced = turns-balanced turns come morning-ready;
       booked_is = past.sum_is ∙ ap (λ k. sum_by (booked_after journal) (range_with_len 1 k)) whole;
       peak_is = past.peak_is ∙ ap (λ k. fold max 0 (map (booked_after journal) (range_with_len 1 k))) whole;
-      within = λ most capacity.
-          let come : TurnRun turns =
-          record { link = link; words = words; old = first_moment; new = fair.evening; run = fair.run } in
-          turns-within turns come 0
-          (record {
-            legal = legal;
-            grown = evening-grown fair.evening journal fair.journal_is;
-            capacity = capacity;
-          }) (omega arith);
+      within = λ most capacity. turns-within turns come (record {
+        legal = legal;
+        grown = evening-grown evening journal fair.journal_is;
+        capacity = capacity;
+      });
     }
 
 -- ---- turn by turn
@@ -220,17 +240,11 @@ turn-within {steps} {journal} turn legal is = record {
 
 pub fair-turns : {number plays : ℕ} {text : List ℕ} (steps : List CapStep) (journal : List Entry)
     → IsFair steps number plays text journal → IsLegal steps journal → SentIsBookedEachTurn steps number plays journal
-fair-turns {number} steps journal fair legal =
-    let link = fair_link steps (words_of number) in
-    let words = after_traces 16 (words_of number) in
-    let evening = turns-ready link words fair.turns fair.run morning-ready in
-    let past = fair-past link words fair.run fair.journal_is evening in
-    record {
-      turns = fair.turns;
-      evening = fair.evening;
-      count = fair.count;
-      run = fair.run;
-      each =
-          All-weaker (IsTurnBooked (booked_after journal)) (IsTurnWithinCapacity steps journal)
-          (λ turn is. turn-within turn legal is) fair.turns past.each;
-    }
+fair-turns steps journal fair legal = record {
+  turns = fair.turns;
+  evening = fair.evening;
+  count = fair.count;
+  run = fair.run;
+  each = All-weaker (IsTurnBooked (booked_after journal)) (IsTurnWithinCapacity steps journal)
+      (λ turn own. turn-within turn legal own) fair.turns (fair-past fair).each;
+}

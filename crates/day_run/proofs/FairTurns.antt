@@ -1,7 +1,7 @@
 -- The traces that a large day draws, and its turns, one after the other.
 use Rattle.std.proofs.Common.{◌≡◌, ◌≤◌, ◌+◌, ◌-◌, ◌*◌, ℕ, List, [], ◌∷◌, ◌++◌, length, map, sum, get_or, arith, sym}
 use Rattle.std.proofs.Common.{ap, subst, ◌∙◌, inl, inr, ◌%◌, add-one, refl, ◌<◌, ◌^◌, max, Bool, cond, Result, Ok}
-use Rattle.std.proofs.Common.{Err, IfOk}
+use Rattle.std.proofs.Common.{Err}
 use Rattle.std.specs.Global.{Vec}
 use Rattle.std.specs.List.{range_with_len, fold}
 use Rattle.std.proofs.lemmas.Bool.{cases_lt}
@@ -25,15 +25,13 @@ use Rattle.day_script.specs.declared.fair_totals.FairTotals.{FairTotals}
 use Rattle.day_run.specs.declared.clients.Client.{Client}
 use Rattle.day_run.specs.Clients.{state_of}
 use Rattle.day_run.specs.BookingBalance.{IsReady}
-use Rattle.day_run.specs.Days.{SharedLink, DayState, IsPlayLine, first_moment, rest_at, state_at}
-use Rattle.day_run.specs.declared.machine.LineAnswer.{LineAnswer}
-use Rattle.day_run.specs.MachineState.{reply_text}
-use Rattle.vod_base.specs.declared.errors.NoMemory.{NoMemory}
-use Rattle.day_run.specs.ClientStates.{Rest, ClientState, Idle}
+use Rattle.day_run.specs.Days.{SharedLink, DayState, first_moment, state_at}
+use Rattle.day_run.specs.ClientStates.{ClientState, Idle}
+use Rattle.day_run.proofs.FairLaws.{TurnRun, rest_turns}
 use Rattle.day_run.proofs.SentBookedLemmas.{sum-none}
-use Rattle.day_run.proofs.LineOutcomes.{morning-ready, outcome-ready, ready-kept, done-outcome}
+use Rattle.day_run.proofs.LineOutcomes.{morning-ready, ready-kept}
 use Rattle.day_run.proofs.ClientSweepLemmas.{state-at}
-use Rattle.day_run.proofs.ScriptLines.{ClientAsks, ClientOf, LineStep}
+use Rattle.day_run.proofs.ScriptLines.{LineStep}
 use Rattle.day_run.proofs.SlotTotals.{peak-push}
 
 -- ---- drawn traces
@@ -70,45 +68,47 @@ traces-push traces after trace e own are =
     })
 
 -- ---- traces that are drawn one after the other
--- the trace that is drawn by the next words
-pub record TraceDrawn (left : ℕ → ℕ) (pictures : ℕ) (words : ℕ → ℕ) (k : ℕ) (trace : Vec ℕ) : Type 0 where
+-- the trace that is drawn by the next words: the words before it and after the number of its pictures
+pub record TraceDrawn (words : ℕ → ℕ) (k : ℕ) : Type 0 where
+  pub left : ℕ → ℕ
+  pub mid : ℕ → ℕ
+  pub pictures : ℕ
+  pub trace : Vec ℕ
   pub left_is : left ≡ after_traces k words
+  pub mid_is : mid ≡ words_after 1 left
   pub pictures_are : pictures ≡ 100 + left 0 % 101
-  pub sizes_are : trace.items ≡ sizes_of (words_after 1 left) pictures
+  pub sizes_are : trace.items ≡ sizes_of mid pictures
 
 -- one trace more
-pub sizes-next : {left : ℕ → ℕ} {pictures : ℕ} {more : List (Vec ℕ)} {words : ℕ → ℕ} {k : ℕ} (traces : List (Vec ℕ))
-    (trace : Vec ℕ) → more ≡ traces ++ trace ∷ [] → TraceDrawn left pictures words k trace
-    → sizes_in traces ≡ traces_drawn k words → sizes_in more ≡ traces_drawn (k + 1) words
-sizes-next {left} {more} {words} {k} traces trace m drawn before =
+pub sizes-next : {words : ℕ → ℕ} {k : ℕ} (traces : List (Vec ℕ)) (drawn : TraceDrawn words k)
+    → sizes_in traces ≡ traces_drawn k words → sizes_in (traces ++ drawn.trace ∷ []) ≡ traces_drawn (k + 1) words
+sizes-next {words} {k} traces drawn before =
     let own : trace.items ≡ trace_drawn (after_traces k words) =
-    drawn.sizes_are ∙ ap (sizes_of (words_after 1 left)) drawn.pictures_are
-    ∙ ap (λ (w : ℕ → ℕ). sizes_of (words_after 1 w) (100 + w 0 % 101)) drawn.left_is in
+    sizes_are ∙ ap (λ (w : ℕ → ℕ). sizes_of w pictures) mid_is ∙ ap (sizes_of (words_after 1 left)) pictures_are
+    ∙ ap (λ (w : ℕ → ℕ). sizes_of (words_after 1 w) (100 + w 0 % 101)) left_is in
     let at : 0 + k ≡ k = omega arith in
-    ap sizes_in m ∙ map-append (λ (v : Vec ℕ). v.items) traces (trace ∷ []) ∙ ap (λ ts. ts ++ trace.items ∷ []) before
+    map-append (λ (v : Vec ℕ). v.items) traces (trace ∷ []) ∙ ap (λ ts. ts ++ trace.items ∷ []) before
     ∙ ap (λ x. traces_drawn k words ++ x ∷ []) own
     ∙ sym (map-range_with_len_more (λ i. trace_drawn (after_traces i words)) 0 k k at)
+  where
+    open drawn use {left, pictures, trace, left_is, mid_is, pictures_are, sizes_are}
 
 after_traces-more : (words : ℕ → ℕ) (k : ℕ) → after_traces (k + 1) words
     ≡ words_after (picture_count (after_traces k words)) (words_after 1 (after_traces k words))
 unfolding after_traces
 after_traces-more words k = ap (λ n. after_traces n words) (add-one k)
 
-pub left-next : {left mid next : ℕ → ℕ} {pictures : ℕ} (words : ℕ → ℕ) (k : ℕ) → left ≡ after_traces k words
-    → mid ≡ words_after 1 left → pictures ≡ 100 + left 0 % 101 → next ≡ words_after pictures mid
-    → next ≡ after_traces (k + 1) words
-left-next {left} {next} {pictures} words k l m p n =
-    n ∙ ap (words_after pictures) m ∙ ap (λ c. words_after c (words_after 1 left)) p
-    ∙ ap (λ (w : ℕ → ℕ). words_after (100 + w 0 % 101) (words_after 1 w)) l ∙ sym (after_traces-more words k)
+pub left-next : {words : ℕ → ℕ} {k : ℕ} (drawn : TraceDrawn words k)
+    → words_after drawn.pictures drawn.mid ≡ after_traces (k + 1) words
+left-next {words} {k} drawn =
+    ap (words_after pictures) mid_is ∙ ap (λ c. words_after c (words_after 1 left)) pictures_are
+    ∙ ap (λ (w : ℕ → ℕ). words_after (100 + w 0 % 101) (words_after 1 w)) left_is ∙ sym (after_traces-more words k)
+  where
+    open drawn use {left, pictures, left_is, mid_is, pictures_are}
 
 pub left-none : (words : ℕ → ℕ) → words ≡ after_traces 0 words
 unfolding after_traces
 left-none words = refl
-
--- ---- what a client does keeps the balance
-pub done-ready : {c : ℕ} {state : ClientState} (step : LineStep) (words : ℕ → ℕ) → ClientOf step.old c state
-    → IsDone step.link (line_drawn words c state) step.old step.new step.text → IsReady step.old → IsReady step.new
-done-ready step words own is ready = outcome-ready step (done-outcome step words own is) ready
 
 -- counts that have the same numbers
 record HaveSameNumbers (one other : FairTotals) : Type 0 where
@@ -203,18 +203,12 @@ turn-of {old} turn steps =
     open steps use {counted, told, counts_are}
 
 -- ---- turns
-turns-more : {link : SharedLink} {turn : FairTurn} {mid : DayState} (words : ℕ → ℕ) (turns : List FairTurn)
-    (old : DayState) → AreTurns link words turns old mid → turn.old ≡ mid
-    → IsTurn link (after_turns words turns) turn → AreTurns link words (turns ++ turn ∷ []) old turn.new
-turns-more words [] old run at is = (at ∙ run, (is, refl))
-turns-more {link} {turn} {mid} words (t ∷ turns) old run at is = (
-  run.0,
-  (
-    run.1.0,
-    turns-more {link = link} {turn = turn} {mid = mid}
-        (after_turn words t) turns t.new run.1.1 at is,
-  ),
-)
+turns-more : (turns : List FairTurn) (come : TurnRun turns) (turn : FairTurn) → turn.old ≡ come.new
+    → IsTurn come.link (after_turns come.words turns) turn
+    → AreTurns come.link come.words (turns ++ turn ∷ []) come.old turn.new
+turns-more [] come turn at is = (at ∙ come.run, (is, refl))
+turns-more (t ∷ turns) come turn at is =
+    (come.run.0, (come.run.1.0, turns-more turns (rest_turns come) turn at is))
 
 after-more : (words : ℕ → ℕ) (turns : List FairTurn) (turn : FairTurn)
     → after_turns words (turns ++ turn ∷ []) ≡ after_turn (after_turns words turns) turn
@@ -234,98 +228,83 @@ counts-more turns turn old new heard =
           ∙ peak-push (map turn_peak turns) (turn_peak turn));
     })
 
-pub come-none : (link : SharedLink) (words : ℕ → ℕ) (counts : FairTotals) (moment : DayState) → moment ≡ first_moment
-    → counts ≡ record { turns = 0; full = 0; last = 0; sent = 0; booked = 0; peak = 0 }
-    → AreTurnResults link words words 0 counts moment
-come-none link words counts moment is c =
-    record { turns = []; count = refl; run = is; left_is = refl; counts_are = c ∙ ap (counts_of []) (sym is) }
+-- the turns so far, and one more
+pub record NextTurn (link : SharedLink) (words : ℕ → ℕ) (n : ℕ) : Type 0 where
+  pub old : Drawn
+  pub new : Drawn
+  pub come : AreTurnResults link words old.words n old.counts old.moment
+  pub turned : IsTurnResult link old new
+  pub last : new.counts.last ≡ new.moment.heard
 
-pub come-next : {link here : SharedLink} {words : ℕ → ℕ} {n : ℕ} {old new : Drawn} → here ≡ link
-    → AreTurnResults link words old.words n old.counts old.moment → IsTurnResult here old new
-    → new.counts.last ≡ new.moment.heard → AreTurnResults link words new.words (n + 1) new.counts new.moment
-come-next {link} {words} {old} {new} same come turned last =
+-- one turn more
+pub come-next : {link : SharedLink} {words : ℕ → ℕ} {n : ℕ} (next : NextTurn link words n)
+    → AreTurnResults link words next.new.words (n + 1) next.new.counts next.new.moment
+come-next {link} {words} next =
     let turn = turned.turn in
     let all = come.turns ++ turn ∷ [] in
     let heard : turn.mid.heard ≡ new.moment.heard = sym (ap (λ (c : FairTotals). c.last) turned.counts_are) ∙ last in
     let is : IsTurn link (after_turns words come.turns) turn =
-    subst (λ (w : ℕ → ℕ). IsTurn link w turn) come.left_is
-    (subst (λ (x : SharedLink). IsTurn x old.words turn) same turned.turn_is) in
+    subst (λ (w : ℕ → ℕ). IsTurn link w turn) come.left_is turned.turn_is in
+    let before : TurnRun come.turns =
+    record { link = link; words = words; old = first_moment; new = old.moment; run = come.run } in
     record {
       turns = all;
       count = length-append come.turns (turn ∷ []) ∙ ap (λ k. k + 1) come.count;
       run = subst (AreTurns link words all first_moment) turned.new_is
-          (turns-more words come.turns first_moment come.run turned.old_is is);
+          (turns-more come.turns before turn turned.old_is is);
       left_is = turned.left_is ∙ ap (λ (w : ℕ → ℕ). after_turn w turn) come.left_is
           ∙ sym (after-more words come.turns turn);
       counts_are =
           turned.counts_are ∙ ap (λ (c : FairTotals). with_turn c turn) come.counts_are
           ∙ counts-more come.turns turn old.moment new.moment heard;
     }
+  where
+    open next use {old, new, come, turned, last}
 
 -- ---- words that are drawn one after the other
 pub second-word : (w w1 : ℕ → ℕ) → w1 ≡ words_after 1 w → w1 0 ≡ w 1
 second-word w w1 one = ap (λ (f : ℕ → ℕ). f 0) one ∙ words_after-at 1 w 0
 
-pub third-word : (w w1 w2 : ℕ → ℕ) → w1 ≡ words_after 1 w → w2 ≡ words_after 1 w1 → w2 0 ≡ w 2
-third-word w w1 w2 one two = ap (λ (f : ℕ → ℕ). f 0) (two ∙ ap (words_after 1) one ∙ words_after-twice 1 1 w)
-    ∙ words_after-at 2 w 0
+pub two-left : {w1 w2 : ℕ → ℕ} (w : ℕ → ℕ) → w1 ≡ words_after 1 w → w2 ≡ words_after 1 w1 → w2 ≡ words_after 2 w
+two-left w one two = two ∙ ap (words_after 1) one ∙ words_after-twice 1 1 w
 
-pub three-left : {w1 w2 w3 : ℕ → ℕ} (w : ℕ → ℕ) → w1 ≡ words_after 1 w → w2 ≡ words_after 1 w1 → w3 ≡ words_after 1 w2
-    → w3 ≡ words_after 3 w
-three-left w one two three = three ∙ ap (words_after 1) (two ∙ ap (words_after 1) one ∙ words_after-twice 1 1 w)
-    ∙ words_after-twice 1 2 w
+pub third-word : (w w1 w2 : ℕ → ℕ) → w1 ≡ words_after 1 w → w2 ≡ words_after 1 w1 → w2 0 ≡ w 2
+third-word w w1 w2 one two = ap (λ (f : ℕ → ℕ). f 0) (two-left w one two) ∙ words_after-at 2 w 0
 
 pub ok-of : {A E : Type 0} (r : Result A E) (X : Type 0) → X → OnOk r X
 ok-of (Ok a) X x = x
 ok-of (Err e) X x = tt
-
--- the source, the buffer and the delay that were drawn
-pub record SameDraws (s b d source buffer delay : ℕ) : Type 0 where
-  pub sources_are : s ≡ source
-  pub buffers_are : b ≡ buffer
-  pub delays_are : d ≡ delay
-
-pub play-drawn : {s b d source buffer delay : ℕ} (r : Result LineAnswer NoMemory) (asks : ClientAsks)
-    → SameDraws s b d source buffer delay
-    → IfOk r (λ told. IsPlayLine asks.link asks.client (rest_at asks.link s b d) asks.old asks.new
-    (reply_text asks.entries told))
-    → IfOk r (λ told. IsPlayLine asks.link asks.client (rest_at asks.link source buffer delay) asks.old
-    asks.new (reply_text asks.entries told))
-play-drawn {s} {b} {d} {source} {buffer} {delay} r asks draws is =
-    let e : rest_at link s b d ≡ rest_at link source buffer delay =
-    ap (λ k. rest_at link k b d) es ∙ ap (λ k. rest_at link source k d) eb ∙ ap (rest_at link source buffer) ed in
-    subst (λ (rest : Rest). IfOk r (λ told. IsPlayLine link client rest old new (reply_text entries told))) e is
-  where
-    open draws use {sources_are as es, buffers_are as eb, delays_are as ed}
-    open asks use {link, client, old, new, entries}
 
 -- no words are drawn
 none-left : (w : ℕ → ℕ) (n : ℕ) → n ≡ 0 → w ≡ words_after n w
 none-left w n none = sym (ap (λ k. words_after k w) none ∙ words_after-zero w)
 
 -- one of a day's clients, at its place among them
-pub record StandsAt (clients : List Client) (c : ℕ) (client : Client) : Type 0 where
+pub record StandsAt : Type 0 where
+  pub clients : List Client
+  pub c : ℕ
+  pub client : Client
   pub count : length clients ≡ 256
   pub small : c < 2 ^ 8
   pub at : client ≡ get_or clients c client
 
-state-there : {clients : List Client} {c : ℕ} {client : Client} → StandsAt clients c client
-    → get_or (map state_of clients) c Idle ≡ state_of client
-state-there {clients} {c} {client} stands =
-    state-at clients c client (omega (arith, stands.count, stands.small)) ∙ sym (ap state_of stands.at)
+state-there : (stands : StandsAt) → get_or (map state_of stands.clients) stands.c Idle ≡ state_of stands.client
+state-there stands =
+    state-at stands.clients stands.c stands.client (omega (arith, stands.count, stands.small))
+    ∙ sym (ap state_of stands.at)
 
 -- a client for whom no word is drawn
-pub no-words : {w : ℕ → ℕ} {clients : List Client} {c : ℕ} {client : Client} → StandsAt clients c client
-    → words_for (state_of client) ≡ 0 → w ≡ words_after (words_for (get_or (map state_of clients) c Idle)) w
+pub no-words : {w : ℕ → ℕ} (stands : StandsAt) → words_for (state_of stands.client) ≡ 0
+    → w ≡ words_after (words_for (get_or (map state_of stands.clients) stands.c Idle)) w
 no-words {w} stands none = none-left w _ (ap words_for (state-there stands) ∙ none)
 
 -- what the drawn client does, by what it is
-pub done-as : {clients : List Client} {c : ℕ} {client is : Client} (step : LineStep) (w : ℕ → ℕ)
-    → StandsAt clients c client → client ≡ is
-    → IsDone step.link (line_drawn w c (state_of is)) step.old step.new step.text
-    → IsDone step.link (line_drawn w c (get_or (map state_of clients) c Idle)) step.old step.new step.text
-done-as {c} step w stands same own =
-    let S : ClientState → Type 0 = λ s. IsDone step.link (line_drawn w c s) step.old step.new step.text in
+pub done-as : {is : Client} (step : LineStep) (w : ℕ → ℕ) (stands : StandsAt) → stands.client ≡ is
+    → IsDone step.link (line_drawn w stands.c (state_of is)) step.old step.new step.text
+    → IsDone step.link (line_drawn w stands.c (get_or (map state_of stands.clients) stands.c Idle)) step.old step.new
+    step.text
+done-as step w stands same own =
+    let S : ClientState → Type 0 = λ s. IsDone step.link (line_drawn w stands.c s) step.old step.new step.text in
     subst S (sym (state-there stands ∙ ap state_of same)) own
 
 pub ready-morning : (m : DayState) → m ≡ first_moment → IsReady m

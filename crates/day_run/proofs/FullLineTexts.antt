@@ -1,6 +1,6 @@
 -- Which lines of a day say that the journal is full, and what they then say.
 use Rattle.std.proofs.Common.{◌≡◌, ◌<◌, ◌+◌, ◌^◌, ℕ, false, ◌&&◌, ◌==◌, List, [], ◌∷◌, ◌++◌, take, length, arith}
-use Rattle.std.proofs.Common.{refl, ap, ◌∙◌, inl, inr, append_assoc, ◌≤◌, ◌%◌, true, true≢false, Option, None, sym}
+use Rattle.std.proofs.Common.{refl, ap, ◌∙◌, inl, inr, append_assoc, ◌%◌, true, true≢false, Option, None, sym}
 use Rattle.std.specs.Prelude.{codes, decimal, ◌⊎◌}
 use Rattle.std.specs.Str.{bytes_eq}
 use Rattle.std.proofs.lemmas.Bool.{cases_Bool, eqb-true}
@@ -16,7 +16,6 @@ use Rattle.std.proofs.lemmas.List.{append-nil}
 use Rattle.early_start.specs.declared.Tried.{Tried}
 use Rattle.wire_curve.specs.declared.film.CurveFault.{CurveFault}
 use Rattle.wire_curve.specs.declared.film.CurveFault.TheVariants.{NoPictures}
-use Rattle.admission.specs.Books.{places_taken}
 use Rattle.admission.specs.Histories.{open_count}
 use Rattle.day_script.specs.declared.scripts.Line.{Line}
 use Rattle.day_script.specs.declared.scripts.Line.TheVariants as lines
@@ -24,8 +23,8 @@ use Rattle.day_run.specs.declared.fairs.TheConstants.{BUFFER_SIZES, LEAST_BUFFER
 use Rattle.day_run.specs.BookingBalance.{IsReady}
 use Rattle.day_run.specs.ClientStates.{ClientState, Idle, Playing, Pausing, Paused, Rest}
 use Rattle.day_run.specs.Days.{IsAsked, IsFull, IsLine, IsLookLine, IsNoted, IsOfferLine, IsPauseLine, IsResumeLine}
-use Rattle.day_run.specs.Days.{IsTold, SharedLink, DayState, rest_at, slot_lines, state_at}
-use Rattle.day_run.specs.JournalLaws.{IsFullJournal, places_needed}
+use Rattle.day_run.specs.Days.{IsTold, DayState, rest_at, slot_lines, state_at}
+use Rattle.day_run.specs.JournalLaws.{IsFullJournal, SaysFull, places_needed}
 use Rattle.day_script.specs.LineTexts.{fault_text, full_text, offer_text}
 use Rattle.day_run.proofs.ScriptLines.{IsPlayTaken, LineStep}
 
@@ -73,11 +72,11 @@ told-other : {told text : List ℕ} {old new : DayState} → IsTold told old new
     → is_full_line text ≡ false
 told-other is other = ap is_full_line is.text_is ∙ other
 
-noted-other : {link : SharedLink} {entry : Entry} {states : List ClientState} {old new : DayState} {text : List ℕ}
-    → length old.entries < 2 ^ 64 → IsNoted link entry states old new text → is_full_line text ≡ false
-noted-other {entry} {old} small is =
-    let line = entry_line (length old.entries) entry in
-    ap is_full_line (is.text_is ∙ sym (append-nil line)) ∙ entry-other (length old.entries) entry [] small
+noted-other : {entry : Entry} {states : List ClientState} (step : LineStep) → length step.old.entries < 2 ^ 64
+    → IsNoted step.link entry states step.old step.new step.text → is_full_line step.text ≡ false
+noted-other {entry} step small is =
+    let line = entry_line (length step.old.entries) entry in
+    ap is_full_line (is.text_is ∙ sym (append-nil line)) ∙ entry-other (length step.old.entries) entry [] small
 
 fault-other : (fault : CurveFault) → is_full_line (fault_text fault) ≡ false
 fault-other NoPictures = refl
@@ -88,7 +87,7 @@ asked-text : {c : ℕ} {rest : Rest} (step : LineStep) → length step.old.entri
 asked-text step small (inl faulty) = inl (told-other faulty.told (fault-other faulty.fault))
 asked-text step small (inr planned) = elim planned.done [
   | inl full ↦ inr full
-  | inr made ↦ inl (noted-other small made.noted)
+  | inr made ↦ inl (noted-other step small made.noted)
 ]
 
 play-text : (step : LineStep) (c : ℕ) (rest : Rest) (state : ClientState) → length step.old.entries < 2 ^ 64
@@ -104,13 +103,13 @@ resume-text step c _ small is = inl (told-other is refl)
 
 pause-text : (step : LineStep) (c : ℕ) (state : ClientState) → length step.old.entries < 2 ^ 64
     → IsPauseLine step.link c state step.old step.new step.text → is_full_line step.text ≡ false
-pause-text step c (Playing play) small is = noted-other small is.noted
+pause-text step c (Playing play) small is = noted-other step small is.noted
 pause-text step c _ small is = told-other is refl
 
 look-text : {slot : ℕ} (step : LineStep) → length step.old.entries < 2 ^ 64
     → IsLookLine step.link slot step.old step.new step.text → OtherOrFull step 1
 look-text step small (inl full) = inr full
-look-text step small (inr made) = inl (noted-other small made.noted)
+look-text step small (inr made) = inl (noted-other step small made.noted)
 
 slot-other : (old : DayState) (slot : ℕ) → is_full_line (slot_lines old slot) ≡ false
 slot-other old slot = refl
@@ -150,28 +149,24 @@ text-parts entries open_plays =
     ap (λ t. t ++ end) (sym (append_assoc (first ++ decimal entries) second (decimal open_plays)))
 
 -- what a line says about a full journal is true
-pub record SaysFull (link : SharedLink) (needed : ℕ) (old new : DayState) (text : List ℕ) : Type 0 where
-  pub kept : new ≡ old
-  pub says : IsFullJournal link needed old text
-
 pub full-line : (step : LineStep) (line : Line) → IsReady step.old → length step.old.entries < 2 ^ 64
-    → IsLine step.link line step.old step.new step.text → take 15 step.text ≡ codes "refused journal"
-    → SaysFull step.link (places_needed line) step.old step.new step.text
-full-line step line ready small is begins = elim (line-text step line small is) [
+    → IsLine step.link line step.old step.new step.text → SaysFull step.text
+    → (step.new ≡ step.old) × IsFullJournal step.link (places_needed line) step.old step.text
+full-line step line ready small is says = elim (line-text step line small is) [
   | inl other ↦ (
       let bytes : List ℕ = codes "refused journal" in
-      let said : is_full_line step.text ≡ true = ap (λ t. bytes_eq t bytes) begins in
+      let said : is_full_line step.text ≡ true = ap (λ t. bytes_eq t bytes) says in
       absurd (true≢false (sym said ∙ other))
       )
-  | inr full ↦ record {
-    kept = full.told.kept;
-    says = record {
+  | inr full ↦ (
+    full.told.kept,
+    record {
       full = omega (arith, full.full, ready.balanced.playing);
       text_is = full.told.text_is
           ∙ text-parts (length step.old.entries) (open_count step.old.entries)
           ∙ ap (full-words (length step.old.entries)) ready.balanced.playing;
-    };
-  }
+    },
+  )
 ]
 
 -- ---- a large day
@@ -182,13 +177,3 @@ done-text c step words Idle small is =
 done-text c step words (Playing play) small is = line-text step (lines.Pause c) small is
 done-text c step words (Pausing stop rest) small is = inl (told-other is refl)
 done-text c step words (Paused rest) small is = line-text step (lines.Resume c) small is
-
--- where there is room for a play, the journal isn't said to be full
-pub done-other : (c : ℕ) (step : LineStep) (words : ℕ → ℕ) (state : ClientState)
-    → places_taken step.old.entries + 2 ≤ step.link.limit → step.link.limit < 2 ^ 64
-    → IsDone step.link (line_drawn words c state) step.old step.new step.text → is_full_line step.text ≡ false
-done-other c step words state room small is =
-    elim (done-text c step words state (omega (arith, room, small)) is) [
-      | inl other ↦ other
-      | inr full ↦ absurd (omega (arith, full.full, room))
-    ]

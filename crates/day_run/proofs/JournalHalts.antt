@@ -7,17 +7,14 @@ use Rattle.admission.specs.declared.entries.Answer.TheVariants.{Halted}
 use Rattle.admission.specs.declared.entries.Command.{Command}
 use Rattle.admission.specs.declared.entries.Command.TheVariants.{Halt}
 use Rattle.admission.specs.declared.entries.Entry.{Entry}
-use Rattle.admission.specs.Histories.{IsHalt, is_halt, Halts, IsAdmission, IsLegal, IsUnhalted, open_count}
+use Rattle.admission.specs.Histories.{IsHalt, is_halt, Halts, IsUnhalted}
 use Rattle.day_run.specs.BookingBalance.{AreOwnHalts, AreHeldOf, IsHeld, IsReady}
 use Rattle.day_run.specs.Days.{entry_by, halt_by, DayState, state_at}
 use Rattle.std.specs.Prelude.{◌⊎◌}
-use Rattle.plan_cert.specs.declared.Segment.{Segment}
 use Rattle.plan_cert.specs.PlanSlots.{total_bytes}
-use Rattle.slot_calendar.specs.declared.profiles.CapStep.{CapStep}
 use Rattle.admission.specs.Machine.{AdmittedPlay}
-use Rattle.admission.proofs.OneHalt.{closed-halted, halts-once}
 use Rattle.day_run.specs.ClientStates.{Playing, ClientPlay}
-use Rattle.day_run.specs.JournalLaws.{IsHaltedOnce, IsOpenPlayOf}
+use Rattle.day_run.specs.JournalLaws.{IsOpenPlayOf}
 
 -- ---- each halt of a day's journal is of an earlier play of its maker's, also after one more entry
 pub none-halted : AreOwnHalts []
@@ -31,18 +28,20 @@ pub record IsOwnPlay (entries : List Entry) (number owner : ℕ) : Type 0 where
   pub inside : number < length entries
   pub maker : (none : Entry) → (get_or entries number none).maker ≡ owner
 
--- an entry that halts a play of its maker's, or none
-record IsOwnNext (entries : List Entry) (e : Entry) : Type 0 where
+-- a journal, and an entry after it that halts a play of its maker's, or none
+record NextEntry : Type 0 where
+  entries : List Entry
+  e : Entry
+  halts : AreOwnHalts entries
   is : (number keep : ℕ) → e.command ≡ Halt number keep → IsOwnPlay entries number e.maker
 
 record OwnHalt (entries : List Entry) (i number : ℕ) (maker : ℕ) : Type 0 where
   earlier : number < i
   play : IsOwnPlay entries number maker
 
-found : {entries : List Entry} {i number keep : ℕ} (e none : Entry) → AreOwnHalts entries → IsOwnNext entries e
-    → IsHalt (entries ++ e ∷ []) i number keep
-    → OwnHalt entries i number (get_or (entries ++ e ∷ []) i none).maker
-found {entries} {i} {number} {keep} e none halts next halt = elim (cases_lt i (length entries)) [
+found : {i number keep : ℕ} (next : NextEntry) (none : Entry) → IsHalt (next.entries ++ next.e ∷ []) i number keep
+    → OwnHalt next.entries i number (get_or (next.entries ++ next.e ∷ []) i none).maker
+found {i} {number} {keep} next none halt = elim (cases_lt i (length entries)) [
   | inl before ↦ (
       let same : (d : Entry) → get_or (entries ++ e ∷ []) i d ≡ get_or entries i d =
       λ d. get_or_append_left entries (e ∷ []) d i before in
@@ -57,7 +56,7 @@ found {entries} {i} {number} {keep} e none halts next halt = elim (cases_lt i (l
           inside = omega (arith, less, before);
           maker = λ d. sym (halts.own.each i number keep d old)
               ∙ ap (λ (x : Entry). x.maker) (sym (same d))
-              ∙ ap (λ (x : Entry). x.maker) (same-entry d);
+              ∙ ap (λ (x : Entry). x.maker) (get_or_default (entries ++ e ∷ []) i d none halt.inside);
         };
       }
       )
@@ -65,7 +64,7 @@ found {entries} {i} {number} {keep} e none halts next halt = elim (cases_lt i (l
       let n : length (entries ++ e ∷ []) ≡ length entries + 1 = length-append entries (e ∷ []) in
       let at : length entries ≡ i = omega (arith, after, halt.inside, n) in
       let here : (d : Entry) → get_or (entries ++ e ∷ []) i d ≡ e = λ d. get_or_push entries e d i at in
-      let play = next.is number keep (ap (λ (x : Entry). x.command) (sym (here none)) ∙ halt.command_is none) in
+      let play = is number keep (ap (λ (x : Entry). x.command) (sym (here none)) ∙ halt.command_is none) in
       record {
         earlier = omega (arith, play.inside, at);
         play = record {
@@ -76,17 +75,15 @@ found {entries} {i} {number} {keep} e none halts next halt = elim (cases_lt i (l
       )
 ]
   where
-    same-entry : (d : Entry) → get_or (entries ++ e ∷ []) i d ≡ get_or (entries ++ e ∷ []) i none
-    same-entry d = get_or_default (entries ++ e ∷ []) i d none halt.inside
+    open next use {entries, e, halts, is}
 
-push : (entries : List Entry) (e : Entry) → IsOwnNext entries e → AreOwnHalts entries
-    → AreOwnHalts (entries ++ e ∷ [])
-push entries e next halts = record {
-  earlier = λ i number keep halt. (found e e halts next halt).earlier;
+push : (next : NextEntry) → AreOwnHalts (next.entries ++ next.e ∷ [])
+push next = record {
+  earlier = λ i number keep halt. (found next next.e halt).earlier;
   own = record {
     each = λ i number keep none halt.
-        let at = found e none halts next halt in
-        sym (ap (λ (x : Entry). x.maker) (get_or_append_left entries (e ∷ []) none number at.play.inside)
+        let at = found next none halt in
+        sym (ap (λ (x : Entry). x.maker) (get_or_append_left next.entries (next.e ∷ []) none number at.play.inside)
         ∙ at.play.maker none);
   };
 }
@@ -94,7 +91,12 @@ push entries e next halts = record {
 pub halts-none : (entries : List Entry) (e : Entry) → is_halt e.command ≡ false → AreOwnHalts entries
     → AreOwnHalts (entries ++ e ∷ [])
 halts-none entries e no_halt halts =
-    push entries e (record { is = λ number keep is. absurd (true≢false (sym (ap is_halt is) ∙ no_halt)) }) halts
+    push (record {
+      entries = entries;
+      e = e;
+      halts = halts;
+      is = λ number keep is. absurd (true≢false (sym (ap is_halt is) ∙ no_halt));
+    })
 
 abbrev number_or : ℕ → Command → ℕ
 number_or d (Halt number keep) = number
@@ -103,18 +105,19 @@ number_or d _ = d
 pub halts-push : (entries : List Entry) (c number keep : ℕ) → IsOwnPlay entries number c → AreOwnHalts entries
     → AreOwnHalts (entries ++ halt_by c number keep)
 halts-push entries c number keep play halts =
-    push entries (entry_by c (Halt number keep) Halted)
-    (record {
-      is = λ n k is.
-          subst (λ (m : ℕ). IsOwnPlay entries m c) (ap (number_or 0) is) play;
-    }) halts
+    push (record {
+      entries = entries;
+      e = entry_by c (Halt number keep) Halted;
+      halts = halts;
+      is = λ n k is. subst (λ (m : ℕ). IsOwnPlay entries m c) (ap (number_or 0) is) play;
+    })
 
 -- ---- each play of a day is halted once, by its own client
 -- the halt of a play, where there is one
-record FoundHalt (entries : List Entry) (number : ℕ) : Type 0 where
-  place : ℕ
-  keep : ℕ
-  halt : IsHalt entries place number keep
+pub record FoundHalt (entries : List Entry) (number : ℕ) : Type 0 where
+  pub place : ℕ
+  pub keep : ℕ
+  pub halt : IsHalt entries place number keep
 
 record HaltsWith (number : ℕ) (command : Command) : Type 0 where
   keep : ℕ
@@ -127,7 +130,7 @@ halts-or number (Halt that keep) = elim (cases_eq that number) [
 ]
 halts-or number _ = inr (λ halts. halts)
 
-find-halt : (number : ℕ) (entries : List Entry) → FoundHalt entries number ⊎ IsUnhalted entries number
+pub find-halt : (number : ℕ) (entries : List Entry) → FoundHalt entries number ⊎ IsUnhalted entries number
 find-halt number [] = inr (record { each = λ i none inside. absurd (omega (arith, inside)) })
 find-halt number (e ∷ entries) = elim (halts-or number e.command) [
   | inl here ↦ inl (record {
@@ -153,22 +156,6 @@ find-halt number (e ∷ entries) = elim (halts-or number e.command) [
             → Halts number (get_or (e ∷ entries) i none).command → ⊥
         each-of zero none inside = apart
         each-of (suc i) none inside = never.each i none (omega (arith, inside))
-
--- in a legal journal in which no play is open, each is halted once
-pub halted-once : {steps : List CapStep} {entries : List Entry} {start : ℕ} {segments : List Segment} (number : ℕ)
-    → IsLegal steps entries → open_count entries ≡ 0 → AreOwnHalts entries → IsAdmission entries number start segments
-    → IsHaltedOnce entries number
-halted-once {steps} {entries} {start} {segments} number legal closed halts admission =
-    elim (find-halt number entries) [
-      | inl found ↦ record {
-        place = found.place;
-        keep = found.keep;
-        halt = found.halt;
-        only = λ i kept halt. halts-once steps entries number kept found.keep i found.place legal halt found.halt;
-        own = λ none. halts.own.each found.place number found.keep none found.halt;
-      }
-      | inr never ↦ absurd (closed-halted steps entries number start segments legal closed admission never)
-    ]
 
 pub open-own : {m : DayState} {client : ℕ} {play : ClientPlay} → IsReady m → client < 256
     → state_at m client ≡ Playing play → IsOpenPlayOf m.entries client play

@@ -13,13 +13,13 @@ use Rattle.admission.specs.Machine.{State, admitted_play, live, next_state}
 use Rattle.admission.proofs.HistoryPrefixes.{state-push}
 use Rattle.day_run.specs.BookingBalance.{IsReady}
 use Rattle.day_run.specs.Days.{SharedLink, DayState, entry_by, last_journal}
-use Rattle.day_run.specs.FairDays.{IsTurn, FairTurn}
+use Rattle.day_run.specs.FairDays.{FairTurn}
 use Rattle.day_run.proofs.FairLaws.{mid-ready, turn-mid}
-use Rattle.day_run.proofs.LineOutcomes.{halted-held, morning-ready, outcome-ready, LineOutcome, Kept, Asked, Stopped}
-use Rattle.day_run.proofs.LineOutcomes.{Looks, Reached, line-outcome, taken-keeps, turn-outcome, turn_step}
+use Rattle.day_run.proofs.LineOutcomes.{halted_client, morning-ready, outcome-ready, LineOutcome, Kept, Asked, Stopped}
+use Rattle.day_run.proofs.LineOutcomes.{Looks, Reached, TakenTurn, line-outcome, taken-keeps, turn-outcome, turn_step}
 use Rattle.day_run.proofs.ScriptLines.{LineStep, LinesTaken}
-use Rattle.day_run.proofs.SentBookedLemmas.{open_one}
-use Rattle.day_run.proofs.SlotBalance.{held-play, last-halted, places-halt, slot-halted}
+use Rattle.day_run.proofs.SentBookedLemmas.{its-held, open_one}
+use Rattle.day_run.proofs.SlotBalance.{last-halted, places-halt, slot-halted}
 
 -- a step takes at most two places, and none where the limit is reached
 pub record TakesPlaces (limit : ℕ) (old new : List Entry) : Type 0 where
@@ -36,9 +36,10 @@ kept-places : {limit : ℕ} (old new : DayState) → new ≡ old → TakesPlaces
 kept-places old new kept = same-places old.entries new.entries (ap (λ (m : DayState). places_taken m.entries) kept)
 
 -- an entry that takes so many places, for which there was room
-room-places : {limit : ℕ} (more : ℕ) (old new : List Entry) → more ≤ 2 → places_taken old + more ≤ limit
-    → places_taken new ≤ places_taken old + more → TakesPlaces limit old new
-room-places more old new small room most = record {
+room-places : (step : LineStep) (more : ℕ) → more ≤ 2 → places_taken step.old.entries + more ≤ step.link.limit
+    → places_taken step.new.entries ≤ places_taken step.old.entries + more
+    → TakesPlaces step.link.limit step.old.entries step.new.entries
+room-places step more small room most = record {
   few = omega (arith, small, most);
   within = λ fits. omega (arith, room, most);
 }
@@ -75,15 +76,15 @@ outcome-places step (Kept kept at) ready = kept-places step.old step.new kept
 outcome-places step (Asked own at) ready =
     let is = ap (λ (m : DayState). places_taken m.entries) own.made.noted.new_is in
     let most = played-places step.old.entries own.client step.old.heard own.plan own.made.answer in
-    room-places 2 step.old.entries step.new.entries (omega arith) own.made.room (omega (arith, is, most))
+    room-places step 2 (omega arith) own.made.room (omega (arith, is, most))
 outcome-places step (Stopped own at) ready =
     same-places step.old.entries step.new.entries
     (ap (λ (m : DayState). places_taken m.entries) own.is.noted.new_is
-    ∙ places-halt step.old.entries own.client (held-play own.play (halted-held own ready)) own.is.keep)
+    ∙ places-halt step.old.entries (its-held (halted_client own ready)) own.is.keep)
 outcome-places step (Looks own at) ready =
     let is = ap (λ (m : DayState). places_taken m.entries) own.made.noted.new_is in
     let most = looked-places step.old.entries own.slot own.made.answer in
-    room-places 1 step.old.entries step.new.entries (omega arith) own.made.room (omega (arith, is, most))
+    room-places step 1 (omega arith) own.made.room (omega (arith, is, most))
 outcome-places {slot} step (Reached own) ready =
     same-places step.old.entries step.new.entries
     (ap (λ (m : DayState). places_taken m.entries) own.is
@@ -109,10 +110,9 @@ pub record TurnPlaces (limit : ℕ) (turn : FairTurn) : Type 0 where
   pub mid : places_taken turn.mid.entries ≡ places_taken turn.old.entries
   pub done : TakesPlaces limit turn.mid.entries turn.new.entries
 
-pub turn-places : {link : SharedLink} {words : ℕ → ℕ} (turn : FairTurn) → IsTurn link words turn → IsReady turn.old
-    → TurnPlaces link.limit turn
-turn-places {link} turn is ready = record {
-  mid = turn-mid (λ (m : DayState). places_taken m.entries ≡ places_taken turn.old.entries) is refl
-      (slot-halted turn.old _ (omega arith) ready.balanced).places;
-  done = outcome-places (turn_step link turn) (turn-outcome turn is) (mid-ready is ready);
+pub turn-places : (taken : TakenTurn) → IsReady taken.turn.old → TurnPlaces taken.link.limit taken.turn
+turn-places taken ready = record {
+  mid = turn-mid taken (λ (m : DayState). places_taken m.entries ≡ places_taken taken.turn.old.entries) refl
+      (slot-halted taken.turn.old _ (omega arith) ready.balanced).places;
+  done = outcome-places (turn_step taken) (turn-outcome taken) (mid-ready taken ready);
 }

@@ -1,6 +1,6 @@
 -- A day after one more entry of its journal.
-use Rattle.std.proofs.Common.{◌≡◌, ◌≤◌, ℕ, true, List, [], ◌∷◌, ◌++◌, length, get_or, set, Option, Some, IsSomeAnd}
-use Rattle.std.proofs.Common.{arith, sym, ap, subst, ◌∙◌, max, ◌-◌, refl}
+use Rattle.std.proofs.Common.{◌≡◌, ◌<◌, ◌≤◌, ℕ, true, List, [], ◌∷◌, ◌++◌, length, get_or, set, Option, Some, IsSomeAnd}
+use Rattle.std.proofs.Common.{arith, sym, ap, subst, ◌∙◌, max, refl}
 use Rattle.std.proofs.lemmas.List.{length-append, get_or_append_left, length-set, get_or_push}
 use Rattle.plan_cert.specs.PlanSlots.{total_bytes}
 use Rattle.admission.specs.declared.entries.Command.TheVariants.{Halt, Play, Look}
@@ -10,7 +10,7 @@ use Rattle.admission.specs.Machine.{CanHalt, AdmittedPlay, State, play_numbered,
 use Rattle.admission.proofs.PlayLookup.{found-next}
 use Rattle.admission.proofs.Halts.{halting}
 use Rattle.admission.proofs.HistoryPrefixes.{next_of, state-push}
-use Rattle.day_run.proofs.ListUpdates.{each-set}
+use Rattle.day_run.proofs.ListUpdates.{set-at}
 use Rattle.day_run.specs.declared.clients.Client.{Client}
 use Rattle.day_run.specs.declared.clients.Client.TheVariants.{Playing}
 use Rattle.day_run.specs.Clients.{AreBooked, AreGoing, AreTimed, AreUndone, IsBooked, IsGoing, IsOpenOf, IsQuiet}
@@ -26,32 +26,29 @@ use Rattle.day_run.specs.MachineState.{IsDayMachine, IsSoundDay}
 use Rattle.day_run.specs.declared.machine.DayMachine.{DayMachine}
 
 -- ---- the plays that a book has open for the clients of a day, after one more entry
--- an entry that doesn't halt a play leaves it open
-pub open-push : {xs : List Entry} {c number bytes : ℕ} (e : Entry) → IsOpenOf xs c number bytes
-    → (Halts number e.command → ⊥) → IsOpenOf (xs ++ e ∷ []) c number bytes
-open-push {xs} {c} {number} {bytes} e its apart =
-    let h = halting (state_after xs) number bytes its.can in
-    let still : play_numbered number (next_of (state_after xs) (length xs) e).held ≡ Some h.held =
-    found-next (length xs) e.command e.answer (record { is = h.is; unhalted = apart }) in
-    let P : Option AdmittedPlay → Type 0 =
-    λ o. IsSomeAnd o (λ (h : AdmittedPlay). (h.is_open ≡ true) × (bytes ≤ total_bytes h.play.segments)) in
-    let can : CanHalt (next_of (state_after xs) (length xs) e) number bytes =
-    subst P (sym still) (h.is_open, h.small) in
-    record {
-      inside = omega (arith, length-append xs (e ∷ []), its.inside);
-      maker = λ none. ap (λ (x : Entry). x.maker) (get_or_append_left xs (e ∷ []) none number its.inside)
-          ∙ its.maker none;
-      can = subst (λ (s : State). CanHalt s number bytes) (sym (state-push xs e)) can;
-    }
-
 -- an entry halts none but a client's plays
 pub record HaltsNone (xs : List Entry) (client : ℕ) (e : Entry) : Type 0 where
   pub apart : (number : ℕ) → Halts number e.command → ((none : Entry) → (get_or xs number none).maker ≡ client) → ⊥
 
+-- an entry that doesn't halt a client's play leaves it open
 booked-push : (xs : List Entry) (c : ℕ) (client : Client) (e : Entry) → HaltsNone xs c e → IsBooked xs c client
     → IsBooked (xs ++ e ∷ []) c client
-booked-push xs c (Playing play) e none booked =
-    open-push e booked (λ halts. none.apart play.number halts booked.maker)
+booked-push xs c (Playing play) e none its =
+    let bytes = total_bytes play.plan in
+    let h = halting (state_after xs) play.number bytes its.can in
+    let still : play_numbered play.number (next_of (state_after xs) (length xs) e).held ≡ Some h.held =
+    found-next (length xs) e.command e.answer
+    (record { is = h.is; unhalted = λ halts. none.apart play.number halts its.maker }) in
+    let P : Option AdmittedPlay → Type 0 =
+    λ o. IsSomeAnd o (λ (h : AdmittedPlay). (h.is_open ≡ true) × (bytes ≤ total_bytes h.play.segments)) in
+    let can : CanHalt (next_of (state_after xs) (length xs) e) play.number bytes =
+    subst P (sym still) (h.is_open, h.small) in
+    record {
+      inside = omega (arith, length-append xs (e ∷ []), its.inside);
+      maker = λ none. ap (λ (x : Entry). x.maker) (get_or_append_left xs (e ∷ []) none play.number its.inside)
+          ∙ its.maker none;
+      can = subst (λ (s : State). CanHalt s play.number bytes) (sym (state-push xs e)) can;
+    }
 booked-push xs c _ e none booked = tt
 
 -- an entry that halts nothing
@@ -64,13 +61,39 @@ booked-more xs clients e none booked =
           (record { apart = λ number halts _. none number halts }) (booked.each c d inside);
     }
 
+-- what is true of each client
+abbrev AreEach : (ℕ → Client → Type 0) → List Client → Type 0
+AreEach P clients = (c : ℕ) (none : Client) → c < length clients → P c (get_or clients c none)
+
+-- once one client is put in the place of another
+each-set : (P : ℕ → Client → Type 0) (clients : List Client) (c : ℕ) (client : Client) → P c client
+    → AreEach (λ (d : ℕ) (x : Client). (d ≡ c → ⊥) → P d x) clients → AreEach P (set clients c client)
+each-set P clients c client own others d none inside =
+    let within : d < length clients = omega (arith, inside, length-set clients c client) in
+    set-at P (record {
+      xs = clients;
+      c = c;
+      d = d;
+      x = client;
+      none = none;
+      inside = λ same. omega (arith, same, within);
+      own = own;
+      other = others d none within;
+    })
+
+-- clients whose plays a book has open
+pub record BookedClients : Type 0 where
+  pub xs : List Entry
+  pub clients : List Client
+  pub booked : AreBooked xs clients
+
 -- a client is put in the place of one, whose play alone an entry may halt
-pub booked-set : {xs : List Entry} {clients : List Client} {c : ℕ} {e : Entry} (client : Client)
-    → ((d : ℕ) → (d ≡ c → ⊥) → HaltsNone xs d e) → IsBooked (xs ++ e ∷ []) c client → AreBooked xs clients
-    → AreBooked (xs ++ e ∷ []) (set clients c client)
-booked-set {xs} {clients} {c} {e} client others own booked = record {
-  each = each-set (IsBooked (xs ++ e ∷ [])) clients c client own
-      (λ d none inside other. booked-push xs d (get_or clients d none) e (others d other) (booked.each d none inside));
+booked-set : (on : BookedClients) (c : ℕ) (client : Client) (e : Entry)
+    → ((d : ℕ) → (d ≡ c → ⊥) → HaltsNone on.xs d e) → IsBooked (on.xs ++ e ∷ []) c client
+    → AreBooked (on.xs ++ e ∷ []) (set on.clients c client)
+booked-set on c client e others own = record {
+  each = each-set (IsBooked (on.xs ++ e ∷ [])) on.clients c client own (λ d none inside other.
+      booked-push on.xs d (get_or on.clients d none) e (others d other) (on.booked.each d none inside));
 }
 
 quiet-booked : (xs : List Entry) (c : ℕ) (client : Client) → IsQuiet client → IsBooked xs c client
@@ -78,23 +101,24 @@ quiet-booked xs c (Playing play) quiet = absurd quiet
 quiet-booked xs c _ quiet = tt
 
 -- an entry halts a play of a client that may be halted so
-pub record HaltsOpenPlay (xs : List Entry) (c : ℕ) (e : Entry) : Type 0 where
+pub record HaltsOpenPlay (xs : List Entry) (c : ℕ) : Type 0 where
+  pub e : Entry
   pub number : ℕ
   pub keep : ℕ
   pub command : e.command ≡ Halt number keep
   pub its : IsOpenOf xs c number keep
 
 -- the client is quiet from then on
-pub booked-halt : {xs : List Entry} {clients : List Client} {c : ℕ} {e : Entry} (client : Client)
-    → HaltsOpenPlay xs c e → IsQuiet client → AreBooked xs clients → AreBooked (xs ++ e ∷ []) (set clients c client)
-booked-halt {xs} {c} {e} client halt quiet booked =
-    booked-set client
-    (λ d other. record {
+pub booked-halt : (on : BookedClients) (c : ℕ) (client : Client) (halt : HaltsOpenPlay on.xs c) → IsQuiet client
+    → AreBooked (on.xs ++ halt.e ∷ []) (set on.clients c client)
+booked-halt on c client halt quiet =
+    booked-set on c client e (λ d other. record {
       apart = λ n halts maker.
-          let same : halt.number ≡ n = subst (Halts n) halt.command halts in
-          other (sym (maker e) ∙ ap (λ k. (get_or xs k e).maker) (sym same) ∙ halt.its.maker e);
-    })
-    (quiet-booked (xs ++ e ∷ []) c client quiet) booked
+          let same : number ≡ n = subst (Halts n) command halts in
+          other (sym (maker e) ∙ ap (λ k. (get_or on.xs k e).maker) (sym same) ∙ its.maker e);
+    }) (quiet-booked (on.xs ++ e ∷ []) c client quiet)
+  where
+    open halt use {e, number, command, its}
 
 -- one client is put in the place of another
 pub going-set : (clients : List Client) (c : ℕ) (client : Client) → IsGoing client → AreGoing clients
@@ -166,20 +190,22 @@ can-fewer state number bytes keep le can =
     λ o. IsSomeAnd o (λ (x : AdmittedPlay). (x.is_open ≡ true) × (keep ≤ total_bytes x.play.segments)) in
     subst P (sym h.is) (h.is_open, omega (arith, le, h.small))
 
--- a play that may be halted with so many bytes may be with fewer
-fewer : {xs : List Entry} {c number bytes keep : ℕ} → keep ≤ bytes → IsOpenOf xs c number bytes
-    → IsOpenOf xs c number keep
-fewer {xs} {c} {number} {bytes} {keep} le its =
-    record { inside = its.inside; maker = its.maker; can = can-fewer (state_after xs) number bytes keep le its.can }
+-- a client that goes on soundly, whose play the book has open
+pub record IsOnBook (xs : List Entry) (c : ℕ) (client : Client) : Type 0 where
+  pub going : IsGoing client
+  pub booked : IsBooked xs c client
 
 -- the play of a client that is halted so
-pub open-halt : {xs : List Entry} {c : ℕ} {halt : ClientHalt} (client : Client) → IsGoing client
-    → IsBooked xs c client → IsHaltOf client halt → IsOpenOf xs c halt.number halt.keep
-open-halt {c} {halt} clients.Idle going booked is = absurd is
-open-halt {xs} {c} {halt} (clients.Playing play) going booked is =
-    subst (λ (n : ℕ). IsOpenOf xs c n halt.keep) (sym is.0) (fewer (omega (arith, is.1, going.whole)) booked)
-open-halt {c} {halt} (clients.Pausing stop) going booked is = absurd is
-open-halt {c} {halt} (clients.Paused rest) going booked is = absurd is
+pub open-halt : {xs : List Entry} {c : ℕ} {halt : ClientHalt} (client : Client) → IsOnBook xs c client
+    → IsHaltOf client halt → IsOpenOf xs c halt.number halt.keep
+open-halt {xs} {c} {halt} (clients.Playing play) own is =
+    subst (λ (n : ℕ). IsOpenOf xs c n halt.keep) (sym is.0) (record {
+      inside = own.booked.inside;
+      maker = own.booked.maker;
+      can = can-fewer (state_after xs) play.number (total_bytes play.plan) halt.keep (omega (arith, is.1, own.going.whole))
+          own.booked.can;
+    })
+open-halt {c} {halt} _ own is = absurd is
 
 -- ---- a day after one more entry
 -- a client is put in the place of one, and the journal goes on
@@ -208,9 +234,8 @@ day-set {ys} {c} {client} day sound is =
 
 -- the entry of a client's halt, and the client after it
 pub record HaltEntered (day : DayMachine) (ys : List Entry) (c : ℕ) (client : Client) : Type 0 where
-  pub e : Entry
-  pub entries_are : ys ≡ day.book.entries ++ e ∷ []
-  pub halt : HaltsOpenPlay day.book.entries c e
+  pub halt : HaltsOpenPlay day.book.entries c
+  pub entries_are : ys ≡ day.book.entries ++ halt.e ∷ []
   pub going : IsGoing client
   pub undone : IsUndone client
   pub quiet : IsQuiet client
@@ -222,14 +247,18 @@ pub day-halted : {ys : List Entry} {c : ℕ} {client : Client} (day : DayMachine
 day-halted {c} {client} day sound entered =
     subst (λ (l : List Entry). IsSoundDay day.slot_units day.heard l (set day.clients.items c client)) (sym entries_are)
     (day-set day sound (record {
-      now = omega (arith, halted-now day.book.entries e halt.number halt.keep halt.command, sound.now_heard);
+      now = omega (arith, halted-now day.book.entries halt.e halt.number halt.keep halt.command, sound.now_heard);
       going = going;
       undone = undone;
       timed = timed;
-      booked = booked-halt client halt quiet sound.booked;
+      booked = booked-halt (record {
+        xs = day.book.entries;
+        clients = day.clients.items;
+        booked = sound.booked;
+      }) c client halt quiet;
     }))
   where
-    open entered use {e, entries_are, halt, going, undone, quiet, timed}
+    open entered use {entries_are, halt, going, undone, quiet, timed}
 
 -- an entry that halts no play
 pub record EntryNoted (day : DayMachine) (ys : List Entry) : Type 0 where
@@ -287,8 +316,8 @@ day-played {c} {play} day sound entered =
       going = playing;
       undone = undone;
       timed = timed;
-      booked = booked-set (clients.Playing play) (λ d other. record { apart = λ n halts _. none n halts }) its
-          sound.booked;
+      booked = booked-set (record { xs = xs; clients = day.clients.items; booked = sound.booked }) c
+          (clients.Playing play) e (λ d other. record { apart = λ n halts _. none n halts }) its;
     }))
   where
     open entered use {e, slot, segments, entries_are, command, late, maker, number, can, playing, undone, timed}

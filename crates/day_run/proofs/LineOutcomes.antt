@@ -1,6 +1,6 @@
 -- What a line of a script, or a turn's client, does to a day, in five cases, and that it keeps the balance.
 use Rattle.std.proofs.Common.{◌≡◌, ◌<◌, ◌≤◌, ◌%◌, ◌+◌, ◌++◌, ℕ, List, [], ◌∷◌, get_or, subst, refl, sym, ap, ◌∙◌, inl}
-use Rattle.std.proofs.Common.{inr, arith, zero, suc, length, map, replicate, Some}
+use Rattle.std.proofs.Common.{inr, arith, zero, suc, length, map, replicate}
 use Rattle.std.proofs.lemmas.List.{append-nil, append_assoc, get_or-replicate, length-map, length-set}
 use Rattle.std.proofs.lemmas.List.{length-replicate}
 use Rattle.admission.specs.declared.entries.Entry.{Entry}
@@ -12,28 +12,28 @@ use Rattle.day_script.specs.Scripts.{slot_after}
 use Rattle.day_run.specs.declared.fairs.TheConstants.{BUFFER_SIZES, LEAST_BUFFER}
 use Rattle.day_run.specs.ClientStates.{ClientPlay, ClientState, Idle, Playing, Pausing, Paused, Rest, after_play}
 use Rattle.day_run.specs.ClientStates.{after_sending}
-use Rattle.day_run.specs.Days.{AreLineSteps, first_moment, DayState, IsAnsweredLook, IsAnsweredPlay, IsAsked}
+use Rattle.day_run.specs.Days.{first_moment, DayState, IsAnsweredLook, IsAnsweredPlay, IsAsked}
 use Rattle.day_run.specs.Days.{IsHaltedPlay, IsLine, IsLookLine, IsOfferLine, IsPauseLine, IsResumeLine, SharedLink}
 use Rattle.day_run.specs.Days.{at_slot, halts_at, rest_at, AskedPlay, booked_up_to, entry_by, sent_up_to, with_play}
 use Rattle.day_run.specs.FairDays.{FairTurn, IsDone, IsTurn, line_drawn}
-use Rattle.day_run.proofs.ScriptLines.{ClientOf, IsPlayTaken, LineStep, LinesTaken, StandingLine, StandingLines}
-use Rattle.day_run.proofs.ScriptLines.{first-standing, rest-standing, standing-of}
-use Rattle.day_run.proofs.SentBookedLemmas.{IsFree, idle-free, paused-free, IsShut, balanced-halt, balanced-play}
+use Rattle.day_run.proofs.ScriptLines.{ClientOf, IsPlayTaken, LineRun, LineStep, LinesTaken, StandingLine}
+use Rattle.day_run.proofs.ScriptLines.{first-standing, head_step, rest-standing, run_of}
+use Rattle.day_run.proofs.SentBookedLemmas.{BalancedClient, IsFree, idle-free, paused-free, IsShut, balanced-halt}
+use Rattle.day_run.proofs.SentBookedLemmas.{balanced-play}
 use Rattle.day_run.proofs.SentBookedLemmas.{balanced-same, balanced-sent, playing_one}
 use Rattle.std.specs.Prelude.{sum_by}
 use Rattle.std.proofs.lemmas.List.Elements.{All-nil}
 use Rattle.std.proofs.lemmas.List.Sums.{sum_by-cons}
 use Rattle.slot_calendar.specs.Plays.{truncated_play}
 use Rattle.admission.specs.declared.entries.Answer.{Answer}
-use Rattle.admission.specs.declared.entries.Answer.TheVariants.{Admitted, Halted}
+use Rattle.admission.specs.declared.entries.Answer.TheVariants.{Admitted}
 use Rattle.admission.specs.declared.entries.Command.TheVariants as commands
-use Rattle.admission.specs.Machine.{AdmittedPlay, State, play_numbered, admitted_play}
+use Rattle.admission.specs.Machine.{AdmittedPlay, State}
 use Rattle.admission.proofs.HistoryPrefixes.{state-push}
-use Rattle.day_run.specs.BookingBalance.{AreHeldOf, IsBalanced, IsReady, share_of}
+use Rattle.day_run.specs.BookingBalance.{AreHeldOf, IsReady, share_of}
 use Rattle.day_run.proofs.JournalHalts.{none-halted}
-use Rattle.day_run.proofs.SlotBalance.{its-held, pausing-share, slot-halted}
+use Rattle.day_run.proofs.SlotBalance.{pausing-share, slot-halted}
 use Rattle.day_run.proofs.PauseLemmas.{pausing-cases}
-use Rattle.admission.specs.Histories.{state_after}
 
 -- ---- what a line of a script, or a turn's client, does to a day, in five cases
 -- a client that played nothing was answered a play
@@ -145,10 +145,10 @@ look-outcome : {slot : ℕ} (step : LineStep) → IsLookLine step.link slot step
 look-outcome step (inl full) = Kept full.told.kept refl
 look-outcome {slot} step (inr made) = Looks (record { slot = slot; made = made }) refl
 
-pub offer-kept : {link : SharedLink} {rest : Rest} {wait : ℕ} {old new : DayState} {text : List ℕ}
-    → IsOfferLine link rest wait old new text → new ≡ old
-offer-kept (inl faulty) = faulty.told.kept
-offer-kept (inr offered) = offered.told.kept
+pub offer-kept : {rest : Rest} {wait : ℕ} (step : LineStep)
+    → IsOfferLine step.link rest wait step.old step.new step.text → step.new ≡ step.old
+offer-kept step (inl faulty) = faulty.told.kept
+offer-kept step (inr offered) = offered.told.kept
 
 pub line-outcome : {n : ℕ} (step : LineStep) (line : Line) → StandingLine step.old.heard n line
     → IsLine step.link line step.old step.new step.text → LineOutcome step (slot_after step.old.heard line)
@@ -161,28 +161,41 @@ line-outcome step (lines.Resume c) standing is =
 line-outcome step (lines.Look slot) standing is = look-outcome step is
 line-outcome step (lines.Slot slot) standing is =
     Reached (record { later = omega (arith, standing.stands.0); is = is.0 })
-line-outcome step (lines.Offer c source buffer delay wait) standing is = Kept (offer-kept is) refl
+line-outcome step (lines.Offer c source buffer delay wait) standing is = Kept (offer-kept step is) refl
+
+-- the first of lines that are taken, and the others
+abbrev pub head_outcome : {line : Line} {lines : List Line} {text : List ℕ} {texts : List (List ℕ)}
+    (taken : LineRun (line ∷ lines) (text ∷ texts))
+    → LineOutcome (head_step taken) (slot_after taken.old.heard line)
+head_outcome {line} taken = line-outcome (head_step taken) line (first-standing taken.standing) taken.run.1.0
+
+abbrev pub rest_run : {line : Line} {lines : List Line} {text : List ℕ} {texts : List (List ℕ)}
+    → LineRun (line ∷ lines) (text ∷ texts) → LineRun lines texts
+rest_run taken = record {
+  link = taken.link;
+  n = taken.n;
+  old = taken.run.0;
+  new = taken.new;
+  standing = rest-standing taken (outcome-heard (head_step taken) (head_outcome taken));
+  run = taken.run.1.1;
+}
 
 -- ---- what each line that may stand keeps, the lines of a script keep
 abbrev pub IsKeptByLines : SharedLink → ℕ → (DayState → Type 0) → Type 0
 IsKeptByLines link n P = (line : Line) (old new : DayState) (text : List ℕ) → StandingLine old.heard n line
     → IsLine link line old new text → P old → P new
 
-pub run-keeps : {link : SharedLink} {n : ℕ} {old new : DayState} (P : DayState → Type 0) → IsKeptByLines link n P
-    → (lines : List Line) (texts : List (List ℕ)) → StandingLines old.heard n lines
-    → AreLineSteps link lines texts old new → P old → P new
-run-keeps P kept [] [] standing run is = subst P (sym run) is
-run-keeps {link} {n} {old} {new} P kept (l ∷ ls) (t ∷ ts) standing run is =
-    let step : LineStep = record { link = link; old = old; new = run.0; text = t } in
-    let first = first-standing standing in
-    run-keeps {link = link} {n = n} {old = run.0} {new = new} P kept ls ts
-    (rest-standing standing (outcome-heard step (line-outcome step l first run.1.0))) run.1.1
-    (kept l old run.0 t first run.1.0 is)
-run-keeps P kept _ _ standing run is = absurd run
+pub run-keeps : (lines : List Line) (texts : List (List ℕ)) (taken : LineRun lines texts) (P : DayState → Type 0)
+    → IsKeptByLines taken.link taken.n P → P taken.old → P taken.new
+run-keeps [] [] taken P kept is = subst P (sym taken.run) is
+run-keeps (l ∷ ls) (t ∷ ts) taken P kept is =
+    run-keeps ls ts (rest_run taken) P kept
+    (kept l taken.old taken.run.0 t (first-standing taken.standing) taken.run.1.0 is)
+run-keeps _ _ taken P kept is = absurd taken.run
 
 pub taken-keeps : {link : SharedLink} {n : ℕ} (taken : LinesTaken link n) (P : DayState → Type 0)
     → IsKeptByLines link n P → P first_moment → P taken.moment
-taken-keeps taken P kept is = run-keeps P kept taken.lines taken.texts (standing-of taken) taken.run is
+taken-keeps taken P kept is = run-keeps taken.lines taken.texts (run_of taken) P kept is
 
 -- ---- the turns of a large day
 pub done-outcome : {c : ℕ} {state : ClientState} (step : LineStep) (words : ℕ → ℕ) → ClientOf step.old c state
@@ -196,25 +209,26 @@ done-outcome {c} {state = Pausing stop rest} step words own is = Kept is.kept re
 done-outcome {c} {state = Paused rest} step words own is =
     resume-outcome step (record { client = own.client; at = refl }) is
 
--- what the client of a turn does
-abbrev pub turn_step : SharedLink → FairTurn → LineStep
-turn_step link turn = record { link = link; old = turn.mid; new = turn.new; text = turn.text }
+-- a turn that was taken
+pub record TakenTurn : Type 0 where
+  pub link : SharedLink
+  pub words : ℕ → ℕ
+  pub turn : FairTurn
+  pub is : IsTurn link words turn
 
-pub turn-outcome : {link : SharedLink} {words : ℕ → ℕ} (turn : FairTurn) → IsTurn link words turn
-    → LineOutcome (turn_step link turn) turn.mid.heard
-turn-outcome {link} {words} turn is =
-    done-outcome (turn_step link turn) (words_after 2 words) (record { client = omega arith; at = refl }) is.done
+-- what its client does
+abbrev pub turn_step : TakenTurn → LineStep
+turn_step taken = record { link = taken.link; old = taken.turn.mid; new = taken.turn.new; text = taken.turn.text }
+
+pub turn-outcome : (taken : TakenTurn) → LineOutcome (turn_step taken) taken.turn.mid.heard
+turn-outcome taken =
+    done-outcome (turn_step taken) (words_after 2 taken.words) (record { client = omega arith; at = refl })
+    taken.is.done
 
 -- ---- what the lines of a script leave of the balance between what is sent and what is booked
 pub ready-kept : (old new : DayState) → new ≡ old → IsReady old → IsReady new
 ready-kept old new kept ready =
     subst IsReady (sym kept) ready
-
-ready-made : {new : DayState} {states : List ClientState} (old : DayState) (e : Entry)
-    → new ≡ record { entries = old.entries ++ e ∷ []; states = states; heard = old.heard }
-    → length states ≡ 256 → IsBalanced (old.entries ++ e ∷ []) states old.heard → IsReady new
-ready-made {new} old e is count balanced =
-    subst IsReady (sym is) (record { count = count; balanced = balanced })
 
 -- a client of a day that plays nothing
 record IsFreeOf (old : DayState) (client : ℕ) : Type 0 where
@@ -222,60 +236,72 @@ record IsFreeOf (old : DayState) (client : ℕ) : Type 0 where
   free : IsFree (get_or old.states client Idle)
 
 -- the day after the answer of a play
-abbrev pub IsAfterPlay : DayState → AskedPlay → Answer → DayState → Type 0
-IsAfterPlay old ask answer new = new ≡ record {
+abbrev pub after_answer : DayState → AskedPlay → Answer → DayState
+after_answer old ask answer = record {
   entries = old.entries ++ entry_by ask.client (commands.Play old.heard ask.plan) answer ∷ [];
   states = with_play ask.client ask.rest ask.plan (length old.entries) answer old.states;
   heard = old.heard;
 }
 
-answered : {old new : DayState} (answer : Answer) (ask : AskedPlay) → IsFreeOf old ask.client
-    → IsAfterPlay old ask answer new → IsReady old → IsReady new
-answered {old} (Admitted start) ask free is ready =
+answered : (old : DayState) (answer : Answer) (ask : AskedPlay) → IsFreeOf old ask.client → IsReady old
+    → IsReady (after_answer old ask answer)
+answered old (Admitted start) ask free ready =
     let play : ClientPlay = record { number = length old.entries; rest = ask.rest; plan = ask.plan; start = start } in
     let e = entry_by ask.client (commands.Play old.heard ask.plan) (Admitted start) in
-    ready-made old e is (length-set old.states ask.client (Playing play) ∙ ready.count)
-    (balanced-play
-    (record {
-      play = play;
-      e = e;
-      number = refl;
-      maker = refl;
-      no_halt = refl;
-      is = ap (λ (s : State). s.held) (state-push old.entries e);
-    }) (omega (arith, free.inside, ready.count)) free.free ready.balanced)
-answered {old} answer ask free is ready =
+    record {
+      count = length-set old.states ask.client (Playing play) ∙ ready.count;
+      balanced = balanced-play (record {
+        play = play;
+        e = e;
+        number = refl;
+        maker = refl;
+        no_halt = refl;
+        is = ap (λ (s : State). s.held) (state-push old.entries e);
+      }) (omega (arith, free.inside, ready.count)) free.free ready.balanced;
+    }
+answered old answer ask free ready =
     let e = entry_by ask.client (commands.Play old.heard ask.plan) answer in
-    ready-made old e is ready.count
-    (balanced-same old.entries old.states old.heard e
-    (ap (λ (s : State). s.held) (state-push old.entries e)) refl ready.balanced)
+    record {
+      count = ready.count;
+      balanced = balanced-same old e (ap (λ (s : State). s.held) (state-push old.entries e)) refl ready.balanced;
+    }
 
--- the machine holds a play that is halted
-pub halted-held : {step : LineStep} (own : PlayHalted step) → IsReady step.old
-    → play_numbered own.play.number (state_after step.old.entries).held
-    ≡ Some (admitted_play own.play.number own.play.start own.play.plan)
-halted-held own ready = its-held own.client (omega (arith, own.inside, ready.count)) own.at ready.balanced
+-- its client, whose play the machine holds
+abbrev pub halted_client : {step : LineStep} (own : PlayHalted step) → IsReady step.old
+    → BalancedClient step.old (Playing own.play)
+halted_client own ready = record {
+  c = own.client;
+  inside = subst (λ n. own.client < n) (sym ready.count) own.inside;
+  at = own.at;
+  balanced = ready.balanced;
+}
 
 paused : (step : LineStep) (own : PlayHalted step) → IsReady step.old → IsReady step.new
 paused step own ready =
     let old = step.old in
-    let e = entry_by client (commands.Halt play.number is.keep) Halted in
     let stop = truncated_play play.start play.plan is.keep in
     let rest = record play.rest { run = is.pause.left } in
-    let shut = subst IsShut (sym is.pause.state_is) (pausing-cases IsShut old.heard stop rest tt tt) in
-    ready-made old e is.noted.new_is (length-set old.states client is.state ∙ ready.count)
-    (balanced-halt client is.keep is.state
-    (record { inside = omega (arith, inside, ready.count); at = at; balanced = ready.balanced }) shut
-    (λ t later. ap (share_of t) is.pause.state_is ∙ pausing-share t old.heard stop rest later))
+    subst IsReady (sym is.noted.new_is) (record {
+      count = length-set old.states client is.state ∙ ready.count;
+      balanced = balanced-halt (halted_client own ready) (record {
+        keep = is.keep;
+        next = is.state;
+        shut = subst IsShut (sym is.pause.state_is) (pausing-cases IsShut old.heard stop rest tt tt);
+        shares = λ t later.
+            ap (share_of t) is.pause.state_is ∙ pausing-share t old.heard stop rest later;
+      });
+    })
   where
-    open own use {client, inside, play, at, is}
+    open own use {client, play, is}
 
 looked : (step : LineStep) → LookAnswered step → IsReady step.old → IsReady step.new
 looked step own ready =
+    let old = step.old in
     let e = entry_by 0 (commands.Look own.slot) own.made.answer in
-    ready-made step.old e own.made.noted.new_is ready.count
-    (balanced-same step.old.entries step.old.states step.old.heard e
-    (ap (λ (s : State). s.held) (state-push step.old.entries e)) refl ready.balanced)
+    subst IsReady (sym own.made.noted.new_is) (record {
+      count = ready.count;
+      balanced = balanced-same old e (ap (λ (s : State). s.held) (state-push old.entries e)) refl ready.balanced;
+    })
 
 pub slot-ready : (old new : DayState) (slot : ℕ) → old.heard ≤ slot → new ≡ at_slot old slot → IsReady old → IsReady new
 slot-ready old new slot le is ready =
@@ -288,8 +314,9 @@ slot-ready old new slot le is ready =
 pub outcome-ready : {slot : ℕ} (step : LineStep) → LineOutcome step slot → IsReady step.old → IsReady step.new
 outcome-ready step (Kept kept at) ready = ready-kept step.old step.new kept ready
 outcome-ready step (Asked own at) ready =
-    answered own.made.answer (record { client = own.client; rest = own.rest; plan = own.plan })
-    (record { inside = own.inside; free = own.free }) own.made.noted.new_is ready
+    subst IsReady (sym own.made.noted.new_is)
+    (answered step.old own.made.answer (record { client = own.client; rest = own.rest; plan = own.plan })
+    (record { inside = own.inside; free = own.free }) ready)
 outcome-ready step (Stopped own at) ready = paused step own ready
 outcome-ready step (Looks own at) ready = looked step own ready
 outcome-ready {slot} step (Reached own) ready = slot-ready step.old step.new slot own.later own.is ready
@@ -319,7 +346,7 @@ morning-ready = record {
 }
 
 pub ready-sent : (m : DayState) (slot : ℕ) → m.heard ≤ slot → IsReady m → sent_up_to m slot ≡ booked_up_to m slot
-ready-sent m slot le ready = balanced-sent m.entries m.states m.heard slot le ready.balanced
+ready-sent m slot le ready = balanced-sent m slot le ready.balanced
 
 -- the lines of a script leave a day ready
 pub ready-by-lines : (link : SharedLink) (n : ℕ) → IsKeptByLines link n IsReady

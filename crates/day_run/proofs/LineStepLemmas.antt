@@ -4,12 +4,9 @@ use Rattle.std.proofs.Common.{Ok, Err, IfOk, arith, refl, sym, ap, subst, ◌∙
 use Rattle.std.proofs.lemmas.List.{append-nil, drop_at, ext_get_or, get_or-replicate, length-map}
 use Rattle.plan_cert.specs.declared.Segment.{Segment}
 use Rattle.admission.specs.declared.entries.Answer.{Answer}
-use Rattle.admission.specs.declared.entries.Answer.TheVariants.{Admitted, Halted}
-use Rattle.admission.specs.declared.entries.Command.TheVariants as commands
+use Rattle.admission.specs.declared.entries.Answer.TheVariants.{Admitted}
 use Rattle.admission.specs.declared.entries.Entry.{Entry}
-use Rattle.admission.specs.declared.entries.Full.{Full}
-use Rattle.admission.specs.Books.{places_taken}
-use Rattle.admission.specs.Histories.{IsAnswered, is_admission, open_count, state_after}
+use Rattle.admission.specs.Histories.{IsAnswered, is_admission, state_after}
 use Rattle.report.specs.EntryLines.{entry_line}
 use Rattle.day_run.specs.declared.clients.Client.{Client}
 use Rattle.day_run.specs.declared.clients.Client.TheVariants as clients
@@ -21,13 +18,14 @@ use Rattle.day_run.specs.declared.machine.LineAnswer.TheVariants as tolds
 use Rattle.vod_base.specs.declared.errors.NoMemory.{NoMemory}
 use Rattle.day_run.specs.Clients.{AreIdle, IsPauseOf, IsQuiet, play_of, rest_of, state_of}
 use Rattle.report.specs.JournalTexts.{journal_text}
-use Rattle.day_run.specs.Days.{IsAsked, IsFull, IsNoted, IsPauseLine, IsPlayLine, IsTold, SharedLink, DayState}
-use Rattle.day_run.specs.Days.{done_halt, entry_by, halt_entries, state_at, with_play}
-use Rattle.day_script.specs.LineTexts.{full_text, state_text}
+use Rattle.day_run.specs.Days.{AskedPlay, IsAsked, IsNoted, IsPauseLine, IsPlayLine, IsTold, SharedLink, DayState}
+use Rattle.day_run.specs.Days.{done_halt, halt_entries, state_at, with_play}
+use Rattle.day_script.specs.LineTexts.{state_text}
 use Rattle.day_run.specs.MachineState.{reply_text}
-use Rattle.day_run.specs.ClientStates.{Idle, Playing, Pausing, Rest, ClientState, IfBusy, after_sending, is_busy}
+use Rattle.day_run.specs.ClientStates.{Idle, IsPause, Playing, Pausing, Rest, ClientState, IfBusy, after_sending}
+use Rattle.day_run.specs.ClientStates.{is_busy}
 use Rattle.day_run.proofs.ClientSweepLemmas.{state-at, states-set}
-use Rattle.day_run.proofs.ScriptLines.{ClientAsks}
+use Rattle.day_run.proofs.ScriptLines.{ClientAsks, LineStep}
 use Rattle.day_run.proofs.PauseLemmas.{done-sent}
 
 -- the entries after those of a moment
@@ -39,18 +37,6 @@ pub told-entry : (place : ℕ) (xs ys : List Entry) (e : Entry) → place ≡ le
 told-entry place xs ys e at y =
     ap (λ n. journal_text n (drop n ys)) at ∙ ap (journal_text (length xs)) (more-entries xs ys (e ∷ []) y)
     ∙ append-nil (entry_line (length xs) e)
-
-pub told-full : {link : SharedLink} {places : ℕ} {old new : DayState} (full : Full)
-    → link.limit < places_taken old.entries + places
-    → full.entries ≡ length old.entries → full.live ≡ open_count old.entries → new ≡ old
-    → IsFull link places old new (full_text full)
-told-full {old} {new} full above entries opened kept = record {
-  full = above;
-  told = record {
-    kept = kept;
-    text_is = ap full_text (cc (entries, opened));
-  };
-}
 
 -- an entry was made: its place, and the day after it
 pub record EntryMade (link : SharedLink) (old new : DayState) (entry : Entry) (states : List ClientState) : Type 0 where
@@ -80,8 +66,10 @@ noted {link} {old} {new} {entry} {states} made =
     open made use {is, answered, place, place_is, entries_are, states_are, heard_is}
 
 -- a play that was admitted: its number, what was to be sent, its plan, and its first slot
-pub record PlayBegun (number : ℕ) (rest : ClientRest) (plan : List Segment) (answer : Answer) (play : ClientPlay)
-    : Type 0 where
+pub record PlayBegun (number : ℕ) (play : ClientPlay) : Type 0 where
+  pub rest : ClientRest
+  pub plan : List Segment
+  pub answer : Answer
   pub start : ℕ
   pub answer_is : answer ≡ Admitted start
   pub number_is : play.number ≡ number
@@ -90,35 +78,40 @@ pub record PlayBegun (number : ℕ) (rest : ClientRest) (plan : List Segment) (a
   pub start_is : play.pacer.start ≡ start
 
 -- the clients after a play's answer
-pub states-played : {number : ℕ} {rest : ClientRest} {plan : List Segment} {answer : Answer} {play : ClientPlay}
-    (cs : List Client) (c : ℕ) → PlayBegun number rest plan answer play
-    → map state_of (set cs c (clients.Playing play)) ≡ with_play c (rest_of rest) plan number answer (map state_of cs)
-states-played {number} {rest} {plan} {play} cs c begun =
-    let same : play_of play ≡ record { number = number; rest = rest_of rest; plan = plan; start = begun.start } =
-    cc (begun.number_is, begun.rest_is, begun.plan_is, begun.start_is) in
+pub states-played : {number : ℕ} {play : ClientPlay} (cs : List Client) (c : ℕ) (begun : PlayBegun number play)
+    → map state_of (set cs c (clients.Playing play))
+    ≡ with_play c (rest_of begun.rest) begun.plan number begun.answer (map state_of cs)
+states-played {number} {play} cs c begun =
+    let same : play_of play ≡ record { number = number; rest = rest_of rest; plan = plan; start = start } =
+    cc (number_is, rest_is, plan_is, start_is) in
     states-set cs c (clients.Playing play) ∙ ap (λ x. set (map state_of cs) c (Playing x)) same
-    ∙ ap (λ a. with_play c (rest_of rest) plan number a (map state_of cs)) (sym begun.answer_is)
+    ∙ ap (λ a. with_play c (rest_of rest) plan number a (map state_of cs)) (sym answer_is)
+  where
+    open begun use {rest, plan, start, answer_is, number_is, rest_is, plan_is, start_is}
 
-pub states-same : {states : List ClientState} (c : ℕ) (rest : Rest) (plan : List Segment) (number : ℕ)
-    (answer : Answer) → is_admission answer ≡ false → states ≡ with_play c rest plan number answer states
-states-same c rest plan number (Admitted start) not = cc not
-states-same c rest plan number _ not = refl
+pub states-same : {states : List ClientState} (ask : AskedPlay) (number : ℕ) (answer : Answer)
+    → is_admission answer ≡ false → states ≡ with_play ask.client ask.rest ask.plan number answer states
+states-same ask number (Admitted start) not = cc not
+states-same ask number _ not = refl
 
--- a client pauses
-pub pause-line : {link : SharedLink} {c : ℕ} {halt : Halt} {old new : DayState} {text : List ℕ} (client next : Client)
-    → IsPauseOf old.heard halt client next
-    → IsNoted link (entry_by c (commands.Halt halt.number halt.keep) Halted)
-    (set old.states c (state_of next)) old new text → IsPauseLine link c (state_of client) old new text
-pause-line {link} {c} {halt} {old} {new} {text} (clients.Playing play) next is n =
-    let N : ℕ → Type 0 =
-    λ k. IsNoted link (entry_by c (commands.Halt k halt.keep) Halted) (set old.states c (state_of next)) old new text in
-    record { keep = halt.keep; state = state_of next; pause = is.1; noted = subst N is.0 n }
-pause-line {c} {halt} {new} {text} _ next is n = absurd is
+-- the play of a client that pauses
+pub record PausedPlay (heard : ℕ) (halt : Halt) (client next : Client) : Type 0 where
+  pub play : ClientPlay
+  pub client_is : client ≡ clients.Playing play
+  pub number_is : halt.number ≡ play.number
+  pub pause : IsPause (play_of play) heard halt.keep (state_of next)
 
-pub no-pause : {old new : DayState} {text : List ℕ} (link : SharedLink) (c : ℕ) (client : Client) → IsQuiet client
-    → IsTold state_text old new text → IsPauseLine link c (state_of client) old new text
-no-pause {new} {text} link c (clients.Playing play) quiet told = absurd quiet
-no-pause {new} {text} link c _ quiet told = told
+pub paused-play : {heard : ℕ} {halt : Halt} (client next : Client) → IsPauseOf heard halt client next
+    → PausedPlay heard halt client next
+paused-play (clients.Playing play) next is =
+    record { play = play; client_is = refl; number_is = is.0; pause = is.1 }
+paused-play _ next is = absurd is
+
+pub no-pause : (step : LineStep) (c : ℕ) (client : Client) → IsQuiet client
+    → IsTold state_text step.old step.new step.text
+    → IsPauseLine step.link c (state_of client) step.old step.new step.text
+no-pause step c (clients.Playing play) quiet told = absurd quiet
+no-pause step c _ quiet told = told
 
 -- a client asks for a play, or can't
 if-free : {Free : Type 0} (Busy : Type 0) (state : ClientState) → is_busy state ≡ false → Free
@@ -127,17 +120,14 @@ if-free Busy (Playing play) free asked = cc free
 if-free Busy (Pausing stop left) free asked = cc free
 if-free Busy _ free asked = asked
 
-pub play-ok : {one rest : Rest} {own : ClientState} (r : Result LineAnswer NoMemory) (asks : ClientAsks) → one ≡ rest
-    → own ≡ state_at asks.old asks.client → is_busy own ≡ false
-    → IfOk r (λ told. IsAsked asks.link asks.client one asks.old asks.new (reply_text asks.entries told))
+pub play-ok : (rest : Rest) (r : Result LineAnswer NoMemory) (asks : ClientAsks)
+    → is_busy (state_at asks.old asks.client) ≡ false
+    → IfOk r (λ told. IsAsked asks.link asks.client rest asks.old asks.new (reply_text asks.entries told))
     → IfOk r (λ told. IsPlayLine asks.link asks.client rest asks.old asks.new (reply_text asks.entries told))
-play-ok {one} {own} (Ok told) asks r s free asked =
+play-ok rest (Ok told) asks free asked =
     let text = reply_text asks.entries told in
-    subst (λ (x : Rest). IsPlayLine asks.link asks.client x asks.old asks.new text) r
-    (subst (λ (x : ClientState). IfBusy x (IsTold state_text asks.old asks.new text)
-    (IsAsked asks.link asks.client one asks.old asks.new text)) s
-    (if-free (IsTold state_text asks.old asks.new text) own free asked))
-play-ok {one} (Err e) asks r s free asked = tt
+    if-free (IsTold state_text asks.old asks.new text) (state_at asks.old asks.client) free asked
+play-ok rest (Err e) asks free asked = tt
 
 -- the halts after a sending
 pub halt_entries-sent : (slot k : ℕ) (states : List ClientState)

@@ -1,58 +1,67 @@
 -- What an offer answers.
-use Rattle.std.proofs.Common.{◌+◌, ℕ, List, length, get_or, Option, Some, None, arith, refl, sym, subst, inl, inr}
+use Rattle.std.proofs.Common.{◌+◌, ◌<◌, ◌≤◌, ℕ, length, get_or, Option, Some, None, arith, refl, sym, subst, inl, inr}
 use Rattle.std.specs.Prelude.{◌⊎◌}
-use Rattle.plan_cert.specs.declared.Segment.{Segment}
-use Rattle.slot_calendar.specs.Calendars.{HasRoom, IsFirstOverflow}
+use Rattle.slot_calendar.specs.Calendars.{IsFirstOverflow}
 use Rattle.slot_calendar.specs.Profiles.{capacity_at}
 use Rattle.admission.specs.Histories.{booked_after, state_after}
 use Rattle.admission.specs.Machine.{start_after}
-use Rattle.early_start.specs.declared.Tried.{Tried}
 use Rattle.early_start.specs.StartSearch.{AreRefusals, CanStart, IsStart}
 use Rattle.early_start.proofs.RefusedStarts.{no_room_tried}
 use Rattle.day_run.specs.DayLaws.{IsCount, IsLeast, IsOfferAnswer}
-use Rattle.day_run.specs.Days.{IsFaulty, IsOfferLine, SharedLink, DayState}
 use Rattle.day_run.specs.ClientStates.{Rest}
+use Rattle.day_run.specs.Days.{IsFaulty, IsOfferLine}
+use Rattle.day_run.proofs.ScriptLines.{LineStep}
 
-start-least : {booked capacity : ℕ → ℕ} {plan : List Segment} {first : ℕ} {tried : List Tried} (wait : ℕ)
-    (start : Option ℕ) → AreRefusals 0 booked capacity plan first tried
-    → IsStart (CanStart 0 booked capacity plan) first wait (length tried) start
-    → IsLeast (λ s. HasRoom 0 booked capacity s plan) first (first + wait) start
-start-least {booked} {capacity} {plan} {first} {tried} wait None refusals is = λ start begun within room.
-    no_room_tried refusals begun (omega (arith, is, within)) room
-start-least {booked} {capacity} {plan} {first} {tried} wait (Some start) refusals is = (
+-- starts that were tried from the first one on, up to a wait, of which none fits
+record TriedStarts : Type 1 where
+  Fits : ℕ → Type 0
+  first : ℕ
+  wait : ℕ
+  count : ℕ
+  none : (start : ℕ) → first ≤ start → start < first + count → Fits start → ⊥
+
+start-least : (tried : TriedStarts) (start : Option ℕ) → IsStart tried.Fits tried.first tried.wait tried.count start
+    → IsLeast tried.Fits tried.first (tried.first + tried.wait) start
+start-least tried None is = λ start begun within room. tried.none start begun (omega (arith, is, within)) room
+start-least tried (Some start) is = (
   omega (arith, is.1),
   omega (arith, is.0, is.1),
   is.2,
-  λ earlier begun before room. no_room_tried refusals begun (omega (arith, is.1, before)) room,
+  λ earlier begun before room. tried.none earlier begun (omega (arith, is.1, before)) room,
 )
 
-start-count : (is_fit : ℕ → Type 0) (first wait tried : ℕ) (start : Option ℕ)
-    → IsStart is_fit first wait tried start → IsCount first (first + wait) start tried
-start-count is_fit first wait tried None is = omega (arith, is)
-start-count is_fit first wait tried (Some start) is = sym is.1
+start-count : (tried : TriedStarts) (start : Option ℕ) → IsStart tried.Fits tried.first tried.wait tried.count start
+    → IsCount tried.first (tried.first + tried.wait) start tried.count
+start-count tried None is = omega (arith, is)
+start-count tried (Some start) is = sym is.1
 
-pub offer-told : {link : SharedLink} {rest : Rest} {wait : ℕ} {old new : DayState} {text : List ℕ}
-    → IsOfferLine link rest wait old new text
-    → IsFaulty rest old new text ⊎ IsOfferAnswer link rest wait old text
-offer-told {new} {text} (inl faulty) = inl faulty
-offer-told {link} {wait} {old} {new} {text} (inr offered) =
-    let booked = booked_after old.entries in
-    let capacity = capacity_at link.steps in
-    let plan = offered.plan in
-    let found = offered.found in
-    let first = start_after (state_after old.entries) old.heard in
-    let refusals : AreRefusals 0 booked capacity plan first found.tried = offered.found_is.refusals in
+pub offer-told : {rest : Rest} {wait : ℕ} (step : LineStep)
+    → IsOfferLine step.link rest wait step.old step.new step.text
+    → IsFaulty rest step.old step.new step.text ⊎ IsOfferAnswer step.link rest wait step.old step.text
+offer-told step (inl faulty) = inl faulty
+offer-told {wait} step (inr offered) =
+    let booked = booked_after step.old.entries in
+    let capacity = capacity_at step.link.steps in
+    let first = start_after (state_after step.old.entries) step.old.heard in
+    let refusals : AreRefusals 0 booked capacity plan first found.tried = found_is.refusals in
     let W : ℕ → Type 0 = λ w. IsStart (CanStart 0 booked capacity plan) first w (length found.tried) found.start in
-    let start : W wait = subst W offered.wait_is offered.found_is.start in
+    let start : W wait = subst W offered.wait_is found_is.start in
+    let tried : TriedStarts = record {
+      Fits = CanStart 0 booked capacity plan;
+      first = first;
+      wait = wait;
+      count = length found.tried;
+      none = λ start begun before room. no_room_tried refusals begun before room;
+    } in
     inr (record {
       plan = plan;
       plan_is = offered.plan_is;
       first = first;
       first_is = refl;
       start = found.start;
-      least = start-least wait found.start refusals start;
+      least = start-least tried found.start start;
       tried = found.tried;
-      count = start-count (CanStart 0 booked capacity plan) first wait (length found.tried) found.start start;
+      count = start-count tried found.start start;
       each = λ i none inside.
           let O : ℕ → Type 0 = λ s. IsFirstOverflow 0 booked capacity s plan (get_or found.tried i none).over in
           record {
@@ -61,3 +70,5 @@ offer-told {link} {wait} {old} {new} {text} (inr offered) =
           };
       text_is = offered.told.text_is;
     })
+  where
+    open offered use {plan, found, found_is}

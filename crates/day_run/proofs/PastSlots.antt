@@ -16,17 +16,17 @@ use Rattle.admission.proofs.HistoryPrefixes.{state-push}
 use Rattle.day_script.specs.declared.scripts.Line.TheVariants as lines
 use Rattle.day_run.specs.BookingBalance.{IsReady, share_of}
 use Rattle.day_run.specs.Clients.{after_open}
-use Rattle.day_run.specs.Days.{AskedPlay, IsLine, SharedLink, DayState, entry_by, last_journal, first_moment}
-use Rattle.day_run.specs.Days.{sent_up_to}
-use Rattle.day_run.specs.FairDays.{AreTurns, IsTurn, FairTurn, after_turn, turn_booked, turn_peak}
+use Rattle.day_run.specs.Days.{AskedPlay, IsLine, SharedLink, DayState, entry_by, last_journal, sent_up_to}
+use Rattle.day_run.specs.FairDays.{FairTurn, turn_booked, turn_peak}
 use Rattle.day_run.specs.ClientStates.{ClientState, booking_of, sent_by}
-use Rattle.day_run.proofs.SentBookedLemmas.{BegunPlay}
+use Rattle.day_run.proofs.SentBookedLemmas.{its-held}
 use Rattle.day_run.proofs.SlotBalance.{last-halted, play-stays, slot-halted, stays-halt}
-use Rattle.day_run.proofs.LineOutcomes.{IsAfterPlay, halted-held, morning-ready, ready-sent, taken-ready, PlayHalted}
+use Rattle.day_run.proofs.LineOutcomes.{TakenTurn, after_answer, halted_client, ready-sent, taken-ready, PlayHalted}
 use Rattle.day_run.proofs.LineOutcomes.{LineOutcome, Kept, Asked, Stopped, Looks, Reached, line-outcome}
 use Rattle.day_run.proofs.LineOutcomes.{outcome-heard, turn-outcome, turn_step}
 use Rattle.day_run.proofs.ScriptLines.{LineStep, LinesTaken, NextTaken}
-use Rattle.day_run.proofs.FairLaws.{mid-heard, mid-ready, turn-mid, turn-ready}
+use Rattle.day_run.proofs.FairLaws.{TurnRun, first_turn, fold-top, mid-heard, mid-ready, rest_turns, turn-mid}
+use Rattle.day_run.proofs.FairLaws.{turn-ready}
 use Rattle.day_run.proofs.SoundClients.{kept-most}
 use Rattle.day_run.proofs.SlotTotals.{SlotSpan, greatest, summed, total-joined, total-same}
 
@@ -36,51 +36,48 @@ Past old new = (t : ℕ) → t ≤ old.heard → booked_after new.entries t ≡ 
 kept-past : (old new : DayState) → new ≡ old → Past old new
 kept-past old new kept t past = ap (λ (m : DayState). booked_after m.entries t) kept
 
-same-past : (old new : DayState) (e : Entry) (states : List ClientState)
-    → new ≡ record { entries = old.entries ++ e ∷ []; states = states; heard = old.heard }
-    → (state_after (old.entries ++ e ∷ [])).held ≡ (state_after old.entries).held → Past old new
-same-past old new e states is same t past =
-    ap (λ (m : DayState). booked_after m.entries t) is ∙ ap (λ hs. booked_by (map (λ (h : AdmittedPlay). h.play) hs) t)
-    same
+same-past : (old : DayState) (e : Entry) (states : List ClientState)
+    → (state_after (old.entries ++ e ∷ [])).held ≡ (state_after old.entries).held
+    → Past old (record { entries = old.entries ++ e ∷ []; states = states; heard = old.heard })
+same-past old e states same t past = ap (λ hs. booked_by (map (λ (h : AdmittedPlay). h.play) hs) t) same
 
-answered-past : {new : DayState} (answer : Answer) (link : SharedLink) (ask : AskedPlay) (old : DayState)
+answered-past : (answer : Answer) (link : SharedLink) (ask : AskedPlay) (old : DayState)
     → IsAnswered link.steps (state_after old.entries) (entry_by ask.client (commands.Play old.heard ask.plan) answer)
-    → IsAfterPlay old ask answer new → Past old new
-answered-past {new} (Admitted start) link ask old answered is = λ t past.
+    → Past old (after_answer old ask answer)
+answered-past (Admitted start) link ask old answered = λ t past.
     let e = entry_by ask.client (commands.Play old.heard ask.plan) (Admitted start) in
     let early : old.heard < start = omega (arith, answered.0) in
-    let begun : BegunPlay old.entries = record {
+    play-stays old.entries old.heard t (record {
       e = e;
       number = length old.entries;
       start = start;
       plan = ask.plan;
       is = ap (λ (s : State). s.held) (state-push old.entries e);
-    } in
-    ap (λ (m : DayState). booked_after m.entries t) is
-    ∙ play-stays old.entries old.heard t begun early past
-answered-past {new} answer link ask old answered is =
+    }) early past
+answered-past answer link ask old answered =
     let e = entry_by ask.client (commands.Play old.heard ask.plan) answer in
-    same-past old new e old.states is (ap (λ (s : State). s.held) (state-push old.entries e))
+    same-past old e old.states (ap (λ (s : State). s.held) (state-push old.entries e))
 
 halted-past : (step : LineStep) (own : PlayHalted step) → IsReady step.old → Past step.old step.new
 halted-past step own ready t past =
-    let held = halted-held own ready in
-    let most = kept-most step.old.entries own.play own.is.keep held own.is.noted.answered in
+    let held = its-held (halted_client own ready) in
+    let most = kept-most step.old.entries held own.is.keep own.is.noted.answered in
     let sent : sent_by (booking_of own.play) step.old.heard ≤ own.is.keep =
     omega (arith, own.is.pause.boundary.after) in
     ap (λ (m : DayState). booked_after m.entries t) own.is.noted.new_is
-    ∙ stays-halt step.old.entries own.client own.is.keep own.play held (record { sent = sent; most = most }) t past
+    ∙ stays-halt step.old.entries held own.is.keep (record { sent = sent; most = most }) t past
 
 outcome-past : {slot : ℕ} (step : LineStep) → LineOutcome step slot → IsReady step.old → Past step.old step.new
 outcome-past step (Kept kept at) ready = kept-past step.old step.new kept
 outcome-past step (Asked own at) ready =
-    answered-past own.made.answer step.link (record { client = own.client; rest = own.rest; plan = own.plan }) step.old
-    own.made.noted.answered own.made.noted.new_is
+    subst (Past step.old) (sym own.made.noted.new_is)
+    (answered-past own.made.answer step.link (record { client = own.client; rest = own.rest; plan = own.plan }) step.old
+    own.made.noted.answered)
 outcome-past step (Stopped own at) ready = halted-past step own ready
 outcome-past step (Looks own at) ready =
     let e = entry_by 0 (commands.Look own.slot) own.made.answer in
-    same-past step.old step.new e step.old.states own.made.noted.new_is
-    (ap (λ (s : State). s.held) (state-push step.old.entries e))
+    subst (Past step.old) (sym own.made.noted.new_is)
+    (same-past step.old e step.old.states (ap (λ (s : State). s.held) (state-push step.old.entries e)))
 outcome-past {slot} step (Reached own) ready = λ t past.
     ap (λ (m : DayState). booked_after m.entries t) own.is
     ∙ (slot-halted step.old slot own.later ready.balanced).stays t (omega (arith, past, own.later))
@@ -96,16 +93,13 @@ pub end-past : {link : SharedLink} {n : ℕ} (taken : LinesTaken link n) (t : �
 end-past taken t past = (last-halted taken.moment (taken-ready taken).balanced).stays t past
 
 -- ---- the same of turns
-turn-past : {link : SharedLink} {words : ℕ → ℕ} {turn : FairTurn} (t : ℕ) → IsTurn link words turn → IsReady turn.old
-    → t ≤ turn.mid.heard → booked_after turn.new.entries t ≡ booked_after turn.old.entries t
-turn-past {link} {turn} t is ready past =
-    outcome-past (turn_step link turn) (turn-outcome turn is) (mid-ready is ready) t past
-    ∙ turn-mid (λ (m : DayState). t ≤ m.heard → booked_after m.entries t ≡ booked_after turn.old.entries t) is
-    (λ _. refl) ((slot-halted turn.old _ (omega arith) ready.balanced).stays t) past
-
-fold-top : (top : ℕ) (xs : List ℕ) → fold max top xs ≡ max top (fold max 0 xs)
-fold-top top [] = omega arith
-fold-top top (x ∷ xs) = omega (arith, fold-top (max top x) xs, fold-top (max 0 x) xs)
+turn-past : (t : ℕ) (taken : TakenTurn) → IsReady taken.turn.old → t ≤ taken.turn.mid.heard
+    → booked_after taken.turn.new.entries t ≡ booked_after taken.turn.old.entries t
+turn-past t taken ready past =
+    let old = taken.turn.old in
+    outcome-past (turn_step taken) (turn-outcome taken) (mid-ready taken ready) t past
+    ∙ turn-mid taken (λ (m : DayState). t ≤ m.heard → booked_after m.entries t ≡ booked_after old.entries t)
+    (λ _. refl) ((slot-halted old _ (omega arith) ready.balanced).stays t) past
 
 -- ---- what the turns bring is what the journal books in their slots
 pub record IsTurnBooked (booked : ℕ → ℕ) (turn : FairTurn) : Type 0 where
@@ -155,49 +149,41 @@ turns-cons {turn} {turns} {last} booked first =
   where
     open first use {later, here, rest}
 
-pub turns-past : {turns : List FairTurn} {old : DayState} {booked : ℕ → ℕ} (link : SharedLink) (words : ℕ → ℕ)
-    (new : DayState) → AreTurns link words turns old new → IsReady old
-    → ((t : ℕ) → t ≤ new.heard → booked t ≡ booked_after new.entries t)
-    → AreBooked booked turns old.heard new.heard × ((t : ℕ) → t ≤ old.heard → booked t ≡ booked_after old.entries t)
-turns-past {turns = []} {old} {booked} link words new run ready same =
-    let heard : new.heard ≡ old.heard = ap (λ (m : DayState). m.heard) run in
-    let none : new.heard - old.heard ≡ 0 = omega (arith, heard) in (
+pub turns-past : (turns : List FairTurn) (booked : ℕ → ℕ) (come : TurnRun turns) → IsReady come.old
+    → ((t : ℕ) → t ≤ come.new.heard → booked t ≡ booked_after come.new.entries t)
+    → AreBooked booked turns come.old.heard come.new.heard
+    × ((t : ℕ) → t ≤ come.old.heard → booked t ≡ booked_after come.old.entries t)
+turns-past [] booked come ready same =
+    let old = come.old in
+    let heard : come.new.heard ≡ old.heard = ap (λ (m : DayState). m.heard) come.run in
+    let none : come.new.heard - old.heard ≡ 0 = omega (arith, heard) in (
       record {
         order = omega (arith, heard);
         sum_is = sym (ap (λ k. sum_by booked (range_with_len (old.heard + 1) k)) none);
         peak_is = sym (ap (λ k. fold max 0 (map booked (range_with_len (old.heard + 1) k))) none);
         each = All-nil (IsTurnBooked booked);
       },
-      λ t past. same t (omega (arith, past, heard)) ∙ ap (λ (m : DayState). booked_after m.entries t) run,
+      λ t past. same t (omega (arith, past, heard)) ∙ ap (λ (m : DayState). booked_after m.entries t) come.run,
     )
-turns-past {turns = turn ∷ turns} {old} {booked} link words new run ready same =
-    let begun : IsReady turn.old = subst IsReady (sym run.0) ready in
-    let is = run.1.0 in
-    let rest = turns-past {turns = turns} {old = turn.new} {booked = booked} link (after_turn words turn) new
-    run.1.1 (turn-ready is begun) same in
-    let from : turn.old.heard ≡ old.heard = ap (λ (m : DayState). m.heard) run.0 in
-    let mid : turn.new.heard ≡ turn.mid.heard = outcome-heard (turn_step link turn) (turn-outcome turn is) in
-    let later : turn.old.heard ≤ turn.mid.heard = mid-heard is in
+turns-past (turn ∷ turns) booked come ready same =
+    let taken = first_turn come in
+    let begun : IsReady turn.old = subst IsReady (sym come.run.0) ready in
+    let rest = turns-past turns booked (rest_turns come) (turn-ready taken begun) same in
+    let from : turn.old.heard ≡ come.old.heard = ap (λ (m : DayState). m.heard) come.run.0 in
+    let mid : turn.new.heard ≡ turn.mid.heard = outcome-heard (turn_step taken) (turn-outcome taken) in
+    let later : turn.old.heard ≤ turn.mid.heard = mid-heard taken in
     let here : (t : ℕ) → t ≤ turn.mid.heard → booked t ≡ booked_after turn.old.entries t =
-    λ t past. rest.1 t (omega (arith, past, mid))
-    ∙ turn-past {link = link} {words = words} {turn = turn} t is begun past in
-    let B : ℕ → Type 0 = λ h. AreBooked booked (turn ∷ turns) h new.heard in (
-      subst B from (turns-cons {turn = turn} {turns = turns} {last = new.heard} booked
+    λ t past. rest.1 t (omega (arith, past, mid)) ∙ turn-past t taken begun past in
+    let B : ℕ → Type 0 = λ h. AreBooked booked (turn ∷ turns) h come.new.heard in (
+      subst B from (turns-cons {turn = turn} {turns = turns} {last = come.new.heard} booked
           (record {
             begun = begun;
             later = later;
             here = here;
-            rest = subst (λ (h : ℕ). AreBooked booked turns h new.heard) mid rest.0;
+            rest = subst (λ (h : ℕ). AreBooked booked turns h come.new.heard) mid rest.0;
           })),
-      λ t past. here t (omega (arith, past, from, later)) ∙ ap (λ (x : DayState). booked_after x.entries t) run.0,
+      λ t past. here t (omega (arith, past, from, later)) ∙ ap (λ (x : DayState). booked_after x.entries t) come.run.0,
     )
-
-pub fair-past : {turns : List FairTurn} {evening : DayState} {journal : List Entry} (link : SharedLink) (words : ℕ → ℕ)
-    → AreTurns link words turns first_moment evening
-    → journal ≡ last_journal evening → IsReady evening → AreBooked (booked_after journal) turns 0 evening.heard
-fair-past {evening} link words run is ready =
-    (turns-past link words evening run morning-ready
-    (λ t past. ap (λ es. booked_after es t) is ∙ (last-halted evening ready.balanced).stays t past)).0
 
 -- ---- looks and offers
 pub look-leaves : (link : SharedLink) (slot : ℕ) (old new : DayState) (text : List ℕ)

@@ -8,7 +8,7 @@ use Rattle.film_run.specs.declared.runs.Run.{Run}
 use Rattle.film_run.specs.Pauses.{IsRemainingRun, IsHalt}
 use Rattle.slot_calendar.specs.Plays.{Play as Booked, truncated_play}
 use Rattle.day_run.specs.declared.clients.ClientPlay.{ClientPlay}
-use Rattle.day_run.specs.Clients.{IsPlaying, play_of, rest_of, IsRest, IsStopping}
+use Rattle.day_run.specs.Clients.{IsPlaying, play_of, rest_of, IsRest}
 use Rattle.day_run.specs.Days.{done_halt}
 use Rattle.day_run.specs.MediaPieces.{media_pieces, media_sizes}
 use Rattle.day_run.specs.ClientStates.{Pausing, Paused, IsPause, Rest, ClientState, after_sending, booking_of}
@@ -19,7 +19,6 @@ use Rattle.plan_cert.specs.Plan.{IsPlan}
 use Rattle.plan_cert.specs.PlanSlots.{sum_through, total_slots}
 use Rattle.plan_cert.proofs.SlotSums.{sum_through-past}
 use Rattle.film_run.specs.Runs.{Fits, IsRun}
-use Rattle.day_run.specs.declared.clients.Rest.{Rest as ClientRest}
 
 -- ---- what a client's pacer has sent, in the words of a day
 -- what a pacer sends, as a booking
@@ -85,32 +84,31 @@ last-slot (Some last) start heard passed through timed =
     let e : last ≡ heard - start = omega (arith, through, timed) in
     ap Some e ∙ sym (cond-false (nat_lt heard start) None (Some (heard - start)) from)
 
--- what a pause keeps of a play: no less than was sent
-pub record KeptSent (play : ClientPlay) (keep : ℕ) : Type 0 where
-  pub least : play.pacer.sent ≤ keep
-  pub most : keep ≤ play.pacer.keep
-
--- A play is paused: what it keeps, and its client.
-pub kept-sent : {play : ClientPlay} (heard keep : ℕ) → TimedPlay play heard → KeptSent play keep
-    → sent_by (truncated_play play.pacer.start play.plan keep) heard ≡ play.pacer.sent
-kept-sent {play} heard keep own kept =
-    omega (arith, sent-at play heard own.playing own.timed, own.playing.whole, kept.least, kept.most)
-
--- what a pause keeps of a play, up to a boundary, and what it leaves
-pub record PauseLeft (play : ClientPlay) (keep : ℕ) : Type 0 where
+-- a pause keeps the bytes of a play up to a boundary: no less than was sent
+pub record PauseAt (play : ClientPlay) (keep : ℕ) : Type 0 where
   pub last : Option ℕ
-  pub left : Run
   pub through : slots_through last ≡ play.pacer.passed
   pub boundary : IsBoundaryAfter play.pacer.pieces (play.pacer.before + play.pacer.sent) (play.pacer.before + keep)
-  pub left_is : IsRemainingRun (media_sizes play.rest.medium.now) play.rest.playback play.rest.run play.plan last keep
-      left
+  pub most : keep ≤ play.pacer.keep
 
-pub pause-of : {play : ClientPlay} {heard keep : ℕ} {state : ClientState} → TimedPlay play heard
-    → (pause : PauseLeft play keep)
-    → state ≡ pausing_state heard (truncated_play play.pacer.start play.plan keep)
-    (record (rest_of play.rest) { run = pause.left })
-    → IsPause (play_of play) heard keep state
-pause-of {play} {heard} {keep} own pause state-is =
+pub kept-sent : {play : ClientPlay} {heard keep : ℕ} → TimedPlay play heard → PauseAt play keep
+    → sent_by (truncated_play play.pacer.start play.plan keep) heard ≡ play.pacer.sent
+kept-sent {play} {heard} own at =
+    omega (arith, sent-at play heard own.playing own.timed, own.playing.whole, at.boundary.after, at.most)
+
+-- what it leaves
+pub record PauseLeft (play : ClientPlay) (keep : ℕ) : Type 0 where
+  pub at : PauseAt play keep
+  pub left : Run
+  pub left_is : IsRemainingRun (media_sizes play.rest.medium.now) play.rest.playback play.rest.run play.plan at.last
+      keep left
+  pub run_is : IsRun (media_sizes play.rest.medium.now) left
+  pub fits : Fits play.rest.playback.buffer left
+
+pub pause-of : {play : ClientPlay} {heard keep : ℕ} → TimedPlay play heard → (pause : PauseLeft play keep)
+    → IsPause (play_of play) heard keep (pausing_state heard (truncated_play play.pacer.start play.plan keep)
+    (record (rest_of play.rest) { run = pause.left }))
+pause-of {play} {heard} {keep} own pause =
     let p = play.pacer in
     let pieces = media_pieces play.rest.medium.now in
     let C : ℕ → Type 0 = λ n. IsBoundaryAfter pieces (n + p.sent) (n + keep) in
@@ -121,38 +119,14 @@ pause-of {play} {heard} {keep} own pause state-is =
       boundary =
           subst D (sent-at play heard playing timed) (subst C playing.before_is
           (subst (λ (ps : List (List ℕ)). IsBoundaryAfter ps (p.before + p.sent) (p.before + keep)) playing.pieces_are
-          boundary));
+          at.boundary));
       left = left;
-      left_is = subst L (last-slot last p.start heard p.passed through timed) left_is;
-      state_is = state-is;
+      left_is = subst L (last-slot at.last p.start heard p.passed at.through timed) left_is;
+      state_is = refl;
     }
   where
     open own use {playing, timed}
-    open pause use {last, left, through, boundary, left_is}
-
--- the client whose play keeps no more than was sent, and another one
-pub paused-state : {play : ClientPlay} {rest : Rest} (heard keep : ℕ) → TimedPlay play heard → KeptSent play keep
-    → (play.pacer.sent == keep) ≡ true
-    → Paused rest ≡ pausing_state heard (truncated_play play.pacer.start play.plan keep) rest
-paused-state {play} {rest} heard keep own kept all =
-    let b = truncated_play play.pacer.start play.plan keep in
-    sym (cond-true (sent_by b heard == keep) (Paused rest) (Pausing b rest)
-    (ap (λ n. n == keep) (kept-sent heard keep own kept) ∙ all))
-
-pub pausing-state : {play : ClientPlay} {q : PacerState} {rest : Rest} (heard keep : ℕ) → TimedPlay play heard
-    → KeptSent play keep → (play.pacer.sent == keep) ≡ false → q ≡ record play.pacer { keep = keep }
-    → Pausing (truncated_play q.start q.plan keep) rest ≡ pausing_state heard (truncated_play play.pacer.start play.plan
-    keep) rest
-pausing-state {play} {q} {rest} heard keep own kept not e =
-    let b = truncated_play play.pacer.start play.plan keep in
-    let same : truncated_play q.start q.plan keep ≡ b =
-    ap (λ (x : PacerState). truncated_play x.start x.plan keep) e ∙ ap (λ s. truncated_play play.pacer.start s keep)
-    playing.plan_is in
-    ap (λ (x : Booked). Pausing x rest) same
-    ∙ sym (cond-false (sent_by b heard == keep) (Paused rest) (Pausing b rest)
-    (ap (λ n. n == keep) (kept-sent heard keep own kept) ∙ not))
-  where
-    open own use {playing, timed}
+    open pause use {at, left, left_is}
 
 -- ---- what a pause keeps of a play
 undone-apart : (p : PacerState) → is_done p ≡ false → 0 < p.passed → p.sent ≡ p.keep → ⊥
@@ -174,71 +148,58 @@ sent-last {play} last playing apart passed =
     ]
 
 -- the halt of a play that isn't done
-pub halts : {play : ClientPlay} {keep : ℕ} (last : Option ℕ) → IsPlaying play → is_done play.pacer ≡ false
-    → slots_through last ≡ play.pacer.passed
-    → IsBoundaryAfter play.pacer.pieces (play.pacer.before + play.pacer.sent) (play.pacer.before + keep)
-    → keep ≤ play.pacer.keep → IsHalt play.plan last keep
-halts {play} {keep} None playing undone passed boundary most =
-    let p = play.pacer in
-    let nothing : first_slots p.plan p.passed ≡ 0 = ap (first_slots p.plan) (sym passed) in
-    let sent : p.sent ≡ 0 = omega (arith, playing.all_sent, playing.pacing.due, nothing) in
-    let le : p.before + keep ≤ p.before = boundary.least p.before playing.pacing.begins (omega (arith, sent)) in
-    omega (arith, le)
-halts {play} (Some last) playing undone passed boundary most =
-    let p = play.pacer in
-    let apart : p.sent ≡ p.keep → ⊥ = undone-apart p undone (omega (arith, passed)) in
-    let through = sent-last {play = play} last playing apart passed in
-    let plan : IsPlan play.plan = subst (λ (s : List Segment). IsPlan s) playing.plan_is playing.pacing.plan in
-    let below : p.sent < p.keep = elim (cases_lt p.sent p.keep) [
-      | inl less ↦ less
-      | inr more ↦ absurd (apart (omega (arith, more, playing.pacing.sent, playing.pacing.due)))
-    ] in
-    let inside : last < total_slots play.plan = elim (cases_lt last (total_slots play.plan)) [
-      | inl within ↦ within
-      | inr past ↦
-          absurd (omega (
-            arith,
-            sum_through-past play.plan last plan (omega (arith, past)),
-            through,
-            below,
-            playing.whole,
-          ))
-    ] in
-    (inside, omega (arith, through, boundary.after), omega (arith, most, playing.whole))
+pub halts : {play : ClientPlay} {keep : ℕ} (at : PauseAt play keep) → IsPlaying play → is_done play.pacer ≡ false
+    → IsHalt play.plan at.last keep
+halts {play} {keep} at playing undone = by-last at.last at.through
+  where
+    open at use {boundary, most}
 
--- what a halt leaves of a play, whose halt is at a boundary
-pub record LeftRun (play : ClientPlay) (keep : ℕ) (left : Run) : Type 0 where
-  pub last : Option ℕ
-  pub boundary : IsBoundary play.pacer.pieces (play.pacer.before + keep)
-  pub left_is : IsRemainingRun (media_sizes play.rest.medium.now) play.rest.playback play.rest.run play.plan last keep
-      left
-  pub run_is : IsRun (media_sizes play.rest.medium.now) left
-  pub fits : Fits play.rest.playback.buffer left
+    by-last : (last : Option ℕ) → slots_through last ≡ play.pacer.passed → IsHalt play.plan last keep
+    by-last None passed =
+        let p = play.pacer in
+        let nothing : first_slots p.plan p.passed ≡ 0 = ap (first_slots p.plan) (sym passed) in
+        let sent : p.sent ≡ 0 = omega (arith, playing.all_sent, playing.pacing.due, nothing) in
+        let le : p.before + keep ≤ p.before =
+        boundary.least p.before playing.pacing.begins (omega (arith, sent)) in
+        omega (arith, le)
+    by-last (Some last) passed =
+        let p = play.pacer in
+        let apart : p.sent ≡ p.keep → ⊥ = undone-apart p undone (omega (arith, passed)) in
+        let through = sent-last {play = play} last playing apart passed in
+        let plan : IsPlan play.plan = subst (λ (s : List Segment). IsPlan s) playing.plan_is playing.pacing.plan in
+        let below : p.sent < p.keep = elim (cases_lt p.sent p.keep) [
+          | inl less ↦ less
+          | inr more ↦ absurd (apart (omega (arith, more, playing.pacing.sent, playing.pacing.due)))
+        ] in
+        let inside : last < total_slots play.plan = elim (cases_lt last (total_slots play.plan)) [
+          | inl within ↦ within
+          | inr past ↦
+              absurd (omega (
+                arith,
+                sum_through-past play.plan last plan (omega (arith, past)),
+                through,
+                below,
+                playing.whole,
+              ))
+        ] in
+        (inside, omega (arith, through, boundary.after), omega (arith, most, playing.whole))
 
 -- it can be sent on
-pub left-rest : {play : ClientPlay} {keep : ℕ} {left : Run} → IsPlaying play → LeftRun play keep left
-    → IsRest (record play.rest { run = left })
-left-rest {play} {keep} {left} playing own = record {
+pub left-rest : {play : ClientPlay} {keep : ℕ} → IsPlaying play → (pause : PauseLeft play keep)
+    → IsRest (record play.rest { run = pause.left })
+left-rest {play} {keep} playing pause = record {
   playback = playing.rest.playback;
-  run = own.run_is;
-  first = own.left_is.first_is ∙ playing.rest.first;
-  end = own.left_is.end_is ∙ playing.rest.end;
+  run = pause.run_is;
+  first = left_is.first_is ∙ playing.rest.first;
+  end = left_is.end_is ∙ playing.rest.end;
   boundary = subst (λ n. IsBoundary (media_pieces play.rest.medium.now) n)
-      (ap (λ n. n + keep) playing.before_is ∙ sym own.left_is.sent_is)
-      (subst (λ (ps : List (List ℕ)). IsBoundary ps (play.pacer.before + keep)) playing.pieces_are own.boundary);
-  fits = own.fits;
+      (ap (λ n. n + keep) playing.before_is ∙ sym left_is.sent_is)
+      (subst (λ (ps : List (List ℕ)). IsBoundary ps (play.pacer.before + keep)) playing.pieces_are
+      pause.at.boundary.boundary);
+  fits = pause.fits;
 }
-
--- what a play that was halted goes on to send
-pub left-stopping : {play : ClientPlay} {p : PacerState} {keep : ℕ} {rest : ClientRest} → IsPlaying play → IsRest rest
-    → p ≡ record play.pacer { keep = keep }
-    → IsPacerState p → IsStopping (record { keep = keep; rest = rest; pacer = p })
-left-stopping playing is e pacing = record {
-  rest = is;
-  keep_is = ap (λ (q : PacerState). q.keep) e;
-  pacing = pacing;
-  all_sent = ap (λ (q : PacerState). q.sent) e ∙ playing.all_sent ∙ sym (ap (λ (q : PacerState). q.due) e);
-}
+  where
+    open pause use {left_is}
 
 -- it has come to the slot that was received last
 pub left-timed : {p : PacerState} {keep : ℕ} (old : PacerState) (heard : ℕ) → p ≡ record old { keep = keep }

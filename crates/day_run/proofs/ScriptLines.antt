@@ -5,14 +5,13 @@ use Rattle.std.specs.List.{fold}
 use Rattle.admission.specs.declared.entries.Entry.{Entry}
 use Rattle.day_run.specs.ClientStates.{ClientState, Idle, IfBusy, Rest}
 use Rattle.day_script.specs.Scripts.{AreClients, IsClient, AreLines, StandsAfter, slot_after}
-use Rattle.day_run.specs.Days.{AreLineSteps, IsAsked, IsLine, IsTold, SharedLink, DayState, first_moment, IsDay}
-use Rattle.day_run.specs.Days.{last_journal, last_lines}
+use Rattle.day_run.specs.Days.{AreLineSteps, IsAsked, IsLine, IsTold, SharedLink, DayState, first_moment}
 use Rattle.day_script.specs.LineTexts.{state_text}
 use Rattle.day_script.specs.declared.scripts.Line.{Line}
 use Rattle.std.specs.Prelude.{flat_map}
 use Rattle.std.proofs.lemmas.Grind.{flat_map-append}
 use Rattle.std.proofs.lemmas.List.{append-nil, take_more}
-use Rattle.day_run.specs.MachineState.{HasRun, IsPrinted}
+use Rattle.day_run.specs.MachineState.{HasRun}
 use Rattle.day_script.proofs.Places.{Place}
 
 -- ---- the lines of a script as they are taken: what their lemmas speak of
@@ -75,16 +74,39 @@ pub first-standing : {heard n : ℕ} {line : Line} {lines : List Line} → Stand
 first-standing {line} standing =
     record { client = standing.clients zero line (omega arith); stands = standing.stands zero line (omega arith) }
 
-pub rest-standing : {heard next n : ℕ} {line : Line} {lines : List Line} → StandingLines heard n (line ∷ lines)
-    → next ≡ slot_after heard line → StandingLines next n lines
-rest-standing {n} {lines} standing is =
-    subst (λ (h : ℕ). StandingLines h n lines) (sym is) (record {
-      clients = λ i none inside. standing.clients (suc i) none (omega (arith, inside));
-      stands = λ i none inside. standing.stands (suc i) none (omega (arith, inside));
+-- lines that may stand and are taken on a link, one after the other, with their texts
+pub record LineRun (lines : List Line) (texts : List (List ℕ)) : Type 0 where
+  pub link : SharedLink
+  pub n : ℕ
+  pub old : DayState
+  pub new : DayState
+  pub standing : StandingLines old.heard n lines
+  pub run : AreLineSteps link lines texts old new
+
+-- the first of them
+abbrev pub head_step : {line : Line} {lines : List Line} {text : List ℕ} {texts : List (List ℕ)}
+    → LineRun (line ∷ lines) (text ∷ texts) → LineStep
+head_step {text} taken = record { link = taken.link; old = taken.old; new = taken.run.0; text = text }
+
+pub rest-standing : {line : Line} {lines : List Line} {text : List ℕ} {texts : List (List ℕ)}
+    (taken : LineRun (line ∷ lines) (text ∷ texts)) → taken.run.0.heard ≡ slot_after taken.old.heard line
+    → StandingLines taken.run.0.heard taken.n lines
+rest-standing {lines} taken is =
+    subst (λ (h : ℕ). StandingLines h taken.n lines) (sym is) (record {
+      clients = λ i none inside. taken.standing.clients (suc i) none (omega (arith, inside));
+      stands = λ i none inside. taken.standing.stands (suc i) none (omega (arith, inside));
     })
 
-pub standing-of : {link : SharedLink} {n : ℕ} (taken : LinesTaken link n) → StandingLines 0 n taken.lines
-standing-of taken = record { clients = taken.clients.each; stands = taken.are.each }
+-- the lines of a script from the morning on
+abbrev pub run_of : {link : SharedLink} {n : ℕ} (taken : LinesTaken link n) → LineRun taken.lines taken.texts
+run_of {link} {n} taken = record {
+  link = link;
+  n = n;
+  old = first_moment;
+  new = taken.moment;
+  standing = record { clients = taken.clients.each; stands = taken.are.each };
+  run = taken.run;
+}
 
 -- ---- lines of a script, one after the other
 -- the last line, after the others
@@ -111,39 +133,20 @@ flat-push texts text =
     flat_map-append (λ (t : List ℕ). t) texts (text ∷ [])
     ∙ ap (λ l. flat_map (λ (t : List ℕ). t) texts ++ l) (append-nil text)
 
-pub run-push : {link : SharedLink} {lines : List Line} {before after : List ℕ} {old new : DayState} (line : Line)
-    → HasRun link lines before old
-    → IsPrinted before after (IsLine link line old new) → HasRun link (lines ++ line ∷ []) after new
-run-push {link} {lines} {old} {new} line run printed = record {
-  texts = run.texts ++ printed.text ∷ [];
-  text_is = printed.after_is ∙ ap (λ l. l ++ printed.text) run.text_is ∙ sym (flat-push run.texts printed.text);
-  run = run-more
-      (record { link = link; line = line; text = printed.text; old = old; new = new; is = printed.is }) lines
-      run.texts first_moment run.run;
-}
-
-pub run-next : {link here : SharedLink} {before after : List ℕ} {old new : DayState} (lines : List Line)
-    (place : Place lines) → here ≡ link → HasRun link (take place.index lines) before old
-    → IsPrinted before after (IsLine here (get_or lines place.index place.none) old new)
-    → HasRun link (take (place.index + 1) lines) after new
-run-next {link} {here} {before} {after} {old} {new} lines place same run printed =
-    let P : SharedLink → Type 0 = λ l. IsPrinted before after (IsLine l (get_or lines i none) old new) in
-    let L : List Line → Type 0 = λ ls. HasRun link ls after new in
-    subst L (sym (take_more lines i none inside)) (run-push (get_or lines i none) run (subst P same printed))
+-- a run of the lines before a place, and of the one there
+pub run-next : {before : List ℕ} (last : LastLine) (lines : List Line) (place : Place lines)
+    → last.line ≡ get_or lines place.index place.none → HasRun last.link (take place.index lines) before last.old
+    → HasRun last.link (take (place.index + 1) lines) (before ++ last.text) last.new
+run-next last lines place is run =
+    let L : List Line → Type 0 = λ ls. AreLineSteps last.link ls (run.texts ++ last.text ∷ []) first_moment last.new in
+    record {
+      texts = run.texts ++ last.text ∷ [];
+      text_is = ap (λ l. l ++ last.text) run.text_is ∙ sym (flat-push run.texts last.text);
+      run = subst L (ap (λ l. take i lines ++ l ∷ []) is ∙ sym (take_more lines i none inside))
+          (run-more last (take i lines) run.texts first_moment run.run);
+    }
   where
     open place use {index as i, none, inside}
-
--- an entire day
-pub day-of : {link : SharedLink} {lines : List Line} {text whole : List ℕ} {m : DayState} {journal : List Entry}
-    → HasRun link lines text m → whole ≡ text ++ last_lines m → journal ≡ last_journal m
-    → IsDay link lines whole journal
-day-of {m} run w j = record {
-  evening = m;
-  texts = run.texts;
-  run = run.run;
-  text_is = w ∙ ap (λ l. l ++ last_lines m) run.text_is;
-  journal_is = j;
-}
 
 -- a text for each line
 pub day-lines : (link : SharedLink) (lines : List Line) (texts : List (List ℕ)) (old new : DayState)

@@ -21,7 +21,7 @@ use Rattle.admission.proofs.Halts.{plays-split, split}
 use Rattle.admission.proofs.HistoryPrefixes.{state-push}
 use Rattle.day_run.proofs.ListUpdates.{set-at}
 use Rattle.day_run.specs.BookingBalance.{AreHeldOf, IsBalanced, IsHeld, share_of}
-use Rattle.day_run.specs.Days.{entry_by, halt_by}
+use Rattle.day_run.specs.Days.{DayState, booked_up_to, entry_by, halt_by, sent_up_to}
 use Rattle.day_run.specs.ClientStates.{Idle, Playing, Pausing, Paused, ClientPlay, ClientState, Rest, booking_of}
 use Rattle.day_run.specs.ClientStates.{growth, is_playing, sent_between, sent_by}
 use Rattle.day_run.proofs.JournalHalts.{halts-none, halts-push}
@@ -102,13 +102,12 @@ sent-booked booked heard (suc n) states each =
     ap (λ k. sum_by (sent_between heard k) states) e ∙ whole
     ∙ sym (ap (λ k. sum_by booked (range_with_len (heard + 1) k)) f)
 
-pub balanced-sent : (entries : List Entry) (states : List ClientState) (heard slot : ℕ) → heard ≤ slot
-    → IsBalanced entries states heard → sum_by (sent_between heard slot) states
-    ≡ sum_by (booked_in (state_after entries)) (range_with_len (heard + 1) (slot - heard))
-balanced-sent entries states heard slot le balanced =
-    let e : heard + (slot - heard) ≡ slot = omega (arith, le) in
-    sym (ap (λ s. sum_by (sent_between heard s) states) e)
-    ∙ sent-booked (booked_in (state_after entries)) heard (slot - heard) states balanced.each
+pub balanced-sent : (m : DayState) (slot : ℕ) → m.heard ≤ slot → IsBalanced m.entries m.states m.heard
+    → sent_up_to m slot ≡ booked_up_to m slot
+balanced-sent m slot le balanced =
+    let e : m.heard + (slot - m.heard) ≡ slot = omega (arith, le) in
+    sym (ap (λ s. sum_by (sent_between m.heard s) m.states) e)
+    ∙ sent-booked (booked_in (state_after m.entries)) m.heard (slot - m.heard) m.states balanced.each
 
 -- ---- one entry more
 -- a client has no play that is open
@@ -163,43 +162,43 @@ sum-split t before after h =
     ∙ ap (λ k. sum_by (share_at t) (map (λ (x : AdmittedPlay). x.play) before) + k)
     (sum_by-cons (share_at t) h.play (map (λ (x : AdmittedPlay). x.play) after))
 
--- a play that the machine holds
-pub record HeldPlay (entries : List Entry) : Type 0 where
-  pub number : ℕ
-  pub start : ℕ
-  pub plan : List Segment
-  pub held : play_numbered number (state_after entries).held ≡ Some (admitted_play number start plan)
+-- a client's play that the machine holds
+pub record HeldClient (entries : List Entry) : Type 0 where
+  pub c : ℕ
+  pub play : ClientPlay
+  pub is : IsHeld entries c play
 
 -- what is booked once a play was halted
-pub booked-halted : (entries : List Entry) (c : ℕ) (play : HeldPlay entries) (keep t : ℕ)
-    → booked_in (state_after (entries ++ halt_by c play.number keep)) t + share_at t (whole_play play.start play.plan)
-    ≡ booked_in (state_after entries) t + share_at t (truncated_play play.start play.plan keep)
-booked-halted entries c play keep t =
+pub booked-halted : (entries : List Entry) (its : HeldClient entries) (keep t : ℕ)
+    → booked_in (state_after (entries ++ halt_by its.c its.play.number keep)) t + share_at t (booking_of its.play)
+    ≡ booked_in (state_after entries) t + share_at t (truncated_play its.play.start its.play.plan keep)
+booked-halted entries its keep t =
     let held = (state_after entries).held in
-    let parts = split number held (admitted_play number start plan) is in
+    let h = admitted_play play.number play.start play.plan in
+    let parts = split play.number held h is.held in
     let F : List AdmittedPlay → ℕ = λ hs. sum_by (share_at t) (map (λ (x : AdmittedPlay). x.play) hs) in
-    let s : F (state_after (entries ++ halt_by c number keep)).held ≡ F (with_halted number keep held) =
-    ap (λ (x : State). F x.held) (state-push entries (entry_by c (commands.Halt number keep) Halted)) in
-    let new : F (with_halted number keep held)
-    ≡ F parts.before + (share_at t (truncated_play start plan keep) + F parts.after) =
-    ap F (parts.becomes keep)
-    ∙ sum-split t parts.before parts.after (halted_play keep (admitted_play number start plan)) in
-    let old : F held ≡ F parts.before + (share_at t (whole_play start plan) + F parts.after) =
-    ap F parts.was ∙ sum-split t parts.before parts.after (admitted_play number start plan) in
+    let s : F (state_after (entries ++ halt_by c play.number keep)).held ≡ F (with_halted play.number keep held) =
+    ap (λ (x : State). F x.held) (state-push entries (entry_by c (commands.Halt play.number keep) Halted)) in
+    let new : F (with_halted play.number keep held)
+    ≡ F parts.before + (share_at t (truncated_play play.start play.plan keep) + F parts.after) =
+    ap F (parts.becomes keep) ∙ sum-split t parts.before parts.after (halted_play keep h) in
+    let old : F held ≡ F parts.before + (share_at t (booking_of play) + F parts.after) =
+    ap F parts.was ∙ sum-split t parts.before parts.after h in
     omega (arith, s, new, old)
   where
-    open play use {number, start, plan, held as is}
+    open its use {c, play, is}
 
 -- one play fewer is open once a play was halted
-pub open-less : (entries : List Entry) (c : ℕ) (play : HeldPlay entries) (keep : ℕ)
-    → open_count (entries ++ halt_by c play.number keep) + 1 ≡ open_count entries
-open-less entries c play keep =
+pub open-less : (entries : List Entry) (its : HeldClient entries) (keep : ℕ)
+    → open_count (entries ++ halt_by its.c its.play.number keep) + 1 ≡ open_count entries
+open-less entries its keep =
     let held = (state_after entries).held in
-    let parts = split number held (admitted_play number start plan) is in
-    let h = admitted_play number start plan in
-    let new : open_count (entries ++ halt_by c number keep)
+    let h = admitted_play play.number play.start play.plan in
+    let parts = split play.number held h is.held in
+    let new : open_count (entries ++ halt_by c play.number keep)
     ≡ sum_by open_one parts.before + (0 + sum_by open_one parts.after) =
-    ap (λ (x : State). sum_by open_one x.held) (state-push entries (entry_by c (commands.Halt number keep) Halted))
+    ap (λ (x : State). sum_by open_one x.held)
+    (state-push entries (entry_by c (commands.Halt play.number keep) Halted))
     ∙ ap (sum_by open_one) (parts.becomes keep)
     ∙ sum_by-append open_one parts.before (halted_play keep h ∷ parts.after)
     ∙ ap (λ k. sum_by open_one parts.before + k) (sum_by-cons open_one (halted_play keep h) parts.after) in
@@ -208,29 +207,7 @@ open-less entries c play keep =
     ∙ ap (λ k. sum_by open_one parts.before + k) (sum_by-cons open_one h parts.after) in
     omega (arith, new, old)
   where
-    open play use {number, start, plan, held as is}
-
--- another client's play is halted
-record HaltedApart (c d : ℕ) (entries : List Entry) (number : ℕ) : Type 0 where
-  pub inside : number < length entries
-  pub maker : (none : Entry) → (get_or entries number none).maker ≡ c
-  pub other : d ≡ c → ⊥
-
-other-halted : {entries : List Entry} {c d : ℕ} {play : ClientPlay} (number keep : ℕ) → HaltedApart c d entries number
-    → IsHeld entries d play → IsHeld (entries ++ halt_by c number keep) d play
-other-halted {entries} {c} {d} {play} number keep halted its =
-    let e = entry_by c (commands.Halt number keep) Halted in
-    let apart : number ≡ play.number → ⊥ =
-    λ same. halted.other (sym (its.maker e) ∙ ap (λ k. (get_or entries k e).maker) (sym same) ∙ halted.maker e) in
-    maker-more entries e d play its
-    (ap (λ (x : State). play_numbered play.number x.held) (state-push entries e)
-    ∙ found-other play.number number keep (state_after entries).held apart ∙ its.held)
-
-others-halted : {c d : ℕ} (entries : List Entry) (number keep : ℕ) (state : ClientState)
-    → HaltedApart c d entries number → AreHeldOf entries d state
-    → AreHeldOf (entries ++ halt_by c number keep) d state
-others-halted {c} entries number keep (Playing play) apart its = other-halted number keep apart its
-others-halted {c} entries number keep _ apart its = tt
+    open its use {c, play, is}
 
 fresh-halted : (number keep n : ℕ) (held : List AdmittedPlay) → All (λ (h : AdmittedPlay). h.number < n) held
     → All (λ (h : AdmittedPlay). h.number < n) (with_halted number keep held)
@@ -259,49 +236,42 @@ fresh-more n m held le all =
       le,
     )) held all
 
--- a client among balanced ones
-pub record BalancedClient (heard c : ℕ) (entries : List Entry) (states : List ClientState)
-    (state : ClientState) : Type 0 where
-  pub inside : c < length states
-  pub at : get_or states c Idle ≡ state
-  pub balanced : IsBalanced entries states heard
+-- a client of a day whose bookings are balanced
+pub record BalancedClient (m : DayState) (state : ClientState) : Type 0 where
+  pub c : ℕ
+  pub inside : c < length m.states
+  pub at : get_or m.states c Idle ≡ state
+  pub balanced : IsBalanced m.entries m.states m.heard
 
--- what the machine holds for the clients, one of which is set
-set-held : (entries : List Entry) (states : List ClientState) (c : ℕ) (next : ClientState) → c < length states
-    → AreHeldOf entries c next
-    → ((d : ℕ) → d < length states → (d ≡ c → ⊥) → AreHeldOf entries d (get_or states d Idle))
-    → (d : ℕ) → d < length (set states c next) → AreHeldOf entries d (get_or (set states c next) d Idle)
-set-held entries states c next inside own others d within =
-    set-at (AreHeldOf entries) {xs = states} {c = c} {d = d} {x = next} {none = Idle} (record {
-      inside = λ same. inside;
-      own = own;
-      other = λ other. others d (omega (arith, within, length-set states c next)) other;
-    })
+-- the machine holds its play
+abbrev pub its-held : {m : DayState} {play : ClientPlay} → BalancedClient m (Playing play) → HeldClient m.entries
+its-held {m} {play} own = record {
+  c = own.c;
+  play = play;
+  is = subst (AreHeldOf m.entries own.c) own.at (own.balanced.held own.c own.inside);
+}
 
--- the halt of a client's play
-record HaltedClient (heard c : ℕ) (entries : List Entry) (states : List ClientState) (play : ClientPlay) : Type 0 where
-  own : BalancedClient heard c entries states (Playing play)
-  held : IsHeld entries c play
-  keep : ℕ
-  next : ClientState
-  shut : IsShut next
-
-abbrev halted-play : {entries : List Entry} {c : ℕ} {play : ClientPlay} → IsHeld entries c play → HeldPlay entries
-halted-play {play} its = record { number = play.number; start = play.start; plan = play.plan; held = its.held }
+-- what a halt leaves of a client's play: the client books what is kept of it
+pub record PlayStopped (heard : ℕ) (play : ClientPlay) : Type 0 where
+  pub keep : ℕ
+  pub next : ClientState
+  pub shut : IsShut next
+  pub shares : (t : ℕ) → heard < t → share_of t next ≡ share_at t (truncated_play play.start play.plan keep)
 
 -- as many plays are open as clients play
-halted-count : {heard c : ℕ} {entries : List Entry} {states : List ClientState} {play : ClientPlay}
-    (halted : HaltedClient heard c entries states play)
-    → open_count (entries ++ halt_by c play.number halted.keep) ≡ count_by is_playing (set states c halted.next)
-halted-count {c} {entries} {states} {play} halted =
-    let p = open-less entries c (halted-play held) keep in
-    let s : count_by is_playing (set states c next) + playing_one (get_or states c Idle)
-    ≡ count_by is_playing states + playing_one next = sum_by-set playing_one states c next Idle own.inside in
-    let was : playing_one (get_or states c Idle) ≡ 1 = ap playing_one own.at in
+halted-count : {m : DayState} {play : ClientPlay} (own : BalancedClient m (Playing play))
+    (stop : PlayStopped m.heard play) → open_count (m.entries ++ halt_by own.c play.number stop.keep)
+    ≡ count_by is_playing (set m.states own.c stop.next)
+halted-count {m} own stop =
+    let p = open-less m.entries (its-held own) keep in
+    let s : count_by is_playing (set m.states c next) + playing_one (get_or m.states c Idle)
+    ≡ count_by is_playing m.states + playing_one next = sum_by-set playing_one m.states c next Idle inside in
+    let was : playing_one (get_or m.states c Idle) ≡ 1 = ap playing_one at in
     let is : playing_one next ≡ 0 = ap (λ b. cond b 1 0) (shut-idle next shut) in
-    omega (arith, p, s, was, is, own.balanced.playing)
+    omega (arith, p, s, was, is, balanced.playing)
   where
-    open halted use {own, held, keep, next, shut}
+    open own use {c, inside, at, balanced}
+    open stop use {keep, next, shut}
 
 -- the machine holds the same plays, all of them with earlier numbers
 halted-fresh : (entries : List Entry) (c number keep : ℕ)
@@ -317,37 +287,48 @@ halted-fresh entries c number keep fresh =
     (fresh-halted number keep (length entries) (state_after entries).held fresh))
 
 -- a client's play was halted, and the client books what is kept of it
-pub balanced-halt : {entries : List Entry} {states : List ClientState} {heard : ℕ} {play : ClientPlay} (c keep : ℕ)
-    (next : ClientState) → BalancedClient heard c entries states (Playing play) → IsShut next
-    → ((t : ℕ) → heard < t → share_of t next ≡ share_at t (truncated_play play.start play.plan keep))
-    → IsBalanced (entries ++ halt_by c play.number keep) (set states c next) heard
-balanced-halt {entries} {states} {play} c keep next own shut shares =
-    let its : IsHeld entries c play = subst (AreHeldOf entries c) at (balanced.held c inside) in
+pub balanced-halt : {m : DayState} {play : ClientPlay} (own : BalancedClient m (Playing play))
+    (stop : PlayStopped m.heard play)
+    → IsBalanced (m.entries ++ halt_by own.c play.number stop.keep) (set m.states own.c stop.next) m.heard
+balanced-halt {m} {play} own stop =
+    let its = its-held own in
+    let new = m.entries ++ halt_by c play.number keep in
     record {
       each = λ t later.
-          let b = booked-halted entries c (halted-play its) keep t in
-          let s = sum_by-set (share_of t) states c next Idle inside in
-          let was : share_of t (get_or states c Idle) ≡ share_at t (whole_play play.start play.plan) =
-          ap (share_of t) at in
+          let b = booked-halted m.entries its keep t in
+          let s = sum_by-set (share_of t) m.states c next Idle inside in
+          let was : share_of t (get_or m.states c Idle) ≡ share_at t (booking_of play) = ap (share_of t) at in
           omega (arith, b, s, was, shares t later, balanced.each t later);
-      held =
-          set-held (entries ++ halt_by c play.number keep) states c next inside
-          (shut-held (entries ++ halt_by c play.number keep) c next shut)
-          (λ d within other. others-halted entries play.number keep (get_or states d Idle)
-          (record { inside = its.inside; maker = its.maker; other = other }) (balanced.held d within));
-      fresh = halted-fresh entries c play.number keep balanced.fresh;
-      playing = halted-count {c = c} {play = play} (record {
-        own = own;
-        held = its;
-        keep = keep;
-        next = next;
-        shut = shut;
+      held = λ d within. set-at (AreHeldOf new) (record {
+        xs = m.states;
+        c = c;
+        d = d;
+        x = next;
+        none = Idle;
+        inside = λ same. inside;
+        own = shut-held new c next shut;
+        other = λ other. others d (get_or m.states d Idle) other
+            (balanced.held d (omega (arith, within, length-set m.states c next)));
       });
-      halts = halts-push entries c play.number keep
-          (record { inside = its.inside; maker = its.maker }) balanced.halts;
+      fresh = halted-fresh m.entries c play.number keep balanced.fresh;
+      playing = halted-count own stop;
+      halts = halts-push m.entries c play.number keep
+          (record { inside = its.is.inside; maker = its.is.maker }) balanced.halts;
     }
   where
-    open own use {inside, at, balanced}
+    open own use {c, inside, at, balanced}
+    open stop use {keep, next, shut, shares}
+
+    others : (d : ℕ) (state : ClientState) → (d ≡ c → ⊥) → AreHeldOf m.entries d state
+        → AreHeldOf (m.entries ++ halt_by c play.number keep) d state
+    others d (Playing theirs) other held =
+        let e = entry_by c (commands.Halt play.number keep) Halted in
+        let apart : play.number ≡ theirs.number → ⊥ = λ same.
+        other (sym (held.maker e) ∙ ap (λ k. (get_or m.entries k e).maker) (sym same) ∙ (its-held own).is.maker e) in
+        maker-more m.entries e d theirs held
+        (ap (λ (x : State). play_numbered theirs.number x.held) (state-push m.entries e)
+        ∙ found-other theirs.number play.number keep (state_after m.entries).held apart ∙ held.held)
+    others d _ other held = tt
 
 -- an entry that leaves the plays of the machine as they are
 same-held : (entries : List Entry) (e : Entry) (c : ℕ) (state : ClientState)
@@ -357,19 +338,19 @@ same-held entries e c (Playing play) same its =
     maker-more entries e c play its (ap (play_numbered play.number) same ∙ its.held)
 same-held entries e c _ same its = tt
 
-pub balanced-same : (entries : List Entry) (states : List ClientState) (heard : ℕ) (e : Entry)
-    → (state_after (entries ++ e ∷ [])).held ≡ (state_after entries).held → is_halt e.command ≡ false
-    → IsBalanced entries states heard → IsBalanced (entries ++ e ∷ []) states heard
-balanced-same entries states heard e same no_halt balanced = record {
+pub balanced-same : (m : DayState) (e : Entry) → (state_after (m.entries ++ e ∷ [])).held ≡ (state_after m.entries).held
+    → is_halt e.command ≡ false → IsBalanced m.entries m.states m.heard
+    → IsBalanced (m.entries ++ e ∷ []) m.states m.heard
+balanced-same m e same no_halt balanced = record {
   each = λ t later. ap (λ hs. sum_by (share_at t) (map (λ (x : AdmittedPlay). x.play) hs)) same ∙ balanced.each t later;
-  held = λ c inside. same-held entries e c (get_or states c Idle) same (balanced.held c inside);
+  held = λ c inside. same-held m.entries e c (get_or m.states c Idle) same (balanced.held c inside);
   fresh =
-      let A : List AdmittedPlay → Type 0 = λ l. All (λ (h : AdmittedPlay). h.number < length (entries ++ e ∷ [])) l in
+      let A : List AdmittedPlay → Type 0 = λ l. All (λ (h : AdmittedPlay). h.number < length (m.entries ++ e ∷ [])) l in
       subst A (sym same)
-      (fresh-more (length entries) (length (entries ++ e ∷ [])) (state_after entries).held
-      (omega (arith, length-append entries (e ∷ []))) balanced.fresh);
+      (fresh-more (length m.entries) (length (m.entries ++ e ∷ [])) (state_after m.entries).held
+      (omega (arith, length-append m.entries (e ∷ []))) balanced.fresh);
   playing = ap (sum_by open_one) same ∙ balanced.playing;
-  halts = halts-none entries e no_halt balanced.halts;
+  halts = halts-none m.entries e no_halt balanced.halts;
 }
 
 -- an entry by which the machine holds one play more
@@ -440,39 +421,44 @@ played-held {entries} {c} played fresh =
     open played use {play, e, number, maker, is}
 
 -- a client's play was admitted, which booked nothing before
-pub balanced-play : {entries : List Entry} {states : List ClientState} {heard c : ℕ} (played : ClientPlayed entries c)
-    → c < length states → IsFree (get_or states c Idle) → IsBalanced entries states heard
-    → IsBalanced (entries ++ played.e ∷ []) (set states c (Playing played.play)) heard
-balanced-play {entries} {states} {c} played inside free balanced =
+pub balanced-play : {m : DayState} {c : ℕ} (played : ClientPlayed m.entries c) → c < length m.states
+    → IsFree (get_or m.states c Idle) → IsBalanced m.entries m.states m.heard
+    → IsBalanced (m.entries ++ played.e ∷ []) (set m.states c (Playing played.play)) m.heard
+balanced-play {m} {c} played inside free balanced =
     let new = admitted_play play.number play.start play.plan in
-    let held = (state_after entries).held in
-    let n : length (entries ++ e ∷ []) ≡ length entries + 1 = omega (arith, length-append entries (e ∷ [])) in
+    let held = (state_after m.entries).held in
+    let ys = m.entries ++ e ∷ [] in
+    let n : length ys ≡ length m.entries + 1 = omega (arith, length-append m.entries (e ∷ [])) in
     record {
       each = λ t later.
-          let b = booked-begun entries t
+          let b = booked-begun m.entries t
           (record { e = e; number = play.number; start = play.start; plan = play.plan; is = is }) in
-          let s = sum_by-set (share_of t) states c (Playing play) Idle inside in
+          let s = sum_by-set (share_of t) m.states c (Playing play) Idle inside in
           omega (arith, b, s, free.shares t, balanced.each t later);
-      held =
-          set-held (entries ++ e ∷ []) states c (Playing play) inside
-          (played-held played balanced.fresh)
-          (λ d within other. push-held entries (record { e = e; new = new; is = is }) d (get_or states d Idle)
-          (balanced.held d within));
+      held = λ d within. set-at (AreHeldOf ys) (record {
+        xs = m.states;
+        c = c;
+        d = d;
+        x = Playing play;
+        none = Idle;
+        inside = λ same. inside;
+        own = played-held played balanced.fresh;
+        other = λ other. push-held m.entries (record { e = e; new = new; is = is }) d (get_or m.states d Idle)
+            (balanced.held d (omega (arith, within, length-set m.states c (Playing play))));
+      });
       fresh =
-          let P : AdmittedPlay → Type 0 = λ h. h.number < length (entries ++ e ∷ []) in
+          let P : AdmittedPlay → Type 0 = λ h. h.number < length ys in
           subst (All P) (sym is)
-          (All-push P held new
-          (fresh-more (length entries) (length (entries ++ e ∷ [])) held (omega (arith, n)) balanced.fresh)
+          (All-push P held new (fresh-more (length m.entries) (length ys) held (omega (arith, n)) balanced.fresh)
           (omega (arith, number, n)));
       playing =
-          let p : open_count (entries ++ e ∷ []) ≡ open_count entries + 1 =
+          let p : open_count ys ≡ open_count m.entries + 1 =
           ap (sum_by open_one) is ∙ sum_by_push open_one held new in
-          let s : count_by is_playing (set states c (Playing play)) + playing_one (get_or states c Idle)
-          ≡ count_by is_playing states + 1 =
-          sum_by-set playing_one states c (Playing play) Idle inside in
-          let was : playing_one (get_or states c Idle) ≡ 0 = ap (λ b. cond b 1 0) free.shut in
+          let s : count_by is_playing (set m.states c (Playing play)) + playing_one (get_or m.states c Idle)
+          ≡ count_by is_playing m.states + 1 = sum_by-set playing_one m.states c (Playing play) Idle inside in
+          let was : playing_one (get_or m.states c Idle) ≡ 0 = ap (λ b. cond b 1 0) free.shut in
           omega (arith, p, s, was, balanced.playing);
-      halts = halts-none entries e no_halt balanced.halts;
+      halts = halts-none m.entries e no_halt balanced.halts;
     }
   where
     open played use {play, e, number, no_halt, is}

@@ -1,20 +1,19 @@
 -- The clients book what the machine has booked once a slot has come, and at the end of a day; and what
 -- is booked in past slots stays.
 use Rattle.std.proofs.Common.{◌≡◌, ◌<◌, ◌≤◌, ◌+◌, ◌-◌, ◌==◌, ℕ, zero, suc, true, false, Bool, cond, nat_le, List, []}
-use Rattle.std.proofs.Common.{◌∷◌, ◌++◌, length, map, take, set, get_or, sum, Some, arith, refl, sym, ap, subst, ◌∙◌}
+use Rattle.std.proofs.Common.{◌∷◌, ◌++◌, length, map, take, set, get_or, sum, arith, refl, sym, ap, subst, ◌∙◌}
 use Rattle.slot_calendar.proofs.PlanSlots.{sent-rises}
 use Rattle.std.specs.Prelude.{sum_by}
 use Rattle.std.proofs.lemmas.Bool.{eqb-true, and_parts}
 use Rattle.std.proofs.lemmas.List.{append-nil, get_or-map, length-append, length-map, set-get_or, take_all}
 use Rattle.std.proofs.lemmas.List.Sums.{sum_by-cons}
-use Rattle.plan_cert.specs.declared.Segment.{Segment}
 use Rattle.plan_cert.specs.PlanSlots.{plan_slots, total_bytes}
-use Rattle.slot_calendar.specs.Plays.{Play as Booked, truncated_play, sent_before, share_at, whole_play}
+use Rattle.slot_calendar.specs.Plays.{Play as Booked, truncated_play, sent_before, share_at}
 use Rattle.admission.specs.declared.entries.Entry.{Entry}
 use Rattle.admission.specs.Books.{places_taken}
 use Rattle.admission.specs.Histories.{open_count, state_after}
-use Rattle.admission.specs.Machine.{admitted_play, booked_in, play_numbered}
-use Rattle.day_run.specs.BookingBalance.{AreHeldOf, IsBalanced, IsHeld, share_of}
+use Rattle.admission.specs.Machine.{booked_in}
+use Rattle.day_run.specs.BookingBalance.{AreHeldOf, IsBalanced, share_of}
 use Rattle.day_run.specs.Days.{DayState, at_slot, done_halt, halt_by, halt_entries, last_journal, open_halt}
 use Rattle.day_run.specs.Clients.{after_open}
 use Rattle.day_run.specs.ClientStates.{Idle, Playing, Pausing, Paused, ClientPlay, Rest, ClientState, after_play}
@@ -22,8 +21,8 @@ use Rattle.day_run.specs.ClientStates.{after_sending, booking_of, is_done, pausi
 use Rattle.day_run.proofs.LineStepLemmas.{halt_entries-sent}
 use Rattle.day_run.proofs.PauseLemmas.{pausing-cases}
 use Rattle.day_run.proofs.ClientSweepLemmas.{IsSwept, entries-more, swept-all, swept-none, swept-set}
-use Rattle.day_run.proofs.SentBookedLemmas.{BalancedClient, BegunPlay, HeldPlay, balanced-halt, booked-begun}
-use Rattle.day_run.proofs.SentBookedLemmas.{booked-halted, open-less, playing_one, share-done}
+use Rattle.day_run.proofs.SentBookedLemmas.{BalancedClient, BegunPlay, HeldClient, PlayStopped, balanced-halt}
+use Rattle.day_run.proofs.SentBookedLemmas.{booked-begun, booked-halted, its-held, open-less, playing_one, share-done}
 
 -- ---- a slot comes
 pause-share : (b : Bool) (t : ℕ) (stop : Booked) (rest : Rest) → (b ≡ true → share_at t stop ≡ 0)
@@ -77,16 +76,16 @@ sending-held entries c slot (Pausing stop rest) its =
     pausing-cases (AreHeldOf entries c) slot stop rest tt tt
 sending-held entries c slot _ its = tt
 
-pub balanced-sending : (entries : List Entry) (states : List ClientState) (heard slot : ℕ) → heard ≤ slot
-    → IsBalanced entries states heard → IsBalanced entries (map (after_sending slot) states) slot
-balanced-sending entries states heard slot le balanced = record {
-  each = λ t later. balanced.each t (omega (arith, le, later)) ∙ sym (sending-shares t slot states later);
+balanced-sending : (m : DayState) (slot : ℕ) → m.heard ≤ slot → IsBalanced m.entries m.states m.heard
+    → IsBalanced m.entries (map (after_sending slot) m.states) slot
+balanced-sending m slot le balanced = record {
+  each = λ t later. balanced.each t (omega (arith, le, later)) ∙ sym (sending-shares t slot m.states later);
   held = λ c within.
-      let inside : c < length states = omega (arith, within, length-map states (after_sending slot)) in
-      subst (AreHeldOf entries c) (sym (get_or-map (after_sending slot) states c Idle Idle inside))
-      (sending-held entries c slot (get_or states c Idle) (balanced.held c inside));
+      let inside : c < length m.states = omega (arith, within, length-map m.states (after_sending slot)) in
+      subst (AreHeldOf m.entries c) (sym (get_or-map (after_sending slot) m.states c Idle Idle inside))
+      (sending-held m.entries c slot (get_or m.states c Idle) (balanced.held c inside));
   fresh = balanced.fresh;
-  playing = balanced.playing ∙ sym (sending-plays slot states);
+  playing = balanced.playing ∙ sym (sending-plays slot m.states);
   halts = balanced.halts;
 }
 
@@ -99,182 +98,30 @@ done-shares t slot play later done =
     sym (share-done t slot (booking_of play) later
     (eqb-true (sent_by (booking_of play) slot) (total_bytes play.plan) all))
 
-left-alone : {slot : ℕ} {entries : List Entry} {states : List ClientState} {state : ClientState} (c : ℕ)
-    → get_or states c Idle ≡ state → IsBalanced entries states slot
-    → IsBalanced (entries ++ []) (set states c state) slot
-left-alone {slot} {entries} {states} {state} c at balanced =
-    let E : List Entry → Type 0 = λ es. IsBalanced es (set states c state) slot in
-    let same : states ≡ set states c state = sym (ap (set states c) (sym at) ∙ set-get_or states c Idle) in
-    subst E (sym (append-nil entries)) (subst (λ (l : List ClientState). IsBalanced entries l slot) same balanced)
-
 -- ---- what is booked in past slots stays
 abbrev Stays : ℕ → List Entry → List Entry → Type 0
 Stays slot old new = (t : ℕ) → t ≤ slot → booked_in (state_after new) t ≡ booked_in (state_after old) t
 
-pub stays-none : (slot : ℕ) (entries : List Entry) → Stays slot entries (entries ++ [])
-stays-none slot entries t past = ap (λ es. booked_in (state_after es) t) (append-nil entries)
-
 -- what is kept of a play: no less than was sent
-pub record KeepsSent (slot start keep : ℕ) (plan : List Segment) : Type 0 where
-  pub sent : sent_by (whole_play start plan) slot ≤ keep
-  pub most : keep ≤ total_bytes plan
+pub record KeepsSent (slot : ℕ) (play : ClientPlay) (keep : ℕ) : Type 0 where
+  pub sent : sent_by (booking_of play) slot ≤ keep
+  pub most : keep ≤ total_bytes play.plan
 
 -- a play books in past slots what it did, where it keeps what was sent
-past-share : {slot start keep : ℕ} {plan : List Segment} (t : ℕ) → t ≤ slot → KeepsSent slot start keep plan
-    → share_at t (whole_play start plan) ≡ share_at t (truncated_play start plan keep)
-past-share {slot} {start} {plan} t past kept =
+pub stays-halt : {slot : ℕ} (entries : List Entry) (its : HeldClient entries) (keep : ℕ) → KeepsSent slot its.play keep
+    → Stays slot entries (entries ++ halt_by its.c its.play.number keep)
+stays-halt {slot} entries its keep kept t past =
+    let play = its.play in
     omega (
       arith,
+      booked-halted entries its keep t,
       kept.sent,
       kept.most,
-      sent-rises plan start t (t + 1) (omega arith),
-      sent-rises plan start (t + 1) (slot + 1) (omega (arith, past)),
-    )
-
-pub stays-halt : {slot : ℕ} (entries : List Entry) (c keep : ℕ) (play : ClientPlay)
-    → play_numbered play.number (state_after entries).held ≡ Some (admitted_play play.number play.start play.plan)
-    → KeepsSent slot play.start keep play.plan → Stays slot entries (entries ++ halt_by c play.number keep)
-stays-halt entries c keep play held kept t past =
-    omega (
-      arith,
-      booked-halted entries c
-          (record { number = play.number; start = play.start; plan = play.plan; held = held }) keep t,
-      past-share t past kept,
+      sent-rises play.plan play.start t (t + 1) (omega arith),
+      sent-rises play.plan play.start (t + 1) (slot + 1) (omega (arith, past)),
     )
 
 -- ---- the halts of a slot, or of a day's end
-record IsStep (slot : ℕ) (old new : List Entry) (states : List ClientState) : Type 0 where
-  balanced : IsBalanced new states slot
-  stays : Stays slot old new
-  places : places_taken new ≡ places_taken old
-
--- a halt takes the place that was kept for it
-pub places-halt : (entries : List Entry) (c : ℕ) (play : HeldPlay entries) (keep : ℕ)
-    → places_taken (entries ++ halt_by c play.number keep) ≡ places_taken entries
-places-halt entries c play keep =
-    omega (
-      arith,
-      open-less entries c play keep,
-      length-append entries (halt_by c play.number keep),
-    )
-
-kept-step : {slot : ℕ} {entries : List Entry} {states : List ClientState} {state : ClientState} (c : ℕ)
-    → get_or states c Idle ≡ state → IsBalanced entries states slot
-    → IsStep slot entries (entries ++ []) (set states c state)
-kept-step {slot} {entries} c at balanced =
-    record {
-      balanced = left-alone c at balanced;
-      stays = stays-none slot entries;
-      places = ap places_taken (append-nil entries);
-    }
-
-abbrev pub held-play : {entries : List Entry} (play : ClientPlay)
-    → play_numbered play.number (state_after entries).held ≡ Some (admitted_play play.number play.start play.plan)
-    → HeldPlay entries
-held-play play held = record { number = play.number; start = play.start; plan = play.plan; held = held }
-
-pub its-held : {entries : List Entry} {states : List ClientState} {heard : ℕ} {play : ClientPlay} (c : ℕ)
-    → c < length states → get_or states c Idle ≡ Playing play → IsBalanced entries states heard
-    → play_numbered play.number (state_after entries).held ≡ Some (admitted_play play.number play.start play.plan)
-its-held {entries} {play} c inside at balanced =
-    let its : IsHeld entries c play = subst (AreHeldOf entries c) at (balanced.held c inside) in
-    its.held
-
-step-play : {slot : ℕ} {entries : List Entry} {states : List ClientState} {play : ClientPlay} {done : Bool} (c : ℕ)
-    → is_done slot play ≡ done → BalancedClient slot c entries states (Playing play)
-    → IsStep slot entries (entries ++ cond done (halt_by c play.number (total_bytes play.plan)) [])
-    (set states c (cond done Idle (Playing play)))
-step-play {slot} {entries} {play} {done = true} c done own = record {
-  balanced = balanced-halt c (total_bytes play.plan) Idle own tt (λ t later. done-shares t slot play later done);
-  stays = stays-halt entries c (total_bytes play.plan) play (its-held c own.inside own.at own.balanced)
-      (record { sent = omega arith; most = omega arith });
-  places = places-halt entries c (held-play play (its-held c own.inside own.at own.balanced)) (total_bytes play.plan);
-}
-step-play {slot} {done = false} c done own = kept-step c own.at own.balanced
-
-step-state : {slot : ℕ} (c : ℕ) (entries : List Entry) (states : List ClientState) (state : ClientState)
-    → BalancedClient slot c entries states state
-    → IsStep slot entries (entries ++ done_halt slot c state) (set states c (after_play slot state))
-step-state {slot} c entries states (Playing play) own = step-play c refl own
-step-state {slot} c entries states _ own = kept-step c own.at own.balanced
-
-open-state : {slot : ℕ} (c : ℕ) (entries : List Entry) (states : List ClientState) (state : ClientState)
-    → BalancedClient slot c entries states state
-    → IsStep slot entries (entries ++ open_halt slot c state) (set states c (after_open state))
-open-state {slot} c entries states Idle own = kept-step c own.at own.balanced
-open-state {slot} c entries states (Playing play) own =
-    let keep = sent_by (booking_of play) slot in
-    record {
-      balanced =
-          balanced-halt c keep Idle own tt
-          (λ t later. sym (share-done t slot (truncated_play play.start play.plan keep) later (omega arith)));
-      stays = stays-halt entries c keep play (its-held c own.inside own.at own.balanced)
-          (record { sent = omega arith; most = omega arith });
-      places = places-halt entries c (held-play play (its-held c own.inside own.at own.balanced)) keep;
-    }
-open-state {slot} c entries states (Pausing stop rest) own = kept-step c own.at own.balanced
-open-state {slot} c entries states (Paused rest) own = kept-step c own.at own.balanced
-
-abbrev IsStepOf : ℕ → (ℕ → ClientState → List Entry) → (ClientState → ClientState) → Type 0
-IsStepOf slot halt after =
-    (c : ℕ) (entries : List Entry) (states : List ClientState) (state : ClientState)
-    → BalancedClient slot c entries states state
-    → IsStep slot entries (entries ++ halt c state) (set states c (after state))
-
-record Ending (slot n : ℕ) (halt : ℕ → ClientState → List Entry) (after : ClientState → ClientState)
-    (begun : List Entry) (old : List ClientState) : Type 0 where
-  entries : List Entry
-  states : List ClientState
-  swept : IsSwept after n old states
-  entries_are : entries ≡ begun ++ halt_entries halt 0 (take n old)
-  balanced : IsBalanced entries states slot
-  stays : Stays slot begun entries
-  places : places_taken entries ≡ places_taken begun
-
--- the next client's play is halted too
-ending-next : {slot n : ℕ} {halt : ℕ → ClientState → List Entry} {after : ClientState → ClientState}
-    {begun : List Entry} {old : List ClientState} → IsStepOf slot halt after → n < length old
-    → Ending slot n halt after begun old → Ending slot (n + 1) halt after begun old
-ending-next {n} {halt} {after} {begun} {old} step inside e =
-    let state = get_or old n Idle in
-    let next = step n e.entries e.states state (record {
-      inside = omega (arith, inside, e.swept.count);
-      at = e.swept.later n (omega arith);
-      balanced = e.balanced;
-    }) in
-    record {
-      entries = e.entries ++ halt n state;
-      states = set e.states n (after state);
-      swept = swept-set {f = after} {i = n} {old = old} {new = e.states} {state = after state} inside refl e.swept;
-      entries_are =
-          entries-more {i = n} {before = e.entries} {after = e.entries ++ halt n state} {more = halt n state}
-          halt old begun inside
-          (record { before_is = e.entries_are; after_is = refl; here = refl });
-      balanced = next.balanced;
-      stays = λ t past. next.stays t past ∙ e.stays t past;
-      places = next.places ∙ e.places;
-    }
-
-ending : {slot : ℕ} {halt : ℕ → ClientState → List Entry} {after : ClientState → ClientState}
-    {begun : List Entry} {old : List ClientState} {n : ℕ} → IsStepOf slot halt after → n ≤ length old
-    → IsBalanced begun old slot → Ending slot n halt after begun old
-ending {slot} {halt} {after} {begun} {old} {n = zero} step most balanced = record {
-  entries = begun;
-  states = old;
-  swept = swept-none after old;
-  entries_are = sym (append-nil begun);
-  balanced = balanced;
-  stays = λ t past. refl;
-  places = refl;
-}
-ending {slot} {halt} {after} {begun} {old} {n = suc n} step most balanced =
-    let e = ending {slot = slot} {halt = halt} {after = after} {begun = begun} {old = old} {n = n} step
-    (omega (arith, most)) balanced in
-    let one : n + 1 ≡ suc n = omega arith in
-    subst (λ (k : ℕ). Ending slot k halt after begun old) one
-    (ending-next {slot = slot} {n = n} {halt = halt} {after = after} {begun = begun} {old = old} step
-    (omega (arith, most)) e)
-
 -- what the halts of a slot, or of a day's end, leave: the balance, what is booked in past slots, and the places that
 -- are taken
 pub record IsHaltedAt (slot : ℕ) (old new : List Entry) (states : List ClientState) : Type 0 where
@@ -282,19 +129,128 @@ pub record IsHaltedAt (slot : ℕ) (old new : List Entry) (states : List ClientS
   pub stays : (t : ℕ) → t ≤ slot → booked_in (state_after new) t ≡ booked_in (state_after old) t
   pub places : places_taken new ≡ places_taken old
 
-all-ended : {slot : ℕ} (halt : ℕ → ClientState → List Entry) (after : ClientState → ClientState)
-    (begun : List Entry) (old : List ClientState) → IsStepOf slot halt after → IsBalanced begun old slot
-    → IsHaltedAt slot begun (begun ++ halt_entries halt 0 old) (map after old)
-all-ended {slot} halt after begun old step balanced =
-    let n = length old in
-    let e = ending {slot = slot} {halt = halt} {after = after} {begun = begun} {old = old} {n = n} step (omega arith)
-    balanced in
-    let states : e.states ≡ map after old = swept-all after n old e.states (omega arith) e.swept in
-    let entries : e.entries ≡ begun ++ halt_entries halt 0 old =
-    e.entries_are ∙ ap (λ l. begun ++ halt_entries halt 0 l) (take_all n old (omega arith)) in
-    let E : List Entry → Type 0 = λ es. IsHaltedAt slot begun es (map after old) in
-    let S : List ClientState → Type 0 = λ l. IsHaltedAt slot begun e.entries l in
-    subst E entries (subst S states (record { balanced = e.balanced; stays = e.stays; places = e.places }))
+-- a halt takes the place that was kept for it
+pub places-halt : (entries : List Entry) (its : HeldClient entries) (keep : ℕ)
+    → places_taken (entries ++ halt_by its.c its.play.number keep) ≡ places_taken entries
+places-halt entries its keep =
+    omega (arith, open-less entries its keep, length-append entries (halt_by its.c its.play.number keep))
+
+-- a client stays as it is
+kept-step : {m : DayState} {state : ClientState} (own : BalancedClient m state)
+    → IsHaltedAt m.heard m.entries (m.entries ++ []) (set m.states own.c state)
+kept-step {m} {state} own =
+    let S : List ClientState → Type 0 = λ l. IsHaltedAt m.heard m.entries m.entries l in
+    subst (λ (es : List Entry). IsHaltedAt m.heard m.entries es (set m.states own.c state)) (sym (append-nil m.entries))
+    (subst S (sym (ap (set m.states own.c) (sym own.at) ∙ set-get_or m.states own.c Idle))
+    (record { balanced = own.balanced; stays = λ t past. refl; places = refl }))
+
+-- a client's play is halted, which keeps what was sent
+halted-step : {m : DayState} {play : ClientPlay} (own : BalancedClient m (Playing play))
+    (stop : PlayStopped m.heard play) → KeepsSent m.heard play stop.keep
+    → IsHaltedAt m.heard m.entries (m.entries ++ halt_by own.c play.number stop.keep) (set m.states own.c stop.next)
+halted-step {m} own stop kept = record {
+  balanced = balanced-halt own stop;
+  stays = stays-halt m.entries (its-held own) stop.keep kept;
+  places = places-halt m.entries (its-held own) stop.keep;
+}
+
+step-play : {m : DayState} {play : ClientPlay} {done : Bool} (own : BalancedClient m (Playing play))
+    → is_done m.heard play ≡ done → IsHaltedAt m.heard m.entries
+    (m.entries ++ cond done (halt_by own.c play.number (total_bytes play.plan)) [])
+    (set m.states own.c (cond done Idle (Playing play)))
+step-play {m} {play} {done = true} own done =
+    halted-step own (record {
+      keep = total_bytes play.plan;
+      next = Idle;
+      shut = tt;
+      shares = λ t later. done-shares t m.heard play later done;
+    }) (record { sent = omega arith; most = omega arith })
+step-play {done = false} own done = kept-step own
+
+step-state : (m : DayState) (state : ClientState) (own : BalancedClient m state)
+    → IsHaltedAt m.heard m.entries (m.entries ++ done_halt m.heard own.c state)
+    (set m.states own.c (after_play m.heard state))
+step-state m (Playing play) own = step-play own refl
+step-state m _ own = kept-step own
+
+open-state : (m : DayState) (state : ClientState) (own : BalancedClient m state)
+    → IsHaltedAt m.heard m.entries (m.entries ++ open_halt m.heard own.c state) (set m.states own.c (after_open state))
+open-state m Idle own = kept-step own
+open-state m (Playing play) own =
+    let keep = sent_by (booking_of play) m.heard in
+    halted-step own (record {
+      keep = keep;
+      next = Idle;
+      shut = tt;
+      shares = λ t later.
+          sym (share-done t m.heard (truncated_play play.start play.plan keep) later (omega arith));
+    }) (record { sent = omega arith; most = omega arith })
+open-state m (Pausing stop rest) own = kept-step own
+open-state m (Paused rest) own = kept-step own
+
+-- a way in which the plays of a day's clients are halted
+record Halting : Type 0 where
+  halt : ℕ → ℕ → ClientState → List Entry
+  after : ℕ → ClientState → ClientState
+  step : (m : DayState) (state : ClientState) (own : BalancedClient m state)
+      → IsHaltedAt m.heard m.entries (m.entries ++ halt m.heard own.c state) (set m.states own.c (after m.heard state))
+
+-- the plays of the clients before a place were halted so
+record Ending (m : DayState) (h : Halting) (n : ℕ) : Type 0 where
+  entries : List Entry
+  states : List ClientState
+  swept : IsSwept (h.after m.heard) n m.states states
+  entries_are : entries ≡ m.entries ++ halt_entries (h.halt m.heard) 0 (take n m.states)
+  is : IsHaltedAt m.heard m.entries entries states
+
+-- the next client's play is halted too
+ending-next : {m : DayState} {h : Halting} {n : ℕ} → n < length m.states → Ending m h n → Ending m h (n + 1)
+ending-next {m} {h} {n} inside e =
+    let state = get_or m.states n Idle in
+    let halts = h.halt m.heard n state in
+    let next = h.step (record { entries = e.entries; states = e.states; heard = m.heard }) state (record {
+      c = n;
+      inside = omega (arith, inside, e.swept.count);
+      at = e.swept.later n (omega arith);
+      balanced = e.is.balanced;
+    }) in
+    record {
+      entries = e.entries ++ halts;
+      states = set e.states n (h.after m.heard state);
+      swept = swept-set inside e.swept;
+      entries_are = ap (λ es. es ++ halts) e.entries_are
+          ∙ entries-more (h.halt m.heard) m.states m.entries n inside;
+      is = record {
+        balanced = next.balanced;
+        stays = λ t past. next.stays t past ∙ e.is.stays t past;
+        places = next.places ∙ e.is.places;
+      };
+    }
+
+ending : (m : DayState) (h : Halting) (n : ℕ) → n ≤ length m.states → IsBalanced m.entries m.states m.heard
+    → Ending m h n
+ending m h zero most balanced = record {
+  entries = m.entries;
+  states = m.states;
+  swept = swept-none (h.after m.heard) m.states;
+  entries_are = sym (append-nil m.entries);
+  is = record { balanced = balanced; stays = λ t past. refl; places = refl };
+}
+ending m h (suc n) most balanced =
+    let one : n + 1 ≡ suc n = omega arith in
+    subst (Ending m h) one (ending-next (omega (arith, most)) (ending m h n (omega (arith, most)) balanced))
+
+all-ended : (m : DayState) (h : Halting) → IsBalanced m.entries m.states m.heard
+    → IsHaltedAt m.heard m.entries (m.entries ++ halt_entries (h.halt m.heard) 0 m.states)
+    (map (h.after m.heard) m.states)
+all-ended m h balanced =
+    let n = length m.states in
+    let e = ending m h n (omega arith) balanced in
+    let states = swept-all (h.after m.heard) n m.states e.states (omega arith) e.swept in
+    let halts : List ClientState → List Entry = λ l. m.entries ++ halt_entries (h.halt m.heard) 0 l in
+    let entries : e.entries ≡ halts m.states = e.entries_are ∙ ap halts (take_all n m.states (omega arith)) in
+    let E : List Entry → Type 0 = λ es. IsHaltedAt m.heard m.entries es (map (h.after m.heard) m.states) in
+    subst E entries (subst (λ (l : List ClientState). IsHaltedAt m.heard m.entries e.entries l) states e.is)
 
 -- a slot comes
 pub slot-halted : (old : DayState) (slot : ℕ) → old.heard ≤ slot → IsBalanced old.entries old.states old.heard
@@ -303,14 +259,14 @@ slot-halted old slot le balanced =
     let sent = map (after_sending slot) old.states in
     subst (λ (halts : List Entry). IsHaltedAt slot old.entries (old.entries ++ halts) (map (after_play slot) sent))
     (halt_entries-sent slot 0 old.states)
-    (all-ended {slot = slot} (done_halt slot) (after_play slot) old.entries sent step-state
-    (balanced-sending old.entries old.states old.heard slot le balanced))
+    (all-ended (record { entries = old.entries; states = sent; heard = slot })
+    (record { halt = done_halt; after = after_play; step = step-state }) (balanced-sending old slot le balanced))
 
 -- a day ends
 pub last-halted : (m : DayState) → IsBalanced m.entries m.states m.heard
     → IsHaltedAt m.heard m.entries (last_journal m) (map after_open m.states)
 last-halted m balanced =
-    all-ended {slot = m.heard} (open_halt m.heard) after_open m.entries m.states open-state balanced
+    all-ended m (record { halt = open_halt; after = λ heard. after_open; step = open-state }) balanced
 
 open-plays : (state : ClientState) → playing_one (after_open state) ≡ 0
 open-plays Idle = refl

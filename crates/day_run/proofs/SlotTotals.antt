@@ -10,24 +10,28 @@ use Rattle.vod_base.specs.declared.limits.TheConstants.{MAX_BYTES}
 use Rattle.slot_calendar.specs.declared.ring.TheConstants.{RING_SLOTS}
 
 -- what is booked in one slot more
-pub record NextSlot (booked here slot from : ℕ) : Type 0 where
+pub record NextSlot : Type 0 where
+  pub booked : ℕ
+  pub here : ℕ
+  pub slot : ℕ
+  pub from : ℕ
   pub begun : from + 1 ≤ slot
   pub few : booked ≤ (slot - (from + 1)) * MAX_BYTES
   pub small : here ≤ MAX_BYTES
 
 -- the slots of a ring up to an end
-pub record RingSlots (slot from end now : ℕ) : Type 0 where
+pub record RingSlots (slot from : ℕ) : Type 0 where
+  pub end : ℕ
+  pub now : ℕ
   pub before : slot < end + 1
   pub ring : end ≤ now + RING_SLOTS
   pub first : now ≤ from
 
-pub booked-more : (booked here slot from : ℕ) → NextSlot booked here slot from
-    → booked + here ≤ (slot + 1 - (from + 1)) * MAX_BYTES
-booked-more booked here slot from more = omega arith
+pub booked-more : (next : NextSlot) → next.booked + next.here ≤ (next.slot + 1 - (next.from + 1)) * MAX_BYTES
+booked-more next = omega arith
 
-pub booked-fits : {booked here slot from end now : ℕ} → NextSlot booked here slot from → RingSlots slot from end now
-    → booked + here < 2 ^ 64
-booked-fits more slots = omega arith
+pub booked-fits : (next : NextSlot) → RingSlots next.slot next.from → next.booked + next.here < 2 ^ 64
+booked-fits next slots = omega arith
 
 -- ---- the sum, and the most
 -- the sum of one slot more
@@ -102,12 +106,11 @@ total-none T f a (suc n) none =
     T.more f a n ∙ ap (T.op (T.over f a n)) (none (a + n) (omega arith)) ∙ T.right (T.over f a n)
     ∙ total-none T f a n none
 
-pub total-past : (T : Total) (f : ℕ → ℕ) (a m n : ℕ) → m ≤ n → ((t : ℕ) → a + m ≤ t → f t ≡ 0)
-    → T.over f a m ≡ T.over f a n
-total-past T f a m n le none =
-    let e : n ≡ m + (n - m) = omega (arith, le) in
-    sym (ap (T.over f a) e ∙ total-join T f a m (n - m)
-    ∙ ap (T.op (T.over f a m)) (total-none T f (a + m) (n - m) none) ∙ T.right (T.over f a m))
+pub total-past : (T : Total) (f : ℕ → ℕ) (a m n : ℕ) → ((t : ℕ) → a + m ≤ t → f t ≡ 0)
+    → T.over f a m ≡ T.over f a (m + n)
+total-past T f a m n none =
+    sym (total-join T f a m n ∙ ap (T.op (T.over f a m)) (total-none T f (a + m) n none)
+    ∙ T.right (T.over f a m))
 
 -- the total through a slot
 pub total-next : (T : Total) (f : ℕ → ℕ) (from slot : ℕ) → from + 1 ≤ slot

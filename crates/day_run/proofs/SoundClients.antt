@@ -23,17 +23,19 @@ use Rattle.admission.specs.declared.entries.Answer.TheVariants.{Admitted}
 use Rattle.admission.specs.declared.entries.Command.TheVariants as commands
 use Rattle.admission.specs.declared.entries.Entry.{Entry}
 use Rattle.admission.specs.Histories.{IsAnswered, state_after}
-use Rattle.admission.specs.Machine.{CanHalt, AdmittedPlay, admitted_play, play_numbered}
+use Rattle.admission.specs.Machine.{CanHalt, AdmittedPlay}
 use Rattle.day_script.specs.declared.scripts.Line.{Line}
 use Rattle.day_script.specs.declared.scripts.Line.TheVariants as lines
 use Rattle.day_run.specs.BookingBalance.{IsReady}
 use Rattle.day_run.specs.DayLaws.{IsLink, IsSoundPlay, IsSoundRest, IsSoundClient}
-use Rattle.day_run.specs.Days.{IsAsked, IsLine, IsLookLine, IsPauseLine, IsResumeLine, SharedLink, DayState, at_slot}
-use Rattle.day_run.specs.Days.{entry_by, first_moment, rest_at, state_at, with_play}
+use Rattle.day_run.specs.Days.{AskedPlay, IsAsked, IsLine, IsLookLine, IsPauseLine, IsResumeLine, SharedLink}
+use Rattle.day_run.specs.Days.{DayState, at_slot}
+use Rattle.day_run.specs.Days.{entry_by, first_moment, rest_at, state_at}
 use Rattle.day_script.specs.Scripts.{IsWish}
 use Rattle.day_run.specs.ClientStates.{Idle, Playing, Pausing, Paused, IsPause, ClientPlay, Rest, ClientState}
 use Rattle.day_run.specs.ClientStates.{after_play, after_sending, booking_of, is_done, no_medium, sent_by, slot_sent}
-use Rattle.day_run.proofs.LineOutcomes.{halted-held, morning-ready, outcome-ready, slot-ready, PlayHalted}
+use Rattle.day_run.proofs.SentBookedLemmas.{HeldClient, its-held}
+use Rattle.day_run.proofs.LineOutcomes.{after_answer, halted_client, morning-ready, outcome-ready, slot-ready, PlayHalted}
 use Rattle.day_run.proofs.LineOutcomes.{line-outcome, offer-kept, taken-keeps}
 use Rattle.day_run.proofs.ListUpdates.{set-at}
 use Rattle.day_run.proofs.PauseLemmas.{pausing-cases}
@@ -51,53 +53,71 @@ abbrev AreStates : ℕ → List ClientState → Type 0
 AreStates heard states = (c : ℕ) → c < 256 → IsSoundClient heard (get_or states c Idle)
 
 -- a client of a day whose state is sound
-record SoundState (heard c : ℕ) (state : ClientState) : Type 0 where
+record SoundState (heard : ℕ) : Type 0 where
+  c : ℕ
+  state : ClientState
   client : c < 256
   sound : IsSoundClient heard state
 
 -- the states but one stay
-set-sound : {heard c : ℕ} {state : ClientState} (states : List ClientState) → length states ≡ 256
-    → SoundState heard c state → AreStates heard states → AreStates heard (set states c state)
-set-sound {heard} {c} {state} states count own each d inside =
-    set-at (λ (n : ℕ) (s : ClientState). IsSoundClient heard s) {xs = states} {c = c} {d = d} {x = state} {none = Idle}
-    (record {
-      inside = λ same. omega (arith, own.client, count);
-      own = own.sound;
-      other = λ other. each d inside;
-    })
+set-sound : (m : DayState) → IsSound m → (own : SoundState m.heard)
+    → AreStates m.heard (set m.states own.c own.state)
+set-sound m is own d inside = set-at (λ (n : ℕ) (s : ClientState). IsSoundClient m.heard s) (record {
+  xs = m.states;
+  c = own.c;
+  d = d;
+  x = own.state;
+  none = Idle;
+  inside = λ same. omega (arith, own.client, is.ready.count);
+  own = own.sound;
+  other = λ other. is.each d inside;
+})
 
 -- a client asks for what can be sent, by its plan
-record SoundAsking (rest : Rest) (plan : List Segment) (c : ℕ) : Type 0 where
-  client : c < 256
-  rest_is : IsSoundRest rest
-  plan_is : IsPlanOf rest.sizes rest.playback rest.run plan
+record SoundAsking (ask : AskedPlay) : Type 0 where
+  client_is : ask.client < 256
+  rest_is : IsSoundRest ask.rest
+  plan_is : IsPlanOf ask.rest.sizes ask.rest.playback ask.rest.run ask.plan
 
 -- ---- a play that begins
-answered-states : {rest : Rest} {plan : List Segment} {old : DayState} {c : ℕ} (answer : Answer) (link : SharedLink)
-    → SoundAsking rest plan c → IsSound old
-    → IsAnswered link.steps (state_after old.entries) (entry_by c (commands.Play old.heard plan) answer)
-    → AreStates old.heard (with_play c rest plan (length old.entries) answer old.states)
-answered-states {rest} {plan} {old} {c} (Admitted start) link ask sound answer =
-    let play : ClientPlay = record { number = length old.entries; rest = rest; plan = plan; start = start } in
+-- ---- a play that begins
+answered-states : (step : LineStep) (ask : AskedPlay) → SoundAsking ask → IsSound step.old → (answer : Answer)
+    → IsAnswered step.link.steps (state_after step.old.entries)
+    (entry_by ask.client (commands.Play step.old.heard ask.plan) answer)
+    → AreStates step.old.heard (after_answer step.old ask answer).states
+answered-states step ask own sound (Admitted start) answer =
+    let old = step.old in
+    let play : ClientPlay =
+    record { number = length old.entries; rest = ask.rest; plan = ask.plan; start = start } in
     let early : old.heard < start = omega (arith, answer.0) in
-    let own : IsSoundPlay old.heard play =
-    record { rest = ask.rest_is; plan = ask.plan_is; left = λ begun. absurd (omega (arith, begun, early)) } in
-    set-sound old.states sound.ready.count (record { client = ask.client; sound = own }) sound.each
-answered-states _ link ask sound answer = sound.each
+    let begun : IsSoundPlay old.heard play =
+    record { rest = own.rest_is; plan = own.plan_is; left = λ begun. absurd (omega (arith, begun, early)) } in
+    set-sound old sound (record { c = ask.client; state = Playing play; client = own.client_is; sound = begun })
+answered-states step ask own sound _ answer = sound.each
 
-asked-states : {c : ℕ} {rest : Rest} (step : LineStep) → c < 256
-    → (0 < length (rest_sizes rest.sizes rest.run) → IsSoundRest rest) → IsSound step.old
-    → IsAsked step.link c rest step.old step.new step.text → HasSoundClients step.new
-asked-states step client own sound (inl faulty) = subst HasSoundClients (sym faulty.told.kept) sound.each
-asked-states {c} step client own sound (inr planned) = elim planned.done [
+-- what is to be sent is sound, if there is a picture
+abbrev pub IsSoundIfAny : Rest → Type 0
+IsSoundIfAny rest = 0 < length (rest_sizes rest.sizes rest.run) → IsSoundRest rest
+
+-- a client may ask for a rest
+record MayAsk : Type 0 where
+  c : ℕ
+  rest : Rest
+  client : c < 256
+  own : IsSoundIfAny rest
+
+asked-states : (step : LineStep) (may : MayAsk) → IsSound step.old
+    → IsAsked step.link may.c may.rest step.old step.new step.text → HasSoundClients step.new
+asked-states step may sound (inl faulty) = subst HasSoundClients (sym faulty.told.kept) sound.each
+asked-states step may sound (inr planned) = elim planned.done [
   | inl full ↦ subst HasSoundClients (sym full.told.kept) sound.each
   | inr made ↦
       subst HasSoundClients (sym made.noted.new_is)
-      (answered-states {c = c} made.answer step.link (record {
-        client = client;
-        rest_is = own planned.plan_is.accepted.some_picture;
+      (answered-states step (record { client = may.c; rest = may.rest; plan = planned.plan }) (record {
+        client_is = may.client;
+        rest_is = may.own planned.plan_is.accepted.some_picture;
         plan_is = planned.plan_is;
-      }) sound made.noted.answered)
+      }) sound made.answer made.noted.answered)
 ]
 
 -- ---- a play that is halted
@@ -146,18 +166,26 @@ sent-through play heard begun below =
     ap (λ n. sum (take n (plan_slots play.plan))) e in
     omega (arith, below, sent)
 
-halt-if : {b : Bool} {play : ClientPlay} {heard keep : ℕ} {state : ClientState} → nat_lt heard play.start ≡ b
-    → IsSoundPlay heard play → IsPause play heard keep state
-    → keep ≤ total_bytes play.plan → IsHalt play.plan (cond b None (Some (heard - play.start))) keep
-halt-if {b = true} {play} {heard} {keep} early sound pause most =
+-- a sound play that is paused
+record SoundHalt (heard : ℕ) (play : ClientPlay) : Type 0 where
+  keep : ℕ
+  state : ClientState
+  sound : IsSoundPlay heard play
+  pause : IsPause play heard keep state
+  most : keep ≤ total_bytes play.plan
+
+halt-if : {heard : ℕ} {play : ClientPlay} (b : Bool) (halt : SoundHalt heard play) → nat_lt heard play.start ≡ b
+    → IsHalt play.plan (cond b None (Some (heard - play.start))) halt.keep
+halt-if {heard} {play} true halt early =
     let before : heard < play.start = ltb-true heard play.start early in
-    let le : play.rest.run.sent + keep ≤ play.rest.run.sent =
-    pause.boundary.least play.rest.run.sent sound.rest.boundary (omega (arith, none-sent play heard before)) in
+    let le : play.rest.run.sent + halt.keep ≤ play.rest.run.sent =
+    halt.pause.boundary.least play.rest.run.sent halt.sound.rest.boundary
+    (omega (arith, none-sent play heard before)) in
     omega (arith, le)
-halt-if {b = false} {play} {heard} late sound pause most =
+halt-if {heard} {play} false halt late =
     let begun : play.start ≤ heard = ltb-false heard play.start late in
     let last = heard - play.start in
-    let below = sound.left begun in
+    let below = halt.sound.left begun in
     let sent : sent_by (booking_of play) heard ≡ sum_through play.plan last = sent-through play heard begun below in
     let inside : last < total_slots play.plan = elim (cases_lt last (total_slots play.plan)) [
       | inl within ↦ within
@@ -167,45 +195,48 @@ halt-if {b = false} {play} {heard} late sound pause most =
           ap sum (take_all (last + 1) (plan_slots play.plan) short)
           ∙ sum-plan_slots play.plan
           (no-empty play.plan (rest_sizes play.rest.sizes play.rest.run)
-          (timing_of play.rest.playback play.rest.run) sound.plan) in
+          (timing_of play.rest.playback play.rest.run) halt.sound.plan) in
           absurd (omega (arith, all, below))
     ] in
-    (inside, omega (arith, sent, pause.boundary.after), most)
+    (inside, omega (arith, sent, halt.pause.boundary.after), halt.most)
 
 -- the bytes that are kept are those of the plan at most
-pub kept-most : (entries : List Entry) (play : ClientPlay) (keep : ℕ)
-    → play_numbered play.number (state_after entries).held ≡ Some (admitted_play play.number play.start play.plan)
-    → CanHalt (state_after entries) play.number keep → keep ≤ total_bytes play.plan
-kept-most entries play keep held can =
+pub kept-most : (entries : List Entry) (its : HeldClient entries) (keep : ℕ)
+    → CanHalt (state_after entries) its.play.number keep → keep ≤ total_bytes its.play.plan
+kept-most entries its keep can =
     let P : Option AdmittedPlay → Type 0 =
     λ o. IsSomeAnd o (λ (h : AdmittedPlay). IsTrue h.is_open × (keep ≤ total_bytes h.play.segments)) in
-    (subst P held can).1
+    (subst P its.is.held can).1
 
-left-sound : {play : ClientPlay} {heard keep : ℕ} {state : ClientState} → IsSoundPlay heard play
-    → (pause : IsPause play heard keep state) → keep ≤ total_bytes play.plan
-    → IsSoundRest (record play.rest { run = pause.left })
-left-sound {play} {heard} {keep} sound pause most =
+left-sound : {heard : ℕ} {play : ClientPlay} (halt : SoundHalt heard play)
+    → IsSoundRest (record play.rest { run = halt.pause.left })
+left-sound {heard} {play} halt =
     let sending : IsSending play.rest.sizes play.rest.playback play.rest.run play.plan =
-    record { can_play = sound.rest.can; plan_is = sound.plan } in
+    record { can_play = halt.sound.rest.can; plan_is = halt.sound.plan } in
+    let left = halt.pause.left_is in
     record {
       can =
           halted-plays play.rest.sizes play.rest.playback play.rest.run play.plan sending
-          (slot_sent play.start heard) keep pause.left
-          (halt-if refl sound pause most) pause.left_is;
-      boundary = subst (IsBoundary play.rest.pieces) (sym pause.left_is.sent_is) pause.boundary.boundary;
+          (slot_sent play.start heard) halt.keep halt.pause.left
+          (halt-if (nat_lt heard play.start) halt refl) left;
+      boundary = subst (IsBoundary play.rest.pieces) (sym left.sent_is) halt.pause.boundary.boundary;
     }
 
 halted-states : (step : LineStep) (own : PlayHalted step) → IsSound step.old → HasSoundClients step.new
 halted-states step own sound =
     let old = step.old in
-    let its : IsSoundPlay old.heard play = subst (IsSoundClient old.heard) at (sound.each client inside) in
-    let rest = left-sound its is.pause
-    (kept-most old.entries play is.keep (halted-held own sound.ready) is.noted.answered) in
+    let rest = left-sound (record {
+      keep = is.keep;
+      state = is.state;
+      sound = subst (IsSoundClient old.heard) at (sound.each client inside);
+      pause = is.pause;
+      most = kept-most old.entries (its-held (halted_client own sound.ready)) is.keep is.noted.answered;
+    }) in
     let state : IsSoundClient old.heard is.state =
     subst (IsSoundClient old.heard) (sym is.pause.state_is) (pausing-cases (IsSoundClient old.heard) old.heard
     (truncated_play play.start play.plan is.keep) (record play.rest { run = is.pause.left }) rest rest) in
     subst HasSoundClients (sym is.noted.new_is)
-    (set-sound old.states sound.ready.count (record { client = inside; sound = state }) sound.each)
+    (set-sound old sound (record { c = client; state = is.state; client = inside; sound = state }))
   where
     open own use {client, inside, play, at, is}
 
@@ -242,9 +273,7 @@ slot-sound old slot later sound = record {
 
 -- ---- all of a reel
 pub whole-sound : {link : SharedLink} {source buffer delay : ℕ} → IsLink link
-    → IsWish (length link.media) source buffer delay
-    → 0 < length (rest_sizes (rest_at link source buffer delay).sizes (rest_at link source buffer delay).run)
-    → IsSoundRest (rest_at link source buffer delay)
+    → IsWish (length link.media) source buffer delay → IsSoundIfAny (rest_at link source buffer delay)
 whole-sound {link} {source} {buffer} {delay} link-is wish some =
     let rest = rest_at link source buffer delay in
     let medium = link-is.media source no_medium wish.inside in
@@ -276,12 +305,12 @@ whole-sound {link} {source} {buffer} {delay} link-is wish some =
     }
 
 -- ---- each kind of line leaves the clients sound
-play-states : {c : ℕ} {rest : Rest} (step : LineStep) (state : ClientState) → c < 256
-    → (0 < length (rest_sizes rest.sizes rest.run) → IsSoundRest rest) → IsSound step.old
-    → IsPlayTaken step c rest state → HasSoundClients step.new
-play-states {c} step (Playing play) client own sound is = subst HasSoundClients (sym is.kept) sound.each
-play-states {c} step (Pausing stop left) client own sound is = subst HasSoundClients (sym is.kept) sound.each
-play-states {c} step _ client own sound is = asked-states step client own sound is
+-- ---- each kind of line leaves the clients sound
+play-states : (step : LineStep) (state : ClientState) (may : MayAsk) → IsSound step.old
+    → IsPlayTaken step may.c may.rest state → HasSoundClients step.new
+play-states step (Playing play) may sound is = subst HasSoundClients (sym is.kept) sound.each
+play-states step (Pausing stop left) may sound is = subst HasSoundClients (sym is.kept) sound.each
+play-states step _ may sound is = asked-states step may sound is
 
 resume-states : {c : ℕ} {state : ClientState} (step : LineStep) → ClientOf step.old c state → IsSound step.old
     → IsResumeLine step.link c state step.old step.new step.text → HasSoundClients step.new
@@ -290,7 +319,7 @@ resume-states {c} {state = Playing play} step own sound is = subst HasSoundClien
 resume-states {c} {state = Pausing stop rest} step own sound is = subst HasSoundClients (sym is.kept) sound.each
 resume-states {c} {state = Paused rest} step own sound is =
     let sending : IsSoundRest rest = subst (IsSoundClient step.old.heard) own.at (sound.each c own.client) in
-    asked-states step own.client (λ some. sending) sound is
+    asked-states step (record { c = c; rest = rest; client = own.client; own = λ some. sending }) sound is
 
 pause-states : {c : ℕ} {state : ClientState} (step : LineStep) → ClientOf step.old c state → IsSound step.old
     → IsPauseLine step.link c state step.old step.new step.text → HasSoundClients step.new
@@ -310,7 +339,12 @@ line-states : (step : LineStep) (line : Line) → IsLink step.link
     → StandingLine step.old.heard (length step.link.media) line → IsSound step.old
     → IsLine step.link line step.old step.new step.text → HasSoundClients step.new
 line-states step (lines.Play c source buffer delay) link-is standing sound is =
-    play-states step (state_at step.old c) standing.client (whole-sound link-is standing.stands) sound is
+    play-states step (state_at step.old c) (record {
+      c = c;
+      rest = rest_at step.link source buffer delay;
+      client = standing.client;
+      own = whole-sound link-is standing.stands;
+    }) sound is
 line-states step (lines.Pause c) link-is standing sound is =
     pause-states step (record { client = standing.client; at = refl }) sound is
 line-states step (lines.Resume c) link-is standing sound is =
@@ -319,7 +353,7 @@ line-states step (lines.Look slot) link-is standing sound is = look-states step 
 line-states step (lines.Slot slot) link-is standing sound is =
     subst HasSoundClients (sym is.0) (slot-states step.old slot sound)
 line-states step (lines.Offer c source buffer delay wait) link-is standing sound is =
-    subst HasSoundClients (sym (offer-kept is)) sound.each
+    subst HasSoundClients (sym (offer-kept step is)) sound.each
 
 pub line-sound : (step : LineStep) (line : Line) → IsLink step.link
     → StandingLine step.old.heard (length step.link.media) line → IsSound step.old

@@ -1,6 +1,6 @@
 -- Films and traces as they are played.
 use Rattle.std.proofs.Common.{◌≡◌, length, sum, subst, sym, ◌+◌, ℕ, List, [], ◌∷◌, ◌++◌, map, take, get_or, Result}
-use Rattle.std.proofs.Common.{Ok, Err, IfOk, ap, ◌∙◌, ◌≤◌, arith}
+use Rattle.std.proofs.Common.{Ok, Err, IfOk, ap, ◌∙◌}
 use Rattle.film_frames.specs.Tracks.{framed_bytes}
 use Rattle.film_frames.proofs.TraceLemmas.{length-zeros}
 use Rattle.day_run.specs.declared.media.Media.{Media}
@@ -8,10 +8,10 @@ use Rattle.day_run.specs.declared.media.Media.TheVariants as played
 use Rattle.day_run.specs.declared.trace_media.TraceMedia.{TraceMedia}
 use Rattle.day_run.specs.MediaPieces.{media_pieces, media_sizes}
 use Rattle.std.specs.Global.{Vec}
-use Rattle.std.proofs.lemmas.List.{map-append, map_more, take_more, length-map}
+use Rattle.std.proofs.lemmas.List.{map-append, map_more, take_more}
 use Rattle.vod_base.specs.declared.errors.NoMemory.{NoMemory}
 use Rattle.day_run.specs.declared.media.Source.{Source}
-use Rattle.day_run.specs.declared.media.Source.TheVariants.{Trace, Film}
+use Rattle.day_run.specs.declared.media.Source.TheVariants.{Trace}
 use Rattle.day_script.specs.declared.scripts.Line.{Line}
 use Rattle.day_script.specs.Scripts.{latest_slot, slot_after}
 use Rattle.day_run.specs.ClientStates.{trace_content, source_content}
@@ -19,15 +19,9 @@ use Rattle.day_run.specs.MediaContents.{media_content}
 use Rattle.day_script.proofs.ScriptLines.{latest-push}
 use Rattle.day_script.proofs.Places.{Place}
 use Rattle.std.specs.Prelude.{All, OnOk}
-use Rattle.std.proofs.lemmas.List.Elements.{All-append, All-cons, All-map, All-nil}
-use Rattle.mpeg_scan.proofs.RateLemmas.{time-bounds}
-use Rattle.slot_calendar.specs.declared.profiles.CapStep.{CapStep}
-use Rattle.film_frames.specs.declared.stored_films.Stored.{Stored}
-use Rattle.film_frames.specs.Pieces.{wire_size}
-use Rattle.film_run.specs.Units.{AreUnitSizes, stored_sizes}
-use Rattle.vod_base.specs.declared.limits.TheConstants.{MAX_BYTES, MAX_FILM_PICTURES}
-use Rattle.day_run.specs.DayLaws.{IsLink, IsPlayable, IsSoundMedia}
-use Rattle.day_run.specs.Days.{link_of}
+use Rattle.std.proofs.lemmas.List.Elements.{All-append, All-cons, All-nil}
+use Rattle.film_run.specs.Units.{AreUnitSizes}
+use Rattle.day_run.specs.DayLaws.{IsPlayable}
 use Rattle.day_run.specs.Sources.{IsSource}
 
 -- ---- a trace as it is played
@@ -38,23 +32,25 @@ trace-length medium trace e =
     subst P (sym e) (length-zeros trace.sizes)
 
 -- ---- films and traces as they are played
-pub trace-medium : {source : Source} {sizes : Vec ℕ} {items : List ℕ} (r : Result Media NoMemory)
-    → source ≡ Trace sizes → items ≡ sizes.items
+-- ---- films and traces as they are played
+pub trace-medium : {items : List ℕ} (source : Source) (r : Result Media NoMemory)
+    → ((u : ℕ) → trace_content u items ≡ source_content u source)
     → IfOk r (λ medium. (u : ℕ) → media_content u medium ≡ trace_content u items)
     → IfOk r (λ medium. (u : ℕ) → media_content u medium ≡ source_content u source)
-trace-medium (Ok medium) is same has = λ u. has u ∙ ap (trace_content u) same ∙ sym (ap (source_content u) is)
-trace-medium (Err e) is same has = tt
+trace-medium source (Ok medium) same has = λ u. has u ∙ same u
+trace-medium source (Err e) same has = tt
 
 -- one reel more
-pub record NextReel (after : List Media) : Type 0 where
+pub record NextReel : Type 0 where
+  pub after : List Media
   pub media : List Media
   pub medium : Media
   pub after_are : after ≡ media ++ medium ∷ []
 
-pub contents-next : {after : List Media} (u : ℕ) (next : NextReel after) (sources : List Source) (place : Place sources)
+pub contents-next : (u : ℕ) (next : NextReel) (sources : List Source) (place : Place sources)
     → media_content u next.medium ≡ source_content u (get_or sources place.index place.none)
     → map (media_content u) next.media ≡ map (source_content u) (take place.index sources)
-    → map (media_content u) after ≡ map (source_content u) (take (place.index + 1) sources)
+    → map (media_content u) next.after ≡ map (source_content u) (take (place.index + 1) sources)
 contents-next u next sources place own before =
     ap (map (media_content u)) a ∙ map-append (media_content u) media (medium ∷ [])
     ∙ ap (λ ts. ts ++ media_content u medium ∷ []) before
@@ -75,23 +71,6 @@ heard-next {next} lines place n h =
     open place use {index as i, none, inside}
 
 -- ---- films and traces that can be played
--- a film, of a code from 1 to 8, whose units have the sizes that a trace may have
-pub film-playable : {source : Source} (stored : Stored) → source ≡ Film stored → 1 ≤ stored.film.rate
-    → stored.film.rate ≤ 8
-    → length stored.film.units.items ≤ MAX_FILM_PICTURES → sum (stored_sizes stored) ≤ MAX_BYTES → IsPlayable source
-film-playable stored is low high few small =
-    let time = time-bounds stored.film.rate low high in
-    let sizes : AreUnitSizes (stored_sizes stored) = record {
-      few = omega (arith, few, length-map stored.film.units.items (wire_size stored.film.slice_starts.items));
-      small = small;
-    } in
-    subst IsPlayable (sym is)
-    (λ units some fit. record {
-      sizes = sizes;
-      some_picture_units = omega (arith, time.0);
-      picture_units_fit = omega (arith, time.1);
-    })
-
 trace-fits : {source : Source} (sizes : Vec ℕ) → source ≡ Trace sizes → IsSource source → IsPlayable source
 trace-fits sizes is trace =
     let kept : AreUnitSizes sizes.items = subst IsSource is trace in
@@ -103,15 +82,6 @@ pub trace-playable : {source : Source} {sizes : Vec ℕ} (r : Result Media NoMem
     → IsSource source → OnOk r (IsPlayable source)
 trace-playable {sizes} (Ok medium) is trace = trace-fits sizes is trace
 trace-playable (Err e) is trace = tt
-
--- a link of films and traces that can be played
-pub link-playable : {steps : List CapStep} {limit slot_units : ℕ} (sources : List Source) → 1 ≤ slot_units
-    → slot_units ≤ 360000 → All IsPlayable sources → IsLink (link_of steps limit slot_units sources)
-link-playable {slot_units} sources some fit all = record {
-  some_slot_units = some;
-  slot_units_fit = fit;
-  media = All-map IsSoundMedia (source_content slot_units) sources (λ i d inside. all i d inside slot_units some fit);
-}
 
 -- one more that can be played
 pub playable-next : (sources : List Source) (place : Place sources) → IsPlayable (get_or sources place.index place.none)

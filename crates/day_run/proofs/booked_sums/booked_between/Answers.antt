@@ -19,11 +19,17 @@ overflow_add-booked c =
       capacity-most calendar.steps c.loop-slot.slot c.booked_through.ensures.calendar.profile,
     ) in
     let fits =
-    booked-fits {from = c.args.from} {end = c.min-end.result} {now = calendar.first} (record {
+    booked-fits (record {
+      booked = c.loop-slot.booked;
+      here = c.booked-here.result;
+      slot = c.loop-slot.slot;
+      from = c.args.from;
       begun = omega arith;
       few = c.loop-slot.invariant.few;
       small = small;
     }) (record {
+      end = c.min-end.result;
+      now = calendar.first;
       before = omega arith;
       ring = omega (arith, c.booked_through.ensures.within);
       first = omega (arith, c.calendar-calendar.ensures.now, c.requires.from_now);
@@ -50,7 +56,11 @@ loop-slot-preserved c =
     → T.op x c.booked-here.result ≡ T.over f (from + 1) (slot + 1 - (from + 1)) =
     λ T x is. ap (T.op x) here ∙ ap (λ k. T.op k (f slot)) is ∙ total-next T f from slot begun in
     record {
-      few = booked-more c.loop-slot.booked c.booked-here.result slot from (record {
+      few = booked-more (record {
+        booked = c.loop-slot.booked;
+        here = c.booked-here.result;
+        slot = slot;
+        from = from;
         begun = begun;
         few = c.loop-slot.invariant.few;
         small = small;
@@ -69,14 +79,17 @@ returns c =
     let from = c.args.from in
     let to = c.args.to in
     let known : calendar.first ≤ from = omega (arith, c.calendar-calendar.ensures.now, c.requires.from_now) in
-    let le : slot - (from + 1) ≤ to - from = omega (arith, c.loop-slot.invariant.late) in
+    let past = slot - (from + 1) in
+    let le : past ≤ to - from = omega (arith, c.loop-slot.invariant.late) in
     let whole : (T : Total) → T.over f (from + 1) (slot - (from + 1)) ≡ T.over f (from + 1) (to - from) = λ T.
     elim (cases_lt c.booked_through.result to) [
       | inl short ↦
-          total-past T f (from + 1) (slot - (from + 1)) (to - from) le (λ t late.
+          let all : past + (to - from - past) ≡ to - from = omega (arith, le) in
+          total-past T f (from + 1) past (to - from - past) (λ t late.
           let empty : booked_at calendar t ≡ 0 =
           c.booked_through.ensures.after t (omega (arith, late, known)) (omega (arith, late, short)) in
           sym (c.calendar-calendar.ensures.stands.each t (omega (arith, late, known))) ∙ empty)
+          ∙ ap (T.over f (from + 1)) all
       | inr long ↦
           let e : slot - (from + 1) ≡ to - from = omega (arith, long, c.loop-slot.invariant.late) in
           ap (T.over f (from + 1)) e

@@ -1,54 +1,62 @@
-use Rattle.std.proofs.Common.{◌++◌, ◌∷◌, [], Some, None, ap, sym, ◌∙◌, arith}
-use Rattle.std.proofs.lemmas.List.{append-nil}
+use Rattle.std.proofs.Common.{◌+◌, ◌++◌, ◌∷◌, [], List, Some, None, map, ap, sym, subst, ◌∙◌, arith}
+use Rattle.std.proofs.lemmas.List.{append-nil, length-map}
 use Rattle.admission.specs.declared.entries.Answer.{Answer}
 use Rattle.admission.specs.declared.entries.Command.TheVariants.{Halt}
+use Rattle.day_script.proofs.Places.{Place}
+use Rattle.day_run.specs.Clients.{state_for, state_of}
 use Rattle.day_run.specs.Days.{entry_by}
-use Rattle.day_run.proofs.ClientSweepLemmas.{book-grown, ended-states, passed-next}
+use Rattle.day_run.specs.declared.clients.Client.{Client}
+use Rattle.day_run.proofs.ClientSweepLemmas.{AreHaltedTo, book-grown, passed-next, swept-all}
 use Rattle.day_run.proofs.client_set.halt_plays.Goals.{in-Some, in_default}
 use Rattle.day_run.proofs.client_set.halt_plays.Goals as goal
 
 pub loop-maker-preserved : goal.loop-maker-preserved
 loop-maker-preserved c =
     let i = c.loop-maker.maker in
+    let book = c.loop-maker.book in
+    let to = c.loop-maker.invariant in
+    let at : Place c.loop-maker.clients = record { index = i; none = c.index-clients-maker.result; inside = omega arith } in
+    let going = to.sound.going.each i at.none at.inside in
+    let To : List Client → Type 0 =
+    λ l. AreHaltedTo c.args.which (i + 1) c.args.book.now c.match-halt_of.book c.args.clients.now l in
     elim c.match-halt_of.branch [
       | in-Some w ↦
           let halt = w.in-Some.halt in
           let told = w.in-Some.ensures {u = tt} in
           let entry = λ (answer : Answer). entry_by i (Halt halt.number halt.keep) answer in
-          passed-next (record {
-            place = i;
-            before = c.loop-maker.book;
+          subst To (sym w.clients-is) (passed-next (record {
+            before = book;
             after = c.match-halt_of.book;
             clients = c.loop-maker.clients;
-            none = c.index-clients-maker.result;
+            at = at;
             halt = Some halt;
-            inside = omega arith;
             its = told.some;
             undone = tt;
-            has = λ slot going timed. told.halt slot i going timed;
-            goes = told.state;
+            has = λ slot timed. told.halt slot i going timed;
+            goes = λ slot timed. told.state slot going timed;
             grown = book-grown _ (w.book-is ∙ w.halt-noted.ensures.noted.journal_is)
-                (ap (λ answer. c.loop-maker.book.entries ++ entry answer ∷ []) w.halt-noted.ensures.answer);
-          }) w.clients-is c.loop-maker.invariant
+                (ap (λ answer. book.entries ++ entry answer ∷ []) w.halt-noted.ensures.answer);
+          }) to)
       | in_default w ↦
           let told = w.in_default.ensures {u = tt} in
-          passed-next (record {
-            place = i;
-            before = c.loop-maker.book;
+          subst To (sym w.clients-is) (passed-next (record {
+            before = book;
             after = c.match-halt_of.book;
             clients = c.loop-maker.clients;
-            none = c.index-clients-maker.result;
+            at = at;
             halt = None;
-            inside = omega arith;
             its = tt;
             undone = told.none;
-            has = λ slot going timed. told.halt slot i going timed;
-            goes = told.state;
-            grown = book-grown c.loop-maker.book.entries w.book-is (sym (append-nil c.loop-maker.book.entries));
-          }) w.clients-is c.loop-maker.invariant
+            has = λ slot timed. told.halt slot i going timed;
+            goes = λ slot timed. told.state slot going timed;
+            grown = book-grown book.entries w.book-is (sym (append-nil book.entries));
+          }) to)
     ]
 
 pub returns-clause-states : goal.returns-clause-states
 returns-clause-states c = λ slot timed.
-    ended-states
-    (omega arith) (c.loop-maker.invariant.ended slot timed)
+    let old = map state_of c.args.clients.now in
+    let new = c.loop-maker.clients in
+    let swept = (c.loop-maker.invariant.ended slot timed).swept in
+    swept-all (state_for c.args.which slot) c.loop-maker.maker old (map state_of new)
+    (omega (arith, swept.count, length-map new state_of)) swept

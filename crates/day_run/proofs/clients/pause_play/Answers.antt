@@ -1,17 +1,30 @@
-use Rattle.std.proofs.Common.{◌≡◌, ◌≤◌, ◌==◌, true, false, eq-eqb, ne_eqb, sym, ap, ◌∙◌, arith}
-use Rattle.day_run.proofs.PauseLemmas.{LeftRun, halts, left-rest, left-stopping, left-timed, pause-of, paused-state}
-use Rattle.day_run.proofs.PauseLemmas.{TimedPlay, pausing-state}
+use Rattle.std.proofs.Common.{◌≡◌, ◌==◌, true, false, eq-eqb, ne_eqb, sym, subst, ap, ◌∙◌}
+use Rattle.std.proofs.lemmas.Bool.{cond-true, cond-false}
+use Rattle.pacer.specs.PacerStates.{PacerState}
+use Rattle.slot_calendar.specs.Plays.{Play as Booked, truncated_play}
+use Rattle.day_run.specs.Clients.{play_of, rest_of}
+use Rattle.day_run.specs.ClientStates.{IsPause, Paused, Pausing, sent_by}
+use Rattle.day_run.proofs.PauseLemmas.{PauseAt, PauseLeft, TimedPlay, halts, kept-sent, left-rest, left-timed, pause-of}
 use Rattle.day_run.proofs.clients.pause_play.Goals as goal
 
 pub run_after-run-requires-clause-halt : goal.run_after-run-requires-clause-halt
 run_after-run-requires-clause-halt c =
-    halts c.last_slot-last.result c.requires.playing c.requires.undone c.last_slot-last.ensures
-    c.ask_halt-keep.ensures.boundary c.ask_halt-keep.ensures.most
+    halts {play = c.args.play} (record {
+      last = c.last_slot-last.result;
+      through = c.last_slot-last.ensures;
+      boundary = c.ask_halt-keep.ensures.boundary;
+      most = c.ask_halt-keep.ensures.most;
+    }) c.requires.playing c.requires.undone
 
 pub returns-then-sent-keep-clause-going : goal.returns-then-sent-keep-clause-going
 returns-then-sent-keep-clause-going c = left-rest c.requires.playing (record {
-  last = c.last_slot-last.result;
-  boundary = c.ask_halt-keep.ensures.boundary.boundary;
+  at = record {
+    last = c.last_slot-last.result;
+    through = c.last_slot-last.ensures;
+    boundary = c.ask_halt-keep.ensures.boundary;
+    most = c.ask_halt-keep.ensures.most;
+  };
+  left = c.run_after-run.result;
   left_is = c.run_after-run.ensures.left;
   run_is = c.run_after-run.ensures.run;
   fits = c.run_after-run.ensures.fits;
@@ -20,16 +33,26 @@ returns-then-sent-keep-clause-going c = left-rest c.requires.playing (record {
 pub returns-clause-going : goal.returns-clause-going
 returns-clause-going c =
     let play = c.args.play in
-    let left : LeftRun play c.ask_halt-keep.result c.run_after-run.result = record {
-      last = c.last_slot-last.result;
-      boundary = c.ask_halt-keep.ensures.boundary.boundary;
+    let pause : PauseLeft play c.ask_halt-keep.result = record {
+      at = record {
+        last = c.last_slot-last.result;
+        through = c.last_slot-last.ensures;
+        boundary = c.ask_halt-keep.ensures.boundary;
+        most = c.ask_halt-keep.ensures.most;
+      };
+      left = c.run_after-run.result;
       left_is = c.run_after-run.ensures.left;
       run_is = c.run_after-run.ensures.run;
       fits = c.run_after-run.ensures.fits;
     } in
-    let halted = c.ask_halt-keep.ensures.state
-    ∙ ap (λ n. record play.pacer { keep = n }) (sym c.ask_halt-keep.ensures.value) in
-    left-stopping c.requires.playing (left-rest c.requires.playing left) halted c.ask_halt-keep.ensures.pacing
+    let is = c.ask_halt-keep.ensures.state in
+    record {
+      rest = left-rest c.requires.playing pause;
+      keep_is = ap (λ (p : PacerState). p.keep) is ∙ sym c.ask_halt-keep.ensures.value;
+      pacing = c.ask_halt-keep.ensures.pacing;
+      all_sent = ap (λ (p : PacerState). p.sent) is ∙ c.requires.playing.all_sent
+          ∙ sym (ap (λ (p : PacerState). p.due) is);
+    }
 
 pub returns-clause-timed : goal.returns-clause-timed
 returns-clause-timed c = λ heard timed. left-timed c.args.play.pacer heard c.ask_halt-keep.ensures.state timed
@@ -39,30 +62,50 @@ returns-then-sent-keep-clause-pause c = λ heard timed.
     let play = c.args.play in
     let keep = c.ask_halt-keep.result in
     let own : TimedPlay play heard = record { playing = c.requires.playing; timed = timed } in
-    let least : play.pacer.sent ≤ keep = omega (arith, c.ask_halt-keep.ensures.boundary.after) in
-    let all : (play.pacer.sent == keep) ≡ true =
-    eq-eqb play.pacer.sent keep (sym c.sent-sent.ensures.value ∙ c.if-sent-keep.true) in
-    pause-of own (record {
+    let at : PauseAt play keep = record {
       last = c.last_slot-last.result;
-      left = c.run_after-run.result;
       through = c.last_slot-last.ensures;
       boundary = c.ask_halt-keep.ensures.boundary;
+      most = c.ask_halt-keep.ensures.most;
+    } in
+    let b = truncated_play play.pacer.start play.plan keep in
+    let rest = record (rest_of play.rest) { run = c.run_after-run.result } in
+    let all : (sent_by b heard == keep) ≡ true =
+    eq-eqb (sent_by b heard) keep (kept-sent own at ∙ sym c.sent-sent.ensures.value ∙ c.if-sent-keep.true) in
+    subst (IsPause (play_of play) heard keep) (cond-true (sent_by b heard == keep) (Paused rest) (Pausing b rest) all)
+    (pause-of own (record {
+      at = at;
+      left = c.run_after-run.result;
       left_is = c.run_after-run.ensures.left;
-    }) (paused-state heard keep own (record { least = least; most = c.ask_halt-keep.ensures.most }) all)
+      run_is = c.run_after-run.ensures.run;
+      fits = c.run_after-run.ensures.fits;
+    }))
 
 pub returns-clause-pause : goal.returns-clause-pause
 returns-clause-pause c = λ heard timed.
     let play = c.args.play in
     let keep = c.ask_halt-keep.result in
     let own : TimedPlay play heard = record { playing = c.requires.playing; timed = timed } in
-    let least : play.pacer.sent ≤ keep = omega (arith, c.ask_halt-keep.ensures.boundary.after) in
-    let not : (play.pacer.sent == keep) ≡ false =
-    ne_eqb play.pacer.sent keep (λ e. c.if-sent-keep.false (c.sent-sent.ensures.value ∙ e)) in
-    pause-of own (record {
+    let at : PauseAt play keep = record {
       last = c.last_slot-last.result;
-      left = c.run_after-run.result;
       through = c.last_slot-last.ensures;
       boundary = c.ask_halt-keep.ensures.boundary;
+      most = c.ask_halt-keep.ensures.most;
+    } in
+    let b = truncated_play play.pacer.start play.plan keep in
+    let rest = record (rest_of play.rest) { run = c.run_after-run.result } in
+    let not : (sent_by b heard == keep) ≡ false =
+    ne_eqb (sent_by b heard) keep
+    (λ e. c.if-sent-keep.false (c.sent-sent.ensures.value ∙ sym (kept-sent own at) ∙ e)) in
+    let booked : b ≡ truncated_play c.ask_halt-keep.new.self.start c.ask_halt-keep.new.self.plan keep =
+    sym (ap (λ (x : PacerState). truncated_play x.start x.plan keep) c.ask_halt-keep.ensures.state
+    ∙ ap (λ s. truncated_play play.pacer.start s keep) c.requires.playing.plan_is) in
+    subst (IsPause (play_of play) heard keep)
+    (cond-false (sent_by b heard == keep) (Paused rest) (Pausing b rest) not
+    ∙ ap (λ (x : Booked). Pausing x rest) booked) (pause-of own (record {
+      at = at;
+      left = c.run_after-run.result;
       left_is = c.run_after-run.ensures.left;
-    }) (pausing-state heard keep own (record { least = least; most = c.ask_halt-keep.ensures.most }) not
-    (c.ask_halt-keep.ensures.state ∙ ap (λ n. record play.pacer { keep = n }) (sym c.ask_halt-keep.ensures.value)))
+      run_is = c.run_after-run.ensures.run;
+      fits = c.run_after-run.ensures.fits;
+    }))

@@ -1,8 +1,11 @@
-use Rattle.std.proofs.Common.{◌+◌, ◌%◌, ap, ◌∙◌}
-use Rattle.film_make.specs.Generator.{words_left}
+use Rattle.std.proofs.Common.{◌≡◌, ◌+◌, ◌%◌, IfOk, ap, subst, ◌∙◌}
+use Rattle.film_make.specs.Generator.{words_after, words_left}
+use Rattle.film_make.proofs.GeneratorLemmas.{words_after-twice}
+use Rattle.day_run.specs.ClientStates.{Rest}
+use Rattle.day_run.specs.Days.{IsPlayLine, rest_at}
 use Rattle.day_run.specs.declared.fairs.TheConstants.{BUFFER_SIZES, LEAST_BUFFER}
-use Rattle.day_run.specs.MachineState.{link_on, day_state_of}
-use Rattle.day_run.proofs.FairTurns.{play-drawn, ok-of, second-word, third-word, three-left}
+use Rattle.day_run.specs.MachineState.{link_on, day_state_of, reply_text}
+use Rattle.day_run.proofs.FairTurns.{ok-of, second-word, third-word, two-left}
 use Rattle.day_run.proofs.fairs.play_drawn.Goals as goal
 
 pub returns-clause-line : goal.returns-clause-line
@@ -10,21 +13,19 @@ returns-clause-line c =
     let w = words_left c.args.draws.now in
     let one = c.draw-source.ensures.left in
     let two = c.draw.ensures.left in
-    play-drawn c.play.result (record {
-      link = link_on c.args.machine.now;
-      client = c.args.client;
-      old = day_state_of c.args.machine.now;
-      new = _;
-      entries = _;
-    }) (record {
-      sources_are = c.draw-source.ensures.value;
-      buffers_are =
-          ap (λ n. LEAST_BUFFER + n) (c.from-buffer.ensures ∙ c.draw.ensures.value
-          ∙ ap (λ n. n % BUFFER_SIZES) (second-word w _ one));
-      delays_are = c.from-delay.ensures ∙ c.draw-2.ensures.value ∙ ap (λ n. n % 26) (third-word w _ _ one two);
-    }) c.play.ensures.line
+    let old = c.args.machine.now in
+    let new = c.play.new.self in
+    let source = c.draw-source.ensures.value in
+    let buffer = c.from-buffer.ensures ∙ c.draw.ensures.value ∙ ap (λ n. n % BUFFER_SIZES) (second-word w _ one) in
+    let delay = c.from-delay.ensures ∙ c.draw-2.ensures.value ∙ ap (λ n. n % 26) (third-word w _ _ one two) in
+    let same : rest_at (link_on old) c.draw-source.result (LEAST_BUFFER + c.from-buffer.result) c.from-delay.result
+    ≡ rest_at (link_on old) (w 0 % 16) (LEAST_BUFFER + w 1 % BUFFER_SIZES) (w 2 % 26) = cc (source, buffer, delay) in
+    subst (λ (rest : Rest). IfOk c.play.result (λ told. IsPlayLine (link_on old) c.args.client rest (day_state_of old)
+    (day_state_of new) (reply_text new.book.entries told))) same c.play.ensures.line
 
 pub returns-clause-left : goal.returns-clause-left
 returns-clause-left c =
+    let w = words_left c.args.draws.now in
     ok-of c.play.result _
-    (three-left (words_left c.args.draws.now) c.draw-source.ensures.left c.draw.ensures.left c.draw-2.ensures.left)
+    (c.draw-2.ensures.left ∙ ap (words_after 1) (two-left w c.draw-source.ensures.left c.draw.ensures.left)
+    ∙ words_after-twice 1 2 w)

@@ -3,20 +3,24 @@ use Rattle.film_make.specs.Generator.{words_left}
 use Rattle.day_run.specs.FairDays.{FairTurn, at_later}
 use Rattle.day_run.specs.FairProgress.{said_text}
 use Rattle.day_run.specs.MachineState.{link_on, day_state_of}
-use Rattle.day_run.proofs.FairTurns.{done-ready, turn-of}
+use Rattle.day_run.proofs.FairTurns.{turn-of}
+use Rattle.day_run.proofs.LineOutcomes.{done-outcome, outcome-ready}
+use Rattle.day_run.proofs.ScriptLines.{LineStep}
 use Rattle.day_run.proofs.fairs.run_turn.Goals as goal
 
 pub returns-clause-ready : goal.returns-clause-ready
 returns-clause-ready c =
     let mid = c.advance.new.machine in
     let client : c.draw-client.result < 256 = omega (arith, c.draw-client.ensures.value) in
-    done-ready (record {
+    let step : LineStep = record {
       link = link_on mid;
       old = day_state_of mid;
       new = day_state_of c.turn_client.new.machine;
       text = said_text c.turn_client.new.machine.book.entries c.in_ok-told.told;
-    }) (words_left c.draw-client.new.self)
-    (record { client = client; at = refl }) c.in_ok-told.ensures.done c.advance.ensures.ready
+    } in
+    outcome-ready step
+    (done-outcome step (words_left c.draw-client.new.self) (record { client = client; at = refl })
+    c.in_ok-told.ensures.done) c.advance.ensures.ready
 
 pub returns-clause-turned : goal.returns-clause-turned
 returns-clause-turned c =

@@ -1,8 +1,10 @@
-use Rattle.std.proofs.Common.{ap, sym, refl, ◌∙◌, arith}
+use Rattle.std.proofs.Common.{[], ap, sym, subst, refl, ◌∙◌, arith}
 use Rattle.film_make.specs.Generator.{words_left}
-use Rattle.day_run.specs.Days.{DayState}
-use Rattle.day_run.specs.MachineState.{link_on, day_state_of}
-use Rattle.day_run.proofs.FairTurns.{come-next, come-none, ready-morning}
+use Rattle.day_run.specs.Days.{DayState, SharedLink}
+use Rattle.day_run.specs.FairDays.{counts_of}
+use Rattle.day_run.specs.FairProgress.{IsTurnResult, drawn_to}
+use Rattle.day_run.specs.MachineState.{day_state_of}
+use Rattle.day_run.proofs.FairTurns.{come-next, ready-morning}
 use Rattle.day_run.proofs.fairs.run_turns.Goals as goal
 
 pub loop-turn-init : goal.loop-turn-init
@@ -15,13 +17,21 @@ loop-turn-init c =
       kept = record { link = refl; steps = refl; media = refl };
       heard = omega (arith, heard);
       fitting = record { last_is = sym heard; full = omega arith; sent = omega arith; booked = omega arith };
-      come = come-none (link_on old) (words_left c.args.draws.now) _ (day_state_of old) c.requires.morning refl;
+      come = record {
+        turns = [];
+        count = refl;
+        run = c.requires.morning;
+        left_is = refl;
+        counts_are = ap (counts_of []) (sym c.requires.morning);
+      };
     }
 
 pub loop-turn-preserved : goal.loop-turn-preserved
 loop-turn-preserved c =
     let inv = c.loop-turn.invariant in
     let ran = c.in_ok-run_turn.ensures in
+    let old = drawn_to (words_left c.loop-turn.draws) c.loop-turn.counts (day_state_of c.loop-turn.machine) in
+    let new = drawn_to (words_left c.run_turn.new.draws) c.run_turn.new.counts (day_state_of c.run_turn.new.machine) in
     record {
       machine = ran.machine;
       ready = ran.ready;
@@ -32,7 +42,11 @@ loop-turn-preserved c =
       };
       heard = omega (arith, ran.heard, inv.heard);
       fitting = ran.fitting;
-      come =
-          come-next
-          inv.kept.link inv.come ran.turned ran.fitting.last_is;
+      come = come-next (record {
+        old = old;
+        new = new;
+        come = inv.come;
+        turned = subst (λ (l : SharedLink). IsTurnResult l old new) inv.kept.link ran.turned;
+        last = ran.fitting.last_is;
+      });
     }

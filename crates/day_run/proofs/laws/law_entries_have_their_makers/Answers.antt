@@ -5,7 +5,8 @@ use Rattle.day_run.proofs.SlotBalance.{last-halted}
 use Rattle.day_run.proofs.laws.law_entries_have_their_makers.Goals as goal
 
 pub returns-clause-line : goal.returns-clause-line
-returns-clause-line c = line-made
+returns-clause-line c = λ link line old new text is.
+    line-made (record { link = link; old = old; new = new; text = text }) line is
 
 pub returns-clause-halts : goal.returns-clause-halts
 returns-clause-halts c = λ link sources lines texts moment clients are run.

@@ -10,5 +10,4 @@ returns c = λ link sources lines texts moment next line text small clients are 
     let taken : LinesTaken link sources =
     record { lines = lines; texts = texts; moment = moment; clients = clients; are = are; run = run } in
     let step : LineStep = record { link = link; old = moment; new = next; text = text } in
-    let full = full-line step line (taken-ready taken) (omega (arith, taken-places taken, small)) is says in
-    (full.kept, full.says)
+    full-line step line (taken-ready taken) (omega (arith, taken-places taken, small)) is says

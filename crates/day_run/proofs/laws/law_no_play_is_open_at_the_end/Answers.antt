@@ -1,4 +1,7 @@
-use Rattle.day_run.proofs.JournalHalts.{halted-once}
+use Rattle.std.proofs.Common.{inl, inr}
+use Rattle.admission.proofs.OneHalt.{closed-halted, halts-once}
+use Rattle.day_run.specs.Days.{last_journal}
+use Rattle.day_run.proofs.JournalHalts.{find-halt}
 use Rattle.day_run.proofs.LineOutcomes.{taken-ready}
 use Rattle.day_run.proofs.PastSlots.{end-later}
 use Rattle.day_run.proofs.ScriptLines.{LinesTaken}
@@ -16,7 +19,19 @@ returns-clause-halted c = λ link sources number start lines texts moment plan c
     let taken : LinesTaken link sources =
     record { lines = lines; texts = texts; moment = moment; clients = clients; are = are; run = run } in
     let balanced = (taken-ready taken).balanced in
-    halted-once number legal (last-open moment balanced) (last-halted moment balanced).balanced.halts admission
+    let closed = last-open moment balanced in
+    let halts = (last-halted moment balanced).balanced.halts in
+    let entries = last_journal moment in
+    elim (find-halt number entries) [
+      | inl found ↦ record {
+        place = found.place;
+        keep = found.keep;
+        halt = found.halt;
+        only = λ i kept halt. halts-once link.steps entries number kept found.keep i found.place legal halt found.halt;
+        own = λ none. halts.own.each found.place number found.keep none found.halt;
+      }
+      | inr never ↦ absurd (closed-halted link.steps entries number start plan legal closed admission never)
+    ]
 
 pub returns-clause-booked : goal.returns-clause-booked
 returns-clause-booked c = λ link sources slot lines texts moment clients are run later.

@@ -17,7 +17,8 @@ loop-source-preserved c =
     let here : Place c.args.sources.now = record { index = i; none = c.source-item.result; inside = inside } in
     record {
       count = omega (arith, inv.count, ap length e, length-append c.loop-source.media.items (medium ∷ []));
-      contents = λ u. contents-next u (record { media = c.loop-source.media.items; medium = medium; after_are = e })
+      contents = λ u. contents-next u
+          (record { after = _; media = c.loop-source.media.items; medium = medium; after_are = e })
           c.args.sources.now here (c.in_ok-media_of.ensures.content u ∙ ap (source_content u) c.source-item.is)
           (inv.contents u);
       playable = playable-next c.args.sources.now here

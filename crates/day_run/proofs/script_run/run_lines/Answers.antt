@@ -1,7 +1,11 @@
-use Rattle.std.proofs.Common.{◌<◌, length, sym, subst, ◌∙◌, arith}
+use Rattle.std.proofs.Common.{ℕ, List, ◌+◌, take, get_or, sym, subst, refl, ◌∙◌, arith}
 use Rattle.std.proofs.lemmas.List.{take_more}
+use Rattle.day_script.specs.declared.scripts.Line.TheVariants.{Play}
 use Rattle.day_script.specs.Scripts.{AreClients}
-use Rattle.day_run.proofs.ScriptLines.{run-next}
+use Rattle.day_run.specs.Days.{IsLine, SharedLink}
+use Rattle.day_run.specs.MachineState.{HasRun, link_on, day_state_of}
+use Rattle.day_script.proofs.Places.{Place}
+use Rattle.day_run.proofs.ScriptLines.{LastLine, run-next}
 use Rattle.day_script.proofs.ScriptLines.{clients-more}
 use Rattle.day_run.proofs.SourceMedia.{heard-next}
 use Rattle.day_run.proofs.script_run.run_lines.Goals as goal
@@ -9,11 +13,21 @@ use Rattle.day_run.proofs.script_run.run_lines.Goals as goal
 pub loop-line-preserved : goal.loop-line-preserved
 loop-line-preserved c =
     let inv = c.loop-line.invariant in
-    let old = c.loop-line.machine in
-    let new = c.run_line.new.machine in
     let ran = c.in_ok-run_line.ensures in
+    let lines = c.args.lines.now in
     let i = c.loop-line.line-index in
-    let inside : i < length c.args.lines.now = omega arith in
+    let place : Place lines = record { index = i; none = Play 0 0 0 0; inside = omega arith } in
+    let old = day_state_of c.loop-line.machine in
+    let new = day_state_of c.run_line.new.machine in
+    let line = get_or lines i place.none in
+    let last : LastLine = record {
+      link = link_on c.args.machine.now;
+      line = line;
+      text = ran.line.text;
+      old = old;
+      new = new;
+      is = subst (λ (l : SharedLink). IsLine l line old new ran.line.text) inv.kept.link ran.line.is;
+    } in
     record {
       machine = ran.machine;
       kept = record {
@@ -21,10 +35,9 @@ loop-line-preserved c =
         steps = ran.kept.steps ∙ inv.kept.steps;
         media = ran.kept.media ∙ inv.kept.media;
       };
-      heard = heard-next c.args.lines.now (record { index = i; none = _; inside = inside }) ran.heard inv.heard;
-      clients =
-          let i_one = sym (take_more c.args.lines.now i _ inside) in
-          subst AreClients i_one (clients-more _ inv.clients c.run_line.ensures.client);
-      run =
-          run-next c.args.lines.now (record { index = i; none = _; inside = inside }) inv.kept.link inv.run ran.line;
+      heard = heard-next lines place ran.heard inv.heard;
+      clients = subst AreClients (sym (take_more lines i _ place.inside))
+          (clients-more _ inv.clients c.run_line.ensures.client);
+      run = subst (λ (t : List ℕ). HasRun last.link (take (i + 1) lines) t new) (sym ran.line.after_is)
+          (run-next last lines place refl inv.run);
     }

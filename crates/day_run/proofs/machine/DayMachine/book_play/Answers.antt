@@ -9,10 +9,11 @@ use Rattle.admission.specs.Machine.{CanHalt, IsAnswer}
 use Rattle.vod_base.specs.declared.links.TheConstants.{LATEST_SLOT}
 use Rattle.day_run.specs.declared.clients.Client.TheVariants.{Playing}
 use Rattle.day_run.specs.Clients.{rest_of, state_of}
-use Rattle.day_run.specs.Days.{DayState, entry_by}
+use Rattle.day_run.specs.Days.{DayState, entry_by, full_of}
+use Rattle.day_script.specs.LineTexts.{full_text}
 use Rattle.day_run.specs.MachineState.{link_on, day_state_of}
 use Rattle.day_run.proofs.JournalStepLemmas.{day-noted, day-played, played-now}
-use Rattle.day_run.proofs.LineStepLemmas.{noted, states-played, states-same, told-full}
+use Rattle.day_run.proofs.LineStepLemmas.{noted, states-played, states-same}
 use Rattle.day_run.proofs.machine.DayMachine.book_play.Goals as goal
 
 pub returns-in-Some-clause-machine : goal.returns-in-Some-clause-machine
@@ -77,6 +78,9 @@ returns-in-Some-clause-planned c =
           place_is = made.place_is;
           entries_are = ap (λ (j : Journal). j.entries) made.journal_is;
           states_are = states-played old.clients.items c.args.client (record {
+            rest = c.args.rest;
+            plan = c.args.plan;
+            answer = c.in-Ok.noted.answer;
             start = c.in-Some.start;
             answer_is = c.in-Some.ensures.some;
             number_is = c.begin_play-play.ensures.number ∙ made.place_is;
@@ -134,8 +138,8 @@ returns-in_default-clause-planned c =
           place_is = made.place_is;
           entries_are = ap (λ (j : Journal). j.entries) made.journal_is;
           states_are =
-              states-same c.args.client (rest_of c.args.rest) c.args.plan (length old.book.entries)
-              c.in-Ok.noted.answer c.in_default.ensures.none;
+              states-same (record { client = c.args.client; rest = rest_of c.args.rest; plan = c.args.plan })
+              (length old.book.entries) c.in-Ok.noted.answer c.in_default.ensures.none;
           heard_is = refl;
         });
       });
@@ -144,10 +148,17 @@ returns-in_default-clause-planned c =
 pub returns-in-Err-clause-planned : goal.returns-in-Err-clause-planned
 returns-in-Err-clause-planned c =
     let old = c.args.self.now in
+    let counts : c.in-Err.refused.full ≡ full_of old.book.entries =
+    ap (λ n. record { entries = n; live = c.in-Err.refused.full.live }) c.in-Err.ensures.counts.entries_are
+    ∙ ap (λ n. record { entries = length old.book.entries; live = n }) c.in-Err.ensures.counts.open_is in
     record {
       plan = c.args.plan;
       plan_is = c.requires.plan.plan_is;
-      done = inl (told-full c.in-Err.refused.full c.in-Err.ensures.full
-          c.in-Err.ensures.counts.entries_are c.in-Err.ensures.counts.open_is
-          (ap (λ j. day_state_of (record old { book = j })) c.in-Err.ensures.left));
+      done = inl (record {
+        full = c.in-Err.ensures.full;
+        told = record {
+          kept = ap (λ j. day_state_of (record old { book = j })) c.in-Err.ensures.left;
+          text_is = ap full_text counts;
+        };
+      });
     }

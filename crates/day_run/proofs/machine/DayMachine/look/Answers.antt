@@ -1,11 +1,13 @@
-use Rattle.std.proofs.Common.{min, ap, refl, inl, inr, arith}
+use Rattle.std.proofs.Common.{◌≡◌, min, length, ap, refl, inl, inr, ◌∙◌, arith}
 use Rattle.admission.specs.declared.entries.Command.TheVariants.{Look}
 use Rattle.admission.specs.declared.entries.Entry.{Entry}
 use Rattle.admission.specs.Books.{Journal}
 use Rattle.vod_base.specs.declared.links.TheConstants.{LATEST_SLOT}
+use Rattle.day_run.specs.Days.{full_of}
 use Rattle.day_run.specs.MachineState.{day_state_of}
+use Rattle.day_script.specs.LineTexts.{full_text}
 use Rattle.day_run.proofs.JournalStepLemmas.{day-noted, looked-now}
-use Rattle.day_run.proofs.LineStepLemmas.{noted, told-full}
+use Rattle.day_run.proofs.LineStepLemmas.{noted}
 use Rattle.day_run.proofs.machine.DayMachine.look.Goals as goal
 
 pub returns-in-Ok-clause-machine : goal.returns-in-Ok-clause-machine
@@ -44,6 +46,13 @@ returns-in-Ok-clause-line c =
 pub returns-in-Err-clause-line : goal.returns-in-Err-clause-line
 returns-in-Err-clause-line c =
     let old = c.args.self.now in
-    inl (told-full c.in-Err.full c.in-Err.ensures.full
-    c.in-Err.ensures.counts.entries_are c.in-Err.ensures.counts.open_is
-    (ap (λ j. day_state_of (record old { book = j })) c.in-Err.ensures.left))
+    let counts : c.in-Err.full ≡ full_of old.book.entries =
+    ap (λ n. record { entries = n; live = c.in-Err.full.live }) c.in-Err.ensures.counts.entries_are
+    ∙ ap (λ n. record { entries = length old.book.entries; live = n }) c.in-Err.ensures.counts.open_is in
+    inl (record {
+      full = c.in-Err.ensures.full;
+      told = record {
+        kept = ap (λ j. day_state_of (record old { book = j })) c.in-Err.ensures.left;
+        text_is = ap full_text counts;
+      };
+    })

@@ -1,17 +1,18 @@
 use Rattle.std.proofs.lemmas.Grind.{common_steps}
-use Rattle.std.proofs.Common.{◌≡◌, ◌<◌, ◌∙◌, get_or, length, map, set, ap, refl, sym, subst, arith}
+use Rattle.std.proofs.Common.{◌≡◌, ◌<◌, ◌∙◌, ℕ, get_or, length, map, set, ap, refl, sym, subst, arith}
 use Rattle.std.proofs.lemmas.List.{set-get_or}
+use Rattle.admission.specs.declared.entries.Answer.TheVariants.{Halted}
 use Rattle.admission.specs.declared.entries.Command.TheVariants.{Halt}
 use Rattle.admission.specs.declared.entries.Entry.{Entry}
 use Rattle.admission.specs.Books.{Journal}
 use Rattle.day_run.specs.declared.clients.Client.{Client}
 use Rattle.day_run.specs.Clients.{IsBooked, IsGoing, IsTimed, state_of}
 use Rattle.day_run.proofs.JournalStepLemmas.{day-halted, open-halt}
-use Rattle.day_run.specs.Days.{IsPauseLine, DayState, entry_by}
+use Rattle.day_run.specs.Days.{IsNoted, IsPauseLine, DayState, entry_by}
 use Rattle.day_run.specs.MachineState.{link_on, day_state_of, reply_text}
 use Rattle.day_run.specs.ClientStates.{ClientState, Idle}
 use Rattle.day_run.specs.declared.machine.LineAnswer.TheVariants as tolds
-use Rattle.day_run.proofs.LineStepLemmas.{no-pause, noted, pause-line}
+use Rattle.day_run.proofs.LineStepLemmas.{no-pause, noted, paused-play}
 use Rattle.day_run.proofs.ClientSweepLemmas.{state-at, states-set}
 use Rattle.day_run.proofs.machine.DayMachine.pause.Goals as goal
 
@@ -27,13 +28,12 @@ returns-in-Some-clause-machine c =
     let going = subst IsGoing (sym c.index_mut.ensures.value) (day.going.each c.args.client client inside) in
     let T : Client → Type 0 = λ x. IsTimed old.heard x in
     let timed = subst T (sym c.index_mut.ensures.value) (day.timed.each c.args.client client inside) in
-    let its = open-halt client going booked c.in-Some.ensures.some in
+    let its = open-halt client (record { going = going; booked = booked }) c.in-Some.ensures.some in
     let e : Entry =
     record { maker = c.from.result; command = Halt halt.number halt.keep; answer = c.halt-noted.result.answer } in
     day-halted old day (record {
-      e = e;
+      halt = record { e = e; number = halt.number; keep = halt.keep; command = refl; its = its };
       entries_are = ap (λ (j : Journal). j.entries) c.halt-noted.ensures.noted.journal_is;
-      halt = record { number = halt.number; keep = halt.keep; command = refl; its = its };
       going = c.pause.ensures.going;
       undone = c.pause.ensures.undone;
       quiet = c.in-Some.ensures.quiet;
@@ -63,18 +63,25 @@ returns-in-Some-clause-line c =
     let at : state_of client ≡ get_or (map state_of old.clients.items) c.args.client Idle =
     ap state_of c.index_mut.ensures.value ∙ sym (state-at old.clients.items c.args.client client inside) in
     let P : ClientState → Type 0 = λ s. IsPauseLine (link_on old) c.args.client s (day_state_of old) new text in
-    subst P at (pause-line client next (c.in-Some.ensures.pause old.heard timed)
-    (noted {link = link_on old} {old = day_state_of old} {new = new} (record {
-      made = e;
-      is = ap (λ n. record { maker = n; command = e.command; answer = e.answer }) c.from.ensures
-          ∙ ap (entry_by c.args.client e.command) c.halt-noted.ensures.answer;
-      answered = made.answer_is;
-      place = c.halt-noted.result.place;
-      place_is = made.place_is;
-      entries_are = ap (λ (j : Journal). j.entries) made.journal_is;
-      states_are = states-set old.clients.items c.args.client next;
-      heard_is = refl;
-    })))
+    let its = paused-play client next (c.in-Some.ensures.pause old.heard timed) in
+    let N : ℕ → Type 0 = λ n. IsNoted (link_on old) (entry_by c.args.client (Halt n halt.keep) Halted)
+    (set (map state_of old.clients.items) c.args.client (state_of next)) (day_state_of old) new text in
+    subst P (sym (ap state_of its.client_is) ∙ at) (record {
+      keep = halt.keep;
+      state = state_of next;
+      pause = its.pause;
+      noted = subst N its.number_is (noted {link = link_on old} {old = day_state_of old} {new = new} (record {
+        made = e;
+        is = ap (λ n. record { maker = n; command = e.command; answer = e.answer }) c.from.ensures
+            ∙ ap (entry_by c.args.client e.command) c.halt-noted.ensures.answer;
+        answered = made.answer_is;
+        place = c.halt-noted.result.place;
+        place_is = made.place_is;
+        entries_are = ap (λ (j : Journal). j.entries) made.journal_is;
+        states_are = states-set old.clients.items c.args.client next;
+        heard_is = refl;
+      }));
+    })
 
 pub returns-in-None-clause-line : goal.returns-in-None-clause-line
 returns-in-None-clause-line c =
@@ -96,7 +103,9 @@ returns-in-None-clause-line c =
     ∙ set-get_or old.clients.items c.args.client client in
     let P : ClientState → Type 0 =
     λ s. IsPauseLine (link_on old) c.args.client s (day_state_of old) new (reply_text old.book.entries tolds.State) in
-    subst P at (no-pause (link_on old) c.args.client client c.in-None.ensures.idle
+    subst P at (no-pause
+    (record { link = link_on old; old = day_state_of old; new = new; text = reply_text old.book.entries tolds.State })
+    c.args.client client c.in-None.ensures.idle
     (record { kept = ap (λ l. record (day_state_of old) { states = map state_of l }) same; text_is = refl }))
 
 pub returns-in-None-clause-machine : goal.returns-in-None-clause-machine

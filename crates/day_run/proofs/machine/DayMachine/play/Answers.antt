@@ -1,9 +1,9 @@
 use Rattle.std.proofs.lemmas.Grind.{common_steps}
-use Rattle.std.proofs.Common.{◌≡◌, ◌<◌, false, length, ap, sym, ◌∙◌, arith}
+use Rattle.std.proofs.Common.{◌≡◌, ◌<◌, false, length, IfOk, ap, sym, subst, ◌∙◌, arith}
 use Rattle.day_run.specs.Clients.{rest_of, state_of}
-use Rattle.day_run.specs.Days.{rest_at, state_at}
-use Rattle.day_run.specs.MachineState.{link_on, day_state_of}
-use Rattle.day_run.specs.ClientStates.{MediaContent, is_busy, no_medium, whole_rest}
+use Rattle.day_run.specs.Days.{IsPlayLine, rest_at, state_at}
+use Rattle.day_run.specs.MachineState.{link_on, day_state_of, reply_text}
+use Rattle.day_run.specs.ClientStates.{MediaContent, Rest, is_busy, no_medium, whole_rest}
 use Rattle.day_run.proofs.LineStepLemmas.{play-ok}
 use Rattle.day_run.proofs.ClientSweepLemmas.{state-at}
 use Rattle.day_run.proofs.machine.DayMachine.play.Goals as goal
@@ -20,14 +20,17 @@ returns-in-Some-clause-line c =
     (sym (c.medium_at.ensures old.slot_units no_medium)) in
     let own : state_of client ≡ state_at (day_state_of old) c.args.client =
     ap state_of c.index.ensures ∙ sym (state-at old.clients.items c.args.client client inside) in
-    let free : is_busy (state_of client) ≡ false = sym c.is_busy.ensures ∙ c.if-is_busy.false in
-    play-ok c.ask.result (record {
+    let free : is_busy (state_at (day_state_of old) c.args.client) ≡ false =
+    ap is_busy (sym own) ∙ sym c.is_busy.ensures ∙ c.if-is_busy.false in
+    let new = c.ask.new.self in
+    subst (λ (rest : Rest). IfOk c.ask.result (λ told. IsPlayLine (link_on old) c.args.client rest (day_state_of old)
+    (day_state_of new) (reply_text new.book.entries told))) one (play-ok _ c.ask.result (record {
       link = link_on old;
       client = c.args.client;
       old = day_state_of old;
-      new = _;
-      entries = _;
-    }) one own free c.ask.ensures.asked
+      new = day_state_of new;
+      entries = new.book.entries;
+    }) free c.ask.ensures.asked)
 
 pub returns-then-is_busy-clause-line : goal.returns-then-is_busy-clause-line
 returns-then-is_busy-clause-line c = grind (arith, common_steps)

@@ -8,13 +8,19 @@ use Rattle.day_run.proofs.machine.DayMachine.slot.Goals as goal
 pub returns-clause-moment : goal.returns-clause-moment
 returns-clause-moment c =
     let old = c.args.self.now in
-    let day = c.requires.machine in
-    slot-moment old.book.entries c.halt_plays.new.clients (record {
+    slot-moment (record {
+      n = _;
+      ys = _;
+      xs = _;
+      ds = _;
+      zs = _;
+      es = c.halt_plays.new.clients;
+      sent = _;
       count = old.clients.ok.0;
       same = c.deref_mut.ensures.value;
       written = c.deref_mut-2.ensures.value;
       le = omega arith;
-      timed = day.timed;
+      timed = c.requires.machine.timed;
       stepped = c.step_clients-sent.ensures.steps;
       ended = c.halt_plays.ensures.entries;
       left = c.halt_plays.ensures.states;
