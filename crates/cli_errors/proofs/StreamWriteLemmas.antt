@@ -30,37 +30,6 @@ said_no_more {told} {told'} {text} part said =
       );
     }
 
--- a part more was written
-said_more : {faults faults' faults'' : ℕ} {told told' told'' : Option (List ℕ)} {text : List ℕ}
-    (part : List ℕ) → IsTextWritten faults faults' told told' text true →
-    faults' ≤ faults'' → told'' ≡ told_more told' part → IsTextWritten faults faults'' told told'' (text ++ part) true
-said_more {told} {text} part said count wrote = record {
-  count = omega (arith, said.count, count);
-  all = λ _. wrote ∙ ap (λ (t : Option (List ℕ)). told_more t part) (said.all refl) ∙ told_more-append told text part;
-  risen = λ e. absurd (true≢false e);
-  front = λ e. absurd (true≢false e);
-}
-
--- a part more failed
-said_part : {faults faults' faults'' : ℕ} {told told' told'' : Option (List ℕ)} {text : List ℕ}
-    (part : List ℕ) → IsTextWritten faults faults' told told' text true →
-    faults' ≤ faults'' → HasRisen faults' faults'' → IsWrittenPrefix told' told'' part
-    → IsTextWritten faults faults'' told told'' (text ++ part) false
-said_part {told} {text} part said count risen wrote = record {
-  count = omega (arith, said.count, count);
-  all = λ e. absurd (true≢false (sym e));
-  risen = λ _ end. omega (arith, said.count, risen end);
-  front = λ _. (
-    length text + wrote.0,
-    (
-      omega (arith, wrote.1.0, length-append text part),
-      wrote.1.1 ∙ ap (λ (t : Option (List ℕ)). told_more t (take wrote.0 part)) (said.all refl)
-          ∙ told_more-append told text (take wrote.0 part)
-          ∙ ap (told_more told) (sym (take-append-add text part wrote.0)),
-    ),
-  );
-}
-
 -- a part goes on in a text that is named in another grouping
 pub said_as : {faults faults' : ℕ} {told told' : Option (List ℕ)} {text text' : List ℕ} {ok : Bool} → text ≡ text' →
     IsTextWritten faults faults' told told' text ok → IsTextWritten faults faults' told told' text' ok
@@ -100,9 +69,29 @@ pub said_then : {faults faults' faults'' : ℕ} {told told' told'' : Option (Lis
     {whole : Bool} →
     IsTextWritten faults faults' told told' text true → IsTextWritten faults' faults'' told' told'' part whole →
     IsTextWritten faults faults'' told told'' (text ++ part) whole
-said_then {part = part} {whole = true} one other = said_more part one other.count (other.all refl)
-said_then {part = part} {whole = false} one other =
-    said_part part one other.count (other.risen refl) (other.front refl)
+said_then {told = told} {text = text} {part = part} {whole = true} one other = record {
+  count = omega (arith, one.count, other.count);
+  all = λ _. other.all refl ∙ ap (λ (t : Option (List ℕ)). told_more t part) (one.all refl)
+      ∙ told_more-append told text part;
+  risen = λ e. absurd (true≢false e);
+  front = λ e. absurd (true≢false e);
+}
+said_then {told = told} {text = text} {part = part} {whole = false} one other =
+    let wrote = other.front refl in
+    record {
+      count = omega (arith, one.count, other.count);
+      all = λ e. absurd (true≢false (sym e));
+      risen = λ _ end. omega (arith, one.count, other.risen refl end);
+      front = λ _. (
+        length text + wrote.0,
+        (
+          omega (arith, wrote.1.0, length-append text part),
+          wrote.1.1 ∙ ap (λ (t : Option (List ℕ)). told_more t (take wrote.0 part)) (one.all refl)
+              ∙ told_more-append told text (take wrote.0 part)
+              ∙ ap (told_more told) (sym (take-append-add text part wrote.0)),
+        ),
+      );
+    }
 
 -- a fault that is handed on ended it early
 pub said_lost : {faults faults' : ℕ} {told told' : Option (List ℕ)} {text : List ℕ} {lost : SinkFault}

@@ -1,8 +1,8 @@
 -- The first start code of bytes, looked for from the beginning on.
-use Rattle.std.proofs.Common.{◌≡◌, ℕ, ◌+◌, ◌-◌, ◌<◌, ◌≤◌, true, false, cond, eqb, List, [], ◌∷◌, ◌++◌}
+use Rattle.std.proofs.Common.{◌≡◌, ℕ, ◌+◌, ◌-◌, ◌<◌, true, false, cond, eqb, List, [], ◌∷◌, ◌++◌}
 use Rattle.std.proofs.Common.{append_assoc, length, take, drop, Option, Some, None, inl, inr, refl, sym, ap}
 use Rattle.std.proofs.Common.{subst, ◌∙◌, arith, get_or, length-append}
-use Rattle.std.specs.Prelude.{IfSome, option_map}
+use Rattle.std.specs.Prelude.{option_map}
 use Rattle.std.proofs.lemmas.Bool.{cases_Bool}
 use Rattle.std.proofs.lemmas.List.{length-take-le, take_more, take-append-drop}
 use Rattle.mpeg_scan.specs.declared.codes.Code.{Code}
@@ -13,8 +13,7 @@ use Rattle.mpeg_scan.proofs.ByteReadLemmas.{read-append}
 use Rattle.mpeg_scan.proofs.ScanStepLemmas.{codes-none, codes-plain, codes-code}
 use Rattle.vod_base.specs.IoState.{File, file_named}
 use Rattle.inputs.specs.FileReads.{IsFilePrefix}
-use Rattle.inputs.specs.ChunkScans.{IsOpened}
-use Rattle.inputs.proofs.ReadLemmas.{first_front, front_rest, one_file}
+use Rattle.inputs.proofs.ReadLemmas.{first_front}
 use Rattle.inputs.specs.PackSearch.{HasNoCode}
 use Rattle.inputs.specs.Videos.{pack_in, pack_of}
 use Rattle.mpeg_scan.specs.declared.codes.Prefix.{Prefix}
@@ -26,15 +25,15 @@ unfolding latest_prefix
 open_none = record { none = codes-none; prefix_is = refl }
 
 -- a byte that isn't the value of a start code
-pub open_more : {prefix next : Prefix} {seen : List ℕ} (byte : ℕ) → HasNoCode prefix seen → is_whole prefix ≡ false →
-    next ≡ next_prefix prefix byte → HasNoCode next (seen ++ byte ∷ [])
-open_more {next} {seen} byte so_far part is =
+open_more : {prefix : Prefix} {seen : List ℕ} (byte : ℕ) → HasNoCode prefix seen → is_whole prefix ≡ false
+    → HasNoCode (next_prefix prefix byte) (seen ++ byte ∷ [])
+open_more {seen} byte so_far part =
     let joined : read_after [] (seen ++ byte ∷ []) ≡ byte ∷ read_after [] seen = read-append [] seen (byte ∷ []) in
     let plain : is_whole (latest_prefix (read_after [] seen)) ≡ false = ap is_whole (sym so_far.prefix_is) ∙ part in
     record {
       none = ap codes_of joined ∙ codes-plain byte (read_after [] seen) plain
           ∙ ap (λ (l : List Code). note_latest l byte) so_far.none;
-      prefix_is = is ∙ ap (λ p. next_prefix p byte) so_far.prefix_is ∙ sym (matched-more byte (read_after [] seen))
+      prefix_is = ap (λ p. next_prefix p byte) so_far.prefix_is ∙ sym (matched-more byte (read_after [] seen))
           ∙ ap latest_prefix (sym joined);
     }
 
@@ -90,16 +89,15 @@ first_code prefix seen byte so_far whole =
     }
 
 -- whatever follows it
-pub first_found : {prefix : Prefix} {seen : List ℕ} {pack : Option ℕ} (byte : ℕ) (more : List ℕ) →
-    HasNoCode prefix seen → prefix ≡ Whole →
-    cond (eqb byte 0xba) (Some (length seen - 3)) None ≡ pack → pack_in ((seen ++ byte ∷ []) ++ more) ≡ pack
-first_found {prefix} {seen} byte more so_far whole is =
+first_found : {prefix : Prefix} {seen : List ℕ} (byte : ℕ) (more : List ℕ) → HasNoCode prefix seen → prefix ≡ Whole
+    → pack_in ((seen ++ byte ∷ []) ++ more) ≡ cond (eqb byte 0xba) (Some (length seen - 3)) None
+first_found {prefix} {seen} byte more so_far whole =
     let joined : read_after [] ((seen ++ byte ∷ []) ++ more) ≡ read_after (byte ∷ read_after [] seen) more =
     read-append [] (seen ++ byte ∷ []) more
     ∙ ap (λ (r : List ℕ). read_after r more) (read-append [] seen (byte ∷ [])) in
     ap (λ (r : List ℕ). pack_of (codes_of r)) joined
     ∙ pack-stays more (byte ∷ read_after [] seen) (cond (eqb byte 0xba) (Some (length seen - 3)) None)
-    (first_code prefix seen byte so_far whole) ∙ is
+    (first_code prefix seen byte so_far whole)
 
 -- bytes without a start code begin no system stream
 pub open_plain : (prefix : Prefix) (seen : List ℕ) → HasNoCode prefix seen → pack_in seen ≡ None
@@ -127,66 +125,37 @@ pub none_looked : (held : List File) (name : List ℕ) (size : ℕ)
 none_looked held name size found =
     record { bytes = []; front = first_front held name size found; long = refl; unfound = open_none }
 
-pub more_looked : {held : List File} {name : List ℕ} {size place : ℕ} {prefix next : Prefix} (chunk : List ℕ)
-    (count : ℕ) → (so_far : HasLooked held name size place prefix) →
-    IsFilePrefix held name size (so_far.bytes ++ take count chunk) → count ≤ length chunk
-    → HasNoCode next (so_far.bytes ++ take count chunk) → HasLooked held name size (place + count) next
-more_looked {name} {place} {next} chunk count so_far front within unfound = record {
-  bytes = so_far.bytes ++ take count chunk;
-  front = front;
-  long = omega (arith, length-append so_far.bytes (take count chunk), so_far.long, length-take-le count chunk within);
-  unfound = unfound;
-}
-
--- the first code was found, or none stands in the entire file
-pub found_opened : {held : List File} {name : List ℕ} {size : ℕ} {bytes : List ℕ} {pack : Option ℕ} →
-    (front : IsFilePrefix held name size bytes) →
-    ((more : List ℕ) → pack_in (bytes ++ more) ≡ pack) → IfSome pack (λ place. place ≤ size) →
-    IsOpened held name size pack
-found_opened {held} {name} {size} {bytes} {pack} front is within = record {
-  file = front.whole;
-  found = front.found;
-  sized = front.sized;
-  pack = ap pack_in (sym (front_rest held name size bytes front)) ∙ is (drop (length bytes) front.whole);
-  within = within;
-}
-
-pub whole_looked : {held : List File} {name : List ℕ} {size place : ℕ} {prefix : Prefix}
-    → (so_far : HasLooked held name size place prefix) → file_named held name ≡ Some so_far.bytes
-    → IsOpened held name size None
-whole_looked {held} {name} {prefix = prefix} so_far found =
-    let same : so_far.bytes ≡ so_far.front.whole =
-    one_file held name so_far.bytes so_far.front.whole found so_far.front.found in
-    record {
-      file = so_far.bytes;
-      found = found;
-      sized = so_far.front.sized ∙ ap length (sym same);
-      pack = open_plain prefix so_far.bytes so_far.unfound;
-      within = tt;
-    }
-
 -- the bytes before one of a chunk, which stands at `at`, have no start code
-pub record IsOpenBefore (prefix : Prefix) (seen chunk : List ℕ) (index at : ℕ) : Type 0 where
+pub record OpenBefore : Type 0 where
+  pub prefix : Prefix
+  pub seen : List ℕ
+  pub chunk : List ℕ
+  pub index : ℕ
+  pub at : ℕ
   pub inside : index < length chunk
   pub long : length seen ≡ at
   pub so_far : HasNoCode prefix (seen ++ take index chunk)
 
 -- one byte of a chunk more
-pub open_step : {prefix next : Prefix} {seen chunk : List ℕ} {index at : ℕ} →
-    IsOpenBefore prefix seen chunk index at → is_whole prefix ≡ false →
-    next ≡ next_prefix prefix (get_or chunk index 0) → HasNoCode next (seen ++ take (index + 1) chunk)
-open_step {next} {seen} {chunk} {index} before part is =
-    let joined : (seen ++ take index chunk) ++ get_or chunk index 0 ∷ [] ≡ seen ++ take (index + 1) chunk =
-    append_assoc seen (take index chunk) (get_or chunk index 0 ∷ [])
+pub open_step : {next : Prefix} (before : OpenBefore) → is_whole before.prefix ≡ false
+    → next ≡ next_prefix before.prefix (get_or before.chunk before.index 0)
+    → HasNoCode next (before.seen ++ take (before.index + 1) before.chunk)
+open_step before part is =
+    let byte = get_or chunk index 0 in
+    let joined : (seen ++ take index chunk) ++ byte ∷ [] ≡ seen ++ take (index + 1) chunk =
+    append_assoc seen (take index chunk) (byte ∷ [])
     ∙ ap (λ (l : List ℕ). seen ++ l) (sym (take_more chunk index 0 before.inside)) in
-    subst (HasNoCode next) joined (open_more (get_or chunk index 0) before.so_far part is)
+    let Open : Prefix → Type 0 = λ p. HasNoCode p (seen ++ take (index + 1) chunk) in
+    subst Open (sym is) (subst (HasNoCode (next_prefix prefix byte)) joined (open_more byte before.so_far part))
+  where
+    open before use {prefix, seen, chunk, index}
 
 -- the first code of a chunk is found
-pub found_step : {prefix : Prefix} {seen chunk : List ℕ} {index at : ℕ} {pack : Option ℕ} →
-    IsOpenBefore prefix seen chunk index at → prefix ≡ Whole →
-    cond (eqb (get_or chunk index 0) 0xba) (Some (at + index - 3)) None ≡ pack → (more : List ℕ)
-    → pack_in ((seen ++ chunk) ++ more) ≡ pack
-found_step {seen} {chunk} {index} {at} before whole is more =
+pub found_step : {pack : Option ℕ} (before : OpenBefore) → before.prefix ≡ Whole
+    → cond (eqb (get_or before.chunk before.index 0) 0xba) (Some (before.at + before.index - 3)) None ≡ pack
+    → (more : List ℕ) → pack_in ((before.seen ++ before.chunk) ++ more) ≡ pack
+found_step before whole is more =
+    let byte = get_or chunk index 0 in
     let place : length (seen ++ take index chunk) ≡ at + index =
     omega (
       arith,
@@ -195,8 +164,10 @@ found_step {seen} {chunk} {index} {at} before whole is more =
       length-take-le index chunk (omega (arith, before.inside)),
     ) in
     ap pack_in (at_byte seen chunk more index before.inside)
-    ∙ first_found (get_or chunk index 0) (drop (index + 1) chunk ++ more) before.so_far whole
-    (ap (λ n. cond (eqb (get_or chunk index 0) 0xba) (Some (n - 3)) None) place ∙ is)
+    ∙ first_found byte (drop (index + 1) chunk ++ more) before.so_far whole
+    ∙ ap (λ n. cond (eqb byte 0xba) (Some (n - 3)) None) place ∙ is
+  where
+    open before use {seen, chunk, index, at}
 
 pub not_whole : (prefix : Prefix) → (prefix ≡ Whole → ⊥) → is_whole prefix ≡ false
 not_whole Nothing other = refl

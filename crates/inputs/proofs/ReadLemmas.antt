@@ -1,11 +1,11 @@
 -- What was read of a file so far.
-use Rattle.std.proofs.Common.{◌≡◌, ℕ, ◌+◌, ◌<◌, ◌≤◌, List, [], ◌++◌, length, take, drop, Some, None, Option}
+use Rattle.std.proofs.Common.{◌≡◌, ℕ, ◌+◌, ◌≤◌, List, [], ◌++◌, length, take, drop, Some, None, Option}
 use Rattle.std.proofs.Common.{refl, sym, ap, subst, ◌∙◌, arith, unwrap_or, length-append}
 use Rattle.std.specs.Prelude.{option_map, IfSome}
 use Rattle.std.proofs.Math.Seq.{take-add}
-use Rattle.std.proofs.lemmas.List.{take_all, length-take-le, take-append-drop, take-take}
+use Rattle.std.proofs.lemmas.List.{length-take-le, take-append-drop, take-take}
 use Rattle.vod_base.specs.IoState.{File, file_named, bytes_named, IsRead}
-use Rattle.inputs.specs.FileReads.{IsChunk, IsFilePrefix}
+use Rattle.inputs.specs.FileReads.{IsFilePrefix}
 
 -- a size that was found is that of a file
 found_size : (o : Option (List ℕ)) (n : ℕ) → Some n ≡ option_map length o →
@@ -23,11 +23,21 @@ first_front held name size e =
 named : (held : List File) (name b : List ℕ) → file_named held name ≡ Some b → bytes_named held name ≡ b
 named held name b e = ap (λ (o : Option (List ℕ)). unwrap_or o []) e
 
--- what a read of n bytes gives, of which k are taken
-pub more_front : {held : List File} {name : List ℕ} {size : ℕ} {bytes chunk : List ℕ} {n : ℕ} (k : ℕ) →
-    IsFilePrefix held name size bytes →
-    IsRead (bytes_named held name) (length bytes) n chunk → k ≤ n → IsFilePrefix held name size (bytes ++ take k chunk)
-more_front {held} {name} {bytes} {chunk} {n} k so_far read fits =
+-- a read of n bytes after a prefix of a file
+pub record ReadOn : Type 0 where
+  pub held : List File
+  pub name : List ℕ
+  pub size : ℕ
+  pub bytes : List ℕ
+  pub n : ℕ
+  pub chunk : List ℕ
+  pub so_far : IsFilePrefix held name size bytes
+  pub read : IsRead (bytes_named held name) (length bytes) n chunk
+
+-- what it gives, of which k are taken
+pub more_front : (on : ReadOn) (k : ℕ) → k ≤ on.n
+    → IsFilePrefix on.held on.name on.size (on.bytes ++ take k on.chunk)
+more_front on k fits =
     let whole : bytes_named held name ≡ so_far.whole = named held name so_far.whole so_far.found in
     let there : take n chunk ≡ take n (drop (length bytes) so_far.whole) =
     read.front ∙ ap (λ (b : List ℕ). take n (drop (length bytes) b)) whole in
@@ -43,28 +53,12 @@ more_front {held} {name} {bytes} {chunk} {n} k so_far read fits =
           ∙ ap (λ (b : List ℕ). take (length bytes) so_far.whole ++ b) shorter
           ∙ sym (take-add (length bytes) k so_far.whole) ∙ ap (λ (m : ℕ). take m so_far.whole) (sym long);
     }
-
--- a prefix as long as the file is the file
-pub whole_front : (held : List File) (name : List ℕ) (size : ℕ) (bytes : List ℕ) →
-    IsFilePrefix held name size bytes → size ≤ length bytes →
-    file_named held name ≡ Some bytes
-whole_front held name size bytes so_far long =
-    so_far.found
-    ∙ ap (λ (b : List ℕ). Some b)
-    (sym (so_far.front ∙ take_all (length bytes) so_far.whole (omega (arith, so_far.sized, long))))
-
--- an empty read stands at the end
-pub read_some : {held : List File} {name : List ℕ} {size : ℕ} {bytes chunk : List ℕ} {n : ℕ} →
-    IsFilePrefix held name size bytes →
-    IsRead (bytes_named held name) (length bytes) n chunk → 0 < length chunk → length bytes < size → 0 < n
-read_some {held} {name} {chunk} so_far read some before =
-    let whole : bytes_named held name ≡ so_far.whole = named held name so_far.whole so_far.found in
-    read.some some (omega (arith, so_far.sized, before, ap length whole))
+  where
+    open on use {held, name, bytes, n, chunk, so_far, read}
 
 -- a read that answers a count
-pub some_chunk : {size at room count : ℕ} {o : Option ℕ} → o ≡ Some count → IfSome o (IsChunk size at room) →
-    IsChunk size at room count
-some_chunk {size} {at} {room} is h = subst (λ (p : Option ℕ). IfSome p (IsChunk size at room)) is h
+pub some_chunk : {o : Option ℕ} {count : ℕ} (P : ℕ → Type 0) → o ≡ Some count → IfSome o P → P count
+some_chunk P is h = subst (λ (p : Option ℕ). IfSome p P) is h
 
 pub one_file : (held : List File) (name a b : List ℕ) → file_named held name ≡ Some a →
     file_named held name ≡ Some b → a ≡ b

@@ -40,21 +40,24 @@ pub film_trouble_map : {Refuses Refuses' : FilmFault → Type 0} (name : List �
 film_trouble_map {Refuses} {Refuses'} name t refuses h =
     refusal_map name t (λ fault is. each_film_fault (IsFilmFault Refuses') fault refuses is) h
 
--- where the library exposes what it holds, one reason to refuse a file of a name implies the other
-pub record MeansRefused (told : Option (List File)) (name : List ℕ) (Reason : InputError → Type 0)
-    (Refuses : List File → List ℕ → InputError → Type 0) : Type 0 where
-  pub refuses : (held : List File) (fault : InputError) → told ≡ Some held → Reason fault → Refuses held name fault
+-- a read of the file of a name in a library, and a reason for which what the library exposes of it is refused
+pub record RefusedRead : Type 1 where
+  pub told : Option (List File)
+  pub name : List ℕ
+  pub before : ℕ
+  pub after : ℕ
+  pub Reason : InputError → Type 0
+  pub Refuses : List File → List ℕ → InputError → Type 0
+  pub means : (held : List File) (fault : InputError) → told ≡ Some held → Reason fault → Refuses held name fault
 
--- a refusal of what was read, where the library exposes what it holds
-pub refusal_read : {told : Option (List File)} {name : List ℕ} {Reason : InputError → Type 0}
-    {Refuses : List File → List ℕ → InputError → Type 0} (faults faults' : ℕ) (t : CliError) →
-    MeansRefused told name Reason Refuses → IsRefusal name Reason t →
-    IsReadError (IsThatName name) Refuses told faults faults' t
-refusal_read faults faults' Usage means h = absurd h
-refusal_read {Refuses = Refuses} faults faults' (Refused other fault) means h =
-    (h.0, λ held is. subst (λ (n : List ℕ). Refuses held n fault) (sym h.0) (means.refuses held fault is h.1))
-refusal_read faults faults' (StoreFault other) means h = absurd h
-refusal_read faults faults' SinkFault means h = absurd h
-refusal_read faults faults' NoMemory means h = tt
-refusal_read faults faults' GateFault means h = absurd h
-refusal_read faults faults' LinkFault means h = absurd h
+-- a refusal of what was read
+pub refusal_read : (read : RefusedRead) (t : CliError) → IsRefusal read.name read.Reason t
+    → IsReadError (IsThatName read.name) read.Refuses read.told read.before read.after t
+refusal_read read Usage h = absurd h
+refusal_read read (Refused other fault) h =
+    (h.0, λ held is. subst (λ (n : List ℕ). read.Refuses held n fault) (sym h.0) (read.means held fault is h.1))
+refusal_read read (StoreFault other) h = absurd h
+refusal_read read SinkFault h = absurd h
+refusal_read read NoMemory h = tt
+refusal_read read GateFault h = absurd h
+refusal_read read LinkFault h = absurd h

@@ -56,38 +56,14 @@ word_list at (b ∷ word) rest some all ends =
     tokens-word at b word rest (record { first = not-true (is_white_space b) bytes.0; others = bytes.1; ends = ends })
 
 -- the blanks at a place of a text are passed over
-blanks_at : (text : List ℕ) (at n : ℕ) → n ≤ length (drop at text) → list_all is_white_space (take n (drop at text))
-    ≡ true →
-    tokens_from at (drop at text) ≡ tokens_from (at + n) (drop (at + n) text)
+pub blanks_at : (text : List ℕ) (at n : ℕ) → n ≤ length (drop at text)
+    → list_all is_white_space (take n (drop at text)) ≡ true
+    → tokens_from at (drop at text) ≡ tokens_from (at + n) (drop (at + n) text)
 blanks_at text at n fits blank =
     ap (tokens_from at) (sym (take-append-drop n (drop at text)))
     ∙ tokens-blanks at (take n (drop at text)) (drop n (drop at text)) blank
     ∙ ap (λ (k : ℕ). tokens_from (at + k) (drop n (drop at text))) (length-take-le n (drop at text) fits)
     ∙ ap (tokens_from (at + n)) (drop-drop n at text)
-
-pub blanks_step : {front : List ℕ} (text : List ℕ) (at n : ℕ) → front ≡ drop at text → n ≤ length front →
-    list_all is_white_space (take n front) ≡ true →
-    tokens_from at (drop at text) ≡ tokens_from (at + n) (drop (at + n) text)
-blanks_step text at n are fits blank = blanks_at text at n (rw (← are) fits) (rw (← are) blank)
-
--- the bytes up to a blank at a place of a text are a token
-pub word_at : {m : ℕ} (text : List ℕ) (from : ℕ) → m ≤ length (drop from text) → 0 < m →
-    list_all (λ x. not (is_white_space x)) (take m (drop from text)) ≡ true → begins_token (drop m (drop from text))
-    ≡ false →
-    tokens_from from (drop from text)
-    ≡ (record { from = from; bytes = slice_range text from (from + m) }) ∷ tokens_from (from + m) (drop (from + m) text)
-word_at {m} text from fits some word ends =
-    let len : length (take m (drop from text)) ≡ m = length-take-le m (drop from text) fits in
-    let long : 0 < length (take m (drop from text)) = rw len some in
-    let same : from + m - from ≡ m = omega arith in
-    ap (tokens_from from) (sym (take-append-drop m (drop from text)))
-    ∙ word_list from (take m (drop from text)) (drop m (drop from text)) long word ends
-    ∙ ap (λ (k : ℕ). (record { from = from; bytes = take m (drop from text) })
-    ∷ tokens_from (from + k) (drop m (drop from text))) len
-    ∙ ap (λ (rest : List ℕ). (record { from = from; bytes = take m (drop from text) })
-    ∷ tokens_from (from + m) rest) (drop-drop m from text)
-    ∙ ap (λ (k : ℕ). (record { from = from; bytes = take k (drop from text) })
-    ∷ tokens_from (from + m) (drop (from + m) text)) (sym same)
 
 -- a slice from a place on is what is left there
 pub slice_from : (text : List ℕ) (at : ℕ) → take (length text - at) (drop at text) ≡ drop at text
@@ -101,24 +77,29 @@ pub record HasRead (text : List ℕ) (at : ℕ) (sizes : List ℕ) (total : ℕ)
   pub written : WriteSizes done sizes
   pub total_is : total ≡ sum sizes
 
+-- the number that a token writes
+abbrev number_in : Token → Option ℕ
+number_in token = number_of token.bytes
+
 -- sizes that go with the tokens end with the last token's number
-split_last : {bad : Token} {more : List ℕ} (f : Token → Option ℕ) (good : List Token) (sizes : List ℕ) →
-    map f good ≡ map (λ size. Some size) sizes → map f (good ++ bad ∷ []) ≡ map (λ size. Some size) more →
-    (s : ℕ) × ((more ≡ sizes ++ s ∷ []) × (f bad ≡ Some s))
-split_last {bad} {more = []} f [] [] h g = (0, ((cc), (cc)))
-split_last {bad} {more = s ∷ []} f [] [] h g = (s, (refl, (cc)))
-split_last {bad} {more = s ∷ t ∷ more} f [] [] h g = (0, ((cc), (cc)))
-split_last {bad} {more} f [] (s ∷ sizes) h g = (0, ((cc), (cc)))
-split_last {bad} {more} f (t ∷ good) [] h g = (0, ((cc), (cc)))
-split_last {bad} {more = []} f (t ∷ good) (s ∷ sizes) h g = (0, ((cc), (cc)))
-split_last {bad} {more = u ∷ more} f (t ∷ good) (s ∷ sizes) h g =
-    let before : map f good ≡ map (λ size. Some size) sizes = cc in
-    let after : map f (good ++ bad ∷ []) ≡ map (λ size. Some size) more = cc in
+split_last : {more : List ℕ} (bad : Token) (good : List Token) (sizes : List ℕ) →
+    map number_in good ≡ map (λ size. Some size) sizes →
+    map number_in (good ++ bad ∷ []) ≡ map (λ size. Some size) more →
+    (s : ℕ) × ((more ≡ sizes ++ s ∷ []) × (number_in bad ≡ Some s))
+split_last {more = []} bad [] [] h g = (0, ((cc), (cc)))
+split_last {more = s ∷ []} bad [] [] h g = (s, (refl, (cc)))
+split_last {more = s ∷ t ∷ more} bad [] [] h g = (0, ((cc), (cc)))
+split_last bad [] (s ∷ sizes) h g = (0, ((cc), (cc)))
+split_last bad (t ∷ good) [] h g = (0, ((cc), (cc)))
+split_last {more = []} bad (t ∷ good) (s ∷ sizes) h g = (0, ((cc), (cc)))
+split_last {more = u ∷ more} bad (t ∷ good) (s ∷ sizes) h g =
+    let before : map number_in good ≡ map (λ size. Some size) sizes = cc in
+    let after : map number_in (good ++ bad ∷ []) ≡ map (λ size. Some size) more = cc in
     let first : u ≡ s = cc in
-    one_more first (split_last f good sizes before after)
+    one_more first (split_last bad good sizes before after)
   where
-    one_more : u ≡ s → ((x : ℕ) × ((more ≡ sizes ++ x ∷ []) × (f bad ≡ Some x)))
-        → (x : ℕ) × ((u ∷ more ≡ (s ∷ sizes) ++ x ∷ []) × (f bad ≡ Some x))
+    one_more : u ≡ s → ((x : ℕ) × ((more ≡ sizes ++ x ∷ []) × (number_in bad ≡ Some x)))
+        → (x : ℕ) × ((u ∷ more ≡ (s ∷ sizes) ++ x ∷ []) × (number_in bad ≡ Some x))
     one_more same rest = (rest.0, (ap (λ (n : ℕ). n ∷ more) same ∙ ap (λ (ns : List ℕ). s ∷ ns) rest.1.0, rest.1.1))
 
 -- what a number more at the end means for a list
@@ -134,48 +115,63 @@ is_pushed xs x ys e = record {
   summed = rw e (omega (arith, sum_by-append (λ (s : ℕ). s) xs (x ∷ [])));
 }
 
+-- what was read of a text so far
+pub record ReadSoFar (text : List ℕ) : Type 0 where
+  pub at : ℕ
+  pub sizes : List ℕ
+  pub total : ℕ
+  pub count : ℕ
+  pub read : HasRead text at sizes total
+  pub counted : count ≡ length sizes
+
+-- the next token of a text
+pub record NextToken (text : List ℕ) (at : ℕ) : Type 0 where
+  pub from : ℕ
+  pub to : ℕ
+  pub tokens : tokens_from at (drop at text)
+      ≡ (record { from = from; bytes = slice_range text from to }) ∷ tokens_from to (drop to text)
+
 -- a token more, with its size
-pub more_read : {text : List ℕ} {at to : ℕ} {sizes : List ℕ} {total count size : ℕ} (from : ℕ) →
-    HasRead text at sizes total → count ≡ length sizes →
-    tokens_from at (drop at text)
-    ≡ (record { from = from; bytes = slice_range text from to }) ∷ tokens_from to (drop to text) → to ≤ length text →
-    AddsSize (slice_range text from to) count total size → HasRead text to (sizes ++ size ∷ []) (total + size)
-more_read {text} {at} {to} {sizes} {size} from read counted next fits adds = record {
-  within = fits;
-  done = read.done ++ (record { from = from; bytes = slice_range text from to }) ∷ [];
-  tokens = read.tokens ∙ ap (λ (ts : List Token). read.done ++ ts) next
-      ∙ sym (append_assoc read.done ((record { from = from; bytes = slice_range text from to }) ∷ [])
-      (tokens_from to (drop to text)));
-  written = record {
-    numbers = map-append (λ (token : Token). number_of token.bytes) read.done
-        ((record { from = from; bytes = slice_range text from to }) ∷ [])
-        ∙ ap (λ (ns : List (Option ℕ)). ns ++ number_of (slice_range text from to) ∷ []) read.written.numbers
-        ∙ ap (λ (n : Option ℕ). map (λ (s : ℕ). Some s) sizes ++ n ∷ []) adds.number
-        ∙ sym (map-append (λ (s : ℕ). Some s) sizes (size ∷ []));
-    small = All-append (λ (s : ℕ). s ≤ 2 ^ 32) sizes (size ∷ []) read.written.small
-        (All-cons (λ (s : ℕ). s ≤ 2 ^ 32) size [] adds.small (All-nil (λ (s : ℕ). s ≤ 2 ^ 32)));
-    few_bytes = omega (arith, adds.few_bytes, read.total_is, sum_by-append (λ (s : ℕ). s) sizes (size ∷ []));
-    few = omega (arith, adds.few, counted, length-append sizes (size ∷ []));
-  };
-  total_is = omega (arith, read.total_is, sum_by-append (λ (s : ℕ). s) sizes (size ∷ []));
-}
+pub more_read : {text : List ℕ} {size : ℕ} (so_far : ReadSoFar text) (next : NextToken text so_far.at)
+    → next.to ≤ length text → AddsSize (slice_range text next.from next.to) so_far.count so_far.total size
+    → HasRead text next.to (so_far.sizes ++ size ∷ []) (so_far.total + size)
+more_read {text} {size} so_far next fits adds =
+    let token : Token = record { from = from; bytes = slice_range text from to } in
+    record {
+      within = fits;
+      done = read.done ++ token ∷ [];
+      tokens = read.tokens ∙ ap (λ (ts : List Token). read.done ++ ts) tokens
+          ∙ sym (append_assoc read.done (token ∷ []) (tokens_from to (drop to text)));
+      written = record {
+        numbers = map-append number_in read.done (token ∷ [])
+            ∙ ap (λ (ns : List (Option ℕ)). ns ++ number_in token ∷ []) read.written.numbers
+            ∙ ap (λ (n : Option ℕ). map (λ (s : ℕ). Some s) sizes ++ n ∷ []) adds.number
+            ∙ sym (map-append (λ (s : ℕ). Some s) sizes (size ∷ []));
+        small = All-append (λ (s : ℕ). s ≤ 2 ^ 32) sizes (size ∷ []) read.written.small
+            (All-cons (λ (s : ℕ). s ≤ 2 ^ 32) size [] adds.small (All-nil (λ (s : ℕ). s ≤ 2 ^ 32)));
+        few_bytes = omega (arith, adds.few_bytes, read.total_is, sum_by-append (λ (s : ℕ). s) sizes (size ∷ []));
+        few = omega (arith, adds.few, counted, length-append sizes (size ∷ []));
+      };
+      total_is = omega (arith, read.total_is, sum_by-append (λ (s : ℕ). s) sizes (size ∷ []));
+    }
+  where
+    open so_far use {sizes, read, counted}
+    open next use {from, to, tokens}
 
 -- a token with which the tokens so far write no sizes
-pub bad_read : {text : List ℕ} {at from : ℕ} {sizes : List ℕ} {total count : ℕ} (to : ℕ) →
-    HasRead text at sizes total → count ≡ length sizes →
-    tokens_from at (drop at text)
-    ≡ (record { from = from; bytes = slice_range text from to }) ∷ tokens_from to (drop to text) →
-    ((size : ℕ) → AddsSize (slice_range text from to) count total size → ⊥) → IsBadTraceText text from
-bad_read {text} {at} {from} {sizes} to read counted next none = record {
+pub bad_read : {text : List ℕ} (so_far : ReadSoFar text) (next : NextToken text so_far.at)
+    → ((size : ℕ) → AddsSize (slice_range text next.from next.to) so_far.count so_far.total size → ⊥)
+    → IsBadTraceText text next.from
+bad_read {text} so_far next none = record {
   good = read.done;
   bad = record { from = from; bytes = slice_range text from to };
   rest = tokens_from to (drop to text);
   sizes = sizes;
-  tokens = read.tokens ∙ ap (λ (ts : List Token). read.done ++ ts) next;
+  tokens = read.tokens ∙ ap (λ (ts : List Token). read.done ++ ts) tokens;
   written = read.written;
   ends = λ more trace.
       let last : (x : ℕ) × ((more ≡ sizes ++ x ∷ []) × (number_of (slice_range text from to) ≡ Some x)) =
-      split_last (λ (token : Token). number_of token.bytes) read.done sizes read.written.numbers trace.numbers in
+      split_last (record { from = from; bytes = slice_range text from to }) read.done sizes read.written.numbers trace.numbers in
       let ends : IsPushed sizes last.0 more = is_pushed sizes last.0 more last.1.0 in
       none last.0 (record {
         number = last.1.1;
@@ -185,13 +181,16 @@ bad_read {text} {at} {from} {sizes} to read counted next none = record {
       });
   starts = refl;
 }
+  where
+    open so_far use {sizes, read, counted}
+    open next use {from, to, tokens}
 
 -- the byte after a token, which is white space, is passed over where there is one
-pub read_past : {text : List ℕ} {at next : ℕ} {sizes : List ℕ} {total : ℕ} → HasRead text at sizes total
-    → begins_token (drop at text) ≡ false → next ≡ min (at + 1) (length text) → HasRead text next sizes total
-read_past {text} {at} {next} {sizes} {total} read ends is = elim (cases_lt at (length text)) [
+pub read_past : {text : List ℕ} {at : ℕ} {sizes : List ℕ} {total : ℕ} → HasRead text at sizes total
+    → begins_token (drop at text) ≡ false → HasRead text (min (at + 1) (length text)) sizes total
+read_past {text} {at} {sizes} {total} read ends = elim (cases_lt at (length text)) [
   | inl inside ↦
-      let same : at + 1 ≡ next = omega (arith, is, inside) in
+      let same : at + 1 ≡ min (at + 1) (length text) = omega (arith, inside) in
       let blank : list_all is_white_space (take 1 (drop at text)) ≡ true = first_blank (drop at text) ends in
       let tokens = blanks_at text at 1 (omega (arith, inside, length-drop at text)) blank in
       subst (λ (n : ℕ). HasRead text n sizes total) same (record {
@@ -203,7 +202,7 @@ read_past {text} {at} {next} {sizes} {total} read ends is = elim (cases_lt at (l
       })
   | inr le ↦
       let within = read.within in
-      let same : at ≡ next = omega (arith, is, le, within) in
+      let same : at ≡ min (at + 1) (length text) = omega (arith, le, within) in
       subst (λ (n : ℕ). HasRead text n sizes total) same read
 ]
   where

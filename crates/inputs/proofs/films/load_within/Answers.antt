@@ -1,7 +1,9 @@
-use Rattle.std.proofs.Common.{◌≡◌, ◌∙◌, arith, inl, refl, subst, sym}
+use Rattle.std.proofs.Common.{◌≡◌, ◌≤◌, ◌∙◌, arith, inl, inr, length, refl, subst, sym}
 use Rattle.mpeg_scan.specs.declared.films.Film.{Film}
-use Rattle.inputs.specs.Videos.{IsRefusedAbove, IsVideo}
-use Rattle.inputs.proofs.LoadLemmas.{WasRead, bytes_trouble, film_loaded, size_above}
+use Rattle.inputs.specs.Videos.{IsRefusedAbove, IsVideo, IsVideoRefused}
+use Rattle.inputs.proofs.LoadLemmas.{size_above}
+use Rattle.inputs.proofs.ReadLemmas.{first_front}
+use Rattle.inputs.proofs.RefusalLemmas.{refusal_read}
 use Rattle.inputs.proofs.ScanLemmas.{handed_on, never_refused, read_trouble_map}
 use Rattle.inputs.proofs.VideoLemmas.{HoldsAccepted, file_not_refused}
 use Rattle.inputs.proofs.LibraryLemmas.{then_read}
@@ -18,38 +20,49 @@ pub returns-in_err-file-clause-error : goal.returns-in_err-file-clause-error
 returns-in_err-file-clause-error g c =
     let Refuses = IsRefusedAbove c.args.most c.args.over in
     handed_on _ c.from_residual-in_err-file.result c.from_residual-in_err-file.ensures.1
-    (never_refused c.args.name.now Refuses (g.L.Library.faults c.read_bytes.new.library) c.in_err-file.field-0.0
-    c.find_file.ensures.library ((c.in_err-file.ensures {u = tt}).error))
+    (never_refused (record { told = _; next = _; before = _; after = _; on = c.find_file.ensures.library })
+    c.args.name.now Refuses (g.L.Library.faults c.read_bytes.new.library) c.in_err-file.field-0.0
+    ((c.in_err-file.ensures {u = tt}).error))
 
 pub returns-then-most-size-clause-error : goal.returns-then-most-size-clause-error
 returns-then-most-size-clause-error g c = (
   refl,
-  λ held told. size_above held c.args.name.now c.args.most c.args.over
-      ((c.in_ok-size.ensures {u = tt}).found held told) (omega (arith, c.if-most-size.true)),
+  λ held told. size_above (first_front held c.args.name.now c.in_ok-size.size
+      ((c.in_ok-size.ensures {u = tt}).found held told)) c.args.most c.args.over
+      (omega (arith, c.if-most-size.true)),
 )
 
 pub returns-in_err-film-clause-error : goal.returns-in_err-film-clause-error
 returns-in_err-film-clause-error g c =
-    let read : WasRead (g.L.Library.files c.args.library.now) c.args.name.now c.in_ok-file.file.items c.args.most =
-    record {
-      found = λ held is. (c.in_ok-file.ensures {u = tt}).read held (c.find_file.ensures.library.kept ∙ is)
-          ((c.in_ok-size.ensures {u = tt}).found held is);
-      short = omega (arith, (c.in_ok-file.ensures {u = tt}).within, c.in_ok-file.file.ok, c.if-most-size.false);
-    } in
-    handed_on _ c.from_residual-in_err-film.result c.from_residual-in_err-film.ensures.1
-    (bytes_trouble c.args.over (g.L.Library.faults c.args.library.now) (g.L.Library.faults c.read_bytes.new.library)
-    c.in_err-film.field-0.0 read ((c.in_err-film.ensures {u = tt}).error))
+    let file = c.in_ok-file.file in
+    let short : length file.items ≤ c.args.most =
+    omega (arith, (c.in_ok-file.ensures {u = tt}).within, file.ok, c.if-most-size.false) in
+    handed_on _ c.from_residual-in_err-film.result c.from_residual-in_err-film.ensures.1 (refusal_read (record {
+      told = g.L.Library.files c.args.library.now;
+      name = c.args.name.now;
+      before = g.L.Library.faults c.args.library.now;
+      after = g.L.Library.faults c.read_bytes.new.library;
+      Reason = IsVideoRefused file.items;
+      Refuses = IsRefusedAbove c.args.most c.args.over;
+      means = λ held fault is refused.
+          let found = (c.in_ok-file.ensures {u = tt}).read held (c.find_file.ensures.library.kept ∙ is)
+          ((c.in_ok-size.ensures {u = tt}).found held is) in
+          inr (file.items, (found, inr (short, refused)));
+    }) c.in_err-film.field-0.0 ((c.in_err-film.ensures {u = tt}).error))
 
 pub returns-clause-film : goal.returns-clause-film
 returns-clause-film g c = λ held is.
     let same : c.in_ok-stored.stored.film ≡ c.in_ok-film.film = (c.in_ok-stored.ensures {u = tt}).film in
-    film_loaded
-    ((c.in_ok-file.ensures {u = tt}).read held (c.find_file.ensures.library.kept ∙ is)
-    ((c.in_ok-size.ensures {u = tt}).found held is))
-    (omega (arith, (c.in_ok-file.ensures {u = tt}).within, c.in_ok-file.file.ok, c.if-most-size.false, c.requires))
-    (subst (λ (f : Film). IsVideo c.in_ok-file.file.items f.bytes.items) (sym same)
-    ((c.in_ok-film.ensures {u = tt}).film))
-    c.in_ok-stored.stored.film.grammar.accepted
+    record {
+      file = c.in_ok-file.file.items;
+      found = (c.in_ok-file.ensures {u = tt}).read held (c.find_file.ensures.library.kept ∙ is)
+          ((c.in_ok-size.ensures {u = tt}).found held is);
+      short =
+          omega (arith, (c.in_ok-file.ensures {u = tt}).within, c.in_ok-file.file.ok, c.if-most-size.false, c.requires);
+      is_video = subst (λ (f : Film). IsVideo c.in_ok-file.file.items f.bytes.items) (sym same)
+          ((c.in_ok-film.ensures {u = tt}).film);
+      accepted = c.in_ok-stored.stored.film.grammar.accepted;
+    }
 
 pub returns-clause-small : goal.returns-clause-small
 returns-clause-small g c = λ held is fault refused.

@@ -4,7 +4,8 @@ use Rattle.mpeg_scan.specs.declared.films.Film.{Film}
 use Rattle.inputs.specs.LoadErrors.{IsFileBytesError, IsFilmError}
 use Rattle.inputs.specs.Videos.{IsVideo}
 use Rattle.inputs.proofs.LoadLemmas.{video_trouble}
-use Rattle.inputs.proofs.ScanLemmas.{err_map, handed_on, ok_map}
+use Rattle.inputs.proofs.ScanLemmas.{handed_on, ok_map}
+use Rattle.std.proofs.lemmas.Result.{IfErr-weaker}
 use Rattle.inputs.proofs.films.scan_file.Goals as goal
 
 pub returns-clause-film : goal.returns-clause-film
@@ -16,8 +17,9 @@ returns-clause-film c =
 
 pub returns-clause-error : goal.returns-clause-error
 returns-clause-error c =
-    err_map (IsFilmError c.args.name.now (λ fault. refusal c.in_ok-video.video.items ≡ Some fault))
-    (IsFileBytesError c.args.name.now c.args.file.items) c.scan_video.result
+    IfErr-weaker c.scan_video.result
+    (IsFilmError c.args.name.now (λ fault. refusal c.in_ok-video.video.items ≡ Some fault))
+    (IsFileBytesError c.args.name.now c.args.file.items)
     (λ t h. video_trouble c.args.name.now c.args.file.items c.in_ok-video.video.items t
     ((c.in_ok-video.ensures {u = tt}).video) h) c.scan_video.ensures.error
 

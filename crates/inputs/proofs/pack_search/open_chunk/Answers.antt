@@ -1,14 +1,22 @@
 use Rattle.std.proofs.Common.{◌≡◌, ◌∙◌, ◌+◌, ◌-◌, Bool, true, false, Some, None, ℕ, cond, eqb, eq-eqb, get_or, sym, ap}
 use Rattle.std.proofs.lemmas.Bool.{ne_eqb}
-use Rattle.inputs.proofs.PackSearchLemmas.{IsOpenBefore, found_step, not_whole, open_step}
+use Rattle.inputs.proofs.PackSearchLemmas.{OpenBefore, found_step, not_whole, open_step}
 use Rattle.inputs.proofs.pack_search.open_chunk.Goals as goal
 
 pub returns-in-Whole-clause-opening : goal.returns-in-Whole-clause-opening
 returns-in-Whole-clause-opening c = λ seen long so_far.
     let byte : eqb (get_or c.args.chunk.now c.loop-index.index 0) 0xba ≡ true =
     eq-eqb (get_or c.args.chunk.now c.loop-index.index 0) 0xba c.if-byte.true in
-    let before : IsOpenBefore c.loop-index.prefix seen c.args.chunk.now c.loop-index.index c.args.at =
-    record { inside = c.loop-index-test.true; long = long; so_far = c.loop-index.invariant seen long so_far } in
+    let before : OpenBefore = record {
+      prefix = c.loop-index.prefix;
+      seen = seen;
+      chunk = c.args.chunk.now;
+      index = c.loop-index.index;
+      at = c.args.at;
+      inside = c.loop-index-test.true;
+      long = long;
+      so_far = c.loop-index.invariant seen long so_far;
+    } in
     found_step before c.in-Whole.is
     (ap (λ (b : Bool). cond b (Some (c.args.at + c.loop-index.index - 3)) None) byte
     ∙ ap (λ (n : ℕ). Some n) (sym c.saturating_sub.ensures))
@@ -17,14 +25,30 @@ pub returns-in-Whole-2-clause-opening : goal.returns-in-Whole-2-clause-opening
 returns-in-Whole-2-clause-opening c = λ seen long so_far.
     let byte : eqb (get_or c.args.chunk.now c.loop-index.index 0) 0xba ≡ false =
     ne_eqb (get_or c.args.chunk.now c.loop-index.index 0) 0xba c.if-byte.false in
-    let before : IsOpenBefore c.loop-index.prefix seen c.args.chunk.now c.loop-index.index c.args.at =
-    record { inside = c.loop-index-test.true; long = long; so_far = c.loop-index.invariant seen long so_far } in
+    let before : OpenBefore = record {
+      prefix = c.loop-index.prefix;
+      seen = seen;
+      chunk = c.args.chunk.now;
+      index = c.loop-index.index;
+      at = c.args.at;
+      inside = c.loop-index-test.true;
+      long = long;
+      so_far = c.loop-index.invariant seen long so_far;
+    } in
     found_step before c.in-Whole.is
     (ap (λ (b : Bool). cond b (Some (c.args.at + c.loop-index.index - 3)) None) byte)
 
 pub loop-index-preserved : goal.loop-index-preserved
 loop-index-preserved c = λ seen long so_far.
-    let before : IsOpenBefore c.loop-index.prefix seen c.args.chunk.now c.loop-index.index c.args.at =
-    record { inside = c.loop-index-test.true; long = long; so_far = c.loop-index.invariant seen long so_far } in
+    let before : OpenBefore = record {
+      prefix = c.loop-index.prefix;
+      seen = seen;
+      chunk = c.args.chunk.now;
+      index = c.loop-index.index;
+      at = c.args.at;
+      inside = c.loop-index-test.true;
+      long = long;
+      so_far = c.loop-index.invariant seen long so_far;
+    } in
     open_step before
     (not_whole c.loop-index.prefix c.in_default.not-Whole) c.next-prefix.ensures

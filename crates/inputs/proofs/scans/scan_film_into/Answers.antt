@@ -1,7 +1,10 @@
-use Rattle.std.proofs.Common.{◌∙◌, refl, sym, subst, arith}
+use Rattle.std.proofs.Common.{◌∙◌, ◌^◌, inl, refl, sym, subst, arith}
+use Rattle.mpeg_scan.specs.declared.faults.FilmFault.TheVariants.{TooLong}
+use Rattle.cli_errors.specs.declared.errors.InputError.TheVariants.{Film}
 use Rattle.inputs.specs.ChunkScans.{IsFilmRefused, IsOpened}
-use Rattle.inputs.proofs.ScanLemmas.{handed_on, heard_on, missing_refused, never_refused, read_trouble_map}
-use Rattle.inputs.proofs.ScanLemmas.{size_refused}
+use Rattle.inputs.proofs.ScanLemmas.{handed_on, heard_on, never_refused, read_trouble_map}
+use Rattle.inputs.proofs.LoadLemmas.{size_above}
+use Rattle.inputs.proofs.ReadLemmas.{first_front}
 use Rattle.inputs.proofs.ScanLemmas.{troubles_on}
 use Rattle.inputs.proofs.LibraryLemmas.{then_read}
 use Rattle.inputs.proofs.scans.scan_film_into.Goals as goal
@@ -10,7 +13,7 @@ pub returns-in_err-size-clause-error : goal.returns-in_err-size-clause-error
 returns-in_err-size-clause-error g c =
     handed_on _ c.from_residual.result c.from_residual.ensures.1
     (read_trouble_map _ _ c.in_err-size.field-0.0 (λ name is. is)
-    (λ held name fault told is missing. missing_refused held name fault missing)
+    (λ held name fault told is missing. inl missing)
     ((c.in_err-size.ensures {u = tt}).error))
 
 pub returns-in_err-chunk-clause-error : goal.returns-in_err-chunk-clause-error
@@ -20,14 +23,16 @@ returns-in_err-chunk-clause-error g c =
 pub returns-in_err-stream-clause-error : goal.returns-in_err-stream-clause-error
 returns-in_err-stream-clause-error g c =
     handed_on _ c.from_residual-in_err-stream.result c.from_residual-in_err-stream.ensures.1
-    (never_refused c.args.name.now IsFilmRefused (g.L.Library.faults c.find_pack.new.library)
-    c.in_err-stream.field-0.0 c.find_file.ensures.library ((c.in_err-stream.ensures {u = tt}).error))
+    (never_refused (record { told = _; next = _; before = _; after = _; on = c.find_file.ensures.library })
+    c.args.name.now IsFilmRefused (g.L.Library.faults c.find_pack.new.library) c.in_err-stream.field-0.0
+    ((c.in_err-stream.ensures {u = tt}).error))
 
 pub returns-then-size-gt-MAX_FILM_BYTES-clause-error : goal.returns-then-size-gt-MAX_FILM_BYTES-clause-error
 returns-then-size-gt-MAX_FILM_BYTES-clause-error g c = (
   refl,
-  λ held told. size_refused held c.args.name.now c.in_ok-size.size
-      ((c.in_ok-size.ensures {u = tt}).found held told) (omega (arith, c.if-size-gt-MAX_FILM_BYTES.true)),
+  λ held told. size_above (first_front held c.args.name.now c.in_ok-size.size
+      ((c.in_ok-size.ensures {u = tt}).found held told)) (2 ^ 40) (Film TooLong)
+      (omega (arith, c.if-size-gt-MAX_FILM_BYTES.true)),
 )
 
 pub scan_plain-requires-clause-opened : goal.scan_plain-requires-clause-opened
@@ -46,23 +51,43 @@ scan_stream-requires-clause-opened g c = λ held is.
 
 pub returns-in-None-clause-film : goal.returns-in-None-clause-film
 returns-in-None-clause-film g c =
-    heard_on (g.F.Found.heard c.scan_plain.new.found) c.args.name.now c.scan_plain.result
-    (c.find_pack.ensures.library.kept ∙ c.find_file.ensures.library.kept) c.scan_plain.ensures.film
+    heard_on (record {
+      told = _;
+      next = _;
+      before = _;
+      after = _;
+      on = then_read c.find_file.ensures.library c.find_pack.ensures.library;
+    }) (g.F.Found.heard c.scan_plain.new.found) c.args.name.now c.scan_plain.result c.scan_plain.ensures.film
 
 pub returns-in-None-clause-error : goal.returns-in-None-clause-error
 returns-in-None-clause-error g c =
-    troubles_on c.args.name.now (g.L.Library.faults c.scan_plain.new.library) c.scan_plain.result
-    (then_read c.find_file.ensures.library c.find_pack.ensures.library) c.scan_plain.ensures.error
+    troubles_on (record {
+      told = _;
+      next = _;
+      before = _;
+      after = _;
+      on = then_read c.find_file.ensures.library c.find_pack.ensures.library;
+    }) c.args.name.now (g.L.Library.faults c.scan_plain.new.library) c.scan_plain.result c.scan_plain.ensures.error
 
 pub returns-clause-film : goal.returns-clause-film
 returns-clause-film g c =
-    heard_on (g.F.Found.heard c.scan_stream.new.found) c.args.name.now c.scan_stream.result
-    (c.find_pack.ensures.library.kept ∙ c.find_file.ensures.library.kept) c.scan_stream.ensures.film
+    heard_on (record {
+      told = _;
+      next = _;
+      before = _;
+      after = _;
+      on = then_read c.find_file.ensures.library c.find_pack.ensures.library;
+    }) (g.F.Found.heard c.scan_stream.new.found) c.args.name.now c.scan_stream.result c.scan_stream.ensures.film
 
 pub returns-clause-error : goal.returns-clause-error
 returns-clause-error g c =
-    troubles_on c.args.name.now (g.L.Library.faults c.scan_stream.new.library) c.scan_stream.result
-    (then_read c.find_file.ensures.library c.find_pack.ensures.library) c.scan_stream.ensures.error
+    troubles_on (record {
+      told = _;
+      next = _;
+      before = _;
+      after = _;
+      on = then_read c.find_file.ensures.library c.find_pack.ensures.library;
+    }) c.args.name.now (g.L.Library.faults c.scan_stream.new.library) c.scan_stream.result c.scan_stream.ensures.error
 
 pub returns-in_err-stream-clause-library : goal.returns-in_err-stream-clause-library
 returns-in_err-stream-clause-library g c = then_read c.find_file.ensures.library c.find_pack.ensures.library

@@ -1,15 +1,21 @@
-use Rattle.std.proofs.Common.{◌≤◌, ◌^◌, None, inl, length, arith}
+use Rattle.std.proofs.Common.{◌≤◌, ◌^◌, [], inl, length, refl, arith}
+use Rattle.std.proofs.lemmas.Result.{IfErr-weaker}
 use Rattle.cli_errors.specs.ReadErrors.{IsReadError}
 use Rattle.inputs.specs.FileReads.{IsThatName}
 use Rattle.inputs.specs.LoadErrors.{IsFilmError}
 use Rattle.inputs.specs.ChunkScans.{HasEnded, HasScannedFilm, HasScannedAll, IsFilmRefused, IsRefusedAtEnd}
-use Rattle.inputs.proofs.ScanLemmas.{end_refused, film_trouble, err_map, film_heard, first_scanned, handed_on, ok_map}
+use Rattle.inputs.proofs.ScanLemmas.{film_trouble, handed_on, none_told, ok_map, plain_holds, plain_refused}
 use Rattle.inputs.proofs.scans.scan_plain.Goals as goal
 
 pub feed_film-requires-clause-scanned : goal.feed_film-requires-clause-scanned
-feed_film-requires-clause-scanned g c =
-    first_scanned None
-    c.requires.opened c.new-scanner.ensures.fed c.requires.fresh
+feed_film-requires-clause-scanned g c = record {
+  bytes = [];
+  long = refl;
+  scanned = none_told (g.F.Found.heard c.args.found.now) c.new-scanner.result c.new-scanner.ensures.fed c.requires.fresh;
+  front = λ held is.
+      let opened = c.requires.opened held is in
+      record { whole = opened.file; found = opened.found; sized = opened.sized; front = refl };
+}
 
 pub returns-clause-film : goal.returns-clause-film
 returns-clause-film g c =
@@ -21,8 +27,17 @@ returns-clause-film g c =
     (λ e. HasScannedFilm (g.F.Found.heard c.finish_scan.new.found) (g.L.Library.files c.args.library.now)
     c.args.file.name.now
     e.bytes e.rate) c.finish_scan.result
-    (λ e ended. film_heard
-    c.requires.short c.requires.opened all ended)
+    (λ e ended. record {
+      video = all.bytes;
+      ended = ended;
+      holds = λ held is. plain_holds (record {
+        held = held;
+        name = c.args.file.name.now;
+        size = c.args.file.size;
+        opened = c.requires.opened held is;
+        short = c.requires.short;
+      }) (all.whole held is) ended.accepted;
+    })
     (c.finish_scan.ensures.ended all.bytes short (inl all.scanned))
 
 pub returns-clause-error : goal.returns-clause-error
@@ -31,15 +46,24 @@ returns-clause-error g c =
     c.args.file.name.now c.args.file.size c.feed_film.new.scanner =
     (c.in_ok-feed_film.ensures {u = tt}).scanned in
     let short : length all.bytes ≤ 2 ^ 40 = omega (arith, all.few, c.requires.short) in
-    err_map (IsFilmError c.args.file.name.now
+    IfErr-weaker c.finish_scan.result (IsFilmError c.args.file.name.now
     (IsRefusedAtEnd (g.F.Found.heard c.feed_film.new.found) c.feed_film.new.scanner))
     (IsReadError (IsThatName c.args.file.name.now) IsFilmRefused (g.L.Library.files c.args.library.now)
-    (g.L.Library.faults c.args.library.now) (g.L.Library.faults c.feed_film.new.library)) c.finish_scan.result
+    (g.L.Library.faults c.args.library.now) (g.L.Library.faults c.feed_film.new.library))
     (λ t h. film_trouble
-    {Refuses = IsRefusedAtEnd (g.F.Found.heard c.feed_film.new.found) c.feed_film.new.scanner} c.args.file.name.now
-    (g.L.Library.faults c.args.library.now) (g.L.Library.faults c.feed_film.new.library) t
-    (λ held fault is refuses. end_refused
-    c.requires.short c.requires.opened all is (refuses all.bytes short (inl all.scanned))) h)
+    {Refuses = IsRefusedAtEnd (g.F.Found.heard c.feed_film.new.found) c.feed_film.new.scanner} (record {
+      told = g.L.Library.files c.args.library.now;
+      name = c.args.file.name.now;
+      before = g.L.Library.faults c.args.library.now;
+      after = g.L.Library.faults c.feed_film.new.library;
+    }) t
+    (λ held fault is refuses. plain_refused (record {
+      held = held;
+      name = c.args.file.name.now;
+      size = c.args.file.size;
+      opened = c.requires.opened held is;
+      short = c.requires.short;
+    }) (all.whole held is) (refuses all.bytes short (inl all.scanned))) h)
     c.finish_scan.ensures.error
 
 pub returns-in_err-feed_film-clause-error : goal.returns-in_err-feed_film-clause-error

@@ -10,8 +10,15 @@ use Rattle.inputs.proofs.streams.take_video.Goals as goal
 
 pub returns-in-Ok-clause-taken : goal.returns-in-Ok-clause-taken
 returns-in-Ok-clause-taken g c = λ seen taken. elim taken [
-  | inl so_far ↦ inl (more_told c.args.video.now so_far
-      ((c.in-Ok.ensures {u = tt}).kept) ((c.in-Ok.ensures {u = tt}).heard))
+  | inl so_far ↦ inl (more_told (record {
+    Heard = _;
+    Next = _;
+    scanner = _;
+    next = _;
+    chunk = c.args.video.now;
+    kept = (c.in-Ok.ensures {u = tt}).kept;
+    tells = (c.in-Ok.ensures {u = tt}).heard;
+  }) so_far)
   | inr so_far ↦
       (let answered : c.feed.result ≡ Err (FaultAnswer so_far.fault) =
       (c.feed.ensures.again (FaultAnswer so_far.fault) so_far.answers).0 in absurd (cc))

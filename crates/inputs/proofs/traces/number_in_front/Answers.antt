@@ -11,8 +11,8 @@ pub returns-then-number-eq0 : goal.returns-then-number-eq0
 returns-then-number-eq0 c = λ size written.
     let number = c.digits_in_front-number.result in
     let read = c.digits_in_front-number.ensures in
-    let front : DigitsInFront c.args.rest.now number.len number.value =
-    record { digits = read.digits; value_is = read.value } in
+    let front : DigitsInFront c.args.rest.now =
+    record { k = number.len; value = number.value; digits = read.digits; value_is = read.value } in
     elim c.then-number-eq0.branch [
       | then-number-eq0-via-then-number-eq0 w ↦
           no_digits front (omega (arith, w.if-number-eq0.true)) read.ends written
@@ -21,20 +21,20 @@ returns-then-number-eq0 c = λ size written.
     ]
 
 pub returns-then-not-is_white_space : goal.returns-then-not-is_white_space
-returns-then-not-is_white_space c = λ size written.
+returns-then-not-is_white_space c =
     let number = c.digits_in_front-number.result in
     let read = c.digits_in_front-number.ensures in
-    let front : DigitsInFront c.args.rest.now number.len number.value =
-    record { digits = read.digits; value_is = read.value } in
+    let front : DigitsInFront c.args.rest.now =
+    record { k = number.len; value = number.value; digits = read.digits; value_is = read.value } in
     not_whole front (omega (arith, c.if-number-rest.true))
-    (sym c.is_white_space.ensures ∙ c.if-not-is_white_space.true) read.ends written
+    (sym c.is_white_space.ensures ∙ c.if-not-is_white_space.true) read.ends
 
 pub returns : goal.returns
 returns c =
     let number = c.digits_in_front-number.result in
     let read = c.digits_in_front-number.ensures in
-    let front : DigitsInFront c.args.rest.now number.len number.value =
-    record { digits = read.digits; value_is = read.value } in
+    let front : DigitsInFront c.args.rest.now =
+    record { k = number.len; value = number.value; digits = read.digits; value_is = read.value } in
     let ends : number.len < length c.args.rest.now → is_white_space (get_or c.args.rest.now number.len 0) ≡ true =
     λ inside.
     elim c.else-number-rest.branch [

@@ -9,4 +9,13 @@ returns-in-Ok-clause-told g c = λ held bytes told front long.
     subst (λ (n : ℕ). IsRead (bytes_named held c.args.self.name.now) n c.in-Ok.count c.read.new.into) (sym long)
     ((c.in-Ok.ensures {u = tt}).bytes held told) in
     let fewer : c.min.result ≤ c.in-Ok.count = search rules in
-    more_front c.min.result front got fewer
+    more_front (record {
+      held = held;
+      name = c.args.self.name.now;
+      size = c.args.self.size;
+      bytes = bytes;
+      n = c.in-Ok.count;
+      chunk = c.read.new.into;
+      so_far = front;
+      read = got;
+    }) c.min.result fewer
