@@ -121,24 +121,20 @@ asked-outcome {c} {rest} step inside free (inr planned) = elim planned.done [
 play-outcome : {c : ℕ} {state : ClientState} (step : LineStep) (rest : Rest) → ClientOf step.old c state
     → IsPlayTaken step c rest state → LineOutcome step step.old.heard
 play-outcome {state = Idle} step rest own is = asked-outcome step own.client (idle-free own.at) is
+play-outcome {state = Paused left} step rest own is = asked-outcome step own.client (paused-free own.at) is
 play-outcome {state = Playing play} step rest own is = Kept is.kept refl
 play-outcome {state = Pausing stop left} step rest own is = Kept is.kept refl
-play-outcome {state = Paused left} step rest own is = asked-outcome step own.client (paused-free own.at) is
 
 resume-outcome : {c : ℕ} {state : ClientState} (step : LineStep) → ClientOf step.old c state
     → IsResumeLine step.link c state step.old step.new step.text → LineOutcome step step.old.heard
-resume-outcome {state = Idle} step own is = Kept is.kept refl
-resume-outcome {state = Playing play} step own is = Kept is.kept refl
-resume-outcome {state = Pausing stop rest} step own is = Kept is.kept refl
 resume-outcome {state = Paused rest} step own is = asked-outcome step own.client (paused-free own.at) is
+resume-outcome {state = _} step own is = Kept is.kept refl
 
 pause-outcome : {c : ℕ} {state : ClientState} (step : LineStep) → ClientOf step.old c state
     → IsPauseLine step.link c state step.old step.new step.text → LineOutcome step step.old.heard
-pause-outcome {state = Idle} step own is = Kept is.kept refl
 pause-outcome {c} {state = Playing play} step own is =
     Stopped (record { client = c; inside = own.client; play = play; at = own.at; is = is }) refl
-pause-outcome {state = Pausing stop rest} step own is = Kept is.kept refl
-pause-outcome {state = Paused rest} step own is = Kept is.kept refl
+pause-outcome {state = _} step own is = Kept is.kept refl
 
 look-outcome : {slot : ℕ} (step : LineStep) → IsLookLine step.link slot step.old step.new step.text
     → LineOutcome step step.old.heard

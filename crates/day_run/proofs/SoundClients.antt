@@ -314,20 +314,16 @@ play-states step _ may sound is = asked-states step may sound is
 
 resume-states : {c : ℕ} {state : ClientState} (step : LineStep) → ClientOf step.old c state → IsSound step.old
     → IsResumeLine step.link c state step.old step.new step.text → HasSoundClients step.new
-resume-states {c} {state = Idle} step own sound is = subst HasSoundClients (sym is.kept) sound.each
-resume-states {c} {state = Playing play} step own sound is = subst HasSoundClients (sym is.kept) sound.each
-resume-states {c} {state = Pausing stop rest} step own sound is = subst HasSoundClients (sym is.kept) sound.each
 resume-states {c} {state = Paused rest} step own sound is =
     let sending : IsSoundRest rest = subst (IsSoundClient step.old.heard) own.at (sound.each c own.client) in
     asked-states step (record { c = c; rest = rest; client = own.client; own = λ some. sending }) sound is
+resume-states {state = _} step own sound is = subst HasSoundClients (sym is.kept) sound.each
 
 pause-states : {c : ℕ} {state : ClientState} (step : LineStep) → ClientOf step.old c state → IsSound step.old
     → IsPauseLine step.link c state step.old step.new step.text → HasSoundClients step.new
-pause-states {c} {state = Idle} step own sound is = subst HasSoundClients (sym is.kept) sound.each
 pause-states {c} {state = Playing play} step own sound is =
     halted-states step (record { client = c; inside = own.client; play = play; at = own.at; is = is }) sound
-pause-states {c} {state = Pausing stop rest} step own sound is = subst HasSoundClients (sym is.kept) sound.each
-pause-states {c} {state = Paused rest} step own sound is = subst HasSoundClients (sym is.kept) sound.each
+pause-states {state = _} step own sound is = subst HasSoundClients (sym is.kept) sound.each
 
 look-states : {slot : ℕ} (step : LineStep) → IsSound step.old → IsLookLine step.link slot step.old step.new step.text
     → HasSoundClients step.new

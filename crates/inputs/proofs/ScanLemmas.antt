@@ -35,6 +35,11 @@ pub record FilmFile (from : Option ℕ) : Type 0 where
   pub opened : IsOpened held name size from
   pub short : size ≤ 2 ^ 40
 
+abbrev pub film_file : {held : List File} {name : List ℕ} {size : ℕ} {from : Option ℕ} → IsOpened held name size from
+    → size ≤ 2 ^ 40 → FilmFile from
+film_file {held} {name} {size} opened short =
+    record { held = held; name = name; size = size; opened = opened; short = short }
+
 pub file_short : {from : Option ℕ} (file : FilmFile from) → length file.opened.file ≤ 2 ^ 40
 file_short file = omega (arith, file.opened.sized, file.short)
 
@@ -148,6 +153,9 @@ pub record LibraryCall : Type 0 where
   pub before : ℕ
   pub after : ℕ
 
+abbrev pub library_call : Option (List File) → List ℕ → ℕ → ℕ → LibraryCall
+library_call told name before after = record { told = told; name = name; before = before; after = after }
+
 -- the error for a film whose video is refused, and for one whose system stream is
 pub film_trouble : {Refuses : FilmFault → Type 0} (call : LibraryCall) (t : CliError)
     → ((held : List File) (fault : FilmFault) → call.told ≡ Some held → Refuses fault
@@ -217,6 +225,11 @@ pub record LaterRead : Type 0 where
   pub before : ℕ
   pub after : ℕ
   pub on : IsLibraryUnchanged told next before after
+
+abbrev pub later_read : {told next : Option (List File)} {before after : ℕ}
+    → IsLibraryUnchanged told next before after → LaterRead
+later_read {told} {next} {before} {after} on =
+    record { told = told; next = next; before = before; after = after; on = on }
 
 -- what was found out before is not less known after that
 pub trouble_on : (later : LaterRead) (name : List ℕ) (Refuses : List File → List ℕ → InputError → Type 0) (c : ℕ)

@@ -4,7 +4,7 @@ use Rattle.inputs.specs.Videos.{IsRefusedAbove, IsVideo, IsVideoRefused}
 use Rattle.inputs.proofs.LoadLemmas.{size_above}
 use Rattle.inputs.proofs.ReadLemmas.{first_front}
 use Rattle.inputs.proofs.RefusalLemmas.{refusal_read}
-use Rattle.inputs.proofs.ScanLemmas.{handed_on, never_refused, read_trouble_map}
+use Rattle.inputs.proofs.ScanLemmas.{handed_on, later_read, never_refused, read_trouble_map}
 use Rattle.inputs.proofs.VideoLemmas.{HoldsAccepted, file_not_refused}
 use Rattle.inputs.proofs.LibraryLemmas.{then_read}
 use Rattle.inputs.proofs.films.load_within.Goals as goal
@@ -20,7 +20,7 @@ pub returns-in_err-file-clause-error : goal.returns-in_err-file-clause-error
 returns-in_err-file-clause-error g c =
     let Refuses = IsRefusedAbove c.args.most c.args.over in
     handed_on _ c.from_residual-in_err-file.result c.from_residual-in_err-file.ensures.1
-    (never_refused (record { told = _; next = _; before = _; after = _; on = c.find_file.ensures.library })
+    (never_refused (later_read c.find_file.ensures.library)
     c.args.name.now Refuses (g.L.Library.faults c.read_bytes.new.library) c.in_err-file.field-0.0
     ((c.in_err-file.ensures {u = tt}).error))
 

@@ -5,7 +5,7 @@ use Rattle.mpeg_scan.proofs.FilmLemmas.{length-read}
 use Rattle.inputs.specs.FileReads.{IsChunk, IsNextRead}
 use Rattle.inputs.proofs.LibraryLemmas.{then_read}
 use Rattle.inputs.proofs.ReadLemmas.{some_chunk}
-use Rattle.inputs.proofs.ScanLemmas.{chunk_refused, film_trouble, more_told}
+use Rattle.inputs.proofs.ScanLemmas.{chunk_refused, film_file, film_trouble, library_call, more_told}
 use Rattle.inputs.proofs.scans.feed_film.Goals as goal
 
 pub feed-requires-clause-short : goal.feed-requires-clause-short
@@ -27,20 +27,10 @@ feed-requires-clause-short g c =
 pub returns-in-Err-clause-error : goal.returns-in-Err-clause-error
 returns-in-Err-clause-error g c =
     let so_far = c.loop-count.invariant.scanned in
-    film_trouble (record {
-      told = g.L.Library.files c.args.library.now;
-      name = c.args.file.name.now;
-      before = g.L.Library.faults c.args.library.now;
-      after = g.L.Library.faults c.read_at.new.library;
-    }) c.scan_error.result
+    film_trouble (library_call (g.L.Library.files c.args.library.now) c.args.file.name.now
+    (g.L.Library.faults c.args.library.now) (g.L.Library.faults c.read_at.new.library)) c.scan_error.result
     (λ held fault is refused.
-    chunk_refused (record {
-      held = held;
-      name = c.args.file.name.now;
-      size = c.args.file.size;
-      opened = c.requires.opened held is;
-      short = c.requires.short;
-    }) so_far.bytes (take c.in-Some.count c.read_at.new.into)
+    chunk_refused (film_file (c.requires.opened held is) c.requires.short) so_far.bytes (take c.in-Some.count c.read_at.new.into)
     (subst (IsNextRead held c.args.file.name.now c.args.file.size so_far.bytes c.read_at.new.into) c.in-Some.is
     ((c.in_ok-count.ensures {u = tt}).told held so_far.bytes
     (c.loop-count.invariant.library.kept ∙ is)

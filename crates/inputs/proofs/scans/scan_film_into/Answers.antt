@@ -2,7 +2,7 @@ use Rattle.std.proofs.Common.{◌∙◌, ◌^◌, inl, refl, sym, subst, arith}
 use Rattle.mpeg_scan.specs.declared.faults.FilmFault.TheVariants.{TooLong}
 use Rattle.cli_errors.specs.declared.errors.InputError.TheVariants.{Film}
 use Rattle.inputs.specs.ChunkScans.{IsFilmRefused, IsOpened}
-use Rattle.inputs.proofs.ScanLemmas.{handed_on, heard_on, never_refused, read_trouble_map}
+use Rattle.inputs.proofs.ScanLemmas.{handed_on, heard_on, later_read, never_refused, read_trouble_map}
 use Rattle.inputs.proofs.LoadLemmas.{size_above}
 use Rattle.inputs.proofs.ReadLemmas.{first_front}
 use Rattle.inputs.proofs.ScanLemmas.{troubles_on}
@@ -23,7 +23,7 @@ returns-in_err-chunk-clause-error g c =
 pub returns-in_err-stream-clause-error : goal.returns-in_err-stream-clause-error
 returns-in_err-stream-clause-error g c =
     handed_on _ c.from_residual-in_err-stream.result c.from_residual-in_err-stream.ensures.1
-    (never_refused (record { told = _; next = _; before = _; after = _; on = c.find_file.ensures.library })
+    (never_refused (later_read c.find_file.ensures.library)
     c.args.name.now IsFilmRefused (g.L.Library.faults c.find_pack.new.library) c.in_err-stream.field-0.0
     ((c.in_err-stream.ensures {u = tt}).error))
 
@@ -51,43 +51,19 @@ scan_stream-requires-clause-opened g c = λ held is.
 
 pub returns-in-None-clause-film : goal.returns-in-None-clause-film
 returns-in-None-clause-film g c =
-    heard_on (record {
-      told = _;
-      next = _;
-      before = _;
-      after = _;
-      on = then_read c.find_file.ensures.library c.find_pack.ensures.library;
-    }) (g.F.Found.heard c.scan_plain.new.found) c.args.name.now c.scan_plain.result c.scan_plain.ensures.film
+    heard_on (later_read (then_read c.find_file.ensures.library c.find_pack.ensures.library)) (g.F.Found.heard c.scan_plain.new.found) c.args.name.now c.scan_plain.result c.scan_plain.ensures.film
 
 pub returns-in-None-clause-error : goal.returns-in-None-clause-error
 returns-in-None-clause-error g c =
-    troubles_on (record {
-      told = _;
-      next = _;
-      before = _;
-      after = _;
-      on = then_read c.find_file.ensures.library c.find_pack.ensures.library;
-    }) c.args.name.now (g.L.Library.faults c.scan_plain.new.library) c.scan_plain.result c.scan_plain.ensures.error
+    troubles_on (later_read (then_read c.find_file.ensures.library c.find_pack.ensures.library)) c.args.name.now (g.L.Library.faults c.scan_plain.new.library) c.scan_plain.result c.scan_plain.ensures.error
 
 pub returns-clause-film : goal.returns-clause-film
 returns-clause-film g c =
-    heard_on (record {
-      told = _;
-      next = _;
-      before = _;
-      after = _;
-      on = then_read c.find_file.ensures.library c.find_pack.ensures.library;
-    }) (g.F.Found.heard c.scan_stream.new.found) c.args.name.now c.scan_stream.result c.scan_stream.ensures.film
+    heard_on (later_read (then_read c.find_file.ensures.library c.find_pack.ensures.library)) (g.F.Found.heard c.scan_stream.new.found) c.args.name.now c.scan_stream.result c.scan_stream.ensures.film
 
 pub returns-clause-error : goal.returns-clause-error
 returns-clause-error g c =
-    troubles_on (record {
-      told = _;
-      next = _;
-      before = _;
-      after = _;
-      on = then_read c.find_file.ensures.library c.find_pack.ensures.library;
-    }) c.args.name.now (g.L.Library.faults c.scan_stream.new.library) c.scan_stream.result c.scan_stream.ensures.error
+    troubles_on (later_read (then_read c.find_file.ensures.library c.find_pack.ensures.library)) c.args.name.now (g.L.Library.faults c.scan_stream.new.library) c.scan_stream.result c.scan_stream.ensures.error
 
 pub returns-in_err-stream-clause-library : goal.returns-in_err-stream-clause-library
 returns-in_err-stream-clause-library g c = then_read c.find_file.ensures.library c.find_pack.ensures.library

@@ -3,7 +3,7 @@ use Rattle.std.proofs.lemmas.List.{length-take-le}
 use Rattle.inputs.specs.FileReads.{IsChunk, IsNextRead}
 use Rattle.inputs.proofs.LibraryLemmas.{then_read}
 use Rattle.inputs.proofs.ReadLemmas.{some_chunk}
-use Rattle.inputs.proofs.ScanLemmas.{system_trouble}
+use Rattle.inputs.proofs.ScanLemmas.{film_file, library_call, system_trouble}
 use Rattle.inputs.proofs.StreamLemmas.{chunk_told, front_more, stream_rest}
 use Rattle.inputs.proofs.streams.feed_stream.Goals as goal
 
@@ -26,20 +26,10 @@ pub returns-in-Err-clause-error : goal.returns-in-Err-clause-error
 returns-in-Err-clause-error g c =
     let so_far = c.loop-count.invariant.streamed in
     let chunk : List ℕ = take c.in-Some.count c.read_at.new.into in
-    system_trouble (record {
-      told = g.L.Library.files c.args.library.now;
-      name = c.args.file.name.now;
-      before = g.L.Library.faults c.args.library.now;
-      after = g.L.Library.faults c.read_at.new.library;
-    }) c.stream_error.result
+    system_trouble (library_call (g.L.Library.files c.args.library.now) c.args.file.name.now
+    (g.L.Library.faults c.args.library.now) (g.L.Library.faults c.read_at.new.library)) c.stream_error.result
     (λ held fault is moves. chunk_told c.in-Err.refused (record {
-      file = record {
-        held = held;
-        name = c.args.file.name.now;
-        size = c.args.file.size;
-        opened = c.requires.opened held is;
-        short = c.requires.short;
-      };
+      file = film_file (c.requires.opened held is) c.requires.short;
       seen = so_far.seen;
       chunk = chunk;
       front = front_more (record {

@@ -5,7 +5,7 @@ use Rattle.cli_errors.specs.ReadErrors.{IsReadError}
 use Rattle.inputs.specs.FileReads.{IsThatName}
 use Rattle.inputs.specs.LoadErrors.{IsFilmError}
 use Rattle.inputs.specs.ChunkScans.{HasEnded, HasScannedFilm, HasStreamedAll, IsFilmRefused, IsRefusedAtEnd}
-use Rattle.inputs.proofs.ScanLemmas.{FilmFile, film_trouble, handed_on, none_told, ok_map, system_trouble}
+use Rattle.inputs.proofs.ScanLemmas.{film_file, film_trouble, handed_on, library_call, none_told, ok_map, system_trouble}
 use Rattle.inputs.proofs.StreamLemmas.{first_stream, stream_fault, stream_holds, stream_refused, stream_seen}
 use Rattle.inputs.proofs.streams.scan_stream.Goals as goal
 
@@ -42,13 +42,7 @@ returns-in-Ok-clause-film g c =
       video = video;
       ended = ended;
       holds = λ held is.
-          let file : FilmFile (Some c.args.from) = record {
-            held = held;
-            name = c.args.file.name.now;
-            size = c.args.file.size;
-            opened = c.requires.opened held is;
-            short = c.requires.short;
-          } in
+          let file = film_file (c.requires.opened held is) c.requires.short in
           stream_holds file (stream_seen file (all.whole held is)) (system, ended.accepted);
     })
     (c.finish_scan.ensures.ended video short all.unwrapped.taken)
@@ -66,20 +60,10 @@ returns-in-Ok-clause-error g c =
     (IsReadError (IsThatName c.args.file.name.now) IsFilmRefused (g.L.Library.files c.args.library.now)
     (g.L.Library.faults c.args.library.now) (g.L.Library.faults c.feed_stream.new.library))
     (λ t h. film_trouble
-    {Refuses = IsRefusedAtEnd (g.F.Found.heard c.feed_stream.new.found) c.feed_stream.new.scanner} (record {
-      told = g.L.Library.files c.args.library.now;
-      name = c.args.file.name.now;
-      before = g.L.Library.faults c.args.library.now;
-      after = g.L.Library.faults c.feed_stream.new.library;
-    }) t
+    {Refuses = IsRefusedAtEnd (g.F.Found.heard c.feed_stream.new.found) c.feed_stream.new.scanner} (library_call (g.L.Library.files c.args.library.now) c.args.file.name.now
+    (g.L.Library.faults c.args.library.now) (g.L.Library.faults c.feed_stream.new.library)) t
     (λ held fault is refuses.
-    let file : FilmFile (Some c.args.from) = record {
-      held = held;
-      name = c.args.file.name.now;
-      size = c.args.file.size;
-      opened = c.requires.opened held is;
-      short = c.requires.short;
-    } in
+    let file = film_file (c.requires.opened held is) c.requires.short in
     stream_refused file
     (subst (λ (l : List ℕ). IsSystem l video) (sym (stream_seen file (all.whole held is))) system)
     (refuses video short all.unwrapped.taken)) h)
@@ -87,23 +71,13 @@ returns-in-Ok-clause-error g c =
 
 pub returns-in-Err-clause-error : goal.returns-in-Err-clause-error
 returns-in-Err-clause-error g c =
-    system_trouble (record {
-      told = g.L.Library.files c.args.library.now;
-      name = c.args.file.name.now;
-      before = g.L.Library.faults c.args.library.now;
-      after = g.L.Library.faults c.feed_stream.new.library;
-    }) c.stream_error.result
+    system_trouble (library_call (g.L.Library.files c.args.library.now) c.args.file.name.now
+    (g.L.Library.faults c.args.library.now) (g.L.Library.faults c.feed_stream.new.library)) c.stream_error.result
     (λ held fault is moves.
     let all : HasStreamedAll (g.F.Found.heard c.feed_stream.new.found) (g.L.Library.files c.args.library.now)
     c.args.file.name.now c.args.file.size c.args.from c.feed_stream.new.unwrapper c.feed_stream.new.scanner =
     (c.in_ok-feed_stream.ensures {u = tt}).streamed in
-    let file : FilmFile (Some c.args.from) = record {
-      held = held;
-      name = c.args.file.name.now;
-      size = c.args.file.size;
-      opened = c.requires.opened held is;
-      short = c.requires.short;
-    } in
+    let file = film_file (c.requires.opened held is) c.requires.short in
     stream_fault file
     (subst (λ (l : List ℕ). IsBadStream l c.in-Err.fault) (sym (stream_seen file (all.whole held is)))
     ((c.in-Err.ensures {u = tt}).end all.seen all.unwrapped.video all.unwrapped.fed)) moves)

@@ -8,13 +8,27 @@ use Rattle.admission.specs.Books.{Journal}
 use Rattle.day_run.specs.declared.clients.Client.{Client}
 use Rattle.day_run.specs.Clients.{IsBooked, IsGoing, IsTimed, state_of}
 use Rattle.day_run.proofs.JournalStepLemmas.{day-halted, open-halt}
-use Rattle.day_run.specs.Days.{IsNoted, IsPauseLine, DayState, entry_by}
+use Rattle.day_run.specs.Days.{IsNoted, IsPauseLine, DayState, entry_by, state_at}
 use Rattle.day_run.specs.MachineState.{link_on, day_state_of, reply_text}
 use Rattle.day_run.specs.ClientStates.{ClientState, Idle}
 use Rattle.day_run.specs.declared.machine.LineAnswer.TheVariants as tolds
 use Rattle.day_run.proofs.LineStepLemmas.{no-pause, noted, paused-play}
 use Rattle.day_run.proofs.ClientSweepLemmas.{state-at, states-set}
+use Rattle.day_run.proofs.ScriptLines.{LineStep}
+use Rattle.day_run.proofs.machine.DayMachine.pause.Goals.{After-pause}
 use Rattle.day_run.proofs.machine.DayMachine.pause.Goals as goal
+
+-- the client that pauses, at its place
+inside : (c : After-pause) → c.args.client < length c.args.self.now.clients.items
+inside c = omega (arith, c.requires.machine.count, c.ranges.client.fits)
+
+at : (c : After-pause) → state_of c.index_mut.result.now ≡ state_at (day_state_of c.args.self.now) c.args.client
+at c = ap state_of c.index_mut.ensures.value
+    ∙ sym (state-at c.args.self.now.clients.items c.args.client c.index_mut.result.now (inside c))
+
+timed : (c : After-pause) → IsTimed c.args.self.now.heard c.index_mut.result.now
+timed c = subst (IsTimed c.args.self.now.heard) (sym c.index_mut.ensures.value)
+    (c.requires.machine.timed.each c.args.client c.index_mut.result.now (inside c))
 
 pub returns-in-Some-clause-machine : goal.returns-in-Some-clause-machine
 returns-in-Some-clause-machine c =
@@ -22,13 +36,12 @@ returns-in-Some-clause-machine c =
     let day = c.requires.machine in
     let halt = c.in-Some.halt in
     let client = c.index_mut.result.now in
-    let inside : c.args.client < length old.clients.items = omega (arith, day.count, c.ranges.client.fits) in
-    let B : Client → Type 0 = λ x. IsBooked old.book.entries c.args.client x in
-    let booked = subst B (sym c.index_mut.ensures.value) (day.booked.each c.args.client client inside) in
-    let going = subst IsGoing (sym c.index_mut.ensures.value) (day.going.each c.args.client client inside) in
-    let T : Client → Type 0 = λ x. IsTimed old.heard x in
-    let timed = subst T (sym c.index_mut.ensures.value) (day.timed.each c.args.client client inside) in
-    let its = open-halt client (record { going = going; booked = booked }) c.in-Some.ensures.some in
+    let here = (goal.at.returns-in-Some-clause-machine c).After-pause in
+    let its = open-halt client (record {
+      going = subst IsGoing (sym c.index_mut.ensures.value) (day.going.each c.args.client client (inside here));
+      booked = subst (IsBooked old.book.entries c.args.client) (sym c.index_mut.ensures.value)
+          (day.booked.each c.args.client client (inside here));
+    }) c.in-Some.ensures.some in
     let e : Entry =
     record { maker = c.from.result; command = Halt halt.number halt.keep; answer = c.halt-noted.result.answer } in
     day-halted old day (record {
@@ -37,36 +50,31 @@ returns-in-Some-clause-machine c =
       going = c.pause.ensures.going;
       undone = c.pause.ensures.undone;
       quiet = c.in-Some.ensures.quiet;
-      timed = c.pause.ensures.timed old.heard timed;
+      timed = c.pause.ensures.timed old.heard (timed here);
     })
 
 pub returns-in-Some-clause-line : goal.returns-in-Some-clause-line
 returns-in-Some-clause-line c =
     let old = c.args.self.now in
-    let day = c.requires.machine in
     let halt = c.in-Some.halt in
     let client = c.index_mut.result.now in
     let next = c.pause.new.self in
+    let here = (goal.at.returns-in-Some-clause-line c).After-pause in
     let new : DayState =
     record {
       entries = c.halt-noted.new.self.entries;
       states = map state_of (set old.clients.items c.args.client next);
       heard = old.heard;
     } in
-    let inside : c.args.client < length old.clients.items = omega (arith, day.count, c.ranges.client.fits) in
-    let T : Client → Type 0 = λ x. IsTimed old.heard x in
-    let timed = subst T (sym c.index_mut.ensures.value) (day.timed.each c.args.client client inside) in
     let made = c.halt-noted.ensures.noted in
     let e : Entry =
     record { maker = c.from.result; command = Halt halt.number halt.keep; answer = c.halt-noted.result.answer } in
     let text = reply_text c.halt-noted.new.self.entries (tolds.Entry c.halt-noted.result.place) in
-    let at : state_of client ≡ get_or (map state_of old.clients.items) c.args.client Idle =
-    ap state_of c.index_mut.ensures.value ∙ sym (state-at old.clients.items c.args.client client inside) in
     let P : ClientState → Type 0 = λ s. IsPauseLine (link_on old) c.args.client s (day_state_of old) new text in
-    let its = paused-play client next (c.in-Some.ensures.pause old.heard timed) in
+    let its = paused-play client next (c.in-Some.ensures.pause old.heard (timed here)) in
     let N : ℕ → Type 0 = λ n. IsNoted (link_on old) (entry_by c.args.client (Halt n halt.keep) Halted)
     (set (map state_of old.clients.items) c.args.client (state_of next)) (day_state_of old) new text in
-    subst P (sym (ap state_of its.client_is) ∙ at) (record {
+    subst P (sym (ap state_of its.client_is) ∙ at here) (record {
       keep = halt.keep;
       state = state_of next;
       pause = its.pause;
@@ -86,26 +94,21 @@ returns-in-Some-clause-line c =
 pub returns-in-None-clause-line : goal.returns-in-None-clause-line
 returns-in-None-clause-line c =
     let old = c.args.self.now in
-    let day = c.requires.machine in
     let client = c.index_mut.result.now in
-    let next = c.pause.new.self in
-    let new : DayState =
-    record {
-      entries = old.book.entries;
-      states = map state_of (set old.clients.items c.args.client next);
-      heard = old.heard;
+    let step : LineStep = record {
+      link = link_on old;
+      old = day_state_of old;
+      new = record (day_state_of old) {
+        states = map state_of (set old.clients.items c.args.client c.pause.new.self);
+      };
+      text = reply_text old.book.entries tolds.State;
     } in
-    let inside : c.args.client < length old.clients.items = omega (arith, day.count, c.ranges.client.fits) in
-    let at : state_of client ≡ get_or (map state_of old.clients.items) c.args.client Idle =
-    ap state_of c.index_mut.ensures.value ∙ sym (state-at old.clients.items c.args.client client inside) in
-    let same : set old.clients.items c.args.client next ≡ old.clients.items =
+    let same : set old.clients.items c.args.client c.pause.new.self ≡ old.clients.items =
     ap (set old.clients.items c.args.client) (c.in-None.ensures.none ∙ c.index_mut.ensures.value)
     ∙ set-get_or old.clients.items c.args.client client in
-    let P : ClientState → Type 0 =
-    λ s. IsPauseLine (link_on old) c.args.client s (day_state_of old) new (reply_text old.book.entries tolds.State) in
-    subst P at (no-pause
-    (record { link = link_on old; old = day_state_of old; new = new; text = reply_text old.book.entries tolds.State })
-    c.args.client client c.in-None.ensures.idle
+    let P : ClientState → Type 0 = λ s. IsPauseLine step.link c.args.client s step.old step.new step.text in
+    subst P (at (goal.at.returns-in-None-clause-line c).After-pause)
+    (no-pause step c.args.client client c.in-None.ensures.idle
     (record { kept = ap (λ l. record (day_state_of old) { states = map state_of l }) same; text_is = refl }))
 
 pub returns-in-None-clause-machine : goal.returns-in-None-clause-machine
