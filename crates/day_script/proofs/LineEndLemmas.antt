@@ -1,7 +1,6 @@
 -- How the lines of a script end, and that empty ones say nothing.
-use Rattle.std.proofs.Common.{◌≡◌, ◌≢◌, ◌-◌, ◌==◌, ℕ, List, [], ◌∷◌, ◌++◌, All, length, take}
-use Rattle.std.proofs.Common.{get_or, slice_index, Option, Some, None, arith, refl, sym, ap}
-use Rattle.std.proofs.Common.{◌∙◌, ne_eqb}
+use Rattle.std.proofs.Common.{◌≡◌, ◌≢◌, ◌-◌, ◌==◌, ℕ, List, [], ◌∷◌, ◌++◌, All, length, take, get_or, slice_index}
+use Rattle.std.proofs.Common.{Option, Some, None, arith, refl, sym, ap, ◌∙◌, ne_eqb}
 use Rattle.std.specs.Option.{option_and_then}
 use Rattle.std.proofs.lemmas.Bool.{cond-false, cond-true, eq-eqb}
 use Rattle.std.proofs.lemmas.List.{append_assoc, get_or_at, length-append, take_at}

@@ -1,7 +1,6 @@
 -- The text of lines and words, cut again at its lines' ends and spaces.
-use Rattle.std.proofs.Common.{◌≡◌, ◌≢◌, ◌<◌, ◌≤◌, ◌-◌, ◌^◌, ◌==◌, ℕ, suc, true, false, nat_le}
-use Rattle.std.proofs.Common.{List, [], ◌∷◌, ◌++◌, All, decimal, length, get_or}
-use Rattle.std.proofs.Common.{slice_index, arith, refl, ap, ◌∙◌, ne_eqb, inl, inr}
+use Rattle.std.proofs.Common.{◌≡◌, ◌≢◌, ◌<◌, ◌≤◌, ◌-◌, ◌^◌, ◌==◌, ℕ, suc, true, false, nat_le, List, [], ◌∷◌, ◌++◌, All}
+use Rattle.std.proofs.Common.{decimal, length, get_or, slice_index, arith, refl, ap, ◌∙◌, ne_eqb, inl, inr}
 use Rattle.std.specs.List.{list_all, slice_split}
 use Rattle.std.specs.Char.{is_ascii_digit}
 use Rattle.std.proofs.lemmas.Bool.{and_from, and_parts, cases_lt, cond-false, le-leb, leb-true}

@@ -1,6 +1,5 @@
 -- A line that is spelled and may not stand there is refused, and so is one whose verb is unknown.
-use Rattle.std.proofs.Common.{◌≡◌, ◌<◌, ◌-◌, ◌+◌, ◌&&◌, ◌||◌, ℕ, Bool, true, false, nat_lt}
-use Rattle.std.proofs.Common.{List, [], ◌∷◌, ◌++◌, codes}
+use Rattle.std.proofs.Common.{◌≡◌, ◌<◌, ◌-◌, ◌+◌, ◌&&◌, ◌||◌, ℕ, Bool, true, false, nat_lt, List, [], ◌∷◌, ◌++◌, codes}
 use Rattle.std.proofs.Common.{decimal, length, map, take, get_or, Some, None, arith, refl, ap, ◌∙◌, inl, inr}
 use Rattle.std.specs.Prelude.{◌⊎◌}
 use Rattle.std.specs.List.{list_all}
@@ -15,17 +14,16 @@ use Rattle.early_start.specs.declared.TheConstants.{MAX_WAIT}
 use Rattle.day_script.specs.declared.scripts.Line.{Line}
 use Rattle.day_script.specs.declared.scripts.Line.TheVariants.{Play, Pause, Resume, Look, Slot, Offer}
 use Rattle.day_script.specs.TextLines.{lines_of_script}
-use Rattle.day_script.specs.ScriptReading.{IsBadLine, Name, Reading, line_read, lines_read, nothing_read}
-use Rattle.day_script.specs.ScriptReading.{with_message, with_words}
+use Rattle.day_script.specs.ScriptReading.{IsBadLine, Name, Reading, line_read, lines_read, nothing_read, with_message}
+use Rattle.day_script.specs.ScriptReading.{with_words}
 use Rattle.day_script.specs.MessageWords.{asked_in, pair_in, message_in}
 use Rattle.day_script.specs.Scripts.{latest_slot}
-use Rattle.day_script.specs.ScriptText.{AreWritten, IsAskedInWords, IsAsking, IsInWords, MayStand}
-use Rattle.day_script.specs.ScriptText.{is_verb, is_word, kind_text}
-use Rattle.day_script.specs.ScriptText.{line_text, name_at, names_used, script_text, words_text, words_of}
+use Rattle.day_script.specs.ScriptText.{AreWritten, IsAskedInWords, IsAsking, IsInWords, MayStand, is_verb, is_word}
+use Rattle.day_script.specs.ScriptText.{kind_text, line_text, name_at, names_used, script_text, words_text, words_of}
 use Rattle.day_script.proofs.LineTextLemmas.{spaced-line}
 use Rattle.day_script.proofs.WordReadBack.{kind-back, read-or, words-plain}
-use Rattle.day_script.proofs.ScriptReadBack.{ReadSoFar, asked-of, line-words, read_so_far, text-read}
-use Rattle.day_script.proofs.ScriptReadBack.{texts-lines, texts-read}
+use Rattle.day_script.proofs.ScriptReadBack.{ReadSoFar, asked-of, line-words, read_so_far, text-read, texts-lines}
+use Rattle.day_script.proofs.ScriptReadBack.{texts-read}
 
 -- ---- a line that may not stand there
 abbrev IsAskedOr : Name → ℕ → ℕ → ℕ → Type 0

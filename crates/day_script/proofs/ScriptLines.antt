@@ -1,13 +1,12 @@
 -- The lines of a script and one more.
-use Rattle.std.proofs.Common.{◌≡◌, ◌≤◌, ◌-◌, ℕ, List, [], ◌∷◌, ◌++◌, length, take, get_or, arith}
-use Rattle.std.proofs.Common.{sym, ap, subst, ◌∙◌, inl, inr}
+use Rattle.std.proofs.Common.{◌≡◌, ◌≤◌, ◌-◌, ℕ, List, [], ◌∷◌, ◌++◌, length, take, get_or, arith, sym, ap, subst, ◌∙◌}
+use Rattle.std.proofs.Common.{inl, inr}
 use Rattle.std.proofs.lemmas.Bool.{cases_lt}
 use Rattle.std.proofs.lemmas.List.{length-append, take-append-le, take_at, get_or_append_left, get_or-append_right}
 use Rattle.std.proofs.lemmas.List.Sums.{fold_push}
 use Rattle.day_script.specs.declared.scripts.Line.{Line}
 use Rattle.day_script.specs.declared.scripts.Line.TheVariants.{Play, Pause, Resume, Look, Slot, Offer}
-use Rattle.day_script.specs.Scripts.{AreClients, IsClient}
-use Rattle.day_script.specs.Scripts.{AreLines, IsWish, StandsAfter, latest_slot, slot_after}
+use Rattle.day_script.specs.Scripts.{AreClients, IsClient, AreLines, IsWish, StandsAfter, latest_slot, slot_after}
 
 pub latest-push : (lines : List Line) (line : Line)
     → latest_slot (lines ++ line ∷ []) ≡ slot_after (latest_slot lines) line

@@ -1,16 +1,13 @@
 -- Lines that are spelled are read back, and the script that they make.
-use Rattle.std.proofs.Common.{◌≡◌, ◌≢◌, ◌<◌, ◌≤◌, ◌+◌, ◌==◌, ℕ, max, true, nat_lt, List}
-use Rattle.std.proofs.Common.{[], ◌∷◌, ◌++◌, codes}
-use Rattle.std.proofs.Common.{decimal, length, map, take, get_or, Some, None, arith, refl, sym, ap, ◌∙◌, inl, inr}
+use Rattle.std.proofs.Common.{◌≡◌, ◌≢◌, ◌<◌, ◌≤◌, ◌+◌, ◌==◌, ℕ, max, true, nat_lt, List, [], ◌∷◌, ◌++◌, codes, decimal}
+use Rattle.std.proofs.Common.{length, map, take, get_or, Some, None, arith, refl, sym, ap, ◌∙◌, inl, inr}
 use Rattle.std.specs.List.{fold, list_all, slice_split}
 use Rattle.std.specs.Option.{option_and_then}
 use Rattle.std.specs.Str.{bytes_eq}
-use Rattle.std.proofs.lemmas.Bool.{and_from, and_parts, cases_lt, cond-false, cond-true}
-use Rattle.std.proofs.lemmas.Bool.{false_from_ne_true, lt-ltb, ltb-true}
-use Rattle.std.proofs.lemmas.Bool.{ne_eqb}
-use Rattle.std.proofs.lemmas.List.{append_assoc, append-nil, get_or-take, get_or_past, length-map}
-use Rattle.std.proofs.lemmas.List.{length-take-le, take_all}
-use Rattle.std.proofs.lemmas.List.{take_more}
+use Rattle.std.proofs.lemmas.Bool.{and_from, and_parts, cases_lt, cond-false, cond-true, false_from_ne_true, lt-ltb}
+use Rattle.std.proofs.lemmas.Bool.{ltb-true, ne_eqb}
+use Rattle.std.proofs.lemmas.List.{append_assoc, append-nil, get_or-take, get_or_past, length-map, length-take-le}
+use Rattle.std.proofs.lemmas.List.{take_all, take_more}
 use Rattle.std.proofs.lemmas.List.Sums.{position_or_len_is}
 use Rattle.std.proofs.lemmas.Slice.Eq.{bytes_eq-Decides}
 use Rattle.vod_base.specs.Names.{good_name}
@@ -24,14 +21,13 @@ use Rattle.day_script.specs.declared.scripts.SourceKind.TheVariants.{Film, Trace
 use Rattle.day_script.specs.declared.messages.PlayParams.{PlayParams}
 use Rattle.day_script.specs.TextLines.{is_space, lines_of_script}
 use Rattle.day_script.specs.declared.scripts.Script.{Script}
-use Rattle.day_script.specs.ScriptReading.{IsScript, Name, Reading, is_kind, is_name, line_read, lines_read}
-use Rattle.day_script.specs.ScriptReading.{names_of, nothing_read, name_as, source_in, with_name}
-use Rattle.day_script.specs.ScriptReading.{with_named, with_words}
+use Rattle.day_script.specs.ScriptReading.{IsScript, Name, Reading, is_kind, is_name, line_read, lines_read, names_of}
+use Rattle.day_script.specs.ScriptReading.{nothing_read, name_as, source_in, with_name, with_named, with_words}
 use Rattle.day_script.specs.MessageWords.{asked_in}
 use Rattle.day_script.specs.Scripts.{latest_slot, slot_after}
-use Rattle.day_script.specs.ScriptText.{AreStanding, AreWritten, IsAsking, IsInWords, IsNextName}
-use Rattle.day_script.specs.ScriptText.{MayStand, asked_words, is_word, kind_text}
-use Rattle.day_script.specs.ScriptText.{line_text, name_at, names_after, names_used, script_text, words_text, words_of}
+use Rattle.day_script.specs.ScriptText.{AreStanding, AreWritten, IsAsking, IsInWords, IsNextName, MayStand, asked_words}
+use Rattle.day_script.specs.ScriptText.{is_word, kind_text, line_text, name_at, names_after, names_used, script_text}
+use Rattle.day_script.specs.ScriptText.{words_text, words_of}
 use Rattle.day_script.proofs.LineTextLemmas.{spaced-line, spaced-split}
 use Rattle.day_script.proofs.WordReadBack.{in-words, kind-back, number-back, words-plain}
 

@@ -39,7 +39,7 @@ calendar_told from booked are =
             | inl inside ↦ inside
             | inr past ↦ absurd (omega (arith, are.past t past, some))
           ] in
-          booked_stands booked from ring_slots after inside some
+          booked_stands booked from ring_slots (after, inside) some
           );
       lines_are = ap (λ (ls : Lines). ls.whole) told;
       rest_is = ap (λ (ls : Lines). ls.rest) told;

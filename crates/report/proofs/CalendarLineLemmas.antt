@@ -91,14 +91,14 @@ all_booked bytes Q a (suc n) each =
     pick true is others = All-cons Q a rest (each a (omega arith) (omega arith) (ltb-true 0 (bytes a) is)) others
     pick false is others = others
 
-pub booked_stands : {slot : ℕ} (bytes : ℕ → ℕ) (a n : ℕ) → a ≤ slot → slot < a + n → 0 < bytes slot
+pub booked_stands : {slot : ℕ} (bytes : ℕ → ℕ) (a n : ℕ) → (a ≤ slot) × (slot < a + n) → 0 < bytes slot
     → Contains (booked_among bytes (range_with_len a n)) slot
-booked_stands {slot} bytes a zero after inside some = absurd (omega arith)
-booked_stands {slot} bytes a (suc n) after inside some = elim (cases_lt a slot) [
+booked_stands {slot} bytes a zero within some = absurd (omega (arith, within.0, within.1))
+booked_stands {slot} bytes a (suc n) within some = elim (cases_lt a slot) [
   | inl later ↦ over (nat_lt 0 (bytes a))
-      (booked_stands bytes (a + 1) n (omega arith) (omega arith) some)
+      (booked_stands bytes (a + 1) n (omega (arith, later), omega (arith, within.1)) some)
   | inr first ↦ (
-      let here : a ≡ slot = omega arith in
+      let here : a ≡ slot = omega (arith, first, within.0) in
       let booked : 0 < bytes a = subst (λ t. 0 < bytes t) (sym here) some in
       let P : Bool → Type 0 =
       λ b. Contains
@@ -124,10 +124,20 @@ all_map P f (x ∷ xs) each =
     All-cons P (f x) (map f xs) (All-head (λ t. P (f t)) x xs each) (all_map P f xs (All-tail (λ t. P (f t)) x xs each))
 
 -- ---- what a line states
-same_words : {s b t c : ℕ} → s < 2 ^ 64 → b < 2 ^ 64 → t < 2 ^ 64 → c < 2 ^ 64 → slot_words s b ≡ slot_words t c
-    → (s ≡ t) × (b ≡ c)
-same_words {s} {b} {t} {c} small few small' few' e =
-    let tail : ℕ → List ℕ = λ n. codes "booked=" ++ decimal n in
+-- a slot and bytes as a line may state them
+pub record StatedSlot : Type 0 where
+  pub slot : ℕ
+  pub booked : ℕ
+  pub small : slot < 2 ^ 64
+  pub few : booked < 2 ^ 64
+
+same_words : (one other : StatedSlot) → slot_words one.slot one.booked ≡ slot_words other.slot other.booked
+    → (one.slot ≡ other.slot) × (one.booked ≡ other.booked)
+same_words one other e =
+    let s = one.slot in
+    let b = one.booked in
+    let t = other.slot in
+    let c = other.booked in
     let shape : (m n : ℕ) → slot_words m n ≡ codes "at " ++ (decimal m ++ 32 ∷ (codes "booked=" ++ decimal n)) =
     λ m n. append_assoc (codes "at ") (decimal m) (field (codes " booked=") n) in
     let rest : decimal s ++ 32 ∷ (codes "booked=" ++ decimal b) ≡ decimal t ++ 32 ∷ (codes "booked=" ++ decimal c) =
@@ -137,9 +147,9 @@ same_words {s} {b} {t} {c} small few small' few' e =
     λ (n : ℕ) small. not_in_decimal 32 n small (λ within. omega (arith, within.0)) in
     let parts = split_once {after = codes "booked=" ++ decimal b} {after' = codes "booked=" ++ decimal c} 32
     (decimal s) (decimal t) rest
-    (no_space s small) (no_space t small') in (
-      decimal_injective s t small small' parts.0,
-      decimal_injective b c few few' (append_cancel_left (codes "booked=") (decimal b) (decimal c) parts.1),
+    (no_space s one.small) (no_space t other.small) in (
+      decimal_injective s t one.small other.small parts.0,
+      decimal_injective b c one.few other.few (append_cancel_left (codes "booked=") (decimal b) (decimal c) parts.1),
     )
 
 -- a line of this slot states its booked bytes, above 0, and the slot isn't before now
@@ -154,38 +164,45 @@ few_slots from bytes kept =
     all_booked bytes (IsFew bytes) from ring_slots
     (λ t after inside some. (omega (arith, kept.first_small, inside), omega (arith, kept.few t after)))
 
-tells_all : {from : ℕ} {bytes : ℕ → ℕ} {slot booked : ℕ} → slot < 2 ^ 64 → booked < 2 ^ 64
-    → AreBookings from bytes
-    → All (TellsOf from bytes slot booked) (map (words_at bytes) (booked_slots from bytes))
+tells_all : {from : ℕ} {bytes : ℕ → ℕ} (told : StatedSlot) → AreBookings from bytes
+    → All (TellsOf from bytes told.slot told.booked) (map (words_at bytes) (booked_slots from bytes))
 unfolding booked_slots
-tells_all {from} {bytes} {slot} {booked} small few kept =
-    all_map (TellsOf from bytes slot booked) (words_at bytes) (booked_slots from bytes)
-    (all_booked bytes (λ t. TellsOf from bytes slot booked (words_at bytes t)) from ring_slots (λ t after inside some e.
-    let same = same_words small few (omega (arith, kept.first_small, inside)) (omega (arith, kept.few t after))
-    (sym e) in
+tells_all {from} {bytes} told kept =
+    let P = TellsOf from bytes told.slot told.booked in
+    all_map P (words_at bytes) (booked_slots from bytes)
+    (all_booked bytes (λ t. P (words_at bytes t)) from ring_slots (λ t after inside some e.
+    let same = same_words told (record {
+      slot = t;
+      booked = bytes t;
+      small = omega (arith, kept.first_small, inside);
+      few = omega (arith, kept.few t after);
+    }) (sym e) in
     (same.1 ∙ ap bytes (sym same.0), omega (arith, some, same.1), omega (arith, after, same.0))))
 
-pub line_stands : {from : ℕ} {bytes : ℕ → ℕ} (slot : ℕ) → AreBookings from bytes →
-    from ≤ slot → slot < from + ring_slots → 0 < bytes slot →
-    Contains (calendar_lines from bytes) (words_at bytes slot)
+pub line_stands : {from : ℕ} {bytes : ℕ → ℕ} (slot : ℕ) → AreBookings from bytes → from ≤ slot → 0 < bytes slot
+    → Contains (calendar_lines from bytes) (words_at bytes slot)
 unfolding booked_slots
-line_stands {from} {bytes} slot kept after inside some =
+line_stands {from} {bytes} slot kept after some =
     let slots = map (words_at bytes) (booked_slots from bytes) in
     let line = words_at bytes slot in
+    let inside : slot < from + ring_slots = elim (cases_lt slot (from + ring_slots)) [
+      | inl inside ↦ inside
+      | inr past ↦ absurd (omega (arith, kept.past slot past, some))
+    ] in
     let stands =
     contains_map (words_at bytes) (booked_slots from bytes) slot
-    (booked_stands bytes from ring_slots after inside some) in
+    (booked_stands bytes from ring_slots (after, inside) some) in
     subst (λ (ls : List (List ℕ)). Contains ls line)
     (sym (lines_calendar from bytes (omega (arith, kept.first_small)) (few_slots from bytes kept)))
     (Contains-append_right (first_words from ∷ []) (slots ++ codes "end" ∷ []) line
     (Contains-append_left slots (codes "end" ∷ []) line stands))
 
-pub line_tells : {from : ℕ} {bytes : ℕ → ℕ} {slot booked : ℕ} → AreBookings from bytes →
-    slot < 2 ^ 64 → booked < 2 ^ 64 →
-    Contains (calendar_lines from bytes) (slot_words slot booked) → (booked ≡ bytes slot) × (0 < booked) × (from ≤ slot)
-line_tells {from} {bytes} {slot} {booked} kept small few stands =
-    let P = TellsOf from bytes slot booked in
-    let line = slot_words slot booked in
+pub line_tells : {from : ℕ} {bytes : ℕ → ℕ} (told : StatedSlot) → AreBookings from bytes
+    → Contains (calendar_lines from bytes) (slot_words told.slot told.booked)
+    → (told.booked ≡ bytes told.slot) × (0 < told.booked) × (from ≤ told.slot)
+line_tells {from} {bytes} told kept stands =
+    let P = TellsOf from bytes told.slot told.booked in
+    let line = slot_words told.slot told.booked in
     let slots = map (words_at bytes) (booked_slots from bytes) in
     let no_first : P (first_words from) =
     λ e. absurd (let first : 99 ≡ 97 = ap (λ (l : List ℕ). get_or l 0 0) e in omega (arith, first)) in
@@ -193,7 +210,7 @@ line_tells {from} {bytes} {slot} {booked} kept small few stands =
     λ e. absurd (let first : 101 ≡ 97 = ap (λ (l : List ℕ). get_or l 0 0) e in omega (arith, first)) in
     let tells : All P (lines_told from bytes) =
     All-cons P (first_words from) (slots ++ codes "end" ∷ []) no_first
-    (All-append P slots (codes "end" ∷ []) (tells_all small few kept)
+    (All-append P slots (codes "end" ∷ []) (tells_all told kept)
     (All-cons P (codes "end") [] no_end (All-nil P))) in
     let among : Contains (lines_told from bytes) line =
     subst (λ (ls : List (List ℕ)). Contains ls line)

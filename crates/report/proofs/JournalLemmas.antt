@@ -77,12 +77,22 @@ text_next entries from i entry inside at =
     ∙ ap (λ (e : Entry). entry_line (from + i) e ++ journal_text (from + i + 1) (drop (i + 1) entries)) (sym at)
     ∙ ap (λ n. entry_line (from + i) entry ++ journal_text n (drop (i + 1) entries)) next
 
+-- what was appended so far, and the next entry
+pub record NextLine : Type 0 where
+  pub entries : List Entry
+  pub from : ℕ
+  pub passed : ℕ
+  pub before : List ℕ
+  pub mid : List ℕ
+  pub entry : Entry
+  pub so_far : HasAppended entries from passed before mid
+  pub inside : passed < length entries
+  pub at : entry ≡ get_or entries passed entry
+
 -- a line more
-pub one_more : {entries : List Entry} {from passed : ℕ} {before mid after : List ℕ} (entry : Entry) →
-    HasAppended entries from passed before mid →
-    passed < length entries → entry ≡ get_or entries passed entry → after ≡ mid ++ entry_line (from + passed) entry
-    → HasAppended entries from (passed + 1) before after
-one_more {entries = entries} {from = from} {passed = passed} {before = before} entry so_far inside at is =
+pub one_more : {after : List ℕ} (next : NextLine) → after ≡ next.mid ++ entry_line (next.from + next.passed) next.entry
+    → HasAppended next.entries next.from (next.passed + 1) next.before after
+one_more next is =
     let line = entry_line (from + passed) entry in
     let rest = journal_text (from + (passed + 1)) (drop (passed + 1) entries) in
     record {
@@ -91,18 +101,20 @@ one_more {entries = entries} {from = from} {passed = passed} {before = before} e
       whole = append_assoc so_far.done line rest
           ∙ ap (λ (l : List ℕ). so_far.done ++ l) (sym (text_next entries from passed entry inside at)) ∙ so_far.whole;
     }
+  where
+    open next use {entries, from, passed, before, entry, so_far, inside, at}
 
 -- a prefix of the next line is one of the text
-pub line_cut : {entries : List Entry} {from passed : ℕ} {before mid after : List ℕ} {e : NoMemory}
-    (entry : Entry) → HasAppended entries from passed before mid →
-    passed < length entries → entry ≡ get_or entries passed entry
-    → IsAppended mid (entry_line (from + passed) entry) after (Err e) →
-    IsAppended before (journal_text from entries) after (Err e)
-line_cut {entries = entries} {from = from} {passed = passed} entry so_far inside at cut =
+pub line_cut : {after : List ℕ} {e : NoMemory} (next : NextLine)
+    → IsAppended next.mid (entry_line (next.from + next.passed) next.entry) after (Err e)
+    → IsAppended next.before (journal_text next.from next.entries) after (Err e)
+line_cut next cut =
     appended_as (ap (λ (l : List ℕ). so_far.done ++ l) (sym (text_next entries from passed entry inside at))
     ∙ so_far.whole)
     (then_appended so_far.done so_far.after_is
     (cut_before (journal_text (from + (passed + 1)) (drop (passed + 1) entries)) cut))
+  where
+    open next use {entries, from, passed, entry, so_far, inside, at}
 
 -- after the last line
 pub all_appended : {entries : List Entry} {from passed : ℕ} {before after : List ℕ} →

@@ -1,7 +1,6 @@
 -- The lines of the slots of a calendar.
 use Rattle.std.proofs.Common.{ℕ, zero, suc, ◌+◌, ◌-◌, ◌<◌, ◌≤◌, ◌≡◌, nat_lt, Bool, true, false, cond, List, [], ◌∷◌}
-use Rattle.std.proofs.Common.{◌++◌, flat_map, append-nil, sym, ap, refl}
-use Rattle.std.proofs.Common.{◌∙◌, arith}
+use Rattle.std.proofs.Common.{◌++◌, flat_map, append-nil, sym, ap, refl, ◌∙◌, arith}
 use Rattle.std.specs.List.{range_with_len}
 use Rattle.std.proofs.lemmas.Bool.{lt-ltb, le-ltb}
 use Rattle.std.proofs.lemmas.Grind.{flat_map-append}
@@ -56,25 +55,32 @@ lines_split bytes a k m t is =
     ∙ ap (λ (l : List ℕ). lines bytes (range_with_len a k) ++ l) (lines_cons bytes t (range_with_len (t + 1) m))
 
 -- one slot more
-pub lines_more : {n t : ℕ} (bytes : ℕ → ℕ) (a k : ℕ) → t ≡ a + k → n ≡ k + 1 →
-    lines bytes (range_with_len a n) ≡ lines bytes (range_with_len a k) ++ line_at bytes t
-lines_more {n} {t} bytes a k is count =
-    let one : n ≡ k + suc 0 = omega arith in
+pub lines_more : {t : ℕ} (bytes : ℕ → ℕ) (a k : ℕ) → t ≡ a + k
+    → lines bytes (range_with_len a (k + 1)) ≡ lines bytes (range_with_len a k) ++ line_at bytes t
+lines_more {t} bytes a k is =
+    let one : k + 1 ≡ k + suc 0 = omega arith in
     ap (λ m. lines bytes (range_with_len a m)) one ∙ lines_split bytes a k 0 t is
     ∙ ap (λ (l : List ℕ). lines bytes (range_with_len a k) ++ l) (append-nil (line_at bytes t))
 
 -- slot t stands k slots after slot a, among the n slots from slot a on
-pub record IsAmong (a n k t : ℕ) : Type 0 where
+pub record SlotAmong : Type 0 where
+  pub a : ℕ
+  pub n : ℕ
+  pub k : ℕ
+  pub t : ℕ
   pub is : t ≡ a + k
   pub inside : k < n
 
 -- all slots, of which t is one in which bytes are booked
-pub lines_around : {a n k t : ℕ} (bytes : ℕ → ℕ) → IsAmong a n k t → 0 < bytes t →
-    lines bytes (range_with_len a k)
-    ++ (slot_line bytes t ++ lines bytes (range_with_len (t + 1) (n - (k + 1)))) ≡ lines bytes (range_with_len a n)
-lines_around {a} {n} {k} {t} bytes among some =
+pub lines_around : (bytes : ℕ → ℕ) (among : SlotAmong) → 0 < bytes among.t
+    → lines bytes (range_with_len among.a among.k)
+    ++ (slot_line bytes among.t ++ lines bytes (range_with_len (among.t + 1) (among.n - (among.k + 1))))
+    ≡ lines bytes (range_with_len among.a among.n)
+lines_around bytes among some =
     let m = n - (k + 1) in
-    let count : n ≡ k + suc m = omega (arith, among.inside) in
-    sym (ap (λ i. lines bytes (range_with_len a i)) count ∙ lines_split bytes a k m t among.is
+    let count : n ≡ k + suc m = omega (arith, inside) in
+    sym (ap (λ i. lines bytes (range_with_len a i)) count ∙ lines_split bytes a k m t is
     ∙ ap (λ (l : List ℕ). lines bytes (range_with_len a k) ++ (l ++ lines bytes (range_with_len (t + 1) m)))
     (line_booked bytes t some))
+  where
+    open among use {a, n, k, t, is, inside}

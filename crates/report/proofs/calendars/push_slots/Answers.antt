@@ -5,7 +5,7 @@ use Rattle.slot_calendar.specs.Calendars.{booked_at}
 use Rattle.slot_calendar.specs.Totals.{ring_slots}
 use Rattle.report.specs.CalendarTexts.{booked_slots, slot_words}
 use Rattle.vod_base.proofs.AppendLemmas.{appended_as, both, cut_before, handed_on, then_appended}
-use Rattle.report.proofs.SlotLemmas.{IsAmong, line_booked, line_free, lines, lines_around, lines_more}
+use Rattle.report.proofs.SlotLemmas.{line_booked, line_free, lines, lines_around, lines_more}
 use Rattle.report.proofs.calendars.push_slots.Goals as goal
 use Rattle.report.proofs.calendars.push_slots.Goals.{then-booked-gt0+in_ok-push_slot, else-booked-gt0}
 
@@ -21,10 +21,10 @@ returns-in_err-push_slot c =
     let inside : k < ring_slots =
     omega (arith, c.loop-slot-test.true, c.now-now.ensures.value, c.loop-slot.auto.slot) in
     let place : slot ≡ first + k = omega (arith, c.now-now.ensures.value, c.loop-slot.auto.slot) in
-    let among : IsAmong first ring_slots k slot = record { is = place; inside = inside } in
     let some : 0 < booked_at calendar slot = omega (arith, c.booked-booked.ensures.value, c.if-booked-gt0.true) in
     let words = ap (λ n. before ++ ((slot_words slot n ++ codes "\n") ++ after)) c.booked-booked.ensures.value
-    ∙ lines_around (booked_at calendar) among some in
+    ∙ lines_around (booked_at calendar)
+    (record { a = first; n = ring_slots; k = k; t = slot; is = place; inside = inside }) some in
     handed_on c.from_residual.result c.from_residual.ensures.0
     (appended_as words (then_appended before c.loop-slot.invariant (cut_before after c.in_err-push_slot.ensures)))
 
@@ -37,7 +37,8 @@ loop-slot-preserved c =
     let before = lines (booked_at calendar) (range_with_len first k) in
     let place : slot ≡ first + k = omega (arith, c.now-now.ensures.value, c.loop-slot.auto.slot) in
     let count : slot + 1 - first ≡ k + 1 = omega (arith, c.now-now.ensures.value, c.loop-slot.auto.slot) in
-    let more = lines_more (booked_at calendar) first k place count in
+    let more = ap (λ n. lines (booked_at calendar) (range_with_len first n)) count
+    ∙ lines_more (booked_at calendar) first k place in
     let out = c.args.out.now.items in
     elim c.if-booked-gt0.branch [
       | then-booked-gt0+in_ok-push_slot w ↦ (

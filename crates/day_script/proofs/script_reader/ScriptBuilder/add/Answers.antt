@@ -1,7 +1,6 @@
 use Rattle.std.proofs.Common.{arith, sym, subst, ap, ◌∙◌, List, length}
 use Rattle.day_script.specs.declared.scripts.Line.{Line}
-use Rattle.day_script.specs.Scripts.{AreLines, latest_slot}
-use Rattle.day_script.specs.Scripts.{AreClients}
+use Rattle.day_script.specs.Scripts.{AreLines, latest_slot, AreClients}
 use Rattle.day_script.proofs.ScriptLines.{clients-more, latest-push, lines-more}
 use Rattle.day_script.proofs.script_reader.ScriptBuilder.add.Goals as goal
 
