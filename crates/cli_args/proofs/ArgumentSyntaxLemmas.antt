@@ -1,7 +1,7 @@
 -- Arguments with a meaning have the form of their command.
-use Rattle.std.proofs.Common.{◌≡◌, ℕ, ◌+◌, ◌-◌, ◌<◌, ◌≤◌, ◌&&◌, ◌==◌, All, List, [], ◌∷◌, ◌++◌}
-use Rattle.std.proofs.Common.{length, sym, ap, ◌∙◌, arith, Some, None, Bool, true, false}
-use Rattle.std.proofs.Common.{refl, codes, if◌then◌else◌, nat_lt, get_or, inl, inr}
+use Rattle.std.proofs.Common.{◌≡◌, ℕ, ◌+◌, ◌<◌, ◌≤◌, ◌&&◌, ◌==◌, All, List, [], ◌∷◌, ◌++◌, length, sym, ap, ◌∙◌}
+use Rattle.std.proofs.Common.{arith, Some, None, Bool, true, false, refl, codes, if◌then◌else◌, nat_lt, get_or, inl}
+use Rattle.std.proofs.Common.{inr}
 use Rattle.std.specs.List.{after_first, before_first, list_all, position_or_len}
 use Rattle.std.specs.Option.{is_some, option_and_then}
 use Rattle.std.specs.Str.{bytes_eq}
@@ -14,21 +14,17 @@ use Rattle.std.proofs.lemmas.Option.{none-some}
 use Rattle.slot_calendar.specs.declared.profiles.CapStep.{CapStep}
 use Rattle.cli_args.specs.Settings.{number_or, one_name, one_number, setting_value, values_of}
 use Rattle.cli_args.specs.Capacities.{one_capacity}
-use Rattle.cli_args.specs.KeyValues.{film_given, buffer_given}
-use Rattle.cli_args.specs.KeyValues.{delay_given}
-use Rattle.cli_args.specs.KeyValues.{one_kind, one_bind}
+use Rattle.cli_args.specs.KeyValues.{film_given, buffer_given, delay_given, one_kind, one_bind}
 use Rattle.cli_args.specs.Subcommands.{subcommand_named, is_setting_of, keys_of}
 use Rattle.cli_args.specs.declared.subcommands.Subcommand.{Subcommand}
 use Rattle.cli_args.specs.declared.subcommands.Subcommand.TheVariants.{Plan, Check, Scan, Make, Day, Fair, Serve, Watch}
-use Rattle.cli_args.specs.ArgumentSyntax.{HasFilms, HasSource, AreArgsOf, AreValidArgs, IsOneSource}
-use Rattle.cli_args.specs.ArgumentSyntax.{IsSettingOf, most_times, needed_keys, times}
+use Rattle.cli_args.specs.ArgumentSyntax.{HasFilms, HasSource, AreArgsOf, AreValidArgs, IsOneSource, IsSettingOf}
+use Rattle.cli_args.specs.ArgumentSyntax.{most_times, needed_keys, times}
 use Rattle.cli_args.specs.ArgumentText.{AreApart, setting_text}
-use Rattle.cli_args.specs.Invocations.{PlanSource, ClientParams, Invocation, help, version, plan_of}
-use Rattle.cli_args.specs.Invocations.{scan_of, day_of, fair_of, serve_of, watch_of}
-use Rattle.cli_args.specs.Invocations.{command_invocation, lone_invocation, source_of}
-use Rattle.cli_args.specs.Invocations.{client_given, script_run_given, fair_run_given}
-use Rattle.cli_args.specs.Invocations.{listen_given, planning_given, serve_args_given, watch_args_given}
-use Rattle.cli_args.specs.Invocations.{invocation_given, invocation_from}
+use Rattle.cli_args.specs.Invocations.{PlanSource, ClientParams, Invocation, help, version, plan_of, scan_of, day_of}
+use Rattle.cli_args.specs.Invocations.{fair_of, serve_of, watch_of, command_invocation, lone_invocation, source_of}
+use Rattle.cli_args.specs.Invocations.{client_given, script_run_given, fair_run_given, listen_given, planning_given}
+use Rattle.cli_args.specs.Invocations.{serve_args_given, watch_args_given, invocation_given, invocation_from}
 use Rattle.cli_args.specs.declared.invocations.MediaKind.{MediaKind}
 use Rattle.cli_args.specs.declared.invocations.ListenSettings.{ListenSettings}
 use Rattle.cli_args.specs.declared.invocations.PlanSettings.{PlanSettings}

@@ -1,8 +1,7 @@
 -- The values of written invocations are read back.
-use Rattle.std.proofs.Common.{◌≡◌, ℕ, ◌+◌, ◌-◌, ◌<◌, ◌≤◌, ◌^◌, ◌&&◌, not, List, [], ◌∷◌, ◌++◌, All}
-use Rattle.std.proofs.Common.{length, sym, ap, subst, ◌∙◌, arith, Option, Some, None, Bool, true}
-use Rattle.std.proofs.Common.{false, refl, codes, decimal, nat_lt, nat_le, ◌==◌, if◌then◌else◌, inl}
-use Rattle.std.proofs.Common.{inr, length-append, true≢false}
+use Rattle.std.proofs.Common.{◌≡◌, ℕ, ◌+◌, ◌-◌, ◌<◌, ◌≤◌, ◌^◌, ◌&&◌, not, List, [], ◌∷◌, ◌++◌, All, length, sym, ap}
+use Rattle.std.proofs.Common.{subst, ◌∙◌, arith, Option, Some, None, Bool, true, false, refl, codes, decimal, nat_lt}
+use Rattle.std.proofs.Common.{nat_le, ◌==◌, if◌then◌else◌, inl, inr, length-append, true≢false}
 use Rattle.std.specs.Int.{IsInRange}
 use Rattle.std.specs.List.{list_all, position_or_len, before_first, after_first, slice_split, fold}
 use Rattle.std.specs.Option.{option_and_then, option_map}
@@ -24,8 +23,8 @@ use Rattle.vod_base.specs.Limits.{in_range}
 use Rattle.vod_base.specs.declared.links.TheConstants.{LATEST_SLOT}
 use Rattle.slot_calendar.specs.declared.profiles.TheConstants.{MAX_CAPACITY, MAX_STEPS}
 use Rattle.cli_args.specs.Settings.{one_name, one_number, number_or}
-use Rattle.cli_args.specs.Capacities.{step_of, is_later_step, may_follow, add_step, add_step_text}
-use Rattle.cli_args.specs.Capacities.{steps_of, one_capacity}
+use Rattle.cli_args.specs.Capacities.{step_of, is_later_step, may_follow, add_step, add_step_text, steps_of}
+use Rattle.cli_args.specs.Capacities.{one_capacity}
 use Rattle.cli_args.specs.ArgumentText.{IsCapacity, step_text, steps_text}
 use Rattle.cli_args.proofs.SettingLemmas.{has_no, inside_of, before_of, after_of}
 

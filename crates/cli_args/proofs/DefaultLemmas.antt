@@ -1,7 +1,6 @@
 -- An argument that gives a default means the same as no argument.
-use Rattle.std.proofs.Common.{◌≡◌, ℕ, ◌^◌, ◌-◌, ◌&&◌, ◌||◌, not, ◌⊎◌, All, List, [], ◌∷◌, ◌++◌, sym}
-use Rattle.std.proofs.Common.{ap, ◌∙◌, Option, Some, None, Bool, true, false, refl, codes}
-use Rattle.std.proofs.Common.{if◌then◌else◌, inl, inr}
+use Rattle.std.proofs.Common.{◌≡◌, ℕ, ◌^◌, ◌-◌, ◌&&◌, ◌||◌, not, ◌⊎◌, All, List, [], ◌∷◌, ◌++◌, sym, ap, ◌∙◌, Option}
+use Rattle.std.proofs.Common.{Some, None, Bool, true, false, refl, codes, if◌then◌else◌, inl, inr}
 use Rattle.std.specs.List.{Contains, list_all, list_any}
 use Rattle.std.specs.Option.{option_to_list}
 use Rattle.std.specs.Str.{bytes_eq}

@@ -1,21 +1,19 @@
 -- What arguments mean follows from the values that they give to each key.
-use Rattle.std.proofs.Common.{◌≡◌, ℕ, List, ◌∷◌, sym, ap, ◌∙◌, Option, Some, None, Bool, false}
-use Rattle.std.proofs.Common.{refl, codes, if◌then◌else◌, inl, inr}
+use Rattle.std.proofs.Common.{◌≡◌, ℕ, List, ◌∷◌, sym, ap, ◌∙◌, Option, Some, None, Bool, false, refl, codes}
+use Rattle.std.proofs.Common.{if◌then◌else◌, inl, inr}
 use Rattle.std.specs.List.{list_all}
 use Rattle.std.specs.Option.{option_and_then}
 use Rattle.std.specs.Str.{bytes_eq}
 use Rattle.std.proofs.lemmas.Bool.{cases_Bool}
 use Rattle.std.proofs.lemmas.Slice.Eq.{bytes_eq-Decides}
 use Rattle.cli_args.specs.Settings.{values_of}
-use Rattle.cli_args.specs.KeyValues.{buffer_given, delay_given, slot_given, capacity_given}
-use Rattle.cli_args.specs.KeyValues.{journal_given, port_given, workers_given, connections_given}
-use Rattle.cli_args.specs.KeyValues.{one_bind}
+use Rattle.cli_args.specs.KeyValues.{buffer_given, delay_given, slot_given, capacity_given, journal_given, port_given}
+use Rattle.cli_args.specs.KeyValues.{workers_given, connections_given, one_bind}
 use Rattle.cli_args.specs.Subcommands.{subcommand_named, is_setting_of}
 use Rattle.cli_args.specs.declared.subcommands.Subcommand.{Subcommand}
 use Rattle.cli_args.specs.declared.subcommands.Subcommand.TheVariants.{Plan, Check, Scan, Make, Day, Fair, Serve, Watch}
 use Rattle.cli_args.specs.Invocations.{Invocation, lone_invocation, help, version, invocation_given, command_invocation}
-use Rattle.cli_args.specs.Invocations.{invocation_from, source_given, client_given, listen_given}
-use Rattle.cli_args.specs.Invocations.{planning_given}
+use Rattle.cli_args.specs.Invocations.{invocation_from, source_given, client_given, listen_given, planning_given}
 
 -- the meaning of a command's arguments
 pub meaning_of : (name : List ℕ) (command : Subcommand) (words : List (List ℕ)) → subcommand_named name ≡ Some command →

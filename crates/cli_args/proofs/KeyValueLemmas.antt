@@ -58,57 +58,45 @@ some_found None h = cc
 some_found (Some v) h = refl
 
 -- what the arguments before an argument gave to a key, and what that one gives
-pub record IsSearch (key : List ℕ) (words : List (String Global)) (i : ℕ) (word : String Global)
-    (found answer : Option (Bor (List ℕ))) : Type 0 where
+pub record Search (key : List ℕ) (words : List (String Global)) : Type 0 where
+  pub i : ℕ
+  pub word : String Global
+  pub found : Option (Bor (List ℕ))
+  pub answer : Option (Bor (List ℕ))
   pub at : IsWordAt words i word
   pub before : values_of key (texts (take i words)) ≡ option_to_list (option_copied found)
   pub says : option_copied answer ≡ setting_value key (string_bytes word)
 
 -- the first argument that gives a value
-pub values_of_first : {key : List ℕ} {words : List (String Global)} {i : ℕ} {word : String Global}
-    {found answer found' : Option (Bor (List ℕ))} →
-    IsSearch key words i word found answer → is_some found ≡ false → found' ≡ answer →
-    values_of key (texts (take (i + 1) words)) ≡ option_to_list (option_copied found')
-values_of_first {key} {words} {i} {word} {found} given none is =
-    values_of_more key words i word given.at
-    ∙ ap (λ (vs : List (List ℕ)). vs ++ option_to_list (setting_value key (string_bytes word)))
-    (given.before ∙ ap option_to_list (none_found found none))
-    ∙ ap option_to_list (sym given.says) ∙ ap (λ (o : Option (Bor (List ℕ))). option_to_list (option_copied o)) (sym is)
+pub values_of_first : {key : List ℕ} {words : List (String Global)} (given : Search key words)
+    → is_some given.found ≡ false
+    → values_of key (texts (take (given.i + 1) words)) ≡ option_to_list (option_copied given.answer)
+values_of_first {key} {words} given none =
+    values_of_more key words given.i given.word given.at
+    ∙ ap (λ (vs : List (List ℕ)). vs ++ option_to_list (setting_value key (string_bytes given.word)))
+    (given.before ∙ ap option_to_list (none_found given.found none)) ∙ ap option_to_list (sym given.says)
 
 -- an argument that gives no value
-pub values_of_none : {key : List ℕ} {words : List (String Global)} {i : ℕ} {word : String Global}
-    {found answer found' : Option (Bor (List ℕ))} →
-    IsSearch key words i word found answer → answer ≡ None → found' ≡ found →
-    values_of key (texts (take (i + 1) words)) ≡ option_to_list (option_copied found')
-values_of_none {key} {words} {i} {word} given none is =
-    values_of_more key words i word given.at
-    ∙ ap (λ (o : Option (List ℕ)). values_of key (texts (take i words)) ++ option_to_list o)
-    (sym given.says ∙ ap option_copied none)
-    ∙ append-nil (values_of key (texts (take i words)))
-    ∙ given.before ∙ ap (λ (o : Option (Bor (List ℕ))). option_to_list (option_copied o)) (sym is)
+pub values_of_none : {key : List ℕ} {words : List (String Global)} (given : Search key words) → given.answer ≡ None
+    → values_of key (texts (take (given.i + 1) words)) ≡ option_to_list (option_copied given.found)
+values_of_none {key} {words} given none =
+    let before = values_of key (texts (take given.i words)) in
+    values_of_more key words given.i given.word given.at
+    ∙ ap (λ (o : Option (List ℕ)). before ++ option_to_list o) (sym given.says ∙ ap option_copied none)
+    ∙ append-nil before ∙ given.before
 
 -- a second argument that gives a value
-pub values_of_again : {key : List ℕ} {words : List (String Global)} {i : ℕ} {word : String Global}
-    {found answer : Option (Bor (List ℕ))} {value : Bor (List ℕ)} →
-    IsSearch key words i word found answer → is_some found ≡ true → answer ≡ Some value
-    → 2 ≤ length (values_of key (texts words))
-values_of_again {key} {words} {i} {word} {found} {answer} given some is =
-    let grown : length (values_of key (texts (take (i + 1) words)))
-    ≡ length (values_of key (texts (take i words)) ++ option_to_list (option_copied answer)) =
-    ap length (values_of_more key words i word given.at)
-    ∙ ap (λ (o : Option (List ℕ)). length (values_of key (texts (take i words)) ++ option_to_list o))
-    (sym given.says) in
-    let last : length (option_to_list (option_copied answer)) ≡ 1 =
-    ap (λ (o : Option (Bor (List ℕ))). length (option_to_list (option_copied o))) is in
-    let first : length (values_of key (texts (take i words))) ≡ 1 = ap length given.before ∙ some_found found some in
-    omega (
-      arith,
-      grown,
-      length-append (values_of key (texts (take i words))) (option_to_list (option_copied answer)),
-      last,
-      first,
-      values_of_front key words (i + 1),
-    )
+pub values_of_again : {key : List ℕ} {words : List (String Global)} {value : Bor (List ℕ)} (given : Search key words)
+    → is_some given.found ≡ true → given.answer ≡ Some value → 2 ≤ length (values_of key (texts words))
+values_of_again {key} {words} given some is =
+    let before = values_of key (texts (take given.i words)) in
+    let more = option_to_list (option_copied given.answer) in
+    let grown : length (values_of key (texts (take (given.i + 1) words))) ≡ length (before ++ more) =
+    ap length (values_of_more key words given.i given.word given.at)
+    ∙ ap (λ (o : Option (List ℕ)). length (before ++ option_to_list o)) (sym given.says) in
+    let last : length more ≡ 1 = ap (λ (o : Option (Bor (List ℕ))). length (option_to_list (option_copied o))) is in
+    let first : length before ≡ 1 = ap length given.before ∙ some_found given.found some in
+    omega (arith, grown, length-append before more, last, first, values_of_front key words (given.i + 1))
 
 -- an argument more that passes
 pub all_more : {words : List (String Global)} {i : ℕ} {word : String Global} (p : List ℕ → Bool)

@@ -1,6 +1,6 @@
 -- The arguments of an invocation mean that invocation.
-use Rattle.std.proofs.Common.{◌≡◌, ℕ, ◌<◌, ◌^◌, List, [], ◌∷◌, map, ap, ◌∙◌, arith, Option, Some}
-use Rattle.std.proofs.Common.{None, Bool, true, false, refl, codes, decimal, if◌then◌else◌}
+use Rattle.std.proofs.Common.{◌≡◌, ℕ, ◌<◌, ◌^◌, List, [], ◌∷◌, map, ap, ◌∙◌, arith, Option, Some, None, Bool, true}
+use Rattle.std.proofs.Common.{false, refl, codes, decimal, if◌then◌else◌}
 use Rattle.std.specs.Option.{option_and_then}
 use Rattle.std.specs.Prelude.{option_map}
 use Rattle.std.specs.Str.{bytes_eq}
@@ -8,24 +8,21 @@ use Rattle.std.proofs.lemmas.List.{append-nil}
 use Rattle.vod_base.specs.Names.{good_name}
 use Rattle.slot_calendar.specs.declared.profiles.CapStep.{CapStep}
 use Rattle.cli_args.specs.Settings.{values_of, one_name}
-use Rattle.cli_args.specs.KeyValues.{film_given, cert_given, script_given, buffer_given}
-use Rattle.cli_args.specs.KeyValues.{delay_given, slot_given, capacity_given, journal_given}
-use Rattle.cli_args.specs.KeyValues.{port_given, workers_given, connections_given, seed_given}
-use Rattle.cli_args.specs.KeyValues.{pictures_given, plays_given, one_kind, one_bind}
+use Rattle.cli_args.specs.KeyValues.{film_given, cert_given, script_given, buffer_given, delay_given, slot_given}
+use Rattle.cli_args.specs.KeyValues.{capacity_given, journal_given, port_given, workers_given, connections_given}
+use Rattle.cli_args.specs.KeyValues.{seed_given, pictures_given, plays_given, one_kind, one_bind}
 use Rattle.cli_args.specs.Subcommands.{keys_of}
 use Rattle.cli_args.specs.declared.subcommands.Subcommand.{Subcommand}
 use Rattle.cli_args.specs.declared.subcommands.Subcommand.TheVariants.{Plan, Check, Scan, Make, Day, Fair, Serve, Watch}
 use Rattle.cli_args.specs.Invocations.{PlanSource, trace_source, film_source, ClientParams, ServeArgs, ScriptRun}
-use Rattle.cli_args.specs.Invocations.{WatchArgs, Invocation, help, version, plan_of, check_of, scan_of}
-use Rattle.cli_args.specs.Invocations.{make_of, day_of, fair_of, serve_of, watch_of, source_of}
-use Rattle.cli_args.specs.Invocations.{source_given, client_given, check_given, make_given}
-use Rattle.cli_args.specs.Invocations.{script_run_given, fair_run_given, listen_given, planning_given}
-use Rattle.cli_args.specs.Invocations.{serve_args_given, watch_args_given, invocation_given, command_invocation}
-use Rattle.cli_args.specs.Invocations.{invocation_from}
-use Rattle.cli_args.specs.ArgumentText.{Setting, setting_text, settings_of, args_of, film_setting}
-use Rattle.cli_args.specs.ArgumentText.{server_settings, client_settings, kind_name, bind_text}
-use Rattle.cli_args.specs.ArgumentText.{steps_text, IsCapacity, IsValidBuffer, IsValidDelay}
-use Rattle.cli_args.specs.ArgumentText.{IsValidPort, IsValidPictures, IsValidSlot, IsValidJournal}
+use Rattle.cli_args.specs.Invocations.{WatchArgs, Invocation, help, version, plan_of, check_of, scan_of, make_of}
+use Rattle.cli_args.specs.Invocations.{day_of, fair_of, serve_of, watch_of, source_of, source_given, client_given}
+use Rattle.cli_args.specs.Invocations.{check_given, make_given, script_run_given, fair_run_given, listen_given}
+use Rattle.cli_args.specs.Invocations.{planning_given, serve_args_given, watch_args_given, invocation_given}
+use Rattle.cli_args.specs.Invocations.{command_invocation, invocation_from}
+use Rattle.cli_args.specs.ArgumentText.{Setting, setting_text, settings_of, args_of, film_setting, server_settings}
+use Rattle.cli_args.specs.ArgumentText.{client_settings, kind_name, bind_text, steps_text, IsCapacity, IsValidBuffer}
+use Rattle.cli_args.specs.ArgumentText.{IsValidDelay, IsValidPort, IsValidPictures, IsValidSlot, IsValidJournal}
 use Rattle.cli_args.specs.ArgumentText.{IsValidSource, IsValidClient, ArePlanSettings, AreListenSettings, AreServeArgs}
 use Rattle.cli_args.specs.ArgumentText.{IsValidScriptRun, IsValidFairRun, AreWatchArgs, IsValidInvocation}
 use Rattle.cli_args.specs.declared.invocations.MediaKind.{MediaKind}
@@ -34,9 +31,8 @@ use Rattle.cli_args.specs.declared.invocations.ListenSettings.{ListenSettings}
 use Rattle.cli_args.specs.declared.invocations.PlanSettings.{PlanSettings}
 use Rattle.cli_args.specs.declared.invocations.FairRun.{FairRun}
 use Rattle.cli_args.proofs.FilmLemmas.{films_back}
-use Rattle.cli_args.proofs.SettingLemmas.{picked, are_plain, are_among, values_read}
-use Rattle.cli_args.proofs.SettingLemmas.{words_read, films_plain, films_among, picked_films}
-use Rattle.cli_args.proofs.SettingLemmas.{picked_past}
+use Rattle.cli_args.proofs.SettingLemmas.{picked, are_plain, are_among, values_read, words_read, films_plain}
+use Rattle.cli_args.proofs.SettingLemmas.{films_among, picked_films, picked_past}
 use Rattle.cli_args.proofs.ArgumentTextLemmas.{key_or, key_one, name_back, capacity_back}
 
 -- settings that are read, with what each key is given

@@ -8,11 +8,9 @@ use Rattle.cli_args.specs.KeyValues.{film_given, cert_given, script_given, buffe
 use Rattle.cli_args.specs.KeyValues.{capacity_given, journal_given, port_given, workers_given, connections_given}
 use Rattle.cli_args.specs.KeyValues.{seed_given, pictures_given, plays_given, one_kind, one_bind}
 use Rattle.cli_args.specs.Invocations.{ClientParams, ServeArgs, ScriptRun, WatchArgs, Invocation, check_of, make_of}
-use Rattle.cli_args.specs.Invocations.{are_films}
-use Rattle.cli_args.specs.Invocations.{from_two, from_three, from_four}
-use Rattle.cli_args.specs.Invocations.{source_given, client_given, check_given, make_given}
-use Rattle.cli_args.specs.Invocations.{script_run_given, fair_run_given, listen_given, planning_given, serve_args_given}
-use Rattle.cli_args.specs.Invocations.{watch_args_given}
+use Rattle.cli_args.specs.Invocations.{are_films, from_two, from_three, from_four, source_given, client_given}
+use Rattle.cli_args.specs.Invocations.{check_given, make_given, script_run_given, fair_run_given, listen_given}
+use Rattle.cli_args.specs.Invocations.{planning_given, serve_args_given, watch_args_given}
 use Rattle.cli_args.specs.declared.invocations.MediaKind.{MediaKind}
 use Rattle.cli_args.specs.declared.invocations.ListenSettings.{ListenSettings}
 use Rattle.cli_args.specs.declared.invocations.PlanSettings.{PlanSettings}

@@ -1,7 +1,6 @@
 -- What arguments mean may be asked.
-use Rattle.std.proofs.Common.{◌≡◌, ℕ, ◌+◌, ◌-◌, ◌≤◌, ◌&&◌, ◌==◌, All, List, [], ◌∷◌, ◌++◌}
-use Rattle.std.proofs.Common.{length, subst, arith, Option, Some, None, Bool, true, false, refl}
-use Rattle.std.proofs.Common.{codes, if◌then◌else◌, nat_le, nat_lt, length-append}
+use Rattle.std.proofs.Common.{◌≡◌, ℕ, ◌+◌, ◌≤◌, ◌&&◌, ◌==◌, All, List, [], ◌∷◌, ◌++◌, length, subst, arith, Option}
+use Rattle.std.proofs.Common.{Some, None, Bool, true, false, refl, codes, if◌then◌else◌, nat_le, nat_lt, length-append}
 use Rattle.std.specs.Int.{IsInRange}
 use Rattle.std.specs.List.{fold, list_all, position_or_len, slice_split}
 use Rattle.std.specs.Option.{option_and_then}
@@ -19,27 +18,21 @@ use Rattle.vod_base.specs.declared.links.TheConstants.{LATEST_SLOT}
 use Rattle.slot_calendar.specs.declared.profiles.TheConstants.{MAX_CAPACITY, MAX_STEPS}
 use Rattle.cli_args.specs.declared.capacities.TheConstants.{DEFAULT_CAPACITY}
 use Rattle.cli_args.specs.Settings.{number_or, one_name, one_number, values_of}
-use Rattle.cli_args.specs.Capacities.{IsStepPrefix, capacity_of, flat_steps, may_follow}
-use Rattle.cli_args.specs.Capacities.{one_capacity, add_step_text, is_later_step, add_step}
-use Rattle.cli_args.specs.Capacities.{step_of, steps_of}
-use Rattle.cli_args.specs.KeyValues.{film_given, buffer_given}
-use Rattle.cli_args.specs.KeyValues.{delay_given, slot_given, journal_given}
-use Rattle.cli_args.specs.KeyValues.{port_given}
+use Rattle.cli_args.specs.Capacities.{IsStepPrefix, capacity_of, flat_steps, may_follow, one_capacity, add_step_text}
+use Rattle.cli_args.specs.Capacities.{is_later_step, add_step, step_of, steps_of}
+use Rattle.cli_args.specs.KeyValues.{film_given, buffer_given, delay_given, slot_given, journal_given, port_given}
 use Rattle.cli_args.specs.Subcommands.{subcommand_named, is_setting_of}
 use Rattle.cli_args.specs.declared.subcommands.Subcommand.{Subcommand}
 use Rattle.cli_args.specs.declared.subcommands.Subcommand.TheVariants.{Plan, Check, Scan, Make, Day, Fair, Serve, Watch}
 use Rattle.cli_args.specs.Invocations.{PlanSource, trace_source, film_source, ClientParams, ServeArgs, ScriptRun}
-use Rattle.cli_args.specs.Invocations.{WatchArgs, Invocation, help, version, plan_of, scan_of}
-use Rattle.cli_args.specs.Invocations.{day_of, fair_of, serve_of, watch_of}
-use Rattle.cli_args.specs.Invocations.{command_invocation, lone_invocation, source_of}
-use Rattle.cli_args.specs.Invocations.{client_given, script_run_given, fair_run_given}
-use Rattle.cli_args.specs.Invocations.{listen_given, planning_given, serve_args_given, watch_args_given}
-use Rattle.cli_args.specs.Invocations.{invocation_given, invocation_from}
-use Rattle.cli_args.specs.ArgumentText.{IsCapacity, IsValidBuffer, IsValidDelay, IsValidPort}
-use Rattle.cli_args.specs.ArgumentText.{IsValidSlot, IsValidJournal, AreValidFilms, IsValidSource}
-use Rattle.cli_args.specs.ArgumentText.{IsValidClient, ArePlanSettings, AreListenSettings, AreServeArgs}
-use Rattle.cli_args.specs.ArgumentText.{IsValidScriptRun}
-use Rattle.cli_args.specs.ArgumentText.{IsValidFairRun, AreWatchArgs, IsValidInvocation}
+use Rattle.cli_args.specs.Invocations.{WatchArgs, Invocation, help, version, plan_of, scan_of, day_of, fair_of}
+use Rattle.cli_args.specs.Invocations.{serve_of, watch_of, command_invocation, lone_invocation, source_of, client_given}
+use Rattle.cli_args.specs.Invocations.{script_run_given, fair_run_given, listen_given, planning_given, serve_args_given}
+use Rattle.cli_args.specs.Invocations.{watch_args_given, invocation_given, invocation_from}
+use Rattle.cli_args.specs.ArgumentText.{IsCapacity, IsValidBuffer, IsValidDelay, IsValidPort, IsValidSlot}
+use Rattle.cli_args.specs.ArgumentText.{IsValidJournal, AreValidFilms, IsValidSource, IsValidClient, ArePlanSettings}
+use Rattle.cli_args.specs.ArgumentText.{AreListenSettings, AreServeArgs, IsValidScriptRun, IsValidFairRun, AreWatchArgs}
+use Rattle.cli_args.specs.ArgumentText.{IsValidInvocation}
 use Rattle.cli_args.specs.declared.invocations.ListenSettings.{ListenSettings}
 use Rattle.cli_args.specs.declared.invocations.PlanSettings.{PlanSettings}
 use Rattle.cli_args.specs.declared.invocations.FairRun.{FairRun}

@@ -1,11 +1,10 @@
 -- Clients that are passed over one after the other.
-use Rattle.std.proofs.Common.{◌≡◌, ◌<◌, ◌≤◌, ◌+◌, ℕ, List, [], ◌∷◌, ◌++◌, length, map, take, drop, set, get_or}
-use Rattle.std.proofs.Common.{Option, Some, None, arith, refl, sym, ap, subst, ◌∙◌, inl, inr}
+use Rattle.std.proofs.Common.{◌≡◌, ◌<◌, ◌≤◌, ◌+◌, ℕ, List, [], ◌∷◌, ◌++◌, length, map, take, drop, set, get_or, Option}
+use Rattle.std.proofs.Common.{Some, None, arith, refl, sym, ap, subst, ◌∙◌, inl, inr}
 use Rattle.std.specs.Prelude.{sum_by, IfNone, IfSome}
 use Rattle.std.proofs.lemmas.Bool.{cases_eq}
-use Rattle.std.proofs.lemmas.List.{append_assoc, append-nil, ext_get_or, get_or-map, get_or-set_other}
-use Rattle.std.proofs.lemmas.List.{get_or-set_same, length-map, length-set, length-take, map-set, take_at}
-use Rattle.std.proofs.lemmas.List.{take_more}
+use Rattle.std.proofs.lemmas.List.{append_assoc, append-nil, ext_get_or, get_or-map, get_or-set_other, get_or-set_same}
+use Rattle.std.proofs.lemmas.List.{length-map, length-set, length-take, map-set, take_at, take_more}
 use Rattle.std.proofs.lemmas.List.Sums.{sum_by_push}
 use Rattle.admission.specs.declared.entries.Entry.{Entry}
 use Rattle.day_run.proofs.ListUpdates.{set-at}

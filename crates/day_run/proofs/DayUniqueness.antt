@@ -1,6 +1,6 @@
 -- A script has one text and one journal, and a number has one large day.
-use Rattle.std.proofs.Common.{◌≡◌, ◌<◌, ◌+◌, ℕ, max, List, [], ◌∷◌, ◌++◌, length, set, arith, refl, sym, ap, subst}
-use Rattle.std.proofs.Common.{◌∙◌, inl, inr, ◌%◌, map, get_or, Option, Some, None, IfSome}
+use Rattle.std.proofs.Common.{◌≡◌, ◌<◌, ◌+◌, ℕ, max, List, [], ◌∷◌, ◌++◌, length, set, arith, refl, sym, ap, subst, ◌∙◌}
+use Rattle.std.proofs.Common.{inl, inr, ◌%◌, map, get_or, Option, Some, None, IfSome}
 use Rattle.wire_curve.proofs.FaultExclusion.{HasCurveFault-unique}
 use Rattle.std.specs.Prelude.{flat_map, ◌⊎◌}
 use Rattle.plan_cert.specs.declared.Segment.{Segment}
@@ -27,10 +27,10 @@ use Rattle.day_script.specs.declared.scripts.Line.{Line}
 use Rattle.day_script.specs.declared.scripts.Line.TheVariants as lines
 use Rattle.day_run.specs.DayLaws.{IsLink, IsSoundClient, IsSoundMedia}
 use Rattle.day_script.specs.Scripts.{AreClients, AreLines}
-use Rattle.day_run.specs.Days.{first_moment, last_lines}
-use Rattle.day_run.specs.Days.{AreLineSteps, AskedPlay, IsAnsweredPlay, IsAsked, IsDay, IsFaulty, IsFull, rest_at}
-use Rattle.day_run.specs.Days.{IsHaltedPlay, IsLine, IsLookLine, IsNoted, IsOfferLine, IsPauseLine, IsResumeLine}
-use Rattle.day_run.specs.Days.{IsTold, SharedLink, DayState, entry_by, last_journal, state_at, with_play}
+use Rattle.day_run.specs.Days.{first_moment, last_lines, AreLineSteps, AskedPlay, IsAnsweredPlay, IsAsked, IsDay}
+use Rattle.day_run.specs.Days.{IsFaulty, IsFull, rest_at, IsHaltedPlay, IsLine, IsLookLine, IsNoted, IsOfferLine}
+use Rattle.day_run.specs.Days.{IsPauseLine, IsResumeLine, IsTold, SharedLink, DayState, entry_by, last_journal}
+use Rattle.day_run.specs.Days.{state_at, with_play}
 use Rattle.day_script.specs.LineTexts.{fault_text, offer_text, state_text}
 use Rattle.film_run.specs.declared.runs.Run.{Run}
 use Rattle.day_run.specs.ClientStates.{IfBusy, Playing, Pausing, Paused, ClientPlay, Rest, ClientState, pausing_state}
@@ -46,9 +46,8 @@ use Rattle.film_make.specs.Generator.{words_after}
 use Rattle.film_run.specs.Units.{AreUnitSizes}
 use Rattle.slot_calendar.specs.declared.profiles.CapStep.{CapStep}
 use Rattle.day_run.specs.declared.fairs.TheConstants.{BUFFER_SIZES, SLOT_UNITS}
-use Rattle.day_run.specs.FairDays.{AreTurns, IsDone, IsTurn, FairTurn, after_traces, after_turn, at_later}
-use Rattle.day_run.specs.FairDays.{client_of, fair_link, line_drawn, line_in, state_in}
-use Rattle.day_run.specs.FairDays.{trace_drawn, traces_drawn}
+use Rattle.day_run.specs.FairDays.{AreTurns, IsDone, IsTurn, FairTurn, after_traces, after_turn, at_later, client_of}
+use Rattle.day_run.specs.FairDays.{fair_link, line_drawn, line_in, state_in, trace_drawn, traces_drawn}
 use Rattle.day_run.proofs.FairTurns.{drawn-trace}
 use Rattle.day_run.proofs.FairLaws.{TurnRun, first_turn, rest_turns, turn-mid}
 

@@ -14,8 +14,7 @@ use Rattle.admission.proofs.HistoryPrefixes.{legal-take}
 use Rattle.admission.proofs.CapacityBounds.{sound-after}
 use Rattle.day_run.specs.BookingBalance.{IsReady}
 use Rattle.day_run.specs.Days.{SharedLink, DayState, at_slot, halts_at, last_halts, last_journal}
-use Rattle.day_run.specs.FairDays.{AreTurns, FairTurn, after_turn, most_up_to, turn_booked, turn_peak}
-use Rattle.day_run.specs.FairDays.{turn_sent}
+use Rattle.day_run.specs.FairDays.{AreTurns, FairTurn, after_turn, most_up_to, turn_booked, turn_peak, turn_sent}
 use Rattle.day_run.proofs.LineOutcomes.{outcome-ready, ready-sent, slot-ready, HasGrown, grown-on, kept-grown}
 use Rattle.day_run.proofs.LineOutcomes.{TakenTurn, outcome-grown, outcome-heard, turn-outcome, turn_step}
 

@@ -20,9 +20,8 @@ use Rattle.day_run.specs.BookingBalance.{IsReady}
 use Rattle.day_run.specs.DayLaws.{AreEntryCounts, is_play, IsDrawnLine, IsDrawnTurn, IsFairLine, IsTurnWithinCapacity}
 use Rattle.day_run.specs.DayLaws.{SentIsBookedEachTurn}
 use Rattle.day_run.specs.Days.{SharedLink, DayState, IsLine, IsTold, first_moment}
-use Rattle.day_run.specs.FairDays.{FairTurn, client_of, entry_counts_of, is_halted, is_overflow}
-use Rattle.day_run.specs.FairDays.{is_refused, IsDone, IsTurn, line_drawn, state_in, IsFair, after_traces, counts_of}
-use Rattle.day_run.specs.FairDays.{fair_link}
+use Rattle.day_run.specs.FairDays.{FairTurn, client_of, entry_counts_of, is_halted, is_overflow, is_refused, IsDone}
+use Rattle.day_run.specs.FairDays.{IsTurn, line_drawn, state_in, IsFair, after_traces, counts_of, fair_link}
 use Rattle.day_run.proofs.FairLaws.{turn-ready, TurnRun, evening-grown, first_turn, rest_turns, turns-balanced}
 use Rattle.day_run.proofs.FairLaws.{turns-heard, turns-ready, turns-within}
 use Rattle.day_run.proofs.FullLineTexts.{done-text}

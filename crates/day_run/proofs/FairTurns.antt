@@ -1,7 +1,6 @@
 -- The traces that a large day draws, and its turns, one after the other.
-use Rattle.std.proofs.Common.{◌≡◌, ◌≤◌, ◌+◌, ◌-◌, ◌*◌, ℕ, List, [], ◌∷◌, ◌++◌, length, map, sum, get_or, arith, sym}
-use Rattle.std.proofs.Common.{ap, subst, ◌∙◌, inl, inr, ◌%◌, add-one, refl, ◌<◌, ◌^◌, max, Bool, cond, Result, Ok}
-use Rattle.std.proofs.Common.{Err}
+use Rattle.std.proofs.Common.{◌≡◌, ◌≤◌, ◌+◌, ◌-◌, ◌*◌, ℕ, List, [], ◌∷◌, ◌++◌, length, map, sum, get_or, arith, sym, ap}
+use Rattle.std.proofs.Common.{subst, ◌∙◌, inl, inr, ◌%◌, add-one, refl, ◌<◌, ◌^◌, max, Bool, cond, Result, Ok, Err}
 use Rattle.std.specs.Global.{Vec}
 use Rattle.std.specs.List.{range_with_len, fold}
 use Rattle.std.proofs.lemmas.Bool.{cases_lt}
@@ -11,12 +10,12 @@ use Rattle.std.proofs.lemmas.List.FromFn.{length-range_with_len, length-map-rang
 use Rattle.film_make.specs.Trace.{sizes_of, trace_size}
 use Rattle.film_make.proofs.TraceLemmas.{trace_size-range}
 use Rattle.film_run.specs.Units.{AreUnitSizes}
-use Rattle.day_run.specs.FairProgress.{AreTraces, sizes_in, AreTurnResults, Drawn, IsTurnResult, after_turns}
-use Rattle.day_run.specs.FairProgress.{with_slot, with_turn}
+use Rattle.day_run.specs.FairProgress.{AreTraces, sizes_in, AreTurnResults, Drawn, IsTurnResult, after_turns, with_slot}
+use Rattle.day_run.specs.FairProgress.{with_turn}
 use Rattle.film_make.specs.Generator.{words_after}
 use Rattle.day_run.specs.FairDays.{after_traces, picture_count, trace_drawn, traces_drawn, AreTurns, IsDone, IsTurn}
 use Rattle.day_run.specs.FairDays.{FairTurn, after_turn, at_later, counts_of, is_full_line, is_refused, line_drawn}
-use Rattle.day_run.specs.FairDays.{line_in, turn_booked, turn_peak, turn_sent, words_for}
+use Rattle.day_run.specs.FairDays.{most_up_to, line_in, turn_booked, turn_peak, turn_sent, words_for}
 use Rattle.std.specs.Prelude.{OnOk, sum_by}
 use Rattle.film_make.proofs.GeneratorLemmas.{words_after-twice, words_after-at, words_after-zero}
 use Rattle.admission.specs.Histories.{state_after}
@@ -25,7 +24,7 @@ use Rattle.day_script.specs.declared.fair_totals.FairTotals.{FairTotals}
 use Rattle.day_run.specs.declared.clients.Client.{Client}
 use Rattle.day_run.specs.Clients.{state_of}
 use Rattle.day_run.specs.BookingBalance.{IsReady}
-use Rattle.day_run.specs.Days.{SharedLink, DayState, first_moment, state_at}
+use Rattle.day_run.specs.Days.{SharedLink, DayState, booked_up_to, first_moment, sent_up_to, state_at}
 use Rattle.day_run.specs.ClientStates.{ClientState, Idle}
 use Rattle.day_run.proofs.FairLaws.{TurnRun, rest_turns}
 use Rattle.day_run.proofs.SentBookedLemmas.{sum-none}
@@ -110,44 +109,20 @@ pub left-none : (words : ℕ → ℕ) → words ≡ after_traces 0 words
 unfolding after_traces
 left-none words = refl
 
--- counts that have the same numbers
-record HaveSameNumbers (one other : FairTotals) : Type 0 where
-  turns : one.turns ≡ other.turns
-  full : one.full ≡ other.full
-  last : one.last ≡ other.last
-  sent : one.sent ≡ other.sent
-  booked : one.booked ≡ other.booked
-  peak : one.peak ≡ other.peak
-
-abbrev counts-as : ℕ → ℕ → ℕ → ℕ → ℕ → ℕ → FairTotals
-counts-as turns full last sent booked peak =
-    record { turns = turns; full = full; last = last; sent = sent; booked = booked; peak = peak }
-
-counts-same : (a b : FairTotals) → HaveSameNumbers a b → a ≡ b
-counts-same a b same =
-    ap (λ n. counts-as n a.full a.last a.sent a.booked a.peak) same.turns
-    ∙ ap (λ n. counts-as b.turns n a.last a.sent a.booked a.peak) same.full
-    ∙ ap (λ n. counts-as b.turns b.full n a.sent a.booked a.peak) same.last
-    ∙ ap (λ n. counts-as b.turns b.full b.last n a.booked a.peak) same.sent
-    ∙ ap (λ n. counts-as b.turns b.full b.last b.sent n a.peak) same.booked
-    ∙ ap (λ n. counts-as b.turns b.full b.last b.sent b.booked n) same.peak
-
 pub same-counts : (counts : FairTotals) (moment : DayState) → counts.last ≡ moment.heard
     → counts ≡ with_slot counts moment moment.heard
 same-counts counts moment last =
     let f = booked_in (state_after moment.entries) in
     let none : moment.heard - moment.heard ≡ 0 = omega arith in
-    let sent = sum-none moment.heard moment.states in
-    let booked = ap (λ n. sum_by f (range_with_len (moment.heard + 1) n)) none in
-    let peak = ap (λ n. fold max 0 (map f (range_with_len (moment.heard + 1) n))) none in
-    counts-same counts (with_slot counts moment moment.heard) (record {
-      turns = refl;
-      full = refl;
-      last = last;
-      sent = omega (arith, sent);
-      booked = omega (arith, booked);
-      peak = omega (arith, peak);
-    })
+    let no_bytes = sum-none moment.heard moment.states in
+    let no_sum = ap (λ n. sum_by f (range_with_len (moment.heard + 1) n)) none in
+    let no_peak = ap (λ n. fold max 0 (map f (range_with_len (moment.heard + 1) n))) none in
+    let sent : counts.sent ≡ counts.sent + sent_up_to moment moment.heard = omega (arith, no_bytes) in
+    let booked : counts.booked ≡ counts.booked + booked_up_to moment moment.heard = omega (arith, no_sum) in
+    let peak : counts.peak ≡ max counts.peak (most_up_to moment moment.heard) = omega (arith, no_peak) in
+    ap (λ n. record counts { last = n }) last ∙ ap (λ n. record counts { last = moment.heard; sent = n }) sent
+    ∙ ap (λ n. record (with_slot counts moment moment.heard) { booked = n; peak = counts.peak }) booked
+    ∙ ap (λ n. record (with_slot counts moment moment.heard) { peak = n }) peak
 
 -- the steps of a turn, one after the other: the words after each draw, the client and what it does, and the counts
 pub record TurnSteps (link : SharedLink) (old new : Drawn) (turn : FairTurn) : Type 0 where
@@ -218,15 +193,15 @@ after-more words (t ∷ turns) turn = after-more (after_turn words t) turns turn
 counts-more : (turns : List FairTurn) (turn : FairTurn) (old new : DayState) → turn.mid.heard ≡ new.heard
     → with_turn (counts_of turns old) turn ≡ counts_of (turns ++ turn ∷ []) new
 counts-more turns turn old new heard =
-    counts-same (with_turn (counts_of turns old) turn) (counts_of (turns ++ turn ∷ []) new) (record {
-      turns = sym (length-append turns (turn ∷ []));
-      full = sym (sum_by_push (λ t. cond (is_refused t) 1 0) turns turn);
-      last = heard;
-      sent = sym (sum_by_push turn_sent turns turn);
-      booked = sym (sum_by_push turn_booked turns turn);
-      peak = sym (ap (fold max 0) (map-append turn_peak turns (turn ∷ []))
-          ∙ peak-push (map turn_peak turns) (turn_peak turn));
-    })
+    cc (
+      sym (length-append turns (turn ∷ [])),
+      sym (sum_by_push (λ t. cond (is_refused t) 1 0) turns turn),
+      heard,
+      sym (sum_by_push turn_sent turns turn),
+      sym (sum_by_push turn_booked turns turn),
+      sym (ap (fold max 0) (map-append turn_peak turns (turn ∷ []))
+          ∙ peak-push (map turn_peak turns) (turn_peak turn)),
+    )
 
 -- the turns so far, and one more
 pub record NextTurn (link : SharedLink) (words : ℕ → ℕ) (n : ℕ) : Type 0 where

@@ -52,10 +52,7 @@ entry-other place entry rest small =
     let end = codes "\n" in
     let parts : ((((number ++ seat) ++ command) ++ answer) ++ end) ++ rest
     ≡ number ++ (seat ++ (command ++ (answer ++ (end ++ rest)))) =
-    append_assoc (((number ++ seat) ++ command) ++ answer) end rest
-    ∙ append_assoc ((number ++ seat) ++ command) answer (end ++ rest)
-    ∙ append_assoc (number ++ seat) command (answer ++ (end ++ rest))
-    ∙ append_assoc number seat (command ++ (answer ++ (end ++ rest))) in
+    simp append_assoc in
     ap is_full_line parts ∙ digits-other number (seat ++ (command ++ (answer ++ (end ++ rest)))) numeral.0 numeral.1
 
 pub entries-other : (place : ℕ) (entries : List Entry) → place < 2 ^ 64

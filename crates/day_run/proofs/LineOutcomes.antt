@@ -1,8 +1,7 @@
 -- What a line of a script, or a turn's client, does to a day, in five cases, and that it keeps the balance.
 use Rattle.std.proofs.Common.{◌≡◌, ◌<◌, ◌≤◌, ◌%◌, ◌+◌, ◌++◌, ℕ, List, [], ◌∷◌, get_or, subst, refl, sym, ap, ◌∙◌, inl}
 use Rattle.std.proofs.Common.{inr, arith, zero, suc, length, map, replicate}
-use Rattle.std.proofs.lemmas.List.{append-nil, append_assoc, get_or-replicate, length-map, length-set}
-use Rattle.std.proofs.lemmas.List.{length-replicate}
+use Rattle.std.proofs.lemmas.List.{append-nil, append_assoc, get_or-replicate, length-map, length-set, length-replicate}
 use Rattle.admission.specs.declared.entries.Entry.{Entry}
 use Rattle.plan_cert.specs.declared.Segment.{Segment}
 use Rattle.film_make.specs.Generator.{words_after}
@@ -12,15 +11,14 @@ use Rattle.day_script.specs.Scripts.{slot_after}
 use Rattle.day_run.specs.declared.fairs.TheConstants.{BUFFER_SIZES, LEAST_BUFFER}
 use Rattle.day_run.specs.ClientStates.{ClientPlay, ClientState, Idle, Playing, Pausing, Paused, Rest, after_play}
 use Rattle.day_run.specs.ClientStates.{after_sending}
-use Rattle.day_run.specs.Days.{first_moment, DayState, IsAnsweredLook, IsAnsweredPlay, IsAsked}
-use Rattle.day_run.specs.Days.{IsHaltedPlay, IsLine, IsLookLine, IsOfferLine, IsPauseLine, IsResumeLine, SharedLink}
-use Rattle.day_run.specs.Days.{at_slot, halts_at, rest_at, AskedPlay, booked_up_to, entry_by, sent_up_to, with_play}
+use Rattle.day_run.specs.Days.{first_moment, DayState, IsAnsweredLook, IsAnsweredPlay, IsAsked, IsHaltedPlay, IsLine}
+use Rattle.day_run.specs.Days.{IsLookLine, IsOfferLine, IsPauseLine, IsResumeLine, SharedLink, at_slot, halts_at}
+use Rattle.day_run.specs.Days.{rest_at, AskedPlay, booked_up_to, entry_by, sent_up_to, with_play}
 use Rattle.day_run.specs.FairDays.{FairTurn, IsDone, IsTurn, line_drawn}
 use Rattle.day_run.proofs.ScriptLines.{ClientOf, IsPlayTaken, LineRun, LineStep, LinesTaken, StandingLine}
 use Rattle.day_run.proofs.ScriptLines.{first-standing, head_step, rest-standing, run_of}
 use Rattle.day_run.proofs.SentBookedLemmas.{BalancedClient, IsFree, idle-free, paused-free, IsShut, balanced-halt}
-use Rattle.day_run.proofs.SentBookedLemmas.{balanced-play}
-use Rattle.day_run.proofs.SentBookedLemmas.{balanced-same, balanced-sent, playing_one}
+use Rattle.day_run.proofs.SentBookedLemmas.{balanced-play, balanced-same, balanced-sent, playing_one}
 use Rattle.std.specs.Prelude.{sum_by}
 use Rattle.std.proofs.lemmas.List.Elements.{All-nil}
 use Rattle.std.proofs.lemmas.List.Sums.{sum_by-cons}

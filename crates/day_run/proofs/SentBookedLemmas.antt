@@ -137,6 +137,9 @@ open_one h = cond h.is_open 1 0
 abbrev pub playing_one : ClientState → ℕ
 playing_one state = cond (is_playing state) 1 0
 
+abbrev AreHeld : List Entry → List ClientState → Type 0
+AreHeld entries states = (d : ℕ) → d < length states → AreHeldOf entries d (get_or states d Idle)
+
 shut-held : (entries : List Entry) (c : ℕ) (state : ClientState) → IsShut state → AreHeldOf entries c state
 shut-held entries c (Playing play) shut = absurd shut
 shut-held entries c _ shut = tt
@@ -286,6 +289,22 @@ halted-fresh entries c number keep fresh =
     (with_halted number keep (state_after entries).held) (omega (arith, length-append entries (e ∷ [])))
     (fresh-halted number keep (length entries) (state_after entries).held fresh))
 
+-- what the machine holds for the clients, one of which is set
+held-set : (entries : List Entry) (states : List ClientState) (c : ℕ) (next : ClientState)
+    → (c < length states) × AreHeldOf entries c next
+    → ((d : ℕ) → (d ≡ c → ⊥) → d < length states → AreHeldOf entries d (get_or states d Idle))
+    → AreHeld entries (set states c next)
+held-set entries states c next here others = λ d within. set-at (AreHeldOf entries) (record {
+  xs = states;
+  c = c;
+  d = d;
+  x = next;
+  none = Idle;
+  inside = λ same. here.0;
+  own = here.1;
+  other = λ other. others d other (omega (arith, within, length-set states c next));
+})
+
 -- a client's play was halted, and the client books what is kept of it
 pub balanced-halt : {m : DayState} {play : ClientPlay} (own : BalancedClient m (Playing play))
     (stop : PlayStopped m.heard play)
@@ -299,17 +318,8 @@ balanced-halt {m} {play} own stop =
           let s = sum_by-set (share_of t) m.states c next Idle inside in
           let was : share_of t (get_or m.states c Idle) ≡ share_at t (booking_of play) = ap (share_of t) at in
           omega (arith, b, s, was, shares t later, balanced.each t later);
-      held = λ d within. set-at (AreHeldOf new) (record {
-        xs = m.states;
-        c = c;
-        d = d;
-        x = next;
-        none = Idle;
-        inside = λ same. inside;
-        own = shut-held new c next shut;
-        other = λ other. others d (get_or m.states d Idle) other
-            (balanced.held d (omega (arith, within, length-set m.states c next)));
-      });
+      held = held-set new m.states c next (inside, shut-held new c next shut) (λ d other within.
+          others d (get_or m.states d Idle) other (balanced.held d within));
       fresh = halted-fresh m.entries c play.number keep balanced.fresh;
       playing = halted-count own stop;
       halts = halts-push m.entries c play.number keep
@@ -435,17 +445,9 @@ balanced-play {m} {c} played inside free balanced =
           (record { e = e; number = play.number; start = play.start; plan = play.plan; is = is }) in
           let s = sum_by-set (share_of t) m.states c (Playing play) Idle inside in
           omega (arith, b, s, free.shares t, balanced.each t later);
-      held = λ d within. set-at (AreHeldOf ys) (record {
-        xs = m.states;
-        c = c;
-        d = d;
-        x = Playing play;
-        none = Idle;
-        inside = λ same. inside;
-        own = played-held played balanced.fresh;
-        other = λ other. push-held m.entries (record { e = e; new = new; is = is }) d (get_or m.states d Idle)
-            (balanced.held d (omega (arith, within, length-set m.states c (Playing play))));
-      });
+      held = held-set ys m.states c (Playing play) (inside, played-held played balanced.fresh) (λ d other within.
+          push-held m.entries (record { e = e; new = new; is = is }) d (get_or m.states d Idle)
+          (balanced.held d within));
       fresh =
           let P : AdmittedPlay → Type 0 = λ h. h.number < length ys in
           subst (All P) (sym is)

@@ -28,15 +28,14 @@ use Rattle.day_script.specs.declared.scripts.Line.{Line}
 use Rattle.day_script.specs.declared.scripts.Line.TheVariants as lines
 use Rattle.day_run.specs.BookingBalance.{IsReady}
 use Rattle.day_run.specs.DayLaws.{IsLink, IsSoundPlay, IsSoundRest, IsSoundClient}
-use Rattle.day_run.specs.Days.{AskedPlay, IsAsked, IsLine, IsLookLine, IsPauseLine, IsResumeLine, SharedLink}
-use Rattle.day_run.specs.Days.{DayState, at_slot}
-use Rattle.day_run.specs.Days.{entry_by, first_moment, rest_at, state_at}
+use Rattle.day_run.specs.Days.{AskedPlay, IsAsked, IsLine, IsLookLine, IsPauseLine, IsResumeLine, SharedLink, DayState}
+use Rattle.day_run.specs.Days.{at_slot, entry_by, first_moment, rest_at, state_at}
 use Rattle.day_script.specs.Scripts.{IsWish}
 use Rattle.day_run.specs.ClientStates.{Idle, Playing, Pausing, Paused, IsPause, ClientPlay, Rest, ClientState}
 use Rattle.day_run.specs.ClientStates.{after_play, after_sending, booking_of, is_done, no_medium, sent_by, slot_sent}
 use Rattle.day_run.proofs.SentBookedLemmas.{HeldClient, its-held}
-use Rattle.day_run.proofs.LineOutcomes.{after_answer, halted_client, morning-ready, outcome-ready, slot-ready, PlayHalted}
-use Rattle.day_run.proofs.LineOutcomes.{line-outcome, offer-kept, taken-keeps}
+use Rattle.day_run.proofs.LineOutcomes.{after_answer, halted_client, morning-ready, outcome-ready, slot-ready}
+use Rattle.day_run.proofs.LineOutcomes.{PlayHalted, line-outcome, offer-kept, taken-keeps}
 use Rattle.day_run.proofs.ListUpdates.{set-at}
 use Rattle.day_run.proofs.PauseLemmas.{pausing-cases}
 use Rattle.day_run.proofs.ScriptLines.{ClientOf, IsPlayTaken, LineStep, LinesTaken, StandingLine}

@@ -14,29 +14,27 @@ pub loop-maker-preserved : goal.loop-maker-preserved
 loop-maker-preserved c =
     let i = c.loop-maker.maker in
     let book = c.loop-maker.book in
-    let to = c.loop-maker.invariant in
     let at : Place c.loop-maker.clients = record { index = i; none = c.index-clients-maker.result; inside = omega arith } in
-    let going = to.sound.going.each i at.none at.inside in
+    let going = c.loop-maker.invariant.sound.going.each i at.none at.inside in
     let To : List Client → Type 0 =
     λ l. AreHaltedTo c.args.which (i + 1) c.args.book.now c.match-halt_of.book c.args.clients.now l in
     elim c.match-halt_of.branch [
       | in-Some w ↦
-          let halt = w.in-Some.halt in
           let told = w.in-Some.ensures {u = tt} in
-          let entry = λ (answer : Answer). entry_by i (Halt halt.number halt.keep) answer in
           subst To (sym w.clients-is) (passed-next (record {
             before = book;
             after = c.match-halt_of.book;
             clients = c.loop-maker.clients;
             at = at;
-            halt = Some halt;
+            halt = Some w.in-Some.halt;
             its = told.some;
             undone = tt;
             has = λ slot timed. told.halt slot i going timed;
             goes = λ slot timed. told.state slot going timed;
             grown = book-grown _ (w.book-is ∙ w.halt-noted.ensures.noted.journal_is)
-                (ap (λ answer. book.entries ++ entry answer ∷ []) w.halt-noted.ensures.answer);
-          }) to)
+                (ap (λ (answer : Answer). book.entries
+                ++ entry_by i (Halt w.in-Some.halt.number w.in-Some.halt.keep) answer ∷ []) w.halt-noted.ensures.answer);
+          }) c.loop-maker.invariant)
       | in_default w ↦
           let told = w.in_default.ensures {u = tt} in
           subst To (sym w.clients-is) (passed-next (record {
@@ -50,7 +48,7 @@ loop-maker-preserved c =
             has = λ slot timed. told.halt slot i going timed;
             goes = λ slot timed. told.state slot going timed;
             grown = book-grown book.entries w.book-is (sym (append-nil book.entries));
-          }) to)
+          }) c.loop-maker.invariant)
     ]
 
 pub returns-clause-states : goal.returns-clause-states

@@ -9,15 +9,13 @@ use Rattle.admission.specs.Machine.{CanHalt, IsAnswer}
 use Rattle.vod_base.specs.declared.links.TheConstants.{LATEST_SLOT}
 use Rattle.day_run.specs.declared.clients.Client.TheVariants.{Playing}
 use Rattle.day_run.specs.Clients.{rest_of, state_of}
-use Rattle.day_run.specs.Days.{DayState, entry_by, full_of}
+use Rattle.day_run.specs.Days.{DayState, entry_by, full_of, IsAnsweredPlay, with_play}
 use Rattle.day_script.specs.LineTexts.{full_text}
-use Rattle.day_run.specs.MachineState.{link_on, day_state_of}
+use Rattle.day_run.specs.MachineState.{link_on, day_state_of, reply_text}
 use Rattle.day_run.proofs.JournalStepLemmas.{day-noted, day-played, played-now}
 use Rattle.day_run.proofs.LineStepLemmas.{noted, states-played, states-same}
 use Rattle.day_run.specs.declared.clients.Client.{Client}
 use Rattle.day_run.specs.declared.machine.LineAnswer.TheVariants.{Entry}
-use Rattle.day_run.specs.Days.{IsAnsweredPlay, with_play}
-use Rattle.day_run.specs.MachineState.{reply_text}
 use Rattle.day_run.proofs.machine.DayMachine.book_play.Goals.{In-Ok}
 use Rattle.day_run.proofs.machine.DayMachine.book_play.Goals as goal
 
