@@ -9,7 +9,7 @@ use Rattle.admission.specs.Machine.{CanHalt, IsAnswer}
 use Rattle.vod_base.specs.declared.links.TheConstants.{LATEST_SLOT}
 use Rattle.day_run.specs.declared.clients.Client.TheVariants.{Playing}
 use Rattle.day_run.specs.Clients.{rest_of, state_of}
-use Rattle.day_run.specs.Days.{DayState, entry_by, full_of, IsAnsweredPlay, with_play}
+use Rattle.day_run.specs.Days.{entry_by, full_of, IsAnsweredPlay, with_play}
 use Rattle.day_script.specs.LineTexts.{full_text}
 use Rattle.day_run.specs.MachineState.{link_on, day_state_of, reply_text}
 use Rattle.day_run.proofs.JournalStepLemmas.{day-noted, day-played, played-now}

@@ -1,16 +1,15 @@
 use Rattle.std.proofs.lemmas.Grind.{common_steps}
-use Rattle.std.proofs.Common.{◌≡◌, ◌<◌, ◌∙◌, ℕ, get_or, length, map, set, ap, refl, sym, subst, arith}
+use Rattle.std.proofs.Common.{◌≡◌, ◌<◌, ◌∙◌, ℕ, length, map, set, ap, refl, sym, subst, arith}
 use Rattle.std.proofs.lemmas.List.{set-get_or}
 use Rattle.admission.specs.declared.entries.Answer.TheVariants.{Halted}
 use Rattle.admission.specs.declared.entries.Command.TheVariants.{Halt}
 use Rattle.admission.specs.declared.entries.Entry.{Entry}
 use Rattle.admission.specs.Books.{Journal}
-use Rattle.day_run.specs.declared.clients.Client.{Client}
 use Rattle.day_run.specs.Clients.{IsBooked, IsGoing, IsTimed, state_of}
 use Rattle.day_run.proofs.JournalStepLemmas.{day-halted, open-halt}
 use Rattle.day_run.specs.Days.{IsNoted, IsPauseLine, DayState, entry_by, state_at}
 use Rattle.day_run.specs.MachineState.{link_on, day_state_of, reply_text}
-use Rattle.day_run.specs.ClientStates.{ClientState, Idle}
+use Rattle.day_run.specs.ClientStates.{ClientState}
 use Rattle.day_run.specs.declared.machine.LineAnswer.TheVariants as tolds
 use Rattle.day_run.proofs.LineStepLemmas.{no-pause, noted, paused-play}
 use Rattle.day_run.proofs.ClientSweepLemmas.{state-at, states-set}
