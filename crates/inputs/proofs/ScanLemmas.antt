@@ -19,7 +19,7 @@ use Rattle.cli_errors.specs.declared.errors.InputError.TheVariants.{Film, System
 use Rattle.cli_errors.specs.declared.errors.CliError.{CliError}
 use Rattle.cli_errors.specs.ReadErrors.{IsReadError, IsLibraryUnchanged}
 use Rattle.cli_errors.proofs.ReadErrorLemmas.{trouble_map}
-use Rattle.inputs.specs.LoadErrors.{IsFilmFault, IsFilmError, IsSystemFault, IsSystemError}
+use Rattle.inputs.specs.LoadErrors.{IsFilmFault, IsFilmError, IsRefusal, IsSystemFault, IsSystemError}
 use Rattle.inputs.specs.FileReads.{IsFilePrefix, IsThatName, IsNever}
 use Rattle.inputs.specs.ChunkScans.{HasScannedFilm, HasRefused, HasReportedParts, HoldsVideo}
 use Rattle.inputs.specs.ChunkScans.{IsFilmRefused, IsOpened, IsScanError}
@@ -156,36 +156,34 @@ pub record LibraryCall : Type 0 where
 abbrev pub library_call : Option (List File) → List ℕ → ℕ → ℕ → LibraryCall
 library_call told name before after = record { told = told; name = name; before = before; after = after }
 
--- the error for a film whose video is refused, and for one whose system stream is
-pub film_trouble : {Refuses : FilmFault → Type 0} (call : LibraryCall) (t : CliError)
-    → ((held : List File) (fault : FilmFault) → call.told ≡ Some held → Refuses fault
-    → IsFilmRefused held call.name (Film fault)) → IsFilmError call.name Refuses t
+-- the error for a film that is refused for a reason: that of its video, or of its system stream
+scan_trouble : {Reason : InputError → Type 0} (call : LibraryCall) (t : CliError)
+    → ((held : List File) (fault : InputError) → call.told ≡ Some held → Reason fault
+    → IsFilmRefused held call.name fault) → IsRefusal call.name Reason t
     → IsScanError call.name call.told call.before call.after t
-film_trouble {Refuses} call t refuses h = refusal_read (record {
+scan_trouble {Reason} call t means h = refusal_read (record {
   told = call.told;
   name = call.name;
   before = call.before;
   after = call.after;
-  Reason = IsFilmFault Refuses;
+  Reason = Reason;
   Refuses = IsFilmRefused;
-  means = λ held fault is r.
-      each_film_fault (IsFilmRefused held call.name) fault (λ own its. refuses held own is its) r;
+  means = means;
 }) t h
+
+pub film_trouble : {Refuses : FilmFault → Type 0} (call : LibraryCall) (t : CliError)
+    → ((held : List File) (fault : FilmFault) → call.told ≡ Some held → Refuses fault
+    → IsFilmRefused held call.name (Film fault)) → IsFilmError call.name Refuses t
+    → IsScanError call.name call.told call.before call.after t
+film_trouble {Refuses} call t refuses h = scan_trouble {Reason = IsFilmFault Refuses} call t (λ held fault is r.
+    each_film_fault (IsFilmRefused held call.name) fault (λ own its. refuses held own is its) r) h
 
 pub system_trouble : {Refuses : SystemFault → Type 0} (call : LibraryCall) (t : CliError)
     → ((held : List File) (fault : SystemFault) → call.told ≡ Some held → Refuses fault
     → IsFilmRefused held call.name (System fault)) → IsSystemError call.name Refuses t
     → IsScanError call.name call.told call.before call.after t
-system_trouble {Refuses} call t refuses h = refusal_read (record {
-  told = call.told;
-  name = call.name;
-  before = call.before;
-  after = call.after;
-  Reason = IsSystemFault Refuses;
-  Refuses = IsFilmRefused;
-  means = λ held fault is r.
-      each_system_fault (IsFilmRefused held call.name) fault (λ own its. refuses held own is its) r;
-}) t h
+system_trouble {Refuses} call t refuses h = scan_trouble {Reason = IsSystemFault Refuses} call t (λ held fault is r.
+    each_system_fault (IsFilmRefused held call.name) fault (λ own its. refuses held own is its) r) h
 
 -- the error of a read, where each cause follows from another
 pub read_trouble_map : {Reads Reads' : List ℕ → Type 0} {Refuses Refuses' : List File → List ℕ → InputError → Type 0}

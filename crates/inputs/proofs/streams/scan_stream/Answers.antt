@@ -1,4 +1,4 @@
-use Rattle.std.proofs.Common.{◌≤◌, ◌^◌, ℕ, List, [], Some, inl, length, subst, sym, arith}
+use Rattle.std.proofs.Common.{◌≤◌, ◌^◌, ℕ, List, [], inl, length, subst, sym, arith}
 use Rattle.std.proofs.lemmas.Result.{IfErr-weaker}
 use Rattle.sys_demux.specs.SystemStreams.{IsBadStream, IsSystem}
 use Rattle.cli_errors.specs.ReadErrors.{IsReadError}
