@@ -7,7 +7,7 @@ use Rattle.std.proofs.lemmas.List.{append_assoc, append-nil, ext_get_or, get_or-
 use Rattle.std.proofs.lemmas.List.{length-map, length-set, length-take, map-set, take_at, take_more}
 use Rattle.std.proofs.lemmas.List.Sums.{sum_by_push}
 use Rattle.admission.specs.declared.entries.Entry.{Entry}
-use Rattle.day_run.proofs.ListUpdates.{set-at}
+use Rattle.day_run.proofs.ListUpdates.{set-at, set_place}
 use Rattle.day_script.proofs.Places.{Place}
 use Rattle.day_run.proofs.JournalStepLemmas.{timed-set, halted-now, open-halt, booked-halt, booked-same, going-set}
 use Rattle.day_run.specs.declared.clients.Client.{Client}
@@ -144,17 +144,9 @@ steps-next {heard} {slot} stepped =
     let within = swept-inside (after_sending slot) i old cs inside to.swept in
     record {
       timed = record {
-        past = λ c any before below. set-at (λ (n : ℕ) (x : Client). IsTimed slot x) (record {
-          xs = cs;
-          c = i;
-          d = c;
-          x = next;
-          none = any;
-          inside = λ same. inside;
-          own = own.timed;
-          other = λ other.
-              to.timed.past c any (omega (arith, before, other)) (omega (arith, below, length-set cs i next));
-        });
+        past = λ c any before below.
+            set-at (λ (n : ℕ) (x : Client). IsTimed slot x) (set_place cs i c next any) (λ same. inside) own.timed
+            (λ other. to.timed.past c any (omega (arith, before, other)) (omega (arith, below, length-set cs i next)));
         later = λ c any from below.
             let other : c ≡ i → ⊥ = λ same. absurd (omega (arith, same, from)) in
             subst (IsTimed heard) (sym (get_or-set_other cs i c next any other))
@@ -381,16 +373,9 @@ passed-next {which} {begun} {old} passed to =
         now = passed-now place before.entries after.entries halt grown.entries ∙ to.kept.now;
       };
       undone = record {
-        each = λ c any below. set-at (λ (n : ℕ) (x : Client). IsUndone x) (record {
-          xs = cs;
-          c = place;
-          d = c;
-          x = next;
-          none = any;
-          inside = λ same. inside;
-          own = halted-undone halt client undone;
-          other = λ other. to.undone.each c any (omega (arith, below, other));
-        });
+        each = λ c any below.
+            set-at (λ (n : ℕ) (x : Client). IsUndone x) (set_place cs place c next any) (λ same. inside)
+            (halted-undone halt client undone) (λ other. to.undone.each c any (omega (arith, below, other)));
       };
       ended = λ slot timed. passed-ended passed begun.entries slot (to.ended slot timed);
     }

@@ -10,7 +10,7 @@ use Rattle.admission.specs.Machine.{CanHalt, AdmittedPlay, State, play_numbered,
 use Rattle.admission.proofs.PlayLookup.{found-next}
 use Rattle.admission.proofs.Halts.{halting}
 use Rattle.admission.proofs.HistoryPrefixes.{next_of, state-push}
-use Rattle.day_run.proofs.ListUpdates.{set-at}
+use Rattle.day_run.proofs.ListUpdates.{set-at, set_place}
 use Rattle.day_run.specs.declared.clients.Client.{Client}
 use Rattle.day_run.specs.declared.clients.Client.TheVariants.{Playing}
 use Rattle.day_run.specs.Clients.{AreBooked, AreGoing, AreTimed, AreUndone, IsBooked, IsGoing, IsOpenOf, IsQuiet}
@@ -70,16 +70,7 @@ each-set : (P : ℕ → Client → Type 0) (clients : List Client) (c : ℕ) (cl
     → AreEach (λ (d : ℕ) (x : Client). (d ≡ c → ⊥) → P d x) clients → AreEach P (set clients c client)
 each-set P clients c client own others d none inside =
     let within : d < length clients = omega (arith, inside, length-set clients c client) in
-    set-at P (record {
-      xs = clients;
-      c = c;
-      d = d;
-      x = client;
-      none = none;
-      inside = λ same. omega (arith, same, within);
-      own = own;
-      other = others d none within;
-    })
+    set-at P (set_place clients c d client none) (λ same. omega (arith, same, within)) own (others d none within)
 
 -- clients whose plays a book has open
 pub record BookedClients : Type 0 where

@@ -3,24 +3,25 @@ use Rattle.std.proofs.Common.{◌≡◌, ◌<◌, ℕ, List, length, set, get_or
 use Rattle.std.proofs.lemmas.Bool.{cases_eq}
 use Rattle.std.proofs.lemmas.List.{get_or-set_other, get_or-set_same}
 
--- a place d of a list that is set at c: the element that is set, and the others as before
-pub record SetPlace {X : Type 0} (P : ℕ → X → Type 0) : Type 0 where
+-- a place d of a list that is set at c
+pub record SetPlace (X : Type 0) : Type 0 where
   pub xs : List X
   pub c : ℕ
   pub d : ℕ
   pub x : X
   pub none : X
-  pub inside : d ≡ c → c < length xs
-  pub own : P c x
-  pub other : (d ≡ c → ⊥) → P d (get_or xs d none)
 
-pub set-at : {X : Type 0} (P : ℕ → X → Type 0) (at : SetPlace P)
-    → P at.d (get_or (set at.xs at.c at.x) at.d at.none)
-set-at P at = elim (cases_eq d c) [
+abbrev pub set_place : {X : Type 0} (xs : List X) (c d : ℕ) (x none : X) → SetPlace X
+set_place xs c d x none = record { xs = xs; c = c; d = d; x = x; none = none }
+
+-- the element that is set, and the others as before
+pub set-at : {X : Type 0} (P : ℕ → X → Type 0) (at : SetPlace X) → (at.d ≡ at.c → at.c < length at.xs) → P at.c at.x
+    → ((at.d ≡ at.c → ⊥) → P at.d (get_or at.xs at.d at.none)) → P at.d (get_or (set at.xs at.c at.x) at.d at.none)
+set-at P at inside own other = elim (cases_eq d c) [
   | inl same ↦
       let B : ℕ → Type 0 = λ n. P n (get_or (set xs c x) n none) in
       subst B (sym same) (subst (P c) (sym (get_or-set_same xs c x none (inside same))) own)
   | inr apart ↦ subst (P d) (sym (get_or-set_other xs c d x none apart)) (other apart)
 ]
   where
-    open at use {xs, c, d, x, none, inside, own, other}
+    open at use {xs, c, d, x, none}

@@ -19,7 +19,7 @@ use Rattle.admission.specs.Machine.{with_halted}
 use Rattle.admission.proofs.PlayLookup.{found-new, found-other, found-push}
 use Rattle.admission.proofs.Halts.{plays-split, split}
 use Rattle.admission.proofs.HistoryPrefixes.{state-push}
-use Rattle.day_run.proofs.ListUpdates.{set-at}
+use Rattle.day_run.proofs.ListUpdates.{set-at, set_place}
 use Rattle.day_run.specs.BookingBalance.{AreHeldOf, IsBalanced, IsHeld, share_of}
 use Rattle.day_run.specs.Days.{DayState, booked_up_to, entry_by, halt_by, sent_up_to}
 use Rattle.day_run.specs.ClientStates.{Idle, Playing, Pausing, Paused, ClientPlay, ClientState, Rest, booking_of}
@@ -294,16 +294,9 @@ held-set : (entries : List Entry) (states : List ClientState) (c : ℕ) (next : 
     → (c < length states) × AreHeldOf entries c next
     → ((d : ℕ) → (d ≡ c → ⊥) → d < length states → AreHeldOf entries d (get_or states d Idle))
     → AreHeld entries (set states c next)
-held-set entries states c next here others = λ d within. set-at (AreHeldOf entries) (record {
-  xs = states;
-  c = c;
-  d = d;
-  x = next;
-  none = Idle;
-  inside = λ same. here.0;
-  own = here.1;
-  other = λ other. others d other (omega (arith, within, length-set states c next));
-})
+held-set entries states c next here others = λ d within.
+    set-at (AreHeldOf entries) (set_place states c d next Idle) (λ same. here.0) here.1
+    (λ other. others d other (omega (arith, within, length-set states c next)))
 
 -- a client's play was halted, and the client books what is kept of it
 pub balanced-halt : {m : DayState} {play : ClientPlay} (own : BalancedClient m (Playing play))

@@ -36,7 +36,7 @@ use Rattle.day_run.specs.ClientStates.{after_play, after_sending, booking_of, is
 use Rattle.day_run.proofs.SentBookedLemmas.{HeldClient, its-held}
 use Rattle.day_run.proofs.LineOutcomes.{after_answer, halted_client, morning-ready, outcome-ready, slot-ready}
 use Rattle.day_run.proofs.LineOutcomes.{PlayHalted, line-outcome, offer-kept, taken-keeps}
-use Rattle.day_run.proofs.ListUpdates.{set-at}
+use Rattle.day_run.proofs.ListUpdates.{set-at, set_place}
 use Rattle.day_run.proofs.PauseLemmas.{pausing-cases}
 use Rattle.day_run.proofs.ScriptLines.{ClientOf, IsPlayTaken, LineStep, LinesTaken, StandingLine}
 
@@ -61,16 +61,9 @@ record SoundState (heard : ℕ) : Type 0 where
 -- the states but one stay
 set-sound : (m : DayState) → IsSound m → (own : SoundState m.heard)
     → AreStates m.heard (set m.states own.c own.state)
-set-sound m is own d inside = set-at (λ (n : ℕ) (s : ClientState). IsSoundClient m.heard s) (record {
-  xs = m.states;
-  c = own.c;
-  d = d;
-  x = own.state;
-  none = Idle;
-  inside = λ same. omega (arith, own.client, is.ready.count);
-  own = own.sound;
-  other = λ other. is.each d inside;
-})
+set-sound m is own d inside =
+    set-at (λ (n : ℕ) (s : ClientState). IsSoundClient m.heard s) (set_place m.states own.c d own.state Idle)
+    (λ same. omega (arith, own.client, is.ready.count)) own.sound (λ other. is.each d inside)
 
 -- a client asks for what can be sent, by its plan
 record SoundAsking (ask : AskedPlay) : Type 0 where
