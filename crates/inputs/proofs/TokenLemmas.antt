@@ -1,7 +1,8 @@
 -- The tokens of a text, from the beginning on, and the traces that they write.
 use Rattle.std.proofs.Common.{◌≡◌, ℕ, ◌+◌, ◌-◌, ◌<◌, ◌≤◌, ◌^◌, Bool, true, false, not, List, [], ◌∷◌, ◌++◌}
 use Rattle.std.proofs.Common.{length, take, drop, map, sum, Some, Option, refl, sym, ap, ◌∙◌, arith, add-zero}
-use Rattle.std.proofs.Common.{min, ◌&&◌, subst, inl, inr, if◌then◌else◌, slice_range, get_or, length-append, length-drop}
+use Rattle.std.proofs.Common.{min, ◌&&◌, subst, inl, inr, if◌then◌else◌, slice_range, get_or, length-append}
+use Rattle.std.proofs.Common.{length-drop}
 use Rattle.std.proofs.lemmas.Bool.{and_parts, not-true, not-false, cases_lt}
 use Rattle.std.proofs.lemmas.List.{take-append-drop, drop-drop, length-take-le, take_all, map-append, append_assoc}
 use Rattle.std.proofs.Math.Seq.{get_or-append_seam}
@@ -171,7 +172,8 @@ bad_read {text} so_far next none = record {
   written = read.written;
   ends = λ more trace.
       let last : (x : ℕ) × ((more ≡ sizes ++ x ∷ []) × (number_of (slice_range text from to) ≡ Some x)) =
-      split_last (record { from = from; bytes = slice_range text from to }) read.done sizes read.written.numbers trace.numbers in
+      split_last (record { from = from; bytes = slice_range text from to }) read.done sizes read.written.numbers
+      trace.numbers in
       let ends : IsPushed sizes last.0 more = is_pushed sizes last.0 more last.1.0 in
       none last.0 (record {
         number = last.1.1;

@@ -74,7 +74,8 @@ returns-in-Pack-clause-opened g c = λ held is found.
       length-take-le c.in-Some.count into chunk.fits,
       chunk.within,
     ) in
-    let front = subst (IsNextRead held c.args.file.name.now c.args.file.size so_far.bytes c.read_at.new.into) c.in-Some.is
+    let front = subst (IsNextRead held c.args.file.name.now c.args.file.size so_far.bytes c.read_at.new.into)
+    c.in-Some.is
     ((c.in_ok-count.ensures {u = tt}).told held so_far.bytes (c.loop-count.invariant.library.kept ∙ is) so_far.front
     so_far.long) in
     let bytes = so_far.bytes ++ take c.in-Some.count c.read_at.new.into in
@@ -83,7 +84,8 @@ returns-in-Pack-clause-opened g c = λ held is found.
       found = front.found;
       sized = front.sized;
       pack = ap pack_in (sym (front_rest held c.args.file.name.now c.args.file.size bytes front))
-          ∙ (c.in-Pack.ensures {u = tt}).opening so_far.bytes so_far.long so_far.unfound (drop (length bytes) front.whole);
+          ∙ (c.in-Pack.ensures {u = tt}).opening so_far.bytes so_far.long so_far.unfound
+          (drop (length bytes) front.whole);
       within = place;
     }
 
@@ -91,7 +93,8 @@ pub returns-in-Other-clause-opened : goal.returns-in-Other-clause-opened
 returns-in-Other-clause-opened g c = λ held is found.
     let so_far : HasLooked held c.args.file.name.now c.args.file.size c.loop-count.at c.loop-count.prefix =
     c.loop-count.invariant.told held is found in
-    let front = subst (IsNextRead held c.args.file.name.now c.args.file.size so_far.bytes c.read_at.new.into) c.in-Some.is
+    let front = subst (IsNextRead held c.args.file.name.now c.args.file.size so_far.bytes c.read_at.new.into)
+    c.in-Some.is
     ((c.in_ok-count.ensures {u = tt}).told held so_far.bytes (c.loop-count.invariant.library.kept ∙ is) so_far.front
     so_far.long) in
     let bytes = so_far.bytes ++ take c.in-Some.count c.read_at.new.into in
@@ -100,6 +103,7 @@ returns-in-Other-clause-opened g c = λ held is found.
       found = front.found;
       sized = front.sized;
       pack = ap pack_in (sym (front_rest held c.args.file.name.now c.args.file.size bytes front))
-          ∙ (c.in-Other.ensures {u = tt}).opening so_far.bytes so_far.long so_far.unfound (drop (length bytes) front.whole);
+          ∙ (c.in-Other.ensures {u = tt}).opening so_far.bytes so_far.long so_far.unfound
+          (drop (length bytes) front.whole);
       within = tt;
     }

@@ -1,4 +1,5 @@
-use Rattle.std.proofs.Common.{◌≡◌, List, length, ◌∙◌, ◌+◌, ◌-◌, Bool, true, false, Some, None, ℕ, cond, eqb, eq-eqb, get_or, sym, ap}
+use Rattle.std.proofs.Common.{◌≡◌, List, length, ◌∙◌, ◌+◌, ◌-◌, Bool, true, false, Some, None, ℕ, cond, eqb, eq-eqb}
+use Rattle.std.proofs.Common.{get_or, sym, ap}
 use Rattle.std.proofs.lemmas.Bool.{ne_eqb}
 use Rattle.inputs.proofs.PackSearchLemmas.{OpenBefore, found_step, not_whole, open_step}
 use Rattle.inputs.specs.PackSearch.{HasNoCode}

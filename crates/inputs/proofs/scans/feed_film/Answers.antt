@@ -30,7 +30,8 @@ returns-in-Err-clause-error g c =
     film_trouble (library_call (g.L.Library.files c.args.library.now) c.args.file.name.now
     (g.L.Library.faults c.args.library.now) (g.L.Library.faults c.read_at.new.library)) c.scan_error.result
     (λ held fault is refused.
-    chunk_refused (film_file (c.requires.opened held is) c.requires.short) so_far.bytes (take c.in-Some.count c.read_at.new.into)
+    chunk_refused (film_file (c.requires.opened held is) c.requires.short) so_far.bytes
+    (take c.in-Some.count c.read_at.new.into)
     (subst (IsNextRead held c.args.file.name.now c.args.file.size so_far.bytes c.read_at.new.into) c.in-Some.is
     ((c.in_ok-count.ensures {u = tt}).told held so_far.bytes
     (c.loop-count.invariant.library.kept ∙ is)

@@ -51,19 +51,23 @@ scan_stream-requires-clause-opened g c = λ held is.
 
 pub returns-in-None-clause-film : goal.returns-in-None-clause-film
 returns-in-None-clause-film g c =
-    heard_on (later_read (then_read c.find_file.ensures.library c.find_pack.ensures.library)) (g.F.Found.heard c.scan_plain.new.found) c.args.name.now c.scan_plain.result c.scan_plain.ensures.film
+    heard_on (later_read (then_read c.find_file.ensures.library c.find_pack.ensures.library))
+    (g.F.Found.heard c.scan_plain.new.found) c.args.name.now c.scan_plain.result c.scan_plain.ensures.film
 
 pub returns-in-None-clause-error : goal.returns-in-None-clause-error
 returns-in-None-clause-error g c =
-    troubles_on (later_read (then_read c.find_file.ensures.library c.find_pack.ensures.library)) c.args.name.now (g.L.Library.faults c.scan_plain.new.library) c.scan_plain.result c.scan_plain.ensures.error
+    troubles_on (later_read (then_read c.find_file.ensures.library c.find_pack.ensures.library)) c.args.name.now
+    (g.L.Library.faults c.scan_plain.new.library) c.scan_plain.result c.scan_plain.ensures.error
 
 pub returns-clause-film : goal.returns-clause-film
 returns-clause-film g c =
-    heard_on (later_read (then_read c.find_file.ensures.library c.find_pack.ensures.library)) (g.F.Found.heard c.scan_stream.new.found) c.args.name.now c.scan_stream.result c.scan_stream.ensures.film
+    heard_on (later_read (then_read c.find_file.ensures.library c.find_pack.ensures.library))
+    (g.F.Found.heard c.scan_stream.new.found) c.args.name.now c.scan_stream.result c.scan_stream.ensures.film
 
 pub returns-clause-error : goal.returns-clause-error
 returns-clause-error g c =
-    troubles_on (later_read (then_read c.find_file.ensures.library c.find_pack.ensures.library)) c.args.name.now (g.L.Library.faults c.scan_stream.new.library) c.scan_stream.result c.scan_stream.ensures.error
+    troubles_on (later_read (then_read c.find_file.ensures.library c.find_pack.ensures.library)) c.args.name.now
+    (g.L.Library.faults c.scan_stream.new.library) c.scan_stream.result c.scan_stream.ensures.error
 
 pub returns-in_err-stream-clause-library : goal.returns-in_err-stream-clause-library
 returns-in_err-stream-clause-library g c = then_read c.find_file.ensures.library c.find_pack.ensures.library

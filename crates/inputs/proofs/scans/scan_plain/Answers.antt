@@ -4,14 +4,16 @@ use Rattle.cli_errors.specs.ReadErrors.{IsReadError}
 use Rattle.inputs.specs.FileReads.{IsThatName}
 use Rattle.inputs.specs.LoadErrors.{IsFilmError}
 use Rattle.inputs.specs.ChunkScans.{HasEnded, HasScannedFilm, HasScannedAll, IsFilmRefused, IsRefusedAtEnd}
-use Rattle.inputs.proofs.ScanLemmas.{film_file, film_trouble, handed_on, library_call, none_told, ok_map, plain_holds, plain_refused}
+use Rattle.inputs.proofs.ScanLemmas.{film_file, film_trouble, handed_on, library_call, none_told, ok_map, plain_holds}
+use Rattle.inputs.proofs.ScanLemmas.{plain_refused}
 use Rattle.inputs.proofs.scans.scan_plain.Goals as goal
 
 pub feed_film-requires-clause-scanned : goal.feed_film-requires-clause-scanned
 feed_film-requires-clause-scanned g c = record {
   bytes = [];
   long = refl;
-  scanned = none_told (g.F.Found.heard c.args.found.now) c.new-scanner.result c.new-scanner.ensures.fed c.requires.fresh;
+  scanned = none_told (g.F.Found.heard c.args.found.now) c.new-scanner.result c.new-scanner.ensures.fed
+      c.requires.fresh;
   front = λ held is.
       let opened = c.requires.opened held is in
       record { whole = opened.file; found = opened.found; sized = opened.sized; front = refl };
@@ -30,7 +32,8 @@ returns-clause-film g c =
     (λ e ended. record {
       video = all.bytes;
       ended = ended;
-      holds = λ held is. plain_holds (film_file (c.requires.opened held is) c.requires.short) (all.whole held is) ended.accepted;
+      holds = λ held is. plain_holds (film_file (c.requires.opened held is) c.requires.short) (all.whole held is)
+          ended.accepted;
     })
     (c.finish_scan.ensures.ended all.bytes short (inl all.scanned))
 
@@ -45,9 +48,11 @@ returns-clause-error g c =
     (IsReadError (IsThatName c.args.file.name.now) IsFilmRefused (g.L.Library.files c.args.library.now)
     (g.L.Library.faults c.args.library.now) (g.L.Library.faults c.feed_film.new.library))
     (λ t h. film_trouble
-    {Refuses = IsRefusedAtEnd (g.F.Found.heard c.feed_film.new.found) c.feed_film.new.scanner} (library_call (g.L.Library.files c.args.library.now) c.args.file.name.now
+    {Refuses = IsRefusedAtEnd (g.F.Found.heard c.feed_film.new.found) c.feed_film.new.scanner}
+    (library_call (g.L.Library.files c.args.library.now) c.args.file.name.now
     (g.L.Library.faults c.args.library.now) (g.L.Library.faults c.feed_film.new.library)) t
-    (λ held fault is refuses. plain_refused (film_file (c.requires.opened held is) c.requires.short) (all.whole held is) (refuses all.bytes short (inl all.scanned))) h)
+    (λ held fault is refuses. plain_refused (film_file (c.requires.opened held is) c.requires.short)
+    (all.whole held is) (refuses all.bytes short (inl all.scanned))) h)
     c.finish_scan.ensures.error
 
 pub returns-in_err-feed_film-clause-error : goal.returns-in_err-feed_film-clause-error

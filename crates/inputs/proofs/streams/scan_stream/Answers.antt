@@ -5,7 +5,8 @@ use Rattle.cli_errors.specs.ReadErrors.{IsReadError}
 use Rattle.inputs.specs.FileReads.{IsThatName}
 use Rattle.inputs.specs.LoadErrors.{IsFilmError}
 use Rattle.inputs.specs.ChunkScans.{HasEnded, HasScannedFilm, HasStreamedAll, IsFilmRefused, IsRefusedAtEnd}
-use Rattle.inputs.proofs.ScanLemmas.{film_file, film_trouble, handed_on, library_call, none_told, ok_map, system_trouble}
+use Rattle.inputs.proofs.ScanLemmas.{film_file, film_trouble, handed_on, library_call, none_told, ok_map}
+use Rattle.inputs.proofs.ScanLemmas.{system_trouble}
 use Rattle.inputs.proofs.StreamLemmas.{first_stream, stream_fault, stream_holds, stream_refused, stream_seen}
 use Rattle.inputs.proofs.streams.scan_stream.Goals as goal
 
@@ -60,7 +61,8 @@ returns-in-Ok-clause-error g c =
     (IsReadError (IsThatName c.args.file.name.now) IsFilmRefused (g.L.Library.files c.args.library.now)
     (g.L.Library.faults c.args.library.now) (g.L.Library.faults c.feed_stream.new.library))
     (λ t h. film_trouble
-    {Refuses = IsRefusedAtEnd (g.F.Found.heard c.feed_stream.new.found) c.feed_stream.new.scanner} (library_call (g.L.Library.files c.args.library.now) c.args.file.name.now
+    {Refuses = IsRefusedAtEnd (g.F.Found.heard c.feed_stream.new.found) c.feed_stream.new.scanner}
+    (library_call (g.L.Library.files c.args.library.now) c.args.file.name.now
     (g.L.Library.faults c.args.library.now) (g.L.Library.faults c.feed_stream.new.library)) t
     (λ held fault is refuses.
     let file = film_file (c.requires.opened held is) c.requires.short in
