@@ -193,7 +193,8 @@ open-halt {xs} {c} {halt} (clients.Playing play) own is =
     subst (λ (n : ℕ). IsOpenOf xs c n halt.keep) (sym is.0) (record {
       inside = own.booked.inside;
       maker = own.booked.maker;
-      can = can-fewer (state_after xs) play.number (total_bytes play.plan) halt.keep (omega (arith, is.1, own.going.whole))
+      can = can-fewer (state_after xs) play.number (total_bytes play.plan) halt.keep
+          (omega (arith, is.1, own.going.whole))
           own.booked.can;
     })
 open-halt {c} {halt} _ own is = absurd is

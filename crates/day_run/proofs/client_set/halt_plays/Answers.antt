@@ -1,11 +1,10 @@
-use Rattle.std.proofs.Common.{◌+◌, ◌++◌, ◌∷◌, [], List, Some, None, map, ap, sym, subst, ◌∙◌, arith}
+use Rattle.std.proofs.Common.{◌+◌, ◌++◌, ◌∷◌, [], Some, None, map, ap, sym, subst, ◌∙◌, arith}
 use Rattle.std.proofs.lemmas.List.{append-nil, length-map}
 use Rattle.admission.specs.declared.entries.Answer.{Answer}
 use Rattle.admission.specs.declared.entries.Command.TheVariants.{Halt}
 use Rattle.day_script.proofs.Places.{Place}
 use Rattle.day_run.specs.Clients.{state_for, state_of}
 use Rattle.day_run.specs.Days.{entry_by}
-use Rattle.day_run.specs.declared.clients.Client.{Client}
 use Rattle.day_run.proofs.ClientSweepLemmas.{AreHaltedTo, book-grown, passed-next, swept-all}
 use Rattle.day_run.proofs.client_set.halt_plays.Goals.{in-Some, in_default}
 use Rattle.day_run.proofs.client_set.halt_plays.Goals as goal
@@ -13,16 +12,15 @@ use Rattle.day_run.proofs.client_set.halt_plays.Goals as goal
 pub loop-maker-preserved : goal.loop-maker-preserved
 loop-maker-preserved c =
     let i = c.loop-maker.maker in
-    let book = c.loop-maker.book in
-    let at : Place c.loop-maker.clients = record { index = i; none = c.index-clients-maker.result; inside = omega arith } in
+    let at : Place c.loop-maker.clients =
+    record { index = i; none = c.index-clients-maker.result; inside = omega arith } in
     let going = c.loop-maker.invariant.sound.going.each i at.none at.inside in
-    let To : List Client → Type 0 =
-    λ l. AreHaltedTo c.args.which (i + 1) c.args.book.now c.match-halt_of.book c.args.clients.now l in
+    let To = AreHaltedTo c.args.which (i + 1) c.args.book.now c.match-halt_of.book c.args.clients.now in
     elim c.match-halt_of.branch [
       | in-Some w ↦
           let told = w.in-Some.ensures {u = tt} in
           subst To (sym w.clients-is) (passed-next (record {
-            before = book;
+            before = c.loop-maker.book;
             after = c.match-halt_of.book;
             clients = c.loop-maker.clients;
             at = at;
@@ -32,13 +30,14 @@ loop-maker-preserved c =
             has = λ slot timed. told.halt slot i going timed;
             goes = λ slot timed. told.state slot going timed;
             grown = book-grown _ (w.book-is ∙ w.halt-noted.ensures.noted.journal_is)
-                (ap (λ (answer : Answer). book.entries
-                ++ entry_by i (Halt w.in-Some.halt.number w.in-Some.halt.keep) answer ∷ []) w.halt-noted.ensures.answer);
+                (ap (λ (answer : Answer). c.loop-maker.book.entries
+                ++ entry_by i (Halt w.in-Some.halt.number w.in-Some.halt.keep) answer ∷ [])
+                w.halt-noted.ensures.answer);
           }) c.loop-maker.invariant)
       | in_default w ↦
           let told = w.in_default.ensures {u = tt} in
           subst To (sym w.clients-is) (passed-next (record {
-            before = book;
+            before = c.loop-maker.book;
             after = c.match-halt_of.book;
             clients = c.loop-maker.clients;
             at = at;
@@ -47,7 +46,7 @@ loop-maker-preserved c =
             undone = told.none;
             has = λ slot timed. told.halt slot i going timed;
             goes = λ slot timed. told.state slot going timed;
-            grown = book-grown book.entries w.book-is (sym (append-nil book.entries));
+            grown = book-grown c.loop-maker.book.entries w.book-is (sym (append-nil c.loop-maker.book.entries));
           }) c.loop-maker.invariant)
     ]
 

@@ -3,7 +3,8 @@ use Rattle.std.proofs.lemmas.List.{length-append}
 use Rattle.day_run.specs.FairProgress.{AreTraces, sizes_in}
 use Rattle.film_run.specs.Units.{AreUnitSizes}
 use Rattle.film_make.specs.Generator.{words_left}
-use Rattle.day_run.proofs.FairTurns.{TraceDrawn, drawn-trace, traces-none, traces-push, left-next, left-none, sizes-next}
+use Rattle.day_run.proofs.FairTurns.{TraceDrawn, drawn-trace, traces-none, traces-push, left-next, left-none}
+use Rattle.day_run.proofs.FairTurns.{sizes-next}
 use Rattle.day_run.proofs.fairs.draw_traces.Goals as goal
 
 pub loop-trace-init : goal.loop-trace-init

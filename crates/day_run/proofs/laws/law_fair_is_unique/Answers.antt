@@ -23,7 +23,8 @@ returns c = λ steps number plays text other journal others a b.
       sound = record { ready = morning-ready; each = idle-sound };
     }) in
     let journals = a.journal_is ∙ ap last_journal one.new_is ∙ sym b.journal_is in (
-      a.text_is ∙ ap (λ (ts : List FairTurn). fair_text (counts_of ts a.evening) (entry_counts_of journal)) one.turns_are
+      a.text_is ∙ ap (λ (ts : List FairTurn). fair_text (counts_of ts a.evening) (entry_counts_of journal))
+          one.turns_are
           ∙ ap (λ (m : DayState). fair_text (counts_of b.turns m) (entry_counts_of journal)) one.new_is
           ∙ ap (λ (es : List Entry). fair_text (counts_of b.turns b.evening) (entry_counts_of es)) journals
           ∙ sym b.text_is,

@@ -7,4 +7,5 @@ returns-clause-look c = look-leaves
 
 pub returns-clause-offer : goal.returns-clause-offer
 returns-clause-offer c =
-    λ link client source buffer delay wait old new text is. offer-kept (record { link = link; old = old; new = new; text = text }) is
+    λ link client source buffer delay wait old new text is.
+    offer-kept (record { link = link; old = old; new = new; text = text }) is

@@ -27,7 +27,8 @@ returns-in-Some-clause-machine c =
     let play = c.begin_play-play.result in
     let slot = min old.heard LATEST_SLOT in
     let late : slot ≡ old.heard = omega (arith, day.heard_fits) in
-    let e : JournalEntry = record { maker = c.from.result; command = Play slot c.args.plan; answer = c.in-Ok.noted.answer } in
+    let e : JournalEntry =
+    record { maker = c.from.result; command = Play slot c.args.plan; answer = c.in-Ok.noted.answer } in
     let y : c.play.new.self.entries ≡ old.book.entries ++ e ∷ [] = ap (λ (j : Journal). j.entries) noted.journal_is in
     let whole : total_bytes play.plan ≡ total_bytes c.args.plan =
     ap total_bytes (c.begin_play-play.ensures.plan ∙ c.requires.kept) in
@@ -107,7 +108,8 @@ returns-in_default-clause-machine c =
     let old = c.args.self.now in
     let day = c.requires.machine in
     let slot = min old.heard LATEST_SLOT in
-    let e : JournalEntry = record { maker = c.from.result; command = Play slot c.args.plan; answer = c.in-Ok.noted.answer } in
+    let e : JournalEntry =
+    record { maker = c.from.result; command = Play slot c.args.plan; answer = c.in-Ok.noted.answer } in
     let now = played-now old.book.entries e slot c.args.plan refl in
     day-noted old day (record {
       e = e;
