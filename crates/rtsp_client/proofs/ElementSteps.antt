@@ -1,11 +1,10 @@
 -- Elements and events, one after another.
-use Rattle.std.proofs.Common.{◌≡◌, ℕ, suc, ◌+◌, ◌<◌, ◌≤◌, ◌==◌, Bool, true, false, cond, nat_lt, List, [], ◌∷◌, ◌++◌}
+use Rattle.std.proofs.Common.{◌≡◌, ℕ, suc, ◌<◌, ◌≤◌, ◌==◌, true, false, cond, List, [], ◌∷◌, ◌++◌}
 use Rattle.std.proofs.Common.{length, take, drop, map, get_or, Ok, Err, refl, sym, ap, subst, ◌∙◌}
-use Rattle.std.proofs.Common.{append_assoc, arith, inl, inr}
-use Rattle.std.proofs.lemmas.Bool.{cond-true, cond-false, le-ltb}
+use Rattle.std.proofs.Common.{append_assoc, arith, inl}
+use Rattle.std.proofs.lemmas.Bool.{cond-true, cond-false}
 use Rattle.std.proofs.lemmas.List.{append-nil, get_or-take, length-take-le}
 use Rattle.std.proofs.lemmas.List.Concat.{flat_map-append}
-use Rattle.interleave.specs.declared.demux.TheConstants.{MAX_WAITING_BYTES}
 use Rattle.interleave.specs.Heads.{is_line_end}
 use Rattle.interleave.specs.Elements.{AreLineEnds, IsFirst}
 use Rattle.interleave.specs.Streams.{AreInputElements, IsElementLength, WholeBlock, WholeMessage}
@@ -20,9 +19,9 @@ use Rattle.rtsp_client.specs.declared.watch_request.WatchFault.TheVariants.{Fram
 use Rattle.rtsp_client.specs.ClientHistory.{History, ClientEvent, Frame, Reply}
 use Rattle.rtsp_client.specs.Answers.{GoOn, history_after, block_events, events_of_elements, element_events}
 use Rattle.rtsp_client.specs.Answers.{payload_of, payloads_of, request_after, requests_after}
-use Rattle.rtsp_client.specs.WatchCourses.{Stops, WatchStage, stage}
+use Rattle.rtsp_client.specs.WatchCourses.{Stops, StopsAt, WatchStage, stage}
 use Rattle.rtsp_client.specs.HistoryInvariant.{HistoryInvariant}
-use Rattle.rtsp_client.specs.ClientSteps.{HasEndedAt, HasTakenEvents, HasStopped, HasTaken, Observed, observed_more}
+use Rattle.rtsp_client.specs.ClientSteps.{HasTakenEvents, HasStopped, HasTaken, Observed, observed_more}
 use Rattle.rtsp_client.proofs.ObservedSteps.{ObservedChange, Watcher, observed-none, observed-on}
 
 -- ---- lists of moments
@@ -61,7 +60,7 @@ cut-on {bytes} {mid} {end} {p = element ∷ p} {q} cuts =
 element-start : (rest : List ℕ) (n : ℕ) → 0 < n → get_or (take n rest) 0 0 ≡ get_or rest 0 0
 element-start rest n some = get_or-take n rest 0 0 some
 
-block-of : (rest : List ℕ) (n : ℕ) → 4 ≤ n → get_or rest 0 0 ≡ 36
+pub block-of : (rest : List ℕ) (n : ℕ) → 4 ≤ n → get_or rest 0 0 ≡ 36
     → element_events (take n rest) ≡ block_events (get_or rest 1 0) (take n rest)
 block-of rest n long starts =
     let front : get_or (take n rest) 0 0 ≡ 36 = element-start rest n (omega (arith, long)) ∙ starts in
@@ -71,7 +70,7 @@ block-of rest n long starts =
     (cond (b == 36) (block_events (get_or (take n rest) 1 0) (take n rest)) (Reply (take n rest) ∷ [])) in
     ap inside front ∙ ap (λ c. block_events c (take n rest)) second
 
-reply-of : (rest : List ℕ) (n : ℕ) → 0 < n → is_line_end (get_or rest 0 0) ≡ false → (get_or rest 0 0 == 36) ≡ false
+pub reply-of : (rest : List ℕ) (n : ℕ) → 0 < n → is_line_end (get_or rest 0 0) ≡ false → (get_or rest 0 0 == 36) ≡ false
     → element_events (take n rest) ≡ Reply (take n rest) ∷ []
 reply-of rest n some no_end no_block =
     let inside : ℕ → List ClientEvent = λ b.
@@ -88,15 +87,6 @@ ends-none (b ∷ bytes) all =
     ap (λ t. t ++ events_of_elements (map (λ c. c ∷ []) bytes)) (cond-true (is_line_end b) [] _ first)
     ∙ ends-none bytes (λ k few. all (suc k) (omega (arith, few)))
 
--- ---- bytes were received
-
--- bytes for which there is room are appended
-pub put-all : (old bytes new : List ℕ) (failed : Bool) → failed ≡ nat_lt MAX_WAITING_BYTES (length old + length bytes)
-    → length old + length bytes ≤ MAX_WAITING_BYTES → new ≡ cond failed old (old ++ bytes) → new ≡ old ++ bytes
-put-all old bytes new failed is fits new_is =
-    new_is
-    ∙ cond-false failed old (old ++ bytes) (is ∙ le-ltb MAX_WAITING_BYTES (length old + length bytes) fits)
-
 -- ---- elements were processed
 
 pub keeps-moved : {w : Watcher} {input : List ℕ} → HistoryInvariant w.wish w.history w.client
@@ -107,47 +97,57 @@ pub passed-none : {w : Watcher} {input : List ℕ} {s : Observed} → HistoryInv
     → HasTakenEvents w.wish w.history [] (record w.client { input = input }) s s
 passed-none {w} {s = s} k = record { good = tt; keeps = keeps-moved {w = w} k; sight_is = observed-none s }
 
--- the first element has so many bytes and these moments
-pub record IsElement (rest : List ℕ) (n : ℕ) (moments : List ClientEvent) : Type 0 where
+-- the first element of bytes, with its moments
+pub record Element : Type 0 where
+  pub rest : List ℕ
+  pub n : ℕ
+  pub moments : List ClientEvent
   pub whole : IsElementLength rest n
   pub moments_are : element_events (take n rest) ≡ moments
 
-pub block-element : {rest : List ℕ} {channel n : ℕ} → IsFirst rest (Ok (Block channel n))
-    → IsElement rest n (block_events channel (take n rest))
-block-element {rest} {n = n} first = record {
+abbrev pub block-element : {channel n : ℕ} (rest : List ℕ) → IsFirst rest (Ok (Block channel n)) → Element
+block-element {channel} {n} rest first = record {
+  rest = rest;
+  n = n;
+  moments = block_events channel (take n rest);
   whole = WholeBlock first.0 first.1 first.3 first.4;
   moments_are = block-of rest n (omega (arith, first.3)) first.0.1
       ∙ ap (λ k. block_events k (take n rest)) (sym first.2);
 }
 
-pub frame-element : {rest : List ℕ} {channel n : ℕ} → IsFirst rest (Ok (Block channel n)) → channel ≡ 0
-    → IsElement rest n (Frame (take n rest) ∷ [])
-frame-element {rest} {n = n} first zero_ =
-    subst (λ k. IsElement rest n (block_events k (take n rest))) zero_ (block-element first)
+abbrev pub frame-element : {channel n : ℕ} (rest : List ℕ) → IsFirst rest (Ok (Block channel n)) → channel ≡ 0 → Element
+frame-element {n = n} rest first zero_ = record (block-element rest first) {
+  moments = Frame (take n rest) ∷ [];
+  moments_are = (block-element rest first).moments_are ∙ ap (λ k. block_events k (take n rest)) zero_;
+}
 
-pub reply-element : {rest : List ℕ} {n : ℕ} → IsFirst rest (Ok (Request n)) → IsElement rest n (Reply (take n rest) ∷ [])
-reply-element {rest} {n} first = record {
+abbrev pub reply-element : {n : ℕ} (rest : List ℕ) → IsFirst rest (Ok (Request n)) → Element
+reply-element {n} rest first = record {
+  rest = rest;
+  n = n;
+  moments = Reply (take n rest) ∷ [];
   whole = WholeMessage first.0 first.1 first.2;
   moments_are = reply-of rest n (omega (arith, first.1.is_head.some, first.1.total_is)) first.0.1 first.0.2;
 }
 
 -- it was processed and dropped
-pub taken-element : {w : Watcher} {rest input : List ℕ} {n : ℕ} {moments : List ClientEvent} {e : ObservedChange}
-    → IsElement rest n moments → HasTakenEvents w.wish w.history moments w.client e.before e.after → input ≡ drop n rest
-    → HasTaken w.wish w.history rest (record w.client { input = input }) e.before e.after
-taken-element {w} {rest} {input} {n} {e = e} element passed dropped = record {
-  elements = take n rest ∷ [];
-  cut = (n, (element.whole, refl, sym dropped));
+pub taken-element : {w : Watcher} {input : List ℕ} {e : ObservedChange} (x : Element)
+    → HasTakenEvents w.wish w.history x.moments w.client e.before e.after → input ≡ drop x.n x.rest
+    → HasTaken w.wish w.history x.rest (record w.client { input = input }) e.before e.after
+taken-element {w} {input} {e} x passed dropped = record {
+  elements = take x.n x.rest ∷ [];
+  cut = (x.n, (x.whole, refl, sym dropped));
   passed =
       subst (λ ms. HasTakenEvents w.wish w.history ms (record w.client { input = input }) e.before e.after)
-      (sym (append-nil (element_events (take n rest)) ∙ element.moments_are))
+      (sym (append-nil (element_events (take x.n x.rest)) ∙ x.moments_are))
       (record { good = passed.good; keeps = keeps-moved passed.keeps; sight_is = passed.sight_is });
 }
 
-pub taken-ends : {w : Watcher} {rest input : List ℕ} {n : ℕ} {s : Observed} → IsFirst rest (Ok (Skip n))
-    → HistoryInvariant w.wish w.history w.client → input ≡ drop n rest
-    → HasTaken w.wish w.history rest (record w.client { input = input }) s s
-taken-ends {w} {rest} {input} {n} {s} first k dropped =
+pub taken-ends : {w : Watcher} {n : ℕ} {s : Observed} → IsFirst w.client.input (Ok (Skip n))
+    → HistoryInvariant w.wish w.history w.client
+    → HasTaken w.wish w.history w.client.input (record w.client { input = drop n w.client.input }) s s
+taken-ends {w} {n} {s} first k =
+    let rest = w.client.input in
     let ends : AreLineEnds rest n = first.1 in
     let long : length (take n rest) ≡ n = length-take-le n rest ends.within in
     let none : events_of_elements (map (λ c. c ∷ []) (take n rest)) ≡ [] =
@@ -156,9 +156,8 @@ taken-ends {w} {rest} {input} {n} {s} first k dropped =
     ap is_line_end (get_or-take n rest k 0 few') ∙ ends.line_ends k few') in
     record {
       elements = map (λ c. c ∷ []) (take n rest);
-      cut = subst (λ r. AreInputElements rest (map (λ c. c ∷ []) (take n rest)) r) (sym dropped)
-          (next_elements rest (Ok (Skip n)) first rest [] refl);
-      passed = subst (λ ms. HasTakenEvents w.wish w.history ms (record w.client { input = input }) s s) (sym none)
+      cut = next_elements rest (Ok (Skip n)) first rest [] refl;
+      passed = subst (λ ms. HasTakenEvents w.wish w.history ms (record w.client { input = drop n rest }) s s) (sym none)
           (passed-none {w = w} k);
     }
 
@@ -166,12 +165,27 @@ pub taken-none : {w : Watcher} {input : List ℕ} {s : Observed} → HistoryInva
     → input ≡ w.client.input → HasTaken w.wish w.history w.client.input (record w.client { input = input }) s s
 taken-none {w} k same = record { elements = []; cut = sym same; passed = passed-none {w = w} k }
 
+-- elements that were processed, and what they leave
+pub record TakenElements : Type 0 where
+  pub watcher : Watcher
+  pub rest : List ℕ
+  pub change : ObservedChange
+  pub taken : HasTaken watcher.wish watcher.history rest watcher.client change.before change.after
+
+abbrev pub taken-so : {w : Watcher} {rest : List ℕ} {e : ObservedChange}
+    → HasTaken w.wish w.history rest w.client e.before e.after → TakenElements
+taken-so {w} {rest} {e} taken = record { watcher = w; rest = rest; change = e; taken = taken }
+
 -- elements were processed, and then others
-pub taken-on : {w : Watcher} {rest : List ℕ} {new : Client} {s t u : Observed}
-    → HasTaken w.wish w.history rest w.client s t
-    → ((g : History) → HistoryInvariant w.wish g w.client → HasTaken w.wish g w.client.input new t u)
-    → HasTaken w.wish w.history rest new s u
-taken-on {w} {rest} {new} {s} {t} {u} first next =
+pub taken-on : {new : Client} {u : Observed} (x : TakenElements)
+    → ((g : History) → HistoryInvariant x.watcher.wish g x.watcher.client
+    → HasTaken x.watcher.wish g x.watcher.client.input new x.change.after u)
+    → HasTaken x.watcher.wish x.watcher.history x.rest new x.change.before u
+taken-on {new} {u} x next =
+    let w = x.watcher in
+    let s = x.change.before in
+    let rest = x.rest in
+    let first = x.taken in
     let a = events_of_elements first.elements in
     let g = history_after w.history a in
     let second = next g first.passed.keeps in
@@ -198,36 +212,28 @@ taken-on {w} {rest} {new} {s} {t} {u} first next =
 
 -- ---- nothing more was processed
 
-stops-now : {wish : Wish} {old : WatchStage} {end : WatchEnd} {sent out : List ℕ} {e : ObservedChange}
-    → Stops wish old end sent out → e.after ≡ observed_more e.before sent out
-    → HasStopped wish old.history old.rest end e.before e.after
-stops-now {old} {sent = sent} {out} stops is = record {
-  sent = sent;
-  out = out;
-  stops = record {
-    elements = [];
-    mid = old.rest;
-    cut = refl;
-    good = tt;
-    more_sent = sent;
-    more_out = out;
-    stops = stops;
-    sent_is = refl;
-    out_is = refl;
-  };
-  sight_is = is;
+pub stop-here : {wish : Wish} {old : WatchStage} {end : WatchEnd} {sent out : List ℕ} → Stops wish old end sent out
+    → StopsAt wish old end sent out
+stop-here {old = old} {sent = sent} {out} stops = record {
+  elements = [];
+  mid = old.rest;
+  cut = refl;
+  good = tt;
+  more_sent = sent;
+  more_out = out;
+  stops = stops;
+  sent_is = refl;
+  out_is = refl;
 }
-
-pub stops-at : {wish : Wish} {old : WatchStage} {n : ℕ} {moment : ClientEvent} {end : WatchEnd} {e : ObservedChange}
-    → IsElement old.rest n (moment ∷ []) → HasEndedAt wish old.history moment end e.before e.after
-    → HasStopped wish old.history old.rest end e.before e.after
-stops-at {wish} {old} {n} {moment} {end} {e} element ended =
-    stops-now {old = old} {e = e} (inr (moment, ((n, (element.whole, element.moments_are)), ended.comes))) ended.sight_is
 
 pub stopped-framing : {wish : Wish} {old : WatchStage} {s : Observed} (fault : DemuxFault)
     → IsFirst old.rest (Err fault) → HasStopped wish old.history old.rest (Fault Framing) s s
-stopped-framing {old} {s} fault first =
-    stops-now {old = old} {e = record { before = s; after = s }} (inl (refl, (fault, first), refl, refl)) (observed-none s)
+stopped-framing {old = old} {s} fault first = record {
+  sent = [];
+  out = [];
+  stops = stop-here {old = old} (inl (refl, (fault, first), refl, refl));
+  sight_is = observed-none s;
+}
 
 -- what two lists of elements send, hand on and leave, one after the other
 requests-in : (wish : Wish) (h : History) (x y : List (List ℕ)) → requests_after wish h (events_of_elements x)
@@ -251,11 +257,15 @@ after-in h x y =
     sym (after-on h (events_of_elements x) (events_of_elements y))
     ∙ ap (history_after h) (sym (flat_map-append element_events x y))
 
-pub stopped-on : {w : Watcher} {rest : List ℕ} {end : WatchEnd} {s t u : Observed}
-    → HasTaken w.wish w.history rest w.client s t
-    → ((g : History) → HistoryInvariant w.wish g w.client → HasStopped w.wish g w.client.input end t u)
-    → HasStopped w.wish w.history rest end s u
-stopped-on {w} {rest} {end} {s} first next =
+pub stopped-on : {end : WatchEnd} {u : Observed} (x : TakenElements)
+    → ((g : History) → HistoryInvariant x.watcher.wish g x.watcher.client
+    → HasStopped x.watcher.wish g x.watcher.client.input end x.change.after u)
+    → HasStopped x.watcher.wish x.watcher.history x.rest end x.change.before u
+stopped-on {end} x next =
+    let w = x.watcher in
+    let rest = x.rest in
+    let s = x.change.before in
+    let first = x.taken in
     let wish = w.wish in
     let h = w.history in
     let a = events_of_elements first.elements in

@@ -50,18 +50,20 @@ timed-from o timed s is =
     let Q : IfSome (Some s) (λ (s : RtpSource). 0 < s.picture_time) = subst P is timed in Q
 
 -- a client that waits, with so many bytes cut
-pub record IsWaiting (w : Watcher) (cut : ℕ) : Type 0 where
+pub record IsWaiting (w : Watcher) : Type 0 where
+  pub cut : ℕ
   pub keeps : HistoryInvariant w.wish w.history w.client
   pub slot_lasts : 0 < w.wish.slot_units
   pub picture_lasts : IfSome w.client.watching.source (λ (source : RtpSource). 0 < source.picture_time)
   pub cut_is : cut ≡ cut_bytes w.client.input
   pub idle : IsFirst w.client.input (Ok More)
 
-pub round-slot : {w : Watcher} {slot cut : ℕ} {state : State} {s : Observed} → IsWaiting w cut
-    → state ≡ after_slot w.wish w.client.watching slot cut
+pub round-slot : {w : Watcher} {slot : ℕ} {state : State} {s : Observed} (waits : IsWaiting w)
+    → state ≡ after_slot w.wish w.client.watching slot waits.cut
     → HasRound w.wish w.history w.client.input (HeardSlot slot) (record w.client { watching = state }) s s
-round-slot {w} {slot} {cut} {state} {s} waits state_is =
+round-slot {w} {slot} {state} {s} waits state_is =
     let c = w.client in
+    let cut = waits.cut in
     record {
       moments = Slot slot (cut_bytes c.input) ∷ [];
       runs = record { brings = (refl, refl); good = (tt, tt); history_is = refl };
@@ -101,14 +103,6 @@ ended-peer {s = s} k = record {
 }
 
 -- ---- all events
-
-runs-on : {mid new : WatchStage} {round : Round} (old : WatchStage) (rounds : List Round) → RunsAll old rounds mid
-    → Runs mid round new → IsFirst new.rest (Ok More) → RunsAll old (rounds ++ round ∷ []) new
-runs-on {new} {round} old [] all runs idle =
-    let R : WatchStage → Type 0 = λ x. Runs x round new in
-    (new, (subst R all runs, idle, refl))
-runs-on {mid} {new} {round} old (first ∷ rounds) all runs idle =
-    (all.0, (all.1.0, all.1.1, runs-on {mid = mid} {new = new} {round = round} all.0 rounds all.1.2 runs idle))
 
 pub history-later : (old mid : WatchStage) (rounds : List Round) → RunsAll old rounds mid
     → mid.history ≡ history_after old.history (events_of_rounds rounds)
@@ -156,13 +150,32 @@ run-none {wish} {client} {s} empty new_ input = record {
   sight_is = observed-none s;
 }
 
+-- a run from SETUP's end on, and what link and output exposed before it and after it
+pub record Running : Type 0 where
+  pub wish : Wish
+  pub count : ℕ
+  pub client : Client
+  pub change : ObservedChange
+  pub run : HasRun wish count client change.before change.after
+
+abbrev pub running : {wish : Wish} {count : ℕ} {client : Client} {change : ObservedChange}
+    → HasRun wish count client change.before change.after → Running
+running {wish} {count} {client} {change} run =
+    record { wish = wish; count = count; client = client; change = change; run = run }
+
+-- what link and output exposed when another event had been received
+abbrev heard_after : Running → IoEvent → Observed
+heard_after r event = observed (told_more r.change.after.told (event ∷ [])) r.change.after.out
+
 -- one more event
-pub run-on : {wish : Wish} {count : ℕ} {event : IoEvent} {c new : Client} {e d : ObservedChange}
-    (run : HasRun wish count c e.before e.after)
-    → d.before ≡ observed (told_more e.after.told (event ∷ [])) e.after.out
-    → ((h : History) → HistoryInvariant wish h c → HasRound wish h c.input event new d.before d.after)
-    → HasRun wish (count + 1) new e.before d.after
-run-on {wish} {event = event} {c} {e = e} run heard next =
+pub run-on : {event : IoEvent} {new : Client} {d : ObservedChange} (r : Running) → d.before ≡ heard_after r event
+    → ((h : History) → HistoryInvariant r.wish h r.client → HasRound r.wish h r.client.input event new d.before d.after)
+    → HasRun r.wish (r.count + 1) new r.change.before d.after
+run-on {event} {new} x heard next =
+    let wish = x.wish in
+    let c = x.client in
+    let e = x.change in
+    let run = x.run in
     let round = next run.history run.keeps in
     let r : Round = record { event = event; moments = round.moments } in
     let h : run.history ≡ history_after [] (events_of_rounds run.rounds) =
@@ -187,7 +200,7 @@ run-on {wish} {event = event} {c} {e = e} run heard next =
       rounds = run.rounds ++ r ∷ [];
       count_is = length-append run.rounds (r ∷ []) ∙ ap (λ n. n + 1) run.count_is;
       history = history_after run.history round.moments;
-      runs = runs-on (stage [] []) run.rounds run.runs round.runs round.idle;
+      runs = by-rounds (stage [] []) run.rounds run.runs round.runs round.idle;
       keeps = round.keeps;
       sight_is = round.sight_is
           ∙ (ap (λ x. observed_more x (requests_after wish run.history round.moments) (payloads_of round.moments))
@@ -196,41 +209,33 @@ run-on {wish} {event = event} {c} {e = e} run heard next =
           (told_more (told_more e.before.out (payloads_of (events_of_rounds run.rounds))) (payloads_of round.moments))) told
           ∙ ap (λ o. observed (told_more e.before.told (rounds_doings wish [] (run.rounds ++ r ∷ []))) o) out));
     }
+  where
+    by-rounds : {mid stage : WatchStage} {round : Round} (old : WatchStage) (rounds : List Round) → RunsAll old rounds mid
+        → Runs mid round stage → IsFirst stage.rest (Ok More) → RunsAll old (rounds ++ round ∷ []) stage
+    by-rounds {stage = stage} {round} old [] all runs idle =
+        let R : WatchStage → Type 0 = λ s. Runs s round stage in
+        (stage, (subst R all runs, idle, refl))
+    by-rounds {round = round} old (first ∷ rounds) all runs idle =
+        (all.0, (all.1.0, all.1.1, by-rounds all.0 rounds all.1.2 runs idle))
 
--- a run from SETUP on, before which link and output had exposed `old`
+-- a run that SETUP began, before which link and output had exposed `old`
 pub record StartedRun : Type 0 where
-  pub wish : Wish
-  pub count : ℕ
-  pub client : Client
   pub old : Observed
-  pub change : ObservedChange
-  pub begun : change.before ≡ observed (told_more old.told (sends (setup_text wish))) old.out
-  pub run : HasRun wish count client change.before change.after
-
-abbrev pub started : {wish : Wish} {count : ℕ} {client : Client} {change : ObservedChange} (old : Observed)
-    → HasRun wish count client change.before change.after
-    → change.before ≡ observed (told_more old.told (sends (setup_text wish))) old.out → StartedRun
-started {wish} {count} {client} {change} old run begun = record {
-  wish = wish;
-  count = count;
-  client = client;
-  old = old;
-  change = change;
-  begun = begun;
-  run = run;
-}
+  pub all : Running
+  pub begun : all.change.before ≡ observed (told_more old.told (sends (setup_text all.wish))) old.out
 
 -- what ends it: the answer, and what link and output expose last
-pub record LastEvent (r : StartedRun) (end : WatchEnd) (new : Observed) : Type 0 where
+pub record LastEvent (r : Running) (end : WatchEnd) (new : Observed) : Type 0 where
   pub doings : List IoEvent
   pub out : List ℕ
   pub ends : Ends r.wish (stage r.run.history r.client.input) r.count end doings out
   pub told_is : new.told ≡ told_more r.change.after.told doings
   pub out_is : new.out ≡ told_more r.change.after.out out
 
-course-of : {end : WatchEnd} {new : Observed} (r : StartedRun) → LastEvent r end new
-    → HasWatched r.wish end r.old.told new.told r.old.out new.out
-course-of {end} r last =
+course-of : {end : WatchEnd} {new : Observed} (x : StartedRun) → LastEvent x.all end new
+    → HasWatched x.all.wish end x.old.told new.told x.old.out new.out
+course-of {end} x last =
+    let r = x.all in
     let run = r.run in
     let d = rounds_doings r.wish [] run.rounds in
     let setup = sends (setup_text r.wish) in
@@ -245,53 +250,61 @@ course-of {end} r last =
           last.ends;
       told = last.told_is
           ∙ (ap (λ (x : Observed). told_more x.told last.doings) run.sight_is
-          ∙ (ap (λ (x : Observed). told_more (told_more x.told d) last.doings) r.begun
-          ∙ (told_more-append (told_more r.old.told setup) d last.doings
-          ∙ told_more-append r.old.told setup (d ++ last.doings))));
+          ∙ (ap (λ (x : Observed). told_more (told_more x.told d) last.doings) x.begun
+          ∙ (told_more-append (told_more x.old.told setup) d last.doings
+          ∙ told_more-append x.old.told setup (d ++ last.doings))));
       out = last.out_is
           ∙ (ap (λ (x : Observed). told_more x.out last.out) run.sight_is
-          ∙ (ap (λ (x : Observed). told_more (told_more x.out payloads) last.out) r.begun
-          ∙ told_more-append r.old.out payloads last.out));
+          ∙ (ap (λ (x : Observed). told_more (told_more x.out payloads) last.out) x.begun
+          ∙ told_more-append x.old.out payloads last.out));
     })
 
+-- a further event was received
+pub record HeardNext (r : Running) (event : IoEvent) (before : Observed) : Type 0 where
+  pub few : r.count < 2 ^ 40
+  pub heard : before ≡ heard_after r event
+
 -- an event gave the answer
-pub watched-end : {event : IoEvent} {end : WatchEnd} {d : ObservedChange} (r : StartedRun) → r.count < 1099511627776
-    → d.before ≡ observed (told_more r.change.after.told (event ∷ [])) r.change.after.out
-    → ((h : History) → HistoryInvariant r.wish h r.client
-    → HasEnded r.wish h r.client.input event end d.before d.after)
-    → HasWatched r.wish end r.old.told d.after.told r.old.out d.after.out
-watched-end {event} {d = d} r few heard next =
-    let ended = next r.run.history r.run.keeps in
-    course-of {new = d.after} r (record {
+pub watched-end : {event : IoEvent} {end : WatchEnd} {d : ObservedChange} (x : StartedRun)
+    → HeardNext x.all event d.before
+    → ((h : History) → HistoryInvariant x.all.wish h x.all.client
+    → HasEnded x.all.wish h x.all.client.input event end d.before d.after)
+    → HasWatched x.all.wish end x.old.told d.after.told x.old.out d.after.out
+watched-end {event} {d = d} x next ends =
+    let r = x.all in
+    let ended = ends r.run.history r.run.keeps in
+    course-of {new = d.after} x (record {
       doings = event ∷ sends ended.sent;
       out = ended.out;
-      ends = ended.ends r.count few;
+      ends = ended.ends r.count next.few;
       told_is = ap (λ (x : Observed). x.told) ended.sight_is
-          ∙ (ap (λ (x : Observed). told_more x.told (sends ended.sent)) heard
+          ∙ (ap (λ (x : Observed). told_more x.told (sends ended.sent)) next.heard
           ∙ told_more-append r.change.after.told (event ∷ []) (sends ended.sent));
-      out_is = ap (λ (x : Observed). x.out) ended.sight_is ∙ ap (λ (x : Observed). told_more x.out ended.out) heard;
+      out_is = ap (λ (x : Observed). x.out) ended.sight_is ∙ ap (λ (x : Observed). told_more x.out ended.out) next.heard;
     })
 
 -- no further event was received
-watched-unheard : {end : WatchEnd} {new : Observed} (r : StartedRun) → new ≡ r.change.after
-    → ((end ≡ LinkFault) × (r.count < 2 ^ 40)) ⊎ ((end ≡ Fault TurnsSpent) × (r.count ≡ 2 ^ 40))
-    → HasWatched r.wish end r.old.told new.told r.old.out new.out
-watched-unheard {new = new} r same cause =
-    course-of {new = new} r (record {
+watched-unheard : {end : WatchEnd} {new : Observed} (x : StartedRun) → new ≡ x.all.change.after
+    → ((end ≡ LinkFault) × (x.all.count < 2 ^ 40)) ⊎ ((end ≡ Fault TurnsSpent) × (x.all.count ≡ 2 ^ 40))
+    → HasWatched x.all.wish end x.old.told new.told x.old.out new.out
+watched-unheard {new = new} x same cause =
+    let after = x.all.change.after in
+    course-of {new = new} x (record {
       doings = [];
       out = [];
       ends = inl (cause, refl, refl);
-      told_is = ap (λ (x : Observed). x.told) same ∙ sym (told_more-nil r.change.after.told);
-      out_is = ap (λ (x : Observed). x.out) same ∙ sym (told_more-nil r.change.after.out);
+      told_is = ap (λ (x : Observed). x.told) same ∙ sym (told_more-nil after.told);
+      out_is = ap (λ (x : Observed). x.out) same ∙ sym (told_more-nil after.out);
     })
 
-pub watched-lost : {new_told : Option (List IoEvent)} (r : StartedRun) → r.count < 1099511627776
-    → new_told ≡ r.change.after.told → HasWatched r.wish LinkFault r.old.told new_told r.old.out r.change.after.out
-watched-lost r few same = watched-unheard r (ap (λ t. observed t r.change.after.out) same) (inl (refl, few))
+pub watched-lost : {new_told : Option (List IoEvent)} (x : StartedRun) → x.all.count < 1099511627776
+    → new_told ≡ x.all.change.after.told
+    → HasWatched x.all.wish LinkFault x.old.told new_told x.old.out x.all.change.after.out
+watched-lost x few same = watched-unheard x (ap (λ t. observed t x.all.change.after.out) same) (inl (refl, few))
 
-pub watched-spent : (r : StartedRun) → r.count ≡ 1099511627776
-    → HasWatched r.wish (Fault TurnsSpent) r.old.told r.change.after.told r.old.out r.change.after.out
-watched-spent r all = watched-unheard {new = r.change.after} r refl (inr (refl, all))
+pub watched-spent : (x : StartedRun) → x.all.count ≡ 1099511627776 → HasWatched x.all.wish (Fault TurnsSpent) x.old.told
+    x.all.change.after.told x.old.out x.all.change.after.out
+watched-spent x all = watched-unheard {new = x.all.change.after} x refl (inr (refl, all))
 
 -- it didn't begin
 pub watched-not : (wish : Wish) (told : Option (List IoEvent)) (out : Option (List ℕ))

@@ -2,7 +2,6 @@
 use Rattle.std.proofs.Common.{◌≡◌, ℕ, ◌≤◌, ◌-◌, ◌==◌, true, false, List, [], ◌∷◌, length, take}
 use Rattle.std.proofs.Common.{drop, Option, Some, None, is_some, refl, sym, ap, subst, ◌∙◌, inr}
 use Rattle.std.proofs.lemmas.Bool.{cond-true, cond-false, ne_eqb}
-use Rattle.vod_base.specs.Links.{IoEvent}
 use Rattle.vod_base.specs.IoState.{IsWrittenPrefix}
 use Rattle.rtsp_client.specs.declared.clients.Client.{Client}
 use Rattle.rtsp_client.specs.declared.frames.RtpSource.{RtpSource}
@@ -74,9 +73,9 @@ teardown-starved {b} found handed = record {
 }
 
 -- the output failed
-pub frame-cut : {w : Watcher} {b : List ℕ} {told : Option (List IoEvent)} {out new : Option (List ℕ)} → FoundFrame w b
-    → IsWrittenPrefix out new (drop 20 b)
-    → HasEndedAt w.wish w.history (Frame b) SinkFault (observed told out) (observed told new)
+pub frame-cut : {w : Watcher} {b : List ℕ} {s : Observed} {new : Option (List ℕ)} → FoundFrame w b
+    → IsWrittenPrefix s.out new (drop 20 b)
+    → HasEndedAt w.wish w.history (Frame b) SinkFault s (observed s.told new)
 frame-cut {b} found front = record {
   sent = [];
   out = take front.0 (drop 20 b);

@@ -117,20 +117,27 @@ pub record HasDurations (wish : Wish) (source : Option RtpSource) : Type 0 where
   pub slot_lasts : 0 < wish.slot_units
   pub picture_lasts : (src : RtpSource) → source ≡ Some src → 0 < src.picture_time
 
-played-in : {source : Option RtpSource} {ends : List ℕ} (wish : Wish) (h : History) (j : ℕ)
-    → HasDurations wish source → IsSourceOf source h → AreSumsOf ends (sizes h)
-    → played_of wish source ends j ≡ played_before wish h j
-played-in {source = None} wish h j lasts is are = sym (ap (used_before wish (time h) j 0) (no-units h is))
-played-in {source = Some source} {ends} wish h j lasts is are =
-    let p = source.picture_time in
-    let t : time h ≡ p =
-    cond-false (frames h == 0) 0 (time_in (first_frame h))
-    (ne_eqb (frames h) 0 (λ none. absurd (omega (arith, is.some, none)))) ∙ sym is.time_is in
-    ends-sum ends (sizes h) (div_ceil ((j - wish.startup) * wish.slot_units) p) are
-    ∙ (ap (λ n. sum (take n (sizes h))) {y = div_ceil ((j - wish.startup) * wish.slot_units) p - 0} (omega arith)
-    ∙ (sym (used-sum wish j 0 (sizes h)
-    (record { slot_lasts = lasts.slot_lasts; picture_lasts = lasts.picture_lasts source refl }))
-    ∙ sym (ap (λ n. used_before wish n j 0 (sizes h)) t)))
+played-in : {x : KeptState} (j : ℕ) → StateInvariant x.wish x.history x.state → HasDurations x.wish x.state.source
+    → played_of x.wish x.state.source x.state.ends j ≡ played_before x.wish x.history j
+played-in {x} j k lasts = by-source x.state.source k.source_is lasts.picture_lasts
+  where
+    open x use {wish, history}
+
+    by-source : (source : Option RtpSource) → IsSourceOf source history
+        → ((src : RtpSource) → source ≡ Some src → 0 < src.picture_time)
+        → played_of wish source x.state.ends j ≡ played_before wish history j
+    by-source None is last = sym (ap (used_before wish (time history) j 0) (no-units history is))
+    by-source (Some source) is last =
+        let p = source.picture_time in
+        let sizes_are = sizes history in
+        let t : time history ≡ p =
+        cond-false (frames history == 0) 0 (time_in (first_frame history))
+        (ne_eqb (frames history) 0 (λ none. absurd (omega (arith, is.some, none)))) ∙ sym is.time_is in
+        ends-sum x.state.ends sizes_are (div_ceil ((j - wish.startup) * wish.slot_units) p) k.ends_are
+        ∙ (ap (λ n. sum (take n sizes_are)) {y = div_ceil ((j - wish.startup) * wish.slot_units) p - 0} (omega arith)
+        ∙ (sym (used-sum wish j 0 sizes_are
+        (record { slot_lasts = lasts.slot_lasts; picture_lasts = last source refl }))
+        ∙ sym (ap (λ n. used_before wish n j 0 sizes_are) t)))
 
 time-in : (h : History) (source : Option RtpSource) → IsSourceOf source h → time_of source ≡ time h
 time-in h None is = sym (cond-true (frames h == 0) 0 (time_in (first_frame h)) (eq-eqb (frames h) 0 is))
@@ -173,21 +180,6 @@ unread : (wish : Wish) (h : History) (t cut : ℕ) → is_read h t ≡ false
     → watched_in wish h ≡ watched_in wish (Slot t cut ∷ h)
 unread wish h t cut missed = sym (ap (counts_with wish h t cut) missed)
 
-slot-with : {wish : Wish} {h : History} {s : State} {t cut last : ℕ} {w : Watched} → StateInvariant wish h s
-    → last ≡ max t (last_slot h) → w ≡ watched_in wish (Slot t cut ∷ h)
-    → StateInvariant wish (Slot t cut ∷ h) (record s { last_slot = last; watched = w })
-slot-with {h} {s} {t} {cut} {last} {w} k greatest is = record {
-  last_slot_is = greatest;
-  play_is = play-on s.play (Slot t cut) h tt k.play_is;
-  source_is = source-on s.source (Slot t cut) h tt k.source_is;
-  begun = k.begun;
-  inside = k.inside;
-  ends_are = k.ends_are;
-  received_is = k.received_is;
-  taken_is = k.taken_is;
-  watched_is = is;
-}
-
 read-at : {x : KeptState} (t cut : ℕ) → StateInvariant x.wish x.history x.state → HasDurations x.wish x.state.source
     → is_read x.history t ≡ true
     → (after_reading x.wish x.state (place_in x.history t) cut).watched ≡ watched_in x.wish (Slot t cut ∷ x.history)
@@ -198,7 +190,7 @@ read-at {x} t cut k lasts reads =
     let j = place_in h t in
     let amount : (s.received + cut) - played_of wish s.source s.ends j ≡ bytes_waiting wish h t cut =
     ap (λ n. (n + cut) - played_of wish s.source s.ends j) k.received_is
-    ∙ ap (λ n. (bytes_received h + cut) - n) (played-in wish h j lasts k.source_is k.ends_are) in
+    ∙ ap (λ n. (bytes_received h + cut) - n) (played-in {x = x} j k lasts) in
     let step : Watched → ℕ → Bool → Watched = λ (w : Watched) (n : ℕ) (l : Bool). record w {
       most = max w.most n;
       over = cond (nat_lt wish.buffer n) (w.over + 1) w.over;
@@ -210,46 +202,59 @@ read-at {x} t cut k lasts reads =
     ∙ (ap (λ b. step (watched_in wish h) (bytes_waiting wish h t cut) b) (lacks-in wish h s j k)
     ∙ sym (ap (counts_with wish h t cut) reads)))
 
-keeps-later : {x : KeptState} {t cut : ℕ} (play : Option Play) → StateInvariant x.wish x.history x.state
-    → HasDurations x.wish x.state.source → last_slot x.history < t → IsPlayOf play x.history
-    → StateInvariant x.wish (Slot t cut ∷ x.history)
-    (reading_at x.wish (record x.state { last_slot = t }) (place_of play t) cut)
-keeps-later {x} {t} {cut} None k lasts later is =
-    slot-with k (omega (arith, later))
-    (k.watched_is ∙ unread x.wish x.history t cut (and_left (is_playing x.history) _ is))
-keeps-later {x} {t} {cut} (Some play) k lasts later is =
-    let wish = x.wish in
-    let h = x.history in
-    let late = slot-late h in
-    let j = (t - play.slot_before) - play.start in
-    let P : Option ℕ → Type 0 =
-    λ place. StateInvariant wish (Slot t cut ∷ h) (reading_at wish (record x.state { last_slot = t }) place cut) in
-    cond_both (nat_le play.start (t - play.slot_before)) (Some j) None P
-    (λ due.
-    let from : play.start ≤ t - play.slot_before = leb-true play.start (t - play.slot_before) due in
-    let reads : is_read h t ≡ true = and_from _ _ is.playing (and_from _ _
-    (le-leb (start h + slot_before h) t (omega (arith, from, is.start_is, is.slot_is, late, later)))
-    (lt-ltb (last_slot h) t later)) in
-    let place : place_in h t ≡ j = omega (arith, from, is.start_is, is.slot_is) in
-    subst (λ n. P (Some n)) place (slot-with k (omega (arith, later)) (read-at {x = x} t cut k lasts reads)))
-    (λ early.
-    let before : t - play.slot_before < play.start = leb-false play.start (t - play.slot_before) early in
-    slot-with k (omega (arith, later))
-    (k.watched_is ∙ unread wish h t cut (and_right (is_playing h) _ (and_left _ (nat_lt (last_slot h) t)
-    (lt-leb (start h + slot_before h) t (omega (arith, before, is.start_is, is.slot_is, late, later)))))))
-
 pub keeps-slot : {x : KeptState} (t cut : ℕ) → StateInvariant x.wish x.history x.state
     → HasDurations x.wish x.state.source
     → StateInvariant x.wish (Slot t cut ∷ x.history) (after_slot x.wish x.state t cut)
 keeps-slot {x} t cut k lasts =
-    let wish = x.wish in
-    let h = x.history in
-    let s = x.state in
-    cond_both (nat_le t s.last_slot) s (reading_at wish (record s { last_slot = t }) (place_of s.play t) cut)
-    (StateInvariant wish (Slot t cut ∷ h))
+    cond_both (nat_le t state.last_slot) state
+    (reading_at wish (record state { last_slot = t }) (place_of state.play t) cut)
+    (StateInvariant wish (Slot t cut ∷ history))
     (λ known.
-    let old : t ≤ last_slot h = omega (arith, leb-true t s.last_slot known, k.last_slot_is) in
-    slot-with k (omega (arith, old, k.last_slot_is))
-    (k.watched_is ∙ unread wish h t cut (and_right (is_playing h) _ (and_right _ _ (le-ltb (last_slot h) t old)))))
-    (λ new_.
-    keeps-later {x = x} s.play k lasts (omega (arith, leb-false t s.last_slot new_, k.last_slot_is)) k.play_is)
+    let old : t ≤ last_slot history = omega (arith, leb-true t state.last_slot known, k.last_slot_is) in
+    slot-with (omega (arith, old, k.last_slot_is))
+    (k.watched_is ∙ unread wish history t cut (and_right (is_playing history) _ (and_right _ _ (le-ltb (last_slot history)
+    t old)))))
+    (λ new_. by-play state.play (omega (arith, leb-false t state.last_slot new_, k.last_slot_is)) k.play_is)
+  where
+    open x use {wish, history, state}
+
+    slot-with : {last : ℕ} {w : Watched} → last ≡ max t (last_slot history) → w ≡ watched_in wish (Slot t cut ∷ history)
+        → StateInvariant wish (Slot t cut ∷ history) (record state { last_slot = last; watched = w })
+    slot-with greatest is = record {
+      last_slot_is = greatest;
+      play_is = play-on state.play (Slot t cut) history tt k.play_is;
+      source_is = source-on state.source (Slot t cut) history tt k.source_is;
+      begun = k.begun;
+      inside = k.inside;
+      ends_are = k.ends_are;
+      received_is = k.received_is;
+      taken_is = k.taken_is;
+      watched_is = is;
+    }
+
+    by-play : (play : Option Play) → last_slot history < t → IsPlayOf play history
+        → StateInvariant wish (Slot t cut ∷ history)
+        (reading_at wish (record state { last_slot = t }) (place_of play t) cut)
+    by-play None later is =
+        slot-with (omega (arith, later))
+        (k.watched_is ∙ unread wish history t cut (and_left (is_playing history) _ is))
+    by-play (Some play) later is =
+        let late = slot-late history in
+        let j = (t - play.slot_before) - play.start in
+        let P : Option ℕ → Type 0 =
+        λ place. StateInvariant wish (Slot t cut ∷ history)
+        (reading_at wish (record state { last_slot = t }) place cut) in
+        cond_both (nat_le play.start (t - play.slot_before)) (Some j) None P
+        (λ due.
+        let from : play.start ≤ t - play.slot_before = leb-true play.start (t - play.slot_before) due in
+        let reads : is_read history t ≡ true = and_from _ _ is.playing (and_from _ _
+        (le-leb (start history + slot_before history) t (omega (arith, from, is.start_is, is.slot_is, late, later)))
+        (lt-ltb (last_slot history) t later)) in
+        let place : place_in history t ≡ j = omega (arith, from, is.start_is, is.slot_is) in
+        subst (λ n. P (Some n)) place (slot-with (omega (arith, later)) (read-at {x = x} t cut k lasts reads)))
+        (λ early.
+        let before : t - play.slot_before < play.start = leb-false play.start (t - play.slot_before) early in
+        slot-with (omega (arith, later))
+        (k.watched_is ∙ unread wish history t cut (and_right (is_playing history) _ (and_left _
+        (nat_lt (last_slot history) t) (lt-leb (start history + slot_before history) t
+        (omega (arith, before, is.start_is, is.slot_is, late, later)))))))

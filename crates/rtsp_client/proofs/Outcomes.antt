@@ -1,16 +1,14 @@
 -- Facts on what a call answered.
-use Rattle.std.proofs.Common.{◌≡◌, ◌∙◌, ap, Option, None, Result, Ok, Err, OnOk}
+use Rattle.std.proofs.Common.{◌≡◌, refl, Option, Some, None, Result, Ok, Err, OnOk}
 use Rattle.std.specs.Prelude.{ok_or}
-use Rattle.std.specs.Result.{result_ok}
+use Rattle.rtsp_client.specs.declared.watch_request.WatchEnd.{WatchEnd}
 
-pub on-ok : {A E P Q R : Type 0} (r : Result A E) → OnOk r P → OnOk r Q → (P → Q → R) → OnOk r R
-on-ok (Ok a) p q f = f p q
-on-ok (Err e) p q f = tt
+-- two facts hold of an answer that is no end
+pub both-ok : (P Q : Type 0) (r : Result (Unit {0}) WatchEnd) → OnOk r P → OnOk r Q → OnOk r (P × Q)
+both-ok P Q (Ok a) p q = (p, q)
+both-ok P Q (Err e) p q = tt
 
 -- what `ok_or` made an error of was None, and the error is the one that was given
-pub ok-or-err : {A E : Type 0} {o : Option A} {r : Result A E} {e : E} (given : E) →
-    r ≡ ok_or o given → o ≡ result_ok r → r ≡ Err e → (o ≡ None) × (e ≡ given)
-ok-or-err {A} {E} {o} {r} {e} given value part was =
-    let none : o ≡ None = part ∙ ap result_ok was in
-    let is : r ≡ Err given = value ∙ ap (λ (x : Option A). ok_or x given) none in
-    (none, cc)
+pub ok-or-err : {A E : Type 0} {e : E} (o : Option A) (given : E) → Err e ≡ ok_or o given → (o ≡ None) × (e ≡ given)
+ok-or-err None given is = (refl, cc)
+ok-or-err (Some a) given is = absurd (let no : ⊥ = cc in no)

@@ -1,5 +1,5 @@
 -- What a reply comes to.
-use Rattle.std.proofs.Common.{◌≡◌, ◌≢◌, ℕ, ◌+◌, ◌==◌, ◌&&◌, ◌||◌, Bool, true, false, nat_lt, List, []}
+use Rattle.std.proofs.Common.{◌≡◌, ℕ, ◌+◌, ◌==◌, ◌&&◌, ◌||◌, Bool, true, false, nat_lt, List, []}
 use Rattle.std.proofs.Common.{◌∷◌, ◌++◌, take, Option, Some, None, is_some, unwrap_or}
 use Rattle.std.proofs.Common.{if◌then◌else◌, refl, sym, ap, subst, ◌∙◌, arith, inl, inr}
 use Rattle.std.specs.Prelude.{MatchOption}
@@ -10,7 +10,7 @@ use Rattle.rtsp_client.specs.declared.watch_request.Wish.{Wish}
 use Rattle.rtsp_client.specs.declared.watch_request.Watched.{Watched}
 use Rattle.rtsp_client.specs.declared.watch_request.WatchEnd.{WatchEnd}
 use Rattle.rtsp_client.specs.declared.watch_request.WatchEnd.TheVariants.{Done, Fault, LinkFault, NoMemory}
-use Rattle.rtsp_client.specs.declared.watch_request.WatchFault.TheVariants.{Refused, BadReply}
+use Rattle.rtsp_client.specs.declared.watch_request.WatchFault.TheVariants.{BadReply}
 use Rattle.rtsp_client.specs.Replies.{IsAnswer, play_range, play_start, setup_session}
 use Rattle.rtsp_client.specs.Requests.{play_text}
 use Rattle.rtsp_client.specs.ClientHistory.{History, ClientEvent, Reply, replies, session}
@@ -29,7 +29,7 @@ awaited-is {w} k =
     ap (λ n. nat_lt n 2 || has_all w.client.watching) k.replies_are
     ∙ ap (λ b. nat_lt (replies w.history) 2 || b) (complete-is w.wish w.history w.client.watching k.state)
 
-orderly : {w : Watcher} {m : List ℕ} {code : ℕ} → HistoryInvariant w.wish w.history w.client
+pub orderly : {w : Watcher} {m : List ℕ} {code : ℕ} → HistoryInvariant w.wish w.history w.client
     → IsAwaited w.client m code → IsOrderly w.history m code
 orderly {w} {m} {code} k is = record {
   awaited = sym (awaited-is {w = w} k) ∙ is.awaited;
@@ -56,12 +56,6 @@ bad-reply {w} {m} k none =
     gives (Reply m)
     (inl (inl (λ code o. none code (awaited-from {w = w} k o)), ap (λ n. Fault (BadReply (n + 1))) k.replies_are))
 
--- another code than 200
-pub refused-reply : {w : Watcher} {m : List ℕ} {code : ℕ} {s : Observed} → HistoryInvariant w.wish w.history w.client
-    → IsAwaited w.client m code → code ≢ 200 → HasEndedAt w.wish w.history (Reply m) (Fault (Refused code)) s s
-refused-reply {w} {m} {code} k is other =
-    gives (Reply m) (inr (inl (code, ((orderly {w = w} k is, other), refl))))
-
 -- the reply that is awaited after so many, with code 200
 pub record GoodReply (count : ℕ) (c : Client) (m : List ℕ) : Type 0 where
   pub count_is : replies_in c ≡ count
@@ -87,15 +81,16 @@ setup-lacks {w} {m} k reply none =
     ))
 
 -- the reply that is awaited first, with the id of a session
-pub record SetupReply (w : Watcher) (m id : List ℕ) : Type 0 where
+pub record SetupReply (w : Watcher) (m : List ℕ) : Type 0 where
+  pub id : List ℕ
   pub keeps : HistoryInvariant w.wish w.history w.client
   pub reply : GoodReply 0 w.client m
   pub session_is : setup_session m ≡ Some id
 
-none-before : {w : Watcher} {m id : List ℕ} → SetupReply w m id → replies w.history ≡ 0
+none-before : {w : Watcher} {m : List ℕ} → SetupReply w m → replies w.history ≡ 0
 none-before setup = sym setup.keeps.replies_are ∙ setup.reply.count_is
 
-setup-good : {w : Watcher} {m id : List ℕ} → SetupReply w m id → GoesOn w.history (Reply m)
+setup-good : {w : Watcher} {m : List ℕ} → SetupReply w m → GoesOn w.history (Reply m)
 setup-good {w} {m} setup = (
   (
     orderly {w = w} setup.keeps setup.reply.awaited,
@@ -104,13 +99,13 @@ setup-good {w} {m} setup = (
   omega (arith, none-before setup),
 )
 
-setup-request : {w : Watcher} {m id : List ℕ} → SetupReply w m id
-    → request_after w.wish w.history (Reply m) ≡ play_text w.wish id
+setup-request : {w : Watcher} {m : List ℕ} (setup : SetupReply w m)
+    → request_after w.wish w.history (Reply m) ≡ play_text w.wish setup.id
 setup-request {w} setup =
     cond-true (replies w.history == 0) _ _ (eq-eqb (replies w.history) 0 (none-before setup))
     ∙ ap (λ o. play_text w.wish (unwrap_or o [])) setup.session_is
 
-pub setup-starved : {w : Watcher} {m id : List ℕ} {s : Observed} → SetupReply w m id
+pub setup-starved : {w : Watcher} {m : List ℕ} {s : Observed} → SetupReply w m
     → HasEndedAt w.wish w.history (Reply m) NoMemory s s
 setup-starved {s} setup = record {
   sent = [];
@@ -119,10 +114,10 @@ setup-starved {s} setup = record {
   sight_is = observed-none s;
 }
 
-pub setup-cut : {w : Watcher} {m id : List ℕ} {e : ObservedChange} → SetupReply w m id
-    → HasSentPart e (play_text w.wish id) [] → HasEndedAt w.wish w.history (Reply m) LinkFault e.before e.after
-setup-cut {w} {m} {id} setup part =
-    let front = take part.sent (play_text w.wish id) in
+pub setup-cut : {w : Watcher} {m : List ℕ} {e : ObservedChange} (setup : SetupReply w m)
+    → HasSentPart e (play_text w.wish setup.id) [] → HasEndedAt w.wish w.history (Reply m) LinkFault e.before e.after
+setup-cut {w} setup part =
+    let front = take part.sent (play_text w.wish setup.id) in
     record {
       sent = front;
       out = [];
@@ -157,17 +152,18 @@ first-reply c none =
     (not-played (is_some c.watching.play) (if is_some c.session then 1 else 0) none)
 
 -- the client after it
-pub record IsInSession (c new : Client) (id : List ℕ) : Type 0 where
-  pub replies : replies_in new ≡ 1
-  pub session : session_of new ≡ id
-  pub watching : new.watching ≡ c.watching
+pub record InSession (c : Client) (id : List ℕ) : Type 0 where
+  pub client : Client
+  pub replies : replies_in client ≡ 1
+  pub session : session_of client ≡ id
+  pub watching : client.watching ≡ c.watching
 
-pub setup-done : {w : Watcher} {new : Client} {m id : List ℕ} {e : ObservedChange} → SetupReply w m id
-    → IsInSession w.client new id → e.after ≡ observed_more e.before (play_text w.wish id) []
-    → HasTakenEvents w.wish w.history (Reply m ∷ []) new e.before e.after
-setup-done {w} {new} {m} {e = e} setup later sent =
+pub setup-done : {w : Watcher} {m : List ℕ} {e : ObservedChange} (setup : SetupReply w m)
+    (later : InSession w.client setup.id) → e.after ≡ observed_more e.before (play_text w.wish setup.id) []
+    → HasTakenEvents w.wish w.history (Reply m ∷ []) later.client e.before e.after
+setup-done {w} {m} {e} setup later sent =
     let zero_ = none-before setup in
-    passed-one {w = record w { client = new }} {e = e} (setup-good setup)
+    passed-one {w = record w { client = later.client }} {e = e} (setup-good setup)
     (record {
       replies_are = later.replies ∙ ap (λ n. n + 1) (sym zero_);
       session_is =

@@ -175,9 +175,9 @@ film-short wish film =
     )
 
 -- a request without a body is asked by its text, if that is short
-asked : {text : List ℕ} (parts : RequestPieces) (sequence : ℕ) → AreRequest parts sequence → parts.body ≡ []
-    → text ≡ request_text parts → length text ≤ 4096 → IsRequestText text parts sequence
-asked {text} parts sequence request none is short =
+asked : {text : List ℕ} (parts : RequestPieces) (sequence : ℕ) → AreRequest parts sequence
+    → (parts.body ≡ []) × (length text ≤ 4096) → text ≡ request_text parts → IsRequestText text parts sequence
+asked {text} parts sequence request (none, short) is =
     let head : length (request_head parts) ≡ length text =
     ap length (sym (append-nil (request_head parts)) ∙ ap (λ l. request_head parts ++ l) (sym none) ∙ sym is) in
     let bounds : AreShort parts =
@@ -215,14 +215,16 @@ pub setup-asked : (wish : Wish) → IsWish wish → wish.port < 2 ^ 16 → IsReq
     1
 setup-asked wish is port =
     let film : IsFilm wish = record { is_wish = is; port = port } in
-    asked (setup_parts wish) 1 (setup-request wish film) refl (setup-is wish)
-    (omega (
-      arith,
-      put-long (codes "SETUP ") (setup_rest wish),
-      film-short wish film,
-      decimal-short wish.buffer (omega (arith, is.most_buffer)),
-      decimal-short wish.startup (omega (arith, is.startup)),
-    ))
+    asked (setup_parts wish) 1 (setup-request wish film) (
+      refl,
+      omega (
+        arith,
+        put-long (codes "SETUP ") (setup_rest wish),
+        film-short wish film,
+        decimal-short wish.buffer (omega (arith, is.most_buffer)),
+        decimal-short wish.startup (omega (arith, is.startup)),
+      ),
+    ) (setup-is wish)
 
 -- PLAY
 play-request : (wish : Wish) (session : List ℕ) → IsFilm wish → IsSessionId session
@@ -248,8 +250,9 @@ pub play-asked : (wish : Wish) (session : List ℕ) → IsWish wish → wish.por
     → IsRequestText (play_text wish session) (play_parts wish session) 2
 play-asked wish session is port id =
     let film : IsFilm wish = record { is_wish = is; port = port } in
-    asked (play_parts wish session) 2 (play-request wish session film id) refl (play-is wish session)
-    (omega (arith, put-long (codes "PLAY ") (play_rest wish session), film-short wish film, id.short))
+    asked (play_parts wish session) 2 (play-request wish session film id)
+    (refl, omega (arith, put-long (codes "PLAY ") (play_rest wish session), film-short wish film, id.short))
+    (play-is wish session)
 
 -- TEARDOWN
 teardown-request : (wish : Wish) (session : List ℕ) → IsFilm wish → IsSessionId session
@@ -271,5 +274,6 @@ pub teardown-asked : (wish : Wish) (session : List ℕ) → IsWish wish → wish
     → IsRequestText (teardown_text wish session) (teardown_parts wish session) 3
 teardown-asked wish session is port id =
     let film : IsFilm wish = record { is_wish = is; port = port } in
-    asked (teardown_parts wish session) 3 (teardown-request wish session film id) refl (teardown-is wish session)
-    (omega (arith, put-long (codes "TEARDOWN ") (teardown_rest wish session), film-short wish film, id.short))
+    asked (teardown_parts wish session) 3 (teardown-request wish session film id)
+    (refl, omega (arith, put-long (codes "TEARDOWN ") (teardown_rest wish session), film-short wish film, id.short))
+    (teardown-is wish session)

@@ -88,27 +88,32 @@ Part = Domain unit_of
 record SendFrames (run : FramedRun) (units : ℕ) (pieces : List Part) : Type 0 where
   sent : (f o : ℕ) → AreFrames run.identity.ssrc units (frames_among pieces (blocks_from run f o pieces))
 
+-- pieces whose frames are those of so many units
+record SentPieces (run : FramedRun) : Type 0 where
+  units : ℕ
+  pieces : List Part
+  sends : SendFrames run units pieces
+
 -- the block of a frame
 abbrev frame_block : FramedRun → PictureUnit → Packet → ℕ → List ℕ
 frame_block run unit p f =
     interleaved_block run.identity.channel
     (head_bytes (packet_head run.identity (picture_time run.rate) unit p f) ++ payload run.film p)
 
--- a unit of a run, with the pieces that its packets make
+-- a unit of a run, with the pieces that its packets make, and a report that may stand before them
 record UnitPieces : Type 0 where
   run : FramedRun
   unit : PictureUnit
   make : Packet → Part
-
--- they are frames of the packets
-record AreFramesOf (u : UnitPieces) : Type 0 where
-  bytes : (p : Packet) (f o : ℕ) → piece_bytes u.run f o (u.make p) ≡ frame_block u.run u.unit p f
+  report : Part
+  bytes : (p : Packet) (f o : ℕ) → piece_bytes run f o (make p) ≡ frame_block run unit p f
   among : (p : Packet) (ps : List Part) (b : List ℕ) (bs : List (List ℕ))
-      → frames_among (u.make p ∷ ps) (b ∷ bs) ≡ b ∷ frames_among ps bs
-
--- a piece that is a report
-record IsReport (report : Part) : Type 0 where
+      → frames_among (make p ∷ ps) (b ∷ bs) ≡ b ∷ frames_among ps bs
   none : (ps : List Part) (b : List ℕ) (bs : List (List ℕ)) → frames_among (report ∷ ps) (b ∷ bs) ≡ frames_among ps bs
+
+-- the pieces of packets of it
+abbrev pieces_in : UnitPieces → List Packet → List Part
+pieces_in u packets = cond u.unit.starts_group (u.report ∷ []) [] ++ map u.make packets
 
 ends-last : (b : List ℕ) (bs : List (List ℕ)) → is_last b ≡ true → EndsUnit bs → EndsUnit (b ∷ bs)
 ends-last b [] last ends = last
@@ -122,14 +127,14 @@ with-frame : {source : ℕ} {marker : Bool} (block : List ℕ) → IsRead source
 with-frame block read = record { is_read = read.is_read; source_is = read.source_is }
 
 -- the frames of a packet and of the pieces after it
-one-frame : {u : UnitPieces} → AreFramesOf u → (p : Packet) (ps : List Part) (f o : ℕ)
+one-frame : (u : UnitPieces) (p : Packet) (ps : List Part) (f o : ℕ)
     → frame_block u.run u.unit p f
     ∷ frames_among ps (blocks_from u.run (f + count_of (u.make p)) (o + octets_of (u.make p)) ps)
     ≡ frames_among (u.make p ∷ ps) (blocks_from u.run f o (u.make p ∷ ps))
-one-frame {u} are p ps f o =
+one-frame u p ps f o =
     let tail = blocks_from u.run (f + count_of (u.make p)) (o + octets_of (u.make p)) ps in
-    ap (λ (b : List ℕ). b ∷ frames_among ps tail) (sym (are.bytes p f o))
-    ∙ sym (are.among p ps (piece_bytes u.run f o (u.make p)) tail)
+    ap (λ (b : List ℕ). b ∷ frames_among ps tail) (sym (u.bytes p f o))
+    ∙ sym (u.among p ps (piece_bytes u.run f o (u.make p)) tail)
 
 -- a packet's frame before others: the last one of a unit, or one that goes on
 last-frame : {source units : ℕ} {block : List ℕ} {tail : List (List ℕ)} → IsRead source true block
@@ -149,44 +154,46 @@ open-frame {block = block} {tail} read more = record {
 }
 
 -- the frames of a unit's packets, and those of the pieces after them
-packets-frames : {u : UnitPieces} (units : ℕ) (packets : List Packet)
-    (rest : List Part) → u.run.identity.ssrc < 2 ^ 32 → AreFramesOf u → IsLastMarked packets
-    → 0 < length packets → SendFrames u.run units rest → SendFrames u.run (suc units) (map u.make packets ++ rest)
-packets-frames {u} units packets rest small are = by-list packets
+unit-frames : (u : UnitPieces) (packets : List Packet) (rest : SentPieces u.run) → u.run.identity.ssrc < 2 ^ 32
+    → IsLastMarked packets → 0 < length packets
+    → SendFrames u.run (suc rest.units) (pieces_in u packets ++ rest.pieces)
+unit-frames u packets rest small marked some = reported u.unit.starts_group (by-list packets marked some)
   where
-    read : (p : Packet) (f : ℕ) → IsRead u.run.identity.ssrc p.marker (frame_block u.run u.unit p f)
-    read p f = head-read u.run.identity.channel (packet_head u.run.identity (picture_time u.run.rate) u.unit p f)
-        (payload u.run.film p) small
+    run : FramedRun
+    run = u.run
 
-    by-list : (packets : List Packet) → IsLastMarked packets → 0 < length packets → SendFrames u.run units rest
-        → SendFrames u.run (suc units) (map u.make packets ++ rest)
-    by-list [] marked some then = absurd (omega (arith, some))
-    by-list (p ∷ []) marked some then = record {
+    read : (p : Packet) (f : ℕ) → IsRead run.identity.ssrc p.marker (frame_block run u.unit p f)
+    read p f = head-read run.identity.channel (packet_head run.identity (picture_time run.rate) u.unit p f)
+        (payload run.film p) small
+
+    by-list : (packets : List Packet) → IsLastMarked packets → 0 < length packets
+        → SendFrames run (suc rest.units) (map u.make packets ++ rest.pieces)
+    by-list [] marked some = absurd (omega (arith, some))
+    by-list (p ∷ []) marked some = record {
       sent = λ f o.
-          subst (λ (l : List (List ℕ)). AreFrames u.run.identity.ssrc (suc units) l) (one-frame are p rest f o)
-          (last-frame (subst (λ m. IsRead u.run.identity.ssrc m (frame_block u.run u.unit p f)) marked (read p f))
-          (then.sent (f + count_of (u.make p)) (o + octets_of (u.make p))));
+          subst (λ (l : List (List ℕ)). AreFrames run.identity.ssrc (suc rest.units) l) (one-frame u p rest.pieces f o)
+          (last-frame (subst (λ m. IsRead run.identity.ssrc m (frame_block run u.unit p f)) marked (read p f))
+          (rest.sends.sent (f + count_of (u.make p)) (o + octets_of (u.make p))));
     }
-    by-list (p ∷ (q ∷ packets)) marked some then = record {
+    by-list (p ∷ (q ∷ packets)) marked some = record {
       sent = λ f o.
-          subst (λ (l : List (List ℕ)). AreFrames u.run.identity.ssrc (suc units) l)
-          (one-frame are p (map u.make (q ∷ packets) ++ rest) f o)
-          (open-frame (subst (λ m. IsRead u.run.identity.ssrc m (frame_block u.run u.unit p f)) marked.0 (read p f))
-          ((by-list (q ∷ packets) marked.1 (omega arith) then).sent (f + count_of (u.make p))
-          (o + octets_of (u.make p))));
+          subst (λ (l : List (List ℕ)). AreFrames run.identity.ssrc (suc rest.units) l)
+          (one-frame u p (map u.make (q ∷ packets) ++ rest.pieces) f o)
+          (open-frame (subst (λ m. IsRead run.identity.ssrc m (frame_block run u.unit p f)) marked.0 (read p f))
+          ((by-list (q ∷ packets) marked.1 (omega arith)).sent (f + count_of (u.make p)) (o + octets_of (u.make p))));
     }
 
-reports-frames : {run : FramedRun} {report : Part} (units : ℕ) (starts : Bool) (frames rest : List Part)
-    → IsReport report → SendFrames run units (frames ++ rest)
-    → SendFrames run units ((cond starts (report ∷ []) [] ++ frames) ++ rest)
-reports-frames {run} {report} units true frames rest is then = record {
-  sent = λ f o.
-      let ps = frames ++ rest in
-      let tail = blocks_from run (f + count_of report) (o + octets_of report) ps in
-      subst (λ (l : List (List ℕ)). AreFrames run.identity.ssrc units l)
-      (sym (is.none ps (piece_bytes run f o report) tail)) (then.sent (f + count_of report) (o + octets_of report));
-}
-reports-frames units false frames rest is then = then
+    reported : (starts : Bool) → SendFrames run (suc rest.units) (map u.make packets ++ rest.pieces)
+        → SendFrames run (suc rest.units) ((cond starts (u.report ∷ []) [] ++ map u.make packets) ++ rest.pieces)
+    reported true then = record {
+      sent = λ f o.
+          let ps = map u.make packets ++ rest.pieces in
+          let tail = blocks_from run (f + count_of u.report) (o + octets_of u.report) ps in
+          subst (λ (l : List (List ℕ)). AreFrames run.identity.ssrc (suc rest.units) l)
+          (sym (u.none ps (piece_bytes run f o u.report) tail))
+          (then.sent (f + count_of u.report) (o + octets_of u.report));
+    }
+    reported false then = then
 
 packets-some : (unit : PictureUnit) (f : OpenPacket) (slices : List ℕ) → 0 < length (packets_from unit f slices)
 packets-some unit f [] = omega arith
@@ -202,9 +209,9 @@ some-packets starts unit = packets-some unit (first_portion unit.from unit.head_
 
 -- the frames of units, each laid out in its film
 pub units-frames : (end : ℕ) (run : FramedRun) (starts : List ℕ) (units : List PictureUnit) → run.identity.ssrc < 2 ^ 32
-    → AreLaid end starts units → (f o : ℕ) → AreFrames run.identity.ssrc (length units)
-    (frames_among (pieces_of starts units) (blocks_from run f o (pieces_of starts units)))
-units-frames end run starts units small laid f o = (by-units units laid).sent f o
+    → AreLaid end starts units → AreFrames run.identity.ssrc (length units)
+    (frames_among (pieces_of starts units) (blocks_from run 0 0 (pieces_of starts units)))
+units-frames end run starts units small laid = (by-units units laid).sent 0 0
   where
     by-units : (units : List PictureUnit) → AreLaid end starts units
         → SendFrames run (length units) (pieces_of starts units)
@@ -215,11 +222,16 @@ units-frames end run starts units small laid f o = (by-units units laid).sent f 
         (packets-cover starts unit laid.0.1) in
         let rest = pieces_of starts units in
         subst (λ (l : List Part). SendFrames run (suc (length units)) l) (sym (pieces-cons starts unit units))
-        (reports-frames {report = _} (suc (length units)) unit.starts_group (map _ packets) rest
-        (record { none = λ ps b bs. refl })
-        (packets-frames {u = record { run = run; unit = unit; make = _ }} (length units) packets rest small
-        (record { bytes = λ p g n. refl; among = λ p ps b bs. refl }) marked (some-packets starts unit)
-        (by-units units laid.1)))
+        (unit-frames (record {
+          run = run;
+          unit = unit;
+          make = _;
+          report = _;
+          bytes = λ p g n. refl;
+          among = λ p ps b bs. refl;
+          none = λ ps b bs. refl;
+        }) packets (record { units = length units; pieces = rest; sends = by-units units laid.1 })
+        small marked (some-packets starts unit))
 
 -- ---- the first frame
 
@@ -230,24 +242,25 @@ pub record BeginsWith (run : FramedRun) (unit : PictureUnit) (packet : Packet) (
   pub are : frames ≡ block ∷ more
   pub payload_is : drop 20 block ≡ payload run.film packet
 
-first-by : {u : UnitPieces} {report : Part} (packet : Packet) (starts : Bool) (frames rest : List Part)
-    → AreFramesOf u → IsReport report → (f o : ℕ) → BeginsWith u.run u.unit packet
-    (frames_among ((cond starts (report ∷ []) [] ++ (u.make packet ∷ frames)) ++ rest)
-    (blocks_from u.run f o ((cond starts (report ∷ []) [] ++ (u.make packet ∷ frames)) ++ rest)))
-first-by {u} {report} packet true frames rest are is f o =
+first-by : (u : UnitPieces) (packet : Packet) (starts : Bool) (frames rest : List Part)
+    → BeginsWith u.run u.unit packet
+    (frames_among ((cond starts (u.report ∷ []) [] ++ (u.make packet ∷ frames)) ++ rest)
+    (blocks_from u.run 0 0 ((cond starts (u.report ∷ []) [] ++ (u.make packet ∷ frames)) ++ rest)))
+first-by u packet true frames rest =
     let ps = u.make packet ∷ (frames ++ rest) in
-    let tail = blocks_from u.run (f + count_of report) (o + octets_of report) ps in
+    let f = 0 + count_of u.report in
+    let o = 0 + octets_of u.report in
     record {
-      block = frame_block u.run u.unit packet (f + count_of report);
+      block = frame_block u.run u.unit packet f;
       more = _;
-      are = is.none ps (piece_bytes u.run f o report) tail
-          ∙ sym (one-frame are packet (frames ++ rest) (f + count_of report) (o + octets_of report));
+      are = u.none ps (piece_bytes u.run 0 0 u.report) (blocks_from u.run f o ps)
+          ∙ sym (one-frame u packet (frames ++ rest) f o);
       payload_is = refl;
     }
-first-by {u} packet false frames rest are is f o = record {
-  block = frame_block u.run u.unit packet f;
+first-by u packet false frames rest = record {
+  block = frame_block u.run u.unit packet 0;
   more = _;
-  are = sym (one-frame are packet (frames ++ rest) f o);
+  are = sym (one-frame u packet (frames ++ rest) 0 0);
   payload_is = refl;
 }
 
@@ -265,17 +278,13 @@ has-packet starts unit = by-list (unit_packets starts unit) refl (some-packets s
     by-list [] is some = absurd (omega (arith, some))
     by-list (p ∷ packets) is some = record { packet = p; packets = packets; are = is }
 
-begins-unit : {starts : List ℕ} {u : UnitPieces} {report : Part} (there : HasPacket starts u.unit) (rest : List Part)
-    → AreFramesOf u → IsReport report → BeginsWith u.run u.unit there.packet
-    (frames_among ((cond u.unit.starts_group (report ∷ []) [] ++ map u.make (unit_packets starts u.unit)) ++ rest)
-    (blocks_from u.run 0 0
-    ((cond u.unit.starts_group (report ∷ []) [] ++ map u.make (unit_packets starts u.unit)) ++ rest)))
-begins-unit {u = u} {report} there rest are is =
+begins-unit : {starts : List ℕ} (u : UnitPieces) (there : HasPacket starts u.unit) (rest : List Part)
+    → BeginsWith u.run u.unit there.packet (frames_among (pieces_in u (unit_packets starts u.unit) ++ rest)
+    (blocks_from u.run 0 0 (pieces_in u (unit_packets starts u.unit) ++ rest)))
+begins-unit u there rest =
     let Q : List Packet → Type 0 = λ ps. BeginsWith u.run u.unit there.packet
-    (frames_among ((cond u.unit.starts_group (report ∷ []) [] ++ map u.make ps) ++ rest)
-    (blocks_from u.run 0 0 ((cond u.unit.starts_group (report ∷ []) [] ++ map u.make ps) ++ rest))) in
-    subst Q (sym there.are)
-    (first-by {u = u} {report = report} there.packet u.unit.starts_group (map u.make there.packets) rest are is 0 0)
+    (frames_among (pieces_in u ps ++ rest) (blocks_from u.run 0 0 (pieces_in u ps ++ rest))) in
+    subst Q (sym there.are) (first-by u there.packet u.unit.starts_group (map u.make there.packets) rest)
 
 pub first-frame : (run : FramedRun) (starts : List ℕ) (unit : PictureUnit) (units : List PictureUnit)
     (there : HasPacket starts unit)
@@ -284,21 +293,29 @@ pub first-frame : (run : FramedRun) (starts : List ℕ) (unit : PictureUnit) (un
 first-frame run starts unit units there =
     let P : List Part → Type 0 = λ l. BeginsWith run unit there.packet (frames_among l (blocks_from run 0 0 l)) in
     subst P (sym (pieces-cons starts unit units))
-    (begins-unit {u = record { run = run; unit = unit; make = _ }} {report = _} there (pieces_of starts units)
-    (record { bytes = λ p g n. refl; among = λ p ps b bs. refl }) (record { none = λ ps b bs. refl }))
+    (begins-unit (record {
+      run = run;
+      unit = unit;
+      make = _;
+      report = _;
+      bytes = λ p g n. refl;
+      among = λ p ps b bs. refl;
+      none = λ ps b bs. refl;
+    }) there (pieces_of starts units))
 
 -- the first packet of a unit goes as far as its head, or further, where no cut stands in a head
-pub first-long : {starts : List ℕ} {unit : PictureUnit} {packet : Packet} {packets : List Packet}
+pub first-long : {starts : List ℕ} {unit : PictureUnit} (there : HasPacket starts unit)
     → ForAllCutPoints (λ from headers_end slices cuts. IsUncut from headers_end cuts)
-    → IsLaid starts unit → unit_packets starts unit ≡ packet ∷ packets
-    → (packet.from ≡ unit.from) × (unit.head_end ≤ packet.to)
-first-long {starts} {unit} {packet} {packets} uncut laid is =
+    → IsLaid starts unit → (there.packet.from ≡ unit.from) × (unit.head_end ≤ there.packet.to)
+first-long {starts} {unit} there uncut laid =
     let are = packets-are starts unit laid in
     let P : List Packet → Type 0 = λ l. DoCover unit.from l unit.to in
-    let cover = subst P is (packets-cover starts unit laid) in
+    let cover = subst P there.are (packets-cover starts unit laid) in
     let whole = uncut unit.from unit.head_end (unit_lengths starts unit) are.cuts laid.head laid.short are.cutting in
-    by-cuts are.cuts whole (sym are.portions ∙ is) cover.1.0
+    by-cuts are.cuts whole (sym are.portions ∙ there.are) cover.1.0
   where
+    open there use {packet, packets}
+
     by-cuts : (cuts : List ℕ) → IsUncut unit.from unit.head_end cuts
         → portion_packets unit (unit_starts starts unit) unit.from cuts ≡ packet ∷ packets → unit.from < packet.to
         → (packet.from ≡ unit.from) × (unit.head_end ≤ packet.to)

@@ -1,14 +1,9 @@
 -- Texts that are put together part by part.
-use Rattle.std.proofs.Common.{◌≡◌, ℕ, ◌+◌, List, [], ◌∷◌, ◌++◌, length, refl, sym, ap, ◌∙◌, append_assoc, length-append}
+use Rattle.std.proofs.Common.{◌≡◌, ℕ, ◌+◌, List, [], ◌∷◌, ◌++◌, length, refl, ap, ◌∙◌, append_assoc, length-append}
 
 -- a part after those before
 pub then-put : {old mid new : List ℕ} (next : List ℕ) → mid ≡ old → new ≡ mid ++ next → new ≡ old ++ next
 then-put next is put = put ∙ ap (λ (l : List ℕ). l ++ next) is
-
-pub then-field : {old mid new : List ℕ} (label next : List ℕ) → mid ≡ old → new ≡ mid ++ (label ++ next)
-    → new ≡ old ++ label ++ next
-then-field {mid} label next is put =
-    put ∙ sym (append_assoc mid label next) ∙ ap (λ (l : List ℕ). l ++ label ++ next) is
 
 -- parts put after a text, each after all before it; and as one row from the end on
 abbrev pub put_on : List ℕ → List (List ℕ) → List ℕ

@@ -20,7 +20,7 @@ use Rattle.rtsp_client.specs.ClientHistory.{History, ClientEvent, Frame, Reply}
 use Rattle.rtsp_client.specs.Films.{is_good_frame}
 use Rattle.rtsp_client.specs.Answers.{Gives, GoOn, GoesOn, IsBadReply, IsGoodReply, IsOrderly, has_fields}
 use Rattle.rtsp_client.specs.Answers.{history_after, events_of_elements, element_events, payloads_of, requests_after}
-use Rattle.rtsp_client.specs.WatchCourses.{IsNext, WatchStage, Stops, StopsAt}
+use Rattle.rtsp_client.specs.WatchCourses.{IsNext, WatchStage, Stops, StopsAt, stage}
 use Rattle.rtsp_client.specs.Outcomes.{IsDecided}
 
 -- ---- replies
@@ -80,20 +80,20 @@ pub data Quits (wish : Wish) (h : History) (rest : List ℕ) (end : WatchEnd) : 
   AtMoment : (moment : ClientEvent) → IsNext rest moment → Gives wish h moment end → Quits wish h rest end
 
 -- such an answer, with nothing sent and nothing handed on
-record QuitsAlone (wish : Wish) (old : WatchStage) (end : WatchEnd) (sent out : List ℕ) : Type 0 where
-  quits : Quits wish old.history old.rest end
-  no_sent : sent ≡ []
-  no_out : out ≡ []
+pub record QuitsAlone (wish : Wish) (old : WatchStage) (end : WatchEnd) (sent out : List ℕ) : Type 0 where
+  pub quits : Quits wish old.history old.rest end
+  pub no_sent : sent ≡ []
+  pub no_out : out ≡ []
 
-quits-alone : {wish : Wish} {sent out : List ℕ} (old : WatchStage) (end : WatchEnd) → IsDecided end
-    → Stops wish old end sent out → QuitsAlone wish old end sent out
-quits-alone old end decided (inl (is, (fault, first), no_sent, no_out)) =
+pub quits-alone : {wish : Wish} {sent out : List ℕ} (at : WatchStage) (end : WatchEnd) → IsDecided end
+    → Stops wish at end sent out → QuitsAlone wish at end sent out
+quits-alone at end decided (inl (is, (fault, first), no_sent, no_out)) =
     record { quits = AtFraming is fault first; no_sent = no_sent; no_out = no_out }
-quits-alone old end decided (inr (moment, (next, inl (given, no_sent, no_out)))) =
+quits-alone at end decided (inr (moment, (next, inl (given, no_sent, no_out)))) =
     record { quits = AtMoment moment next given; no_sent = no_sent; no_out = no_out }
-quits-alone old (Done watched) decided (inr (moment, (next, inr (on, failed)))) = absurd failed
-quits-alone old (Fault fault) decided (inr (moment, (next, inr (on, failed)))) = absurd failed
-quits-alone old _ decided (inr (moment, (next, inr (on, failed)))) = absurd decided
+quits-alone at (Done watched) decided (inr (moment, (next, inr (on, failed)))) = absurd failed
+quits-alone at (Fault fault) decided (inr (moment, (next, inr (on, failed)))) = absurd failed
+quits-alone at _ decided (inr (moment, (next, inr (on, failed)))) = absurd decided
 
 abbrev first_moment : ClientEvent → List ClientEvent → ClientEvent
 first_moment other [] = other
@@ -105,15 +105,15 @@ next-once {rest} {m} (n, (element, is)) (n', (element', is')) =
     ap (first_moment m) (sym is ∙ ap (λ k. element_events (take k rest)) (element_once rest n n' element element') ∙
     is')
 
-quits-once : {wish : Wish} {h : History} {rest : List ℕ} {one other : WatchEnd} → Quits wish h rest one
-    → Quits wish h rest other → one ≡ other
+quits-once : {wish : Wish} {old : WatchStage} {one other : WatchEnd} → Quits wish old.history old.rest one
+    → Quits wish old.history old.rest other → one ≡ other
 quits-once (AtFraming is fault first) (AtFraming is' fault' first') = is ∙ sym is'
-quits-once {rest} (AtFraming is fault first) (AtMoment moment (n, (element, _)) given) =
-    absurd (tells_none rest (Err fault) first n element)
-quits-once {rest} (AtMoment moment (n, (element, _)) given) (AtFraming is fault first) =
-    absurd (tells_none rest (Err fault) first n element)
-quits-once {wish} {h} {one} (AtMoment moment next given) (AtMoment moment' next' given') =
-    gives-once wish h moment' (subst (λ m. Gives wish h m one) (next-once next next') given) given'
+quits-once {old = old} (AtFraming is fault first) (AtMoment moment (n, (element, _)) given) =
+    absurd (tells_none old.rest (Err fault) first n element)
+quits-once {old = old} (AtMoment moment (n, (element, _)) given) (AtFraming is fault first) =
+    absurd (tells_none old.rest (Err fault) first n element)
+quits-once {wish} {old} {one} (AtMoment moment next given) (AtMoment moment' next' given') =
+    gives-once wish old.history moment' (subst (λ m. Gives wish old.history m one) (next-once next next') given) given'
 
 -- where bytes that wait give the answer, something stands before them
 pub quits-not-idle : {wish : Wish} {h : History} {rest : List ℕ} {end : WatchEnd} → Quits wish h rest end
@@ -123,53 +123,60 @@ quits-not-idle {rest} (AtFraming is fault first) idle =
     both_ways (tells (Err fault)) refl (ap tells (answer_once rest (Err fault) (Ok More) first idle))
 quits-not-idle {rest} (AtMoment moment (n, (element, _)) given) idle = tells_none rest (Ok More) idle n element
 
--- and no element of them is processed
-quits-not-on : {wish : Wish} {old : WatchStage} {end : WatchEnd} (later element : List ℕ)
-    (elements : List (List ℕ)) → Quits wish old.history old.rest end
-    → AreInputElements old.rest (element ∷ elements) later
-    → GoOn old.history (events_of_elements (element ∷ elements)) → ⊥
-quits-not-on {old = old} later element elements (AtFraming is fault first) (n, cut) good =
-    tells_none old.rest (Err fault) first n cut.0
-quits-not-on {wish} {old} {end} later element elements (AtMoment moment (n, (front, is)) given) (n', cut) good =
-    let same : element_events element ≡ moment ∷ [] =
-    ap element_events cut.1 ∙ ap (λ k. element_events (take k old.rest)) (element_once old.rest n' n cut.0 front) ∙ is in
-    let on : GoOn old.history (moment ∷ events_of_elements elements) =
-    subst (λ (ms : List ClientEvent). GoOn old.history (ms ++ events_of_elements elements)) same good in
-    gives-not-on wish old.history end moment given on.0
-
 -- ---- elements, one after another
 
--- elements before bytes, which let the watching go on
-pub record IsPassed (h : History) (bytes : List ℕ) (elements : List (List ℕ)) (rest : List ℕ) : Type 0 where
-  pub cut : AreInputElements bytes elements rest
-  pub good : GoOn h (events_of_elements elements)
-
--- and then the answer
-pub record IsQuit (wish : Wish) (h : History) (bytes : List ℕ) (elements : List (List ℕ)) (rest : List ℕ)
-    (end : WatchEnd) : Type 0 where
-  pub passed : IsPassed h bytes elements rest
-  pub quits : Quits wish (history_after h (events_of_elements elements)) rest end
-
--- bytes split into elements, and what is left of them
-pub record SplitBytes : Type 0 where
+-- elements of the bytes that wait, which let the watching go on
+pub record Passed (old : WatchStage) : Type 0 where
   pub elements : List (List ℕ)
   pub rest : List ℕ
+  pub cut : AreInputElements old.rest elements rest
+  pub good : GoOn old.history (events_of_elements elements)
+
+-- where they leave the watching
+abbrev pub stage_after : (old : WatchStage) → List (List ℕ) → List ℕ → WatchStage
+stage_after old elements rest = stage (history_after old.history (events_of_elements elements)) rest
+
+-- and then the answer
+pub record Quitting (wish : Wish) (old : WatchStage) : Type 0 where
+  pub passed : Passed old
+  pub end : WatchEnd
+  pub quits : Quits wish (history_after old.history (events_of_elements passed.elements)) passed.rest end
+
+-- elements leave the watching where others do
+record AreSamePassed {old : WatchStage} (one other : Passed old) : Type 0 where
+  elements_are : one.elements ≡ other.elements
+  rest_is : one.rest ≡ other.rest
+
+-- others go further
+abbrev IsFurther : {old : WatchStage} → Passed old → Passed old → Type 0
+IsFurther one other = (more : List (List ℕ))
+    × ((other.elements ≡ one.elements ++ more) × AreInputElements one.rest more other.rest)
 
 -- no further element is processed after the answer
-no-further : {wish : Wish} {old : WatchStage} {one other : SplitBytes} {end : WatchEnd} (more : List (List ℕ))
-    → IsQuit wish old.history old.rest one.elements one.rest end
-    → IsPassed old.history old.rest other.elements other.rest
-    → other.elements ≡ one.elements ++ more → AreInputElements one.rest more other.rest → one ≡ other
-no-further {one = one} {other} [] quit passed is cut =
-    ap (λ es. record one { elements = es }) (sym (is ∙ append-nil one.elements))
-    ∙ ap (λ r. record other { rest = r }) cut
-no-further {old = old} {one} (element ∷ more) quit passed is cut =
-    let before = events_of_elements one.elements in
-    absurd (quits-not-on {old = record { history = history_after old.history before; rest = one.rest }} _ element more
-    quit.quits cut
-    (good-later old.history before (events_of_elements (element ∷ more))
-    (subst (GoOn old.history)
-    (ap events_of_elements is ∙ flat_map-append element_events one.elements (element ∷ more)) passed.good)))
+no-further : {wish : Wish} {old : WatchStage} (quit : Quitting wish old) (other : Passed old)
+    → IsFurther quit.passed other → AreSamePassed quit.passed other
+no-further quit other ([], (is, cut)) = record {
+  elements_are = sym (is ∙ append-nil quit.passed.elements);
+  rest_is = cut;
+}
+no-further {wish} {old} quit other (element ∷ more, (is, (n, cut))) = absurd (not-on quit.quits)
+  where
+    at : WatchStage
+    at = stage_after old quit.passed.elements quit.passed.rest
+
+    good : GoOn at.history (events_of_elements (element ∷ more))
+    good = good-later old.history (events_of_elements quit.passed.elements) (events_of_elements (element ∷ more))
+        (subst (GoOn old.history)
+        (ap events_of_elements is ∙ flat_map-append element_events quit.passed.elements (element ∷ more)) other.good)
+
+    not-on : Quits wish at.history at.rest quit.end → ⊥
+    not-on (AtFraming is fault first) = tells_none at.rest (Err fault) first n cut.0
+    not-on (AtMoment moment (m, (front, is)) given) =
+        let same : element_events element ≡ moment ∷ [] =
+        ap element_events cut.1 ∙ ap (λ k. element_events (take k at.rest)) (element_once at.rest n m cut.0 front) ∙ is in
+        let on : GoOn at.history (moment ∷ events_of_elements more) =
+        subst (λ (ms : List ClientEvent). GoOn at.history (ms ++ events_of_elements more)) same good in
+        gives-not-on wish at.history quit.end moment given on.0
 
 -- where no complete element is first, none is processed
 idle-stays : {rest later : List ℕ} (more : List (List ℕ)) → IsFirst rest (Ok More) → AreInputElements rest more later
@@ -177,70 +184,77 @@ idle-stays : {rest later : List ℕ} (more : List (List ℕ)) → IsFirst rest (
 idle-stays [] idle cut = subst (λ r. IsFirst r (Ok More)) cut idle
 idle-stays {rest} (element ∷ more) idle (n, cut) = absurd (tells_none rest (Ok More) idle n cut.0)
 
+two-cuts : {old : WatchStage} (one other : Passed old)
+    → TwoCuts old.rest one.elements other.elements one.rest other.rest
+two-cuts one other = record { one = one.cut; other = other.cut }
+
 -- bytes that give the answer are not all processed
-pub quit-not-passed : {wish : Wish} {old : WatchStage} {one other : SplitBytes} {end : WatchEnd}
-    → IsQuit wish old.history old.rest one.elements one.rest end
-    → IsPassed old.history old.rest other.elements other.rest → IsFirst other.rest (Ok More) → ⊥
-quit-not-passed {old = old} {one} {other} quit passed idle =
-    let cuts : TwoCuts old.rest one.elements other.elements one.rest other.rest =
-    record { one = quit.passed.cut; other = passed.cut } in
-    elim (cuts_agree cuts) [
-      | inl (more, (is, cut)) ↦
-          let same : one ≡ other = no-further {old = old} more quit passed is cut in
-          quits-not-idle quit.quits (subst (λ (x : SplitBytes). IsFirst x.rest (Ok More)) (sym same) idle)
+pub quit-not-passed : {wish : Wish} {old : WatchStage} (quit : Quitting wish old) (other : Passed old)
+    → IsFirst other.rest (Ok More) → ⊥
+quit-not-passed quit other idle =
+    elim (cuts_agree (two-cuts quit.passed other)) [
+      | inl further ↦
+          quits-not-idle quit.quits
+          (subst (λ r. IsFirst r (Ok More)) (sym (no-further quit other further).rest_is) idle)
       | inr (more, (is, cut)) ↦ quits-not-idle quit.quits (idle-stays more idle cut)
     ]
 
 -- bytes give one answer, after the same elements
-record AreSameQuits (one other : List (List ℕ)) (end later : WatchEnd) : Type 0 where
-  elements_are : one ≡ other
-  end_is : end ≡ later
+record AreSameQuits {wish : Wish} {old : WatchStage} (one other : Quitting wish old) : Type 0 where
+  elements_are : one.passed.elements ≡ other.passed.elements
+  end_is : one.end ≡ other.end
 
-quit-once : {wish : Wish} {old : WatchStage} {one other : SplitBytes} {end end' : WatchEnd}
-    → IsQuit wish old.history old.rest one.elements one.rest end
-    → IsQuit wish old.history old.rest other.elements other.rest end'
-    → AreSameQuits one.elements other.elements end end'
-quit-once {wish} {old} {one} {other} {end} quit quit' =
-    let cuts : TwoCuts old.rest one.elements other.elements one.rest other.rest =
-    record { one = quit.passed.cut; other = quit'.passed.cut } in
-    let same : one ≡ other = elim (cuts_agree cuts) [
-      | inl (more, (is, cut)) ↦ no-further {old = old} more quit quit'.passed is cut
-      | inr (more, (is, cut)) ↦ sym (no-further {old = old} {one = other} {other = one} more quit' quit.passed is cut)
+quit-once : {wish : Wish} {old : WatchStage} (one other : Quitting wish old) → AreSameQuits one other
+quit-once {wish} {old} one other =
+    let same : AreSamePassed one.passed other.passed = elim (cuts_agree (two-cuts one.passed other.passed)) [
+      | inl further ↦ no-further one other.passed further
+      | inr further ↦
+          let back = no-further other one.passed further in
+          record { elements_are = sym back.elements_are; rest_is = sym back.rest_is }
     ] in
-    let there : Quits wish (history_after old.history (events_of_elements other.elements)) other.rest end =
-    subst (λ (x : SplitBytes). Quits wish (history_after old.history (events_of_elements x.elements)) x.rest end) same
-    quit.quits in
-    record { elements_are = ap (λ (x : SplitBytes). x.elements) same; end_is = quits-once there quit'.quits }
+    let at = stage_after old other.passed.elements in
+    let there : Quits wish (at other.passed.rest).history other.passed.rest one.end =
+    subst (λ r. Quits wish (at r).history r one.end) same.rest_is
+    (subst (λ es. Quits wish (stage_after old es one.passed.rest).history one.passed.rest one.end) same.elements_are
+    one.quits) in
+    record { elements_are = same.elements_are; end_is = quits-once {old = at other.passed.rest} there other.quits }
 
 -- ---- what the client did
 
-pub stops-quit : {wish : Wish} {old : WatchStage} {end : WatchEnd} {sent out : List ℕ} → IsDecided end
-    → (stops : StopsAt wish old end sent out) → IsQuit wish old.history old.rest stops.elements stops.mid end
-stops-quit decided stops = record {
-  passed = record { cut = stops.cut; good = stops.good };
-  quits = (quits-alone _ _ decided stops.stops).quits;
+abbrev pub stops-quit : {wish : Wish} {old : WatchStage} {end : WatchEnd} {sent out : List ℕ} → IsDecided end
+    → StopsAt wish old end sent out → Quitting wish old
+stops-quit {wish} {old} {end} decided stops = record {
+  passed = record { elements = stops.elements; rest = stops.mid; cut = stops.cut; good = stops.good };
+  end = end;
+  quits = (quits-alone (stage_after old stops.elements stops.mid) end decided stops.stops).quits;
 }
 
--- an answer, after what was sent and handed on
-pub record StopOutcome : Type 0 where
+-- an answer that the events decide, after what was sent and handed on
+pub record Stopping (wish : Wish) (old : WatchStage) : Type 0 where
   pub end : WatchEnd
   pub sent : List ℕ
   pub out : List ℕ
+  pub decided : IsDecided end
+  pub stops : StopsAt wish old end sent out
 
-pub stops-once : {wish : Wish} {old : WatchStage} {a b : StopOutcome} → IsDecided a.end → IsDecided b.end
-    → StopsAt wish old a.end a.sent a.out → StopsAt wish old b.end b.sent b.out → a ≡ b
-stops-once {wish} {old} {a} {b} decided decided' one other =
-    let alone = quits-alone {wish = wish} _ _ decided one.stops in
-    let alone' = quits-alone {wish = wish} _ _ decided' other.stops in
-    let same = quit-once {old = old} (stops-quit decided one) (stops-quit decided' other) in
+pub record AreSameStops {wish : Wish} {old : WatchStage} (a b : Stopping wish old) : Type 0 where
+  pub end_is : a.end ≡ b.end
+  pub sent_is : a.sent ≡ b.sent
+  pub out_is : a.out ≡ b.out
+
+pub stops-once : {wish : Wish} {old : WatchStage} (a b : Stopping wish old) → AreSameStops a b
+stops-once {wish} {old} a b =
+    let one = a.stops in
+    let other = b.stops in
+    let alone = quits-alone {wish = wish} (stage_after old one.elements one.mid) a.end a.decided one.stops in
+    let alone' = quits-alone {wish = wish} (stage_after old other.elements other.mid) b.end b.decided other.stops in
+    let same = quit-once (stops-quit a.decided one) (stops-quit b.decided other) in
     let requests = λ (es : List (List ℕ)). requests_after wish old.history (events_of_elements es) in
     let payloads = λ (es : List (List ℕ)). payloads_of (events_of_elements es) in
-    let end_is : a.end ≡ b.end = same.end_is in
-    let sent_is : a.sent ≡ b.sent =
-    one.sent_is ∙ ap (λ x. requests one.elements ++ x) (alone.no_sent ∙ sym alone'.no_sent)
-    ∙ ap (λ es. requests es ++ other.more_sent) same.elements_are ∙ sym other.sent_is in
-    let out_is : a.out ≡ b.out =
-    one.out_is ∙ ap (λ x. payloads one.elements ++ x) (alone.no_out ∙ sym alone'.no_out)
-    ∙ ap (λ es. payloads es ++ other.more_out) same.elements_are ∙ sym other.out_is in
-    ap (λ e. record a { end = e }) end_is
-    ∙ (ap (λ s. record b { sent = s; out = a.out }) sent_is ∙ ap (λ o. record b { out = o }) out_is)
+    record {
+      end_is = same.end_is;
+      sent_is = one.sent_is ∙ ap (λ x. requests one.elements ++ x) (alone.no_sent ∙ sym alone'.no_sent)
+          ∙ ap (λ es. requests es ++ other.more_sent) same.elements_are ∙ sym other.sent_is;
+      out_is = one.out_is ∙ ap (λ x. payloads one.elements ++ x) (alone.no_out ∙ sym alone'.no_out)
+          ∙ ap (λ es. payloads es ++ other.more_out) same.elements_are ∙ sym other.out_is;
+    }

@@ -13,11 +13,11 @@ use Rattle.rtsp_client.specs.declared.watch_request.WatchEnd.TheVariants.{Fault}
 use Rattle.rtsp_client.specs.declared.watch_request.WatchFault.TheVariants.{EndedEarly, TurnsSpent}
 use Rattle.rtsp_client.specs.ClientHistory.{ClientEvent, sizes}
 use Rattle.rtsp_client.specs.Answers.{GoOn, history_after, events_of_elements, payloads_of, requests_after}
-use Rattle.rtsp_client.specs.WatchCourses.{Brings, Ends, HasNotBegun, Round, Runs, RunsAll, WatchStage, StopsAt}
+use Rattle.rtsp_client.specs.WatchCourses.{Brings, Ends, Round, Runs, RunsAll, WatchStage, StopsAt}
 use Rattle.rtsp_client.specs.WatchCourses.{events_of_rounds, rounds_doings, stage}
 use Rattle.rtsp_client.specs.Requests.{setup_text}
 use Rattle.rtsp_client.specs.Outcomes.{IsDecided, IsOutcome, WatchOutcome, events_in}
-use Rattle.rtsp_client.proofs.UniqueEnd.{IsPassed, StopOutcome, quit-not-passed, stops-once, stops-quit}
+use Rattle.rtsp_client.proofs.UniqueEnd.{Stopping, quit-not-passed, stops-once, stops-quit}
 
 -- ---- events
 
@@ -57,53 +57,49 @@ rounds-heard wish old mid (round ∷ rounds) (next, (runs, idle, all)) =
 
 -- ---- one event
 
--- what an event brought: moments, and bytes that wait
-record Brought : Type 0 where
-  moments : List ClientEvent
-  rest : List ℕ
+-- where a course stands: its wish, its stage, and how many events were processed
+record CoursePlace : Type 0 where
+  wish : Wish
+  stage : WatchStage
+  count : ℕ
 
-brought-is : {a b : Brought} → a.moments ≡ b.moments → a.rest ≡ b.rest → a ≡ b
-brought-is {a} {b} moments rest =
-    ap (λ ms. record a { moments = ms }) moments ∙ ap (λ r. record b { rest = r }) rest
-
-brings-once : {a b : Brought} (old : List ℕ) (event : IoEvent) → Brings event old a.moments a.rest
-    → IsFirst a.rest (Ok More) → Brings event old b.moments b.rest → IsFirst b.rest (Ok More) → a ≡ b
-brings-once {a} {b} old (HeardBytes bytes) (elements, (cut, is)) idle (elements', (cut', is')) idle' =
-    let streams : TwoStreams (old ++ bytes) elements elements' a.rest b.rest = record {
-      one = (cut, tells_none a.rest (Ok More) idle);
-      other = (cut', tells_none b.rest (Ok More) idle');
-    } in
-    let same = stream_once streams in
-    brought-is (is ∙ ap events_of_elements same.0 ∙ sym is') same.1
-brings-once old (HeardSlot slot) (is, same) idle (is', same') idle' = brought-is (is ∙ sym is') (same ∙ sym same')
-brings-once old _ brings idle brings' idle' = absurd brings
-
--- a round was processed, and no complete element waits
-record RoundDone (old : WatchStage) (round : Round) : Type 0 where
+-- a round was processed there, and no complete element waits
+record RoundDone (at : CoursePlace) : Type 0 where
+  round : Round
   mid : WatchStage
-  runs : Runs old round mid
+  runs : Runs at.stage round mid
   idle : IsFirst mid.rest (Ok More)
+  few : at.count < 2 ^ 40
 
-record AreSameRounds (one other : Round) (mid mid' : WatchStage) : Type 0 where
-  round_is : one ≡ other
-  mid_is : mid ≡ mid'
+record AreSameRounds {at : CoursePlace} (a b : RoundDone at) : Type 0 where
+  round_is : a.round ≡ b.round
+  mid_is : a.mid ≡ b.mid
 
-runs-once : {old : WatchStage} {one other : Round} (a : RoundDone old one) (b : RoundDone old other)
-    → one.event ≡ other.event → AreSameRounds one other a.mid b.mid
-runs-once {old} {one} {other} a b heard =
-    let brought : record { moments = one.moments; rest = a.mid.rest }
-    ≡ record { moments = other.moments; rest = b.mid.rest } =
-    brings-once {a = record { moments = one.moments; rest = a.mid.rest }}
-    {b = record { moments = other.moments; rest = b.mid.rest }} old.rest other.event
-    (subst (λ e. Brings e old.rest one.moments a.mid.rest) heard a.runs.brings) a.idle b.runs.brings b.idle in
-    let moments : one.moments ≡ other.moments = ap (λ (x : Brought). x.moments) brought in
-    let history_is : a.mid.history ≡ b.mid.history =
-    a.runs.history_is ∙ ap (history_after old.history) moments ∙ sym b.runs.history_is in
+runs-once : {at : CoursePlace} (a b : RoundDone at) → a.round.event ≡ b.round.event → AreSameRounds a b
+runs-once {at} a b heard =
+    let old = at.stage in
+    let brought = by-event b.round.event
+    (subst (λ e. Brings e old.rest a.round.moments a.mid.rest) heard a.runs.brings) b.runs.brings in
     record {
-      round_is = ap (λ e. record { event = e; moments = one.moments }) heard
-          ∙ ap (λ ms. record { event = other.event; moments = ms }) moments;
-      mid_is = ap (λ h. stage h a.mid.rest) history_is ∙ ap (λ (x : Brought). stage b.mid.history x.rest) brought;
+      round_is = ap (λ e. record { event = e; moments = a.round.moments }) heard
+          ∙ ap (λ ms. record { event = b.round.event; moments = ms }) brought.0;
+      mid_is = ap (λ h. stage h a.mid.rest)
+          (a.runs.history_is ∙ ap (history_after old.history) brought.0 ∙ sym b.runs.history_is)
+          ∙ ap (stage b.mid.history) brought.1;
     }
+  where
+    by-event : (event : IoEvent) → Brings event at.stage.rest a.round.moments a.mid.rest
+        → Brings event at.stage.rest b.round.moments b.mid.rest
+        → (a.round.moments ≡ b.round.moments) × (a.mid.rest ≡ b.mid.rest)
+    by-event (HeardBytes bytes) (elements, (cut, is)) (elements', (cut', is')) =
+        let streams : TwoStreams (at.stage.rest ++ bytes) elements elements' a.mid.rest b.mid.rest = record {
+          one = (cut, tells_none a.mid.rest (Ok More) a.idle);
+          other = (cut', tells_none b.mid.rest (Ok More) b.idle);
+        } in
+        let same = stream_once streams in
+        (is ∙ ap events_of_elements same.0 ∙ sym is', same.1)
+    by-event (HeardSlot slot) (is, same) (is', same') = (is ∙ sym is', same ∙ sym same')
+    by-event _ brings brings' = absurd brings
 
 -- ---- the last event
 
@@ -121,22 +117,22 @@ final-is {a} {b} end doings out =
     ap E end ∙ (ap D doings ∙ ap O out)
 
 -- after so many events no further one is received; or the server ended; or bytes gave the answer
-data Closes (wish : Wish) (old : WatchStage) (count : ℕ) (f : Final) : Type 0 where
-  Spent : f.end ≡ Fault TurnsSpent → count ≡ 2 ^ 40 → f.doings ≡ [] → f.out ≡ [] → Closes wish old count f
-  Ended : f.end ≡ Fault (EndedEarly (length (sizes old.history))) → count < 2 ^ 40 → f.doings ≡ HeardEnd ∷ []
-      → f.out ≡ [] → Closes wish old count f
+data Closes (at : CoursePlace) (f : Final) : Type 0 where
+  Spent : f.end ≡ Fault TurnsSpent → at.count ≡ 2 ^ 40 → f.doings ≡ [] → f.out ≡ [] → Closes at f
+  Ended : f.end ≡ Fault (EndedEarly (length (sizes at.stage.history))) → at.count < 2 ^ 40 → f.doings ≡ HeardEnd ∷ []
+      → f.out ≡ [] → Closes at f
   Stopped : (bytes sent : List ℕ) → IsDecided f.end
-      → StopsAt wish (stage old.history (old.rest ++ bytes)) f.end sent f.out
-      → f.doings ≡ HeardBytes bytes ∷ sends sent → count < 2 ^ 40 → Closes wish old count f
+      → StopsAt at.wish (stage at.stage.history (at.stage.rest ++ bytes)) f.end sent f.out
+      → f.doings ≡ HeardBytes bytes ∷ sends sent → at.count < 2 ^ 40 → Closes at f
 
-closes : {wish : Wish} {old : WatchStage} {count : ℕ} {f : Final} → IsDecided f.end
-    → Ends wish old count f.end f.doings f.out → Closes wish old count f
+closes : {at : CoursePlace} {f : Final} → IsDecided f.end → Ends at.wish at.stage at.count f.end f.doings f.out
+    → Closes at f
 closes decided (inl (inl (lost, few), doings, out)) = absurd (subst IsDecided lost decided)
 closes decided (inl (inr (spent, all), doings, out)) = Spent spent all doings out
 closes decided (inr (inl (is, few, doings, out))) = Ended is few doings out
 closes decided (inr (inr (bytes, (sent, (stops, doings, few))))) = Stopped bytes sent decided stops doings few
 
-closes-few : {wish : Wish} {old : WatchStage} {count : ℕ} {f : Final} → Closes wish old count f → count ≤ 2 ^ 40
+closes-few : {at : CoursePlace} {f : Final} → Closes at f → at.count ≤ 2 ^ 40
 closes-few (Spent is all doings out) = omega (arith, all)
 closes-few (Ended is few doings out) = omega (arith, few)
 closes-few (Stopped bytes sent decided stops doings few) = omega (arith, few)
@@ -156,113 +152,125 @@ bytes_or_none _ = []
 no-end-of-bytes : {bytes : List ℕ} → HeardEnd ≡ HeardBytes bytes → ⊥
 no-end-of-bytes same = cc
 
-finals-once : {wish : Wish} {old : WatchStage} {count : ℕ} {a b : Final} (later : List IoEvent) → Closes wish old count a
-    → Closes wish old count b → events_in b.doings ≡ events_in a.doings ++ later → a ≡ b
-finals-once later (Spent is all doings out) (Spent is' all' doings' out') same =
+-- events that begin with others
+abbrev pub BeginWith : List IoEvent → List IoEvent → Type 0
+BeginWith all first = (later : List IoEvent) × (all ≡ first ++ later)
+
+finals-once : {at : CoursePlace} {a b : Final} → Closes at a → Closes at b
+    → BeginWith (events_in b.doings) (events_in a.doings) → a ≡ b
+finals-once (Spent is all doings out) (Spent is' all' doings' out') same =
     final-is (is ∙ sym is') (doings ∙ sym doings') (out ∙ sym out')
-finals-once later (Spent is all doings out) (Ended is' few doings' out') same = absurd (omega (arith, all, few))
-finals-once later (Spent is all doings out) (Stopped bytes sent decided stops doings' few) same =
+finals-once (Spent is all doings out) (Ended is' few doings' out') same = absurd (omega (arith, all, few))
+finals-once (Spent is all doings out) (Stopped bytes sent decided stops doings' few) same =
     absurd (omega (arith, all, few))
-finals-once later (Ended is few doings out) (Spent is' all doings' out') same = absurd (omega (arith, all, few))
-finals-once later (Ended is few doings out) (Ended is' few' doings' out') same =
+finals-once (Ended is few doings out) (Spent is' all doings' out') same = absurd (omega (arith, all, few))
+finals-once (Ended is few doings out) (Ended is' few' doings' out') same =
     final-is (is ∙ sym is') (doings ∙ sym doings') (out ∙ sym out')
-finals-once later (Ended is few doings out) (Stopped bytes sent decided stops doings' few') same =
+finals-once (Ended is few doings out) (Stopped bytes sent decided stops doings' few') (later, same) =
     absurd (no-end-of-bytes
     (sym (ap (λ ds. event_or_end (events_in ds ++ later)) doings)
     ∙ (sym (ap event_or_end same) ∙ ap (λ ds. event_or_end (events_in ds)) doings')))
-finals-once later (Stopped bytes sent decided stops doings few) (Spent is' all doings' out') same =
+finals-once (Stopped bytes sent decided stops doings few) (Spent is' all doings' out') same =
     absurd (omega (arith, all, few))
-finals-once later (Stopped bytes sent decided stops doings few) (Ended is' few' doings' out') same =
+finals-once (Stopped bytes sent decided stops doings few) (Ended is' few' doings' out') (later, same) =
     absurd (no-end-of-bytes
     (sym (ap (λ ds. event_or_end (events_in ds)) doings')
     ∙ (ap event_or_end same ∙ ap (λ ds. event_or_end (events_in ds ++ later)) doings)))
-finals-once {wish} {old} {a} {b} later (Stopped bytes sent decided stops doings few)
-    (Stopped bytes' sent' decided' stops' doings' few') same =
+finals-once {at} {a} {b} (Stopped bytes sent decided stops doings few)
+    (Stopped bytes' sent' decided' stops' doings' few') (later, same) =
     let bytes_are : bytes ≡ bytes' =
     sym (ap (λ ds. bytes_or_none (event_or_end (events_in ds ++ later))) doings)
     ∙ sym (ap (λ ds. bytes_or_none (event_or_end ds)) same)
     ∙ ap (λ ds. bytes_or_none (event_or_end (events_in ds))) doings' in
-    let one : record { end = a.end; sent = sent; out = a.out } ≡ record { end = b.end; sent = sent'; out = b.out } =
-    stops-once {a = record { end = a.end; sent = sent; out = a.out }}
-    {b = record { end = b.end; sent = sent'; out = b.out }} decided decided'
-    (subst (λ x. StopsAt wish (stage old.history (old.rest ++ x)) a.end sent a.out) bytes_are stops) stops' in
-    final-is (ap (λ (s : StopOutcome). s.end) one)
-    (doings ∙ ap (λ x. HeardBytes x ∷ sends sent) bytes_are
-    ∙ ap (λ (s : StopOutcome). HeardBytes bytes' ∷ sends s.sent) one ∙ sym doings')
-    (ap (λ (s : StopOutcome). s.out) one)
+    let old = λ (x : List ℕ). stage at.stage.history (at.stage.rest ++ x) in
+    let first : Stopping at.wish (old bytes') = record {
+      end = a.end;
+      sent = sent;
+      out = a.out;
+      decided = decided;
+      stops = subst (λ x. StopsAt at.wish (old x) a.end sent a.out) bytes_are stops;
+    } in
+    let second : Stopping at.wish (old bytes') =
+    record { end = b.end; sent = sent'; out = b.out; decided = decided'; stops = stops' } in
+    let one = stops-once first second in
+    final-is one.end_is
+    (doings ∙ ap (λ x. HeardBytes x ∷ sends sent) bytes_are ∙ ap (λ s. HeardBytes bytes' ∷ sends s) one.sent_is
+    ∙ sym doings') one.out_is
 
 -- the watching doesn't go on at the event that gives the answer
-closes-not-runs : {wish : Wish} {old : WatchStage} {count : ℕ} {f : Final} {round : Round} (later : List IoEvent)
-    → Closes wish old count f → count < 2 ^ 40 → RoundDone old round
-    → event_or_end (events_in f.doings ++ later) ≡ round.event → ⊥
-closes-not-runs later (Spent is all doings out) few done same = omega (arith, all, few)
-closes-not-runs {old = old} {round = round} later (Ended is _ doings out) few done same =
-    let first : round.event ≡ HeardEnd = sym same ∙ ap (λ ds. event_or_end (events_in ds ++ later)) doings in
-    subst (λ e. Brings e old.rest round.moments done.mid.rest) first done.runs.brings
-closes-not-runs {old = old} {round = round} later (Stopped bytes sent decided stops doings _) few done same =
-    let first : round.event ≡ HeardBytes bytes = sym same ∙ ap (λ ds. event_or_end (events_in ds ++ later)) doings in
-    let brings : Brings (HeardBytes bytes) old.rest round.moments done.mid.rest =
-    subst (λ e. Brings e old.rest round.moments done.mid.rest) first done.runs.brings in
-    let passed : IsPassed old.history (old.rest ++ bytes) brings.0 done.mid.rest =
-    record { cut = brings.1.0; good = subst (GoOn old.history) brings.1.1 done.runs.good } in
-    quit-not-passed {old = stage old.history (old.rest ++ bytes)} (stops-quit decided stops) passed done.idle
+closes-not-runs : {at : CoursePlace} {f : Final} (later : List IoEvent) → Closes at f → (done : RoundDone at)
+    → event_or_end (events_in f.doings ++ later) ≡ done.round.event → ⊥
+closes-not-runs later (Spent is all doings out) done same = omega (arith, all, done.few)
+closes-not-runs {at} later (Ended is _ doings out) done same =
+    let first : done.round.event ≡ HeardEnd = sym same ∙ ap (λ ds. event_or_end (events_in ds ++ later)) doings in
+    subst (λ e. Brings e at.stage.rest done.round.moments done.mid.rest) first done.runs.brings
+closes-not-runs {at} later (Stopped bytes sent decided stops doings _) done same =
+    let first : done.round.event ≡ HeardBytes bytes =
+    sym same ∙ ap (λ ds. event_or_end (events_in ds ++ later)) doings in
+    let brings : Brings (HeardBytes bytes) at.stage.rest done.round.moments done.mid.rest =
+    subst (λ e. Brings e at.stage.rest done.round.moments done.mid.rest) first done.runs.brings in
+    quit-not-passed (stops-quit decided stops)
+    (record {
+      elements = brings.0;
+      rest = done.mid.rest;
+      cut = brings.1.0;
+      good = subst (GoOn at.stage.history) brings.1.1 done.runs.good;
+    }) done.idle
 
 -- ---- all events
 
--- where a course begins: a stage, after so many events
-record CourseStart : Type 0 where
-  stage : WatchStage
-  count : ℕ
-
-record IsCourse (wish : Wish) (start : CourseStart) (rounds : List Round) (f : Final) : Type 0 where
+record IsCourse (at : CoursePlace) (rounds : List Round) (f : Final) : Type 0 where
   mid : WatchStage
-  runs : RunsAll start.stage rounds mid
-  closes : Closes wish mid (start.count + length rounds) f
+  runs : RunsAll at.stage rounds mid
+  closes : Closes (record at { stage = mid; count = at.count + length rounds }) f
 
 record AreSameCourses (one other : List Round) (a b : Final) : Type 0 where
   rounds_are : one ≡ other
   final_is : a ≡ b
 
 -- a course of no round ends where it begins, and one of several goes on after its first round
-closes-here : {wish : Wish} {start : CourseStart} {f : Final} → IsCourse wish start [] f
-    → Closes wish start.stage (start.count + 0) f
-closes-here {wish} {start} {f} x = subst (λ s. Closes wish s (start.count + 0) f) x.runs x.closes
+closes-here : {at : CoursePlace} {f : Final} → IsCourse at [] f → Closes at f
+closes-here {at} {f} x =
+    let here : at.count + 0 ≡ at.count = omega arith in
+    subst (λ n. Closes (record at { count = n }) f) here
+    (subst (λ s. Closes (record at { stage = s; count = at.count + 0 }) f) x.runs x.closes)
 
-course-rest : {wish : Wish} {start : CourseStart} {round : Round} {rounds : List Round} {f : Final}
-    (x : IsCourse wish start (round ∷ rounds) f)
-    → IsCourse wish (record { stage = x.runs.0; count = start.count + 1 }) rounds f
-course-rest {wish} {start} {round} {rounds} {f} x =
-    let one_more : start.count + length (round ∷ rounds) ≡ start.count + 1 + length rounds = omega arith in
+abbrev first-done : {at : CoursePlace} {round : Round} {rounds : List Round} {f : Final} → IsCourse at (round ∷ rounds) f
+    → RoundDone at
+first-done {at} {round} {rounds} x = record {
+  round = round;
+  mid = x.runs.0;
+  runs = x.runs.1.0;
+  idle = x.runs.1.1;
+  few = let few : at.count + length (round ∷ rounds) ≤ 2 ^ 40 = closes-few x.closes in omega (arith, few);
+}
+
+course-rest : {at : CoursePlace} {round : Round} {rounds : List Round} {f : Final}
+    (x : IsCourse at (round ∷ rounds) f)
+    → IsCourse (record at { stage = x.runs.0; count = at.count + 1 }) rounds f
+course-rest {at} {round} {rounds} {f} x =
+    let one_more : at.count + length (round ∷ rounds) ≡ at.count + 1 + length rounds = omega arith in
     record {
       mid = x.mid;
       runs = x.runs.1.2;
-      closes = subst (λ n. Closes wish x.mid n f) one_more x.closes;
+      closes = subst (λ n. Closes (record at { stage = x.mid; count = n }) f) one_more x.closes;
     }
 
-abbrev first-done : {wish : Wish} {start : CourseStart} {round : Round} {rounds : List Round} {f : Final}
-    → IsCourse wish start (round ∷ rounds) f → RoundDone start.stage round
-first-done x = record { mid = x.runs.0; runs = x.runs.1.0; idle = x.runs.1.1 }
-
-courses-once : {wish : Wish} {a b : Final} (later : List IoEvent) (one other : List Round) {start : CourseStart}
-    → IsCourse wish start one a → IsCourse wish start other b
-    → events_of other ++ events_in b.doings ≡ (events_of one ++ events_in a.doings) ++ later
+courses-once : (one other : List Round) {at : CoursePlace} {a b : Final} → IsCourse at one a → IsCourse at other b
+    → BeginWith (events_of other ++ events_in b.doings) (events_of one ++ events_in a.doings)
     → AreSameCourses one other a b
-courses-once later [] [] x y same =
-    record { rounds_are = refl; final_is = finals-once later (closes-here x) (closes-here y) same }
-courses-once later [] (round ∷ other) {start} x y same =
-    let few : start.count + length (round ∷ other) ≤ 2 ^ 40 = closes-few y.closes in
-    absurd (closes-not-runs later (closes-here x) (omega (arith, few)) (first-done y) (sym (ap event_or_end same)))
-courses-once {b = b} later (round ∷ one) [] {start} x y same =
-    let few : start.count + length (round ∷ one) ≤ 2 ^ 40 = closes-few x.closes in
-    absurd (closes-not-runs [] (closes-here y) (omega (arith, few)) (first-done x)
+courses-once [] [] x y same =
+    record { rounds_are = refl; final_is = finals-once (closes-here x) (closes-here y) same }
+courses-once [] (round ∷ other) x y (later, same) =
+    absurd (closes-not-runs later (closes-here x) (first-done y) (sym (ap event_or_end same)))
+courses-once (round ∷ one) [] {b = b} x y (later, same) =
+    absurd (closes-not-runs [] (closes-here y) (first-done x)
     (ap event_or_end (append-nil (events_in b.doings) ∙ same)))
-courses-once {wish} {b = b} later (round ∷ one) (round' ∷ other) {start} x y same =
-    let event : round.event ≡ round'.event = sym (ap event_or_end same) in
-    let next = runs-once (first-done x) (first-done y) event in
-    let second : IsCourse wish (record { stage = x.runs.0; count = start.count + 1 }) other b =
-    subst (λ s. IsCourse wish (record { stage = s; count = start.count + 1 }) other b) (sym next.mid_is)
-    (course-rest y) in
-    let rest = courses-once later one other (course-rest x) second (ap after_first same) in
+courses-once (round ∷ one) (round' ∷ other) {at} {b = b} x y (later, same) =
+    let next = runs-once (first-done x) (first-done y) (sym (ap event_or_end same)) in
+    let second : IsCourse (record at { stage = x.runs.0; count = at.count + 1 }) other b =
+    subst (λ s. IsCourse (record at { stage = s; count = at.count + 1 }) other b) (sym next.mid_is) (course-rest y) in
+    let rest = courses-once one other (course-rest x) second (later, ap after_first same) in
     record {
       rounds_are = ap (λ r. r ∷ one) next.round_is ∙ ap (λ rs. round' ∷ rs) rest.rounds_are;
       final_is = rest.final_is;
@@ -281,13 +289,8 @@ outcome_of wish out rounds f = record {
 record HasCome (wish : Wish) (out : Option (List ℕ)) (o : WatchOutcome) : Type 0 where
   rounds : List Round
   final : Final
-  course : IsCourse wish (record { stage = stage [] []; count = 0 }) rounds final
+  course : IsCourse (record { wish = wish; stage = stage [] []; count = 0 }) rounds final
   outcome_is : o ≡ outcome_of wish out rounds final
-
-not-begun : {wish : Wish} {end : WatchEnd} {t t' : Option (List IoEvent)} {o o' : Option (List ℕ)} → IsDecided end
-    → HasNotBegun wish end t t' o o' → ⊥
-not-begun decided none =
-    elim none.cause [ inl memory ↦ subst IsDecided memory.0 decided | inr lost ↦ subst IsDecided lost.0 decided ]
 
 has-come : {wish : Wish} {told : List IoEvent} {out : Option (List ℕ)} {o : WatchOutcome} → IsOutcome wish told out o
     → HasCome wish out o
@@ -302,13 +305,17 @@ has-come {wish} {told} {out} {o} is =
             course = record {
               mid = c.mid;
               runs = c.runs;
-              closes = subst (λ n. Closes wish c.mid n final) (omega arith) (closes is.decided c.ends);
+              closes = subst (λ n. Closes (record { wish = wish; stage = c.mid; count = n }) final) (omega arith)
+                  (closes is.decided c.ends);
             };
             outcome_is = ap (λ doings. record { end = o.end; doings = doings; out = o.out })
                 (append_cancel_left told o.doings all (same_Some (told ++ o.doings) (told ++ all) c.told))
                 ∙ ap (λ out. record { end = o.end; doings = all; out = out }) c.out;
           }
-      | inr none ↦ absurd (not-begun is.decided none)
+      | inr none ↦ absurd (elim none.cause [
+        | inl memory ↦ subst IsDecided memory.0 is.decided
+        | inr lost ↦ subst IsDecided lost.0 is.decided
+      ])
     ]
 
 course-events : {wish : Wish} {out : Option (List ℕ)} {o : WatchOutcome} (come : HasCome wish out o)
@@ -322,15 +329,18 @@ course-events {wish} come =
     ∙ ap (λ (ds : List IoEvent). ds ++ events_in come.final.doings)
     (rounds-heard wish (stage [] []) come.course.mid come.rounds come.course.runs))))
 
-pub outcome-once : {wish : Wish} {told : List IoEvent} {out : Option (List ℕ)} {one other : WatchOutcome} (later : List
-    IoEvent)
-    → IsOutcome wish told out one → IsOutcome wish told out other
-    → events_in other.doings ≡ events_in one.doings ++ later → one ≡ other
-outcome-once {wish} {out} {one} {other} later is is' same =
-    let x = has-come is in
-    let y = has-come is' in
-    let once = courses-once later x.rounds y.rounds x.course y.course
-    (sym (course-events y) ∙ (same ∙ ap (λ (ds : List IoEvent). ds ++ later) (course-events x))) in
+-- an outcome that the events decided
+pub record Outcome (wish : Wish) (told : List IoEvent) (out : Option (List ℕ)) : Type 0 where
+  pub outcome : WatchOutcome
+  pub is : IsOutcome wish told out outcome
+
+pub outcome-once : {wish : Wish} {told : List IoEvent} {out : Option (List ℕ)} (one other : Outcome wish told out)
+    → BeginWith (events_in other.outcome.doings) (events_in one.outcome.doings) → one.outcome ≡ other.outcome
+outcome-once {wish} {out = out} one other (later, same) =
+    let x = has-come one.is in
+    let y = has-come other.is in
+    let once = courses-once x.rounds y.rounds x.course y.course
+    (later, sym (course-events y) ∙ (same ∙ ap (λ (ds : List IoEvent). ds ++ later) (course-events x))) in
     x.outcome_is
     ∙ (ap (λ rounds. outcome_of wish out rounds x.final) once.rounds_are
     ∙ (ap (outcome_of wish out y.rounds) once.final_is ∙ sym y.outcome_is))

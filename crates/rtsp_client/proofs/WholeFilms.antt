@@ -50,23 +50,23 @@ film-frames film identity small =
     let P : List PictureUnit → Type 0 = λ us. AreFrames identity.ssrc (length film.units.items)
     (frames_among (pieces_of starts us) (blocks_from run 0 0 (pieces_of starts us))) in
     subst P (sym (film-units film))
-    (units-frames (length film.bytes.items) run starts film.units.items small (laid-film film) 0 0)
+    (units-frames (length film.bytes.items) run starts film.units.items small (laid-film film))
 
 -- ---- the first frame
 
 -- a payload that begins where a sequence header does, and goes past it, begins a film
-begins-film : {film : List ℕ} {rate from : ℕ} (packet : Packet) → BeginsSequence film rate from → packet.from ≡ from
-    → from + 12 ≤ packet.to → (1 ≤ rate) × (rate ≤ 8)
+begins-film : {film : List ℕ} {rate : ℕ} (packet : Packet) → BeginsSequence film rate packet.from
+    → packet.from + 12 ≤ packet.to → (1 ≤ rate) × (rate ≤ 8)
     → (begins_film (payload film packet) ≡ true) × (rate_code (payload film packet) ≡ rate)
-begins-film {film} {rate} {from} packet begins here long bounds =
+begins-film {film} {rate} packet begins long bounds =
+    let from = packet.from in
     let its = payload film packet in
     let many : length its ≡ min (packet.to - packet.from) (length (drop packet.from film)) =
     length-take (packet.to - packet.from) (drop packet.from film) in
     let rest : length (drop packet.from film) ≡ length film - packet.from = length-drop packet.from film in
-    let twelve : 12 ≤ length its = omega (arith, many, rest, here, long, begins.fits) in
+    let twelve : 12 ≤ length its = omega (arith, many, rest, long, begins.fits) in
     let byte : (k : ℕ) → k < 12 → get_or its k 0 ≡ get_or film (from + k) 0 =
-    λ k few. get_or-take (packet.to - packet.from) (drop packet.from film) k 0 (omega (arith, few, here, long))
-    ∙ (get_or-drop packet.from film k 0 ∙ ap (λ n. get_or film (n + k) 0) here) in
+    λ k few. get_or-take (packet.to - packet.from) (drop packet.from film) k 0 (omega (arith, few, long)) ∙ get_or-drop packet.from film k 0 in
     let same : (k : ℕ) → k < 12 → get_or film (from + k) 0 ≡ get_or film (from + k) 256 =
     λ k few. get_or_default film (from + k) 0 256 (omega (arith, few, begins.fits)) in
     let zero_is : get_or its 0 0 ≡ 0 =
@@ -91,6 +91,7 @@ pub record SentFilm : Type 0 where
   pub film : Film
   pub identity : Identity
   pub uncut : HeadsUncut
+  pub numbers : AreConsecutive identity.sequence (frames_of_film film identity)
   pub small : identity.ssrc < 2 ^ 32
 
 abbrev frames_sent : SentFilm → List (List ℕ)
@@ -129,11 +130,12 @@ film-first s = by-units film.units.items refl
         let laid = subst L (sym are) (laid-film film) in
         let there = has-packet starts unit in
         let first = first-frame run starts unit items there in
-        let long = first-long uncut laid.0.1 there.are in
+        let long = first-long there uncut laid.0.1 in
         let r = read_after [] film.bytes.items in
         let bounds = film-rate r film.grammar.accepted in
-        let good = begins-film there.packet (film-begins film.grammar unit at) long.0
-        (omega (arith, first-head film unit at, long.1))
+        let good = begins-film there.packet
+        (subst (BeginsSequence film.bytes.items film.rate) (sym long.0) (film-begins film.grammar unit at))
+        (omega (arith, first-head film unit at, long.0, long.1))
         (omega (arith, bounds.0, film.grammar.rate), omega (arith, bounds.1, film.grammar.rate)) in
         let frames_are : frames_of_film film identity ≡ first.block ∷ first.more =
         ap (λ us. frames_among (pieces_of starts us) (blocks_from run 0 0 (pieces_of starts us)))
@@ -210,10 +212,10 @@ units-known {h} s rest awaits are some =
 -- ---- a film's next frame
 
 -- these frames were received of a film, from its first one on, and this one is the next
-record IsNext (s : SentFilm) (h : History) (block : List ℕ) : Type 0 where
-  rest : List (List ℕ)
-  awaits : AwaitsFilm s.film h
-  are : frames_sent s ≡ frames_heard h ++ block ∷ rest
+pub record IsNext (s : SentFilm) (h : History) (block : List ℕ) : Type 0 where
+  pub rest : List (List ℕ)
+  pub awaits : AwaitsFilm s.film h
+  pub are : frames_sent s ≡ frames_heard h ++ block ∷ rest
 
 -- units are missing then
 open-yet : {h : History} {block : List ℕ} (s : SentFilm) → IsNext s h block → is_complete h ≡ false
@@ -255,24 +257,20 @@ first-from {h} {block} s next there =
     from-at [] (first_frame h) (begun.more ++ block ∷ next.rest)
     (subst (AllFrom s.identity.ssrc) whole (sent-frames s).all)
 
--- the frames of a film have sequence numbers in order
-abbrev pub AreNumbered : SentFilm → Type 0
-AreNumbered s = AreConsecutive s.identity.sequence (frames_of_film s.film s.identity)
-
-numbers-heard : {h : History} {block : List ℕ} (s : SentFilm) → AreNumbered s → IsNext s h block
+numbers-heard : {h : History} {block : List ℕ} (s : SentFilm) → IsNext s h block
     → AreConsecutive s.identity.sequence (frames_heard h ++ block ∷ [])
-numbers-heard {h} {block} s numbers next =
+numbers-heard {h} {block} s next =
     let parts : frames_sent s ≡ (frames_heard h ++ block ∷ []) ++ next.rest =
     next.are ∙ sym (append_assoc (frames_heard h) (block ∷ []) next.rest) in
     let count : length (frames_sent s) ≡ length (frames_heard h ++ block ∷ []) + length next.rest =
     ap (λ (l : List (List ℕ)). length l) parts ∙ length-append (frames_heard h ++ block ∷ []) next.rest in
     λ k few. ap sequence_of (sym (get_or_append_left (frames_heard h ++ block ∷ []) next.rest [] k few)
     ∙ ap (λ l. get_or l k []) (sym parts))
-    ∙ numbers k (omega (arith, few, count))
+    ∙ s.numbers k (omega (arith, few, count))
 
-next-good : {h : History} {block : List ℕ} (s : SentFilm) → AreNumbered s → IsNext s h block
+pub next-good : {h : History} {block : List ℕ} (s : SentFilm) → IsNext s h block
     → is_good_frame h block ≡ true
-next-good {h} {block} s numbers next =
+next-good {h} {block} s next =
     let from = from-at (frames_heard h) block next.rest
     (subst (AllFrom s.identity.ssrc) next.are (sent-frames s).all) in
     let missing = open-yet s next in
@@ -284,18 +282,12 @@ next-good {h} {block} s numbers next =
       | inr there ↦
           let begun : 0 < frames h = omega (arith, there) in
           next-accepted h block s.identity.sequence next.awaits.playing missing begun from.is_read
-          (from.source_is ∙ sym (first-from s next begun).source_is) (numbers-heard s numbers next)
+          (from.source_is ∙ sym (first-from s next begun).source_is) (numbers-heard s next)
     ]
-
-pub frame-accepted : (s : SentFilm) → AreNumbered s → (h : History) (block : List ℕ) (rest : List (List ℕ))
-    → AwaitsFilm s.film h → frames_of_film s.film s.identity ≡ frames_heard h ++ block ∷ rest
-    → is_good_frame h block ≡ true
-frame-accepted s numbers h block rest awaits are =
-    next-good s numbers (record { rest = rest; awaits = awaits; are = are })
 
 -- ---- and its end
 
-film-complete : {h : History} (s : SentFilm) → AwaitsFilm s.film h → frames_sent s ≡ frames_heard h
+pub film-complete : {h : History} (s : SentFilm) → AwaitsFilm s.film h → frames_sent s ≡ frames_heard h
     → is_complete h ≡ true
 film-complete {h} s awaits are =
     let first = film-first s in
@@ -308,30 +300,32 @@ film-complete {h} s awaits are =
     and_from _ _ (lt-ltb 0 (frames h) some) (eq-eqb (length (sizes h)) (units h) (sizes_are ∙ sym known))
 
 -- a client that waits for a film does so after events that are no reply
-awaits-on : {film : Film} {h : History} (event : ClientEvent) → HaveNoReply (event ∷ []) → AwaitsFilm film h
+pub awaits-on : {film : Film} {h : History} (event : ClientEvent) → HaveNoReply (event ∷ []) → AwaitsFilm film h
     → AwaitsFilm film (event ∷ h)
 awaits-on (Reply m) none awaits = absurd none
 awaits-on _ none awaits = record { playing = awaits.playing; end_is = awaits.end_is }
 
 -- the frames of events, in order, each accepted
-pub all-accepted : (s : SentFilm) → AreNumbered s → (h : History) (events : List ClientEvent) (rest : List (List ℕ))
-    → AwaitsFilm s.film h → HaveNoReply events
-    → frames_of_film s.film s.identity ≡ (frames_heard h ++ frames_of events) ++ rest → GoOn h events
-all-accepted s numbers h [] rest awaits none are = tt
-all-accepted s numbers h (Reply m ∷ events) rest awaits none are = absurd none
-all-accepted s numbers h (Frame b ∷ events) rest awaits none are = (
-  next-good s numbers (record {
+pub all-accepted : (s : SentFilm) (h : History) (events : List ClientEvent) → AwaitsFilm s.film h → HaveNoReply events
+    → (rest : List (List ℕ)) × (frames_of_film s.film s.identity ≡ (frames_heard h ++ frames_of events) ++ rest)
+    → GoOn h events
+all-accepted s h [] awaits none are = tt
+all-accepted s h (Reply m ∷ events) awaits none are = absurd none
+all-accepted s h (Frame b ∷ events) awaits none (rest, are) = (
+  next-good s (record {
     rest = frames_of events ++ rest;
     awaits = awaits;
     are = are ∙ append_assoc (frames_heard h) (b ∷ frames_of events) rest;
   }),
-  all-accepted s numbers (Frame b ∷ h) events rest (awaits-on (Frame b) tt awaits) none
-      (are ∙ ap (λ (l : List (List ℕ)). l ++ rest) (sym (append_assoc (frames_heard h) (b ∷ []) (frames_of events)))),
+  all-accepted s (Frame b ∷ h) events (awaits-on (Frame b) tt awaits) none (
+    rest,
+    are ∙ ap (λ (l : List (List ℕ)). l ++ rest) (sym (append_assoc (frames_heard h) (b ∷ []) (frames_of events))),
+  ),
 )
-all-accepted s numbers h (Report b ∷ events) rest awaits none are =
-    (tt, all-accepted s numbers (Report b ∷ h) events rest (awaits-on (Report b) tt awaits) none are)
-all-accepted s numbers h (Slot t cut ∷ events) rest awaits none are =
-    (tt, all-accepted s numbers (Slot t cut ∷ h) events rest (awaits-on (Slot t cut) tt awaits) none are)
+all-accepted s h (Report b ∷ events) awaits none are =
+    (tt, all-accepted s (Report b ∷ h) events (awaits-on (Report b) tt awaits) none are)
+all-accepted s h (Slot t cut ∷ events) awaits none are =
+    (tt, all-accepted s (Slot t cut ∷ h) events (awaits-on (Slot t cut) tt awaits) none are)
 
 -- TEARDOWN is sent after the last frame, and nothing before
 pub teardown-last : (s : SentFilm) (wish : Wish) (h : History) (block : List ℕ) → AwaitsFilm s.film h
@@ -341,23 +335,16 @@ teardown-last s wish h block awaits are =
     cond-true (is_complete (Frame block ∷ h)) (teardown_text wish (session h)) []
     (film-complete {h = Frame block ∷ h} s (awaits-on (Frame block) tt awaits) are)
 
-pub nothing-before : (s : SentFilm) (wish : Wish) (h : History) (block next : List ℕ) (rest : List (List ℕ))
-    → AwaitsFilm s.film h → frames_of_film s.film s.identity ≡ frames_heard h ++ block ∷ next ∷ rest
+pub nothing-before : {h : History} {block next : List ℕ} (s : SentFilm) (wish : Wish) → IsNext s (Frame block ∷ h) next
     → request_after wish h (Frame block) ≡ []
-nothing-before s wish h block next rest awaits are =
-    let more : IsNext s (Frame block ∷ h) next = record {
-      rest = rest;
-      awaits = awaits-on (Frame block) tt awaits;
-      are = are ∙ sym (append_assoc (frames_heard h) (block ∷ []) (next ∷ rest));
-    } in
+nothing-before {h} {block} s wish more =
     cond-false (is_complete (Frame block ∷ h)) (teardown_text wish (session h)) [] (open-yet s more)
 
 -- with the reply to TEARDOWN the watching is done
-pub film-done : {h : History} {message : List ℕ} (s : SentFilm) (wish : Wish) → AwaitsFilm s.film h
-    → frames_of_film s.film s.identity ≡ frames_heard h → replies h ≡ 2 → IsAnswer message 3 200
-    → Gives wish h (Reply message) (Done (watched_in wish h))
-film-done {h} {message} s wish awaits are two answer =
-    let awaited : is_awaited h ≡ true = or_right (nat_lt (replies h) 2) (is_complete h) (film-complete s awaits are) in
+pub film-done : {h : History} {message : List ℕ} (wish : Wish) → is_complete h ≡ true → replies h ≡ 2
+    → IsAnswer message 3 200 → Gives wish h (Reply message) (Done (watched_in wish h))
+film-done {h} {message} wish complete two answer =
+    let awaited : is_awaited h ≡ true = or_right (nat_lt (replies h) 2) (is_complete h) complete in
     let fields : has_fields h message ≡ true = ap (λ n. cond (n == 0) (is_some (setup_session message))
     (cond (n == 1) (is_some (play_range message) && is_some (play_start message)) true)) two in
     let third : 3 ≡ replies h + 1 = omega (arith, two) in

@@ -1,11 +1,13 @@
 use Rattle.std.proofs.Common.{◌≡◌, ◌++◌, take, ap, ◌∙◌, arith}
+use Rattle.std.proofs.lemmas.Bool.{cond-false, le-ltb}
 use Rattle.std.proofs.lemmas.List.{length-take}
-use Rattle.std.proofs.lemmas.Result.{IfErr-weaker}
+use Rattle.interleave.specs.declared.demux.TheConstants.{MAX_WAITING_BYTES}
+use Rattle.std.proofs.lemmas.Result.{IfErr-weaker, on_ok_weaker}
 use Rattle.rtsp_client.specs.Answers.{cut_bytes}
 use Rattle.rtsp_client.specs.ControlFlows.{as_result}
 use Rattle.rtsp_client.proofs.EventCourses.{ended-bytes, ended-peer, round-bytes, round-slot}
-use Rattle.rtsp_client.proofs.Outcomes.{on-ok}
-use Rattle.rtsp_client.proofs.ElementSteps.{keeps-moved, put-all}
+use Rattle.rtsp_client.proofs.Outcomes.{both-ok}
+use Rattle.rtsp_client.proofs.ElementSteps.{keeps-moved}
 use Rattle.rtsp_client.proofs.clients.Client.hear.Goals as goal
 use Rattle.rtsp_client.proofs.clients.Client.hear.Goals.{After-put}
 
@@ -18,6 +20,7 @@ returns-in-Slot-clause-on g c =
     (λ h k.
     round-slot
     (record {
+      cut = _;
       keeps = k;
       slot_lasts = omega (arith, c.requires.wish.some_units);
       picture_lasts = c.hear_slot.ensures.timed;
@@ -29,17 +32,18 @@ returns-in-Slot-clause-on g c =
 grown : (g : _) (c : After-put g)
     → c.put.new.self ≡ c.args.self.now.input ++ take c.in-Bytes.count c.args.bytes.now
 grown g c =
-    put-all c.args.self.now.input (take c.in-Bytes.count c.args.bytes.now) c.put.new.self _ c.put.ensures.fault
-    (omega (arith, c.requires.waits, c.requires.short, length-take c.in-Bytes.count c.args.bytes.now))
     c.put.ensures.waiting
+    ∙ cond-false _ _ _ (c.put.ensures.fault ∙ le-ltb MAX_WAITING_BYTES _
+    (omega (arith, c.requires.waits, c.requires.short, length-take c.in-Bytes.count c.args.bytes.now)))
 
 pub returns-in-Bytes-clause-on : goal.returns-in-Bytes-clause-on
 returns-in-Bytes-clause-on g c =
     rw c.in-Bytes.is
     (λ h k.
-    on-ok (as_result c.process_input.result)
+    on_ok_weaker (as_result c.process_input.result) (λ both. round-bytes both.0 both.1)
+    (both-ok _ _ (as_result c.process_input.result)
     (rw (← grown g (goal.at.returns-in-Bytes-clause-on g c).After-put) (c.process_input.ensures.taken h (keeps-moved k)))
-    c.process_input.ensures.idle (λ taken idle. round-bytes taken idle))
+    c.process_input.ensures.idle))
 
 pub returns-in-Bytes-clause-ended : goal.returns-in-Bytes-clause-ended
 returns-in-Bytes-clause-ended g c =

@@ -10,7 +10,7 @@ use Rattle.rtsp_client.proofs.clients.Client.take_play.Goals as goal
 pub returns-in_err-end_ms-clause-ended : goal.returns-in_err-end_ms-clause-ended
 returns-in_err-end_ms-clause-ended c =
     let p = err_from_is_err_and c.from_residual.result c.from_residual.ensures.1 in
-    let lacks = ok-or-err (BadReply 2) c.ok_or.ensures.value c.ok_or.ensures.ok_part (c.in_err-end_ms.was {u = tt}) in
+    let lacks = ok-or-err _ (BadReply 2) (sym (c.in_err-end_ms.was {u = tt}) ∙ c.ok_or.ensures.value) in
     rw (p.1, p.2, lacks.1)
     (λ told out h k.
     let range : play_range (take c.args.length c.args.self.now.input) ≡ None =
@@ -22,8 +22,7 @@ returns-in_err-end_ms-clause-ended c =
 pub returns-in_err-start-clause-ended : goal.returns-in_err-start-clause-ended
 returns-in_err-start-clause-ended c =
     let p = err_from_is_err_and c.from_residual-in_err-start.result c.from_residual-in_err-start.ensures.1 in
-    let lacks =
-    ok-or-err (BadReply 2) c.ok_or-2.ensures.value c.ok_or-2.ensures.ok_part (c.in_err-start.was {u = tt}) in
+    let lacks = ok-or-err _ (BadReply 2) (sym (c.in_err-start.was {u = tt}) ∙ c.ok_or-2.ensures.value) in
     rw (p.1, p.2, lacks.1)
     (λ told out h k.
     let range : play_range (take c.args.length c.args.self.now.input) ≡ Some c.in_ok-end_ms.end_ms =

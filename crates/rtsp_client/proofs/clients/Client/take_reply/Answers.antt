@@ -1,7 +1,7 @@
-use Rattle.std.proofs.Common.{ℕ, List, take, subst, arith}
+use Rattle.std.proofs.Common.{ℕ, List, take, refl, subst, arith, inl, inr}
 use Rattle.rtsp_client.specs.ClientState.{IsAwaited}
 use Rattle.rtsp_client.proofs.InputPrefixes.{whole-request}
-use Rattle.rtsp_client.proofs.ReplyResults.{bad-reply, refused-reply, watch-done}
+use Rattle.rtsp_client.proofs.ReplyResults.{bad-reply, gives, orderly, watch-done}
 use Rattle.rtsp_client.proofs.clients.Client.take_reply.Goals as goal
 
 pub awaited_code-requires : goal.awaited_code-requires
@@ -20,10 +20,9 @@ returns-in_default-clause-ended g c = λ out h k.
 
 pub returns-then-code-ne200-clause-ended : goal.returns-then-code-ne200-clause-ended
 returns-then-code-ne200-clause-ended g c = λ out h k.
-    refused-reply k
-    (subst (λ (i : List ℕ). IsAwaited c.args.self.now (take c.args.length i) c.in-Some.code)
-    c.waiting.ensures c.in-Some.ensures)
-    c.if-code-ne200.true
+    let heard = subst (λ (i : List ℕ). IsAwaited c.args.self.now (take c.args.length i) c.in-Some.code)
+    c.waiting.ensures c.in-Some.ensures in
+    gives _ (inr (inl (c.in-Some.code, ((orderly k heard, c.if-code-ne200.true), refl))))
 
 pub returns-in-0-clause-passed : goal.returns-in-0-clause-passed
 returns-in-0-clause-passed g c = rw c.flow_of.ensures (λ out h k. c.take_setup.ensures.passed out h k)

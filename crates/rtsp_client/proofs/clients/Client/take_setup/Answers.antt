@@ -1,4 +1,4 @@
-use Rattle.std.proofs.Common.{◌≡◌, [], None, take, rules, refl, sym, ap, subst, ◌∙◌}
+use Rattle.std.proofs.Common.{◌≡◌, [], None, Some, take, rules, refl, sym, ap, subst, ◌∙◌}
 use Rattle.std.specs.Prelude.{option_map}
 use Rattle.std.specs.Result.{result_ok}
 use Rattle.std.proofs.lemmas.Result.{err_from_is_err_and}
@@ -17,10 +17,11 @@ use Rattle.rtsp_client.proofs.clients.Client.take_setup.Goals as goal
 use Rattle.rtsp_client.proofs.clients.Client.take_setup.Goals.{After-play_request}
 
 -- the reply is awaited, and names a session
-reply : (g : _) (c : After-play_request g) (h : History) → HistoryInvariant c.args.wish.now h c.args.self.now
+abbrev reply : (g : _) (c : After-play_request g) (h : History) → HistoryInvariant c.args.wish.now h c.args.self.now
     → SetupReply (record { wish = c.args.wish.now; history = h; client = c.args.self.now })
-    (take c.args.length c.args.self.now.input) c.in_ok-session.session.now
+    (take c.args.length c.args.self.now.input)
 reply g c h k = record {
+  id = c.in_ok-session.session.now;
   keeps = k;
   reply = record { count_is = c.requires.first; awaited = c.requires.good };
   session_is = ap (λ i. setup_session (take c.args.length i)) (sym c.waiting.ensures)
@@ -31,7 +32,7 @@ reply g c h k = record {
 pub returns-in_err-session-clause-ended : goal.returns-in_err-session-clause-ended
 returns-in_err-session-clause-ended g c =
     let p = err_from_is_err_and c.from_residual.result c.from_residual.ensures.1 in
-    let lacks = ok-or-err (BadReply 1) c.ok_or.ensures.value c.ok_or.ensures.ok_part (c.in_err-session.was {u = tt}) in
+    let lacks = ok-or-err _ (BadReply 1) (sym (c.in_err-session.was {u = tt}) ∙ c.ok_or.ensures.value) in
     rw (p.1, p.2, lacks.1)
     (λ out h k.
     let here : setup_session (take c.args.length c.waiting.result.now) ≡ None =
@@ -73,6 +74,6 @@ returns-clause-passed g c = λ out h k.
     let sent : g.K.Link.told c.send.new.self
     ≡ told_more (g.K.Link.told c.args.link.now) (sends c.as_slice.result.now) = c.in_ok-send.ensures.whole in
     setup-done (reply g (goal.at.returns-clause-passed g c).After-play_request h k)
-    (record { replies = first-reply c.args.self.now c.requires.first; session = search rules; watching = refl })
+    (record { client = record c.args.self.now { session = Some c.in_ok-kept.kept }; replies = first-reply c.args.self.now c.requires.first; session = search rules; watching = refl })
     (observed-sent _ _ (play_text c.args.wish.now c.in_ok-session.session.now)
     (sent ∙ ap (λ x. told_more (g.K.Link.told c.args.link.now) (sends x)) text))
