@@ -28,12 +28,12 @@ use Rattle.conn.proofs.Journals.{agree_then, terms_same}
 use Rattle.conn.specs.InputSteps.{Outcome, Unasked, SentPart, Film, Text, Stage, ElementStep, Passed, Answered}
 use Rattle.conn.specs.InputSteps.{IsNext, IsPassed, Takes, TakesAll, after_reply, due_parts, entry_in, parts_bytes}
 use Rattle.conn.specs.InputSteps.{reply_parts, slot_parts, stage}
-use Rattle.conn.specs.EventSteps.{Comes, Ends, Unheard, Overfull, AtElement, InSlot, InReply, IsIdle, IsStopped}
+use Rattle.conn.specs.EventSteps.{Comes, Ends, Unheard, Overfull, AtElement, InSlot, InReply, IsStopped}
 use Rattle.conn.specs.EventSteps.{IsUnheard, Round, Runs, RunsAll, ending_bytes, ending_doings, ending_events}
 use Rattle.conn.specs.EventSteps.{ending_outcomes, entries_in, round_bytes, round_outcomes, rounds_doings}
 use Rattle.conn.specs.EventSteps.{rounds_outcomes, taking_bytes, taking_outcomes, takings_bytes, takings_outcomes}
 use Rattle.conn.specs.Observations.{AreNoted, HasAsked, HasFailedSend, HasHandledEvent, HasCourse, HasEnded}
-use Rattle.conn.specs.Observations.{HasLostReply, HasTakenSlot, HasRound, HasRun, HasTaken, HasProcessedInput, IsSent}
+use Rattle.conn.specs.Observations.{HasLostReply, HasRound, HasRun, HasTaken, HasProcessedInput, IsSent}
 use Rattle.conn.specs.Observations.{Observed, observed}
 use Rattle.conn.proofs.EventPremises.{RequestInFront}
 use Rattle.conn.proofs.JoinedLists.{joined-append}
@@ -42,15 +42,13 @@ use Rattle.conn.proofs.JoinedLists.{joined-append}
 pub sent_none : (told : Option (List IoEvent)) → IsSent told [] told
 sent_none told = sym (told_more-nil told)
 
-pub sent_on : {b c : Option (List IoEvent)} (a : Option (List IoEvent)) (xs ys : List ℕ) → IsSent a xs b
-    → IsSent b ys c → IsSent a (xs ++ ys) c
-sent_on {c} a xs ys first second =
-    second ∙ ap (λ t. told_more t (sends ys)) first ∙ told_more-append a (sends xs) (sends ys)
-    ∙ ap (told_more a) (sym (map-append Sent xs ys))
+pub sent_on : (a : Option (List IoEvent)) (xs ys : List ℕ)
+    → told_more (told_more a (sends xs)) (sends ys) ≡ told_more a (sends (xs ++ ys))
+sent_on a xs ys = told_more-append a (sends xs) (sends ys) ∙ ap (told_more a) (sym (map-append Sent xs ys))
 
 -- what the seat made
 pub entries_in-append : (xs ys : List Outcome) → entries_in (xs ++ ys) ≡ entries_in xs ++ entries_in ys
-entries_in-append = joined-append entry_in entries_in refl (λ x xs. refl)
+entries_in-append = joined-append (record { part = entry_in; all = entries_in; none = refl; one = λ x xs. refl })
 
 pub noted_none : (seat : SeatState) → AreNoted seat seat []
 noted_none seat = record { mine = sym (append-nil seat.mine); seat = seat_none seat; agree = omega arith }
@@ -90,11 +88,11 @@ takes_on a later [] first = subst (λ s. TakesAll s later.takings later.new) fir
 takes_on a later (x ∷ xs) first = (first.0, (first.1.0, takes_on first.0 later xs first.1.1))
 
 pub takings_bytes-append : (xs ys : List ElementStep) → takings_bytes (xs ++ ys) ≡ takings_bytes xs ++ takings_bytes ys
-takings_bytes-append = joined-append taking_bytes takings_bytes refl (λ x xs. refl)
+takings_bytes-append = joined-append (record { part = taking_bytes; all = takings_bytes; none = refl; one = λ x xs. refl })
 
 takings_outcomes-append : (xs ys : List ElementStep)
     → takings_outcomes (xs ++ ys) ≡ takings_outcomes xs ++ takings_outcomes ys
-takings_outcomes-append = joined-append taking_outcomes takings_outcomes refl (λ x xs. refl)
+takings_outcomes-append = joined-append (record { part = taking_outcomes; all = takings_outcomes; none = refl; one = λ x xs. refl })
 
 pub taken_none : (a : Observed) → HasTaken a a
 taken_none a = record { takings = []; takes = refl; sent = sent_none a.told; noted = noted_none a.seat }
@@ -115,7 +113,8 @@ taken_on {a} {b} {c} first second = record {
       (record { old = b.stage; new = c.stage; takings = second.takings; takes = second.takes }) first.takings
       first.takes;
   sent = subst (λ bs. IsSent a.told bs c.told) (sym (takings_bytes-append first.takings second.takings))
-      (sent_on a.told (takings_bytes first.takings) (takings_bytes second.takings) first.sent second.sent);
+      (second.sent ∙ ap (λ t. told_more t (sends (takings_bytes second.takings))) first.sent
+      ∙ sent_on a.told (takings_bytes first.takings) (takings_bytes second.takings));
   noted = subst (λ os. AreNoted a.seat c.seat os) (sym (takings_outcomes-append first.takings second.takings))
       (noted_on first.noted second.noted);
 }
@@ -142,12 +141,13 @@ up_on (Some end) a b c first up =
     ]
 
 -- an event came: what was sent in its slot, and what was then answered is noted
-pub record EventSeen (event : IoEvent) (a b : Observed) : Type 0 where
+pub record EventSeen (event : IoEvent) (a : Observed) : Type 0 where
+  pub opened : Observed
   pub due : List SentPart
   pub halt : Outcome
-  pub comes : Comes a.stage event due halt b.stage
-  pub sent : IsSent a.told (parts_bytes due) b.told
-  pub noted : AreNoted a.seat b.seat (halt ∷ [])
+  pub comes : Comes a.stage event due halt opened.stage
+  pub sent : IsSent a.told (parts_bytes due) opened.told
+  pub noted : AreNoted a.seat opened.seat (halt ∷ [])
 
 -- with what was processed after it
 record RoundSeen (event : IoEvent) (a c : Observed) : Type 0 where
@@ -157,17 +157,18 @@ record RoundSeen (event : IoEvent) (a c : Observed) : Type 0 where
   sent : IsSent a.told (round_bytes round) c.told
   noted : AreNoted a.seat c.seat (round_outcomes round)
 
-round_seen : {event : IoEvent} {a b c : Observed} → EventSeen event a b → HasTaken b c → RoundSeen event a c
-round_seen {event} {a} {b} seen taken = record {
+round_seen : {event : IoEvent} {a c : Observed} (seen : EventSeen event a) → HasTaken seen.opened c → RoundSeen event a c
+round_seen {event} {a} seen taken = record {
   round = record { event = event; due = seen.due; halt = seen.halt; takings = taken.takings };
   event_is = refl;
-  runs = record { opened = b.stage; comes = seen.comes; takes = taken.takes };
-  sent = sent_on a.told (parts_bytes seen.due) (takings_bytes taken.takings) seen.sent taken.sent;
+  runs = record { opened = seen.opened.stage; comes = seen.comes; takes = taken.takes };
+  sent = taken.sent ∙ ap (λ t. told_more t (sends (takings_bytes taken.takings))) seen.sent
+      ∙ sent_on a.told (parts_bytes seen.due) (takings_bytes taken.takings);
   noted = noted_on seen.noted taken.noted;
 }
 
-event_up : {event : IoEvent} {a b : Observed} → EventSeen event a b → (result : Option ConnEnd) (c : Observed) →
-    HasProcessedInput result b c → HasHandledEvent result event a c
+pub event_up : {event : IoEvent} {a : Observed} (seen : EventSeen event a) (result : Option ConnEnd) (c : Observed)
+    → HasProcessedInput result seen.opened c → HasHandledEvent result event a c
 event_up seen None c up =
     let its = round_seen seen up.0 in
     record {
@@ -188,7 +189,8 @@ event_up {a = a} seen (Some end) c up =
             ending = InReply its.round fails.message fails.outcome fails.front;
             event_is = ap (λ e. e ∷ []) its.event_is;
             ends = (lost.0, record { mid = fails.mid.stage; runs = its.runs; fails = fails.fails });
-            sent = sent_on a.told (round_bytes its.round) fails.front its.sent fails.sent;
+            sent = fails.sent ∙ ap (λ t. told_more t (sends fails.front)) its.sent
+                ∙ sent_on a.told (round_bytes its.round) fails.front;
             noted = noted_on its.noted fails.noted;
           }
       | inr stopped ↦
@@ -201,37 +203,6 @@ event_up {a = a} seen (Some end) c up =
             noted = its.noted;
           }
     ]
-
--- bytes came and wait, and nothing else was done
-pub record BytesSeen (bytes : List ℕ) (a b : Observed) : Type 0 where
-  pub few : length a.stage.input + length bytes ≤ MAX_WAITING_BYTES
-  pub waits : b.stage ≡ stage a.stage.session (a.stage.input ++ bytes)
-  pub told : b.told ≡ a.told
-  pub seat : b.seat ≡ a.seat
-
--- bytes came
-pub bytes_up : {b : Observed} {bytes : List ℕ} {a : Observed} (result : Option ConnEnd) (c : Observed)
-    → BytesSeen bytes a b → HasProcessedInput result b c → HasHandledEvent result (HeardBytes bytes) a c
-bytes_up {b} {a} result c seen up =
-    event_up (record {
-      due = [];
-      halt = Unasked;
-      comes = (refl, refl, seen.few, seen.waits);
-      sent = seen.told ∙ sent_none a.told;
-      noted = subst (λ s. AreNoted a.seat s (Unasked ∷ [])) (sym seen.seat) (noted_unasked a.seat);
-    }) result c up
-
--- a slot began
-pub slot_up : {slot : ℕ} {a b : Observed} (result : Option ConnEnd) (c : Observed) → HasTakenSlot a b slot
-    → HasProcessedInput result b c → HasHandledEvent result (HeardSlot slot) a c
-slot_up {slot} {a} {b} result c passed up =
-    event_up (record {
-      due = passed.parts;
-      halt = passed.halt;
-      comes = (passed.input, passed.stepped);
-      sent = passed.sent;
-      noted = passed.noted;
-    }) result c up
 
 pub slot_broken : (slot : ℕ) (a c : Observed) → HasFailedSend a c slot → HasHandledEvent (Some LinkFault) (HeardSlot
     slot) a c
@@ -272,17 +243,11 @@ goes_on (Bytes n) waiting c has =
     ]
 
 -- events, one after another
-runs_on : {b c : Stage} {round : Round} (a : Stage) (rounds : List Round) → RunsAll a rounds b → Runs b round c
-    → IsIdle c → RunsAll a (rounds ++ round ∷ []) c
-runs_on {c} {round} a [] runs next idle = (c, (subst (λ s. Runs s round c) runs next, idle, refl))
-runs_on {b} {c} {round} a (first ∷ rounds) runs next idle =
-    (runs.0, (runs.1.0, runs.1.1, runs_on {b = b} {c = c} {round = round} runs.0 rounds runs.1.2 next idle))
-
 rounds_doings-append : (xs ys : List Round) → rounds_doings (xs ++ ys) ≡ rounds_doings xs ++ rounds_doings ys
-rounds_doings-append = joined-append (λ x. x.event ∷ sends (round_bytes x)) rounds_doings refl (λ x xs. refl)
+rounds_doings-append = joined-append (record { part = λ x. x.event ∷ sends (round_bytes x); all = rounds_doings; none = refl; one = λ x xs. refl })
 
 rounds_outcomes-append : (xs ys : List Round) → rounds_outcomes (xs ++ ys) ≡ rounds_outcomes xs ++ rounds_outcomes ys
-rounds_outcomes-append = joined-append round_outcomes rounds_outcomes refl (λ x xs. refl)
+rounds_outcomes-append = joined-append (record { part = round_outcomes; all = rounds_outcomes; none = refl; one = λ x xs. refl })
 
 pub run_none : (a : Observed) → HasRun 0 a a
 run_none a = record {
@@ -293,44 +258,57 @@ run_none a = record {
   noted = noted_none a.seat;
 }
 
--- an event was received: the link exposes it, and nothing else was done
-pub record EventReceived (event : IoEvent) (before : Observed) : Type 0 where
+-- after events another one was received: the link exposes it, and nothing else was done
+pub record EventReceived (a : Observed) : Type 0 where
+  pub count : ℕ
+  pub before : Observed
+  pub run : HasRun count a before
+  pub event : IoEvent
   pub heard : Observed
   pub stage_is : heard.stage ≡ before.stage
   pub seat_is : heard.seat ≡ before.seat
   pub told_is : heard.told ≡ told_more before.told (event ∷ [])
 
-heard_sent : {event : IoEvent} {b : Observed} {c : Option (List IoEvent)} (received : EventReceived event b)
-    (bytes : List ℕ) → IsSent received.heard.told bytes c → c ≡ told_more b.told (event ∷ sends bytes)
-heard_sent {event} {b} received bytes sent =
-    sent ∙ ap (λ t. told_more t (sends bytes)) received.told_is ∙ told_more-append b.told (event ∷ []) (sends bytes)
+heard_sent : {a : Observed} {c : Option (List IoEvent)} (r : EventReceived a) (bytes : List ℕ)
+    → IsSent r.heard.told bytes c → c ≡ told_more r.before.told (r.event ∷ sends bytes)
+heard_sent r bytes sent =
+    sent ∙ ap (λ t. told_more t (sends bytes)) r.told_is ∙ told_more-append r.before.told (r.event ∷ []) (sends bytes)
 
-pub run_on : {count : ℕ} {event : IoEvent} {a b c : Observed} → HasRun count a b
-    → (received : EventReceived event b) → HasRound event received.heard c → HasRun (count + 1) a c
-run_on {a} {b} {c} run received next =
+pub run_on : {a c : Observed} (r : EventReceived a) → HasRound r.event r.heard c → HasRun (r.count + 1) a c
+run_on {a} {c} r next =
+    let b = r.before in
+    let run = r.run in
     let round = next.round in
     let doings : List IoEvent = round.event ∷ sends (round_bytes round) in
     let last : rounds_doings (round ∷ []) ≡ doings = append-nil doings in
     let outcomes : rounds_outcomes (round ∷ []) ≡ round_outcomes round = append-nil (round_outcomes round) in record {
       rounds = run.rounds ++ round ∷ [];
       count_is = length-append run.rounds (round ∷ []) ∙ ap (λ n. n + 1) run.count_is;
-      runs = runs_on a.stage run.rounds run.runs (subst (λ s. Runs s round c.stage) received.stage_is next.runs)
-          next.idle;
-      told = heard_sent received (round_bytes round) next.sent
+      runs = runs_on a.stage run.rounds run.runs;
+      told = heard_sent r (round_bytes round) next.sent
           ∙ ap (λ e. told_more b.told (e ∷ sends (round_bytes round))) (sym next.event_is)
           ∙ ap (λ t. told_more t doings) run.told ∙ told_more-append a.told (rounds_doings run.rounds) doings
           ∙ ap (λ ds. told_more a.told (rounds_doings run.rounds ++ ds)) (sym last)
           ∙ ap (told_more a.told) (sym (rounds_doings-append run.rounds (round ∷ [])));
       noted = subst (λ os. AreNoted a.seat c.seat os)
           (sym (rounds_outcomes-append run.rounds (round ∷ []) ∙ ap (λ os. rounds_outcomes run.rounds ++ os) outcomes))
-          (noted_on run.noted (subst (λ s. AreNoted s c.seat (round_outcomes round)) received.seat_is next.noted));
+          (noted_on run.noted (subst (λ s. AreNoted s c.seat (round_outcomes round)) r.seat_is next.noted));
     }
+  where
+    runs_on : (old : Stage) (rounds : List Round) → RunsAll old rounds r.before.stage
+        → RunsAll old (rounds ++ next.round ∷ []) c.stage
+    runs_on old [] runs =
+        let there : Runs r.before.stage next.round c.stage =
+        subst (λ s. Runs s next.round c.stage) r.stage_is next.runs in
+        (c.stage, (subst (λ s. Runs s next.round c.stage) runs there, next.idle, refl))
+    runs_on old (first ∷ rounds) runs = (runs.0, (runs.1.0, runs.1.1, runs_on runs.0 rounds runs.1.2))
 
 -- and it was the last
-pub run_end : {count : ℕ} {event : IoEvent} {end : ConnEnd} {a b c : Observed} → HasRun count a b
-    → (received : EventReceived event b) → count < 2 ^ 40 → HasEnded (event ∷ []) end count received.heard c
-    → HasCourse end a c
-run_end {count} {event} {end} {a} {b} {c} run received more last =
+pub run_end : {end : ConnEnd} {a c : Observed} (r : EventReceived a) → r.count < 2 ^ 40
+    → HasEnded (r.event ∷ []) end r.count r.heard c → HasCourse end a c
+run_end {end} {a} {c} r more last =
+    let b = r.before in
+    let run = r.run in
     let ending = last.ending in
     let one : length (ending_events ending) ≡ 1 = ap (λ (es : List IoEvent). length es) last.event_is in record {
       rounds = run.rounds;
@@ -339,13 +317,12 @@ run_end {count} {event} {end} {a} {b} {c} run received more last =
       ending = ending;
       few = omega (arith, run.count_is, one, more);
       ends = subst (λ n. Ends b.stage n ending end c.stage) (sym run.count_is)
-          (subst (λ s. Ends s count ending end c.stage) received.stage_is last.ends);
-      told = heard_sent received (ending_bytes ending) last.sent
+          (subst (λ s. Ends s r.count ending end c.stage) r.stage_is last.ends);
+      told = heard_sent r (ending_bytes ending) last.sent
           ∙ ap (λ es. told_more b.told (es ++ sends (ending_bytes ending))) (sym last.event_is)
           ∙ ap (λ t. told_more t (ending_doings ending)) run.told
           ∙ told_more-append a.told (rounds_doings run.rounds) (ending_doings ending);
-      noted = noted_on run.noted
-          (subst (λ s. AreNoted s c.seat (ending_outcomes ending)) received.seat_is last.noted);
+      noted = noted_on run.noted (subst (λ s. AreNoted s c.seat (ending_outcomes ending)) r.seat_is last.noted);
     }
 
 -- or no event was received any more
@@ -425,11 +402,16 @@ next_is a n in_front =
       torn = in_front.torn;
     }
 
-pub taken_reply : {a b : Observed} {asked : SessionState} {n : ℕ} → RequestInFront a.stage n →
-    HasAsked a.stage.session (take n a.stage.input) asked a.seat b.seat →
-    b.stage ≡ stage (after_reply asked) (drop n a.stage.input) →
-    IsTold (can_reply asked) a.told asked.text b.told → HasTaken a b
-taken_reply {a} {b} {asked} {n} in_front heard is told =
+-- the first request was answered, and its reply is next
+pub record RequestAnswered (a b : Observed) : Type 0 where
+  pub asked : SessionState
+  pub n : ℕ
+  pub in_front : RequestInFront a.stage n
+  pub heard : HasAsked a.stage.session (take n a.stage.input) asked a.seat b.seat
+
+pub taken_reply : {a b : Observed} (x : RequestAnswered a b) → b.stage ≡ stage (after_reply x.asked) (drop x.n a.stage.input)
+    → IsTold (can_reply x.asked) a.told x.asked.text b.told → HasTaken a b
+taken_reply {a} {b} x is told =
     let message : List ℕ = take n a.stage.input in
     let long : length message ≡ n = length-take-le n a.stage.input in_front.first.2 in
     taken_one a b (Answered message heard.outcome (reply_parts asked)) (record {
@@ -439,12 +421,13 @@ taken_reply {a} {b} {asked} {n} in_front heard is told =
       parts_are = refl;
       new_is = is ∙ ap (λ k. stage (after_reply asked) (drop k a.stage.input)) (sym long);
     }) (reply_sent asked a.told b.told told) heard.noted
+  where
+    open x use {asked, n, in_front, heard}
 
-pub lost_reply : {a b : Observed} {asked : SessionState} {n : ℕ} → RequestInFront a.stage n →
-    HasAsked a.stage.session (take n a.stage.input) asked a.seat b.seat → can_reply asked ≡ true →
-    b.stage ≡ stage (record asked { lost = true }) (drop n a.stage.input) → IsSentPrefix a.told b.told asked.text →
-    HasLostReply a b
-lost_reply {a} {asked} {n} in_front heard can is told =
+pub lost_reply : {a b : Observed} (x : RequestAnswered a b) → can_reply x.asked ≡ true
+    → b.stage ≡ stage (record x.asked { lost = true }) (drop x.n a.stage.input)
+    → IsSentPrefix a.told b.told x.asked.text → HasLostReply a b
+lost_reply {a} x can is told =
     let message : List ℕ = take n a.stage.input in
     let long : length message ≡ n = length-take-le n a.stage.input in_front.first.2 in record {
       mid = a;
@@ -463,6 +446,8 @@ lost_reply {a} {asked} {n} in_front heard can is told =
       sent = told.1.1;
       noted = heard.noted;
     }
+  where
+    open x use {asked, n, in_front, heard}
 
 -- where a connection stands, by its session and what waits
 pub stage_is : {session is : SessionState} {input waits : List ℕ} → session ≡ is → input ≡ waits

@@ -8,7 +8,7 @@ use Rattle.film_streams.specs.declared.setups.Setup.{Setup}
 use Rattle.session.specs.declared.states.State.TheVariants.{Playing}
 use Rattle.session.specs.SessionStates.{SessionState}
 use Rattle.conn.specs.Films.{HasSent}
-use Rattle.conn.specs.InputSteps.{Stage}
+use Rattle.conn.specs.InputSteps.{HasHeard, Outcome, Stage}
 
 -- a session's play goes on, and of its film these bytes were sent
 pub record PlayGoing (session : SessionState) : Type 0 where
@@ -45,3 +45,9 @@ pub record RequestInFront (old : Stage) (n : ℕ) : Type 0 where
   pub first : IsFirst old.input (Ok (Request n))
   pub replied : old.session.waits ≡ false
   pub torn : old.session.torn ≡ false
+
+-- a request that was received, and the station's answer to it
+pub record RequestHeard (old new : SessionState) : Type 0 where
+  pub message : List ℕ
+  pub outcome : Outcome
+  pub heard : HasHeard old message outcome new

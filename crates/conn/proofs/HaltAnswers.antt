@@ -8,12 +8,12 @@ use Rattle.conn.proofs.StationAnswers.{FinishesAs, finishes_as, NothingLeft, Don
 -- a part of a session that a halt leaves as it was
 module _ {A : Type 0} (part : SessionState → A)
     (same : (session : SessionState) (place : ℕ) → part (after_halt session place) ≡ part session) where
-  left_as_before : {asks : AwaitedAnswer} {old new : SessionState} {outcome : Outcome}
-      → FinishesAs old asks outcome new → part new ≡ part old
-  left_as_before NothingLeft = refl
-  left_as_before {old = old} (DoneHalted {placed = placed} entry) = same old placed.place
-
   -- so it is once a slot was processed, where the station was asked for nothing but a halt
   pub finished_as_before : (asks : AwaitedAnswer) (old : SessionState) (outcome : Outcome) (new : SessionState)
       → IsFinished asks old outcome new → part new ≡ part old
-  finished_as_before asks old outcome new is = left_as_before (finishes_as asks outcome is)
+  finished_as_before asks old outcome new is = by-answer (finishes_as asks outcome is)
+    where
+      by-answer : {asks : AwaitedAnswer} {new : SessionState} {outcome : Outcome} → FinishesAs old asks outcome new
+          → part new ≡ part old
+      by-answer NothingLeft = refl
+      by-answer (DoneHalted {placed = placed} entry) = same old placed.place

@@ -3,14 +3,12 @@ use Rattle.std.proofs.Common.{[], ◌∷◌, ◌≡◌, ℕ, List, refl, sym, �
 use Rattle.std.proofs.lemmas.List.{append-nil}
 use Rattle.station.specs.Seats.{SeatState, IsSameSeat, IsSeat}
 use Rattle.admission.specs.Makers.{PlacedEntry, IsOpenAmong}
-use Rattle.session.specs.RequestSteps.{Hears, after_admission}
-use Rattle.session.specs.declared.commands.Ask.{Ask}
+use Rattle.session.specs.RequestSteps.{after_admission}
 use Rattle.session.specs.declared.commands.Ask.TheVariants.{Reply as AskReply, Play as AskPlay}
 use Rattle.session.specs.SessionStates.{SessionState, IsAnswerRecorded, OpenBooking, PlayAnswer, awaited_answer}
 use Rattle.session.specs.SessionStates.{booking_of, open_of}
-use Rattle.session.proofs.InitialStateLemmas.{HeardMessage}
-use Rattle.conn.specs.InputSteps.{Unasked, Entered, WasFull, Offered, IsAskAnswered}
-use Rattle.conn.specs.Observations.{HasAnswered, HasAsked}
+use Rattle.conn.specs.InputSteps.{Unasked, Entered, WasFull, Offered}
+use Rattle.conn.specs.Observations.{AreNoted, HasAnswered}
 use Rattle.conn.proofs.CourseSteps.{noted_unasked}
 use Rattle.conn.proofs.Journals.{FoundFull, MadeOffer, OwnEntry, entry_agrees, full_agrees, note_of_offer}
 use Rattle.conn.proofs.Journals.{offer_agrees, own_last}
@@ -25,63 +23,35 @@ use Rattle.station.specs.Bookings.{Booking}
 use Rattle.station.specs.declared.answers.PlayRefused.{PlayRefused}
 use Rattle.station.specs.declared.answers.PlayRefused.TheVariants.{JournalFull, Overflow}
 use Rattle.conn.specs.declared.connections.Connection.{Connection}
-use Rattle.conn.specs.ReservationInvariant.{HasAdvanced, IsHeld, KeepsReservations, open_play_of, reservation_state}
+use Rattle.conn.specs.ReservationInvariant.{HasAdvanced, IsHeld, KeepsReservations, open_play_of}
+use Rattle.conn.specs.ReservationInvariant.{reservation_state}
 use Rattle.conn.specs.Refusals.{after_refusal, refusal_receipt}
 use Rattle.conn.proofs.ReservationSteps.{gone_entry, gone_none, held_none}
 
--- the station's answers
-module _ {old new : SessionState} {ask : Ask} {seat next : SeatState} where
-  pub answered_entry : {placed : PlacedEntry} → OwnEntry seat next placed → IsAskAnswered old ask (Entered placed) new
-      → HasAnswered old ask new seat next
-  answered_entry {placed} own answered = record {
-    outcome = Entered placed;
-    answered = answered;
-    noted = record { mine = own_last own; seat = own.same; agree = entry_agrees own };
-  }
+-- what is noted of the station's answers: an entry, a full journal, an offer
+pub noted_entry : {seat next : SeatState} {placed : PlacedEntry} → OwnEntry seat next placed
+    → AreNoted seat next (Entered placed ∷ [])
+noted_entry own = record { mine = own_last own; seat = own.same; agree = entry_agrees own }
 
-  pub answered_full : (found : FoundFull seat next)
-      → IsAskAnswered old ask (WasFull found.more found.entries found.live) new → HasAnswered old ask new seat next
-  answered_full found answered = record {
-    outcome = WasFull found.more found.entries found.live;
-    answered = answered;
-    noted = record {
-      mine = found.full.mine ∙ sym (append-nil seat.mine);
-      seat = found.same;
-      agree = full_agrees found;
-    };
-  }
+pub noted_full : {seat next : SeatState} (found : FoundFull seat next)
+    → AreNoted seat next (WasFull found.more found.entries found.live ∷ [])
+noted_full {seat} found = record {
+  mine = found.full.mine ∙ sym (append-nil seat.mine);
+  seat = found.same;
+  agree = full_agrees found;
+}
 
-  pub answered_offer : (offer : MadeOffer seat next)
-      → IsAskAnswered old ask (Offered offer.heard (note_of_offer offer)) new → HasAnswered old ask new seat next
-  answered_offer offer answered = record {
-    outcome = Offered offer.heard (note_of_offer offer);
-    answered = answered;
-    noted = record {
-      mine = offer.mine ∙ sym (append-nil seat.mine);
-      seat = offer.same;
-      agree = offer_agrees offer;
-    };
-  }
+pub noted_offer : {seat next : SeatState} (offer : MadeOffer seat next)
+    → AreNoted seat next (Offered offer.heard (note_of_offer offer) ∷ [])
+noted_offer {seat} offer = record {
+  mine = offer.mine ∙ sym (append-nil seat.mine);
+  seat = offer.same;
+  agree = offer_agrees offer;
+}
 
 -- the station wasn't asked
 pub answered_none : (session : SessionState) (seat : SeatState) → HasAnswered session AskReply session seat seat
 answered_none session seat = record { outcome = Unasked; answered = refl; noted = noted_unasked seat }
-
--- a request was received, and answered as far as the station goes
-pub asked_on : {arm : Ask} {bytes : List ℕ} {new : SessionState} {seat next : SeatState} (heard : HeardMessage)
-    → heard.message ≡ bytes → heard.ask ≡ arm → HasAnswered heard.new arm new seat next
-    → HasAsked heard.old bytes new seat next
-asked_on {arm} {bytes} heard same is answered = record {
-  outcome = answered.outcome;
-  heard = record {
-    ask = arm;
-    asking = heard.new;
-    hears = subst (λ (a : Ask). Hears heard.old bytes a heard.new) is
-        (subst (λ (m : List ℕ). Hears heard.old m heard.ask heard.new) same heard.hears);
-    answered = answered.answered;
-  };
-  noted = answered.noted;
-}
 
 -- none is held, and none is open
 held_closed : {booking : Option Booking} {play : Option OpenBooking} (mine : List PlacedEntry) → booking ≡ None
@@ -121,9 +91,15 @@ pub record HasRefused (refused : PlayRefused) (call : StationCall) : Type 0 wher
 gone_refused : {call : StationCall} (refused : PlayRefused) → HasRefused refused call → call.before.booking ≡ None
     → HasAdvanced (reservation_state call.seat.mine call.before) (reservation_state call.next.mine call.after)
 gone_refused (JournalFull asked entries live) play none =
-    gone_none (FullReceipt entries live ∷ []) play.is.1.mine play.booking play.handed.receipts refl
+    gone_none (record {
+      full = FullReceipt entries live ∷ [];
+      mine = play.is.1.mine;
+      booking = play.booking;
+      receipts = play.handed.receipts;
+      none = refl;
+    })
 gone_refused (Overflow place slot booked bytes) play none =
-    gone_entry none (record { mine = play.is.mine; receipts = play.handed.receipts })
+    gone_entry (record { booking = None; was = none; mine = play.is.mine; receipts = play.handed.receipts })
     (ap open_play_of (sym (play.booking ∙ none)))
 
 pub kept_refused : {refused : PlayRefused} (call : StationCall) → IsAsking call.seat call.next call.before
@@ -137,14 +113,27 @@ kept_refused {refused} call asking play = record {
   gone = gone_refused {call = call} refused play (none_held asking);
 }
 
-pub answered_refused : {plan : List Segment} {seat next : SeatState} {after : SessionState} (before : Connection)
-    (refused : PlayRefused) → IsAsking seat next before → IsSeatRefused seat next before.session.heard plan refused
-    → after ≡ after_refusal before.session refused → HasAnswered before.session (AskPlay plan) after seat next
-answered_refused before (JournalFull asked entries live) asking is told =
-    answered_full (record { more = 2; entries = entries; live = live; same = asking.same; full = is.1 }) (told, refl)
-answered_refused before (Overflow place slot booked bytes) asking is told =
-    answered_entry (record { kept = asking.kept; also = asking.also; same = asking.same; maker = refl; made = is })
-    (refl, told)
+pub answered_refused : {plan : List Segment} (call : StationCall) (refused : PlayRefused)
+    → IsAsking call.seat call.next call.before
+    → IsSeatRefused call.seat call.next call.before.session.heard plan refused
+    → call.after.session ≡ after_refusal call.before.session refused
+    → HasAnswered call.before.session (AskPlay plan) call.after.session call.seat call.next
+answered_refused call (JournalFull asked entries live) asking is told = record {
+  outcome = WasFull 2 entries live;
+  answered = (told, refl);
+  noted = noted_full (record { more = 2; entries = entries; live = live; same = asking.same; full = is.1 });
+}
+answered_refused call (Overflow place slot booked bytes) asking is told = record {
+  outcome = Entered _;
+  answered = (refl, told);
+  noted = noted_entry (record {
+    kept = asking.kept;
+    also = asking.also;
+    same = asking.same;
+    maker = refl;
+    made = is;
+  });
+}
 
 -- a play of a plan was admitted: its booking is held
 pub record HasAdmitted (plan : List Segment) (booking : Booking) (call : StationCall) : Type 0 where
@@ -170,9 +159,12 @@ kept_admitted {plan} {booking} call asking admitted =
         held = subst (λ b. IsHeld call.next.mine b (open_of call.after.session)) (sym admitted.booking_is)
             (subst (IsHeld call.next.mine (Some booking)) (sym opened) admitted.keeps);
       };
-      gone = gone_entry (none_held asking)
-          (record { mine = admitted.made.mine; receipts = admitted.handed.receipts })
-          (ap open_play_of (sym admitted.booking_is));
+      gone = gone_entry (record {
+        booking = None;
+        was = none_held asking;
+        mine = admitted.made.mine;
+        receipts = admitted.handed.receipts;
+      }) (ap open_play_of (sym admitted.booking_is));
     }
 
 -- its answer
@@ -182,10 +174,19 @@ pub record HasHeardAdmission (before : SessionState) (booking : Booking) (after 
   pub play : IsPlayIn after.state
   pub small : booking.start < 2 ^ 64
 
-pub answered_admitted : {plan : List Segment} {seat next : SeatState} {before : Connection} {after : SessionState}
-    {booking : Booking} → IsAsking seat next before →
-    HasMadeEntry seat next 2 (play_of before.session.heard plan) booking.number (Admitted booking.start) →
-    HasHeardAdmission before.session booking after → HasAnswered before.session (AskPlay plan) after seat next
-answered_admitted asking made heard =
-    answered_entry (record { kept = asking.kept; also = asking.also; same = asking.same; maker = refl; made = made })
-    (refl, (heard.later, heard.exact, heard.play, heard.small))
+pub answered_admitted : {plan : List Segment} {booking : Booking} (call : StationCall)
+    → IsAsking call.seat call.next call.before
+    → HasMadeEntry call.seat call.next 2 (play_of call.before.session.heard plan) booking.number (Admitted booking.start)
+    → HasHeardAdmission call.before.session booking call.after.session
+    → HasAnswered call.before.session (AskPlay plan) call.after.session call.seat call.next
+answered_admitted call asking made heard = record {
+  outcome = Entered _;
+  answered = (refl, (heard.later, heard.exact, heard.play, heard.small));
+  noted = noted_entry (record {
+    kept = asking.kept;
+    also = asking.also;
+    same = asking.same;
+    maker = refl;
+    made = made;
+  });
+}

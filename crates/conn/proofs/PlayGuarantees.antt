@@ -11,8 +11,6 @@ use Rattle.plan_cert.specs.Plan.{IsPlan}
 use Rattle.vod_base.specs.Links.{IoEvent}
 use Rattle.pacer.specs.PacerStates.{first_slots}
 use Rattle.film_streams.specs.declared.settings.Settings.{Settings}
-use Rattle.session.specs.declared.states.Play.{Play as Played}
-use Rattle.film_streams.specs.declared.setups.Setup.{Setup}
 use Rattle.session.specs.declared.states.State.{State}
 use Rattle.session.specs.declared.states.State.TheVariants.{Playing, Stopping}
 use Rattle.session.specs.RequestSteps.{new_session_state}
@@ -28,7 +26,7 @@ use Rattle.conn.proofs.RequestInvariants.{AreShown, HasPlay, IsStateOf, IsWell, 
 use Rattle.conn.proofs.PlayProgress.{as_it_was, reply_heard, slot_play, standings}
 use Rattle.conn.proofs.ReplyPlacement.{film_count}
 use Rattle.conn.proofs.SeatReplies.{refusals_told}
-use Rattle.conn.proofs.StoppedPlays.{stop_cut, stop_slot, stop_still}
+use Rattle.conn.proofs.StoppedPlays.{StopGoing, stop_cut, stop_slot, stop_still}
 use Rattle.conn.proofs.ReplyContents.{course_tells}
 use Rattle.conn.specs.Guarantees.{MeetsGuarantee}
 use Rattle.conn.specs.ConnectionService.{HasServedFrom}
@@ -39,7 +37,7 @@ use Rattle.admission.proofs.CapacityBounds.{sound-after}
 use Rattle.slot_calendar.specs.Profiles.{capacity_at}
 use Rattle.station.specs.Seats.{IsSeat, SeatState}
 use Rattle.conn.proofs.SessionInvariant.{rounds_well}
-use Rattle.conn.proofs.EventPremises.{SlotStandings}
+use Rattle.conn.proofs.EventPremises.{PlayGoing, SlotStandings}
 use Rattle.conn.proofs.StationAnswers.{ComesAs, comes_as, BytesCame, SlotCame}
 
 -- a session that received nothing yet
@@ -63,10 +61,12 @@ slot_heard old slot =
     (sent_due old slot)) refl
 
 -- what was sent of a play, by the play as it was and as it is now
-sent_by : {old new : SessionState} {setup : Setup} {play : Played} {film more : List ℕ}
-    → HasPlay (ground_of old film) setup play → HasSentOn setup play new more
-    → (stored : Stored) × IsSentBy old stored setup play new.heard more
-sent_by {old} {new} {setup} {play} {more = more} its on =
+sent_by : {old new : SessionState} {more : List ℕ} (going : PlayGoing old)
+    → HasPlay (ground_of old going.film) going.setup going.play → HasSentOn going.setup going.play new more
+    → (stored : Stored) × IsSentBy old stored going.setup going.play new.heard more
+sent_by {old} {new} {more} going its on =
+    let setup = going.setup in
+    let play = going.play in
     let stored = its.stored in
     let now = on.now in
     let heard : ℕ = new.heard in
@@ -99,20 +99,22 @@ sent_by {old} {new} {setup} {play} {more = more} its on =
 kept_still : (state : State) (s : SessionState) (film : List ℕ) → s.state ≡ state → IsStateOf (ground_of s film) state
     → IsKeptIn state s s.heard film
 kept_still (Playing setup play) s film is was =
-    sent_by was.1
-    (as_it_was {session = s} (record { setup = setup; play = play; film = film; state = is; sent = was.1.sent }))
-kept_still (Stopping setup stop) s film is was = stop_cut
-    (stop_still {session = s} (record { setup = setup; stop = stop; film = film; state = is; stopped = was.1 }))
+    let going : PlayGoing s = record { setup = setup; play = play; film = film; state = is; sent = was.1.sent } in
+    sent_by going was.1 (as_it_was going)
+kept_still (Stopping setup stop) s film is was =
+    let going : StopGoing s = record { setup = setup; stop = stop; film = film; state = is; stopped = was.1 } in
+    stop_cut going (stop_still going)
 kept_still _ s film is was = tt
 
 kept_slot : (state : State) (s : SessionState) (slot : ℕ) (film : List ℕ) → s.state ≡ state
     → IsStateOf (ground_of s film) state
     → IsKeptIn state s (after_slot s slot).heard (film ++ film_bytes (slot_parts s slot))
 kept_slot (Playing setup play) s slot film is was =
-    sent_by was.1
-    (slot_play s slot (record { setup = setup; play = play; film = film; state = is; sent = was.1.sent }))
-kept_slot (Stopping setup stop) s slot film is was = stop_cut
-    (stop_slot s slot (record { setup = setup; stop = stop; film = film; state = is; stopped = was.1 }))
+    let going : PlayGoing s = record { setup = setup; play = play; film = film; state = is; sent = was.1.sent } in
+    sent_by going was.1 (slot_play s slot going)
+kept_slot (Stopping setup stop) s slot film is was =
+    let going : StopGoing s = record { setup = setup; stop = stop; film = film; state = is; stopped = was.1 } in
+    stop_cut going (stop_slot s slot going)
 kept_slot _ s slot film is was = tt
 
 kept_event : {film : List ℕ} {old new : Stage} {round : Round} → ComesAs old round new → IsWell old.session film
@@ -160,11 +162,18 @@ keeps_promise {session} {old_seat} {new_seat} {report} well none is served =
     let made : List Outcome = rounds_outcomes course.rounds ++ ending_outcomes course.ending in
     let parts : List SentPart = rounds_parts (course.rounds ++ ending_rounds course.ending) in
     let after = entries_in (served.closes.halt ∷ []) in
-    let told = course_tells (stage session []) course.mid course.rounds none course.runs (record {
-      count = length course.rounds;
-      end = report.end;
-      new = served.ended.stage;
-      ends = course.ends;
+    let told = course_tells {old = stage session []} (record {
+      none = none;
+      mid = course.mid;
+      rounds = course.rounds;
+      runs = course.runs;
+      ending = course.ending;
+      ended = record {
+        count = length course.rounds;
+        end = report.end;
+        new = served.ended.stage;
+        ends = course.ends;
+      };
     }) in
     let mine : new_seat.mine ≡ (old_seat.mine ++ entries_in made) ++ after =
     served.closes.noted.mine ∙ ap (λ ps. ps ++ after) course.noted.mine in

@@ -15,14 +15,14 @@ use Rattle.session.specs.SlotSteps.{sent_due, sent_reply, sent_slot, after_slot,
 use Rattle.session.specs.SessionStates.{AwaitedAnswer, SessionState}
 use Rattle.session.specs.SlotTransitions.{after_stop}
 use Rattle.conn.specs.InputSteps.{Outcome, Entered, SentPart, Film, Text, Stage, ElementStep, Passed, Answered}
-use Rattle.conn.specs.InputSteps.{HasHeard, Takes, TakesAll, after_reply, due_parts, film_bytes, slot_parts}
+use Rattle.conn.specs.InputSteps.{Takes, TakesAll, after_reply, due_parts, film_bytes, slot_parts}
 use Rattle.conn.specs.EventSteps.{Round, Runs, RunsAll, round_outcomes, rounds_outcomes, taking_outcomes}
 use Rattle.conn.specs.EventSteps.{takings_outcomes}
 use Rattle.conn.specs.Films.{HaveNoHalt, GoesOn, HasSent, HasSentOn, IsNoHalt, HasNoHalt, PlaySpan, rounds_film}
 use Rattle.session.specs.Laws.{AsksNoHalt}
 use Rattle.session.proofs.RefusalEffectLemmas.{hears_plays}
 use Rattle.conn.proofs.FilmBytes.{sent_slot as sent_by, sent_through, slot_film, slot_is, slot_pacing}
-use Rattle.conn.proofs.EventPremises.{SlotPacings, SlotStandings, PlayGoing}
+use Rattle.conn.proofs.EventPremises.{SlotPacings, SlotStandings, PlayGoing, RequestHeard}
 use Rattle.conn.proofs.StationAnswers.{AnswersAs, ComesAs, FinishesAs, IsHaltEntry, answers_as, comes_as, BytesCame}
 use Rattle.conn.proofs.StationAnswers.{SlotCame, DoneHalted, NothingLeft, PlayAdmitted, PlayHalted}
 
@@ -136,7 +136,7 @@ taken_slot old slot going later =
       pieces = ap (λ (q : PacerState). q.pieces) through;
       paced = ap (λ (q : PacerState). q.plan) through;
       sent = subst (λ n. HasSent now n (film ++ film_bytes (due_parts old slot))) (sym heard)
-          (subst (λ bs. HasSent now slot (film ++ bs)) (sym bytes) (sent_by old.waits sent later));
+          (subst (λ bs. HasSent now slot (film ++ bs)) (sym bytes) (sent_by going slot later));
     }
   where
     open going use {setup, play, film, state, sent}
@@ -156,16 +156,6 @@ as_it_was going = record {
   paced = refl;
   sent = going.sent;
 }
-
--- what holds before a slot, in a session that sends, and once what is due was sent in it, holds
--- after the slot
-pub slot_cases : {taken sending : Bool} {film : List ℕ} (s : SlotStandings) (P : SessionState → List ℕ → Type 0)
-    (parts : List SentPart) → sending ≡ true → P s.before film → (taken ≡ true → P s.sending (film ++ film_bytes parts))
-    → P (if taken then (if sending then s.sending else s.still) else s.before)
-    (film ++ film_bytes (if taken && sending then parts else []))
-slot_cases {taken = false} {film = film} s P parts sends was goes = subst (P s.before) (sym (append-nil film)) was
-slot_cases {taken = true} {sending = true} s P parts sends was goes = goes refl
-slot_cases {taken = true} {sending = false} s P parts sends was goes = absurd (true≢false (sym sends))
 
 -- a session around a slot
 abbrev pub standings : SessionState → ℕ → SlotStandings
@@ -188,12 +178,31 @@ slot_any P old slot goes stays same =
 pub later_slot : (old : SessionState) (slot : ℕ) → is_taken old slot ≡ true → old.heard < slot
 later_slot old slot taken = ltb-true old.heard slot (and_parts (nat_lt old.heard slot) (nat_le slot (2 ^ 62)) taken).0
 
+-- a session that sends after a slot, and what it sent in it: the slot came before, or it is taken
+pub data SlotSends (old : SessionState) (slot : ℕ) : SessionState → List SentPart → Type 0 where
+  Still : SlotSends old slot old []
+  Taken : old.heard < slot → SlotSends old slot (after_play (sent_slot old slot)) (due_parts old slot)
+
+pub slot_sends : (old : SessionState) (slot : ℕ) → is_sending old.state ≡ true
+    → SlotSends old slot (after_slot old slot) (slot_parts old slot)
+slot_sends old slot sends = by-case (is_taken old slot) (is_sending old.state) sends (later_slot old slot)
+  where
+    by-case : (taken sending : Bool) → sending ≡ true → (taken ≡ true → old.heard < slot)
+        → SlotSends old slot (if taken then (if sending then after_play (sent_slot old slot)
+        else record old { heard = slot }) else old) (if taken && sending then due_parts old slot else [])
+    by-case false sending sends later = Still
+    by-case true true sends later = Taken (later refl)
+    by-case true false sends later = absurd (true≢false (sym sends))
+
 -- a play goes on by a slot
 pub slot_play : (old : SessionState) (slot : ℕ) (going : PlayGoing old) →
     HasSentOn going.setup going.play (after_slot old slot) (going.film ++ film_bytes (slot_parts old slot))
-slot_play old slot going =
-    slot_cases (standings old slot) (HasSentOn going.setup going.play) (due_parts old slot)
-    (ap is_sending going.state) (as_it_was going) (λ taken. taken_slot old slot going (later_slot old slot taken))
+slot_play old slot going = by-slot (slot_sends old slot (ap is_sending going.state))
+  where
+    by-slot : {s : SessionState} {parts : List SentPart} → SlotSends old slot s parts
+        → HasSentOn going.setup going.play s (going.film ++ film_bytes parts)
+    by-slot Still = subst (HasSentOn going.setup going.play old) (sym (append-nil going.film)) (as_it_was going)
+    by-slot (Taken later) = taken_slot old slot going later
 
 -- a play that goes on, and what is sent of it from then on
 abbrev pub going_on : {setup : Setup} {play : Played} {session : SessionState} {film : List ℕ}
@@ -232,27 +241,30 @@ going_left going left = record {
   sent = subst (λ h. HasSent going.play h going.film) (sym left.1) going.sent;
 }
 
-answer_left : {old new : SessionState} {ask : Ask} {outcome : Outcome} → PlayGoing old → HasNoHalt outcome
-    → AnswersAs old ask outcome new → IsLeft old new
-answer_left {old} going free (PlayAdmitted {placed = placed} {start = start} entry answered) =
-    (subst (λ st. admitted_in st old.awaited placed.place start ≡ st) (sym going.state) refl, refl)
-answer_left going free (PlayHalted entry) = absurd (no_halt entry free)
-answer_left going free _ = (refl, refl)
-
 asks_no_halt : {old new : SessionState} {ask : Ask} {outcome : Outcome} → HasNoHalt outcome
     → AnswersAs old ask outcome new → AsksNoHalt ask
 asks_no_halt free (PlayHalted entry) = no_halt entry free
 asks_no_halt free _ = tt
 
-pub heard_left : {old new : SessionState} {message : List ℕ} {outcome : Outcome} → HasHeard old message outcome new
-    → HasNoHalt outcome → PlayGoing old → IsLeft old new
-heard_left {old} {new} {message} {outcome} heard free going =
-    let answers : AnswersAs heard.asking heard.ask outcome new = answers_as heard.ask outcome heard.answered in
+pub heard_left : {old new : SessionState} (r : RequestHeard old new) → HasNoHalt r.outcome → PlayGoing old
+    → IsLeft old new
+heard_left {old} {new} r free going =
+    let answers : AnswersAs s r.heard.ask r.outcome new = answers_as r.heard.ask r.outcome r.heard.answered in
     let plays = hears_plays
-    (record { old = old; new = heard.asking; message = message; ask = heard.ask; hears = heard.hears }) going.setup
+    (record { old = old; new = s; message = r.message; ask = r.heard.ask; hears = r.heard.hears }) going.setup
     going.play going.state (asks_no_halt free answers) in
-    let asking : IsLeft old heard.asking = (plays.state, plays.heard) in
-    left_on old heard.asking new asking (answer_left (going_left going asking) free answers)
+    let asking : IsLeft old s = (plays.state, plays.heard) in
+    left_on old s new asking (by-answer (asking.0 ∙ going.state) free answers)
+  where
+    s : SessionState
+    s = r.heard.asking
+
+    by-answer : {ask : Ask} {outcome : Outcome} {new : SessionState} → s.state ≡ Playing going.setup going.play
+        → HasNoHalt outcome → AnswersAs s ask outcome new → IsLeft s new
+    by-answer state free (PlayAdmitted {placed = placed} {start = start} entry answered) =
+        (subst (λ st. admitted_in st s.awaited placed.place start ≡ st) (sym state) refl, refl)
+    by-answer state free (PlayHalted entry) = absurd (no_halt entry free)
+    by-answer state free _ = (refl, refl)
 
 reply_left : {s : SessionState} (goes : Bool) → PlayGoing s → IsLeft s (if goes then sent_reply s else s)
 reply_left true going = (subst (λ st. after_stop st ≡ st) (sym going.state) refl, refl)
@@ -263,7 +275,8 @@ pub taking_left : (old new : Stage) (taking : ElementStep) → Takes old taking 
 taking_left old new (Passed n) takes free going =
     subst (λ (s : Stage). IsLeft old.session s.session) (sym takes.2) (refl, refl)
 taking_left old new (Answered message outcome parts) takes free going =
-    let heard : IsLeft old.session takes.answered = heard_left takes.heard free.0 going in
+    let heard : IsLeft old.session takes.answered =
+    heard_left (record { message = message; outcome = outcome; heard = takes.heard }) free.0 going in
     subst (λ (s : Stage). IsLeft old.session s.session) (sym takes.new_is)
     (left_on old.session takes.answered (after_reply takes.answered) heard
     (reply_left (can_reply takes.answered) (going_left going heard)))

@@ -13,6 +13,7 @@ use Rattle.admission.specs.declared.entries.Answer.TheVariants.{Admitted, Overfl
 use Rattle.admission.specs.declared.entries.Command.{Command}
 use Rattle.admission.specs.declared.entries.Entry.{Entry}
 use Rattle.admission.specs.Histories.{IsLegal, booked_after, open_count, state_after}
+use Rattle.admission.specs.Machine.{State as MachineState}
 use Rattle.admission.specs.Machine.{IsAnswer}
 use Rattle.admission.specs.Makers.{PlacedEntry}
 use Rattle.station.specs.Ledgers.{play_of}
@@ -56,8 +57,12 @@ asked_replied : {old asking new : SessionState} {outcome : Outcome} (play : Asks
     → AnswersAs asking (AskPlay (plan_of play)) outcome new → IsPlayReplied old outcome new
 asked_replied {old} {asking} {new} play (PlayAdmitted {placed = placed} {start = start} entry answered) =
     let is = play.asked in
-    let ready : IsReady is.setup asking.state = subst (IsReady is.setup) (sym (play.same ∙ is.ready)) refl in
-    let begun = play_begins asking placed answered ready is.awaited in
+    let begun = play_begins asking placed (record {
+      setup = is.setup;
+      prepared = _;
+      ready = subst (IsReady is.setup) (sym (play.same ∙ is.ready)) refl;
+      awaits = is.awaited;
+    }) answered in
     let text = ap (λ (t : List ℕ). started_text t (start - asking.heard)) is.text in
     subst (λ a. IsEntryReplied old placed a new) (sym entry.answer_is) (record {
       ok = subst (HasCode 200) (sym text) (front_ok old asking is (start - asking.heard));
@@ -80,30 +85,6 @@ lacks_replied : {asking new : SessionState} {outcome : Outcome} (old : SessionSt
     → AnswersAs asking AskReply outcome new → IsPlayReplied old outcome new
 lacks_replied old code NoneAsked = code
 
--- an entry was made: by the machine's answer in the state after the entries before it
-entry_decided : {terms : Terms} {journal : List Entry} {old : SessionState} {plan : List Segment} {new : SessionState}
-    (placed : PlacedEntry) (answer : Answer) → HasRoomAt terms journal placed.place 2
-    → IsAnswer terms.steps (state_after (take placed.place journal)) (play_of old.heard plan) answer
-    → IsEntryReplied old placed answer new → IsDecided terms journal old plan placed.place new
-entry_decided {terms} {journal} {old} {plan} {new} placed (Admitted start) room is replied =
-    let from : ℕ = start_at journal placed.place old.heard in
-    let booked : ℕ → ℕ = booked_after (take placed.place journal) in
-    let fits : HasRoom 0 booked (capacity_at terms.steps) from plan =
-    subst (λ s. HasRoom 0 booked (capacity_at terms.steps) s plan) is.0 is.1 in record {
-      full = λ no. absurd (omega (arith, no, room));
-      over = λ has over first. absurd (no-room first fits);
-      admitted = λ has all. (placed, subst (λ s. HasBegunPlay old placed s new) is.0 replied);
-    }
-entry_decided {new} placed (Overflow slot bytes asked) room is replied =
-    let found : Over = record { slot = slot; booked = bytes; asked = asked } in record {
-      full = λ no. absurd (omega (arith, no, room));
-      over = λ has over first.
-          let same : found ≡ over = overflow-once is first in
-          (replied.0, subst (λ (o : Over). new.text ≡ overflow_text replied.0 o.slot o.booked o.asked) same replied.1);
-      admitted = λ has all. absurd (no-room is all);
-    }
-entry_decided placed _ room is replied = absurd is
-
 -- a legal journal, from a place on
 record LegalJournal : Type 0 where
   terms : Terms
@@ -111,35 +92,72 @@ record LegalJournal : Type 0 where
   from : ℕ
   legal : IsLegal terms.steps journal
 
--- the turn of a play that was entered
-entry_turn : {old asking new : SessionState} (j : LegalJournal) (play : AsksPlay old asking) (placed : PlacedEntry)
-    → StandsIn j.terms j.journal j.from placed → placed.entry.command ≡ play_of asking.heard (plan_of play)
-    → IsPlayReplied old (Entered placed) new → HasTurn j.terms j.journal j.from old new
-entry_turn {asking = asking} j play placed stands asked replied =
-    let command = asked ∙ ap (λ h. play_of h (plan_of play)) play.heard in
-    let state = state_after (take placed.place journal) in
-    let needed : entries_needed placed.entry.command ≡ 2 = ap entries_needed command in
-    let room : HasRoomAt terms journal placed.place 2 = omega (arith, stands.room, needed) in
-    let answer : IsAnswer terms.steps state placed.entry.command placed.entry.answer =
-    subst (λ (e : Entry). IsAnswer terms.steps state e.command e.answer) (stands.entry placed.entry)
-    (legal.each placed.place placed.entry stands.within) in
-    record {
-      asking = asking;
-      asked = play.asked;
-      turn = placed.place;
-      after = stands.after;
-      within = omega (arith, stands.within);
-      decided = entry_decided placed placed.entry.answer room
-          (subst (λ (c : Command). IsAnswer terms.steps state c placed.entry.answer) command answer) replied;
-    }
+-- the entry of a play stands in it
+record EntryStands {old asking : SessionState} (play : AsksPlay old asking) : Type 0 where
+  j : LegalJournal
+  placed : PlacedEntry
+  stands : StandsIn j.terms j.journal j.from placed
+  command : placed.entry.command ≡ play_of asking.heard (plan_of play)
+
+-- the turn of a play that was entered: the machine's answer in the state after the entries before it
+entry_turn : {old asking new : SessionState} (play : AsksPlay old asking) (e : EntryStands play)
+    → IsPlayReplied old (Entered e.placed) new → HasTurn e.j.terms e.j.journal e.j.from old new
+entry_turn {old} {asking} {new} play e replied = record {
+  asking = asking;
+  asked = play.asked;
+  turn = placed.place;
+  after = stands.after;
+  within = omega (arith, stands.within);
+  decided = by-answer placed.entry.answer
+      (subst (λ (c : Command). IsAnswer terms.steps state c placed.entry.answer) asks
+      (subst (λ (e : Entry). IsAnswer terms.steps state e.command e.answer) (stands.entry placed.entry)
+      (legal.each placed.place placed.entry stands.within))) replied;
+}
   where
+    open e use {j, placed, stands, command}
     open j use {terms, journal, legal}
 
--- and of one for which the journal was full
-full_turn : {old asking new : SessionState} {entries live : ℕ} (j : LegalJournal) (play : AsksPlay old asking)
-    → IsFullIn j.terms.limit j.journal j.from 2 entries live
-    → ((sequence : ℕ) × (new.text ≡ full_text sequence entries live)) → HasTurn j.terms j.journal j.from old new
-full_turn {asking = asking} {new} {entries} j play full replied =
+    asks : placed.entry.command ≡ play_of old.heard (plan_of play)
+    asks = command ∙ ap (λ h. play_of h (plan_of play)) play.heard
+
+    room : HasRoomAt terms journal placed.place 2
+    room = let needed : entries_needed placed.entry.command ≡ 2 = ap entries_needed asks in
+        omega (arith, stands.room, needed)
+
+    state : MachineState
+    state = state_after (take placed.place journal)
+
+    by-answer : (answer : Answer) → IsAnswer terms.steps state (play_of old.heard (plan_of play)) answer
+        → IsEntryReplied old placed answer new → IsDecided terms journal old (plan_of play) placed.place new
+    by-answer (Admitted start) is replied =
+        let fits : HasRoom 0 (booked_after (take placed.place journal)) (capacity_at terms.steps)
+        (start_at journal placed.place old.heard) (plan_of play) =
+        subst (λ s. HasRoom 0 (booked_after (take placed.place journal)) (capacity_at terms.steps) s (plan_of play)) is.0
+        is.1 in record {
+          full = λ no. absurd (omega (arith, no, room));
+          over = λ has over first. absurd (no-room first fits);
+          admitted = λ has all. (placed, subst (λ s. HasBegunPlay old placed s new) is.0 replied);
+        }
+    by-answer (Overflow slot bytes asked) is replied =
+        let found : Over = record { slot = slot; booked = bytes; asked = asked } in record {
+          full = λ no. absurd (omega (arith, no, room));
+          over = λ has over first.
+              let same : found ≡ over = overflow-once is first in
+              (replied.0, subst (λ (o : Over). new.text ≡ overflow_text replied.0 o.slot o.booked o.asked) same replied.1);
+          admitted = λ has all. absurd (no-room is all);
+        }
+    by-answer _ is replied = absurd is
+
+-- a journal that is full, as its two numbers say
+record FullJournal : Type 0 where
+  j : LegalJournal
+  entries : ℕ
+  live : ℕ
+  full : IsFullIn j.terms.limit j.journal j.from 2 entries live
+
+full_turn : {old asking new : SessionState} (play : AsksPlay old asking) (f : FullJournal)
+    → ((sequence : ℕ) × (new.text ≡ full_text sequence f.entries f.live)) → HasTurn f.j.terms f.j.journal f.j.from old new
+full_turn {asking = asking} {new} play f replied =
     let over : terms.limit < entries + open_count (take entries journal) + 2 =
     omega (arith, full.full, full.open_is) in
     record {
@@ -155,20 +173,33 @@ full_turn {asking = asking} {new} {entries} j play full replied =
       };
     }
   where
+    open f use {j, entries, full}
     open j use {terms, journal}
 
 asked_completed : {old asking new : SessionState} {outcome : Outcome} (play : AsksPlay old asking)
     → AnswersAs asking (AskPlay (plan_of play)) outcome new → IsPlayReplied old outcome new
     → IsPlayCompleted old outcome new
 asked_completed play (PlayAdmitted {placed = placed} entry answered) replied = λ terms journal from legal agree.
-    inl (entry_turn (record { terms = terms; journal = journal; from = from; legal = legal }) play placed agree.0
-    entry.command replied)
+    inl (entry_turn play (record {
+      j = record { terms = terms; journal = journal; from = from; legal = legal };
+      placed = placed;
+      stands = agree.0;
+      command = entry.command;
+    }) replied)
 asked_completed play (PlayOverflowed {placed = placed} entry) replied = λ terms journal from legal agree.
-    inl (entry_turn (record { terms = terms; journal = journal; from = from; legal = legal }) play placed agree.0
-    entry.command replied)
+    inl (entry_turn play (record {
+      j = record { terms = terms; journal = journal; from = from; legal = legal };
+      placed = placed;
+      stands = agree.0;
+      command = entry.command;
+    }) replied)
 asked_completed play (PlayFull {entries = entries} {live} two) replied = λ terms journal from legal agree.
-    inl (full_turn (record { terms = terms; journal = journal; from = from; legal = legal }) play
-    (subst (λ more. IsFullIn terms.limit journal from more entries live) two agree.0) replied)
+    inl (full_turn play (record {
+      j = record { terms = terms; journal = journal; from = from; legal = legal };
+      entries = entries;
+      live = live;
+      full = subst (λ more. IsFullIn terms.limit journal from more entries live) two agree.0;
+    }) replied)
 
 -- where memory was wanting the station isn't asked
 lacks_completed : {old asking new : SessionState} {outcome : Outcome} → AnswersAs asking AskReply outcome new
@@ -176,35 +207,45 @@ lacks_completed : {old asking new : SessionState} {outcome : Outcome} → Answer
 lacks_completed NoneAsked replied = λ terms journal from legal agree. inr (refl, replied)
 
 -- a PLAY to which no refusal applies asks for a play, or finds no memory
-by_request : {old new : SessionState} {message : List ℕ} {outcome : Outcome} (P : Type 0)
-    (heard : HasHeard old message outcome new) → CanBePlayed old message
-    → ((play : AsksPlay old heard.asking) → AnswersAs heard.asking (AskPlay (plan_of play)) outcome new → P)
-    → (LacksMemory old heard.ask heard.asking → AnswersAs heard.asking AskReply outcome new → P) → P
-by_request {old} {new} {message} {outcome} P heard can asked lacked =
+data PlayHeard (old : SessionState) (outcome : Outcome) (new : SessionState) : Type 0 where
+  Asked : {asking : SessionState} (play : AsksPlay old asking) → AnswersAs asking (AskPlay (plan_of play)) outcome new
+      → PlayHeard old outcome new
+  Lacked : {asking : SessionState} → HasCode 500 asking.text → AnswersAs asking AskReply outcome new
+      → PlayHeard old outcome new
+
+play_heard : {old new : SessionState} {message : List ℕ} {outcome : Outcome} → CanBePlayed old message
+    → HasHeard old message outcome new → PlayHeard old outcome new
+play_heard {old} {new} {message} {outcome} can heard =
     let asking = heard.asking in
     let changes = hears_state old asking message heard.ask heard.hears in
     let answers : AnswersAs asking heard.ask outcome new = answers_as heard.ask outcome heard.answered in
     elim (hears_good old asking message heard.ask heard.hears can) [
-      | inl asks ↦ asked (record {
+      | inl asks ↦ Asked (record {
         asked = asks.play;
         same = (subst (λ a. ChangesState a old asking) asks.command changes).0;
         heard = (hears_ground old asking message heard.ask heard.hears).heard;
       }) (subst (λ a. AnswersAs asking a outcome new) asks.command answers)
-      | inr lacks ↦ lacked lacks (subst (λ a. AnswersAs asking a outcome new) lacks.refused.0 answers)
+      | inr lacks ↦ Lacked (memory_code old heard.ask asking lacks)
+          (subst (λ a. AnswersAs asking a outcome new) lacks.refused.0 answers)
     ]
+
+replied_to : {old new : SessionState} {outcome : Outcome} → PlayHeard old outcome new → IsPlayReplied old outcome new
+replied_to (Asked play answers) = asked_replied play answers
+replied_to {old} (Lacked code answers) = lacks_replied old code answers
+
+completed_by : {old new : SessionState} {outcome : Outcome} → PlayHeard old outcome new
+    → IsPlayReplied old outcome new → IsPlayCompleted old outcome new
+completed_by (Asked play answers) replied = asked_completed play answers replied
+completed_by (Lacked code answers) replied = lacks_completed answers replied
 
 pub play_answered : (old new : SessionState) (message : List ℕ) (outcome : Outcome) → CanBePlayed old message →
     HasHeard old message outcome new → IsPlayReplied old outcome new
-play_answered old new message outcome can heard =
-    by_request (IsPlayReplied old outcome new) heard can (λ play answers. asked_replied play answers)
-    (λ lacks answers. lacks_replied old (memory_code old heard.ask heard.asking lacks) answers)
+play_answered old new message outcome can heard = replied_to (play_heard can heard)
 
 pub play_completed : (old new : SessionState) (message : List ℕ) (outcome : Outcome) → CanBePlayed old message →
     HasHeard old message outcome new → IsPlayCompleted old outcome new
 play_completed old new message outcome can heard =
-    let replied = play_answered old new message outcome can heard in
-    by_request (IsPlayCompleted old outcome new) heard can (λ play answers. asked_completed play answers replied)
-    (λ lacks answers. lacks_completed answers replied)
+    let its = play_heard can heard in completed_by its (replied_to its)
 
 pub overflow_told : {old new : SessionState} {plan : List Segment} {placed : PlacedEntry} {over : Over} →
     IsAskAnswered old (AskPlay plan) (Entered placed) new →

@@ -50,10 +50,16 @@ admitted_is (Ready own paused) setup prepared place start ready =
     ap (λ s. Playing s (new_play prepared place start)) ready
 admitted_is _ setup prepared place start ready = absurd ready
 
-pub play_begins : {new : SessionState} {start : ℕ} {setup : Setup} {prepared : Prepared} (old : SessionState)
-    (placed : PlacedEntry) → IsPlayAnswered old placed (Admitted start) new → IsReady setup old.state
-    → old.awaited ≡ Play prepared → HasBegun setup prepared placed.place start new
-play_begins {new} {start} {setup} {prepared} old placed answered ready awaits =
+-- a play that was prepared can begin
+pub record ReadyPlay (old : SessionState) : Type 0 where
+  pub setup : Setup
+  pub prepared : Prepared
+  pub ready : IsReady setup old.state
+  pub awaits : old.awaited ≡ Play prepared
+
+pub play_begins : {new : SessionState} {start : ℕ} (old : SessionState) (placed : PlacedEntry) (its : ReadyPlay old)
+    → IsPlayAnswered old placed (Admitted start) new → HasBegun its.setup its.prepared placed.place start new
+play_begins {new} {start} old placed its answered =
     let play : Played = new_play prepared placed.place start in
     let state : new.state ≡ Playing setup play =
     ap (λ (s : SessionState). s.state) answered.1 ∙ ap (λ a. admitted_in old.state a placed.place start) awaits
@@ -71,3 +77,5 @@ play_begins {new} {start} {setup} {prepared} old placed answered ready awaits =
       before = refl;
       sent = nothing_sent prepared placed.place start new.heard (subst (λ h. h < start) (sym heard) answered.0) is;
     }
+  where
+    open its use {setup, prepared, ready, awaits}

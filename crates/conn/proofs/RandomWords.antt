@@ -1,10 +1,10 @@
 -- The words of a connection as words of a block.
-use Rattle.std.proofs.Common.{◌≡◌, ℕ, zero, suc, ◌+◌, ◌*◌, ◌^◌, ◌<◌, List, slice_index, refl, ap, ◌∙◌, arith}
+use Rattle.std.proofs.Common.{◌≡◌, ℕ, zero, suc, ◌<◌, List, slice_index, refl, arith}
 use Rattle.rand_chacha.specs.Block.{block_word}
 use Rattle.rand_chacha.specs.ChaCha.{key_of}
 use Rattle.conn.specs.Words.{stream_of, words_of}
 
-word_of : (seed : List ℕ) (worker connection place : ℕ) → place < 5
+pub word_of : (seed : List ℕ) (worker connection place : ℕ) → place < 5
     → slice_index (words_of seed worker connection) place
     ≡ block_word 10 (key_of seed) 0 (stream_of worker connection) place
 word_of seed worker connection zero less = refl
@@ -13,10 +13,3 @@ word_of seed worker connection (suc (suc zero)) less = refl
 word_of seed worker connection (suc (suc (suc zero))) less = refl
 word_of seed worker connection (suc (suc (suc (suc zero)))) less = refl
 word_of seed worker connection (suc (suc (suc (suc (suc place))))) less = absurd (omega (arith, less))
-
-pub word_drawn : (seed : List ℕ) (worker connection place : ℕ) → worker < 2 ^ 32 → connection < 2 ^ 32 → place < 5 →
-    slice_index (words_of seed worker connection) place
-    ≡ block_word 10 (key_of seed) 0 (worker * 2 ^ 32 + connection) place
-word_drawn seed worker connection place small few less =
-    let stream : stream_of worker connection ≡ worker * 2 ^ 32 + connection = omega (arith, small, few) in
-    word_of seed worker connection place less ∙ ap (λ s. block_word 10 (key_of seed) 0 s place) stream

@@ -15,7 +15,7 @@ use Rattle.session.specs.SlotSteps.{can_reply, is_between, is_sending, is_taken,
 use Rattle.session.specs.SlotSteps.{stepped_in}
 use Rattle.session.specs.SessionStates.{AwaitedAnswer, SessionState}
 use Rattle.conn.specs.InputSteps.{Outcome, Entered, WasFull, SentPart, Film, Text, Stage, ElementStep, Passed}
-use Rattle.conn.specs.InputSteps.{Answered, HasHeard, Takes as TakesElement, TakesAll, slot_parts}
+use Rattle.conn.specs.InputSteps.{Answered, HasHeard, TakesAll, slot_parts}
 use Rattle.conn.specs.EventSteps.{Ending, Ends, AtElement, InReply, Round, Runs, RunsAll, ending_outcomes}
 use Rattle.conn.specs.EventSteps.{round_outcomes, rounds_outcomes, takings_outcomes}
 use Rattle.conn.specs.Films.{round_parts, rounds_parts, takings_parts}
@@ -136,27 +136,27 @@ told_full made more entries live sequence = record {
 }
 
 -- what the station answers to a session whose own text states no refusal
-answered_told : {old new : SessionState} {ask : Ask} {outcome : Outcome} (made : List Outcome) → RefusesNone ask old
-    → AnswersAs old ask outcome new → IsTold (made ++ outcome ∷ []) new.text
-answered_told {old} {outcome = outcome} made plain (PlayAdmitted {start = start} entry answered) =
-    let rest : List ℕ = field_line (field (codes "x-Start") (decimal (start - old.heard))) in
-    told_plain (made ++ outcome ∷ []) (started_text old.text (start - old.heard))
-    (subst IsNoRefusal (sym (append_assoc old.text rest (codes "\r\n"))) (plain (rest ++ codes "\r\n")))
-answered_told made plain (PlayOverflowed {placed = placed} {slot} {booked} {asked} entry) =
-    told_overflow made placed (record { slot = slot; booked = booked; asked = asked }) _ entry.answer_is
-answered_told made plain (PlayFull {more = more} {entries} {live} two) = told_full made more entries live _
-answered_told made plain (LookFull {more = more} {entries} {live}) = told_full made more entries live _
-answered_told {outcome = outcome} made plain (LookMade is) = told_plain (made ++ outcome ∷ []) _ (ok_plain _ _ _)
-answered_told {outcome = outcome} made plain OfferMade = told_plain (made ++ outcome ∷ []) _ (ok_plain _ _ _)
-answered_told {old} {outcome = outcome} made plain NoneAsked = told_plain (made ++ outcome ∷ []) old.text plain
-answered_told {old} {outcome = outcome} made plain (PlayHalted entry) =
-    told_plain (made ++ outcome ∷ []) old.text plain
-
 heard_told : {old new : SessionState} {message : List ℕ} {outcome : Outcome} (made : List Outcome)
     → HasHeard old message outcome new → IsTold (made ++ outcome ∷ []) new.text
-heard_told {old} {message = message} {outcome} made heard =
-    answered_told made (hears_text old heard.asking message heard.ask heard.hears)
-    (answers_as heard.ask outcome heard.answered)
+heard_told {old} {message = message} made heard =
+    by-answer (hears_text old asking message heard.ask heard.hears) (answers_as heard.ask _ heard.answered)
+  where
+    open heard use {asking}
+
+    by-answer : {ask : Ask} {outcome : Outcome} {new : SessionState} → RefusesNone ask asking
+        → AnswersAs asking ask outcome new → IsTold (made ++ outcome ∷ []) new.text
+    by-answer plain (PlayAdmitted {start = start} entry answered) =
+        let rest : List ℕ = field_line (field (codes "x-Start") (decimal (start - asking.heard))) in
+        told_plain _ (started_text asking.text (start - asking.heard))
+        (subst IsNoRefusal (sym (append_assoc asking.text rest (codes "\r\n"))) (plain (rest ++ codes "\r\n")))
+    by-answer plain (PlayOverflowed {placed = placed} {slot} {booked} {asked} entry) =
+        told_overflow made placed (record { slot = slot; booked = booked; asked = asked }) _ entry.answer_is
+    by-answer plain (PlayFull {more = more} {entries} {live} two) = told_full made more entries live _
+    by-answer plain (LookFull {more = more} {entries} {live}) = told_full made more entries live _
+    by-answer plain (LookMade is) = told_plain _ _ (ok_plain _ _ _)
+    by-answer plain OfferMade = told_plain _ _ (ok_plain _ _ _)
+    by-answer plain NoneAsked = told_plain _ asking.text plain
+    by-answer plain (PlayHalted entry) = told_plain _ asking.text plain
 
 -- a reply that goes out
 reply_told : (made : List Outcome) (goes : Bool) (text : List ℕ) → IsTold made text
@@ -173,20 +173,6 @@ record Tells (made : List Outcome) (s : SessionState) (parts : List SentPart) : 
   waiting : IsTold made s.text
   sent : AreReported made parts
 
-taking_tells : {old new : Stage} {message : List ℕ} {outcome : Outcome} {parts : List SentPart} (made : List Outcome) →
-    TakesElement old (Answered message outcome parts) new → Tells (made ++ outcome ∷ []) new.session parts
-taking_tells {old} {new} {message} {outcome} made takes =
-    let goes : Bool = can_reply takes.answered in
-    let told : IsTold (made ++ outcome ∷ []) takes.answered.text =
-    heard_told made takes.heard in
-    let text : new.session.text ≡ takes.answered.text =
-    ap (λ (s : Stage). s.session.text) takes.new_is ∙ reply_text_is goes takes.answered in
-    record {
-      waiting = subst (IsTold (made ++ outcome ∷ [])) (sym text) told;
-      sent = subst (AreReported (made ++ outcome ∷ [])) (sym takes.parts_are)
-          (reply_told (made ++ outcome ∷ []) goes takes.answered.text told);
-    }
-
 takings_tell : (made : List Outcome) (old new : Stage) (takings : List ElementStep) → IsTold made old.session.text
     → TakesAll old takings new → Tells (made ++ takings_outcomes takings) new.session (takings_parts takings)
 takings_tell made old new [] told takes =
@@ -196,7 +182,16 @@ takings_tell made old new (Passed n ∷ takings) told takes =
     takings_tell made takes.0 new takings
     (subst (λ (s : Stage). IsTold made s.session.text) (sym takes.1.0.2) told) takes.1.1
 takings_tell made old new (Answered message outcome parts ∷ takings) told takes =
-    let first = taking_tells made takes.1.0 in
+    let made' : List Outcome = made ++ outcome ∷ [] in
+    let taken = takes.1.0 in
+    let goes : Bool = can_reply taken.answered in
+    let heard : IsTold made' taken.answered.text = heard_told made taken.heard in
+    let text : takes.0.session.text ≡ taken.answered.text =
+    ap (λ (s : Stage). s.session.text) taken.new_is ∙ reply_text_is goes taken.answered in
+    let first : Tells made' takes.0.session parts = record {
+      waiting = subst (IsTold made') (sym text) heard;
+      sent = subst (AreReported made') (sym taken.parts_are) (reply_told made' goes taken.answered.text heard);
+    } in
     let rest = takings_tell (made ++ outcome ∷ []) takes.0 new takings first.waiting takes.1.1 in
     let all : (made ++ outcome ∷ []) ++ takings_outcomes takings ≡ made ++ outcome ∷ takings_outcomes takings =
     append_assoc made (outcome ∷ []) (takings_outcomes takings) in
@@ -213,18 +208,18 @@ slot_text old slot =
     slot_any (λ s. s.text ≡ old.text) old slot
     (λ sends. reply_text_is (old.waits && is_between (stepped_in true slot old.state)) (sent_due old slot)) refl refl
 
-due_told : {made : List Outcome} {text : List ℕ} (sends waits between : Bool) (bytes : SlotBytes) → IsTold made text →
-    AreReported made (if sends then (if waits then Film bytes.before ∷
-    (if between then Text text ∷ Film bytes.rest ∷ [] else []) else
-    Film bytes.plain ∷ []) else [])
-due_told true true true bytes told = (told, tt)
-due_told _ _ _ bytes told = tt
-
 slot_tells : (made : List Outcome) (old : SessionState) (slot : ℕ) → IsTold made old.text
     → AreReported made (slot_parts old slot)
 slot_tells made old slot told =
-    due_told (is_taken old slot && is_sending old.state) old.waits (is_between (stepped_in true slot old.state))
-    (record { before = _; rest = _; plain = _ }) told
+    by-parts (is_taken old slot && is_sending old.state) old.waits (is_between (stepped_in true slot old.state))
+    (record { before = _; rest = _; plain = _ })
+  where
+    by-parts : (sends waits between : Bool) (bytes : SlotBytes) →
+        AreReported made (if sends then (if waits then Film bytes.before ∷
+        (if between then Text old.text ∷ Film bytes.rest ∷ [] else []) else
+        Film bytes.plain ∷ []) else [])
+    by-parts true true true bytes = (told, tt)
+    by-parts _ _ _ bytes = tt
 
 finished_text : {asks : AwaitedAnswer} {old new : SessionState} {halt : Outcome} → FinishesAs old asks halt new
     → new.text ≡ old.text
@@ -298,7 +293,7 @@ ending_tells {made} {old} (InReply round message outcome front) told ended =
 ending_tells _ told ended = tt
 
 pub parts-more : (rounds more : List Round) → rounds_parts (rounds ++ more) ≡ rounds_parts rounds ++ rounds_parts more
-parts-more = joined-append round_parts rounds_parts refl (λ x xs. refl)
+parts-more = joined-append (record { part = round_parts; all = rounds_parts; none = refl; one = λ x xs. refl })
 
 no_digits : (a b c : ℕ) → [] ≡ a ∷ b ∷ c ∷ [] → ⊥
 no_digits a b c same = cc
@@ -307,14 +302,23 @@ nothing_told : IsTold [] []
 unfolding digits
 nothing_told = record { overflow = λ is. absurd (no_digits 52 53 51 is); full = λ is. absurd (no_digits 53 48 51 is) }
 
--- over an entire course
-pub course_tells : {ending : Ending} (old mid : Stage) (rounds : List Round) → old.session.text ≡ []
-    → RunsAll old rounds mid → CourseEnd mid ending
-    → AreReported (rounds_outcomes rounds ++ ending_outcomes ending) (rounds_parts (rounds ++ ending_rounds ending))
-course_tells {ending} old mid rounds none runs ended =
+-- an entire course, from a session without a text
+pub record EntireCourse (old : Stage) : Type 0 where
+  pub none : old.session.text ≡ []
+  pub mid : Stage
+  pub rounds : List Round
+  pub runs : RunsAll old rounds mid
+  pub ending : Ending
+  pub ended : CourseEnd mid ending
+
+pub course_tells : {old : Stage} (c : EntireCourse old)
+    → AreReported (rounds_outcomes c.rounds ++ ending_outcomes c.ending) (rounds_parts (c.rounds ++ ending_rounds c.ending))
+course_tells {old} c =
     let made : List Outcome = rounds_outcomes rounds ++ ending_outcomes ending in
     let first = rounds_tell [] old mid rounds (subst (IsTold []) (sym none) nothing_told) runs in
     let last = ending_tells ending first.waiting ended in
     subst (AreReported made) (sym (parts-more rounds (ending_rounds ending)))
     (are_both made (rounds_parts rounds) (rounds_parts (ending_rounds ending))
     (are_more (rounds_outcomes rounds) (ending_outcomes ending) (rounds_parts rounds) first.sent) last)
+  where
+    open c use {none, mid, rounds, runs, ending, ended}

@@ -23,7 +23,7 @@ use Rattle.pacer.proofs.SlotStepLemmas.{most-slots}
 use Rattle.conn.proofs.FilmBytes.{stopped_is}
 use Rattle.conn.proofs.PlayProgress.{comes_on, going_left, going_on, heard_left, round_on, span_going, taking_left}
 use Rattle.conn.proofs.PlayProgress.{takes_left, unhalted_front, unhalted_rest}
-use Rattle.conn.proofs.EventPremises.{SlotBytes, PlayGoing}
+use Rattle.conn.proofs.EventPremises.{PlayGoing}
 use Rattle.conn.proofs.StationAnswers.{ComesAs, comes_as, BytesCame, SlotCame}
 
 -- as many bytes were sent as the plan has up to the latest slot
@@ -80,16 +80,6 @@ stand-append pieces place (Film bytes ∷ xs) ys first second =
     (subst (λ n. StandBetween pieces n ys) (omega (arith, length-append bytes (film_bytes xs))) second)
 stand-append pieces place (Text text ∷ xs) ys first second = (first.0, stand-append pieces place xs ys first.1 second)
 
--- a slot's parts
-slot_stands : {between : Bool} {pieces : List (List ℕ)} (waits : Bool) (place : ℕ) (bytes : SlotBytes)
-    (text : List ℕ) → (between ≡ true → IsBoundary pieces (place + length bytes.before)) →
-    StandBetween pieces place
-    (if waits then Film bytes.before ∷ (if between then Text text ∷ Film bytes.rest ∷ [] else []) else Film
-    bytes.plain ∷ [])
-slot_stands false place bytes text stands = tt
-slot_stands {between = false} true place bytes text stands = tt
-slot_stands {between = true} true place bytes text stands = (stands refl, tt)
-
 -- these parts stand between the frames and reports of a play that goes on
 abbrev StandIn : {session : SessionState} → PlayGoing session → List SentPart → Type 0
 StandIn going parts = StandBetween going.play.pacer.pieces (going.play.pacer.before + length going.film) parts
@@ -105,11 +95,18 @@ due_stand session slot going =
     λ between. subst (IsBoundary p.pieces)
     (omega (arith, sent_place going.play session.heard going.film going.sent, stopped_place slot p going.sent.pacing))
     (boundary_here (after_step true slot p) (stopped_is slot p going.sent.pacing) between) in
-    slot_stands session.waits place (record {
-      before = step_bytes true slot session.state;
-      rest = step_bytes false slot (stepped_in true slot session.state);
-      plain = step_bytes false slot session.state;
-    }) session.text (subst State' (sym going.state) stands)
+    by-case session.waits (is_between (stepped_in true slot session.state)) (subst State' (sym going.state) stands)
+  where
+    by-case : (waits between : Bool)
+        → (between ≡ true → IsBoundary going.play.pacer.pieces
+        (going.play.pacer.before + length going.film + length (step_bytes true slot session.state)))
+        → StandIn going (if waits then Film (step_bytes true slot session.state)
+        ∷ (if between
+        then Text session.text ∷ Film (step_bytes false slot (stepped_in true slot session.state)) ∷ [] else [])
+        else Film (step_bytes false slot session.state) ∷ [])
+    by-case false between stands = tt
+    by-case true false stands = tt
+    by-case true true stands = (stands refl, tt)
 
 none_stand : (goes : Bool) (pieces : List (List ℕ)) (place : ℕ) (parts : List SentPart)
     → (goes ≡ true → StandBetween pieces place parts) → StandBetween pieces place (if goes then parts else [])
@@ -171,7 +168,8 @@ takes_stand old new (Answered message outcome parts ∷ takings) takes free goin
     ap film_bytes taken.parts_are ∙ no_film (can_reply taken.answered) taken.answered.text in
     let reply : StandBetween p.pieces place parts =
     subst (StandBetween p.pieces place) (sym taken.parts_are)
-    (reply_stands taken.answered (going_left going (heard_left taken.heard free.0 going))) in
+    (reply_stands taken.answered (going_left going
+    (heard_left (record { message = message; outcome = outcome; heard = taken.heard }) free.0 going))) in
     let rest : StandBetween p.pieces place (takings_parts takings) =
     takes_stand takes.0 new takings takes.1.1 free.1 (going_left going left) in
     stand-append p.pieces place parts (takings_parts takings) reply

@@ -185,8 +185,8 @@ carried {old} {film = film} well kept state =
 
 -- a PLAY in Ready
 prepared_well : {old new : SessionState} {film : List ℕ} → IsWell old film → IsSameContext old new
-    → new.state ≡ old.state → IsPlayAsked old new → HasPrepared new.films new.source new.settings new.state new.awaited
-prepared_well {old} {new} {film} well same state is =
+    → (new.state ≡ old.state) × IsPlayAsked old new → HasPrepared new.films new.source new.settings new.state new.awaited
+prepared_well {old} {new} {film} well same (state, is) =
     let values : IsSetup (length old.films) is.setup =
     subst (IsStateOf (ground_of old film)) is.ready well.state in
     let planned = is.planned_is in
@@ -254,25 +254,26 @@ halting_well {old} {new} {film} well same is =
           (was.0, halted_to (next_of new.awaited) halt));
     }
 
-asked_well : {old new : SessionState} {film : List ℕ} (ask : Ask) → IsWell old film
-    → IsSameContext old new × (AsksNoHalt ask → AwaitsNoStop new) → ChangesState ask old new → IsAskedWell ask new film
-asked_well AskReply well on (inl state) = carried well (record { same = on.0; unstopped = on.1 tt }) state
-asked_well {old} {film = film} AskReply well on (inr setup) =
-    kept_well well (record { same = on.0; unstopped = on.1 tt })
-    (subst (IsStateOf (ground_of old film)) (sym setup.state) (setup.ranges well.settings))
-asked_well (AskPlay plan) well on changes = (
-  carried well (record { same = on.0; unstopped = on.1 tt }) changes.0,
-  prepared_well well on.0 changes.0 changes.1.play,
-)
-asked_well (AskHalt keep) well on changes = halting_well well on.0 changes
-asked_well (AskLook slot) well on changes = carried well (record { same = on.0; unstopped = on.1 tt }) changes
-asked_well (AskOffer plan offers) well on changes = carried well (record { same = on.0; unstopped = on.1 tt }) changes
-
 pub hears_well : {film : List ℕ} (heard : HeardMessage) → IsWell heard.old film → IsAskedWell heard.ask heard.new film
-hears_well heard well =
-    asked_well ask well (
-      hears_ground old new message ask hears,
-      λ free. hears_unstopped old new message ask hears free well.unstopped,
-    ) (hears_state old new message ask hears)
+hears_well {film} heard well = by-ask ask unstopped (hears_state old new message ask hears)
   where
     open heard use {old, new, message, ask, hears}
+
+    same : IsSameContext old new
+    same = hears_ground old new message ask hears
+
+    unstopped : AsksNoHalt ask → AwaitsNoStop new
+    unstopped free = hears_unstopped old new message ask hears free well.unstopped
+
+    by-ask : (ask : Ask) → (AsksNoHalt ask → AwaitsNoStop new) → ChangesState ask old new → IsAskedWell ask new film
+    by-ask AskReply on (inl state) = carried well (record { same = same; unstopped = on tt }) state
+    by-ask AskReply on (inr setup) =
+        kept_well well (record { same = same; unstopped = on tt })
+        (subst (IsStateOf (ground_of old film)) (sym setup.state) (setup.ranges well.settings))
+    by-ask (AskPlay plan) on changes = (
+      carried well (record { same = same; unstopped = on tt }) changes.0,
+      prepared_well well same (changes.0, changes.1.play),
+    )
+    by-ask (AskHalt keep) on changes = halting_well well same changes
+    by-ask (AskLook slot) on changes = carried well (record { same = same; unstopped = on tt }) changes
+    by-ask (AskOffer plan offers) on changes = carried well (record { same = same; unstopped = on tt }) changes

@@ -4,7 +4,6 @@ use Rattle.std.proofs.Common.{refl, ap, sym, ◌∙◌, subst, arith}
 use Rattle.std.proofs.lemmas.List.{append-nil, append_assoc, map-append, length-append, get_or_append_left}
 use Rattle.std.proofs.lemmas.List.Sums.{fold-append}
 use Rattle.std.proofs.lemmas.List.Elements.{All-append, All-cons, All-nil}
-use Rattle.admission.specs.declared.entries.Command.{Command}
 use Rattle.admission.specs.declared.entries.Command.TheVariants.{Look}
 use Rattle.admission.specs.declared.entries.Answer.TheVariants.{Looked}
 use Rattle.admission.specs.Histories.{Halts}
@@ -16,7 +15,8 @@ use Rattle.plan_cert.specs.PlanSlots.{total_bytes}
 use Rattle.session.specs.SessionStates.{OpenBooking, IsSameBooking, AwaitsNoAnswer, open_of}
 use Rattle.station.specs.Bookings.{Booking}
 use Rattle.conn.specs.ReservationInvariant.{ReservationState, HasAdvanced, IsHeld, entry_receipts, receipt_for}
-use Rattle.conn.specs.ReservationInvariant.{Closed, Broken, open_play_with, open_play_from, open_play_of, IsQuiet}
+use Rattle.conn.specs.ReservationInvariant.{Closed, Broken, open_play_after, open_play_with, open_play_from, open_play_of}
+use Rattle.conn.specs.ReservationInvariant.{IsQuiet}
 use Rattle.conn.specs.ReservationInvariant.{KeepsReservations, reservation_state}
 use Rattle.station.specs.Seats.{SeatState}
 use Rattle.station.proofs.SameSeats.{seat_none, seat_on}
@@ -29,21 +29,33 @@ entry_receipts-append (EntryReceipt place answer ∷ xs) ys =
 entry_receipts-append (FullReceipt entries live ∷ xs) ys = entry_receipts-append xs ys
 
 -- no entry was made, and the receipts list none
-pub gone_none : {old new : ReservationState} (full : List Receipt) → new.mine ≡ old.mine → new.booking ≡ old.booking
-    → new.receipts ≡ old.receipts ++ full → entry_receipts full ≡ [] → HasAdvanced old new
-gone_none {old} {new} full mine booking receipts none = record {
+pub record HasNoEntry (old new : ReservationState) : Type 0 where
+  pub full : List Receipt
+  pub mine : new.mine ≡ old.mine
+  pub booking : new.booking ≡ old.booking
+  pub receipts : new.receipts ≡ old.receipts ++ full
+  pub none : entry_receipts full ≡ []
+
+pub gone_none : {old new : ReservationState} → HasNoEntry old new → HasAdvanced old new
+gone_none {old} still = record {
   made = [];
-  mine_is = mine ∙ sym (append-nil old.mine);
+  mine_is = still.mine ∙ sym (append-nil old.mine);
   receipts_are =
-      ap entry_receipts receipts ∙ entry_receipts-append old.receipts full
-      ∙ ap (λ rs. entry_receipts old.receipts ++ rs) none;
-  open_is = ap open_play_of (sym booking);
+      ap entry_receipts still.receipts ∙ entry_receipts-append old.receipts still.full
+      ∙ ap (λ rs. entry_receipts old.receipts ++ rs) still.none;
+  open_is = ap open_play_of (sym still.booking);
 }
 
 -- nothing was answered
 pub gone_still : (old new : ReservationState) → new.mine ≡ old.mine → new.booking ≡ old.booking
     → new.receipts ≡ old.receipts → HasAdvanced old new
-gone_still old new mine booking receipts = gone_none [] mine booking (receipts ∙ sym (append-nil old.receipts)) refl
+gone_still old new mine booking receipts = gone_none (record {
+  full = [];
+  mine = mine;
+  booking = booking;
+  receipts = receipts ∙ sym (append-nil old.receipts);
+  none = refl;
+})
 
 -- one after the other
 pub gone_on : (a b c : ReservationState) → HasAdvanced a b → HasAdvanced b c → HasAdvanced a c
@@ -74,14 +86,13 @@ open_among_more mine placed number keep other among = record {
   small = among.small;
 }
 
--- a booking is held as a look is noted
-pub held_at_look : {slot : ℕ} (mine : List PlacedEntry) (placed : PlacedEntry) (booking : Option Booking)
-    (play : Option OpenBooking) → placed.entry.command ≡ Look slot →
+-- a booking is held as an entry is noted that doesn't halt it, as a look
+pub held_at_look : (mine : List PlacedEntry) (placed : PlacedEntry) (booking : Option Booking)
+    (play : Option OpenBooking) → ((number : ℕ) → ¬ Halts number placed.entry.command) →
     IsHeld mine booking play → IsHeld (mine ++ placed ∷ []) booking play
-held_at_look {slot} mine placed (Some booking) (Some play) is held =
-    λ keep small. open_among_more mine placed booking.number keep
-    (subst (λ (c : Command). ¬ Halts booking.number c) (sym is) (λ h. h)) (held keep small)
-held_at_look mine placed _ _ is held = held
+held_at_look mine placed (Some booking) (Some play) other held =
+    λ keep small. open_among_more mine placed booking.number keep (other booking.number) (held keep small)
+held_at_look mine placed _ _ other held = held
 
 -- a booking is held as more of its plan becomes due
 pub held_same : (mine : List PlacedEntry) (booking : Option Booking) (old new : Option OpenBooking)
@@ -94,26 +105,26 @@ held_same mine (Some booking) (Some old) (Some new) same held =
 
 -- one more entry is the seat's own, and its receipt is noted
 pub record HasEntered (old new : ReservationState) (placed : PlacedEntry) : Type 0 where
+  pub booking : Option Booking
+  pub was : old.booking ≡ booking
   pub mine : new.mine ≡ old.mine ++ placed ∷ []
   pub receipts : new.receipts ≡ old.receipts ++ receipt_for placed ∷ []
 
 -- with an entry the booking becomes what the entry makes of it
-pub gone_entry : {old new : ReservationState} {placed : PlacedEntry} {booking : Option Booking}
-    → old.booking ≡ booking → HasEntered old new placed
-    → open_play_with (open_play_of booking) placed ≡ open_play_of new.booking → HasAdvanced old new
-gone_entry {old} {placed = placed} was entered opened = record {
+pub gone_entry : {old new : ReservationState} {placed : PlacedEntry} (entered : HasEntered old new placed)
+    → open_play_with (open_play_of entered.booking) placed ≡ open_play_of new.booking → HasAdvanced old new
+gone_entry {old} {placed = placed} entered opened = record {
   made = placed ∷ [];
   mine_is = entered.mine;
   receipts_are = ap entry_receipts entered.receipts ∙ entry_receipts-append old.receipts (receipt_for placed ∷ []);
-  open_is = ap (λ b. open_play_with (open_play_of b) placed) was ∙ opened;
+  open_is = ap (λ b. open_play_with (open_play_of b) placed) entered.was ∙ opened;
 }
 
 -- a look leaves the booking, and a halt none
-pub at_look : (booking : Option Booking) (place maker slot now at booked : ℕ) → open_play_with (open_play_of booking)
-    (record { place = place; entry = record { maker = maker; command = Look slot; answer = Looked now at booked } })
-    ≡ open_play_of booking
-at_look None place maker slot now at booked = refl
-at_look (Some booking) place maker slot now at booked = refl
+pub at_look : (booking : Option Booking) (place slot now at booked : ℕ)
+    → open_play_after (open_play_of booking) place (Look slot) (Looked now at booked) ≡ open_play_of booking
+at_look None place slot now at booked = refl
+at_look (Some booking) place slot now at booked = refl
 
 pub at_halt : (number : ℕ) → (if number == number then Closed else Broken) ≡ Closed
 at_halt number = let same : (number == number) ≡ true = grind arith in ap (λ b. if b then Closed else Broken) same
@@ -123,6 +134,14 @@ pub held_none : (mine : List PlacedEntry) (booking : Option Booking) (play : Opt
     → IsHeld mine booking play → booking ≡ None
 held_none mine None play none held = refl
 held_none mine (Some booking) play none held = absurd (subst (IsHeld mine (Some booking)) none held)
+
+-- a seat, and the connection for which it sits
+pub record Seated : Type 0 where
+  pub seat : SeatState
+  pub connection : Connection
+
+abbrev pub Keeps : Seated → Seated → Type 0
+Keeps a b = KeepsReservations a.seat b.seat a.connection b.connection
 
 -- before any call
 pub kept_none : (seat : SeatState) (connection : Connection) → IsQuiet seat.mine connection
@@ -134,13 +153,12 @@ kept_none seat connection quiet = record {
 }
 
 -- one call after another
-pub kept_on : {a b c : SeatState} {old mid new : Connection} → KeepsReservations a b old mid
-    → KeepsReservations b c mid new → KeepsReservations a c old new
-kept_on {a} {b} {c} {old} {mid} {new} first second = record {
-  seat = seat_on a b c first.seat second.seat;
+pub kept_on : {a b c : Seated} → Keeps a b → Keeps b c → Keeps a c
+kept_on {a} {b} {c} first second = record {
+  seat = seat_on a.seat b.seat c.seat first.seat second.seat;
   quiet = second.quiet;
-  gone = gone_on (reservation_state a.mine old) (reservation_state b.mine mid) (reservation_state c.mine new) first.gone
-      second.gone;
+  gone = gone_on (reservation_state a.seat.mine a.connection) (reservation_state b.seat.mine b.connection)
+      (reservation_state c.seat.mine c.connection) first.gone second.gone;
 }
 
 -- the bytes that wait are no part of it
@@ -152,41 +170,48 @@ kept_moved seat connection input quiet = record {
   gone = gone_still (reservation_state seat.mine connection) (reservation_state seat.mine connection) refl refl refl;
 }
 
--- more of a play became due
-pub kept_due : {a b : Connection} (seat : SeatState) → IsQuiet seat.mine a → AwaitsNoAnswer b.session
-    → b.booking ≡ a.booking → IsSameBooking (open_of a.session) (open_of b.session)
-    → b.session.receipts ≡ a.session.receipts → KeepsReservations seat seat a b
-kept_due {a} {b} seat quiet rest booking opens receipts = record {
+-- no entry was made, and no booking opened or closed
+pub record IsUnbooked (a b : Connection) : Type 0 where
+  pub booking : b.booking ≡ a.booking
+  pub receipts : b.session.receipts ≡ a.session.receipts
+
+-- and more of a play may have become due
+pub record IsMoreDue (a b : Connection) : Type 0 where
+  pub rest : AwaitsNoAnswer b.session
+  pub same : IsUnbooked a b
+  pub opens : IsSameBooking (open_of a.session) (open_of b.session)
+
+pub kept_due : {a b : Connection} (seat : SeatState) → IsQuiet seat.mine a → IsMoreDue a b
+    → KeepsReservations seat seat a b
+kept_due {a} {b} seat quiet due = record {
   seat = seat_none seat;
   quiet = record {
-    rest = rest;
-    held = subst (λ k. IsHeld seat.mine k (open_of b.session)) (sym booking)
-        (held_same seat.mine a.booking (open_of a.session) (open_of b.session) opens quiet.held);
+    rest = due.rest;
+    held = subst (λ k. IsHeld seat.mine k (open_of b.session)) (sym due.same.booking)
+        (held_same seat.mine a.booking (open_of a.session) (open_of b.session) due.opens quiet.held);
   };
-  gone = gone_still (reservation_state seat.mine a) (reservation_state seat.mine b) refl booking receipts;
+  gone = gone_still (reservation_state seat.mine a) (reservation_state seat.mine b) refl due.same.booking
+      due.same.receipts;
 }
+
+-- the same booking is open
+pub still_open : (old new : Option OpenBooking) → new ≡ old → IsSameBooking old new
+still_open None new is = is
+still_open (Some old) new is = subst (IsSameBooking (Some old)) (sym is) (refl, refl, omega arith)
 
 -- what a call leaves, after another one that made no entry, or before it
-pub kept_after : {old next : SeatState} {a mid b : Connection} → mid.booking ≡ a.booking
-    → mid.session.receipts ≡ a.session.receipts → KeepsReservations old next mid b → KeepsReservations old next a b
-kept_after {old} {next} {a} {mid} {b} booking receipts kept = record {
+pub kept_after : {a b : Seated} {mid : Connection} → IsUnbooked a.connection mid
+    → Keeps (record a { connection = mid }) b → Keeps a b
+kept_after {a} {b} {mid} same kept = record {
   seat = kept.seat;
   quiet = kept.quiet;
-  gone = gone_on (reservation_state old.mine a) (reservation_state old.mine mid) (reservation_state next.mine b)
-      (gone_still (reservation_state old.mine a) (reservation_state old.mine mid) refl booking receipts) kept.gone;
+  gone = gone_on (reservation_state a.seat.mine a.connection) (reservation_state a.seat.mine mid)
+      (reservation_state b.seat.mine b.connection)
+      (gone_still (reservation_state a.seat.mine a.connection) (reservation_state a.seat.mine mid) refl same.booking
+      same.receipts) kept.gone;
 }
 
-pub kept_then : {old next : SeatState} {a mid b : Connection} → KeepsReservations old next a mid →
-    AwaitsNoAnswer b.session → b.booking ≡ mid.booking →
-    open_of b.session ≡ open_of mid.session → b.session.receipts ≡ mid.session.receipts → KeepsReservations old next a b
-kept_then {old} {next} {a} {mid} {b} kept rest booking opens receipts = record {
-  seat = kept.seat;
-  quiet = record {
-    rest = rest;
-    held = subst (λ k. IsHeld next.mine k (open_of b.session)) (sym booking)
-        (subst (IsHeld next.mine mid.booking) (sym opens) kept.quiet.held);
-  };
-  gone = gone_on (reservation_state old.mine a) (reservation_state next.mine mid) (reservation_state next.mine b)
-      kept.gone
-      (gone_still (reservation_state next.mine mid) (reservation_state next.mine b) refl booking receipts);
-}
+pub kept_then : {a b : Seated} {last : Connection} → Keeps a b → IsMoreDue b.connection last
+    → Keeps a (record b { connection = last })
+kept_then {a} {b} {last} kept due =
+    kept_on {a = a} {b = b} {c = record b { connection = last }} kept (kept_due b.seat kept.quiet due)

@@ -32,8 +32,8 @@ use Rattle.session.specs.SlotSteps.{after_play, after_slot, can_reply, halted_in
 use Rattle.session.specs.SlotSteps.{is_sending, kept_of, next_of, note_of, sent_due, sent_reply, state_once_halted}
 use Rattle.session.specs.SlotSteps.{stepped_in}
 use Rattle.session.specs.SessionStates.{AwaitedAnswer, SessionState}
-use Rattle.session.specs.SlotTransitions.{IsPlayIn, after_stop}
-use Rattle.conn.specs.InputSteps.{Outcome, Entered, Stage, ElementStep, Passed, Answered, HasHeard, IsPlayAnswered}
+use Rattle.session.specs.SlotTransitions.{after_stop}
+use Rattle.conn.specs.InputSteps.{Outcome, Entered, Stage, ElementStep, Passed, Answered, IsPlayAnswered}
 use Rattle.conn.specs.InputSteps.{Takes, TakesAll, after_reply, film_bytes, slot_parts}
 use Rattle.conn.specs.EventSteps.{Round, Runs, RunsAll}
 use Rattle.conn.specs.Films.{HasSentOn, IsReady}
@@ -44,46 +44,11 @@ use Rattle.conn.proofs.RequestInvariants.{IsHaltedTo, IsHalting, IsHaltingIn, Is
 use Rattle.conn.proofs.RequestInvariants.{ground_same, hears_well}
 use Rattle.conn.proofs.PlayProgress.{slot_any, slot_play}
 use Rattle.conn.proofs.ReplyPlacement.{no_film}
-use Rattle.conn.proofs.StoppedPlays.{stop_left, stop_slot}
+use Rattle.conn.proofs.EventPremises.{PlayGoing, RequestHeard}
+use Rattle.conn.proofs.StoppedPlays.{StopGoing, stop_left, stop_slot}
 use Rattle.conn.proofs.StationAnswers.{AnswersAs, ComesAs, FinishesAs, answers_as, comes_as, NoneAsked, PlayAdmitted}
 use Rattle.conn.proofs.StationAnswers.{PlayOverflowed, PlayFull, PlayHalted, LookMade, NothingLeft, DoneHalted}
 use Rattle.conn.proofs.StationAnswers.{BytesCame, SlotCame}
-
--- an admitted play is a sending of which nothing was sent
-admitted_well : {old : SessionState} {start : ℕ} {new : SessionState} {film : List ℕ} (placed : PlacedEntry)
-    (plan : List Segment) → IsAskedWell (AskPlay plan) old film →
-    IsPlayAnswered old placed (Admitted start) new → IsWell new []
-admitted_well {old} {start} {new} placed plan well answered =
-    let made : SessionState = after_admission old placed.place start in
-    let asked = well.1 in
-    let playing = subst (λ (s : SessionState). IsPlayIn s.state) answered.1 answered.2 in
-    let ready : IsReady asked.setup old.state = subst (IsReady asked.setup) (sym asked.state_is) refl in
-    let begun = play_begins old placed (answered.0, refl, playing, answered.3) ready asked.awaited_is in
-    let counts : counts_of old.awaited old.counts ≡ asked.prepared.counts =
-    ap (λ a. counts_of a old.counts) asked.awaited_is in
-    let run = begun.run in
-    let ground : Ground = record (ground_of old []) { counts = counts_of old.awaited old.counts } in
-    let play : HasPlay ground asked.setup begun.play = record {
-      stored = asked.stored;
-      at = asked.at;
-      sending = subst (λ (r : Run). IsSending (stored_sizes asked.stored)
-          (playback_of asked.stored.film old.settings asked.setup) r begun.play.plan) (sym run)
-          (subst (λ (p : List Segment). IsSending (stored_sizes asked.stored)
-          (playback_of asked.stored.film old.settings asked.setup) asked.prepared.run p)
-          (sym begun.plan) asked.sending);
-      pieces = begun.pieces ∙ ap run_pieces asked.frames
-          ∙ ap (λ (r : Run). run_pieces (sending_of asked.stored.film old.source asked.setup asked.prepared.counts r))
-          (sym run)
-          ∙ ap (λ (c : Counts). run_pieces (sending_of asked.stored.film old.source asked.setup c begun.play.run))
-          (sym counts);
-      sent = begun.sent;
-    } in
-    subst (λ s. IsWell s []) (sym answered.1) (record {
-      films = well.0.films;
-      settings = well.0.settings;
-      unstopped = refl;
-      state = subst (IsStateOf ground) (sym begun.state) (asked.values, play);
-    })
 
 -- a halt is noted, and leaves the rest of its play
 noted_stop : {setup : Setup} {ground : Ground} {awaited : Awaited} (play : Played) (paused : Option Run) →
@@ -110,18 +75,6 @@ noted_stop {setup} {ground} play paused halted =
       };
     }
 
--- or no play
-next_state : {setup : Setup} (old : SessionState) (film : List ℕ) (play : Played) (next : AfterHalt) →
-    IsSetup (length old.films) setup → IsHaltedTo next (IsHaltAwaited (ground_of old film) old.awaited setup play) →
-    IsStateOf (record (ground_of old film) {
-      counts = counts_next old.counts (counts_done old.source old.counts setup play.run
-          (kept_of old.awaited play.pacer.due) (slice_get old.films setup.film)) next;
-      plays = old.plays ++ note_of setup play (kept_of old.awaited play.pacer.due) ∷ [];
-    }) (state_once_halted setup play next)
-next_state old film play Done values halted = values
-next_state old film play (Paused run) values halted = (values, noted_stop play (Some run) halted)
-next_state old film play Torn values halted = (values, noted_stop play None halted)
-
 halted_state : (old : SessionState) (film : List ℕ) (state : State) → IsHaltingIn (ground_of old film) old.awaited state
     →
     IsStateOf (record (ground_of old film) {
@@ -130,8 +83,17 @@ halted_state : (old : SessionState) (film : List ℕ) (state : State) → IsHalt
     }) (halted_in state old.awaited)
 halted_state old film Init is = tt
 halted_state old film (Ready setup paused) is = is
-halted_state old film (Playing setup play) is =
-    next_state old film play (next_of old.awaited) is.0 is.1
+halted_state old film (Playing setup play) is = by-next (next_of old.awaited) is.1
+  where
+    by-next : (next : AfterHalt) → IsHaltedTo next (IsHaltAwaited (ground_of old film) old.awaited setup play) →
+        IsStateOf (record (ground_of old film) {
+          counts = counts_next old.counts (counts_done old.source old.counts setup play.run
+              (kept_of old.awaited play.pacer.due) (slice_get old.films setup.film)) next;
+          plays = old.plays ++ note_of setup play (kept_of old.awaited play.pacer.due) ∷ [];
+        }) (state_once_halted setup play next)
+    by-next Done halted = is.0
+    by-next (Paused run) halted = (is.0, noted_stop play (Some run) halted)
+    by-next Torn halted = (is.0, noted_stop play None halted)
 halted_state old film (Stopping setup stop) is =
     subst (λ p. IsStateOf (record (ground_of old film) { plays = p }) (Stopping setup stop))
     (sym (append-nil old.plays)) is
@@ -165,29 +127,69 @@ entry_well : {new : SessionState} {answer : Answer} (film : List ℕ) (placed : 
     → IsWell new (film_since film (Entered placed))
 entry_well {new} film placed is = subst (λ a. IsWell new (if is_admission a then [] else film)) (sym is)
 
--- the station's answers
-answered_well : {old new : SessionState} {ask : Ask} {outcome : Outcome} (film : List ℕ) → IsAskedWell ask old film
-    → AnswersAs old ask outcome new → IsWell new (film_since film outcome)
-answered_well film well NoneAsked = well
-answered_well film well (PlayAdmitted {plan = plan} {placed = placed} entry answered) =
-    entry_well film placed entry.answer_is (admitted_well placed plan well answered)
-answered_well film well (PlayOverflowed {placed = placed} entry) =
-    entry_well film placed entry.answer_is
-    (record { films = well.0.films; settings = well.0.settings; unstopped = refl; state = well.0.state })
-answered_well film well (PlayFull two) =
-    record { films = well.0.films; settings = well.0.settings; unstopped = refl; state = well.0.state }
-answered_well film well (PlayHalted {placed = placed} entry) = entry_well film placed entry.answer_is (halted_well placed well)
-answered_well film well (LookMade {placed = placed} is) =
-    entry_well film placed is (record { films = well.films; settings = well.settings; unstopped = refl; state = well.state })
-answered_well film well _ = record { films = well.films; settings = well.settings; unstopped = refl; state = well.state }
+heard_well : {old new : SessionState} {film : List ℕ} (r : RequestHeard old new) → IsWell old film
+    → IsWell new (film_since film r.outcome)
+heard_well {old} {film = film} r well =
+    by-answer (hears_well
+    (record { old = old; new = s; message = r.message; ask = r.heard.ask; hears = r.heard.hears }) well)
+    (answers_as r.heard.ask r.outcome r.heard.answered)
+  where
+    s : SessionState
+    s = r.heard.asking
 
-pub heard_well : {old new : SessionState} {message : List ℕ} {outcome : Outcome} {film : List ℕ} → IsWell old film →
-    HasHeard old message outcome new → IsWell new (film_since film outcome)
-heard_well {old} {message = message} {outcome} {film} well heard =
-    answered_well film
-    (hears_well
-    (record { old = old; new = heard.asking; message = message; ask = heard.ask; hears = heard.hears }) well)
-    (answers_as heard.ask outcome heard.answered)
+    -- an admitted play is a sending of which nothing was sent
+    admitted_well : {start : ℕ} (plan : List Segment) (placed : PlacedEntry) → IsAskedWell (AskPlay plan) s film
+        → IsPlayAnswered s placed (Admitted start) (after_admission s placed.place start)
+        → IsWell (after_admission s placed.place start) []
+    admitted_well {start} plan placed well answered =
+        let asked = well.1 in
+        let begun = play_begins s placed (record {
+          setup = asked.setup;
+          prepared = asked.prepared;
+          ready = subst (IsReady asked.setup) (sym asked.state_is) refl;
+          awaits = asked.awaited_is;
+        }) answered in
+        let counts : counts_of s.awaited s.counts ≡ asked.prepared.counts =
+        ap (λ a. counts_of a s.counts) asked.awaited_is in
+        let run = begun.run in
+        let ground : Ground = record (ground_of s []) { counts = counts_of s.awaited s.counts } in
+        let client = playback_of asked.stored.film s.settings asked.setup in
+        let play : HasPlay ground asked.setup begun.play = record {
+          stored = asked.stored;
+          at = asked.at;
+          sending = subst (λ (r : Run). IsSending (stored_sizes asked.stored) client r begun.play.plan) (sym run)
+              (subst (λ (p : List Segment). IsSending (stored_sizes asked.stored) client asked.prepared.run p)
+              (sym begun.plan) asked.sending);
+          pieces = begun.pieces ∙ ap run_pieces asked.frames
+              ∙ ap (λ (r : Run). run_pieces (sending_of asked.stored.film s.source asked.setup asked.prepared.counts r))
+              (sym run)
+              ∙ ap (λ (c : Counts). run_pieces (sending_of asked.stored.film s.source asked.setup c begun.play.run))
+              (sym counts);
+          sent = begun.sent;
+        } in
+        record {
+          films = well.0.films;
+          settings = well.0.settings;
+          unstopped = refl;
+          state = subst (IsStateOf ground) (sym begun.state) (asked.values, play);
+        }
+
+    by-answer : {ask : Ask} {outcome : Outcome} {new : SessionState} → IsAskedWell ask s film
+        → AnswersAs s ask outcome new → IsWell new (film_since film outcome)
+    by-answer well NoneAsked = well
+    by-answer well (PlayAdmitted {plan = plan} {placed = placed} entry answered) =
+        entry_well film placed entry.answer_is (admitted_well plan placed well answered)
+    by-answer well (PlayOverflowed {placed = placed} entry) =
+        entry_well film placed entry.answer_is
+        (record { films = well.0.films; settings = well.0.settings; unstopped = refl; state = well.0.state })
+    by-answer well (PlayFull two) =
+        record { films = well.0.films; settings = well.0.settings; unstopped = refl; state = well.0.state }
+    by-answer well (PlayHalted {placed = placed} entry) = entry_well film placed entry.answer_is (halted_well placed well)
+    by-answer well (LookMade {placed = placed} is) =
+        entry_well film placed is
+        (record { films = well.films; settings = well.settings; unstopped = refl; state = well.state })
+    by-answer well _ =
+        record { films = well.films; settings = well.settings; unstopped = refl; state = well.state }
 
 -- a reply that was sent
 settled_well : (ground : Ground) (state : State) → IsStateOf ground state → IsStateOf ground (after_stop state)
@@ -210,7 +212,8 @@ pub taking_well : (old new : Stage) (taking : ElementStep) (film : List ℕ) →
 taking_well old new (Passed n) film takes well = subst (λ (s : Stage). IsWell s.session film) (sym takes.2) well
 taking_well old new (Answered message outcome parts) film takes well =
     let since : List ℕ = film_since film outcome in
-    let heard : IsWell takes.answered since = heard_well well takes.heard in
+    let heard : IsWell takes.answered since =
+    heard_well (record { message = message; outcome = outcome; heard = takes.heard }) well in
     let after : IsWell (after_reply takes.answered) since =
     reply_well (can_reply takes.answered) takes.answered since heard in
     let none : film_bytes parts ≡ [] =
@@ -307,66 +310,68 @@ slot_well {more = more} old slot well state =
           state;
     }
 
--- a slot in which nothing is sent
-slot_off : {film more : List ℕ} (old : SessionState) (slot : ℕ) → is_sending old.state ≡ false
-    → IsOff (length old.films) old.state → IsWell old film → IsWell (after_slot old slot) more
-slot_off {film} {more} old slot none off well =
-    slot_well old slot well
-    (off_state (ground_by (ground_of old film) (after_slot old slot).heard more) (after_slot old slot).state
-    (slot_any (λ s. IsOff (length old.films) s.state) old slot (λ sends. absurd (true≢false (sym sends ∙ none))) off
-    off))
-
 -- a play goes on by a slot
-play_on : {ground : Ground} {setup : Setup} {play : Played} {new : SessionState} {more : List ℕ}
-    → HasPlay ground setup play → (on : HasSentOn setup play new more)
-    → HasPlay (ground_by ground new.heard more) setup on.now
-play_on {ground} {setup} {play} its on =
+play_on : {old new : SessionState} {more : List ℕ} (going : PlayGoing old)
+    → HasPlay (ground_of old going.film) going.setup going.play → (on : HasSentOn going.setup going.play new more)
+    → HasPlay (ground_by (ground_of old going.film) new.heard more) going.setup on.now
+play_on {old} going its on =
     let stored = its.stored in
-    let client = playback_of stored.film ground.settings setup in
+    let client = playback_of stored.film old.settings going.setup in
     record {
       stored = stored;
       at = its.at;
       sending = subst (λ (r : Run). IsSending (stored_sizes stored) client r on.now.plan) (sym on.run)
-          (subst (λ (p : List Segment). IsSending (stored_sizes stored) client play.run p) (sym on.plan) its.sending);
+          (subst (λ (p : List Segment). IsSending (stored_sizes stored) client going.play.run p) (sym on.plan) its.sending);
       pieces = on.pieces ∙ its.pieces
-          ∙ ap (λ (r : Run). run_pieces (sending_of stored.film ground.source setup ground.counts r)) (sym on.run);
+          ∙ ap (λ (r : Run). run_pieces (sending_of stored.film old.source going.setup old.counts r)) (sym on.run);
       sent = on.sent;
     }
 
 slot_state : (state : State) (old : SessionState) (slot : ℕ) (film : List ℕ) → old.state ≡ state → IsWell old film →
     IsWell (after_slot old slot) (film ++ film_bytes (slot_parts old slot))
-slot_state Init old slot film is well =
-    slot_off old slot (ap is_sending is) (subst (IsOff (length old.films)) (sym is) tt) well
-slot_state (Ready setup paused) old slot film is well =
-    let values = subst (IsStateOf (ground_of old film)) is well.state in
-    slot_off old slot (ap is_sending is) (subst (IsOff (length old.films)) (sym is) values) well
-slot_state (Playing setup play) old slot film is well =
-    let was = subst (IsStateOf (ground_of old film)) is well.state in
-    let more : List ℕ = film ++ film_bytes (slot_parts old slot) in
-    let on = slot_play old slot
-    (record { setup = setup; play = play; film = film; state = is; sent = was.1.sent }) in
-    slot_well old slot well
-    (subst (IsStateOf (ground_by (ground_of old film) (after_slot old slot).heard more)) (sym on.state)
-    (was.0, play_on was.1 on))
-slot_state (Stopping setup stop) old slot film is well =
-    let was = subst (IsStateOf (ground_of old film)) is well.state in
-    let on = stop_slot old slot
-    (record { setup = setup; stop = stop; film = film; state = is; stopped = was.1 }) in
-    slot_well old slot well (stop_left stop was.0 on.stopped on.state)
+slot_state state old slot film is well = by-state state is (subst (IsStateOf (ground_of old film)) is well.state)
+  where
+    more : List ℕ
+    more = film ++ film_bytes (slot_parts old slot)
 
--- a play that is done is halted
-finish_well : {asks : AwaitedAnswer} {old new : SessionState} {halt : Outcome} {film : List ℕ} → IsWell old film
-    → FinishesAs old asks halt new → IsWell new film
-finish_well well NothingLeft = well
-finish_well {old = old} {film = film} well (DoneHalted {placed = placed} entry) =
-    halted_well placed (halting_of old film well)
+    -- a slot in which nothing is sent
+    resting : is_sending old.state ≡ false → IsOff (length old.films) old.state → IsWell (after_slot old slot) more
+    resting none off =
+        slot_well old slot well
+        (off_state (ground_by (ground_of old film) (after_slot old slot).heard more) (after_slot old slot).state
+        (slot_any (λ s. IsOff (length old.films) s.state) old slot (λ sends. absurd (true≢false (sym sends ∙ none))) off
+        off))
 
--- an event
+    by-state : (state : State) → old.state ≡ state → IsStateOf (ground_of old film) state
+        → IsWell (after_slot old slot) more
+    by-state Init is was = resting (ap is_sending is) (subst (IsOff (length old.films)) (sym is) tt)
+    by-state (Ready setup paused) is was = resting (ap is_sending is) (subst (IsOff (length old.films)) (sym is) was)
+    by-state (Playing setup play) is was =
+        let going : PlayGoing old = record { setup = setup; play = play; film = film; state = is; sent = was.1.sent } in
+        let on = slot_play old slot going in
+        slot_well old slot well
+        (subst (IsStateOf (ground_by (ground_of old film) (after_slot old slot).heard more)) (sym on.state)
+        (was.0, play_on going was.1 on))
+    by-state (Stopping setup stop) is was =
+        let going : StopGoing old = record { setup = setup; stop = stop; film = film; state = is; stopped = was.1 } in
+        slot_well old slot well (stop_left going was.0 (stop_slot old slot going))
+
+-- an event; a play that is done is halted
 comes_well : {film : List ℕ} {old new : Stage} {round : Round} → ComesAs old round new → IsWell old.session film
     → IsWell new.session (film ++ film_bytes round.due)
 comes_well {film} {old} BytesCame well = subst (IsWell old.session) (sym (append-nil film)) well
-comes_well {film} {old} (SlotCame {slot = slot} finishes) well =
-    finish_well (slot_state old.session.state old.session slot film refl well) finishes
+comes_well {film} {old} (SlotCame {slot = slot} finishes) well = by-finish finishes
+  where
+    more : List ℕ
+    more = film ++ film_bytes (slot_parts old.session slot)
+
+    after : IsWell (after_slot old.session slot) more
+    after = slot_state old.session.state old.session slot film refl well
+
+    by-finish : {asks : AwaitedAnswer} {halt : Outcome} {new : SessionState}
+        → FinishesAs (after_slot old.session slot) asks halt new → IsWell new more
+    by-finish NothingLeft = after
+    by-finish (DoneHalted {placed = placed} entry) = halted_well placed (halting_of (after_slot old.session slot) more after)
 
 -- a round, and rounds
 pub round_well : (old new : Stage) (round : Round) (film : List ℕ) → IsWell old.session film → Runs old round new →

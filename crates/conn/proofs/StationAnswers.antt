@@ -76,21 +76,6 @@ halt_as : {old new : SessionState} {keep : ℕ} {outcome : Outcome} → Finishes
 halt_as (DoneHalted entry) = PlayHalted entry
 
 module _ {old new : SessionState} where
-  play_as : {plan : List Segment} {placed : PlacedEntry} (answer : Answer) → IsPlayEntry old plan placed answer
-      → IsPlayAnswered old placed answer new → AnswersAs old (AskPlay plan) (Entered placed) new
-  play_as {plan} {placed} (Admitted start) entry answered =
-      subst (AnswersAs old (AskPlay plan) (Entered placed)) (sym answered.1)
-      (PlayAdmitted entry (subst (IsPlayAnswered old placed (Admitted start)) answered.1 answered))
-  play_as {plan} {placed} (Overflow slot booked asked) entry answered =
-      subst (AnswersAs old (AskPlay plan) (Entered placed)) (sym answered) (PlayOverflowed entry)
-  play_as _ entry answered = absurd answered
-
-  look_as : {slot : ℕ} {placed : PlacedEntry} (answer : Answer) → placed.entry.answer ≡ answer
-      → IsLookAnswered old placed answer new → AnswersAs old (AskLook slot) (Entered placed) new
-  look_as {slot} {placed} (Looked now at booked) is answered =
-      subst (AnswersAs old (AskLook slot) (Entered placed)) (sym answered) (LookMade is)
-  look_as _ is answered = absurd answered
-
   done_as : {keep : ℕ} (outcome : Outcome) → IsHalted old keep outcome new
       → FinishesAs old (HaltAnswer keep) outcome new
   done_as {keep} (Entered placed) halted =
@@ -101,11 +86,26 @@ module _ {old new : SessionState} where
   pub answers_as : (ask : Ask) (outcome : Outcome) → IsAskAnswered old ask outcome new → AnswersAs old ask outcome new
   answers_as AskReply Unasked answered = subst (AnswersAs old AskReply Unasked) (sym answered) NoneAsked
   answers_as (AskPlay plan) (Entered placed) answered =
-      play_as placed.entry.answer (record { command = answered.0; answer_is = refl }) answered.1
+      by-answer placed.entry.answer (record { command = answered.0; answer_is = refl }) answered.1
+    where
+      by-answer : (answer : Answer) → IsPlayEntry old plan placed answer → IsPlayAnswered old placed answer new
+          → AnswersAs old (AskPlay plan) (Entered placed) new
+      by-answer (Admitted start) entry answered =
+          subst (AnswersAs old (AskPlay plan) (Entered placed)) (sym answered.1)
+          (PlayAdmitted entry (subst (IsPlayAnswered old placed (Admitted start)) answered.1 answered))
+      by-answer (Overflow slot booked asked) entry answered =
+          subst (AnswersAs old (AskPlay plan) (Entered placed)) (sym answered) (PlayOverflowed entry)
+      by-answer _ entry answered = absurd answered
   answers_as (AskPlay plan) (WasFull more entries live) answered =
       subst (AnswersAs old (AskPlay plan) (WasFull more entries live)) (sym answered.0) (PlayFull answered.1)
   answers_as (AskHalt keep) outcome answered = halt_as (done_as outcome answered)
-  answers_as (AskLook slot) (Entered placed) answered = look_as placed.entry.answer refl answered.1
+  answers_as (AskLook slot) (Entered placed) answered = by-answer placed.entry.answer refl answered.1
+    where
+      by-answer : (answer : Answer) → placed.entry.answer ≡ answer → IsLookAnswered old placed answer new
+          → AnswersAs old (AskLook slot) (Entered placed) new
+      by-answer (Looked now at booked) is answered =
+          subst (AnswersAs old (AskLook slot) (Entered placed)) (sym answered) (LookMade is)
+      by-answer _ is answered = absurd answered
   answers_as (AskLook slot) (WasFull more entries live) answered =
       subst (AnswersAs old (AskLook slot) (WasFull more entries live)) (sym answered.0) LookFull
   answers_as (AskOffer plan offers) (Offered at_slot note) answered =
@@ -118,24 +118,22 @@ module _ {old new : SessionState} where
   finishes_as (HaltAnswer keep) outcome is = done_as outcome is
   finishes_as _ _ is = absurd is
 
-abbrev round_of : IoEvent → List SentPart → Outcome → List ElementStep → Round
-round_of event due halt takings = record { event = event; due = due; halt = halt; takings = takings }
-
-event_as : {old new : Stage} (event : IoEvent) (due : List SentPart) (halt : Outcome) (takings : List ElementStep)
-    → Comes old event due halt new → ComesAs old (round_of event due halt takings) new
-event_as {old} (HeardBytes bytes) due halt takings comes =
-    subst (ComesAs old (round_of (HeardBytes bytes) due halt takings)) (sym comes.3)
-    (subst (λ ps. ComesAs old (round_of (HeardBytes bytes) ps halt takings) (stage old.session (old.input ++ bytes)))
-    (sym comes.0)
-    (subst (λ h. ComesAs old (round_of (HeardBytes bytes) [] h takings) (stage old.session (old.input ++ bytes)))
-    (sym comes.1) BytesCame))
-event_as {old} {new} (HeardSlot slot) due halt takings comes =
-    subst (λ i. ComesAs old (round_of (HeardSlot slot) due halt takings) (stage new.session i)) (sym comes.0)
-    (subst (λ ps. ComesAs old (round_of (HeardSlot slot) ps halt takings) (stage new.session old.input))
-    (sym comes.1.parts_are)
-    (SlotCame (finishes_as (awaited_answer (after_slot old.session slot)) halt comes.1.finished)))
-event_as _ due halt takings comes = absurd comes
-
 pub comes_as : {old new : Stage} (round : Round) → Comes old round.event round.due round.halt new
     → ComesAs old round new
-comes_as round comes = event_as round.event round.due round.halt round.takings comes
+comes_as {old} {new} round comes = by-event round.event round.due round.halt comes
+  where
+    by-event : (event : IoEvent) (due : List SentPart) (halt : Outcome) → Comes old event due halt new
+        → ComesAs old (record { event = event; due = due; halt = halt; takings = round.takings }) new
+    by-event (HeardBytes bytes) due halt comes =
+        let here = stage old.session (old.input ++ bytes) in
+        let its : List SentPart → Outcome → Round = λ ps h.
+        record { event = HeardBytes bytes; due = ps; halt = h; takings = round.takings } in
+        subst (ComesAs old (its due halt)) (sym comes.3)
+        (subst (λ ps. ComesAs old (its ps halt) here) (sym comes.0)
+        (subst (λ h. ComesAs old (its [] h) here) (sym comes.1) BytesCame))
+    by-event (HeardSlot slot) due halt comes =
+        let its : List SentPart → Round = λ ps. record { event = HeardSlot slot; due = ps; halt = halt; takings = round.takings } in
+        subst (λ i. ComesAs old (its due) (stage new.session i)) (sym comes.0)
+        (subst (λ ps. ComesAs old (its ps) (stage new.session old.input)) (sym comes.1.parts_are)
+        (SlotCame (finishes_as (awaited_answer (after_slot old.session slot)) halt comes.1.finished)))
+    by-event _ due halt comes = absurd comes

@@ -16,11 +16,12 @@ use Rattle.session.specs.SlotSteps.{stepped_in}
 use Rattle.session.specs.SessionStates.{SessionState}
 use Rattle.session.specs.SlotTransitions.{after_stop}
 use Rattle.conn.specs.Plays.{IsCutBy, client_of, play_pieces}
-use Rattle.conn.specs.InputSteps.{due_parts, film_bytes, slot_parts}
+use Rattle.conn.specs.InputSteps.{SentPart, due_parts, film_bytes, slot_parts}
+use Rattle.std.proofs.lemmas.List.{append-nil}
 use Rattle.conn.proofs.FilmBytes.{sent_through, slot_film, slot_is, slot_pacing, halted_count, halted_on}
 use Rattle.conn.proofs.RequestInvariants.{Ground, HasStopped, IsStateOf, ground_by, ground_of}
-use Rattle.conn.proofs.PlayProgress.{later_slot, pacer_film, parts_of, reply_heard, reply_state, slot_cases}
-use Rattle.conn.proofs.PlayProgress.{standings, state_after_slot}
+use Rattle.conn.proofs.PlayProgress.{SlotSends, Still, Taken, pacer_film, parts_of, reply_heard, reply_state, slot_sends}
+use Rattle.conn.proofs.PlayProgress.{state_after_slot}
 
 abbrev pub with_rest : Stop → PacerState → Stop
 with_rest stop pacer = record stop { pacer = pacer }
@@ -37,51 +38,29 @@ pub record StopsOn (ground : Ground) (setup : Setup) (stop : Stop) (s : SessionS
   pub stopped : HasStopped (ground_by ground s.heard film) setup (with_rest stop now)
   pub state : IsStopping setup stop now s.state
 
-stop_states : {setup : Setup} (stop : Stop) (waits between : Bool) (both front plain : PacerState) →
-    IsStopping setup stop (if waits then (if between then both else front) else plain)
-    (if waits && between
-    then after_stop (if waits then (if between then Stopping setup (with_rest stop both)
-    else Stopping setup (with_rest stop front)) else Stopping setup (with_rest stop plain))
-    else (if waits then (if between then Stopping setup (with_rest stop both)
-    else Stopping setup (with_rest stop front)) else Stopping setup (with_rest stop plain)))
-stop_states stop false between both front plain = inl refl
-stop_states stop true false both front plain = inl refl
-stop_states stop true true both front plain = inr refl
-
 stop_state : (stop : Stop) (waits : Bool) (setup : Setup) (slot : ℕ) →
     IsStopping setup stop (slot_pacing waits slot stop.pacer) (state_after_slot waits (Stopping setup stop) slot)
-stop_state stop waits setup slot =
-    let p = stop.pacer in
-    stop_states stop waits (stands_at_boundary (after_step true slot p))
-    (after_step false slot (after_step true slot p))
-    (after_step true slot p) (after_step false slot p)
+stop_state stop waits setup slot = by-case waits (stands_at_boundary front)
+  where
+    front : PacerState
+    front = after_step true slot stop.pacer
 
--- by a slot that is processed
-stop_through : {ground : Ground} {setup : Setup} {stop : Stop} {slot : ℕ} (waits : Bool) →
-    HasStopped ground setup stop → ground.heard < slot →
-    HasStopped (ground_by ground slot (ground.film ++ slot_film waits slot stop.pacer)) setup
-    (with_rest stop (slot_pacing waits slot stop.pacer))
-stop_through {ground} {setup} {stop} {slot} waits has later =
-    let p = stop.pacer in
-    let rest = has.rest in
-    let after : Ground = ground_by ground slot (ground.film ++ slot_film waits slot p) in
-    let through : slot_pacing waits slot p ≡ sent_through slot p =
-    slot_is waits (stands_at_boundary (after_step true slot p)) slot p rest.halted.pacing refl in
-    subst (λ (q : PacerState). HasStopped after setup (with_rest stop q)) (sym through) (record {
-      play = has.play;
-      earlier = has.earlier;
-      noted = has.noted;
-      rest = record {
-        stored = rest.stored;
-        at = rest.at;
-        sending = rest.sending;
-        pieces = rest.pieces;
-        plan = rest.plan;
-        before = rest.before;
-        start = rest.start;
-        halted = halted_on waits rest.halted later;
-      };
-    })
+    both : PacerState
+    both = after_step false slot (after_step true slot stop.pacer)
+
+    plain : PacerState
+    plain = after_step false slot stop.pacer
+
+    by-case : (waits between : Bool) →
+        IsStopping setup stop (if waits then (if between then both else front) else plain)
+        (if waits && between
+        then after_stop (if waits then (if between then Stopping setup (with_rest stop both)
+        else Stopping setup (with_rest stop front)) else Stopping setup (with_rest stop plain))
+        else (if waits then (if between then Stopping setup (with_rest stop both)
+        else Stopping setup (with_rest stop front)) else Stopping setup (with_rest stop plain)))
+    by-case false between = inl refl
+    by-case true false = inl refl
+    by-case true true = inr refl
 
 -- a session sends the rest of a halted play, of which these bytes were sent
 pub record StopGoing (session : SessionState) : Type 0 where
@@ -104,18 +83,44 @@ stop_taken old slot going later =
     reply_state goes (sent_due old slot) ∙ ap (λ st. state_after_slot old.waits st slot) state in
     let bytes : film_bytes (due_parts old slot) ≡ slot_film old.waits slot p =
     ap (λ st. film_bytes (parts_of old.waits st old.text slot)) state ∙ pacer_film old.waits p old.text slot in
-    let ground : Ground = ground_of old film in
     record {
       now = now;
       keep = ap (λ (q : PacerState). q.keep) through;
       stopped = subst (λ n. HasStopped (ground_by ground n (film ++ film_bytes (due_parts old slot))) setup
           (with_rest stop now)) (sym (reply_heard goes (sent_due old slot)))
           (subst (λ bs. HasStopped (ground_by ground slot (film ++ bs)) setup (with_rest stop now)) (sym bytes)
-          (stop_through old.waits stopped later));
+          through_slot);
       state = subst (IsStopping setup stop now) (sym after) (stop_state stop old.waits setup slot);
     }
   where
     open going use {setup, stop, film, state, stopped}
+
+    ground : Ground
+    ground = ground_of old film
+
+    through_slot : HasStopped (ground_by ground slot (film ++ slot_film old.waits slot stop.pacer)) setup
+        (with_rest stop (slot_pacing old.waits slot stop.pacer))
+    through_slot =
+        let p = stop.pacer in
+        let rest = stopped.rest in
+        let after : Ground = ground_by ground slot (film ++ slot_film old.waits slot p) in
+        let through : slot_pacing old.waits slot p ≡ sent_through slot p =
+        slot_is old.waits (stands_at_boundary (after_step true slot p)) slot p rest.halted.pacing refl in
+        subst (λ (q : PacerState). HasStopped after setup (with_rest stop q)) (sym through) (record {
+          play = stopped.play;
+          earlier = stopped.earlier;
+          noted = stopped.noted;
+          rest = record {
+            stored = rest.stored;
+            at = rest.at;
+            sending = rest.sending;
+            pieces = rest.pieces;
+            plan = rest.plan;
+            before = rest.before;
+            start = rest.start;
+            halted = halted_on old.waits rest.halted later;
+          };
+        })
 
 -- nothing was sent
 pub stop_still : {session : SessionState} (going : StopGoing session)
@@ -126,22 +131,32 @@ stop_still going = record { now = going.stop.pacer; keep = refl; stopped = going
 pub stop_slot : (old : SessionState) (slot : ℕ) (going : StopGoing old) →
     StopsOn (ground_of old going.film) going.setup going.stop (after_slot old slot)
     (going.film ++ film_bytes (slot_parts old slot))
-stop_slot old slot going =
-    slot_cases (standings old slot) (StopsOn (ground_of old going.film) going.setup going.stop) (due_parts old slot)
-    (ap is_sending going.state) (stop_still going)
-    (λ taken. stop_taken old slot going (later_slot old slot taken))
+stop_slot old slot going = by-slot (slot_sends old slot (ap is_sending going.state))
+  where
+    by-slot : {s : SessionState} {parts : List SentPart} → SlotSends old slot s parts
+        → StopsOn (ground_of old going.film) going.setup going.stop s (going.film ++ film_bytes parts)
+    by-slot Still = subst (StopsOn (ground_of old going.film) going.setup going.stop old) (sym (append-nil going.film))
+        (stop_still going)
+    by-slot (Taken later) = stop_taken old slot going later
 
 -- it is in the state that the slot leaves
-pub stop_left : {ground : Ground} {setup : Setup} {now : PacerState} {state : State} (stop : Stop) →
-    IsSetup (length ground.films) setup → HasStopped ground setup (with_rest stop now) →
-    IsStopping setup stop now state → IsStateOf ground state
-stop_left {ground} stop values has (inl is) = subst (IsStateOf ground) (sym is) (values, has)
-stop_left {ground} stop values has (inr is) = subst (IsStateOf ground) (sym is) values
+pub stop_left : {old s : SessionState} {more : List ℕ} (going : StopGoing old) → IsSetup (length old.films) going.setup
+    → StopsOn (ground_of old going.film) going.setup going.stop s more
+    → IsStateOf (ground_by (ground_of old going.film) s.heard more) s.state
+stop_left {old} {s} {more} going values on =
+    let ground = ground_by (ground_of old going.film) s.heard more in
+    elim on.state [
+      | inl is ↦ subst (IsStateOf ground) (sym is) (values, on.stopped)
+      | inr is ↦ subst (IsStateOf ground) (sym is) values
+    ]
 
 -- what was sent of it
-pub stop_cut : {old s : SessionState} {setup : Setup} {stop : Stop} {film more : List ℕ} →
-    StopsOn (ground_of old film) setup stop s more → (stored : Stored) × IsCutBy old stored setup stop s.heard more
-stop_cut {old} {s} {setup} {stop} {more} on =
+pub stop_cut : {old s : SessionState} {more : List ℕ} (going : StopGoing old)
+    → StopsOn (ground_of old going.film) going.setup going.stop s more
+    → (stored : Stored) × IsCutBy old stored going.setup going.stop s.heard more
+stop_cut {old} {s} {more} going on =
+    let setup = going.setup in
+    let stop = going.stop in
     let has = on.stopped in
     let rest = has.rest in
     let play = has.play in

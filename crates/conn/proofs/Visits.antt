@@ -6,7 +6,6 @@ use Rattle.std.proofs.lemmas.List.{append_cancel_left, length-append}
 use Rattle.std.proofs.lemmas.Option.{slice_get-get_or, slice_get_within}
 use mathlib.Core.List.{IsPrefix}
 use Rattle.vod_base.specs.Gates.{ReturnedConn}
-use Rattle.vod_base.specs.Links.{IoEvent}
 use Rattle.film_frames.specs.declared.stored_films.Stored.{Stored}
 use Rattle.admission.specs.declared.entries.Entry.{Entry}
 use Rattle.admission.specs.Histories.{IsLegal, booked_after, state_after}
@@ -22,7 +21,7 @@ use Rattle.station.proofs.SameSeats.{seat_none, seat_on}
 use Rattle.conn.specs.Agreement.{Agrees, AgreesIfObserved, Activity, Visit, doings_outcomes, visit}
 use Rattle.conn.specs.Journals.{AgreeWith, Terms, terms_of}
 use Rattle.conn.specs.Parts.{AreServed, HasServedOne, fresh_history}
-use Rattle.conn.specs.Guarantees.{AreRefusalsJustified, CourseMeetsGuarantee, MeetsGuarantee, ReportsOverflowOf}
+use Rattle.conn.specs.Guarantees.{AreRefusalsJustified, MeetsGuarantee, ReportsOverflowOf}
 use Rattle.conn.specs.InputSteps.{Outcome, SentPart, Film, Text}
 use Rattle.conn.specs.EventSteps.{ending_outcomes, entries_in, rounds_outcomes}
 use Rattle.conn.specs.Films.{rounds_parts}
@@ -40,39 +39,6 @@ seen_agrees old new outcomes noted =
     subst (λ terms. AgreeWith terms new.seen 0 outcomes) (sym (terms_same old new noted.seat))
     (agree_longer (same_journal (terms_of old) new.seen 0 (length old.seen) (omega arith)) outcomes noted.agree)
 
-course_agrees : {told : List IoEvent} {old new : SeatState} (visit : Visit) →
-    CourseMeetsGuarantee (new_session_state visit.films visit.settings visit.report.words) (Some []) (Some told) old new
-    visit.report → visit.returned.told ≡ Some told
-    → HasServedOne visit.films visit.settings visit.returned visit.report old new → Agrees visit (terms_of new) new.seen
-course_agrees {old} {new} visit keeps tells one =
-    let entries = one.entries in
-    let served = keeps.served in
-    let course = served.course in
-    let doings : Activity = record { rounds = course.rounds; ending = course.ending; halt = served.closes.halt } in
-    let noted : AreNoted old new (doings_outcomes doings) = noted_on course.noted served.closes.noted in
-    record {
-      legal = keeps.booked.legal;
-      doings = doings;
-      told_is = tells ∙ (served.told ∙ course.told);
-      done = record {
-        mid = course.mid;
-        runs = course.runs;
-        last = served.ended.stage;
-        ends = course.ends;
-        few = course.few;
-        closed = served.closed;
-        closes = served.closes.closes;
-        report_is = served.report_is;
-      };
-      agree = seen_agrees old new (doings_outcomes doings) noted;
-      plays = keeps.keeps.plays;
-      refusals = keeps.keeps.refusals;
-      halts = subst (λ made. open_play_from Closed made ≡ Closed)
-          (append_cancel_left old.mine entries.made (entries_in (doings_outcomes doings))
-          (sym entries.mine_is ∙ noted.mine)) entries.open_is;
-      fault = one.fault;
-    }
-
 -- what was served agrees with the seat's journal
 pub one_agrees : {old new : SeatState} (visit : Visit) →
     HasServedOne visit.films visit.settings visit.returned visit.report old new →
@@ -82,7 +48,35 @@ one_agrees {old} {new} visit one = λ told tells found.
     let keeps : MeetsGuarantee session (Some []) (Some told) old new visit.report =
     subst (λ t. MeetsGuarantee session (fresh_history t) t old new visit.report) tells one.keeps in
     elim keeps [
-      | inl course ↦ course_agrees visit course tells one
+      | inl meets ↦
+          let entries = one.entries in
+          let served = meets.served in
+          let course = served.course in
+          let doings : Activity =
+          record { rounds = course.rounds; ending = course.ending; halt = served.closes.halt } in
+          let noted : AreNoted old new (doings_outcomes doings) = noted_on course.noted served.closes.noted in
+          record {
+            legal = meets.booked.legal;
+            doings = doings;
+            told_is = tells ∙ (served.told ∙ course.told);
+            done = record {
+              mid = course.mid;
+              runs = course.runs;
+              last = served.ended.stage;
+              ends = course.ends;
+              few = course.few;
+              closed = served.closed;
+              closes = served.closes.closes;
+              report_is = served.report_is;
+            };
+            agree = seen_agrees old new (doings_outcomes doings) noted;
+            plays = meets.keeps.plays;
+            refusals = meets.keeps.refusals;
+            halts = subst (λ made. open_play_from Closed made ≡ Closed)
+                (append_cancel_left old.mine entries.made (entries_in (doings_outcomes doings))
+                (sym entries.mine_is ∙ noted.mine)) entries.open_is;
+            fault = one.fault;
+          }
       | inr nothing ↦ absurd (found nothing.end)
     ]
 
@@ -195,18 +189,15 @@ agrees_on {visit} {old} {new} agrees on =
     subst (λ terms. Agrees visit terms new.seen) (sym (terms_same old new on.seat))
     (agrees_longer agrees on.seat.longer legal)
 
-all_on : {old new : SeatState} (films : List Stored) (settings : Settings) (back : List ReturnedConn)
-    (reports : List ConnReport) → AreServed films settings old back reports new → GoesOn old new
-all_on {old} {new} films settings [] [] served = same_on old new served
-all_on films settings [] (report ∷ reports) served = absurd served
-all_on films settings (returned ∷ back) [] served = absurd served
-all_on {old} {new} films settings (returned ∷ back) (report ∷ reports) served =
-    let one = one_on (visit films settings returned report) served.1.0 in
-    let rest = all_on films settings back reports served.1.1 in
-    record {
-      seat = seat_on old served.0 new one.seat rest.seat;
-      legal = λ legal. rest.legal (one.legal legal);
-    }
+-- connections of a part, each of which was served
+pub record ServedPart : Type 0 where
+  pub films : List Stored
+  pub settings : Settings
+  pub old : SeatState
+  pub new : SeatState
+  pub back : List ReturnedConn
+  pub reports : List ConnReport
+  pub served : AreServed films settings old back reports new
 
 -- a place among the connections that were given back
 pub record InsideBack (back : List ReturnedConn) (k : ℕ) : Type 0 where
@@ -215,23 +206,39 @@ pub record InsideBack (back : List ReturnedConn) (k : ℕ) : Type 0 where
   pub inside : k < length back
 
 -- one of a part's connections agrees with what the seat has seen after the last one
-pub record IsOneOf (films : List Stored) (settings : Settings) (returned : ReturnedConn) (report : ConnReport)
-    (first left : SeatState) : Type 0 where
-  pub agrees : AgreesIfObserved (visit films settings returned report) (terms_of left) left.seen
+pub record IsOneOf (p : ServedPart) (returned : ReturnedConn) (report : ConnReport) : Type 0 where
+  pub agrees : AgreesIfObserved (visit p.films p.settings returned report) (terms_of p.new) p.new.seen
 
-pub all_agree : {films : List Stored} {settings : Settings} {old new : SeatState} (back : List ReturnedConn)
-    (reports : List ConnReport) → AreServed films settings old back reports new → (k : ℕ) (here : InsideBack back k) →
-    IsOneOf films settings (slice_index_or back k here.none) (slice_index_or reports k here.no_report) old new
-all_agree [] reports served k here = absurd (omega (arith, here.inside))
-all_agree (returned ∷ back) [] served k here = absurd served
-all_agree {films} {settings} (returned ∷ back) (report ∷ reports) served zero here = record {
-  agrees = λ told tells found.
-      agrees_on (one_agrees (visit films settings returned report) served.1.0 told tells found)
-      (all_on films settings back reports served.1.1);
-}
-all_agree (returned ∷ back) (report ∷ reports) served (suc k) here =
-    let rest = all_agree back reports served.1.1 k
-    (record { none = none; no_report = no_report; inside = omega (arith, inside) }) in
-    record { agrees = rest.agrees }
+pub all_agree : (p : ServedPart) (k : ℕ) (here : InsideBack p.back k)
+    → IsOneOf p (slice_index_or p.back k here.none) (slice_index_or p.reports k here.no_report)
+all_agree p place at = by-lists p.back p.reports p.old p.served place at
   where
-    open here use {none, no_report, inside}
+    open p use {films, settings, new}
+
+    all_on : (back : List ReturnedConn) (reports : List ConnReport) {old : SeatState}
+        → AreServed films settings old back reports new → GoesOn old new
+    all_on [] [] {old} served = same_on old new served
+    all_on [] (report ∷ reports) served = absurd served
+    all_on (returned ∷ back) [] served = absurd served
+    all_on (returned ∷ back) (report ∷ reports) {old} served =
+        let one = one_on (visit films settings returned report) served.1.0 in
+        let rest = all_on back reports served.1.1 in
+        record {
+          seat = seat_on old served.0 new one.seat rest.seat;
+          legal = λ legal. rest.legal (one.legal legal);
+        }
+
+    by-lists : (back : List ReturnedConn) (reports : List ConnReport) (old : SeatState)
+        → AreServed films settings old back reports new → (k : ℕ) (here : InsideBack back k)
+        → IsOneOf p (slice_index_or back k here.none) (slice_index_or reports k here.no_report)
+    by-lists [] reports old served k here = absurd (omega (arith, here.inside))
+    by-lists (returned ∷ back) [] old served k here = absurd served
+    by-lists (returned ∷ back) (report ∷ reports) old served zero here = record {
+      agrees = λ told tells found.
+          agrees_on (one_agrees (visit films settings returned report) served.1.0 told tells found)
+          (all_on back reports served.1.1);
+    }
+    by-lists (returned ∷ back) (report ∷ reports) old served (suc k) here =
+        let rest = by-lists back reports served.0 served.1.1 k
+        (record { none = here.none; no_report = here.no_report; inside = omega (arith, here.inside) }) in
+        record { agrees = rest.agrees }

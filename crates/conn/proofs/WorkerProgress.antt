@@ -13,10 +13,8 @@ use Rattle.vod_base.specs.IoState.{HasRisen}
 use Rattle.vod_base.proofs.HistoryLemmas.{told_more-nil}
 use Rattle.film_frames.specs.declared.stored_films.Stored.{Stored}
 use Rattle.film_streams.specs.declared.settings.Settings.{Settings}
-use Rattle.admission.specs.Makers.{PlacedEntry}
 use Rattle.session_records.specs.declared.notes.Receipt.{Receipt}
 use Rattle.session.specs.RequestSteps.{new_session_state}
-use Rattle.session.specs.SessionStates.{SessionState}
 use Rattle.station.specs.Seats.{IsSameSeat, SeatState}
 use Rattle.station.proofs.SameSeats.{seat_none, seat_on}
 use Rattle.conn.specs.declared.reports.ConnReport.{ConnReport}
@@ -59,22 +57,7 @@ gone_whole rested gone = record {
 
 entries_reported-append : (xs ys : List ConnReport)
     → entries_reported (xs ++ ys) ≡ entries_reported xs ++ entries_reported ys
-entries_reported-append = joined-append (λ r. entry_receipts r.receipts.items) entries_reported refl (λ x xs. refl)
-
-has_one : {mine mid new : List PlacedEntry} (reports : List ConnReport) (report : ConnReport)
-    → HasServed mine reports mid → HasAdvanced (at_rest mid []) (at_rest new report.receipts.items)
-    → HasServed mine (reports ++ report ∷ []) new
-has_one {mine} reports report served gone = record {
-  made = served.made ++ gone.made;
-  mine_is = gone.mine_is ∙ ap (λ xs. xs ++ gone.made) served.mine_is ∙ append_assoc mine served.made gone.made;
-  receipts_are = entries_reported-append reports (report ∷ [])
-      ∙ ap (λ rs. entries_reported reports ++ rs) (append-nil (entry_receipts report.receipts.items) ∙
-      gone.receipts_are)
-      ∙ ap (λ rs. rs ++ map receipt_for gone.made) served.receipts_are
-      ∙ sym (map-append receipt_for served.made gone.made);
-  open_is = fold-append open_play_with Closed served.made gone.made
-      ∙ ap (λ play. open_play_from play gone.made) served.open_is ∙ gone.open_is;
-}
+entries_reported-append = joined-append (record { part = λ r. entry_receipts r.receipts.items; all = entries_reported; none = refl; one = λ x xs. refl })
 
 -- ---- what the part of the gate exposes
 
@@ -146,35 +129,15 @@ are_none seed worker = record {
   words_are = λ k d h. absurd (omega (arith, h));
 }
 
--- something is true of each report of a list, and of one more
-record ReportsHold (P : ConnReport → ℕ → Type 0) (reports : List ConnReport) (report : ConnReport) : Type 0 where
-  each : ((k : ℕ) (none : ConnReport) → k < length reports → P (get_or reports k none) k)
-  last : P report (length reports)
-
-at_end : {report : ConnReport} (P : ConnReport → ℕ → Type 0) (reports : List ConnReport) → ReportsHold P reports report
-    → (k : ℕ) (none : ConnReport) → k < length (reports ++ report ∷ []) → P (get_or (reports ++ report ∷ []) k none) k
-at_end {report} P reports hold k none within =
-    elim (cases_lt k (length reports)) [
-      | inl before ↦ subst (λ r. P r k) (sym (get_or_append_left reports (report ∷ []) none k before))
-          (hold.each k none before)
-      | inr after ↦
-          let is : length reports ≡ k = omega (arith, after, within, length-append reports (report ∷ [])) in
-          subst (λ n. P (get_or (reports ++ report ∷ []) n none) n) is
-          (subst (λ r. P r (length reports)) (sym (get_or-append_seam reports report [] none)) hold.last)
-    ]
-
-are_more : {seed : List ℕ} {worker : ℕ} (reports : List ConnReport) (report : ConnReport) → AreOf seed worker reports
-    → report.worker ≡ worker → report.words ≡ words_of seed worker (length reports)
-    → AreOf seed worker (reports ++ report ∷ [])
-are_more {seed} {worker} reports report are number words = record {
-  worker_is = at_end (λ r k. r.worker ≡ worker) reports (record { each = are.worker_is; last = number });
-  words_are = at_end (λ r k. r.words ≡ words_of seed worker k) reports (record { each = are.words_are; last = words });
-}
-
 -- ---- the connections
 
+fresh_is : (old new : Option (List IoEvent)) (doings : List IoEvent) → IfSome old (λ told. told ≡ [])
+    → new ≡ told_more old doings → old ≡ fresh_history new
+fresh_is None new doings fresh is = sym (ap fresh_history is)
+fresh_is (Some told) new doings fresh is = ap Some fresh ∙ sym (ap fresh_history is)
+
 -- how a connection was served: its films, settings and words, its link as it was given and as it is
--- given back, the seat before and after, and the report
+-- given back, the seat before and after, the report, and what is true of them
 pub record Service : Type 0 where
   pub films : List Stored
   pub settings : Settings
@@ -184,43 +147,38 @@ pub record Service : Type 0 where
   pub seat : SeatState
   pub next : SeatState
   pub report : ConnReport
-
--- its session before the first event
-abbrev pub session_of : Service → SessionState
-session_of s = new_session_state s.films s.settings s.words
+  pub fresh : (given.faults ≡ 0) × IfSome given.told (λ told. told ≡ [])
+  pub words_are : report.words ≡ words
+  pub served : ConnectionSpec (new_session_state films settings words) given.told returned.told seat next report
+  pub keeps : MeetsGuarantee (new_session_state films settings words) given.told returned.told seat next report
+  pub entries : HasAdvanced (at_rest seat.mine []) (at_rest next.mine report.receipts.items)
+  pub fault : report.end ≡ LinkFault → HasRisen given.faults returned.faults
 
 -- what a connection exposed at its end is what it exposed before, and more
-told_after : (s : Service) → ConnectionSpec (session_of s) s.given.told s.returned.told s.seat s.next s.report →
-    (doings : List IoEvent) × (s.returned.told ≡ told_more s.given.told doings)
-told_after s (inl from) =
-    (rounds_doings from.course.rounds ++ ending_doings from.course.ending, from.told ∙ from.course.told)
-told_after s (inr none) = ([], none.told ∙ sym (told_more-nil s.given.told))
+told_after : (s : Service) → (doings : List IoEvent) × (s.returned.told ≡ told_more s.given.told doings)
+told_after s =
+    elim s.served [
+      | inl from ↦
+          (rounds_doings from.course.rounds ++ ending_doings from.course.ending, from.told ∙ from.course.told)
+      | inr none ↦ ([], none.told ∙ sym (told_more-nil s.given.told))
+    ]
 
-fresh_is : (old new : Option (List IoEvent)) (doings : List IoEvent) → IfSome old (λ told. told ≡ [])
-    → new ≡ told_more old doings → old ≡ fresh_history new
-fresh_is None new doings fresh is = sym (ap fresh_history is)
-fresh_is (Some told) new doings fresh is = ap Some fresh ∙ sym (ap fresh_history is)
-
-pub served_fresh : (s : Service) → (s.given.faults ≡ 0) × IfSome s.given.told (λ told. told ≡ [])
-    → s.report.words ≡ s.words → ConnectionSpec (session_of s) s.given.told s.returned.told s.seat s.next s.report
-    → MeetsGuarantee (session_of s) s.given.told s.returned.told s.seat s.next s.report
-    → HasAdvanced (at_rest s.seat.mine []) (at_rest s.next.mine s.report.receipts.items)
-    → (s.report.end ≡ LinkFault → HasRisen s.given.faults s.returned.faults)
-    → HasServedOne s.films s.settings s.returned s.report s.seat s.next
-served_fresh s fresh words served keeps entries fault =
-    let told = s.returned.told in
-    let more = told_after s served in
-    let is : s.given.told ≡ fresh_history told = fresh_is s.given.told told more.0 fresh.1 more.1 in
+pub served_fresh : (s : Service) → HasServedOne s.films s.settings s.returned s.report s.seat s.next
+served_fresh s =
+    let told = returned.told in
+    let more = told_after s in
+    let session = new_session_state films settings words in
+    let is : given.told ≡ fresh_history told = fresh_is given.told told more.0 fresh.1 more.1 in
     record {
-      served = subst (λ ws. ConnectionSpec (new_session_state s.films s.settings ws) (fresh_history told) told s.seat
-          s.next s.report) (sym words)
-          (subst (λ t. ConnectionSpec (session_of s) t told s.seat s.next s.report) is served);
-      keeps = subst (λ ws. MeetsGuarantee (new_session_state s.films s.settings ws) (fresh_history told) told s.seat
-          s.next s.report) (sym words)
-          (subst (λ t. MeetsGuarantee (session_of s) t told s.seat s.next s.report) is keeps);
+      served = subst (λ ws. ConnectionSpec (new_session_state films settings ws) (fresh_history told) told seat next
+          report) (sym words_are) (subst (λ t. ConnectionSpec session t told seat next report) is served);
+      keeps = subst (λ ws. MeetsGuarantee (new_session_state films settings ws) (fresh_history told) told seat next
+          report) (sym words_are) (subst (λ t. MeetsGuarantee session t told seat next report) is keeps);
       entries = entries;
-      fault = λ is. subst (λ n. HasRisen n s.returned.faults) fresh.0 (fault is);
+      fault = λ is. subst (λ n. HasRisen n returned.faults) fresh.0 (fault is);
     }
+  where
+    open s use {films, settings, words, given, returned, seat, next, report, fresh, words_are, served, keeps, entries, fault}
 
 -- where a worker stands between two connections: its seat, its part of the gate, and its reports
 pub record WorkerState : Type 0 where
@@ -274,46 +232,94 @@ pub record IsOneMore (input : WorkerInput) (mid new : WorkerState) : Type 0 wher
   pub back : TakenBack mid.gate.told new.gate.told returned
   pub count : mid.gate.faults ≤ new.gate.faults
 
-module _ (input : WorkerInput) {mid new : SeatState} {returned : ReturnedConn} {report : ConnReport}
-    (one : HasServedOne input.films input.settings returned report mid new) where
-  served_more : (old : SeatState) (back : List ReturnedConn) (reports : List ConnReport)
-      → AreServed input.films input.settings old back reports mid
-      → AreServed input.films input.settings old (back ++ returned ∷ []) (reports ++ report ∷ []) new
-  served_more old [] [] are =
-      (new, (subst (λ s. HasServedOne input.films input.settings returned report s new) are one, refl))
-  served_more old [] (r ∷ reports) are = absurd are
-  served_more old (b ∷ back) [] are = absurd are
-  served_more old (b ∷ back) (r ∷ reports) are = (are.0, (are.1.0, served_more are.0 back reports are.1.1))
-
-  told_one : (old : SeatState) (reports : List ConnReport) (told : Option Content)
-      → AreReported input.films input.settings told reports old mid
-      → AreReported input.films input.settings (option_map (after_return returned) (option_map after_take told))
-      (reports ++ report ∷ []) old new
-  told_one old reports None are = tt
-  told_one old reports (Some told) are = served_more old told.own.back reports are
-
 pub one_served : {input : WorkerInput} {old mid new : WorkerState} → HasServedSoFar input old mid
     → IsOneMore input mid new → HasServedSoFar input old new
 one_served {input} {old} {mid} {new} front more =
-    let report : ConnReport = more.report in
-    let reports : List ConnReport = mid.reports ++ report ∷ [] in
     subst (λ rs. HasServedSoFar input old (record new { reports = rs })) (sym more.reports_are) (record {
       seat = seat_on old.seat mid.seat new.seat front.seat more.seat;
-      entries = has_one mid.reports report front.entries more.entries;
-      each = are_more mid.reports report front.each more.worker more.words;
+      entries = record {
+        made = served.made ++ gone.made;
+        mine_is = gone.mine_is ∙ ap (λ xs. xs ++ gone.made) served.mine_is
+            ∙ append_assoc old.seat.mine served.made gone.made;
+        receipts_are = entries_reported-append mid.reports (report ∷ [])
+            ∙ ap (λ rs. entries_reported mid.reports ++ rs) (append-nil (entry_receipts report.receipts.items)
+            ∙ gone.receipts_are)
+            ∙ ap (λ rs. rs ++ map receipt_for gone.made) served.receipts_are
+            ∙ sym (map-append receipt_for served.made gone.made);
+        open_is = fold-append open_play_with Closed served.made gone.made
+            ∙ ap (λ play. open_play_from play gone.made) served.open_is ∙ gone.open_is;
+      };
+      each = record {
+        worker_is = at_end (λ r k. r.worker ≡ input.worker) front.each.worker_is more.worker;
+        words_are = at_end (λ r k. r.words ≡ words_of input.seed input.worker k) front.each.words_are more.words;
+      };
       served = subst (λ t. IsServed old.gate.told t (length reports)) (sym (back_is more.back))
           (subst (IsServed old.gate.told _) (sym (length-append mid.reports (report ∷ [])))
           (served_one more.returned old.gate.told mid.gate.told (length mid.reports) front.served));
       connections = subst (λ t. AreReported input.films input.settings t reports old.seat new.seat)
-          (sym (back_is more.back)) (told_one input more.one old.seat mid.reports mid.gate.told front.connections);
+          (sym (back_is more.back)) (told_one mid.gate.told front.connections);
       count = omega (arith, front.count, more.count);
     })
+  where
+    open more use {report, returned}
+
+    served : HasServed old.seat.mine mid.reports mid.seat.mine
+    served = front.entries
+
+    gone : HasAdvanced (at_rest mid.seat.mine []) (at_rest new.seat.mine report.receipts.items)
+    gone = more.entries
+
+    reports : List ConnReport
+    reports = mid.reports ++ report ∷ []
+
+    -- what is true of each report, and of one more
+    at_end : (P : ConnReport → ℕ → Type 0)
+        → ((k : ℕ) (none : ConnReport) → k < length mid.reports → P (get_or mid.reports k none) k)
+        → P report (length mid.reports) → (k : ℕ) (none : ConnReport) → k < length reports → P (get_or reports k none) k
+    at_end P each last k none within =
+        elim (cases_lt k (length mid.reports)) [
+          | inl before ↦ subst (λ r. P r k) (sym (get_or_append_left mid.reports (report ∷ []) none k before))
+              (each k none before)
+          | inr after ↦
+              let is : length mid.reports ≡ k = omega (arith, after, within, length-append mid.reports (report ∷ [])) in
+              subst (λ n. P (get_or reports n none) n) is
+              (subst (λ r. P r (length mid.reports)) (sym (get_or-append_seam mid.reports report [] none)) last)
+        ]
+
+    served_more : (seat : SeatState) (back : List ReturnedConn) (xs : List ConnReport)
+        → AreServed input.films input.settings seat back xs mid.seat
+        → AreServed input.films input.settings seat (back ++ returned ∷ []) (xs ++ report ∷ []) new.seat
+    served_more seat [] [] are =
+        (new.seat, (subst (λ s. HasServedOne input.films input.settings returned report s new.seat) are more.one, refl))
+    served_more seat [] (r ∷ xs) are = absurd are
+    served_more seat (b ∷ back) [] are = absurd are
+    served_more seat (b ∷ back) (r ∷ xs) are = (are.0, (are.1.0, served_more are.0 back xs are.1.1))
+
+    told_one : (told : Option Content) → AreReported input.films input.settings told mid.reports old.seat mid.seat
+        → AreReported input.films input.settings (option_map (after_return returned) (option_map after_take told))
+        reports old.seat new.seat
+    told_one None are = tt
+    told_one (Some told) are = served_more old.seat told.own.back mid.reports are
+
+-- a part that is served by a worker so far, and its report
+pub record PartSoFar : Type 0 where
+  pub input : WorkerInput
+  pub old : WorkerState
+  pub seat : SeatState
+  pub gate : WorkerGate
+  pub result : PartReport
+  pub so_far : HasServedSoFar input old (record { seat = seat; gate = gate; reports = result.reports.items })
+
+abbrev pub part_so_far : {input : WorkerInput} {old : WorkerState} {seat : SeatState} {gate : WorkerGate}
+    (result : PartReport) → HasServedSoFar input old (record { seat = seat; gate = gate; reports = result.reports.items }) → PartSoFar
+part_so_far {input} {old} {seat} {gate} result so_far =
+    record { input = input; old = old; seat = seat; gate = gate; result = result; so_far = so_far }
 
 -- what is known of the gate by the cause of a part's end
-record EndsBy (old new : WorkerGate) (result : PartReport) : Type 0 where
-  all : result.end ≡ AllTaken → IfSome new.told (λ c. c.own.last ≡ NoMore)
-  fault : result.end ≡ GateFault → HasRisen old.faults new.faults
-  failed : result.end ≡ GateFault → IfSome new.told (λ c. c.own.last ≡ Failed)
+record EndsBy (p : PartSoFar) : Type 0 where
+  all : p.result.end ≡ AllTaken → IfSome p.gate.told (λ c. c.own.last ≡ NoMore)
+  fault : p.result.end ≡ GateFault → HasRisen p.old.gate.faults p.gate.faults
+  failed : p.result.end ≡ GateFault → IfSome p.gate.told (λ c. c.own.last ≡ Failed)
 
 -- the last take gave none
 pub record TookNone (last : LastTake) (mid new : WorkerGate) : Type 0 where
@@ -326,63 +332,60 @@ reported_last : (input : WorkerInput) (old new : WorkerState) (last : LastTake) 
 reported_last input old new last None are = tt
 reported_last input old new last (Some told) are = are
 
-took_none : {input : WorkerInput} {old mid : WorkerState} {gate : WorkerGate} (last : LastTake)
-    → HasServedSoFar input old mid → TookNone last mid.gate gate
-    → HasServedSoFar input old (record mid { gate = gate })
-took_none {input} {old} {mid} last so_far took = record {
-  seat = so_far.seat;
-  entries = so_far.entries;
-  each = so_far.each;
-  served = subst (λ t. IsServed old.gate.told t (length mid.reports)) (sym took.told)
-      (served_last old.gate.told mid.gate.told (length mid.reports) last so_far.served);
-  connections = subst (λ t. AreReported input.films input.settings t mid.reports old.seat mid.seat) (sym took.told)
-      (reported_last input old mid last mid.gate.told so_far.connections);
-  count = omega (arith, so_far.count, took.count);
+abbrev took_none : {gate : WorkerGate} (last : LastTake) (p : PartSoFar) → TookNone last p.gate gate → PartSoFar
+took_none {gate} last p took = record p {
+  gate = gate;
+  so_far = record {
+    seat = p.so_far.seat;
+    entries = p.so_far.entries;
+    each = p.so_far.each;
+    served = subst (λ t. IsServed p.old.gate.told t (length p.result.reports.items)) (sym took.told)
+        (served_last p.old.gate.told p.gate.told (length p.result.reports.items) last p.so_far.served);
+    connections = subst (λ t. AreReported p.input.films p.input.settings t p.result.reports.items p.old.seat p.seat)
+        (sym took.told)
+        (reported_last p.input p.old (record { seat = p.seat; gate = p.gate; reports = p.result.reports.items }) last
+        p.gate.told p.so_far.connections);
+    count = omega (arith, p.so_far.count, took.count);
+  };
 }
 
 -- a part that ends
-module _ {input : WorkerInput} {old : WorkerState} {seat : SeatState} {result : PartReport} where
-  ended : {gate : WorkerGate}
-      → HasServedSoFar input old (record { seat = seat; gate = gate; reports = result.reports.items })
-      → EndsBy old.gate gate result → WorkerSpec input old.seat seat old.gate gate result
-  ended so_far ends = record {
-    seat = so_far.seat;
-    entries = so_far.entries;
-    reports = so_far.each;
-    served = so_far.served;
-    connections = so_far.connections;
-    count = so_far.count;
-    all = ends.all;
-    fault = ends.fault;
-    failed = ends.failed;
-  }
+ended : (p : PartSoFar) → EndsBy p → WorkerSpec p.input p.old.seat p.seat p.old.gate p.gate p.result
+ended p ends = record {
+  seat = p.so_far.seat;
+  entries = p.so_far.entries;
+  reports = p.so_far.each;
+  served = p.so_far.served;
+  connections = p.so_far.connections;
+  count = p.so_far.count;
+  all = ends.all;
+  fault = ends.fault;
+  failed = ends.failed;
+}
 
-  -- there was no memory for one more report
-  pub ends_early : {gate : WorkerGate}
-      → HasServedSoFar input old (record { seat = seat; gate = gate; reports = result.reports.items })
-      → result.end ≡ NoMemory → WorkerSpec input old.seat seat old.gate gate result
-  ends_early so_far is = ended so_far (record {
-    all = λ other. absurd (let no : ⊥ = cc (is, other) in no);
-    fault = λ other. absurd (let no : ⊥ = cc (is, other) in no);
-    failed = λ other. absurd (let no : ⊥ = cc (is, other) in no);
-  })
+-- there was no memory for one more report
+pub ends_early : (p : PartSoFar) → p.result.end ≡ NoMemory
+    → WorkerSpec p.input p.old.seat p.seat p.old.gate p.gate p.result
+ends_early p is = ended p (record {
+  all = λ other. absurd (let no : ⊥ = cc (is, other) in no);
+  fault = λ other. absurd (let no : ⊥ = cc (is, other) in no);
+  failed = λ other. absurd (let no : ⊥ = cc (is, other) in no);
+})
 
-  module _ {mid new : WorkerGate}
-      (so_far : HasServedSoFar input old (record { seat = seat; gate = mid; reports = result.reports.items })) where
-    -- there are no more
-    pub ends_taken : result.end ≡ AllTaken → TookNone NoMore mid new
-        → WorkerSpec input old.seat seat old.gate new result
-    ends_taken is took = ended (took_none NoMore so_far took) (record {
-      all = λ same. told_last mid.told new.told NoMore took.told;
-      fault = λ other. absurd (let no : ⊥ = cc (is, other) in no);
-      failed = λ other. absurd (let no : ⊥ = cc (is, other) in no);
-    })
+-- there are no more
+pub ends_taken : {new : WorkerGate} (p : PartSoFar) → p.result.end ≡ AllTaken → TookNone NoMore p.gate new
+    → WorkerSpec p.input p.old.seat p.seat p.old.gate new p.result
+ends_taken {new} p is took = ended (took_none NoMore p took) (record {
+  all = λ same. told_last p.gate.told new.told NoMore took.told;
+  fault = λ other. absurd (let no : ⊥ = cc (is, other) in no);
+  failed = λ other. absurd (let no : ⊥ = cc (is, other) in no);
+})
 
-    -- or it failed
-    pub ends_failed : result.end ≡ GateFault → TookNone Failed mid new → HasRisen mid.faults new.faults
-        → WorkerSpec input old.seat seat old.gate new result
-    ends_failed is took risen = ended (took_none Failed so_far took) (record {
-      all = λ other. absurd (let no : ⊥ = cc (is, other) in no);
-      fault = λ same. risen_on old.gate.faults mid.faults new.faults so_far.count risen;
-      failed = λ same. told_last mid.told new.told Failed took.told;
-    })
+-- or it failed
+pub ends_failed : {new : WorkerGate} (p : PartSoFar) → p.result.end ≡ GateFault → TookNone Failed p.gate new
+    → HasRisen p.gate.faults new.faults → WorkerSpec p.input p.old.seat p.seat p.old.gate new p.result
+ends_failed {new} p is took risen = ended (took_none Failed p took) (record {
+  all = λ other. absurd (let no : ⊥ = cc (is, other) in no);
+  fault = λ same. risen_on p.old.gate.faults p.gate.faults new.faults p.so_far.count risen;
+  failed = λ same. told_last p.gate.told new.told Failed took.told;
+})

@@ -9,4 +9,12 @@ returns-clause-longer c = λ visit terms journal longer agrees prefix legal. agr
 
 pub returns-clause-part : goal.returns-clause-part
 returns-clause-part c = λ films settings back reports old new served k none no_report inside.
-    (all_agree back reports served k (record { none = none; no_report = no_report; inside = inside })).agrees
+    (all_agree (record {
+      films = films;
+      settings = settings;
+      old = old;
+      new = new;
+      back = back;
+      reports = reports;
+      served = served;
+    }) k (record { none = none; no_report = no_report; inside = inside })).agrees

@@ -1,7 +1,7 @@
-use Rattle.std.proofs.Common.{◌≡◌, ◌++◌, ◌∷◌, ◌∙◌, [], ap, length, refl, rules, subst, arith}
+use Rattle.std.proofs.Common.{◌++◌, ◌∷◌, ◌∙◌, [], ap, length, refl, rules, subst, arith}
 use Rattle.conn.specs.Parts.{worker_input}
 use Rattle.conn.proofs.WorkerProgress.{HasServedSoFar, ends_early, ends_failed, ends_taken, none_served, one_served}
-use Rattle.conn.proofs.WorkerProgress.{served_fresh, served_out, worker_state}
+use Rattle.conn.proofs.WorkerProgress.{part_so_far, served_fresh, served_out, worker_state}
 use Rattle.conn.proofs.parts.serve_part.Goals as goal
 
 pub connections-init : goal.connections-init
@@ -37,20 +37,26 @@ connections-preserved g c =
         seat = c.connections.seat;
         next = c.serve_connection-report.new.seat;
         report = report;
-      }) some.fresh served.words served.served served.guarantee served.entries served.fault;
+        fresh = some.fresh;
+        words_are = served.words;
+        served = served.served;
+        keeps = served.guarantee;
+        entries = served.entries;
+        fault = served.fault;
+      });
       back = record { taken = g.G.Gate.told c.take.new.self; takes = some.gave; returns = c.give_back.ensures.back };
       count = omega (arith, c.take.ensures.count, c.give_back.ensures.count);
     })
 
 pub returns-then-is_err : goal.returns-then-is_err
 returns-then-is_err g c = record {
-  part = let so_far = rw (← c.reserve.ensures.items) at c.connections.invariant in ends_early so_far refl;
+  part = let so_far = rw (← c.reserve.ensures.items) at c.connections.invariant in ends_early (part_so_far _ so_far) refl;
 }
 
 pub returns-in-Ok-None : goal.returns-in-Ok-None
 returns-in-Ok-None g c = record {
   part = let so_far = rw (← c.reserve.ensures.items) at c.connections.invariant in
-      ends_taken so_far refl (record {
+      ends_taken (part_so_far _ so_far) refl (record {
         told = c.in-Ok-None.ensures.none c.in-Ok-None.field-0-is;
         count = c.take.ensures.count;
       });
@@ -59,7 +65,7 @@ returns-in-Ok-None g c = record {
 pub returns-in-Err : goal.returns-in-Err
 returns-in-Err g c = record {
   part = let so_far = rw (← c.reserve.ensures.items) at c.connections.invariant in
-      ends_failed so_far refl (record { told = c.in-Err.ensures.lost; count = c.take.ensures.count })
+      ends_failed (part_so_far _ so_far) refl (record { told = c.in-Err.ensures.lost; count = c.take.ensures.count })
       c.in-Err.ensures.fault;
 }
 

@@ -16,7 +16,11 @@ returns-in_default-clause-course g c =
 
 pub returns-in-Some-clause-course : goal.returns-in-Some-clause-course
 returns-in-Some-clause-course g c =
-    run_end c.events.invariant.3 (record {
+    run_end (record {
+      count = _;
+      before = _;
+      run = c.events.invariant.3;
+      event = _;
       heard = observed c.events.connection (g.K.Link.told c.next.new.self) c.events.seat;
       stage_is = refl;
       seat_is = refl;
@@ -41,7 +45,11 @@ events-preserved g c =
       kept_on inv.0 c.hear.ensures.kept,
       on.0,
       on.1,
-      run_on inv.3 (record {
+      run_on (record {
+        count = _;
+        before = _;
+        run = inv.3;
+        event = _;
         heard = observed c.events.connection (g.K.Link.told c.next.new.self) c.events.seat;
         stage_is = refl;
         seat_is = refl;

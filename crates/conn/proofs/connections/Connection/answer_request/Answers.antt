@@ -1,14 +1,14 @@
-use Rattle.std.proofs.Common.{◌≡◌, List, ℕ, ap, length, refl, take, sym, subst}
+use Rattle.std.proofs.Common.{List, ℕ, length, refl, take, sym, subst}
 use Rattle.interleave.specs.Elements.{IsMessageLength}
 use Rattle.rtsp_text.proofs.WholeRequests.{request-take}
-use Rattle.session.specs.declared.commands.Ask.{Ask}
+use Rattle.session.specs.RequestSteps.{Hears}
 use Rattle.session.specs.SessionStates.{SessionState, open_of}
 use Rattle.station.specs.Seats.{SeatState}
 use Rattle.conn.specs.Observations.{HasAnswered, HasAsked}
 use Rattle.conn.specs.ReservationInvariant.{IsHeld, KeepsReservations}
 use Rattle.conn.specs.declared.connections.Connection.{Connection}
-use Rattle.conn.proofs.Outcomes.{answered_none, asked_on}
-use Rattle.conn.proofs.ReservationSteps.{kept_after, kept_none, kept_then}
+use Rattle.conn.proofs.Outcomes.{answered_none}
+use Rattle.conn.proofs.ReservationSteps.{kept_after, kept_due, still_open}
 use Rattle.conn.proofs.connections.Connection.answer_request.Goals as goal
 use Rattle.conn.proofs.connections.Connection.answer_request.Goals.{After-drop_front}
 
@@ -25,21 +25,24 @@ kept : (g : _) (c : After-drop_front g) {next : SeatState} {after : Connection}
     (record c.args.self.now { session = c.hear-ask.new.self; input = c.drop_front.new.self }) after
     → KeepsReservations c.args.seat.now next c.args.self.now after
 kept g c =
-    kept_after {a = c.args.self.now}
-    {mid = record c.args.self.now { session = c.hear-ask.new.self; input = c.drop_front.new.self }}
-    refl c.hear-ask.ensures.same.receipts
+    kept_after {mid = record c.args.self.now { session = c.hear-ask.new.self; input = c.drop_front.new.self }}
+    (record { booking = refl; receipts = c.hear-ask.ensures.same.receipts })
 
 -- it was asked, and answered so
-heard : (g : _) (c : After-drop_front g) {arm : Ask} {next : SeatState} {new : SessionState}
-    → c.hear-ask.result ≡ arm → HasAnswered c.hear-ask.new.self arm new c.args.seat.now next
+heard : (g : _) (c : After-drop_front g) {next : SeatState} {new : SessionState}
+    → HasAnswered c.hear-ask.new.self c.hear-ask.result new c.args.seat.now next
     → HasAsked c.args.self.now.session (take c.args.length c.args.self.now.input) new c.args.seat.now next
-heard g c = asked_on (record {
-  old = c.args.self.now.session;
-  new = c.hear-ask.new.self;
-  message = _;
-  ask = c.hear-ask.result;
-  hears = c.hear-ask.ensures.hears;
-}) (ap (take c.args.length) c.waiting.ensures)
+heard g c answered = record {
+  outcome = answered.outcome;
+  heard = record {
+    ask = c.hear-ask.result;
+    asking = c.hear-ask.new.self;
+    hears = subst (λ (i : List ℕ). Hears c.args.self.now.session (take c.args.length i) c.hear-ask.result
+        c.hear-ask.new.self) c.waiting.ensures c.hear-ask.ensures.hears;
+    answered = answered.answered;
+  };
+  noted = answered.noted;
+}
 
 pub hear-ask-requires-clause-whole : goal.hear-ask-requires-clause-whole
 hear-ask-requires-clause-whole g c =
@@ -77,28 +80,29 @@ returns-in-Offer-clause-kept g c =
 
 pub returns-in-Reply-clause-kept : goal.returns-in-Reply-clause-kept
 returns-in-Reply-clause-kept g c =
-    kept_then {a = c.args.self.now} {mid = c.args.self.now}
-    {b = record c.args.self.now { session = c.hear-ask.new.self; input = c.drop_front.new.self }}
-    (kept_none c.args.seat.now c.args.self.now c.requires.quiet) c.in-Reply.ensures.asks.0 refl
-    c.hear-ask.ensures.same.booking c.hear-ask.ensures.same.receipts
+    kept_due c.args.seat.now c.requires.quiet (record {
+      rest = c.in-Reply.ensures.asks.0;
+      same = record { booking = refl; receipts = c.hear-ask.ensures.same.receipts };
+      opens = still_open _ _ c.hear-ask.ensures.same.booking;
+    })
 
 pub returns-in-Play-clause-heard : goal.returns-in-Play-clause-heard
 returns-in-Play-clause-heard g c =
-    heard g (goal.at.returns-in-Play-clause-heard g c).After-drop_front c.in-Play.is c.play.ensures.answered
+    heard g (goal.at.returns-in-Play-clause-heard g c).After-drop_front (rw c.in-Play.is c.play.ensures.answered)
 
 pub returns-in-Halt-clause-heard : goal.returns-in-Halt-clause-heard
 returns-in-Halt-clause-heard g c =
-    heard g (goal.at.returns-in-Halt-clause-heard g c).After-drop_front c.in-Halt.is c.halt.ensures.answered
+    heard g (goal.at.returns-in-Halt-clause-heard g c).After-drop_front (rw c.in-Halt.is c.halt.ensures.answered)
 
 pub returns-in-Look-clause-heard : goal.returns-in-Look-clause-heard
 returns-in-Look-clause-heard g c =
-    heard g (goal.at.returns-in-Look-clause-heard g c).After-drop_front c.in-Look.is c.look.ensures.answered
+    heard g (goal.at.returns-in-Look-clause-heard g c).After-drop_front (rw c.in-Look.is c.look.ensures.answered)
 
 pub returns-in-Offer-clause-heard : goal.returns-in-Offer-clause-heard
 returns-in-Offer-clause-heard g c =
-    heard g (goal.at.returns-in-Offer-clause-heard g c).After-drop_front c.in-Offer.is c.offer.ensures.answered
+    heard g (goal.at.returns-in-Offer-clause-heard g c).After-drop_front (rw c.in-Offer.is c.offer.ensures.answered)
 
 pub returns-in-Reply-clause-heard : goal.returns-in-Reply-clause-heard
 returns-in-Reply-clause-heard g c =
-    heard g (goal.at.returns-in-Reply-clause-heard g c).After-drop_front c.in-Reply.is
-    (answered_none c.hear-ask.new.self c.args.seat.now)
+    heard g (goal.at.returns-in-Reply-clause-heard g c).After-drop_front
+    (rw c.in-Reply.is (answered_none c.hear-ask.new.self c.args.seat.now))

@@ -1,6 +1,7 @@
 use Rattle.std.proofs.Common.{Some, rules, refl, ap, sym, ◌∙◌}
 use Rattle.conn.specs.ReservationInvariant.{open_play_of}
-use Rattle.conn.proofs.Outcomes.{answered_entry}
+use Rattle.conn.specs.InputSteps.{Entered}
+use Rattle.conn.proofs.Outcomes.{noted_entry}
 use Rattle.conn.proofs.ReservationSteps.{at_halt, gone_entry}
 use Rattle.conn.proofs.connections.Connection.halt.Goals as goal
 
@@ -8,17 +9,28 @@ pub returns-in-Some-clause-kept : goal.returns-in-Some-clause-kept
 returns-in-Some-clause-kept g c = record {
   seat = c.halt-place.ensures.same;
   quiet = search rules;
-  gone = gone_entry {booking = Some c.in-Some.booking} (sym c.replace.ensures.value ∙ c.in-Some.is)
-      (record { mine = c.halt-place.ensures.made.mine; receipts = c.halted.ensures.handed.receipts })
-      (at_halt c.in-Some.booking.number ∙ ap open_play_of (sym c.replace.ensures.after));
+  gone = gone_entry (record {
+    booking = Some c.in-Some.booking;
+    was = sym c.replace.ensures.value ∙ c.in-Some.is;
+    mine = c.halt-place.ensures.made.mine;
+    receipts = c.halted.ensures.handed.receipts;
+  }) (at_halt c.in-Some.booking.number ∙ ap open_play_of (sym c.replace.ensures.after));
 }
 
 pub returns-in-Some-clause-answered : goal.returns-in-Some-clause-answered
-returns-in-Some-clause-answered g c =
-    answered_entry (record {
-      kept = c.holds.ensures.kept;
-      also = c.halt-place.ensures.kept;
-      same = c.halt-place.ensures.same;
-      maker = refl;
-      made = c.halt-place.ensures.made;
-    }) (record { number = c.in-Some.booking.number; command = refl; answer = refl; halts = c.halted.ensures.halts })
+returns-in-Some-clause-answered g c = record {
+  outcome = Entered _;
+  answered = record {
+    number = c.in-Some.booking.number;
+    command = refl;
+    answer = refl;
+    halts = c.halted.ensures.halts;
+  };
+  noted = noted_entry (record {
+    kept = c.holds.ensures.kept;
+    also = c.halt-place.ensures.kept;
+    same = c.halt-place.ensures.same;
+    maker = refl;
+    made = c.halt-place.ensures.made;
+  });
+}

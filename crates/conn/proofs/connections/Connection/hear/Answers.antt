@@ -1,10 +1,10 @@
-use Rattle.std.proofs.Common.{◌≡◌, ◌<◌, ◌≤◌, ◌+◌, ◌++◌, ℕ, List, length, take, rules, refl, ap, subst, sym, Some}
+use Rattle.std.proofs.Common.{[], ◌≡◌, ◌<◌, ◌≤◌, ◌+◌, ◌++◌, ℕ, List, length, take, rules, refl, ap, subst, sym, Some}
 use Rattle.std.proofs.Common.{arith}
 use Rattle.vod_base.specs.Links.{io_event_of}
 use Rattle.vod_base.specs.declared.links.Heard.{Heard}
 use Rattle.conn.specs.declared.reports.ConnEnd.TheVariants.{LinkFault, TooMuchInput}
 use Rattle.conn.specs.Observations.{HasFailedSend, HasHandledEvent, HasTakenSlot, Observed, observed}
-use Rattle.conn.specs.InputSteps.{stage}
+use Rattle.conn.specs.InputSteps.{Unasked, stage}
 use Rattle.std.proofs.lemmas.List.{length-take-le}
 use Rattle.interleave.specs.declared.demux.TheConstants.{MAX_WAITING_BYTES}
 use Rattle.vod_base.specs.declared.links.TheConstants.{MAX_READ_BYTES}
@@ -12,7 +12,7 @@ use Rattle.conn.proofs.FaultCounts.{counted_on}
 use Rattle.conn.proofs.ElementPrefixes.{cuts_same}
 use Rattle.conn.proofs.ReservationSteps.{kept_after, kept_moved, kept_none, kept_on}
 use Rattle.conn.proofs.EventLimit.{waits_for_room}
-use Rattle.conn.proofs.CourseSteps.{bytes_up, overfull, slot_broken, slot_up}
+use Rattle.conn.proofs.CourseSteps.{event_up, noted_unasked, overfull, sent_none, slot_broken}
 use Rattle.conn.proofs.connections.Connection.hear.Goals as goal
 
 pub returns-then-is_err-clause-comes : goal.returns-then-is_err-clause-comes
@@ -60,12 +60,14 @@ returns-else-is_err-clause-comes g c =
     c.process_input.new.seat in
     subst (λ (h : Heard). HasHandledEvent c.process_input.result (io_event_of h c.args.bytes.now) here after) (sym
     c.in-Bytes.is)
-    (bytes_up {b = mid} {a = here} c.process_input.result after (record {
-      few = few;
-      waits = ap (stage c.args.self.now.session) input;
-      told = refl;
-      seat = refl;
-    }) c.process_input.ensures.up)
+    (event_up {a = here} (record {
+      opened = mid;
+      due = [];
+      halt = Unasked;
+      comes = (refl, refl, few, ap (stage c.args.self.now.session) input);
+      sent = sent_none here.told;
+      noted = noted_unasked here.seat;
+    }) c.process_input.result after c.process_input.ensures.up)
 
 pub returns-else-is_err-2-clause-comes : goal.returns-else-is_err-2-clause-comes
 returns-else-is_err-2-clause-comes g c =
@@ -76,7 +78,14 @@ returns-else-is_err-2-clause-comes g c =
     let passed : HasTakenSlot here mid c.in-Slot.slot = search rules in
     subst (λ (h : Heard). HasHandledEvent c.process_input-in-Slot.result (io_event_of h c.args.bytes.now) here after)
     (sym c.in-Slot.is)
-    (slot_up {a = here} {b = mid} c.process_input-in-Slot.result after passed c.process_input-in-Slot.ensures.up)
+    (event_up {a = here} (record {
+      opened = mid;
+      due = passed.parts;
+      halt = passed.halt;
+      comes = (passed.input, passed.stepped);
+      sent = passed.sent;
+      noted = passed.noted;
+    }) c.process_input-in-Slot.result after c.process_input-in-Slot.ensures.up)
 
 pub returns-in-End-clause-kept : goal.returns-in-End-clause-kept
 returns-in-End-clause-kept g c = kept_none c.args.seat.now c.args.self.now c.requires.quiet
@@ -86,9 +95,8 @@ returns-then-is_err-clause-kept g c = kept_moved c.args.seat.now c.args.self.now
 
 pub returns-else-is_err-clause-kept : goal.returns-else-is_err-clause-kept
 returns-else-is_err-clause-kept g c =
-    kept_after {a = c.args.self.now}
-    {mid = record c.args.self.now { input = c.put.new.self }}
-    refl refl c.process_input.ensures.kept
+    kept_after {mid = record c.args.self.now { input = c.put.new.self }} (record { booking = refl; receipts = refl })
+    c.process_input.ensures.kept
 
 pub returns-then-is_err-2-clause-kept : goal.returns-then-is_err-2-clause-kept
 returns-then-is_err-2-clause-kept g c = c.step.ensures.kept

@@ -1,6 +1,7 @@
 use Rattle.std.proofs.Common.{[], ◌∷◌, refl, rules}
 use Rattle.session_records.specs.declared.notes.Receipt.TheVariants.{Full as FullReceipt}
-use Rattle.conn.proofs.Outcomes.{answered_entry, answered_full}
+use Rattle.conn.specs.InputSteps.{Entered, WasFull}
+use Rattle.conn.proofs.Outcomes.{noted_entry, noted_full}
 use Rattle.conn.proofs.ReservationSteps.{at_look, gone_entry, gone_none, held_at_look}
 use Rattle.conn.proofs.connections.Connection.look.Goals as goal
 
@@ -9,8 +10,12 @@ returns-in-Ok-clause-kept g c = record {
   seat = search rules;
   quiet = search (rules, held_at_look);
   gone =
-      gone_entry refl (record { mine = c.in-Ok.ensures.made.mine; receipts = c.looked.ensures.handed.receipts })
-      (at_look c.args.self.now.booking _ c.args.seat.now.number _ _ _ _);
+      gone_entry (record {
+        booking = c.args.self.now.booking;
+        was = refl;
+        mine = c.in-Ok.ensures.made.mine;
+        receipts = c.looked.ensures.handed.receipts;
+      }) (at_look c.args.self.now.booking _ _ _ _ _);
 }
 
 pub returns-in-Err-clause-kept : goal.returns-in-Err-clause-kept
@@ -18,26 +23,37 @@ returns-in-Err-clause-kept g c = record {
   seat = search rules;
   quiet = search rules;
   gone =
-      gone_none (FullReceipt c.in-Err.full.entries c.in-Err.full.live ∷ []) c.in-Err.ensures.full.mine refl
-      c.full.ensures.handed.receipts refl;
+      gone_none (record {
+        full = FullReceipt c.in-Err.full.entries c.in-Err.full.live ∷ [];
+        mine = c.in-Err.ensures.full.mine;
+        booking = refl;
+        receipts = c.full.ensures.handed.receipts;
+        none = refl;
+      });
 }
 
 pub returns-in-Ok-clause-answered : goal.returns-in-Ok-clause-answered
-returns-in-Ok-clause-answered g c =
-    answered_entry (record {
-      kept = c.holds.ensures.kept;
-      also = c.look.ensures.kept;
-      same = c.look.ensures.same;
-      maker = refl;
-      made = c.in-Ok.ensures.made;
-    }) (refl, c.looked.ensures.exact)
+returns-in-Ok-clause-answered g c = record {
+  outcome = Entered _;
+  answered = (refl, c.looked.ensures.exact);
+  noted = noted_entry (record {
+    kept = c.holds.ensures.kept;
+    also = c.look.ensures.kept;
+    same = c.look.ensures.same;
+    maker = refl;
+    made = c.in-Ok.ensures.made;
+  });
+}
 
 pub returns-in-Err-clause-answered : goal.returns-in-Err-clause-answered
-returns-in-Err-clause-answered g c =
-    answered_full (record {
-      more = 1;
-      entries = c.in-Err.full.entries;
-      live = c.in-Err.full.live;
-      same = c.look.ensures.same;
-      full = c.in-Err.ensures.full;
-    }) (c.full.ensures.exact, refl)
+returns-in-Err-clause-answered g c = record {
+  outcome = WasFull 1 c.in-Err.full.entries c.in-Err.full.live;
+  answered = (c.full.ensures.exact, refl);
+  noted = noted_full (record {
+    more = 1;
+    entries = c.in-Err.full.entries;
+    live = c.in-Err.full.live;
+    same = c.look.ensures.same;
+    full = c.in-Err.ensures.full;
+  });
+}

@@ -48,9 +48,14 @@ returns-in-Err-clause-kept g c =
 
 pub returns-in-Ok-clause-answered : goal.returns-in-Ok-clause-answered
 returns-in-Ok-clause-answered g c =
-    answered_admitted {before = c.args.self.now} (asking g (goal.at.returns-in-Ok-clause-answered g c).After-play) (subst (λ heard. HasMadeEntry c.args.seat.now c.play.new.seat 2 (play_of heard c.args.plan)
-    c.in-Ok.booking.number (Admitted c.in-Ok.booking.start))
-    c.heard_slot.ensures.slot c.in-Ok.ensures.made) (record {
+    answered_admitted (record {
+      seat = c.args.seat.now;
+      next = c.play.new.seat;
+      before = c.args.self.now;
+      after = record c.args.self.now { session = c.admitted.new.self };
+    }) (asking g (goal.at.returns-in-Ok-clause-answered g c).After-play)
+    (subst (λ heard. HasMadeEntry c.args.seat.now c.play.new.seat 2 (play_of heard c.args.plan)
+    c.in-Ok.booking.number (Admitted c.in-Ok.booking.start)) c.heard_slot.ensures.slot c.in-Ok.ensures.made) (record {
       later = search rules;
       exact = c.admitted.ensures.exact
           ∙ ap (λ number. after_admission c.args.self.now.session number c.start.result) c.number.ensures
@@ -61,5 +66,11 @@ returns-in-Ok-clause-answered g c =
 
 pub returns-in-Err-clause-answered : goal.returns-in-Err-clause-answered
 returns-in-Err-clause-answered g c =
-    answered_refused c.args.self.now c.in-Err.refused (asking g (goal.at.returns-in-Err-clause-answered g c).After-play) (subst (λ heard. IsSeatRefused c.args.seat.now c.play.new.seat heard c.args.plan c.in-Err.refused)
+    answered_refused (record {
+      seat = c.args.seat.now;
+      next = c.play.new.seat;
+      before = c.args.self.now;
+      after = record c.args.self.now { session = _ };
+    }) c.in-Err.refused (asking g (goal.at.returns-in-Err-clause-answered g c).After-play)
+    (subst (λ heard. IsSeatRefused c.args.seat.now c.play.new.seat heard c.args.plan c.in-Err.refused)
     c.heard_slot.ensures.slot c.in-Err.ensures.refused) c.hear_refusal.ensures.exact

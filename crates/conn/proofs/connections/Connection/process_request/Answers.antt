@@ -4,7 +4,7 @@ use Rattle.conn.specs.Observations.{observed}
 use Rattle.conn.proofs.FaultCounts.{counted_fault, counted_none}
 use Rattle.rtsp_text.proofs.WholeRequests.{fewer, some_request}
 use Rattle.conn.proofs.ElementPrefixes.{cuts_drop, cuts_none}
-use Rattle.conn.proofs.ReservationSteps.{kept_none, kept_then}
+use Rattle.conn.proofs.ReservationSteps.{kept_none, kept_then, still_open}
 use Rattle.conn.proofs.CourseSteps.{lost_reply, stage_is, taken_reply}
 use Rattle.conn.proofs.connections.Connection.process_request.Goals as goal
 
@@ -36,10 +36,12 @@ pub returns-in-Ok-clause-takes : goal.returns-in-Ok-clause-takes
 returns-in-Ok-clause-takes g c =
     taken_reply {a = observed c.args.self.now (g.K.Link.told c.args.link.now) c.args.seat.now}
     {b = observed (record c.answer_request.new.self { session = c.reply.new.self })
-    (g.K.Link.told c.reply.new.link) c.answer_request.new.seat}
-    {asked = c.answer_request.new.self.session} {n = c.args.length}
-    (record { first = c.requires.first; replied = search rules; torn = c.requires.torn }) c.answer_request.ensures.heard
-    (stage_is c.in-Ok.ensures.exact c.answer_request.ensures.input) c.in-Ok.ensures.told
+    (g.K.Link.told c.reply.new.link) c.answer_request.new.seat} (record {
+      asked = c.answer_request.new.self.session;
+      n = c.args.length;
+      in_front = record { first = c.requires.first; replied = search rules; torn = c.requires.torn };
+      heard = c.answer_request.ensures.heard;
+    }) (stage_is c.in-Ok.ensures.exact c.answer_request.ensures.input) c.in-Ok.ensures.told
 
 pub returns-in-Err-clause-takes : goal.returns-in-Err-clause-takes
 returns-in-Err-clause-takes g c =
@@ -47,13 +49,12 @@ returns-in-Err-clause-takes g c =
       refl,
       lost_reply {a = observed c.args.self.now (g.K.Link.told c.args.link.now) c.args.seat.now}
           {b = observed (record c.answer_request.new.self { session = c.reply.new.self })
-          (g.K.Link.told c.reply.new.link) c.answer_request.new.seat} {asked = c.answer_request.new.self.session}
-          {n = c.args.length} (record {
-            first = c.requires.first;
-            replied = search rules;
-            torn = c.requires.torn;
-          }) c.answer_request.ensures.heard c.in-Err.ensures.can
-          (stage_is c.in-Err.ensures.failed c.answer_request.ensures.input) c.in-Err.ensures.front,
+          (g.K.Link.told c.reply.new.link) c.answer_request.new.seat} (record {
+            asked = c.answer_request.new.self.session;
+            n = c.args.length;
+            in_front = record { first = c.requires.first; replied = search rules; torn = c.requires.torn };
+            heard = c.answer_request.ensures.heard;
+          }) c.in-Err.ensures.can (stage_is c.in-Err.ensures.failed c.answer_request.ensures.input) c.in-Err.ensures.front,
     )
 
 pub returns-then-waits-clause-kept : goal.returns-then-waits-clause-kept
@@ -61,15 +62,19 @@ returns-then-waits-clause-kept g c = kept_none c.args.seat.now c.args.self.now c
 
 pub returns-in-Ok-clause-kept : goal.returns-in-Ok-clause-kept
 returns-in-Ok-clause-kept g c =
-    kept_then {a = c.args.self.now} {mid = c.answer_request.new.self}
-    {b = record c.answer_request.new.self { session = c.reply.new.self }}
-    c.answer_request.ensures.kept c.reply.ensures.rest refl c.reply.ensures.open c.reply.ensures.receipts
+    kept_then c.answer_request.ensures.kept (record {
+      rest = c.reply.ensures.rest;
+      same = record { booking = refl; receipts = c.reply.ensures.receipts };
+      opens = still_open _ _ c.reply.ensures.open;
+    })
 
 pub returns-in-Err-clause-kept : goal.returns-in-Err-clause-kept
 returns-in-Err-clause-kept g c =
-    kept_then {a = c.args.self.now} {mid = c.answer_request.new.self}
-    {b = record c.answer_request.new.self { session = c.reply.new.self }}
-    c.answer_request.ensures.kept c.reply.ensures.rest refl c.reply.ensures.open c.reply.ensures.receipts
+    kept_then c.answer_request.ensures.kept (record {
+      rest = c.reply.ensures.rest;
+      same = record { booking = refl; receipts = c.reply.ensures.receipts };
+      opens = still_open _ _ c.reply.ensures.open;
+    })
 
 pub returns-then-waits-clause-cut : goal.returns-then-waits-clause-cut
 returns-then-waits-clause-cut g c = cuts_none c.args.self.now.input

@@ -1,9 +1,10 @@
-use Rattle.std.proofs.Common.{refl, subst}
-use Rattle.session.specs.SessionStates.{Brings, open_of}
+use Rattle.std.proofs.Common.{refl, subst, sym}
+use Rattle.session.specs.SessionStates.{Brings, awaited_answer, open_of}
 use Rattle.session.proofs.FailedSlotLemmas.{on_err}
-use Rattle.conn.proofs.SlotResults.{broken_slot, passed_going, passed_halted}
+use Rattle.conn.proofs.SlotResults.{broken_slot}
+use Rattle.conn.proofs.CourseSteps.{noted_unasked, slot_sent}
+use Rattle.conn.specs.InputSteps.{IsFinished, Unasked, slot_parts}
 use Rattle.conn.proofs.ReservationSteps.{held_same, kept_after, kept_due}
-use Rattle.conn.specs.Observations.{observed}
 use Rattle.conn.proofs.connections.Connection.step.Goals as goal
 
 pub returns-in_err-slot-clause-broken : goal.returns-in_err-slot-clause-broken
@@ -22,37 +23,58 @@ returns-in_err-slot-clause-broken g c =
 
 pub returns-in_err-slot-clause-kept : goal.returns-in_err-slot-clause-kept
 returns-in_err-slot-clause-kept g c =
-    kept_due {b = record c.args.self.now { session = c.slot.new.self }}
-    c.args.seat.now c.requires.quiet c.in_err-slot.ensures.lost refl c.slot.ensures.open c.slot.ensures.receipts
+    kept_due c.args.seat.now c.requires.quiet (record {
+      rest = c.in_err-slot.ensures.lost;
+      same = record { booking = refl; receipts = c.slot.ensures.receipts };
+      opens = c.slot.ensures.open;
+    })
 
 pub returns-in-Going-clause-kept : goal.returns-in-Going-clause-kept
 returns-in-Going-clause-kept g c =
-    kept_due {b = record c.args.self.now { session = c.slot.new.self }}
-    c.args.seat.now c.requires.quiet
-    (subst (λ s. Brings s c.slot.new.self) c.in-Going.is c.in_ok-slot.ensures.brings) refl
-    c.slot.ensures.open c.slot.ensures.receipts
+    kept_due c.args.seat.now c.requires.quiet (record {
+      rest = subst (λ s. Brings s c.slot.new.self) c.in-Going.is c.in_ok-slot.ensures.brings;
+      same = record { booking = refl; receipts = c.slot.ensures.receipts };
+      opens = c.slot.ensures.open;
+    })
 
 pub returns-in-Finished-clause-kept : goal.returns-in-Finished-clause-kept
 returns-in-Finished-clause-kept g c =
-    kept_after {a = c.args.self.now}
-    {mid = record c.args.self.now { session = c.slot.new.self }}
-    refl c.slot.ensures.receipts c.halt.ensures.kept
+    kept_after {mid = record c.args.self.now { session = c.slot.new.self }}
+    (record { booking = refl; receipts = c.slot.ensures.receipts }) c.halt.ensures.kept
 
 pub returns-in-Going-clause-passed : goal.returns-in-Going-clause-passed
-returns-in-Going-clause-passed g c =
-    passed_going {a = observed c.args.self.now (g.K.Link.told c.args.link.now) c.args.seat.now}
-    {b = observed (record c.args.self.now { session = c.slot.new.self }) (g.K.Link.told c.slot.new.link)
-    c.args.seat.now}
-    c.in_ok-slot.ensures.exact c.in_ok-slot.ensures.told
-    (subst (λ s. Brings s c.slot.new.self) c.in-Going.is c.in_ok-slot.ensures.brings) refl refl
+returns-in-Going-clause-passed g c = record {
+  parts = slot_parts c.args.self.now.session c.args.slot;
+  halt = Unasked;
+  input = refl;
+  stepped = record {
+    parts_are = refl;
+    finished = subst (λ s. IsFinished (awaited_answer s) s Unasked c.slot.new.self) c.in_ok-slot.ensures.exact
+        (subst (λ w. IsFinished w c.slot.new.self Unasked c.slot.new.self)
+        (sym (subst (λ s. Brings s c.slot.new.self) c.in-Going.is c.in_ok-slot.ensures.brings)) refl);
+  };
+  sent = slot_sent c.args.self.now.session c.args.slot _ _ c.in_ok-slot.ensures.told;
+  noted = noted_unasked c.args.seat.now;
+}
 
 pub returns-in-Finished-clause-passed : goal.returns-in-Finished-clause-passed
 returns-in-Finished-clause-passed g c =
-    passed_halted {mid = c.slot.new.self} {a = observed c.args.self.now (g.K.Link.told c.args.link.now) c.args.seat.now}
-    {b = observed c.halt.new.self (g.K.Link.told c.slot.new.link) c.halt.new.seat}
-    c.in_ok-slot.ensures.exact c.in_ok-slot.ensures.told
-    (subst (λ s. Brings s c.slot.new.self) c.in-Finished.is c.in_ok-slot.ensures.brings).0
-    c.halt.ensures.input c.halt.ensures.answered
+    let answered = c.halt.ensures.answered in
+    record {
+      parts = slot_parts c.args.self.now.session c.args.slot;
+      halt = answered.outcome;
+      input = c.halt.ensures.input;
+      stepped = record {
+        parts_are = refl;
+        finished = subst (λ s. IsFinished (awaited_answer s) s answered.outcome c.halt.new.self.session)
+            c.in_ok-slot.ensures.exact
+            (subst (λ w. IsFinished w c.slot.new.self answered.outcome c.halt.new.self.session)
+            (sym (subst (λ s. Brings s c.slot.new.self) c.in-Finished.is c.in_ok-slot.ensures.brings).0)
+            answered.answered);
+      };
+      sent = slot_sent c.args.self.now.session c.args.slot _ _ c.in_ok-slot.ensures.told;
+      noted = answered.noted;
+    }
 
 pub halt-requires-clause-held : goal.halt-requires-clause-held
 halt-requires-clause-held g c =
