@@ -5,34 +5,31 @@ use Rattle.std.specs.Prelude.{All, IfSome, map, slice_index_or}
 use mathlib.Core.List.{IsPrefix}
 use Rattle.std.proofs.lemmas.List.Elements.{All-append, All-cons, All-head, All-map, All-nil, All-tail}
 use Rattle.vod_base.specs.Gates.{Content, Part, ReturnedConn}
-use Rattle.film_frames.specs.declared.stored_films.Stored.{Stored}
 use Rattle.admission.specs.declared.entries.Entry.{Entry}
 use Rattle.admission.specs.Histories.{IsLegal}
 use Rattle.admission.specs.Makers.{PlacedEntry, entries_by}
 use Rattle.session_records.specs.declared.notes.Receipt.{Receipt}
 use Rattle.session_records.specs.declared.notes.Receipt.TheVariants.{Entry as EntryReceipt, Full as FullReceipt}
-use Rattle.film_streams.specs.declared.settings.Settings.{Settings}
 use Rattle.station.specs.Seats.{SeatState}
 use Rattle.station.proofs.Makers.{IsAt, all_at}
 use Rattle.turnstile.proofs.Prefixes.{prefix_self, prefix_trans}
-use Rattle.conn.specs.Agreement.{Agrees, AgreesIfObserved, Visit, visit}
-use Rattle.conn.specs.Journals.{Terms, terms_of}
+use Rattle.conn.specs.Agreement.{Agrees, Visit, visit}
+use Rattle.conn.specs.Journals.{terms_of}
 use Rattle.conn.specs.ReservationInvariant.{Closed, entry_receipts, open_play_from, receipt_for}
 use Rattle.conn.specs.Parts.{AreServed, AreReported, HasServed, HasServedOne, WorkerGate, entries_reported}
 use Rattle.conn.specs.declared.reports.ConnReport.{ConnReport}
+use Rattle.conn.specs.declared.reports.PartEnd.{PartEnd}
 use Rattle.conn.specs.declared.reports.PartEnd.TheVariants.{NoMemory as PartNoMemory}
 use Rattle.conn.specs.declared.reports.PartReport.{PartReport}
 use Rattle.conn.proofs.Journals.{terms_same}
-use Rattle.conn.proofs.Visits.{agrees_longer, one_agrees}
-use Rattle.cli_args.specs.Invocations.{ServeArgs}
+use Rattle.conn.proofs.Visits.{InsideBack, ServedPart, agrees_longer, one_agrees}
 use Rattle.vodserve.specs.Laws.{IsConnectionCorrect, IsReceiptIn, IsReportIn, IsServedPart}
 use Rattle.vodserve.specs.Laws.{EveryConnectionIsCorrect, ReportsMatchJournal}
-use Rattle.vodserve.specs.Run.{HasServed as HasServedFilms}
-use Rattle.vodserve.specs.IoStates.{World}
-use Rattle.vodserve.specs.declared.run_results.Ended.{Ended}
-use Rattle.vodserve.specs.WorkerResults.{AreWorkerResults, IsPartBack, IsWorkerResult, IsOpenedOnce, ServerRun}
+use Rattle.vodserve.specs.WorkerResults.{AreLeft, AreWorkerResults, IsWorkerResult, IsOpenedOnce, ServerRun}
 use Rattle.vodserve.specs.WorkerResults.{all_reports, settings_of}
-use Rattle.vodserve.proofs.ServeSpecLemmas.{HasRunAll, ended_whole, given_back, run_all, work_of, worker_of}
+use Rattle.vodserve.proofs.FilmLoadLemmas.{worker_worked}
+use Rattle.vodserve.proofs.ServeSpecLemmas.{HasRunAll, WorkerRun, back_of, ended_whole, given_back, run_all}
+use Rattle.vodserve.proofs.ServeSpecLemmas.{work_of, workers_of}
 
 all_left : {A : Type 0} (P : A → Type 0) (xs ys : List A) → All P (xs ++ ys) → All P xs
 all_left P [] ys all = All-nil P
@@ -122,11 +119,10 @@ parts_told work gate gate' from (part ∷ parts) all =
     All-append (IsReportIn work.journal) part.reports.items (all_reports parts) (part_told all.0)
     (parts_told work gate gate' (from + 1) parts all.1)
 
--- the reports are those of the workers
-reports_whole : {before after : World} {seed : List ℕ} {serving : ServeArgs} {ended : Ended}
-    (served : HasServedFilms before after seed serving ended) → served.end ≢ PartNoMemory →
-    ended.reports.items ≡ all_reports served.worked.parts
-reports_whole served found = elim served.worked.left.whole [
+-- the reports are those of the workers, where none lacked memory
+reports_whole : {parts : List PartReport} {end : PartEnd} {reports : List ConnReport} → AreLeft parts end reports
+    → end ≢ PartNoMemory → reports ≡ all_reports parts
+reports_whole left found = elim left.whole [
   | inl memory ↦ absurd (found memory)
   | inr whole ↦ whole
 ]
@@ -136,7 +132,7 @@ tells_its_journal before after seed serving ended (inl kept) status =
     subst (All (IsReportIn ended.journal.items)) (sym kept.1.2.1) (All-nil (IsReportIn ended.journal.items))
 tells_its_journal before after seed serving ended (inr served) status =
     subst (All (IsReportIn ended.journal.items))
-    (sym (reports_whole served (ended_whole before after _ served.ends status)))
+    (sym (reports_whole served.worked.left (ended_whole before after _ served.ends status)))
     (parts_told (work_of served) before.gate _ 0 served.worked.parts served.worked.each)
 
 -- ---- connections
@@ -151,10 +147,9 @@ same_on : (old new : SeatState) → new ≡ old → GoesOn old new
 same_on old new same =
     subst (GoesOn old) (sym same) (record { terms = refl; mine = prefix_self old.mine; seen = prefix_self old.seen })
 
-one_on : {films : List Stored} {settings : Settings} {returned : ReturnedConn} {report : ConnReport}
-    {old new : SeatState} → HasServedOne films settings returned report old new →
-    GoesOn old new
-one_on {returned} {old} {new} one = elim one.served [
+one_on : {old new : SeatState} (visit : Visit)
+    → HasServedOne visit.films visit.settings visit.returned visit.report old new → GoesOn old new
+one_on {old} {new} visit one = elim one.served [
   | inl from ↦ record {
     terms = terms_same from.ended.seat new from.closes.noted.seat
         ∙ terms_same old from.ended.seat from.course.noted.seat;
@@ -166,124 +161,126 @@ one_on {returned} {old} {new} one = elim one.served [
   | inr nothing ↦ same_on old new nothing.seat
 ]
 
-all_on : {old new : SeatState} (films : List Stored) (settings : Settings) (back : List ReturnedConn)
-    (reports : List ConnReport) →
-    AreServed films settings old back reports new → GoesOn old new
-all_on {old} {new} films settings [] [] served = same_on old new served
-all_on {new} films settings [] (report ∷ reports) served = absurd served
-all_on {new} films settings (returned ∷ back) [] served = absurd served
-all_on {old} {new} films settings (returned ∷ back) (report ∷ reports) served =
-    let one = one_on served.1.0 in
-    let rest = all_on films settings back reports served.1.1 in
-    record {
-      terms = rest.terms ∙ one.terms;
-      mine = prefix_trans old.mine served.0.mine new.mine one.mine rest.mine;
-      seen = prefix_trans old.seen served.0.seen new.seen one.seen rest.seen;
-    }
-
--- one of the connections that came back, with the report at its place
-record IsOne (films : List Stored) (settings : Settings) (returned : ReturnedConn) (report : ConnReport)
-    (first left : SeatState) : Type 0 where
+-- one of the connections that came back, with the report at its place, from a seat on
+record IsOne (p : ServedPart) (first : SeatState) (returned : ReturnedConn) (report : ConnReport) : Type 0 where
   old : SeatState
   new : SeatState
   terms : terms_of new ≡ terms_of first
-  served : HasServedOne films settings returned report old new
-  on : GoesOn new left
+  served : HasServedOne p.films p.settings returned report old new
+  on : GoesOn new p.new
 
--- a place among the connections that were given back
-record InsideBack (back : List ReturnedConn) (k : ℕ) : Type 0 where
-  none : ReturnedConn
-  no_report : ConnReport
-  inside : k < length back
-
-one_at : {films : List Stored} {settings : Settings} {old new : SeatState} (back : List ReturnedConn)
-    (reports : List ConnReport) → AreServed films settings old back reports new → (k : ℕ) (here : InsideBack back k) →
-    IsOne films settings (slice_index_or back k here.none) (slice_index_or reports k here.no_report) old new
-one_at {new} [] reports served k here = absurd (omega (arith, here.inside))
-one_at {new} (returned ∷ back) [] served k here = absurd served
-one_at {films} {settings} {old} {new} (returned ∷ back) (report ∷ reports) served zero here = record {
-  old = old;
-  new = served.0;
-  terms = (one_on served.1.0).terms;
-  served = served.1.0;
-  on = all_on films settings back reports served.1.1;
-}
-one_at {old} {new} (returned ∷ back) (report ∷ reports) served (suc k) here =
-    let rest = one_at back reports served.1.1 k
-    (record { none = none; no_report = no_report; inside = omega (arith, inside) }) in
+all_on : {old : SeatState} (p : ServedPart) (back : List ReturnedConn) (reports : List ConnReport)
+    → AreServed p.films p.settings old back reports p.new → GoesOn old p.new
+all_on {old} p [] [] served = same_on old p.new served
+all_on p [] (report ∷ reports) served = absurd served
+all_on p (returned ∷ back) [] served = absurd served
+all_on {old} p (returned ∷ back) (report ∷ reports) served =
+    let one = one_on (visit p.films p.settings returned report) served.1.0 in
+    let rest = all_on {old = served.0} p back reports served.1.1 in
     record {
-      old = rest.old;
-      new = rest.new;
-      terms = rest.terms ∙ (one_on served.1.0).terms;
-      served = rest.served;
-      on = rest.on;
+      terms = rest.terms ∙ one.terms;
+      mine = prefix_trans old.mine served.0.mine p.new.mine one.mine rest.mine;
+      seen = prefix_trans old.seen served.0.seen p.new.seen one.seen rest.seen;
     }
+
+one_at : (p : ServedPart) (k : ℕ) (here : InsideBack p.back k)
+    → IsOne p p.old (slice_index_or p.back k here.none) (slice_index_or p.reports k here.no_report)
+one_at p place at = by-lists p.back p.reports p.served place at
   where
-    open here use {none, no_report, inside}
+    open p use {films, settings, new}
 
--- it agrees with the journal in which its seat's worker left what it had seen
-one_agrees_in : {films : List Stored} {settings : Settings} {returned : ReturnedConn} {report : ConnReport}
-    {first left : SeatState} {terms : Terms} {journal : List Entry} →
-    (one : IsOne films settings returned report first left) → terms_of first ≡ terms → IsPrefix left.seen journal →
-    IsLegal terms.steps journal → AgreesIfObserved (visit films settings returned report) terms journal
-one_agrees_in {films} {settings} {returned} {report} {left} {journal} one terms_is seen legal = λ told tells found.
-    let served : Visit = visit films settings returned report in
-    agrees_longer
-    (subst (λ t. Agrees served t one.new.seen) (one.terms ∙ terms_is) (one_agrees served one.served told tells found))
-    (prefix_trans one.new.seen left.seen journal one.on.seen seen) legal
+    by-lists : (back : List ReturnedConn) (reports : List ConnReport) {old : SeatState}
+        → AreServed films settings old back reports new → (k : ℕ) (here : InsideBack back k)
+        → IsOne p old (slice_index_or back k here.none) (slice_index_or reports k here.no_report)
+    by-lists [] reports served k here = absurd (omega (arith, here.inside))
+    by-lists (returned ∷ back) [] served k here = absurd served
+    by-lists (returned ∷ back) (report ∷ reports) {old} served zero here = record {
+      old = old;
+      new = served.0;
+      terms = (one_on (visit films settings returned report) served.1.0).terms;
+      served = served.1.0;
+      on = all_on p back reports served.1.1;
+    }
+    by-lists (returned ∷ back) (report ∷ reports) served (suc k) here =
+        let rest = by-lists back reports served.1.1 k
+        (record { none = here.none; no_report = here.no_report; inside = omega (arith, here.inside) }) in
+        record {
+          old = rest.old;
+          new = rest.new;
+          terms = rest.terms ∙ (one_on (visit films settings returned report) served.1.0).terms;
+          served = rest.served;
+          on = rest.on;
+        }
 
--- each connection that came back from a worker's part is correct, as the report at its place says
-connection_correct : {work : ServerRun} {gate gate' : WorkerGate} {worker : ℕ} {report : PartReport}
-    {back : List ReturnedConn} → IsLegal work.serving.capacity work.journal →
-    (worked : IsWorkerResult work gate gate' worker report) →
-    AreServed work.films (settings_of work.serving) worked.seat back report.reports.items worked.left →
-    length back ≡ length report.reports.items → (k : ℕ) (here : InsideBack back k) →
-    IsConnectionCorrect work worker k (slice_index_or back k here.none)
-    (slice_index_or report.reports.items k here.no_report)
-connection_correct {work} {report} {back} legal worked served long k here =
-    let reports = report.reports.items in
-    let one : IsOne work.films (settings_of work.serving) (slice_index_or back k here.none)
-    (slice_index_or reports k here.no_report) worked.seat worked.left = one_at back reports served k here in
+-- the connections of a worker's part
+part_of : {gate after : WorkerGate} (r : WorkerRun gate after) → AreServed r.work.films (settings_of r.work.serving)
+    r.worked.seat (back_of r).0.own.back r.report.reports.items r.worked.left
+part_of r =
+    subst (λ (t : Option Content). AreReported r.work.films (settings_of r.work.serving) t r.report.reports.items
+    r.worked.seat r.worked.left) (back_of r).1.0 r.worked.served.connections
+
+abbrev served_part : {gate after : WorkerGate} → WorkerRun gate after → ServedPart
+served_part r = record {
+  films = r.work.films;
+  settings = settings_of r.work.serving;
+  old = r.worked.seat;
+  new = r.worked.left;
+  back = (back_of r).0.own.back;
+  reports = r.report.reports.items;
+  served = part_of r;
+}
+
+-- as many as its reports
+part_long : {gate after : WorkerGate} (r : WorkerRun gate after)
+    → length (back_of r).0.own.back ≡ length r.report.reports.items
+part_long r =
+    (given_back r.worked.part (back_of r).0 r.worked.after.told (length r.report.reports.items) r.worked.served.served
+    (back_of r).1.0).1
+
+-- each of them is correct, as the report at its place says
+connection_correct : {gate after : WorkerGate} (r : WorkerRun gate after) → IsLegal r.work.serving.capacity r.work.journal
+    → (k : ℕ) (here : InsideBack (served_part r).back k) → IsConnectionCorrect r.work r.worker k
+    (slice_index_or (served_part r).back k here.none) (slice_index_or r.report.reports.items k here.no_report)
+connection_correct r legal k here =
+    let p = served_part r in
+    let one = one_at p k here in
+    let v : Visit = visit p.films p.settings (slice_index_or p.back k here.none)
+    (slice_index_or p.reports k here.no_report) in
+    let inside : k < length p.reports = omega (arith, here.inside, part_long r) in
+    let seen = prefix_trans one.new.seen worked.left.seen work.journal one.on.seen worked.seen in
     record {
-      worker_is = worked.served.reports.worker_is k here.no_report (omega (arith, here.inside, long));
-      words_are = worked.served.reports.words_are k here.no_report (omega (arith, here.inside, long));
+      worker_is = worked.served.reports.worker_is k here.no_report inside;
+      words_are = worked.served.reports.words_are k here.no_report inside;
       old = one.old;
       new = one.new;
       served = one.served;
       terms = one.terms ∙ worked.terms;
       entries = subst (λ (m : List PlacedEntry). IsPrefix one.new.mine m) worked.made one.on.mine;
-      seen = prefix_trans one.new.seen worked.left.seen work.journal one.on.seen worked.seen;
-      agrees = one_agrees_in one worked.terms worked.seen legal;
+      seen = seen;
+      agrees = λ told tells found.
+          agrees_longer
+          (subst (λ t. Agrees v t one.new.seen) (one.terms ∙ worked.terms) (one_agrees v one.served told tells found))
+          seen legal;
     }
+  where
+    open r use {work, worked}
 
-part_served : {work : ServerRun} {gate gate' : WorkerGate} {content : Content} {worker : ℕ} {report : PartReport} →
-    IsLegal work.serving.capacity work.journal → IsWorkerResult work gate gate' worker report → gate'.told ≡ Some
-    content →
-    (part : Part)
-    × ((slice_index_or content.parts worker None ≡ Some part) × IsServedPart work worker part report.reports.items)
-part_served {work} {content} {worker} {report} legal worked told =
-    let settings = settings_of work.serving in
-    let reports = report.reports.items in
-    let back : IsPartBack worker worked.after.told content =
-    subst (λ (t : Option Content). IfSome t (IsPartBack worker worked.after.told)) told worked.back in
-    let served : AreServed work.films settings worked.seat back.0.own.back reports worked.left =
-    subst (λ (t : Option Content). AreReported work.films settings t reports worked.seat worked.left) back.1.0
-    worked.served.connections in
-    let long : length back.0.own.back ≡ length reports =
-    (given_back worked.part back.0 worked.after.told (length reports) worked.served.served back.1.0).1 in (
-      back.0.own,
-      (
-        back.1.1,
-        record {
-          count = sym long;
-          each = λ k none no_report inside.
-              connection_correct {back = back.0.own.back} legal worked served long k
-              (record { none = none; no_report = no_report; inside = inside });
-          entries = worked.served.entries.receipts_are ∙ ap (map receipt_for) (made_all worked);
-          halts = ap (open_play_from Closed) (sym (made_all worked)) ∙ worked.served.entries.open_is;
-        },
-      ),
-    )
+part_served : {gate after : WorkerGate} (r : WorkerRun gate after) → IsLegal r.work.serving.capacity r.work.journal
+    → (part : Part) × ((slice_index_or r.content.parts r.worker None ≡ Some part)
+    × IsServedPart r.work r.worker part r.report.reports.items)
+part_served r legal = (
+  (back_of r).0.own,
+  (
+    (back_of r).1.1,
+    record {
+      count = sym (part_long r);
+      each = λ k none no_report inside.
+          connection_correct r legal k (record { none = none; no_report = no_report; inside = inside });
+      entries = r.worked.served.entries.receipts_are ∙ ap (map receipt_for) (made_all r.worked);
+      halts = ap (open_play_from Closed) (sym (made_all r.worked)) ∙ r.worked.served.entries.open_is;
+    },
+  ),
+)
 
 pub serves_each : EveryConnectionIsCorrect
 serves_each before after seed serving ended gate serves told have_run =
@@ -296,9 +293,14 @@ serves_each before after seed serving ended gate serves told have_run =
       once = subst (λ (g : Option Content). IfSome g (IsOpenedOnce before.gate.told)) told run.served.once;
       parts = worked.parts;
       count = worked.count;
-      reports = reports_whole run.served run.found;
+      reports = reports_whole worked.left run.found;
       each = λ worker none inside.
-          part_served run.served.journal.legal
-          (worker_of {gate = before.gate} (work_of run.served) worked.parts worked.each worker none
-          (omega (arith, inside, worked.count))) told;
+          part_served (record {
+            work = _;
+            worker = worker;
+            report = _;
+            worked = worker_worked (workers_of run.served) worker none (omega (arith, inside, worked.count));
+            content = gate;
+            tells = told;
+          }) run.served.journal.legal;
     }

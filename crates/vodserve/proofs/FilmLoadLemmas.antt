@@ -1,8 +1,8 @@
 -- The films that words name.
 use Rattle.std.proofs.Common.{◌≡◌, ◌∙◌, ◌+◌, ◌<◌, ◌≤◌, ℕ, true, List, [], ◌∷◌, ◌++◌, length, drop}
 use Rattle.std.proofs.Common.{get_or, Option, Some, None, inl, inr, refl, sym, ap, subst, suc, zero}
-use Rattle.std.proofs.Common.{arith, string_bytes, String, Global, add-one, add-zero, length-append}
-use Rattle.std.specs.Prelude.{All, IfSome, codes, map, slice_index_or}
+use Rattle.std.proofs.Common.{arith, string_bytes, String, Global, add-one, add-zero, zero-add, length-append}
+use Rattle.std.specs.Prelude.{All, codes, map, slice_index_or}
 use Rattle.std.specs.List.{Contains}
 use Rattle.std.specs.Option.{option_to_list}
 use Rattle.std.proofs.Math.ListN.{get_or-map}
@@ -39,9 +39,9 @@ use Rattle.cli_errors.specs.declared.errors.CliError.TheVariants.{Usage, Refused
 use Rattle.cli_errors.specs.declared.errors.CliError.TheVariants.{SinkFault, NoMemory, GateFault, LinkFault}
 use Rattle.inputs.specs.LoadErrors.{IsServedFilmRefused}
 use Rattle.vodserve.specs.IoStates.{IoState}
-use Rattle.vodserve.specs.WorkerResults.{AreWorkerResults, AreLeft, AreLoaded, HasOne, HasTooFewParts, IsWorkerResult}
+use Rattle.vodserve.specs.WorkerResults.{AreWorkerResults, AreLeft, AreLoaded, HasOne, IsWorkerResult}
 use Rattle.vodserve.specs.WorkerResults.{IsWorkersResult, IsHeld}
-use Rattle.vodserve.specs.WorkerResults.{IsOpenAs, IsOpenedOnce, MayBeServed, ServerRun, opening_of}
+use Rattle.vodserve.specs.WorkerResults.{IsOpenAs, MayBeServed, ServerRun, opening_of}
 use Rattle.vodserve.specs.Workers.{AreJoined, IsMakeWorkersError, report_of}
 use Rattle.vodserve.specs.ServerOutput.{HasOnlyOpened, IsFilmError, IsFirstRefused, IsJournal, IsNewlyOpen}
 use Rattle.vodserve.specs.ServerOutput.{IsServeError}
@@ -66,34 +66,30 @@ values_rest key words i word h at =
     ∙ ap (λ (j : ℕ). option_to_list (setting_value key (string_bytes word))
     ++ values_of key (texts (drop j words))) (sym (add-one i))
 
--- a word at its place among these
-pub record WordAt (words : List (String Global)) (word : String Global) : Type 0 where
+-- a word at its place among these: it names a film, and the films of the words before it are known
+pub record WordAt (words : List (String Global)) (so_far : List (List ℕ)) (name : List ℕ) : Type 0 where
+  pub word : String Global
   pub place : ℕ
   pub inside : place < length words
   pub at : word ≡ get_or words place word
+  pub whole : values_of (codes "film") (texts words) ≡ so_far ++ values_of (codes "film") (texts (drop place words))
+  pub named : IsWordNamed (string_bytes word) name
 
 -- the films of the words, at the film of a word
-word_split : {word : String Global} {words : List (String Global)} (word_at : WordAt words word)
-    (so_far : List (List ℕ)) (name : List ℕ) →
-    values_of (codes "film") (texts words) ≡ so_far ++ values_of (codes "film") (texts (drop word_at.place words)) →
-    IsWordNamed (string_bytes word) name →
-    values_of (codes "film") (texts words) ≡ so_far
-    ++ name ∷ values_of (codes "film") (texts (drop (word_at.place + 1) words))
-word_split {word} {words} word_at so_far name whole named =
-    whole ∙ ap (λ (vs : List (List ℕ)). so_far ++ vs)
-    (values_rest (codes "film") words word_at.place word word_at.inside word_at.at
+word_split : {words : List (String Global)} {so_far : List (List ℕ)} {name : List ℕ} (w : WordAt words so_far name)
+    → values_of (codes "film") (texts words) ≡ so_far ++ name ∷ values_of (codes "film") (texts (drop (w.place + 1) words))
+word_split {words} {so_far} w =
+    w.whole ∙ ap (λ (vs : List (List ℕ)). so_far ++ vs)
+    (values_rest (codes "film") words w.place w.word w.inside w.at
     ∙ ap (λ (o : Option (List ℕ)). option_to_list o
-    ++ values_of (codes "film") (texts (drop (word_at.place + 1) words))) named)
+    ++ values_of (codes "film") (texts (drop (w.place + 1) words))) w.named)
 
 -- the film of a word is one of the films
-pub word_film : {word : String Global} {words : List (String Global)} (word_at : WordAt words word)
-    (so_far : List (List ℕ)) (name : List ℕ) →
-    values_of (codes "film") (texts words) ≡ so_far ++ values_of (codes "film") (texts (drop word_at.place words)) →
-    IsWordNamed (string_bytes word) name → Contains (values_of (codes "film") (texts words)) name
-word_film {words} word_at so_far name whole named =
-    contains_seam so_far (values_of (codes "film") (texts (drop (word_at.place + 1) words)))
-    (values_of (codes "film") (texts words)) name
-    (word_split word_at so_far name whole named)
+pub word_film : {words : List (String Global)} {so_far : List (List ℕ)} {name : List ℕ} → WordAt words so_far name
+    → Contains (values_of (codes "film") (texts words)) name
+word_film {words} {so_far} {name} w =
+    contains_seam so_far (values_of (codes "film") (texts (drop (w.place + 1) words)))
+    (values_of (codes "film") (texts words)) name (word_split w)
 
 -- films that are held may be served
 pub all_accepted : (told : Option (List File)) (held : List File) (films : List Stored) → told ≡ Some held
@@ -103,24 +99,23 @@ all_accepted told held films told_is all =
     (λ i d inside. (all i d inside held told_is).1)
 
 -- a store that holds these files, in which a name's file is refused
-pub record RefusedHeld (told : Option (List File)) (held : List File) (name : List ℕ) (fault : InputError) : Type 0
-  where
-    pub tells : told ≡ Some held
-    pub refused : IsServedFilmRefused held name fault
+pub record RefusedHeld (name : List ℕ) : Type 0 where
+  pub told : Option (List File)
+  pub held : List File
+  pub fault : InputError
+  pub tells : told ≡ Some held
+  pub refused : IsServedFilmRefused held name fault
 
 -- where a film of a word is refused, it is the first one
-pub first_refused : {told : Option (List File)} {held : List File} {word : String Global} {name : List ℕ}
-    {fault : InputError} {words : List (String Global)} (word_at : WordAt words word) (films : List Stored) →
-    values_of (codes "film") (texts words) ≡ names_of films
-    ++ values_of (codes "film") (texts (drop word_at.place words)) →
-    IsWordNamed (string_bytes word) name → All (IsHeld told) films → RefusedHeld told held name fault →
-    IsFirstRefused (values_of (codes "film") (texts words)) held name fault
-first_refused {told} {held} {name} {words} word_at films whole named all refused_held = record {
+pub first_refused : {words : List (String Global)} {name : List ℕ} (refused : RefusedHeld name) (films : List Stored)
+    → WordAt words (names_of films) name → All (IsHeld refused.told) films
+    → IsFirstRefused (values_of (codes "film") (texts words)) refused.held name refused.fault
+first_refused {words} {name} refused films w all = record {
   before = names_of films;
-  rest = values_of (codes "film") (texts (drop (word_at.place + 1) words));
-  names_are = word_split word_at (names_of films) name whole named;
-  accepted = all_accepted told held films refused_held.tells all;
-  refused = refused_held.refused;
+  rest = values_of (codes "film") (texts (drop (w.place + 1) words));
+  names_are = word_split w;
+  accepted = all_accepted refused.told refused.held films refused.tells all;
+  refused = refused.refused;
 }
 
 -- films of names that may be served
@@ -165,13 +160,6 @@ pub loaded_accepted : (serving : ServeArgs) (told : Option (List File)) (films :
 loaded_accepted serving told films loaded held is =
     subst (All (MayBeServed held)) loaded.names_are (all_accepted told held films is loaded.held)
 
--- the gate was opened, and no worker ran
-pub only_opened : {serving : ServeArgs} {told : Option (List File)} {gate gate' : Option Content}
-    (films : List Stored) → AreLoaded told serving.films films → IfSome gate' (IsOpenedOnce gate) →
-    IfSome gate' (HasTooFewParts serving.listening.workers) → HasOnlyOpened serving told gate gate'
-only_opened {serving} {told} films loaded once few =
-    record { accepted = loaded_accepted serving told films loaded; once = once; few = few }
-
 -- a serving, with its library and its gate before and after
 pub record ServingRun : Type 0 where
   pub serving : ServeArgs
@@ -201,17 +189,33 @@ pub newly_open_as : (how : Opening) (gate : Option Content) → IsNewlyOpen how 
 newly_open_as how None is = tt
 newly_open_as how (Some c) is = is.0
 
--- the journal of a station that was closed
-pub closed_journal : {G : Type 0} {told : G → Option Content} {serving : ServeArgs} {hall : StationState}
-    {workers : List (Worker G)} {seat : SeatState} {gate : Option Content} {entries : List Entry} →
-    AreJoined told hall (length workers) workers seat gate → IsJournalOf seat entries → hall.steps ≡ serving.capacity →
-    places_taken entries ≤ serving.journal → length workers ≡ serving.listening.workers → IsJournal serving entries
-closed_journal {entries} back whole steps few count = record {
-  legal = subst (λ (s : List CapStep). IsLegal s entries) (back.steps ∙ steps) whole.legal;
-  few = few;
-  halts = whole.halts;
-  first = ap (λ (n : ℕ). entries_by n entries) (sym back.number) ∙ sym whole.mine ∙ back.mine;
-  others = λ maker high. whole.others maker (omega (arith, back.splits, count, high));
+-- the workers of a hall that are joined, and the journal of their station
+pub record JoinedWorkers (G : Type 0) (hall : StationState) : Type 0 where
+  pub told : G → Option Content
+  pub workers : List (Worker G)
+  pub seat : SeatState
+  pub gate : Option Content
+  pub entries : List Entry
+  pub back : AreJoined told hall (length workers) workers seat gate
+  pub whole : IsJournalOf seat entries
+
+-- a station that was closed, of the words' capacity, limit and number of workers
+pub record IsClosedFor {G : Type 0} {hall : StationState} (serving : ServeArgs) (joined : JoinedWorkers G hall) : Type 0
+  where
+    pub steps : hall.steps ≡ serving.capacity
+    pub few : places_taken joined.entries ≤ serving.journal
+    pub count : length joined.workers ≡ serving.listening.workers
+
+-- its journal
+pub closed_journal : {G : Type 0} {hall : StationState} (serving : ServeArgs) (joined : JoinedWorkers G hall)
+    → IsClosedFor serving joined → IsJournal serving joined.entries
+closed_journal serving joined closed = record {
+  legal = subst (λ (s : List CapStep). IsLegal s joined.entries) (joined.back.steps ∙ closed.steps) joined.whole.legal;
+  few = closed.few;
+  halts = joined.whole.halts;
+  first = ap (λ (n : ℕ). entries_by n joined.entries) (sym joined.back.number) ∙ sym joined.whole.mine
+      ∙ joined.back.mine;
+  others = λ maker high. joined.whole.others maker (omega (arith, joined.back.splits, closed.count, high));
 }
 
 -- the workers that were made have finished, and are joined
@@ -247,74 +251,86 @@ have_worked {work} {workers} {seat} {gate'} all_done whole count open_as left =
   where
     open all_done use {done, joined, counted}
 
--- a gate before, with an earlier count of its faults
-record Earlier (gate : WorkerGate) : Type 0 where
-  before : WorkerGate
-  low : before.faults ≤ gate.faults
+-- what workers came to: their work, the gate before and after, and the ends of their parts
+pub record WorkersRun : Type 0 where
+  pub work : ServerRun
+  pub gate : WorkerGate
+  pub after : WorkerGate
+  pub parts : List PartReport
+  pub each : AreWorkerResults work gate after 0 parts
+
+-- a gate, and before it one with an earlier count of faults
+pub record Earlier : Type 0 where
+  pub before : WorkerGate
+  pub gate : WorkerGate
+  pub low : before.faults ≤ gate.faults
 
 -- the same from an earlier count of the gate's faults on
-worked_since : {gate : WorkerGate} (earlier : Earlier gate) (work : ServerRun) (gate' : WorkerGate) (from : ℕ)
-    (parts : List PartReport) → AreWorkerResults work gate gate' from parts → AreWorkerResults work earlier.before gate'
-    from parts
-worked_since earlier work gate' from [] all = tt
-worked_since {gate} earlier work gate' from (part ∷ parts) all = (
-  record {
-    seat = all.0.seat;
-    left = all.0.left;
-    part = all.0.part;
-    after = all.0.after;
-    served = all.0.served;
-    terms = all.0.terms;
-    mine = all.0.mine;
-    untouched = all.0.untouched;
-    seen = all.0.seen;
-    made = all.0.made;
-    back = all.0.back;
-    counted = λ some. risen_since earlier.before.faults gate.faults gate'.faults (all.0.counted some) earlier.low;
-  },
-  worked_since earlier work gate' (from + 1) parts all.1,
-)
+pub have_worked_since : {work : ServerRun} {gate' : WorkerGate} {end : PartEnd} {reports : List ConnReport}
+    (earlier : Earlier) → IsWorkersResult work earlier.gate gate' end reports
+    → IsWorkersResult work earlier.before gate' end reports
+have_worked_since {work} {gate'} earlier worked =
+    record {
+      parts = worked.parts;
+      count = worked.count;
+      each = by-parts 0 worked.parts worked.each;
+      open_as = worked.open_as;
+      split = worked.split;
+      left = worked.left;
+    }
+  where
+    open earlier use {before, gate, low}
 
-pub have_worked_since : {work : ServerRun} {before gate gate' : WorkerGate} {end : PartEnd} {reports : List ConnReport}
-    →
-    IsWorkersResult work gate gate' end reports → before.faults ≤ gate.faults → IsWorkersResult work before gate' end
-    reports
-have_worked_since {work} {before} {gate} {gate'} worked low = record {
-  parts = worked.parts;
-  count = worked.count;
-  each = worked_since {gate = gate} (record { before = before; low = low }) work gate' 0 worked.parts worked.each;
-  open_as = worked.open_as;
-  split = worked.split;
-  left = worked.left;
-}
+    by-parts : (from : ℕ) (parts : List PartReport) → AreWorkerResults work gate gate' from parts
+        → AreWorkerResults work before gate' from parts
+    by-parts from [] all = tt
+    by-parts from (part ∷ parts) all = (
+      record {
+        seat = all.0.seat;
+        left = all.0.left;
+        part = all.0.part;
+        after = all.0.after;
+        served = all.0.served;
+        terms = all.0.terms;
+        mine = all.0.mine;
+        untouched = all.0.untouched;
+        seen = all.0.seen;
+        made = all.0.made;
+        back = all.0.back;
+        counted = λ some. risen_since before.faults gate.faults gate'.faults (all.0.counted some) low;
+      },
+      by-parts (from + 1) parts all.1,
+    )
 
--- a place among parts
-pub record InsideParts (parts : List PartReport) (k : ℕ) : Type 0 where
-  pub none : PartReport
-  pub inside : k < length parts
-
--- the worker of a number
-pub worker_worked : {gate gate' : WorkerGate} (work : ServerRun) (from : ℕ) (parts : List PartReport) →
-    AreWorkerResults work gate gate' from parts → (k : ℕ) (here : InsideParts parts k) →
-    IsWorkerResult work gate gate' (from + k) (slice_index_or parts k here.none)
-worker_worked work from [] all k here = absurd (omega (arith, here.inside))
-worker_worked {gate} {gate'} work from (part ∷ parts) all zero here =
-    subst (λ (n : ℕ). IsWorkerResult work gate gate' n part) (sym (add-zero from)) all.0
-worker_worked {gate} {gate'} work from (part ∷ parts) all (suc k) here =
-    let on : from + 1 + k ≡ from + suc k = omega arith in
-    subst (λ (n : ℕ). IsWorkerResult work gate gate' n (slice_index_or parts k here.none)) on
-    (worker_worked {gate = gate} work (from + 1) parts all.1 k
-    (record { none = here.none; inside = omega (arith, here.inside) }))
+-- the worker of a number, from 0 on
+pub worker_worked : (w : WorkersRun) (worker : ℕ) (none : PartReport) → worker < length w.parts
+    → IsWorkerResult w.work w.gate w.after worker (slice_index_or w.parts worker none)
+worker_worked w worker none inside =
+    subst (λ (n : ℕ). IsWorkerResult w.work w.gate w.after n (slice_index_or w.parts worker none)) (zero-add worker)
+    (by-parts 0 w.parts w.each worker inside)
+  where
+    by-parts : (from : ℕ) (parts : List PartReport) → AreWorkerResults w.work w.gate w.after from parts → (k : ℕ)
+        → k < length parts → IsWorkerResult w.work w.gate w.after (from + k) (slice_index_or parts k none)
+    by-parts from [] all k inside = absurd (omega (arith, inside))
+    by-parts from (part ∷ parts) all zero inside =
+        subst (λ (n : ℕ). IsWorkerResult w.work w.gate w.after n part) (sym (add-zero from)) all.0
+    by-parts from (part ∷ parts) all (suc k) inside =
+        let on : from + 1 + k ≡ from + suc k = omega arith in
+        subst (λ (n : ℕ). IsWorkerResult w.work w.gate w.after n (slice_index_or parts k none)) on
+        (by-parts (from + 1) parts all.1 k (omega (arith, inside)))
 
 -- a part that failed was counted
-fault_counted : {parts : List PartReport} (work : ServerRun) (gate gate' : WorkerGate) →
-    AreWorkerResults work gate gate' 0 parts → HasOne PartFault parts → HasRisen gate.faults gate'.faults
-fault_counted {parts = []} work gate gate' all one = absurd (omega (arith, one.inside))
-fault_counted {parts = part ∷ parts} work gate gate' all one =
-    let worked = worker_worked {gate = gate} work 0 (part ∷ parts) all one.worker
-    (record { none = part; inside = one.inside }) in
-    worked.counted (risen_some 0 worked.after.faults (worked.served.fault (one.ended part)))
+fault_counted : (w : WorkersRun) → HasOne PartFault w.parts → HasRisen w.gate.faults w.after.faults
+fault_counted w one = by-first w.parts refl
+  where
+    by-first : (parts : List PartReport) → w.parts ≡ parts → HasRisen w.gate.faults w.after.faults
+    by-first [] is = absurd (omega (arith, one.inside, ap (λ (ps : List PartReport). length ps) is))
+    by-first (part ∷ parts) is =
+        let worked = worker_worked w one.worker part one.inside in
+        worked.counted (risen_some 0 worked.after.faults (worked.served.fault (one.ended part)))
 
-pub fault_risen : {work : ServerRun} {gate gate' : WorkerGate} {end : PartEnd} {reports : List ConnReport} →
-    IsWorkersResult work gate gate' end reports → end ≡ PartFault → HasRisen gate.faults gate'.faults
-fault_risen {work} {gate} {gate'} worked is = fault_counted work gate gate' worked.each (worked.left.failed is)
+pub fault_risen : {work : ServerRun} {gate gate' : WorkerGate} {end : PartEnd} {reports : List ConnReport}
+    → IsWorkersResult work gate gate' end reports → end ≡ PartFault → HasRisen gate.faults gate'.faults
+fault_risen {work} {gate} {gate'} worked is =
+    fault_counted (record { work = work; gate = gate; after = gate'; parts = worked.parts; each = worked.each })
+    (worked.left.failed is)

@@ -1,6 +1,6 @@
 -- The laws over a server's run.
 use Rattle.std.proofs.Common.{◌≡◌, ◌≢◌, ◌⊎◌, ◌∙◌, ◌<◌, ℕ, List, length, Option, Some, None, Err}
-use Rattle.std.proofs.Common.{inl, inr, sym, subst, refl, arith, zero-add}
+use Rattle.std.proofs.Common.{inl, inr, sym, subst, refl, arith}
 use Rattle.std.specs.Prelude.{All, IfSome, slice_index_or}
 use Rattle.std.specs.List.{Contains}
 use Rattle.vod_base.specs.IoState.{File, HasRisen}
@@ -23,11 +23,11 @@ use Rattle.vodserve.specs.Run.{Ends, HasServed, ServeSpec}
 use Rattle.vodserve.specs.IoStates.{IoState, World, streams_of}
 use Rattle.vodserve.specs.ServerOutput.{IsPrinted, IsServeError}
 use Rattle.vodserve.specs.declared.run_results.Ended.{Ended}
-use Rattle.vodserve.specs.WorkerResults.{AreWorkerResults, AreLeft, IsPartBack, HasTooFewParts, IsWorkerResult}
+use Rattle.vodserve.specs.WorkerResults.{AreLeft, IsPartBack, HasTooFewParts, IsWorkerResult}
 use Rattle.vodserve.specs.WorkerResults.{IsOpenAs, IsOpenedOnce, HasParts}
 use Rattle.vodserve.specs.WorkerResults.{MayBeServed, ServerRun, opening_of, server_run}
 use Rattle.vodserve.proofs.GateLemmas.{risen_some}
-use Rattle.vodserve.proofs.FilmLoadLemmas.{Keeps, ServingRun, loaded_accepted, worker_worked}
+use Rattle.vodserve.proofs.FilmLoadLemmas.{WorkersRun, Keeps, ServingRun, loaded_accepted, worker_worked}
 
 -- what keeps from serving, where nothing is refused and nothing failed, is that memory ran out
 pub kept_by_memory : {before after : World} {serving : ServeArgs} (error : CliError) →
@@ -235,42 +235,52 @@ given_back (Some old) new (Some c) count served is =
     subst (λ (content : Content). (length content.own.back ≡ content.own.given)
     × (length content.own.back ≡ count)) same (served.back ∙ sym served.given, served.back)
 
--- the last time that a part was asked for a connection
-abbrev LastOf : World → World → Part → Type 0
-LastOf before after part = (part.last ≡ NoMore) ⊎ ((part.last ≡ Failed) × HasRisen before.gate.faults after.gate.faults)
+-- what a worker came to, with the content that the gate exposes after it
+pub record WorkerRun (gate after : WorkerGate) : Type 0 where
+  pub work : ServerRun
+  pub worker : ℕ
+  pub report : PartReport
+  pub worked : IsWorkerResult work gate after worker report
+  pub content : Content
+  pub tells : after.told ≡ Some content
 
-last_of : {work : ServerRun} {worker : ℕ} {report : PartReport} {end : PartEnd} {new : Content} (before after : World) →
-    (worked : IsWorkerResult work before.gate after.gate worker report) → report.end ≡ end → end ≢ PartNoMemory →
-    worked.after.told ≡ Some new → LastOf before after new.own
-last_of {end = AllTaken} {new} before after worked is found told =
-    inl (subst (λ (t : Option Content). IfSome t (λ c. c.own.last ≡ NoMore)) told (worked.served.all is))
-last_of {end = PartFault} {new} before after worked is found told =
-    inr (
-      subst (λ (t : Option Content). IfSome t (λ c. c.own.last ≡ Failed)) told (worked.served.failed is),
+-- its part is back in the gate
+pub back_of : {gate after : WorkerGate} (r : WorkerRun gate after) → IsPartBack r.worker r.worked.after.told r.content
+back_of r = subst (λ (t : Option Content). IfSome t (IsPartBack r.worker r.worked.after.told)) r.tells r.worked.back
+
+-- the last time that it was asked for a connection there was none, or the gate failed
+part_back : {before after : World} (r : WorkerRun before.gate after.gate) → r.report.end ≢ PartNoMemory
+    → (part : Part) × ((slice_index_or r.content.parts r.worker None ≡ Some part) × HasReturnedAll before after part)
+part_back {before} {after} r found =
+    let given = given_back worked.part back.0 worked.after.told (length report.reports.items) worked.served.served
+    back.1.0 in
+    (back.0.own, (back.1.1, record { back = given.0; last = by-end report.end refl }))
+  where
+    open r use {report, worked}
+
+    back : IsPartBack r.worker worked.after.told r.content
+    back = back_of r
+
+    by-end : (end : PartEnd) → report.end ≡ end
+        → (back.0.own.last ≡ NoMore) ⊎ ((back.0.own.last ≡ Failed) × HasRisen before.gate.faults after.gate.faults)
+    by-end AllTaken is =
+        inl (subst (λ (t : Option Content). IfSome t (λ c. c.own.last ≡ NoMore)) back.1.0 (worked.served.all is))
+    by-end PartFault is = inr (
+      subst (λ (t : Option Content). IfSome t (λ c. c.own.last ≡ Failed)) back.1.0 (worked.served.failed is),
       worked.counted (risen_some 0 worked.after.faults (worked.served.fault is)),
     )
-last_of {end = PartNoMemory} {new} before after worked is found told = absurd (found refl)
+    by-end PartNoMemory is = absurd (found is)
 
--- the part of a worker is back in the gate
-pub part_back : {before after : World} {work : ServerRun} {worker : ℕ} {content : Content} {report : PartReport} →
-    IsWorkerResult work before.gate after.gate worker report → report.end ≢ PartNoMemory → after.gate.told ≡ Some
-    content →
-    (part : Part) × ((slice_index_or content.parts worker None ≡ Some part) × HasReturnedAll before after part)
-part_back {before} {after} {worker = k} {content} {report} worked found told =
-    let back : IsPartBack k worked.after.told content =
-    subst (λ (t : Option Content). IfSome t (IsPartBack k worked.after.told)) told worked.back in
-    let given = given_back worked.part back.0 worked.after.told
-    (length report.reports.items) worked.served.served back.1.0 in
-    (back.0.own, (back.1.1, record { back = given.0; last = last_of before after worked refl found back.1.0 }))
-
--- the worker of a number, from 0 on
-pub worker_of : {gate gate' : WorkerGate} (work : ServerRun) (parts : List PartReport) → AreWorkerResults work gate
-    gate' 0 parts →
-    (worker : ℕ) (none : PartReport) → worker < length parts →
-    IsWorkerResult work gate gate' worker (slice_index_or parts worker none)
-worker_of {gate} {gate'} work parts all worker none inside =
-    subst (λ (n : ℕ). IsWorkerResult work gate gate' n (slice_index_or parts worker none)) (zero-add worker)
-    (worker_worked {gate = gate} work 0 parts all worker (record { none = none; inside = inside }))
+-- the workers of a server that served
+abbrev pub workers_of : {before after : World} {seed : List ℕ} {serving : ServeArgs} {ended : Ended}
+    → HasServed before after seed serving ended → WorkersRun
+workers_of {before} {after} served = record {
+  work = work_of served;
+  gate = before.gate;
+  after = after.gate;
+  parts = served.worked.parts;
+  each = served.worked.each;
+}
 
 -- each worker found memory
 pub each_found : (parts : List PartReport) (end : PartEnd) (reports : List ConnReport) →
@@ -292,8 +302,14 @@ gives_each_back before after seed serving ended gate serves told have_run =
       count = subst (HasParts serving.listening.workers) told worked.split;
       each = λ worker inside.
           let within : worker < length worked.parts = omega (arith, inside, worked.count) in
-          part_back (worker_of {gate = before.gate} (work_of run.served) worked.parts worked.each worker none within)
-          (each_found worked.parts run.served.end ended.reports.items worked.left run.found worker none within) told;
+          part_back (record {
+            work = _;
+            worker = worker;
+            report = _;
+            worked = worker_worked (workers_of run.served) worker none within;
+            content = gate;
+            tells = told;
+          }) (each_found worked.parts run.served.end ended.reports.items worked.left run.found worker none within);
     }
 
 -- with status 0 each worker's part had no more connections
@@ -303,17 +319,15 @@ all_taken : {end : PartEnd} {ended : Ended} (before after : World) (text : List 
 all_taken {end} {ended} before after text (inl whole) status = whole.0.1
 all_taken {end} {ended} before after text (inr wrong) status = absurd (not_none wrong.0 (sym wrong.1.1.status ∙ status))
 
-part_taken : {work : ServerRun} {worker : ℕ} {gate gate' : WorkerGate} {content : Content} {report : PartReport} →
-    IsWorkerResult work gate gate' worker report → report.end ≡ AllTaken → gate'.told ≡ Some content →
-    (part : Part) × ((slice_index_or content.parts worker None ≡ Some part) × (part.last ≡ NoMore))
-part_taken {worker = k} {content} worked taken told =
-    let back : IsPartBack k worked.after.told content =
-    subst (λ (t : Option Content). IfSome t (IsPartBack k worked.after.told)) told worked.back in (
+part_taken : {gate after : WorkerGate} (r : WorkerRun gate after) → r.report.end ≡ AllTaken
+    → (part : Part) × ((slice_index_or r.content.parts r.worker None ≡ Some part) × (part.last ≡ NoMore))
+part_taken r taken =
+    let back = back_of r in (
       back.0.own,
       (
         back.1.1,
         subst (λ (t : Option Content). IfSome t (λ c. c.own.last ≡ NoMore)) back.1.0
-            (worked.served.all taken),
+            (r.worked.served.all taken),
       ),
     )
 
@@ -329,6 +343,12 @@ leaves_none_out before after seed serving ended gate (inr served) status told =
       count = subst (HasParts serving.listening.workers) told worked.split;
       each = λ worker inside.
           let within : worker < length worked.parts = omega (arith, inside, worked.count) in
-          part_taken (worker_of {gate = before.gate} (work_of served) worked.parts worked.each worker none within)
-          (worked.left.taken (all_taken before after _ served.ends status) worker none within) told;
+          part_taken (record {
+            work = _;
+            worker = worker;
+            report = _;
+            worked = worker_worked (workers_of served) worker none within;
+            content = gate;
+            tells = told;
+          }) (worked.left.taken (all_taken before after _ served.ends status) worker none within);
     }

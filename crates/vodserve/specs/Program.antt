@@ -2,7 +2,7 @@
 -- one, and random bytes, which a server alone draws. `ProgramSpec`, at the end, is what
 -- `run_program` promises.
 use Rattle.std.specs.Prelude.{◌≡◌, ◌++◌, ℕ, Bool, true, false, if◌then◌else◌, List, Option, None}
-use Rattle.std.specs.Prelude.{Some, ◌⊎◌, map, option_map}
+use Rattle.std.specs.Prelude.{Some, ◌⊎◌, option_map}
 use Rattle.vod_base.specs.IoState.{File}
 use Rattle.cli_args.specs.Invocations.{Invocation, serve_of, watch_of}
 use Rattle.cli_errors.specs.declared.errors.CliError.TheVariants.{GateFault, NoMemory}

@@ -4,13 +4,12 @@ use Rattle.conn.specs.Parts.{WorkerGate}
 use Rattle.conn.specs.declared.reports.ConnReport.{ConnReport}
 use Rattle.cli_args.specs.Invocations.{ServeArgs}
 use Rattle.cli_args.specs.InvocationViews.{serve_args_of}
-use Rattle.film_frames.specs.declared.stored_films.Stored.{Stored}
 use Rattle.vodserve.specs.ServerOutput.{IsJournal, served_text}
 use Rattle.vodserve.specs.IoStates.{IoState, gate_state_of, io_state_of, streams}
 use Rattle.vodserve.specs.WorkerResults.{IsWorkersResult, ServerRun, server_run}
 use Rattle.vodserve.specs.Run.{Ends}
 use Rattle.vodserve.specs.declared.run_results.Ended.{Ended}
-use Rattle.vodserve.proofs.FilmLoadLemmas.{fault_risen, have_worked_since, make_serves, only_opened}
+use Rattle.vodserve.proofs.FilmLoadLemmas.{fault_risen, have_worked_since, make_serves, loaded_accepted}
 use Rattle.vodserve.proofs.GateLemmas.{once_since}
 use Rattle.vodserve.proofs.ErrorNameLemmas.{good_make_trouble, good_serve_trouble}
 use Rattle.vodserve.proofs.run.serve.Goals as goal
@@ -33,7 +32,7 @@ pub returns-in-Ok-run_server-clause-serves : goal.returns-in-Ok-run_server-claus
 returns-in-Ok-run_server-clause-serves g c =
     let entries : List Entry = c.in-Ok-run_server.closed.book.entries in
     let reports : List ConnReport = c.in-Ok-run_server.closed.reports.items in
-    let films : List Stored = c.in-Ok.prepared.films.items in
+    let films = c.in-Ok.prepared.films.items in
     let ended : Ended = c.end_server.result in
     let serving : ServeArgs = serve_args_of c.args.serving.now in
     let work : List Entry → ServerRun = server_run films serving c.args.seed in
@@ -50,7 +49,8 @@ returns-in-Ok-run_server-clause-serves g c =
     (sym c.end_server.ensures.reports)
     (subst (λ (es : List Entry). IsWorkersResult (work es) before after c.in-Ok-run_server.closed.end reports)
     (sym c.end_server.ensures.journal)
-    (have_worked_since {gate = opened} ((c.in-Ok-run_server.ensures {u = tt}).worked) c.prepare.ensures.count)) in
+    (have_worked_since (record { before = before; gate = opened; low = c.prepare.ensures.count })
+    ((c.in-Ok-run_server.ensures {u = tt}).worked))) in
     let out : IoState (List ℕ) = io_state_of g.O.Sink.faults g.O.Sink.written c.args.out.now in
     let out' : IoState (List ℕ) = io_state_of g.O.Sink.faults g.O.Sink.written c.end_server.new.out in
     let err : IoState (List ℕ) = io_state_of g.E.Sink.faults g.E.Sink.written c.args.err.now in
@@ -65,7 +65,7 @@ returns-in-Ok-run_server-clause-serves g c =
       end = c.in-Ok-run_server.closed.end;
       worked = worked;
       once = once_since before.told opened.told after.told ((c.in-Ok.ensures {u = tt}).once) c.run_server.ensures.since;
-      fault = fault_risen {gate = before} worked;
+      fault = fault_risen worked;
       ends = subst (λ (text : List ℕ). Ends (streams out out' err err') text c.in-Ok-run_server.closed.end ended) same
           c.end_server.ensures.ends;
     })
@@ -86,9 +86,12 @@ returns-in-Err-run_server-clause-serves g c =
           gate = before;
           gate_after = after;
         }) opened.faults c.in-Err-run_server.error ((c.in-Err-run_server.ensures {u = tt}).error)
-            c.prepare.ensures.count (only_opened c.in-Ok.prepared.films.items ((c.in-Ok.ensures {u = tt}).loaded)
-            (once_since before.told opened.told after.told ((c.in-Ok.ensures {u = tt}).once) c.run_server.ensures.since)
-            ((c.in-Err-run_server.ensures {u = tt}).few)),
+            c.prepare.ensures.count (record {
+              accepted = loaded_accepted serving _ c.in-Ok.prepared.films.items ((c.in-Ok.ensures {u = tt}).loaded);
+              once = once_since before.told opened.told after.told ((c.in-Ok.ensures {u = tt}).once)
+                  c.run_server.ensures.since;
+              few = (c.in-Err-run_server.ensures {u = tt}).few;
+            }),
         refl,
         c.end_with-in-Err-run_server.ensures.nothing,
         c.end_with-in-Err-run_server.ensures.fails,

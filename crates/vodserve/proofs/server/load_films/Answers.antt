@@ -11,11 +11,20 @@ use Rattle.cli_errors.proofs.ReadErrorLemmas.{trouble_map}
 use Rattle.inputs.specs.LoadErrors.{IsServedFilmRefused}
 use Rattle.vodserve.specs.ServerOutput.{IsFirstRefused, IsWordNamed}
 use Rattle.inputs.proofs.ScanLemmas.{handed_on}
-use Rattle.vodserve.proofs.FilmLoadLemmas.{films_are, first_refused, values_rest, word_film}
+use Rattle.vodserve.proofs.FilmLoadLemmas.{WordAt, films_are, first_refused, values_rest, word_film}
 use Rattle.vodserve.proofs.server.load_films.Goals as goal
 
 pub returns-in_err-add_film-clause-error : goal.returns-in_err-add_film-clause-error
 returns-in_err-add_film-clause-error g c =
+    let word_at : (name : List ℕ) → IsWordNamed c.as_str.result.now name
+    → WordAt c.args.words.now (names_of c.loop-word.films.items) name = λ name named. record {
+      word = _;
+      place = c.loop-word.word-index;
+      inside = c.loop-word-test.true;
+      at = c.word-item.is;
+      whole = c.loop-word.invariant.names;
+      named = rw c.as_str.ensures.value at named;
+    } in
     handed_on _ c.from_residual.result c.from_residual.ensures.1
     (trouble_map (record {
       Reads = IsWordNamed c.as_str.result.now;
@@ -33,17 +42,10 @@ returns-in_err-add_film-clause-error g c =
     })
     c.in_err-add_film.field-0.0
     (record {
-      reads = λ name named. word_film (record {
-        place = c.loop-word.word-index;
-        inside = c.loop-word-test.true;
-        at = c.word-item.is;
-      }) (names_of c.loop-word.films.items) name c.loop-word.invariant.names (rw c.as_str.ensures.value at named);
-      refuses = λ held name fault told named refused. first_refused (record {
-        place = c.loop-word.word-index;
-        inside = c.loop-word-test.true;
-        at = c.word-item.is;
-      }) c.loop-word.films.items c.loop-word.invariant.names (rw c.as_str.ensures.value at named)
-          c.loop-word.invariant.held (record { tells = told; refused = refused });
+      reads = λ name named. word_film (word_at name named);
+      refuses = λ held name fault told named refused. first_refused
+          (record { told = _; held = held; fault = fault; tells = told; refused = refused }) c.loop-word.films.items
+          (word_at name named) c.loop-word.invariant.held;
       keeps = λ held told. c.loop-word.invariant.library.kept ∙ told;
       low = omega (arith, c.loop-word.invariant.library.count);
       high = omega arith;

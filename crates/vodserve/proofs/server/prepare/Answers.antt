@@ -6,7 +6,7 @@ use Rattle.vodserve.specs.WorkerResults.{opening_of}
 use Rattle.vodserve.proofs.GateLemmas.{opened_few, opened_once}
 use Rattle.cli_args.specs.InvocationViews.{serve_args_of}
 use Rattle.inputs.proofs.ScanLemmas.{handed_on}
-use Rattle.vodserve.proofs.FilmLoadLemmas.{only_opened, read_serves}
+use Rattle.vodserve.proofs.FilmLoadLemmas.{loaded_accepted, read_serves}
 use Rattle.vodserve.proofs.server.prepare.Goals as goal
 
 pub returns-in_err-films-clause-error : goal.returns-in_err-films-clause-error
@@ -25,9 +25,11 @@ returns-in_err-open-clause-error g c =
     let lost : after ≡ option_map (after_open None) before = (c.in_err-open.ensures {u = tt}).lost in
     handed_on _ c.from_residual-in_err-open.result c.from_residual-in_err-open.ensures.1 (
       (c.in_err-open.ensures {u = tt}).fault,
-      only_opened c.in_ok-films.films.items ((c.in_ok-films.ensures {u = tt}).loaded)
-          (opened_once None before after lost)
-          (opened_few c.args.serving.now.listening.workers None before after lost c.requires.listening.workers.0),
+      record {
+        accepted = loaded_accepted (serve_args_of c.args.serving.now) _ c.in_ok-films.films.items ((c.in_ok-films.ensures {u = tt}).loaded);
+        once = opened_once None before after lost;
+        few = opened_few c.args.serving.now.listening.workers None before after lost c.requires.listening.workers.0;
+      },
     )
 
 pub returns-in_err-station-clause-error : goal.returns-in_err-station-clause-error
@@ -37,6 +39,8 @@ returns-in_err-station-clause-error g c =
     let how : Option Opening = Some (opening_of (serve_args_of c.args.serving.now)) in
     let opens : after ≡ option_map (after_open how) before = (c.in_ok-open.ensures {u = tt}).open in
     handed_on _ c.from_residual-in_err-station.result c.from_residual-in_err-station.ensures.1
-    (inr (only_opened c.in_ok-films.films.items ((c.in_ok-films.ensures {u = tt}).loaded)
-    (opened_once how before after opens)
-    (opened_few c.args.serving.now.listening.workers how before after opens c.requires.listening.workers.0)))
+    (inr (record {
+      accepted = loaded_accepted (serve_args_of c.args.serving.now) _ c.in_ok-films.films.items ((c.in_ok-films.ensures {u = tt}).loaded);
+      once = opened_once how before after opens;
+      few = opened_few c.args.serving.now.listening.workers how before after opens c.requires.listening.workers.0;
+    }))

@@ -38,16 +38,27 @@ returns-in-Err-clause-few g c =
 
 pub returns-clause-closed : goal.returns-clause-closed
 returns-clause-closed g c =
-    closed_journal
-    c.join_workers-end.ensures.joined c.close-book.ensures.whole c.requires.steps
-    (omega (
-      arith,
-      c.entries-within.ensures.within,
-      c.close-book.ensures.limit,
-      c.join_workers-end.ensures.joined.limit,
-      c.requires.limit,
-    ))
-    (c.run_workers.ensures.count ∙ c.in_default.ensures.made)
+    closed_journal _
+    (record {
+      told = g.G.Gate.told;
+      workers = _;
+      seat = _;
+      gate = _;
+      entries = _;
+      back = c.join_workers-end.ensures.joined;
+      whole = c.close-book.ensures.whole;
+    })
+    (record {
+      steps = c.requires.steps;
+      few = omega (
+        arith,
+        c.entries-within.ensures.within,
+        c.close-book.ensures.limit,
+        c.join_workers-end.ensures.joined.limit,
+        c.requires.limit,
+      );
+      count = c.run_workers.ensures.count ∙ c.in_default.ensures.made;
+    })
 
 pub returns-clause-worked : goal.returns-clause-worked
 returns-clause-worked g c =

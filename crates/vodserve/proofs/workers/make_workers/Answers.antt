@@ -1,4 +1,4 @@
-use Rattle.std.proofs.Common.{◌≡◌, ◌∙◌, ◌+◌, ◌++◌, ◌∷◌, [], List, length, ap, refl, sym, subst, arith, length-append}
+use Rattle.std.proofs.Common.{◌≡◌, ◌∙◌, ◌++◌, ◌∷◌, [], List, length, ap, refl, sym, subst, arith, length-append}
 use Rattle.std.specs.Prelude.{All}
 use Rattle.station.specs.Seats.{after_split, new_seat}
 use Rattle.conn.specs.declared.reports.PartEnd.TheVariants.{AllTaken}
