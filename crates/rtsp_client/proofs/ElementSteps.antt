@@ -262,18 +262,15 @@ pub stopped-on : {end : WatchEnd} {u : Observed} (x : TakenElements)
     → HasStopped x.watcher.wish g x.watcher.client.input end x.change.after u)
     → HasStopped x.watcher.wish x.watcher.history x.rest end x.change.before u
 stopped-on {end} x next =
-    let w = x.watcher in
-    let rest = x.rest in
-    let s = x.change.before in
     let first = x.taken in
-    let wish = w.wish in
-    let h = w.history in
+    let wish = x.watcher.wish in
+    let h = x.watcher.history in
     let a = events_of_elements first.elements in
     let g = history_after h a in
     let second = next g first.passed.keeps in
     let st = second.stops in
     let b = events_of_elements st.elements in
-    let cuts : CutsInTurn rest w.client.input st.mid first.elements st.elements =
+    let cuts : CutsInTurn x.rest x.watcher.client.input st.mid first.elements st.elements =
     record { first = first.cut; next = st.cut } in
     record {
       sent = requests_after wish h a ++ second.sent;
@@ -297,5 +294,5 @@ stopped-on {end} x next =
       };
       sight_is = second.sight_is
           ∙ (ap (λ x. observed_more x second.sent second.out) first.passed.sight_is
-          ∙ observed-on s (requests_after wish h a) second.sent (payloads_of a) second.out);
+          ∙ observed-on x.change.before (requests_after wish h a) second.sent (payloads_of a) second.out);
     }

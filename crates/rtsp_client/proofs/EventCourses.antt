@@ -104,6 +104,20 @@ ended-peer {s = s} k = record {
 
 -- ---- all events
 
+-- a round that was processed last, and no complete element waits
+record LastRound (mid : WatchStage) : Type 0 where
+  round : Round
+  new : WatchStage
+  runs : Runs mid round new
+  idle : IsFirst new.rest (Ok More)
+
+runs-on : {mid : WatchStage} (old : WatchStage) (rounds : List Round) → RunsAll old rounds mid → (last : LastRound mid)
+    → RunsAll old (rounds ++ last.round ∷ []) last.new
+runs-on old [] all last =
+    let R : WatchStage → Type 0 = λ s. Runs s last.round last.new in
+    (last.new, (subst R all last.runs, last.idle, refl))
+runs-on old (first ∷ rounds) all last = (all.0, (all.1.0, all.1.1, runs-on all.0 rounds all.1.2 last))
+
 pub history-later : (old mid : WatchStage) (rounds : List Round) → RunsAll old rounds mid
     → mid.history ≡ history_after old.history (events_of_rounds rounds)
 history-later old mid [] all = ap (λ (s : WatchStage). s.history) all
@@ -173,13 +187,12 @@ pub run-on : {event : IoEvent} {new : Client} {d : ObservedChange} (r : Running)
     → HasRun r.wish (r.count + 1) new r.change.before d.after
 run-on {event} {new} x heard next =
     let wish = x.wish in
-    let c = x.client in
     let e = x.change in
     let run = x.run in
     let round = next run.history run.keeps in
     let r : Round = record { event = event; moments = round.moments } in
     let h : run.history ≡ history_after [] (events_of_rounds run.rounds) =
-    history-later (stage [] []) (stage run.history c.input) run.rounds run.runs in
+    history-later (stage [] []) (stage run.history x.client.input) run.rounds run.runs in
     let told : told_more (told_more (told_more e.before.told (rounds_doings wish [] run.rounds)) (event ∷ []))
     (sends (requests_after wish run.history round.moments))
     ≡ told_more e.before.told (rounds_doings wish [] (run.rounds ++ r ∷ [])) =
@@ -200,7 +213,7 @@ run-on {event} {new} x heard next =
       rounds = run.rounds ++ r ∷ [];
       count_is = length-append run.rounds (r ∷ []) ∙ ap (λ n. n + 1) run.count_is;
       history = history_after run.history round.moments;
-      runs = by-rounds (stage [] []) run.rounds run.runs round.runs round.idle;
+      runs = runs-on (stage [] []) run.rounds run.runs (record { round = r; new = _; runs = round.runs; idle = round.idle });
       keeps = round.keeps;
       sight_is = round.sight_is
           ∙ (ap (λ x. observed_more x (requests_after wish run.history round.moments) (payloads_of round.moments))
@@ -209,14 +222,6 @@ run-on {event} {new} x heard next =
           (told_more (told_more e.before.out (payloads_of (events_of_rounds run.rounds))) (payloads_of round.moments))) told
           ∙ ap (λ o. observed (told_more e.before.told (rounds_doings wish [] (run.rounds ++ r ∷ []))) o) out));
     }
-  where
-    by-rounds : {mid stage : WatchStage} {round : Round} (old : WatchStage) (rounds : List Round) → RunsAll old rounds mid
-        → Runs mid round stage → IsFirst stage.rest (Ok More) → RunsAll old (rounds ++ round ∷ []) stage
-    by-rounds {stage = stage} {round} old [] all runs idle =
-        let R : WatchStage → Type 0 = λ s. Runs s round stage in
-        (stage, (subst R all runs, idle, refl))
-    by-rounds {round = round} old (first ∷ rounds) all runs idle =
-        (all.0, (all.1.0, all.1.1, by-rounds all.0 rounds all.1.2 runs idle))
 
 -- a run that SETUP began, before which link and output had exposed `old`
 pub record StartedRun : Type 0 where

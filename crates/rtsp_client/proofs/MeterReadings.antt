@@ -180,17 +180,30 @@ unread : (wish : Wish) (h : History) (t cut : ℕ) → is_read h t ≡ false
     → watched_in wish h ≡ watched_in wish (Slot t cut ∷ h)
 unread wish h t cut missed = sym (ap (counts_with wish h t cut) missed)
 
-read-at : {x : KeptState} (t cut : ℕ) → StateInvariant x.wish x.history x.state → HasDurations x.wish x.state.source
-    → is_read x.history t ≡ true
-    → (after_reading x.wish x.state (place_in x.history t) cut).watched ≡ watched_in x.wish (Slot t cut ∷ x.history)
-read-at {x} t cut k lasts reads =
+-- a slot that comes to a state that is kept, while so many bytes are cut
+record SlotAt (x : KeptState) : Type 0 where
+  t : ℕ
+  cut : ℕ
+  keeps : StateInvariant x.wish x.history x.state
+  lasts : HasDurations x.wish x.state.source
+
+-- the history with it, and the counts then
+abbrev history_at : {x : KeptState} → SlotAt x → History
+history_at {x} s = Slot s.t s.cut ∷ x.history
+
+read-at : {x : KeptState} (s : SlotAt x) → is_read x.history s.t ≡ true
+    → (after_reading x.wish x.state (place_in x.history s.t) s.cut).watched ≡ watched_in x.wish (history_at s)
+read-at {x} slot reads =
     let wish = x.wish in
     let h = x.history in
     let s = x.state in
+    let t = slot.t in
+    let cut = slot.cut in
+    let k = slot.keeps in
     let j = place_in h t in
     let amount : (s.received + cut) - played_of wish s.source s.ends j ≡ bytes_waiting wish h t cut =
     ap (λ n. (n + cut) - played_of wish s.source s.ends j) k.received_is
-    ∙ ap (λ n. (bytes_received h + cut) - n) (played-in {x = x} j k lasts) in
+    ∙ ap (λ n. (bytes_received h + cut) - n) (played-in {x = x} j k slot.lasts) in
     let step : Watched → ℕ → Bool → Watched = λ (w : Watched) (n : ℕ) (l : Bool). record w {
       most = max w.most n;
       over = cond (nat_lt wish.buffer n) (w.over + 1) w.over;
@@ -202,59 +215,61 @@ read-at {x} t cut k lasts reads =
     ∙ (ap (λ b. step (watched_in wish h) (bytes_waiting wish h t cut) b) (lacks-in wish h s j k)
     ∙ sym (ap (counts_with wish h t cut) reads)))
 
+slot-with : {x : KeptState} {last : ℕ} {w : Watched} (s : SlotAt x) → last ≡ max s.t (last_slot x.history)
+    → w ≡ watched_in x.wish (history_at s)
+    → StateInvariant x.wish (history_at s) (record x.state { last_slot = last; watched = w })
+slot-with {x} s greatest is = record {
+  last_slot_is = greatest;
+  play_is = play-on x.state.play (Slot s.t s.cut) x.history tt k.play_is;
+  source_is = source-on x.state.source (Slot s.t s.cut) x.history tt k.source_is;
+  begun = k.begun;
+  inside = k.inside;
+  ends_are = k.ends_are;
+  received_is = k.received_is;
+  taken_is = k.taken_is;
+  watched_is = is;
+}
+  where
+    open s use {keeps as k}
+
+keeps-later : {x : KeptState} (s : SlotAt x) (play : Option Play) → last_slot x.history < s.t → IsPlayOf play x.history
+    → StateInvariant x.wish (history_at s)
+    (reading_at x.wish (record x.state { last_slot = s.t }) (place_of play s.t) s.cut)
+keeps-later {x} s None later is =
+    slot-with s (omega (arith, later))
+    (s.keeps.watched_is ∙ unread x.wish x.history s.t s.cut (and_left (is_playing x.history) _ is))
+keeps-later {x} s (Some play) later is =
+    let h = x.history in
+    let late = slot-late h in
+    let j = (s.t - play.slot_before) - play.start in
+    let P : Option ℕ → Type 0 = λ place. StateInvariant x.wish (history_at s)
+    (reading_at x.wish (record x.state { last_slot = s.t }) place s.cut) in
+    cond_both (nat_le play.start (s.t - play.slot_before)) (Some j) None P
+    (λ due.
+    let from : play.start ≤ s.t - play.slot_before = leb-true play.start (s.t - play.slot_before) due in
+    let reads : is_read h s.t ≡ true = and_from _ _ is.playing (and_from _ _
+    (le-leb (start h + slot_before h) s.t (omega (arith, from, is.start_is, is.slot_is, late, later)))
+    (lt-ltb (last_slot h) s.t later)) in
+    let place : place_in h s.t ≡ j = omega (arith, from, is.start_is, is.slot_is) in
+    subst (λ n. P (Some n)) place (slot-with s (omega (arith, later)) (read-at s reads)))
+    (λ early.
+    let before : s.t - play.slot_before < play.start = leb-false play.start (s.t - play.slot_before) early in
+    slot-with s (omega (arith, later))
+    (s.keeps.watched_is ∙ unread x.wish h s.t s.cut (and_right (is_playing h) _ (and_left _ (nat_lt (last_slot h) s.t)
+    (lt-leb (start h + slot_before h) s.t (omega (arith, before, is.start_is, is.slot_is, late, later)))))))
+
 pub keeps-slot : {x : KeptState} (t cut : ℕ) → StateInvariant x.wish x.history x.state
     → HasDurations x.wish x.state.source
     → StateInvariant x.wish (Slot t cut ∷ x.history) (after_slot x.wish x.state t cut)
 keeps-slot {x} t cut k lasts =
-    cond_both (nat_le t state.last_slot) state
-    (reading_at wish (record state { last_slot = t }) (place_of state.play t) cut)
-    (StateInvariant wish (Slot t cut ∷ history))
+    let wish = x.wish in
+    let h = x.history in
+    let s = x.state in
+    let slot : SlotAt x = record { t = t; cut = cut; keeps = k; lasts = lasts } in
+    cond_both (nat_le t s.last_slot) s (reading_at wish (record s { last_slot = t }) (place_of s.play t) cut)
+    (StateInvariant wish (Slot t cut ∷ h))
     (λ known.
-    let old : t ≤ last_slot history = omega (arith, leb-true t state.last_slot known, k.last_slot_is) in
-    slot-with (omega (arith, old, k.last_slot_is))
-    (k.watched_is ∙ unread wish history t cut (and_right (is_playing history) _ (and_right _ _ (le-ltb (last_slot history)
-    t old)))))
-    (λ new_. by-play state.play (omega (arith, leb-false t state.last_slot new_, k.last_slot_is)) k.play_is)
-  where
-    open x use {wish, history, state}
-
-    slot-with : {last : ℕ} {w : Watched} → last ≡ max t (last_slot history) → w ≡ watched_in wish (Slot t cut ∷ history)
-        → StateInvariant wish (Slot t cut ∷ history) (record state { last_slot = last; watched = w })
-    slot-with greatest is = record {
-      last_slot_is = greatest;
-      play_is = play-on state.play (Slot t cut) history tt k.play_is;
-      source_is = source-on state.source (Slot t cut) history tt k.source_is;
-      begun = k.begun;
-      inside = k.inside;
-      ends_are = k.ends_are;
-      received_is = k.received_is;
-      taken_is = k.taken_is;
-      watched_is = is;
-    }
-
-    by-play : (play : Option Play) → last_slot history < t → IsPlayOf play history
-        → StateInvariant wish (Slot t cut ∷ history)
-        (reading_at wish (record state { last_slot = t }) (place_of play t) cut)
-    by-play None later is =
-        slot-with (omega (arith, later))
-        (k.watched_is ∙ unread wish history t cut (and_left (is_playing history) _ is))
-    by-play (Some play) later is =
-        let late = slot-late history in
-        let j = (t - play.slot_before) - play.start in
-        let P : Option ℕ → Type 0 =
-        λ place. StateInvariant wish (Slot t cut ∷ history)
-        (reading_at wish (record state { last_slot = t }) place cut) in
-        cond_both (nat_le play.start (t - play.slot_before)) (Some j) None P
-        (λ due.
-        let from : play.start ≤ t - play.slot_before = leb-true play.start (t - play.slot_before) due in
-        let reads : is_read history t ≡ true = and_from _ _ is.playing (and_from _ _
-        (le-leb (start history + slot_before history) t (omega (arith, from, is.start_is, is.slot_is, late, later)))
-        (lt-ltb (last_slot history) t later)) in
-        let place : place_in history t ≡ j = omega (arith, from, is.start_is, is.slot_is) in
-        subst (λ n. P (Some n)) place (slot-with (omega (arith, later)) (read-at {x = x} t cut k lasts reads)))
-        (λ early.
-        let before : t - play.slot_before < play.start = leb-false play.start (t - play.slot_before) early in
-        slot-with (omega (arith, later))
-        (k.watched_is ∙ unread wish history t cut (and_right (is_playing history) _ (and_left _
-        (nat_lt (last_slot history) t) (lt-leb (start history + slot_before history) t
-        (omega (arith, before, is.start_is, is.slot_is, late, later)))))))
+    let old : t ≤ last_slot h = omega (arith, leb-true t s.last_slot known, k.last_slot_is) in
+    slot-with slot (omega (arith, old, k.last_slot_is))
+    (k.watched_is ∙ unread wish h t cut (and_right (is_playing h) _ (and_right _ _ (le-ltb (last_slot h) t old)))))
+    (λ new_. keeps-later slot s.play (omega (arith, leb-false t s.last_slot new_, k.last_slot_is)) k.play_is)

@@ -44,6 +44,26 @@ used-most {p} wish j xs lasts =
     let c = div_ceil ((j - wish.startup) * wish.slot_units) p in
     omega (arith, used-sum wish j 0 xs lasts, sum_by-take-le (λ (x : ℕ). x) xs (c - 0))
 
+-- where no picture is missing, the next unit isn't used yet
+next-early : (f : FilmPlay) (r : Reading) → IsFilmHeard f.all f.picture_time r.history r.cut
+    → lacks_picture f.wish r.history (place_of r) ≡ false → length (sizes r.history) < length f.all
+    → place_of r < use_slot f.wish f.picture_time (length (sizes r.history))
+next-early f r heard enough fewer =
+    let h = r.history in
+    let j = place_of r in
+    let n = length (sizes h) in
+    elim (cases_Bool (is_complete h)) [
+      | inl complete ↦
+          let parts = and_parts (nat_lt 0 (frames h)) (n == units h) complete in
+          let some : nat_lt 0 (frames h) ≡ true = parts.0 in
+          let begun : 0 < frames h = grind (arith, nat_tests) in
+          absurd (omega (arith, eqb-true n (units h) parts.1, heard.units_are begun, fewer))
+      | inr open_ ↦
+          let late : nat_le (use_slot f.wish (time h) n) j ≡ false =
+          sym (ap (λ b. not b && nat_le (use_slot f.wish (time h) n) j) open_) ∙ enough in
+          (next-later f j heard).1 (grind (arith, nat_tests))
+    ]
+
 between : (f : FilmPlay) (r : Reading) → IsFilmHeard f.all f.picture_time r.history r.cut
     → nat_lt f.wish.buffer (bytes_waiting f.wish r.history r.slot r.cut) ≡ false
     → lacks_picture f.wish r.history (place_of r) ≡ false
@@ -54,7 +74,7 @@ between f r heard not_over not_under =
     let j = place_of r in
     let same : (k : ℕ) → k ≤ j + 1
     → used_before f.wish f.picture_time k 0 (take n f.all) ≡ used_before f.wish f.picture_time k 0 f.all =
-    λ k most. same-used f k n (λ fewer. omega (arith, early fewer, most)) in
+    λ k most. same-used f k n (λ fewer. omega (arith, next-early f r heard not_under fewer, most)) in
     let played : played_before f.wish h j ≡ used_before f.wish f.picture_time j 0 f.all =
     used-time f.wish h f.picture_time j heard.time_is
     ∙ (ap (used_before f.wish f.picture_time j 0) heard.sizes_are ∙ same j (omega arith)) in
@@ -69,24 +89,6 @@ between f r heard not_over not_under =
       );
       up = omega (arith, played, holds);
     }
-  where
-    -- no picture is missing: the next unit isn't used yet
-    early : length (sizes r.history) < length f.all → place_of r < use_slot f.wish f.picture_time (length (sizes r.history))
-    early fewer =
-        let h = r.history in
-        let j = place_of r in
-        let n = length (sizes h) in
-        elim (cases_Bool (is_complete h)) [
-          | inl complete ↦
-              let parts = and_parts (nat_lt 0 (frames h)) (n == units h) complete in
-              let some : nat_lt 0 (frames h) ≡ true = parts.0 in
-              let begun : 0 < frames h = grind (arith, nat_tests) in
-              absurd (omega (arith, eqb-true n (units h) parts.1, heard.units_are begun, fewer))
-          | inr open_ ↦
-              let late : nat_le (use_slot f.wish (time h) n) j ≡ false =
-              sym (ap (λ b. not b && nat_le (use_slot f.wish (time h) n) j) open_) ∙ not_under in
-              (next-later f j heard).1 (grind (arith, nat_tests))
-        ]
 
 -- nothing was counted
 no-count : (b : Bool) (n : ℕ) → cond b (n + 1) n ≡ 0 → (b ≡ false) × (n ≡ 0)
