@@ -112,11 +112,38 @@ through_is slot p is = sent_upto slot (due_by p slot) p is (omega arith)
 pub stopped_is : (slot : ℕ) (p : PacerState) → IsPacerState p → IsPacerState (after_step true slot p)
 stopped_is slot p is = sent_upto slot (step_end true (at_slot slot p)) p is (omega arith)
 
+-- the film bytes up to a slot, with those of the slot
+film_through : {session : SessionState} (going : PlayGoing session) (slot : ℕ)
+    → due_by going.play.pacer slot ≡ first_slots going.play.pacer.plan (slot + 1 - going.play.pacer.start)
+    → going.film ++ slot_film session.waits slot going.play.pacer ≡ planned_bytes going.play.pacer slot
+film_through {session} going slot all_sent =
+    let p = going.play.pacer in
+    let has = going.sent in
+    let film = going.film in
+    let waits = session.waits in
+    let bytes : slot_film waits slot p ≡ plan_bytes p p.sent (due_by p slot) =
+    slot_bytes waits (stands_at_boundary (after_step true slot p)) slot p has.pacing refl in
+    let before : p.sent ≤ due_by p slot = omega (arith, has.pacing.sent) in
+    let old_sent : p.sent ≡ first_slots p.plan (session.heard + 1 - p.start) =
+    has.sent ∙ ap (first_slots p.plan) (omega (arith, has.passed, has.start)) in
+    let first : film ≡ bytes_between p.pieces p.before (p.before + p.sent) =
+    has.film_is ∙ ap (λ n. take n (drop p.before (framed_bytes p.pieces))) (omega (arith, old_sent)) in
+    let joined : film ++ slot_film waits slot p ≡ bytes_between p.pieces p.before (p.before + due_by p slot) =
+    ap (λ bs. bs ++ slot_film waits slot p) first
+    ∙ ap (λ bs. bytes_between p.pieces p.before (p.before + p.sent) ++ bs) bytes
+    ∙ between-join p.pieces p.before (p.before + p.sent) (p.before + due_by p slot) (omega arith)
+    (omega (arith, before)) in
+    joined ∙ ap (λ n. take n (drop p.before (framed_bytes p.pieces))) (omega (arith, all_sent))
+
 -- a play goes on by a slot, in which a reply waits or none
 pub sent_slot : {session : SessionState} (going : PlayGoing session) (slot : ℕ) → session.heard < slot →
     HasSent (record going.play { pacer = slot_pacing session.waits slot going.play.pacer }) slot
     (going.film ++ slot_film session.waits slot going.play.pacer)
 sent_slot {session} going slot later =
+    let play = going.play in
+    let p = play.pacer in
+    let has = going.sent in
+    let waits = session.waits in
     let between : Bool = stands_at_boundary (after_step true slot p) in
     let q : slot_pacing waits slot p ≡ sent_through slot p = slot_is waits between slot p has.pacing refl in
     let passed : max p.passed (slots_by p slot) ≡ slot + 1 - play.start = omega (arith, has.passed, has.start, later) in
@@ -129,7 +156,7 @@ sent_slot {session} going slot later =
     ) in
     let all_sent : due_by p slot ≡ first_slots p.plan (slot + 1 - p.start) =
     due ∙ ap (first_slots p.plan) (omega (arith, passed, has.start)) in
-    subst (λ (r : PacerState). HasSent (record play { pacer = r }) slot (film ++ slot_film waits slot p)) (sym q)
+    subst (λ (r : PacerState). HasSent (record play { pacer = r }) slot (going.film ++ slot_film waits slot p)) (sym q)
     (record {
       pacing = through_is slot p has.pacing;
       plan = has.plan;
@@ -138,37 +165,8 @@ sent_slot {session} going slot later =
       start = has.start;
       passed = passed;
       sent = due;
-      film_is = film_through all_sent;
+      film_is = film_through going slot all_sent;
     })
-  where
-    open going use {play, film}
-
-    waits : Bool
-    waits = session.waits
-
-    has : HasSent play session.heard film
-    has = going.sent
-
-    p : PacerState
-    p = play.pacer
-
-    -- the film bytes up to a slot, with those of the slot
-    film_through : due_by p slot ≡ first_slots p.plan (slot + 1 - p.start)
-        → film ++ slot_film waits slot p ≡ planned_bytes p slot
-    film_through all_sent =
-        let bytes : slot_film waits slot p ≡ plan_bytes p p.sent (due_by p slot) =
-        slot_bytes waits (stands_at_boundary (after_step true slot p)) slot p has.pacing refl in
-        let before : p.sent ≤ due_by p slot = omega (arith, has.pacing.sent) in
-        let old_sent : p.sent ≡ first_slots p.plan (session.heard + 1 - p.start) =
-        has.sent ∙ ap (first_slots p.plan) (omega (arith, has.passed, has.start)) in
-        let first : film ≡ bytes_between p.pieces p.before (p.before + p.sent) =
-        has.film_is ∙ ap (λ n. take n (drop p.before (framed_bytes p.pieces))) (omega (arith, old_sent)) in
-        let joined : film ++ slot_film waits slot p ≡ bytes_between p.pieces p.before (p.before + due_by p slot) =
-        ap (λ bs. bs ++ slot_film waits slot p) first
-        ∙ ap (λ bs. bytes_between p.pieces p.before (p.before + p.sent) ++ bs) bytes
-        ∙ between-join p.pieces p.before (p.before + p.sent) (p.before + due_by p slot) (omega arith)
-        (omega (arith, before)) in
-        joined ∙ ap (λ n. take n (drop p.before (framed_bytes p.pieces))) (omega (arith, all_sent))
 
 -- A pacing of which these bytes were sent by the latest slot: as many as the plan has through it,
 -- and none past what is kept, which ends at the first boundary at or after them.

@@ -13,7 +13,6 @@ use Rattle.admission.specs.declared.entries.Answer.TheVariants.{Admitted}
 use Rattle.admission.specs.Histories.{is_admission}
 use Rattle.admission.specs.Makers.{PlacedEntry}
 use Rattle.session.specs.declared.commands.Ask.{Ask}
-use Rattle.session.specs.declared.commands.Ask.TheVariants.{Play as AskPlay}
 use Rattle.session.specs.declared.states.Awaited.{Awaited}
 use Rattle.session.specs.declared.states.Awaited.TheVariants.{Halt}
 use Rattle.film_streams.specs.declared.stream_numbers.Counts.{Counts}
@@ -39,7 +38,7 @@ use Rattle.conn.specs.EventSteps.{Round, Runs, RunsAll}
 use Rattle.conn.specs.Films.{HasSentOn, IsReady}
 use Rattle.conn.specs.Plays.{film_in, film_since, film_taken}
 use Rattle.conn.proofs.PlayStart.{play_begins}
-use Rattle.conn.proofs.RequestInvariants.{AreShown, Ground, HasPlay, HasStopped, IsAskedWell, IsHaltAwaited}
+use Rattle.conn.proofs.RequestInvariants.{AreShown, Ground, HasPlay, HasPrepared, HasStopped, IsAskedWell, IsHaltAwaited}
 use Rattle.conn.proofs.RequestInvariants.{IsHaltedTo, IsHalting, IsHaltingIn, IsStateOf, IsWell, ground_of, ground_by}
 use Rattle.conn.proofs.RequestInvariants.{ground_same, hears_well}
 use Rattle.conn.proofs.PlayProgress.{slot_any, slot_play}
@@ -127,6 +126,41 @@ entry_well : {new : SessionState} {answer : Answer} (film : List ℕ) (placed : 
     → IsWell new (film_since film (Entered placed))
 entry_well {new} film placed is = subst (λ a. IsWell new (if is_admission a then [] else film)) (sym is)
 
+-- an admitted play is a sending of which nothing was sent
+admitted_well : {s : SessionState} {film : List ℕ} {start : ℕ} (placed : PlacedEntry)
+    → IsWell s film × HasPrepared s.films s.source s.settings s.state s.awaited
+    → IsPlayAnswered s placed (Admitted start) (after_admission s placed.place start)
+    → IsWell (after_admission s placed.place start) []
+admitted_well {s} placed (well, asked) answered =
+    let begun = play_begins s placed (record {
+      setup = asked.setup;
+      prepared = asked.prepared;
+      ready = subst (IsReady asked.setup) (sym asked.state_is) refl;
+      awaits = asked.awaited_is;
+    }) answered in
+    let counts = ap (λ a. counts_of a s.counts) asked.awaited_is in
+    let ground : Ground = record (ground_of s []) { counts = counts_of s.awaited s.counts } in
+    let client = playback_of asked.stored.film s.settings asked.setup in
+    let play : HasPlay ground asked.setup begun.play = record {
+      stored = asked.stored;
+      at = asked.at;
+      sending = subst (λ (r : Run). IsSending (stored_sizes asked.stored) client r begun.play.plan) (sym begun.run)
+          (subst (λ (p : List Segment). IsSending (stored_sizes asked.stored) client asked.prepared.run p)
+          (sym begun.plan) asked.sending);
+      pieces = begun.pieces ∙ ap run_pieces asked.frames
+          ∙ ap (λ (r : Run). run_pieces (sending_of asked.stored.film s.source asked.setup asked.prepared.counts r))
+          (sym begun.run)
+          ∙ ap (λ (c : Counts). run_pieces (sending_of asked.stored.film s.source asked.setup c begun.play.run))
+          (sym counts);
+      sent = begun.sent;
+    } in
+    record {
+      films = well.films;
+      settings = well.settings;
+      unstopped = refl;
+      state = subst (IsStateOf ground) (sym begun.state) (asked.values, play);
+    }
+
 heard_well : {old new : SessionState} {film : List ℕ} (r : RequestHeard old new) → IsWell old film
     → IsWell new (film_since film r.outcome)
 heard_well {old} {film = film} r well =
@@ -137,48 +171,11 @@ heard_well {old} {film = film} r well =
     s : SessionState
     s = r.heard.asking
 
-    -- an admitted play is a sending of which nothing was sent
-    admitted_well : {start : ℕ} (plan : List Segment) (placed : PlacedEntry) → IsAskedWell (AskPlay plan) s film
-        → IsPlayAnswered s placed (Admitted start) (after_admission s placed.place start)
-        → IsWell (after_admission s placed.place start) []
-    admitted_well {start} plan placed well answered =
-        let asked = well.1 in
-        let begun = play_begins s placed (record {
-          setup = asked.setup;
-          prepared = asked.prepared;
-          ready = subst (IsReady asked.setup) (sym asked.state_is) refl;
-          awaits = asked.awaited_is;
-        }) answered in
-        let counts : counts_of s.awaited s.counts ≡ asked.prepared.counts =
-        ap (λ a. counts_of a s.counts) asked.awaited_is in
-        let run = begun.run in
-        let ground : Ground = record (ground_of s []) { counts = counts_of s.awaited s.counts } in
-        let client = playback_of asked.stored.film s.settings asked.setup in
-        let play : HasPlay ground asked.setup begun.play = record {
-          stored = asked.stored;
-          at = asked.at;
-          sending = subst (λ (r : Run). IsSending (stored_sizes asked.stored) client r begun.play.plan) (sym run)
-              (subst (λ (p : List Segment). IsSending (stored_sizes asked.stored) client asked.prepared.run p)
-              (sym begun.plan) asked.sending);
-          pieces = begun.pieces ∙ ap run_pieces asked.frames
-              ∙ ap (λ (r : Run). run_pieces (sending_of asked.stored.film s.source asked.setup asked.prepared.counts r))
-              (sym run)
-              ∙ ap (λ (c : Counts). run_pieces (sending_of asked.stored.film s.source asked.setup c begun.play.run))
-              (sym counts);
-          sent = begun.sent;
-        } in
-        record {
-          films = well.0.films;
-          settings = well.0.settings;
-          unstopped = refl;
-          state = subst (IsStateOf ground) (sym begun.state) (asked.values, play);
-        }
-
     by-answer : {ask : Ask} {outcome : Outcome} {new : SessionState} → IsAskedWell ask s film
         → AnswersAs s ask outcome new → IsWell new (film_since film outcome)
     by-answer well NoneAsked = well
-    by-answer well (PlayAdmitted {plan = plan} {placed = placed} entry answered) =
-        entry_well film placed entry.answer_is (admitted_well plan placed well answered)
+    by-answer well (PlayAdmitted {placed = placed} entry answered) =
+        entry_well film placed entry.answer_is (admitted_well placed well answered)
     by-answer well (PlayOverflowed {placed = placed} entry) =
         entry_well film placed entry.answer_is
         (record { films = well.0.films; settings = well.0.settings; unstopped = refl; state = well.0.state })

@@ -70,6 +70,34 @@ pub record StopGoing (session : SessionState) : Type 0 where
   pub state : session.state ≡ Stopping setup stop
   pub stopped : HasStopped (ground_of session film) setup stop
 
+-- by a slot that is processed
+stop_through : {old : SessionState} (going : StopGoing old) (slot : ℕ) → old.heard < slot →
+    HasStopped (ground_by (ground_of old going.film) slot (going.film ++ slot_film old.waits slot going.stop.pacer))
+    going.setup (with_rest going.stop (slot_pacing old.waits slot going.stop.pacer))
+stop_through {old} going slot later =
+    let p = stop.pacer in
+    let rest = stopped.rest in
+    let after : Ground = ground_by (ground_of old film) slot (film ++ slot_film old.waits slot p) in
+    let through : slot_pacing old.waits slot p ≡ sent_through slot p =
+    slot_is old.waits (stands_at_boundary (after_step true slot p)) slot p rest.halted.pacing refl in
+    subst (λ (q : PacerState). HasStopped after setup (with_rest stop q)) (sym through) (record {
+      play = stopped.play;
+      earlier = stopped.earlier;
+      noted = stopped.noted;
+      rest = record {
+        stored = rest.stored;
+        at = rest.at;
+        sending = rest.sending;
+        pieces = rest.pieces;
+        plan = rest.plan;
+        before = rest.before;
+        start = rest.start;
+        halted = halted_on old.waits rest.halted later;
+      };
+    })
+  where
+    open going use {setup, stop, film, stopped}
+
 stop_taken : (old : SessionState) (slot : ℕ) (going : StopGoing old) → old.heard < slot →
     StopsOn (ground_of old going.film) going.setup going.stop (after_play (sent_slot old slot))
     (going.film ++ film_bytes (due_parts old slot))
@@ -86,41 +114,14 @@ stop_taken old slot going later =
     record {
       now = now;
       keep = ap (λ (q : PacerState). q.keep) through;
-      stopped = subst (λ n. HasStopped (ground_by ground n (film ++ film_bytes (due_parts old slot))) setup
+      stopped = subst (λ n. HasStopped (ground_by (ground_of old film) n (film ++ film_bytes (due_parts old slot))) setup
           (with_rest stop now)) (sym (reply_heard goes (sent_due old slot)))
-          (subst (λ bs. HasStopped (ground_by ground slot (film ++ bs)) setup (with_rest stop now)) (sym bytes)
-          through_slot);
+          (subst (λ bs. HasStopped (ground_by (ground_of old film) slot (film ++ bs)) setup (with_rest stop now)) (sym bytes)
+          (stop_through going slot later));
       state = subst (IsStopping setup stop now) (sym after) (stop_state stop old.waits setup slot);
     }
   where
     open going use {setup, stop, film, state, stopped}
-
-    ground : Ground
-    ground = ground_of old film
-
-    through_slot : HasStopped (ground_by ground slot (film ++ slot_film old.waits slot stop.pacer)) setup
-        (with_rest stop (slot_pacing old.waits slot stop.pacer))
-    through_slot =
-        let p = stop.pacer in
-        let rest = stopped.rest in
-        let after : Ground = ground_by ground slot (film ++ slot_film old.waits slot p) in
-        let through : slot_pacing old.waits slot p ≡ sent_through slot p =
-        slot_is old.waits (stands_at_boundary (after_step true slot p)) slot p rest.halted.pacing refl in
-        subst (λ (q : PacerState). HasStopped after setup (with_rest stop q)) (sym through) (record {
-          play = stopped.play;
-          earlier = stopped.earlier;
-          noted = stopped.noted;
-          rest = record {
-            stored = rest.stored;
-            at = rest.at;
-            sending = rest.sending;
-            pieces = rest.pieces;
-            plan = rest.plan;
-            before = rest.before;
-            start = rest.start;
-            halted = halted_on old.waits rest.halted later;
-          };
-        })
 
 -- nothing was sent
 pub stop_still : {session : SessionState} (going : StopGoing session)

@@ -232,74 +232,81 @@ pub record IsOneMore (input : WorkerInput) (mid new : WorkerState) : Type 0 wher
   pub back : TakenBack mid.gate.told new.gate.told returned
   pub count : mid.gate.faults ≤ new.gate.faults
 
+-- the entries of its seat then
+entries_more : {input : WorkerInput} {old mid new : WorkerState} → HasServedSoFar input old mid
+    → (more : IsOneMore input mid new) → HasServed old.seat.mine (mid.reports ++ more.report ∷ []) new.seat.mine
+entries_more {old = old} {mid} front more =
+    let served = front.entries in
+    let gone = more.entries in
+    let receipts = more.report.receipts.items in
+    record {
+      made = served.made ++ gone.made;
+      mine_is = gone.mine_is ∙ ap (λ xs. xs ++ gone.made) served.mine_is
+          ∙ append_assoc old.seat.mine served.made gone.made;
+      receipts_are = entries_reported-append mid.reports (more.report ∷ [])
+          ∙ ap (λ rs. entries_reported mid.reports ++ rs) (append-nil (entry_receipts receipts) ∙ gone.receipts_are)
+          ∙ ap (λ rs. rs ++ map receipt_for gone.made) served.receipts_are
+          ∙ sym (map-append receipt_for served.made gone.made);
+      open_is = fold-append open_play_with Closed served.made gone.made
+          ∙ ap (λ play. open_play_from play gone.made) served.open_is ∙ gone.open_is;
+    }
+
+-- something is true of each report, at its place
+abbrev OfReports : (ConnReport → ℕ → Type 0) → List ConnReport → Type 0
+OfReports P reports = (k : ℕ) (none : ConnReport) → k < length reports → P (get_or reports k none) k
+
+-- and of one more
+at_end : (P : ConnReport → ℕ → Type 0) (reports : List ConnReport) (report : ConnReport) → OfReports P reports
+    → P report (length reports) → OfReports P (reports ++ report ∷ [])
+at_end P reports report each last = λ k none within.
+    elim (cases_lt k (length reports)) [
+      | inl before ↦ subst (λ r. P r k) (sym (get_or_append_left reports (report ∷ []) none k before))
+          (each k none before)
+      | inr after ↦
+          let is : length reports ≡ k = omega (arith, after, within, length-append reports (report ∷ [])) in
+          subst (λ n. P (get_or (reports ++ report ∷ []) n none) n) is
+          (subst (λ r. P r (length reports)) (sym (get_or-append_seam reports report [] none)) last)
+    ]
+
+-- the connections that came back then
+connections_more : {input : WorkerInput} {mid new : WorkerState} (more : IsOneMore input mid new) (old : SeatState)
+    (told : Option Content) → AreReported input.films input.settings told mid.reports old mid.seat
+    → AreReported input.films input.settings (option_map (after_return more.returned) (option_map after_take told))
+    (mid.reports ++ more.report ∷ []) old new.seat
+connections_more more old None are = tt
+connections_more {input} {mid} {new} more old (Some told) are = by-lists old told.own.back mid.reports are
+  where
+    by-lists : (old : SeatState) (back : List ReturnedConn) (xs : List ConnReport)
+        → AreServed input.films input.settings old back xs mid.seat
+        → AreServed input.films input.settings old (back ++ more.returned ∷ []) (xs ++ more.report ∷ []) new.seat
+    by-lists old [] [] are = (
+      new.seat,
+      (subst (λ s. HasServedOne input.films input.settings more.returned more.report s new.seat) are more.one, refl),
+    )
+    by-lists old [] (r ∷ xs) are = absurd are
+    by-lists old (b ∷ back) [] are = absurd are
+    by-lists old (b ∷ back) (r ∷ xs) are = (are.0, (are.1.0, by-lists are.0 back xs are.1.1))
+
 pub one_served : {input : WorkerInput} {old mid new : WorkerState} → HasServedSoFar input old mid
     → IsOneMore input mid new → HasServedSoFar input old new
 one_served {input} {old} {mid} {new} front more =
+    let report = more.report in
+    let reports : List ConnReport = mid.reports ++ report ∷ [] in
     subst (λ rs. HasServedSoFar input old (record new { reports = rs })) (sym more.reports_are) (record {
       seat = seat_on old.seat mid.seat new.seat front.seat more.seat;
-      entries = record {
-        made = served.made ++ gone.made;
-        mine_is = gone.mine_is ∙ ap (λ xs. xs ++ gone.made) served.mine_is
-            ∙ append_assoc old.seat.mine served.made gone.made;
-        receipts_are = entries_reported-append mid.reports (report ∷ [])
-            ∙ ap (λ rs. entries_reported mid.reports ++ rs) (append-nil (entry_receipts report.receipts.items)
-            ∙ gone.receipts_are)
-            ∙ ap (λ rs. rs ++ map receipt_for gone.made) served.receipts_are
-            ∙ sym (map-append receipt_for served.made gone.made);
-        open_is = fold-append open_play_with Closed served.made gone.made
-            ∙ ap (λ play. open_play_from play gone.made) served.open_is ∙ gone.open_is;
-      };
+      entries = entries_more front more;
       each = record {
-        worker_is = at_end (λ r k. r.worker ≡ input.worker) front.each.worker_is more.worker;
-        words_are = at_end (λ r k. r.words ≡ words_of input.seed input.worker k) front.each.words_are more.words;
+        worker_is = at_end (λ r k. r.worker ≡ input.worker) mid.reports report front.each.worker_is more.worker;
+        words_are = at_end (λ r k. r.words ≡ words_of input.seed input.worker k) mid.reports report
+            front.each.words_are more.words;
       };
       served = subst (λ t. IsServed old.gate.told t (length reports)) (sym (back_is more.back))
           (subst (IsServed old.gate.told _) (sym (length-append mid.reports (report ∷ [])))
           (served_one more.returned old.gate.told mid.gate.told (length mid.reports) front.served));
       connections = subst (λ t. AreReported input.films input.settings t reports old.seat new.seat)
-          (sym (back_is more.back)) (told_one mid.gate.told front.connections);
+          (sym (back_is more.back)) (connections_more more old.seat mid.gate.told front.connections);
       count = omega (arith, front.count, more.count);
     })
-  where
-    open more use {report, returned}
-
-    served : HasServed old.seat.mine mid.reports mid.seat.mine
-    served = front.entries
-
-    gone : HasAdvanced (at_rest mid.seat.mine []) (at_rest new.seat.mine report.receipts.items)
-    gone = more.entries
-
-    reports : List ConnReport
-    reports = mid.reports ++ report ∷ []
-
-    -- what is true of each report, and of one more
-    at_end : (P : ConnReport → ℕ → Type 0)
-        → ((k : ℕ) (none : ConnReport) → k < length mid.reports → P (get_or mid.reports k none) k)
-        → P report (length mid.reports) → (k : ℕ) (none : ConnReport) → k < length reports → P (get_or reports k none) k
-    at_end P each last k none within =
-        elim (cases_lt k (length mid.reports)) [
-          | inl before ↦ subst (λ r. P r k) (sym (get_or_append_left mid.reports (report ∷ []) none k before))
-              (each k none before)
-          | inr after ↦
-              let is : length mid.reports ≡ k = omega (arith, after, within, length-append mid.reports (report ∷ [])) in
-              subst (λ n. P (get_or reports n none) n) is
-              (subst (λ r. P r (length mid.reports)) (sym (get_or-append_seam mid.reports report [] none)) last)
-        ]
-
-    served_more : (seat : SeatState) (back : List ReturnedConn) (xs : List ConnReport)
-        → AreServed input.films input.settings seat back xs mid.seat
-        → AreServed input.films input.settings seat (back ++ returned ∷ []) (xs ++ report ∷ []) new.seat
-    served_more seat [] [] are =
-        (new.seat, (subst (λ s. HasServedOne input.films input.settings returned report s new.seat) are more.one, refl))
-    served_more seat [] (r ∷ xs) are = absurd are
-    served_more seat (b ∷ back) [] are = absurd are
-    served_more seat (b ∷ back) (r ∷ xs) are = (are.0, (are.1.0, served_more are.0 back xs are.1.1))
-
-    told_one : (told : Option Content) → AreReported input.films input.settings told mid.reports old.seat mid.seat
-        → AreReported input.films input.settings (option_map (after_return returned) (option_map after_take told))
-        reports old.seat new.seat
-    told_one None are = tt
-    told_one (Some told) are = served_more old.seat told.own.back mid.reports are
 
 -- a part that is served by a worker so far, and its report
 pub record PartSoFar : Type 0 where
