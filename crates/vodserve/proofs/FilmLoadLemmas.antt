@@ -219,7 +219,7 @@ closed_journal serving joined closed = record {
 }
 
 -- the workers that were made have finished, and are joined
-pub record DoneWorkers {G : Type 0} (made : WorkersOf G) (work : ServerRun) (workers : List (Worker G)) (seat :
+pub record DoneWorkers (made : WorkersOf) (work : ServerRun) (workers : List (Worker made.G)) (seat :
     SeatState)
     (gate gate' : WorkerGate) : Type 0 where
   pub done : HaveFinished made.told made.faults made.hall work 0 workers
@@ -227,7 +227,7 @@ pub record DoneWorkers {G : Type 0} (made : WorkersOf G) (work : ServerRun) (wor
   pub counted : All (λ worker. 0 < made.faults worker.part → HasRisen gate.faults gate'.faults) workers
 
 -- what the workers of a closed station did
-pub have_worked : {G : Type 0} {made : WorkersOf G} {work : ServerRun} {workers : List (Worker G)} {seat : SeatState}
+pub have_worked : {made : WorkersOf} {work : ServerRun} {workers : List (Worker made.G)} {seat : SeatState}
     {gate gate' : WorkerGate} {end : PartEnd} {reports : List ConnReport} →
     DoneWorkers made work workers seat gate gate' → IsJournalOf seat work.journal →
     length workers ≡ work.serving.listening.workers → IsOpenAs (opening_of work.serving) gate'.told →

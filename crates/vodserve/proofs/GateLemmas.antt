@@ -14,7 +14,7 @@ use Rattle.conn.specs.declared.reports.PartEnd.TheVariants.{AllTaken}
 use Rattle.vodserve.specs.WorkerResults.{HasParts, HasTooFewParts, IsIdle, IsOpenAs, IsOpenedOnce}
 use Rattle.vodserve.specs.Workers.{ArePartsBack, AreJoined, ArePartsOut, IsFresh, IsNotOpened, IsWorker, split_seat}
 use Rattle.vodserve.specs.declared.workers.Worker.{Worker}
-use Rattle.vodserve.proofs.WorkerLemmas.{out_more}
+use Rattle.vodserve.proofs.WorkerLemmas.{WorkersOf, out_more}
 
 -- so many parts are in the gate
 pub counted_parts : (from count workers : ℕ) (gate : Option Content) → IfSome gate (ArePartsOut from count)
@@ -80,24 +80,24 @@ pub record IsNew {G : Type 0} (told : G → Option Content) (faults : G → ℕ)
   pub end : worker.report.end ≡ AllTaken
 
 -- it has the seat after its number and the part of its number
-pub new_is_worker : {G : Type 0} {told : G → Option Content} {faults : G → ℕ} {hall : StationState}
-    {gate : Option Content} (worker : Worker G) → IsNew told faults hall gate worker → IsWorker told faults hall worker
-new_is_worker {told} {gate} worker new = record {
+pub new_is_worker : {m : WorkersOf} {gate : Option Content} (worker : Worker m.G)
+    → IsNew m.told m.faults m.hall gate worker → IsWorker m.told m.faults m.hall worker
+new_is_worker {m} {gate} worker new = record {
   id = ap (λ (s : SeatState). s.id) new.seat;
   steps = ap (λ (s : SeatState). s.steps) new.seat;
   limit = ap (λ (s : SeatState). s.limit) new.seat;
   seat = ap (λ (s : SeatState). s.number) new.seat;
   joined = ap (λ (s : SeatState). s.joined) new.seat;
-  part = new_number worker.number gate (told worker.part) new.out new.part;
+  part = new_number worker.number gate (m.told worker.part) new.out new.part;
   fault = λ fault. let taken : worker.report.end ≡ AllTaken = new.end in cc;
 }
 
 -- and it did nothing yet
-pub new_is_fresh : {G : Type 0} {told : G → Option Content} {faults : G → ℕ} {hall : StationState}
-    {gate : Option Content} (worker : Worker G) → IsNew told faults hall gate worker → IsFresh told faults worker
-new_is_fresh {told} {gate} worker new = record {
+pub new_is_fresh : {m : WorkersOf} {gate : Option Content} (worker : Worker m.G)
+    → IsNew m.told m.faults m.hall gate worker → IsFresh m.told m.faults worker
+new_is_fresh {m} {gate} worker new = record {
   mine = ap (λ (s : SeatState). s.mine) new.seat;
-  part = new_untouched gate (told worker.part) new.part;
+  part = new_untouched gate (m.told worker.part) new.part;
   count = new.count;
 }
 

@@ -8,7 +8,7 @@ use Rattle.std.proofs.Math.ListN.{length-set, get_or-append}
 use Rattle.std.proofs.Math.Seq.{get_or-append_seam}
 use Rattle.std.proofs.lemmas.Bool.{cases_lt}
 use Rattle.std.proofs.lemmas.List.{append-nil, append_assoc, get_or-set_other, get_or-set_same, map-append}
-use Rattle.std.proofs.lemmas.List.Elements.{All-head, All-push, All-tail}
+use Rattle.std.proofs.lemmas.List.Elements.{All-cons, All-head, All-push, All-tail}
 use Rattle.vod_base.specs.IoState.{HasRisen}
 use Rattle.vod_base.specs.Gates.{Content, IsPartOut, Part, after_rejoin, split_off, told_rejoined}
 use Rattle.admission.specs.declared.entries.Entry.{Entry}
@@ -32,77 +32,82 @@ use Rattle.vodserve.specs.Workers.{ArePartsBack, AreJoined, ArePartsOut, AreWork
 use Rattle.vodserve.specs.Workers.{report_of}
 use Rattle.vodserve.specs.declared.workers.Worker.{Worker}
 
--- a worker more
-pub workers_push : {G : Type 0} {told : G → Option Content} {faults : G → ℕ} {hall : StationState} {worker : Worker G}
-    (from : ℕ) (workers : List (Worker G)) →
-    AreWorkers told faults hall from workers → worker.number ≡ from + length workers →
-    IsWorker told faults hall worker →
-    AreWorkers told faults hall from (workers ++ worker ∷ [])
-workers_push from [] all number is = (number ∙ add-zero from, is, tt)
-workers_push from (first ∷ workers) all number is =
-    (all.0, all.1, workers_push (from + 1) workers all.2 (omega (arith, number)) is)
+-- how the parts of workers are exposed and their faults counted, and in which hall they are
+pub record WorkersOf : Type 1 where
+  pub G : Type 0
+  pub told : G → Option Content
+  pub faults : G → ℕ
+  pub hall : StationState
 
--- the worker at a place
-worker_here : {G : Type 0} {told : G → Option Content} {faults : G → ℕ} {hall : StationState}
-    {worker : Worker G} (from : ℕ) (workers : List (Worker G)) → AreWorkers told faults hall from workers →
-    (i : ℕ) → i < length workers → worker ≡ slice_index_or workers i worker →
-    (worker.number ≡ from + i) × IsWorker told faults hall worker
-worker_here from [] all i inside is = absurd (omega (arith, inside))
-worker_here {told} {faults} {hall} {worker} from (first ∷ workers) all zero inside is =
-    let same : worker ≡ first = is in
-    let number : worker.number ≡ from + zero = ap (λ (w : Worker _). w.number) same ∙ all.0 ∙ sym (add-zero from) in
-    (number, subst (IsWorker told faults hall) (sym same) all.1)
-worker_here {worker} from (first ∷ workers) all (suc i) inside is =
-    let here = worker_here {worker = worker} (from + 1) workers all.2 i (omega (arith, inside)) is in
-    (omega (arith, here.0), here.1)
+-- a worker of a place
+pub record IsPlaced (m : WorkersOf) (place : ℕ) (worker : Worker m.G) : Type 0 where
+  pub number : worker.number ≡ place
+  pub is : IsWorker m.told m.faults m.hall worker
+
+-- a worker more
+pub workers_push : {m : WorkersOf} {worker : Worker m.G} (from : ℕ) (workers : List (Worker m.G))
+    → AreWorkers m.told m.faults m.hall from workers → IsPlaced m (from + length workers) worker
+    → AreWorkers m.told m.faults m.hall from (workers ++ worker ∷ [])
+workers_push from [] all placed = (placed.number ∙ add-zero from, placed.is, tt)
+workers_push {m} {worker} from (first ∷ workers) all placed = (
+  all.0,
+  all.1,
+  workers_push {m = m} (from + 1) workers all.2 (record { number = omega (arith, placed.number); is = placed.is }),
+)
 
 -- the worker that is taken after others
-pub taken_worker : {G : Type 0} {told : G → Option Content} {faults : G → ℕ} {hall : StationState}
-    {worker : Worker G} (workers done : List (Worker G)) → AreWorkers told faults hall 0 workers →
-    (length done < length workers) × (worker ≡ slice_index_or workers (length done) worker) →
-    (worker.number ≡ length done) × IsWorker told faults hall worker
-taken_worker {worker} workers done all turn =
-    let here = worker_here {worker = worker} 0 workers all (length done) turn.0 turn.1 in
-    (here.0 ∙ zero-add (length done), here.1)
+pub taken_worker : {m : WorkersOf} {worker : Worker m.G} (workers done : List (Worker m.G))
+    → AreWorkers m.told m.faults m.hall 0 workers
+    → (length done < length workers) × (worker ≡ slice_index_or workers (length done) worker)
+    → IsPlaced m (length done) worker
+taken_worker {m} {worker} workers done all turn =
+    let here = by-place 0 workers all (length done) turn.0 turn.1 in
+    record { number = here.0 ∙ zero-add (length done); is = here.1 }
+  where
+    by-place : (from : ℕ) (workers : List (Worker m.G)) → AreWorkers m.told m.faults m.hall from workers → (i : ℕ)
+        → i < length workers → worker ≡ slice_index_or workers i worker
+        → (worker.number ≡ from + i) × IsWorker m.told m.faults m.hall worker
+    by-place from [] all i inside is = absurd (omega (arith, inside))
+    by-place from (first ∷ workers) all zero inside is =
+        let same : worker ≡ first = is in
+        let number : worker.number ≡ from + zero =
+        ap (λ (w : Worker _). w.number) same ∙ all.0 ∙ sym (add-zero from) in
+        (number, subst (IsWorker m.told m.faults m.hall) (sym same) all.1)
+    by-place from (first ∷ workers) all (suc i) inside is =
+        let here = by-place (from + 1) workers all.2 i (omega (arith, inside)) is in (omega (arith, here.0), here.1)
 
-worker_at : {G : Type 0} {told : G → Option Content} {faults : G → ℕ} {hall : StationState} (from : ℕ)
-    (workers : List (Worker G)) → AreWorkers told faults hall from workers →
-    (i : ℕ) (d : Worker G) → i < length workers → IsWorker told faults hall (slice_index_or workers i d)
-worker_at from [] all i d inside = absurd (omega (arith, inside))
-worker_at from (first ∷ workers) all zero d inside = all.1
-worker_at from (first ∷ workers) all (suc i) d inside = worker_at (from + 1) workers all.2 i d (omega (arith, inside))
-
-pub all_workers : {G : Type 0} (told : G → Option Content) (faults : G → ℕ) (hall : StationState) (from : ℕ)
-    (workers : List (Worker G)) →
-    AreWorkers told faults hall from workers → All (IsWorker told faults hall) workers
-all_workers told faults hall from workers all = λ i d inside. worker_at from workers all i d inside
+pub all_workers : (m : WorkersOf) (from : ℕ) (workers : List (Worker m.G))
+    → AreWorkers m.told m.faults m.hall from workers → All (IsWorker m.told m.faults m.hall) workers
+all_workers m from [] all = λ i d inside. absurd (omega (arith, inside))
+all_workers m from (first ∷ workers) all =
+    All-cons (IsWorker m.told m.faults m.hall) first workers all.1 (all_workers m (from + 1) workers all.2)
 
 -- as many workers, with the same numbers
-pub record SameNumbers (G : Type 0) (workers after : List (Worker G)) : Type 0 where
+pub record SameWorkers (m : WorkersOf) (workers after : List (Worker m.G)) : Type 0 where
   pub long : length after ≡ length workers
-  pub numbers : ((i : ℕ) (d : Worker G) → i < length workers
+  pub numbers : ((i : ℕ) (d : Worker m.G) → i < length workers
       → (slice_index_or after i d).number ≡ (slice_index_or workers i d).number)
+  pub each : ((i : ℕ) (d : Worker m.G) → i < length workers
+      → IsWorker m.told m.faults m.hall (slice_index_or after i d))
 
 -- workers with the numbers of others
-pub same_workers : {G : Type 0} {told : G → Option Content} {faults : G → ℕ} {hall : StationState} (from : ℕ)
-    (workers after : List (Worker G)) → AreWorkers told faults hall from workers → SameNumbers G workers after →
-    ((i : ℕ) (d : Worker G) → i < length workers → IsWorker told faults hall (slice_index_or after i d)) →
-    AreWorkers told faults hall from after
-same_workers from [] [] all same each = tt
-same_workers from [] (other ∷ after) all same each = absurd (omega (arith, same.long))
-same_workers from (first ∷ workers) [] all same each = absurd (omega (arith, same.long))
-same_workers from (first ∷ workers) (other ∷ after) all same each = (
-  numbers 0 other (omega arith) ∙ all.0,
-  each 0 other (omega arith),
-  same_workers (from + 1) workers after all.2 (record {
-    long = omega (arith, long);
-    numbers = λ i d h. numbers (suc i) d (omega (arith, h));
-  }) (λ i d h. each (suc i) d (omega (arith, h))),
+pub same_workers : {m : WorkersOf} (from : ℕ) (workers after : List (Worker m.G))
+    → AreWorkers m.told m.faults m.hall from workers → SameWorkers m workers after
+    → AreWorkers m.told m.faults m.hall from after
+same_workers from [] [] all same = tt
+same_workers from [] (other ∷ after) all same = absurd (omega (arith, same.long))
+same_workers from (first ∷ workers) [] all same = absurd (omega (arith, same.long))
+same_workers {m} from (first ∷ workers) (other ∷ after) all same = (
+  same.numbers 0 other (omega arith) ∙ all.0,
+  same.each 0 other (omega arith),
+  same_workers {m = m} (from + 1) workers after all.2 (record {
+    long = omega (arith, same.long);
+    numbers = λ i d h. same.numbers (suc i) d (omega (arith, h));
+    each = λ i d h. same.each (suc i) d (omega (arith, h));
+  }),
 )
-  where
-    open same use {long, numbers}
 
-number_of : (part : Option Content) (number from : ℕ) → IfSome part (λ content. content.own.number ≡ number)
+pub number_of : (part : Option Content) (number from : ℕ) → IfSome part (λ content. content.own.number ≡ number)
     → number ≡ from → IfSome part (λ content. content.own.number ≡ from)
 number_of None number from is same = tt
 number_of (Some p) number from is same = is ∙ same
@@ -178,59 +183,65 @@ later : (part : Option Content) (k n : ℕ) → IfSome part (λ p. p.own.number 
 later None k n number before = tt
 later (Some p) k n number before = omega (arith, number, before)
 
+-- how the parts of workers are exposed, and what the gate exposes
+record PartsTold : Type 1 where
+  G : Type 0
+  told : G → Option Content
+  gate : Option Content
+
 -- a part with a number after those of workers
 record LaterPart (G : Type 0) (part : Option Content) (from : ℕ) (workers : List (Worker G)) : Type 0 where
   place : ℕ
   number : IfSome part (λ p. p.own.number ≡ place)
   before : from + length workers ≤ place
 
-kept_back : {G : Type 0} {part : Option Content} (told : G → Option Content) (from : ℕ) (workers : List (Worker G))
-    (gate : Option Content) → ArePartsBack told gate from workers → LaterPart G part from workers →
-    ArePartsBack told (told_rejoined part gate) from workers
-kept_back told from [] gate all later_part = tt
-kept_back {part} told from (worker ∷ workers) gate all later_part = (
-  kept_one from (told worker.part) part gate all.0 (later part from n number (omega (arith, before))),
-  kept_back told (from + 1) workers gate all.1 (record { place = n; number = number; before = omega (arith, before) }),
+kept_back : {part : Option Content} (p : PartsTold) (from : ℕ) (workers : List (Worker p.G))
+    → ArePartsBack p.told p.gate from workers → LaterPart p.G part from workers
+    → ArePartsBack p.told (told_rejoined part p.gate) from workers
+kept_back p from [] all later_part = tt
+kept_back {part} p from (worker ∷ workers) all later_part = (
+  kept_one from (p.told worker.part) part p.gate all.0 (later part from n number (omega (arith, before))),
+  kept_back p (from + 1) workers all.1 (record { place = n; number = number; before = omega (arith, before) }),
 )
   where
     open later_part use {place as n, number, before}
 
--- how the parts of workers are exposed, and what the gate exposes
-record PartsTold (G : Type 0) : Type 0 where
-  told : G → Option Content
-  gate : Option Content
-
-back_push : {G : Type 0} (parts : PartsTold G) (from : ℕ) (workers : List (Worker G)) (worker : Worker G) →
-    ArePartsBack parts.told parts.gate from workers →
-    IfSome parts.gate (IsPartBack (from + length workers) (parts.told worker.part)) →
-    ArePartsBack parts.told parts.gate from (workers ++ worker ∷ [])
-back_push parts from [] worker all last =
-    (subst (λ (k : ℕ). IfSome parts.gate (IsPartBack k (parts.told worker.part))) (add-zero from) last, tt)
-back_push parts from (first ∷ workers) worker all last = (
+back_push : (p : PartsTold) (from : ℕ) (workers : List (Worker p.G)) (worker : Worker p.G)
+    → ArePartsBack p.told p.gate from workers
+    → IfSome p.gate (IsPartBack (from + length workers) (p.told worker.part))
+    → ArePartsBack p.told p.gate from (workers ++ worker ∷ [])
+back_push p from [] worker all last =
+    (subst (λ (k : ℕ). IfSome p.gate (IsPartBack k (p.told worker.part))) (add-zero from) last, tt)
+back_push p from (first ∷ workers) worker all last = (
   all.0,
-  back_push parts (from + 1) workers worker all.1
+  back_push p (from + 1) workers worker all.1
       (let on : from + length (first ∷ workers) ≡ from + 1 + length workers = omega arith in
-      subst (λ (k : ℕ). IfSome parts.gate (IsPartBack k (parts.told worker.part))) on last),
+      subst (λ (k : ℕ). IfSome p.gate (IsPartBack k (p.told worker.part))) on last),
 )
 
--- a worker is joined: its seat and its part of the gate go back
-pub record WorkerJoins {G : Type 0} (told : G → Option Content) (worker : Worker G) (seat seat' : SeatState)
-    (gate gate' : Option Content) : Type 0 where
+-- a worker more is joined: its seat and its part of the gate go back
+pub record WorkerJoins (m : WorkersOf) (workers : List (Worker m.G)) : Type 0 where
+  pub worker : Worker m.G
+  pub placed : IsPlaced m (length workers) worker
+  pub count : ℕ
+  pub inside : length workers < count
+  pub seat : SeatState
+  pub seat' : SeatState
+  pub gate : Option Content
+  pub gate' : Option Content
   pub seated : seat' ≡ after_join seat worker.seat
-  pub rejoins : gate' ≡ told_rejoined (told worker.part) gate
+  pub rejoins : gate' ≡ told_rejoined (m.told worker.part) gate
   pub longer : IsPrefix seat.seen seat'.seen
   pub seen : IsPrefix worker.seat.seen seat'.seen
 
--- a worker more is joined
-pub join_one : {G : Type 0} {told : G → Option Content} {faults : G → ℕ} {hall : StationState} {count : ℕ}
-    {workers : List (Worker G)} {worker : Worker G} {seat seat' : SeatState} {gate gate' : Option Content} →
-    AreJoined told hall count workers seat gate → IsWorker told faults hall worker → worker.number ≡ length workers →
-    length workers < count → WorkerJoins told worker seat seat' gate gate' →
-    AreJoined told hall count (workers ++ worker ∷ []) seat' gate'
-join_one {told} {count} {workers} {worker} {seat} {seat'} {gate} so_far is number inside joins =
-    let own : IfSome (told worker.part) (λ content. content.own.number ≡ length workers) =
-    number_of (told worker.part) worker.number (length workers) is.part number in
+pub join_one : {m : WorkersOf} {workers : List (Worker m.G)} (joins : WorkerJoins m workers)
+    → AreJoined m.told m.hall joins.count workers joins.seat joins.gate
+    → AreJoined m.told m.hall joins.count (workers ++ joins.worker ∷ []) joins.seat' joins.gate'
+join_one {m} {workers} joins so_far =
+    let own : IfSome (m.told worker.part) (λ content. content.own.number ≡ length workers) =
+    number_of (m.told worker.part) worker.number (length workers) placed.is.part placed.number in
     let one_more : length workers + 1 ≡ length (workers ++ worker ∷ []) = sym (length-append workers (worker ∷ [])) in
+    let back = told_rejoined (m.told worker.part) gate in
     record {
       id = ap (λ (s : SeatState). s.id) seated ∙ so_far.id;
       steps = ap (λ (s : SeatState). s.steps) seated ∙ so_far.steps;
@@ -239,28 +250,27 @@ join_one {told} {count} {workers} {worker} {seat} {seat'} {gate} so_far is numbe
       mine = ap (λ (s : SeatState). s.mine) seated ∙ so_far.mine;
       splits = ap (λ (s : SeatState). s.splits) seated ∙ so_far.splits;
       joined = ap (λ (s : SeatState). s.joined) seated
-          ∙ ap (λ (js : List Joined). seat.joined ++ joined_of worker ∷ js) is.joined
+          ∙ ap (λ (js : List Joined). seat.joined ++ joined_of worker ∷ js) placed.is.joined
           ∙ ap (λ (js : List Joined). js ++ joined_of worker ∷ []) so_far.joined
           ∙ sym (map-append joined_of workers (worker ∷ []));
       seen = All-push (λ (w : Worker _). IsPrefix w.seat.seen seat'.seen) workers worker
           (λ i d within. prefix_trans (slice_index_or workers i d).seat.seen seat.seen seat'.seen
           (so_far.seen i d within) longer) seen;
       out = subst (λ (c : Option Content). IfSome c (ArePartsOut (length (workers ++ worker ∷ [])) count)) (sym rejoins)
-          (subst (λ (k : ℕ). IfSome (told_rejoined (told worker.part) gate) (ArePartsOut k count)) one_more
-          (told_less (length workers) count (told worker.part) gate own so_far.out));
-      back = subst (λ (c : Option Content). ArePartsBack told c 0 (workers ++ worker ∷ [])) (sym rejoins)
-          (back_push (record { told = told; gate = told_rejoined (told worker.part) gate }) 0 workers worker
-          (kept_back told 0 workers gate so_far.back
+          (subst (λ (k : ℕ). IfSome back (ArePartsOut k count)) one_more
+          (told_less (length workers) count (m.told worker.part) gate own so_far.out));
+      back = subst (λ (c : Option Content). ArePartsBack m.told c 0 (workers ++ worker ∷ [])) (sym rejoins)
+          (back_push (record { G = m.G; told = m.told; gate = back }) 0 workers worker
+          (kept_back (record { G = m.G; told = m.told; gate = gate }) 0 workers so_far.back
           (record { place = length workers; number = own; before = omega arith }))
-          (subst (λ (k : ℕ). IfSome (told_rejoined (told worker.part) gate) (IsPartBack k (told worker.part)))
-          (sym (zero-add (length workers)))
-          (own_back (told worker.part) gate (record { inside = inside; number = own; out = so_far.out }))));
+          (subst (λ (k : ℕ). IfSome back (IsPartBack k (m.told worker.part))) (sym (zero-add (length workers)))
+          (own_back (m.told worker.part) gate (record { inside = inside; number = own; out = so_far.out }))));
     }
   where
-    open joins use {seated, rejoins, longer, seen}
+    open joins use {worker, placed, count, inside, seat, seat', gate, seated, rejoins, longer, seen}
 
 -- the part of the worker that is joined next is out
-part_out : (place count : ℕ) (gate part : Option Content) → PartOut place count part gate →
+pub part_out : (place count : ℕ) (gate part : Option Content) → PartOut place count part gate →
     IfSome gate (λ content. IfSome part (λ own. IsPartOut own.own.number content))
 part_out place count None part out_part = tt
 part_out place count (Some content) None out_part = tt
@@ -271,40 +281,22 @@ part_out place count (Some content) (Some own) out_part = (
   where
     open out_part use {inside, number, out}
 
--- the same of a worker
-pub worker_out : {G : Type 0} {told : G → Option Content} {faults : G → ℕ} {hall : StationState} {worker : Worker G}
-    (place count : ℕ) (gate : Option Content) → IfSome gate (ArePartsOut place count) →
-    (worker.number ≡ place) × IsWorker told faults hall worker → place < count →
-    IfSome gate (λ content. IfSome (told worker.part) (λ own. IsPartOut own.own.number content))
-worker_out {told} {worker} place count gate out is inside =
-    part_out place count gate (told worker.part)
-    (record { inside = inside; number = number_of (told worker.part) worker.number place is.1.part is.0; out = out })
-
--- how the parts of workers are exposed and their faults counted, and in which hall they are
-pub record WorkersOf (G : Type 0) : Type 0 where
-  pub told : G → Option Content
-  pub faults : G → ℕ
-  pub hall : StationState
-
 -- every seat that was split is joined
-joined_at : {G : Type 0} {k : ℕ} (of_workers : WorkersOf G) (from : ℕ) (workers : List (Worker G)) →
-    AreWorkers of_workers.told of_workers.faults of_workers.hall from workers → from < k → k ≤ from + length workers →
-    IsJoined (map joined_of workers) k
-joined_at of_workers from [] all low high = absurd (omega (arith, low, high))
-joined_at {k} of_workers from (worker ∷ workers) all low high = elim (cases_lt (from + 1) k) [
-  | inl after ↦ inr (joined_at of_workers (from + 1) workers all.2 after (omega (arith, high)))
-  | inr here ↦ inl (omega (arith, all.1.seat, all.0, here, low))
-]
-
-pub all_joined : {G : Type 0} {told : G → Option Content} {hall : StationState}
-    {workers : List (Worker G)} {seat : SeatState} {gate : Option Content} (faults : G → ℕ) →
-    AreWorkers told faults hall 0 workers → AreJoined told hall (length workers) workers seat gate
+pub all_joined : (m : WorkersOf) {workers : List (Worker m.G)} {seat : SeatState} {gate : Option Content}
+    → AreWorkers m.told m.faults m.hall 0 workers → AreJoined m.told m.hall (length workers) workers seat gate
     → AllJoined seat.splits seat.joined
-all_joined {told} {hall} {workers} faults all back = record {
+all_joined m {workers} all back = record {
   each = λ k low high. subst (λ (js : List Joined). IsJoined js k) (sym back.joined)
-      (joined_at (record { told = told; faults = faults; hall = hall }) 0 workers all low
-      (omega (arith, high, back.splits)));
+      (by-list k 0 workers all low (omega (arith, high, back.splits)));
 }
+  where
+    by-list : (k from : ℕ) (workers : List (Worker m.G)) → AreWorkers m.told m.faults m.hall from workers → from < k
+        → k ≤ from + length workers → IsJoined (map joined_of workers) k
+    by-list k from [] all low high = absurd (omega (arith, low, high))
+    by-list k from (worker ∷ workers) all low high = elim (cases_lt (from + 1) k) [
+      | inl after ↦ inr (by-list k (from + 1) workers all.2 after (omega (arith, high)))
+      | inr here ↦ inl (omega (arith, all.1.seat, all.0, here, low))
+    ]
 
 -- how the workers ended, and their reports
 reports_push : (parts : List PartReport) (part : PartReport)

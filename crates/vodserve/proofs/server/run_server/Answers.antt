@@ -16,12 +16,13 @@ make_workers-requires-clause-opened g c = (opening_of (serve_args_of c.args.serv
 
 pub run_workers-requires-clause-each : goal.run_workers-requires-clause-each
 run_workers-requires-clause-each g c κs within =
-    all_workers g.G.Gate.told g.G.Gate.faults c.args.prepared.station 0 c.make_workers.new.workers.items
+    all_workers (record { G = _; told = g.G.Gate.told; faults = g.G.Gate.faults; hall = c.args.prepared.station }) 0
+    c.make_workers.new.workers.items
     c.make_workers.ensures.workers
 
 pub close-book-requires-clause-all : goal.close-book-requires-clause-all
 close-book-requires-clause-all g c =
-    all_joined g.G.Gate.faults
+    all_joined (record { G = _; told = g.G.Gate.told; faults = g.G.Gate.faults; hall = c.args.prepared.station })
     c.run_workers.ensures.workers c.join_workers-end.ensures.joined
 
 pub returns-clause-since : goal.returns-clause-since
@@ -69,7 +70,7 @@ returns-clause-worked g c =
     let IsDone : List Stored →
     Type 0 = λ films. All (HasFinished g.G.Gate.told g.G.Gate.faults films (settings_of serving)
     c.args.seed) c.run_workers.new.workers.items in
-    have_worked {made = record { told = g.G.Gate.told; faults = g.G.Gate.faults; hall = c.args.prepared.station }}
+    have_worked {made = record { G = _; told = g.G.Gate.told; faults = g.G.Gate.faults; hall = c.args.prepared.station }}
     (record {
       done = record {
         of_words = record { steps = c.requires.steps; limit = c.requires.limit };

@@ -1,38 +1,18 @@
-use Rattle.std.proofs.Common.{◌≡◌, ◌<◌, ◌∷◌, [], ℕ, List, Option, Some, length, ap, sym, subst, inr, arith, rules}
+use Rattle.std.proofs.Common.{◌<◌, ◌∷◌, [], List, length, ap, sym, subst, inr, arith, rules}
 use Rattle.std.specs.Prelude.{map}
-use Rattle.std.specs.Iterator.{Yields}
-use Rattle.std.proofs.lemmas.Iterator.{YieldsList}
 use Rattle.std.proofs.lemmas.Iterator.Adapters.{YieldsList-from_vec}
 use Rattle.std.proofs.lemmas.Iterator.Consumers.{YieldsList-turn}
 use Rattle.std.proofs.lemmas.List.{map-append}
 use Rattle.std.proofs.lemmas.List.Elements.{All-nil, All-push}
-use Rattle.vod_base.specs.Gates.{Content}
 use Rattle.vod_base.specs.IoState.{HasRisen}
-use Rattle.station.specs.Seats.{SeatState, StationState}
+use Rattle.station.specs.Seats.{SeatState}
 use Rattle.conn.specs.declared.reports.PartReport.{PartReport}
 use Rattle.vodserve.specs.WorkerResults.{AreLeft}
-use Rattle.vodserve.specs.Workers.{AreWorkers, IsWorker, report_of}
+use Rattle.vodserve.specs.Workers.{report_of}
 use Rattle.vodserve.specs.declared.workers.Worker.{Worker}
-use Rattle.vodserve.proofs.WorkerLemmas.{join_one, taken_worker, worker_out}
+use Rattle.vodserve.proofs.WorkerLemmas.{join_one, number_of, part_out, taken_worker}
 use Rattle.vodserve.proofs.GateLemmas.{not_opened_back, not_opened_here, risen_on, risen_since, back_still_open}
 use Rattle.vodserve.proofs.workers.join_workers.Goals as goal
-
--- the worker that an iterator over workers yields after others of them
-record IsNext {G : Type 0} (told : G → Option Content) (faults : G → ℕ) (hall : StationState)
-    (workers done : List (Worker G)) (worker : Worker G) : Type 0 where
-  inside : length done < length workers
-  number : worker.number ≡ length done
-  is : IsWorker told faults hall worker
-
-next_worker : {G S : Type 0} {told : G → Option Content} {faults : G → ℕ} {hall : StationState}
-    {steps : S → Option (Worker G) → S → Type 0} {start : S} {workers : List (Worker G)} →
-    AreWorkers told faults hall 0 workers → YieldsList steps (λ (w : Worker G). w) start workers →
-    (done : List (Worker G)) (here : S) → Yields steps start done here → (given : Option (Worker G)) (next : S)
-    (worker : Worker G) → given ≡ Some worker → steps here given next → IsNext told faults hall workers done worker
-next_worker {workers} all over done here yielded given next worker is step =
-    let turn = YieldsList-turn over done here yielded given next worker is step in
-    let taken = taken_worker {worker = worker} workers done all turn in
-    record { inside = turn.0; number = taken.0; is = taken.1 }
 
 pub loop-worker-init : goal.loop-worker-init
 loop-worker-init g c = record {
@@ -65,16 +45,26 @@ loop-worker-preserved g c =
     let inv = c.loop-worker.invariant in
     let done : List (Worker _) = c.loop-worker.yielded in
     let worker : Worker _ = c.in-Some.worker in
-    let next = next_worker c.requires.workers (YieldsList-from_vec {s = c.into_iter-worker-iterator.result}
-    c.args.workers.items (search rules) (search rules)) c.loop-worker.yielded c.loop-worker.worker-iterator
-    c.loop-worker.yielded_by c.next.result c.next.new.self c.in-Some.worker c.in-Some.is c.next.ensures.steps in
+    let turn = YieldsList-turn (YieldsList-from_vec {s = c.into_iter-worker-iterator.result} c.args.workers.items
+    (search rules) (search rules)) c.loop-worker.yielded c.loop-worker.worker-iterator c.loop-worker.yielded_by
+    c.next.result c.next.new.self c.in-Some.worker c.in-Some.is c.next.ensures.steps in
+    let next = taken_worker {worker = c.in-Some.worker} c.args.workers.items c.loop-worker.yielded c.requires.workers
+    turn in
     record {
-      joined = join_one inv.joined next.is next.number next.inside (record {
+      joined = join_one (record {
+        worker = worker;
+        placed = next;
+        count = _;
+        inside = turn.0;
+        seat = _;
+        seat' = _;
+        gate = _;
+        gate' = _;
         seated = c.join.ensures.same;
         rejoins = c.rejoin.ensures.joined;
         longer = c.join.ensures.longer;
         seen = c.join.ensures.told;
-      });
+      }) inv.joined;
       left = subst (λ (ps : List PartReport). AreLeft ps c.add_reports-end.result
           c.add_reports-end.new.reports.items) (sym (map-append report_of done (worker ∷ [])))
           (c.add_reports-end.ensures.left (map report_of done) inv.left);
@@ -98,24 +88,34 @@ loop-worker-preserved g c =
 
 pub join-requires-clause-other : goal.join-requires-clause-other
 join-requires-clause-other g c =
-    let next = next_worker c.requires.workers (YieldsList-from_vec {s = c.into_iter-worker-iterator.result}
-    c.args.workers.items (search rules) (search rules)) c.loop-worker.yielded c.loop-worker.worker-iterator
-    c.loop-worker.yielded_by c.next.result c.next.new.self c.in-Some.worker c.in-Some.is c.next.ensures.steps in
+    let turn = YieldsList-turn (YieldsList-from_vec {s = c.into_iter-worker-iterator.result} c.args.workers.items
+    (search rules) (search rules)) c.loop-worker.yielded c.loop-worker.worker-iterator c.loop-worker.yielded_by
+    c.next.result c.next.new.self c.in-Some.worker c.in-Some.is c.next.ensures.steps in
+    let next = taken_worker {worker = c.in-Some.worker} c.args.workers.items c.loop-worker.yielded c.requires.workers
+    turn in
     next.is.id
 
 pub join-requires-clause-not_first : goal.join-requires-clause-not_first
 join-requires-clause-not_first g c =
-    let next = next_worker c.requires.workers (YieldsList-from_vec {s = c.into_iter-worker-iterator.result}
-    c.args.workers.items (search rules) (search rules)) c.loop-worker.yielded c.loop-worker.worker-iterator
-    c.loop-worker.yielded_by c.next.result c.next.new.self c.in-Some.worker c.in-Some.is c.next.ensures.steps in
+    let turn = YieldsList-turn (YieldsList-from_vec {s = c.into_iter-worker-iterator.result} c.args.workers.items
+    (search rules) (search rules)) c.loop-worker.yielded c.loop-worker.worker-iterator c.loop-worker.yielded_by
+    c.next.result c.next.new.self c.in-Some.worker c.in-Some.is c.next.ensures.steps in
+    let next = taken_worker {worker = c.in-Some.worker} c.args.workers.items c.loop-worker.yielded c.requires.workers
+    turn in
     λ first. omega (arith, first, next.is.seat)
 
 pub rejoin-requires : goal.rejoin-requires
 rejoin-requires g c =
-    let next = next_worker c.requires.workers (YieldsList-from_vec {s = c.into_iter-worker-iterator.result}
-    c.args.workers.items (search rules) (search rules)) c.loop-worker.yielded c.loop-worker.worker-iterator
-    c.loop-worker.yielded_by c.next.result c.next.new.self c.in-Some.worker c.in-Some.is c.next.ensures.steps in
+    let turn = YieldsList-turn (YieldsList-from_vec {s = c.into_iter-worker-iterator.result} c.args.workers.items
+    (search rules) (search rules)) c.loop-worker.yielded c.loop-worker.worker-iterator c.loop-worker.yielded_by
+    c.next.result c.next.new.self c.in-Some.worker c.in-Some.is c.next.ensures.steps in
+    let next = taken_worker {worker = c.in-Some.worker} c.args.workers.items c.loop-worker.yielded c.requires.workers
+    turn in
     record {
-      out = worker_out {worker = c.in-Some.worker} (length c.loop-worker.yielded) (length c.args.workers.items)
-          (g.G.Gate.told c.loop-worker.gate) c.loop-worker.invariant.joined.out (next.number, next.is) next.inside;
+      out = part_out (length c.loop-worker.yielded) (length c.args.workers.items) (g.G.Gate.told c.loop-worker.gate)
+          (g.G.Gate.told c.in-Some.worker.part) (record {
+            inside = turn.0;
+            number = number_of _ c.in-Some.worker.number _ next.is.part next.number;
+            out = c.loop-worker.invariant.joined.out;
+          });
     }

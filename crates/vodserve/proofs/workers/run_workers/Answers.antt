@@ -23,8 +23,9 @@ returns-clause-workers g c =
           sym (ap (λ (w : Worker _). w.number) k.left) ∙ k.call.0
           ∙ ap (λ (w : Worker _). w.number) (k.argument_is ∙ ap (λ (ws : List (Worker _)). slice_index_or ws i d)
           c.as_mut_slice.ensures.value);
-    }) (λ i d h. let k = (c.for_each_mut.ensures i d (omega (arith, h, value))).1 in
-    subst (IsWorker g.G.Gate.told g.G.Gate.faults c.args.service.station.now) k.left k.call.1))
+      each = λ i d h. let k = (c.for_each_mut.ensures i d (omega (arith, h, value))).1 in
+          subst (IsWorker g.G.Gate.told g.G.Gate.faults c.args.service.station.now) k.left k.call.1;
+    }))
 
 pub returns-clause-finished : goal.returns-clause-finished
 returns-clause-finished g c =
