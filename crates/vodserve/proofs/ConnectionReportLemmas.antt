@@ -132,7 +132,7 @@ tells_its_journal before after seed serving ended (inl kept) status =
     subst (All (IsReportIn ended.journal.items)) (sym kept.1.2.1) (All-nil (IsReportIn ended.journal.items))
 tells_its_journal before after seed serving ended (inr served) status =
     subst (All (IsReportIn ended.journal.items))
-    (sym (reports_whole served.worked.left (ended_whole before after _ served.ends status)))
+    (sym (reports_whole served.worked.left (ended_whole (record { before = before; after = after }) _ served.ends status)))
     (parts_told (work_of served) before.gate _ 0 served.worked.parts served.worked.each)
 
 -- ---- connections

@@ -12,8 +12,6 @@ use Rattle.mpeg_scan.specs.declared.units.Unit.{Unit as PictureUnit}
 use Rattle.film_frames.specs.Pieces.{wire_size}
 use Rattle.film_frames.specs.FramedRuns.{run_pieces}
 use Rattle.film_frames.specs.declared.stored_films.Stored.{Stored}
-use Rattle.admission.specs.declared.entries.Entry.{Entry}
-use Rattle.cli_args.specs.Invocations.{ScriptRun}
 use Rattle.inputs.proofs.VideoLemmas.{held_once}
 use Rattle.day_run.specs.ClientStates.{MediaContent, source_content, trace_content}
 use Rattle.day_run.specs.Days.{IsDay, SharedLink, link_of}
@@ -31,7 +29,7 @@ use Rattle.day_run.proofs.DayUniqueness.{one-day}
 use Rattle.offline_commands.specs.Days.{AreHeldAs, HoldsScript, IsHeldUnder}
 use Rattle.offline_commands.proofs.DayLemmas.{first_of, lines_once, names_once, same_name, script_held}
 use Rattle.offline_commands.proofs.PlanUniqueness.{trace_once}
-use Rattle.vodserve.specs.Laws.{DayIsUnique, IsScriptDay, RunPrintsItsDay}
+use Rattle.vodserve.specs.Laws.{DayIsUnique, RunPrintsItsDay}
 
 -- a film as it is played: its facts, and what its bytes say
 abbrev content_as : List ℕ → ℕ → List PictureUnit → List ℕ → MediaContent
@@ -124,9 +122,8 @@ reels_once {held} {name} {a} {b} {sources} {others} slot p q are others_are =
           (are.each k one none (omega (arith, inside, are.count)));
     }) (record { held_as = others_are.each k one none (omega (arith, inside, long, others_are.count)) }))
 
-day_once : {held : List File} {run : ScriptRun} {text text' : List ℕ} {journal journal' : List Entry} →
-    IsScriptDay held run text journal → IsScriptDay held run text' journal' → (text ≡ text') × (journal ≡ journal')
-day_once {held} {run} {text'} {journal'} p q =
+pub has_one_day : DayIsUnique
+has_one_day held run text text' journal journal' p q =
     let link : SharedLink = link_of run.capacity run.journal run.slot p.sources in
     let other : SharedLink = link_of run.capacity run.journal run.slot q.sources in
     let lines : q.script.lines.items ≡ p.script.lines.items =
@@ -143,9 +140,6 @@ day_once {held} {run} {text'} {journal'} p q =
     p.day
     (subst (λ (l : SharedLink). IsDay l p.script.lines.items text' journal') links
     (subst (λ (ls : List Line). IsDay other ls text' journal') lines q.day))
-
-pub has_one_day : DayIsUnique
-has_one_day held run text text' journal journal' p q = day_once p q
 
 pub runs_its_day : RunPrintsItsDay
 runs_its_day held store streams run ended ran told = record {

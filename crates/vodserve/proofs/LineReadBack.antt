@@ -83,16 +83,16 @@ watched_words w short =
 
 -- a key of the line has its number
 told : {w : Watched} (key : List ℕ) (number : ℕ) → IsShortWatched w → setting_value key (codes "watched") ≡ None →
-    picked key (settings_of w) ≡ decimal number ∷ [] → are_plain (settings_of w) ≡ true →
-    GivesOnce (watched_text w) key number
-told {w} key number short none given plain =
+    picked key (settings_of w) ≡ decimal number ∷ [] → GivesOnce (watched_text w) key number
+unfolding settings_of
+told {w} key number short none given =
     ap (λ (line : List ℕ). values_of key (words_in line)) (watched_line w)
     ∙ line-values {key = key} {first =
     codes "watched"} (record { end = _; words = _; ends = ended }) (settings_of w) (watched_words w short)
     (record {
       word = is-word (codes "watched") (none_is 32 (codes "watched") refl) (none_is 10 (codes "watched") refl);
       none = none;
-    }) refl plain ∙ given
+    }) refl refl ∙ given
 
 pub play_told : (wish : Wish) (history : History) → IsShortWatched (watched_in wish history)
     → TellsPlay wish history (watched_text (watched_in wish history))
@@ -100,13 +100,13 @@ unfolding settings_of
 play_told wish history short =
     let w = watched_in wish history in
     record {
-      pictures_told = told (codes "units") _ short refl refl refl;
-      bytes_told = told (codes "bytes") _ short refl refl refl;
-      frames_told = told (codes "frames") _ short refl refl refl;
-      reports_told = told (codes "reports") _ short refl refl refl;
-      most_told = told (codes "most") _ short refl refl refl;
-      over_told = told (codes "over") _ short refl refl refl;
-      under_told = told (codes "under") _ short refl refl refl;
+      pictures_told = told (codes "units") _ short refl refl;
+      bytes_told = told (codes "bytes") _ short refl refl;
+      frames_told = told (codes "frames") _ short refl refl;
+      reports_told = told (codes "reports") _ short refl refl;
+      most_told = told (codes "most") _ short refl refl;
+      over_told = told (codes "over") _ short refl refl;
+      under_told = told (codes "under") _ short refl refl;
     }
 
 -- ---- the last line of a server

@@ -21,19 +21,24 @@ use Rattle.vodserve.specs.IoStates.{World, streams_of}
 use Rattle.offline_commands.specs.declared.command_output.CommandOutput.{CommandOutput}
 use Rattle.vodserve.specs.declared.run_results.Ended.{Ended}
 
-written : {order : Invocation} {ended : Ended} (before after : World) (done : CommandOutput) →
-    IsOutputOf before.store.told order done.status done.text.items done.plan →
-    IsWritten (streams_of before after) done.text.items done.status done.plan ended →
-    IsPrintedOrFailed before after order ended
-written {order} {ended} before after done is (inl whole) = inl (record {
+-- the world before something and after it
+pub record WorldChange : Type 0 where
+  pub before : World
+  pub after : World
+
+written : {order : Invocation} {ended : Ended} (w : WorldChange) (done : CommandOutput) →
+    IsOutputOf w.before.store.told order done.status done.text.items done.plan →
+    IsWritten (streams_of w.before w.after) done.text.items done.status done.plan ended →
+    IsPrintedOrFailed w.before w.after order ended
+written {order} {ended} w done is (inl whole) = inl (record {
   text = done.text.items;
-  done = subst (λ (status : ℕ). IsOutputOf before.store.told order status done.text.items ended.plan) (sym whole.0)
-      (subst (λ (plan : Option (List Segment)). IsOutputOf before.store.told order done.status done.text.items plan)
+  done = subst (λ (status : ℕ). IsOutputOf w.before.store.told order status done.text.items ended.plan) (sym whole.0)
+      (subst (λ (plan : Option (List Segment)). IsOutputOf w.before.store.told order done.status done.text.items plan)
       (sym whole.1) is);
   wrote = whole.2;
   quiet = whole.3;
 })
-written {ended} before after done is (inr cut) = inr (
+written {ended} w done is (inr cut) = inr (
   SinkFault,
   (
     record { status = done.status; text = done.text.items; plan = done.plan; done = is; risen = cut.0; front = cut.1 },
@@ -56,12 +61,12 @@ record OrderResult (before after : World) (order : Invocation) (result : Result 
   ok : IfOk result (λ done. IsOutputOf before.store.told order done.status done.text.items done.plan)
   err : IfErr result (IsReadInputError order before.store after.store)
 
-carried_out : {before after : World} {order : Invocation} (result : Result CommandOutput CliError) (ended : Ended) →
-    OrderResult before after order result → PrintResult (streams_of before after) result ended →
-    IsPrintedOrFailed before after order ended
-carried_out {before} {after} (Ok done) ended given is = written before after done given.ok is
-carried_out {before} {after} {order} (Err error) ended given is =
-    inr (error, (caused before after order error is.0 given.err, is.1))
+carried_out : {w : WorldChange} {order : Invocation} (result : Result CommandOutput CliError) (ended : Ended) →
+    OrderResult w.before w.after order result → PrintResult (streams_of w.before w.after) result ended →
+    IsPrintedOrFailed w.before w.after order ended
+carried_out {w} (Ok done) ended given is = written w done given.ok is
+carried_out {w} {order} (Err error) ended given is =
+    inr (error, (caused w.before w.after order error is.0 given.err, is.1))
 
 -- a command was carried out, and its text printed
 pub printed : {before after : World} {order : Invocation} {ended : Ended} (result : Result CommandOutput CliError) →

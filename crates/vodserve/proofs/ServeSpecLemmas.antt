@@ -27,12 +27,13 @@ use Rattle.vodserve.specs.WorkerResults.{AreLeft, IsPartBack, HasTooFewParts, Is
 use Rattle.vodserve.specs.WorkerResults.{IsOpenAs, IsOpenedOnce, HasParts}
 use Rattle.vodserve.specs.WorkerResults.{MayBeServed, ServerRun, opening_of, server_run}
 use Rattle.vodserve.proofs.GateLemmas.{risen_some}
+use Rattle.vodserve.proofs.PrintLemmas.{WorldChange}
 use Rattle.vodserve.proofs.FilmLoadLemmas.{WorkersRun, Keeps, ServingRun, loaded_accepted, worker_worked}
 
 -- what keeps from serving, where nothing is refused and nothing failed, is that memory ran out
-pub kept_by_memory : {before after : World} {serving : ServeArgs} (error : CliError) →
-    IsServable serving before.store.told → HasNoFault before after →
-    IsServeError serving before.store after.store before.gate after.gate error → status_of error ≡ 6
+pub kept_by_memory : {w : WorldChange} {serving : ServeArgs} (error : CliError) →
+    IsServable serving w.before.store.told → HasNoFault w.before w.after →
+    IsServeError serving w.before.store w.after.store w.before.gate w.after.gate error → status_of error ≡ 6
 kept_by_memory Usage may none is = absurd is
 kept_by_memory (Refused name fault) may none is =
     absurd (may.accepted name.now fault is.0.0 (is.0.1 may.held may.told_is).refused)
@@ -140,16 +141,16 @@ not_memory out out' text GateFault printed status = apart printed.1
     apart e = cc
 not_memory out out' text LinkFault printed status = printed
 
-pub ended_whole : {end : PartEnd} {ended : Ended} (before after : World) (text : List ℕ) →
-    Ends (streams_of before after) text end ended →
+pub ended_whole : {end : PartEnd} {ended : Ended} (w : WorldChange) (text : List ℕ) →
+    Ends (streams_of w.before w.after) text end ended →
     ended.status ≢ 6 → end ≢ PartNoMemory
-ended_whole {end} {ended} before after text (inl whole) status memory = apart (sym memory ∙ whole.0.1)
+ended_whole {end} {ended} w text (inl whole) status memory = apart (sym memory ∙ whole.0.1)
   where
     apart : PartNoMemory ≡ AllTaken → ⊥
     apart e = cc
-ended_whole {end} {ended} before after text (inr wrong) status memory =
-    not_memory before.out after.out text wrong.0
-    (subst (λ (e : PartEnd). IsPrinted before.out after.out text e (Err wrong.0)) memory wrong.1.0)
+ended_whole {end} {ended} w text (inr wrong) status memory =
+    not_memory w.before.out w.after.out text wrong.0
+    (subst (λ (e : PartEnd). IsPrinted w.before.out w.after.out text e (Err wrong.0)) memory wrong.1.0)
     (λ six. status (wrong.1.1.status ∙ six))
 
 -- a status with which the workers ran
@@ -216,7 +217,7 @@ run_all {before} {after} {seed} {serving} {ended} {gate} (inr served) told have_
     let AllParts = length gate.parts ≡ serving.listening.workers in
     record {
       served = served;
-      found = ended_whole before after _ served.ends
+      found = ended_whole (record { before = before; after = after }) _ served.ends
           (λ six. other_status 6 AllParts (λ e. omega (arith, e)) (λ e. omega (arith, e))
           (λ e. omega (arith, e)) (subst (λ (n : ℕ). IsOfRun n AllParts) six have_run));
     }
@@ -313,11 +314,11 @@ gives_each_back before after seed serving ended gate serves told have_run =
     }
 
 -- with status 0 each worker's part had no more connections
-all_taken : {end : PartEnd} {ended : Ended} (before after : World) (text : List ℕ) →
-    Ends (streams_of before after) text end ended → ended.status ≡ 0 →
+all_taken : {end : PartEnd} {ended : Ended} (w : WorldChange) (text : List ℕ) →
+    Ends (streams_of w.before w.after) text end ended → ended.status ≡ 0 →
     end ≡ AllTaken
-all_taken {end} {ended} before after text (inl whole) status = whole.0.1
-all_taken {end} {ended} before after text (inr wrong) status = absurd (not_none wrong.0 (sym wrong.1.1.status ∙ status))
+all_taken {end} {ended} w text (inl whole) status = whole.0.1
+all_taken {end} {ended} w text (inr wrong) status = absurd (not_none wrong.0 (sym wrong.1.1.status ∙ status))
 
 part_taken : {gate after : WorkerGate} (r : WorkerRun gate after) → r.report.end ≡ AllTaken
     → (part : Part) × ((slice_index_or r.content.parts r.worker None ≡ Some part) × (part.last ≡ NoMore))
@@ -350,5 +351,5 @@ leaves_none_out before after seed serving ended gate (inr served) status told =
             worked = worker_worked (workers_of served) worker none within;
             content = gate;
             tells = told;
-          }) (worked.left.taken (all_taken before after _ served.ends status) worker none within);
+          }) (worked.left.taken (all_taken (record { before = before; after = after }) _ served.ends status) worker none within);
     }

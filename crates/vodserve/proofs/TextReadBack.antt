@@ -48,27 +48,26 @@ last_clean connections entries small small' =
     (digits entries small')))
 
 -- the counts of a served line, in their range
-pub record ServedFit (connections : ℕ) (entries : List Entry) : Type 0 where
+pub record ServedFit : Type 0 where
+  pub connections : ℕ
+  pub entries : List Entry
   pub connections_fit : connections < 2 ^ 64
   pub entries_fit : length entries < 2 ^ 64
 
-pub counts_told : {connections connections' : ℕ} {entries entries' : List Entry} → ServedFit connections entries →
-    ServedFit connections' entries' → served_text entries connections ≡ served_text entries' connections' →
-    (connections ≡ connections') × (length entries ≡ length entries')
-counts_told {connections} {connections'} {entries} {entries'} counts others e =
-    let one = last_line_of entries connections in
-    let other = last_line_of entries' connections' in
-    let line = codes "served connections="
-    ++ (decimal connections ++ 32 ∷ (codes "entries=" ++ decimal (length entries))) in
-    let line' = codes "served connections="
-    ++ (decimal connections' ++ 32 ∷ (codes "entries=" ++ decimal (length entries'))) in
-    let whole = append_cancel_right (one.front ++ 10 ∷ line) (other.front ++ 10 ∷ line') (codes "\n")
+pub counts_told : (a b : ServedFit) → served_text a.entries a.connections ≡ served_text b.entries b.connections
+    → (a.connections ≡ b.connections) × (length a.entries ≡ length b.entries)
+counts_told a b e =
+    let one = last_line_of a.entries a.connections in
+    let other = last_line_of b.entries b.connections in
+    let line : ServedFit → List ℕ = λ f. codes "served connections="
+    ++ (decimal f.connections ++ 32 ∷ (codes "entries=" ++ decimal (length f.entries))) in
+    let whole = append_cancel_right (one.front ++ 10 ∷ line a) (other.front ++ 10 ∷ line b) (codes "\n")
     (sym one.shape ∙ e ∙ other.shape) in
-    let last = last_cut 10 one.front other.front whole (last_clean connections (length entries) counts.connections_fit
-    counts.entries_fit) (last_clean connections' (length entries') others.connections_fit others.entries_fit) in
-    let first = field_cut (codes "entries=") counts.connections_fit others.connections_fit
+    let last = last_cut 10 one.front other.front whole
+    (last_clean a.connections (length a.entries) a.connections_fit a.entries_fit)
+    (last_clean b.connections (length b.entries) b.connections_fit b.entries_fit) in
+    let first = field_cut (codes "entries=") a.connections_fit b.connections_fit
     (append_cancel_left (codes "served connections=") _ _ last) in (
       first.number,
-      decimal_injective (length entries)
-          (length entries') counts.entries_fit others.entries_fit first.rest,
+      decimal_injective (length a.entries) (length b.entries) a.entries_fit b.entries_fit first.rest,
     )

@@ -17,6 +17,7 @@ use Rattle.vodserve.specs.Laws.{ValidInputSucceeds, HasSucceeded, HasNoFault, Is
 use Rattle.vodserve.specs.Run.{IsCause, IsWritten, PrintSpec, DaySpec, FairSpec, ServeSpec}
 use Rattle.vodserve.specs.IoStates.{World, streams_of}
 use Rattle.vodserve.specs.declared.run_results.Ended.{Ended}
+use Rattle.vodserve.proofs.PrintLemmas.{WorldChange}
 use Rattle.vodserve.proofs.DayUniqueness.{runs_its_day}
 use Rattle.vodserve.proofs.ServeSpecLemmas.{ended_by_memory, kept_by_memory}
 
@@ -27,9 +28,9 @@ RefusesNone order told = (trouble_name : List ℕ) (fault : InputError) → IsRe
 
 -- what keeps a command from its work, where nothing is refused and nothing failed, is that memory
 -- ran out
-caused_by_memory : {before after : World} (order : Invocation) (error : CliError) → RefusesNone order before.store.told
+caused_by_memory : {w : WorldChange} (order : Invocation) (error : CliError) → RefusesNone order w.before.store.told
     →
-    HasNoFault before after → IsCause before after order error → status_of error ≡ 6
+    HasNoFault w.before w.after → IsCause w.before w.after order error → status_of error ≡ 6
 caused_by_memory order Usage may none is = absurd is
 caused_by_memory order (Refused name fault) may none is = absurd (may name.now fault is.0.0 is.0.1)
 caused_by_memory order (StoreFault name) may none is = absurd (none.store is.0.1)
@@ -70,12 +71,12 @@ text_whole : {ended : Ended} (before after : World) (text : List ℕ) → HasNoF
 text_whole before after text none (inl whole) = (whole.0, whole.2, whole.3)
 text_whole before after text none (inr cut) = absurd (none.out cut.0)
 
-day_by_memory : {before after : World} {run : ScriptRun} (error : CliError) →
-    IsAccepted (day_of run) before.store.told →
-    HasNoFault before after →
-    IsReadError (IsDayInput before.store.told run.script)
-    (IsDayRefused run.script) before.store.told before.store.faults
-    after.store.faults error → status_of error ≡ 6
+day_by_memory : {w : WorldChange} {run : ScriptRun} (error : CliError) →
+    IsAccepted (day_of run) w.before.store.told →
+    HasNoFault w.before w.after →
+    IsReadError (IsDayInput w.before.store.told run.script)
+    (IsDayRefused run.script) w.before.store.told w.before.store.faults
+    w.after.store.faults error → status_of error ≡ 6
 day_by_memory Usage may none is = absurd is
 day_by_memory (Refused name fault) may none is =
     absurd (may.accepted name.now fault (is.1 may.held may.told_is))
@@ -85,17 +86,17 @@ day_by_memory NoMemory may none is = refl
 day_by_memory GateFault may none is = absurd is
 day_by_memory LinkFault may none is = absurd is
 
-day_whole : {before after : World} {run : ScriptRun} {ended : Ended} → IsAccepted (day_of run) before.store.told →
-    HasNoFault before after → DaySpec before.store after.store (streams_of before after) run ended →
-    HasSucceeded before after (day_of run) ended ⊎ (ended.status ≡ 6)
+day_whole : {w : WorldChange} {run : ScriptRun} {ended : Ended} → IsAccepted (day_of run) w.before.store.told →
+    HasNoFault w.before w.after → DaySpec w.before.store w.after.store (streams_of w.before w.after) run ended →
+    HasSucceeded w.before w.after (day_of run) ended ⊎ (ended.status ≡ 6)
 day_whole may none (inl kept) = inr (kept.1.3.status ∙ day_by_memory kept.0 may none kept.1.0)
-day_whole {before} {after} {run} {ended} may none (inr ran) =
-    let whole = text_whole before after ran.ran.text none ran.ran.written in
+day_whole {w} {run} {ended} may none (inr ran) =
+    let whole = text_whole w.before w.after ran.ran.text none ran.ran.written in
     inl (record {
       text = ran.ran.text;
       work = (
         whole.0,
-        λ held told. runs_its_day held before.store (streams_of before after) run ended ran told,
+        λ held told. runs_its_day held w.before.store (streams_of w.before w.after) run ended ran told,
       );
       wrote = whole.1;
       quiet = whole.2;
@@ -119,7 +120,7 @@ served_whole {before} {after} {serving} may none (inl kept) =
       told_is = may.told_is;
       accepted = λ name fault named refused. may.accepted name fault (named, refused);
     } in
-    inr (kept.1.3.status ∙ kept_by_memory {before = before} {after = after} kept.0 servable none kept.1.0)
+    inr (kept.1.3.status ∙ kept_by_memory {w = record { before = before; after = after }} kept.0 servable none kept.1.0)
 served_whole may none (inr served) = elim served.ends [
   | inl whole ↦ inl (record { text = _; work = (whole.1, refl); wrote = whole.0.0; quiet = whole.3 })
   | inr wrong ↦ inr (wrong.1.1.status ∙ ended_by_memory _ wrong.0 none served.fault wrong.1.0)

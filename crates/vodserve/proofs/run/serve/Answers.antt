@@ -32,10 +32,9 @@ pub returns-in-Ok-run_server-clause-serves : goal.returns-in-Ok-run_server-claus
 returns-in-Ok-run_server-clause-serves g c =
     let entries : List Entry = c.in-Ok-run_server.closed.book.entries in
     let reports : List ConnReport = c.in-Ok-run_server.closed.reports.items in
-    let films = c.in-Ok.prepared.films.items in
     let ended : Ended = c.end_server.result in
     let serving : ServeArgs = serve_args_of c.args.serving.now in
-    let work : List Entry → ServerRun = server_run films serving c.args.seed in
+    let work : List Entry → ServerRun = server_run c.in-Ok.prepared.films.items serving c.args.seed in
     let before : WorkerGate = gate_state_of g.G.Gate.faults g.G.Gate.told c.args.gate.now in
     let opened : WorkerGate = gate_state_of g.G.Gate.faults g.G.Gate.told c.prepare.new.gate in
     let after : WorkerGate = gate_state_of g.G.Gate.faults g.G.Gate.told c.run_server.new.gate in
@@ -56,7 +55,7 @@ returns-in-Ok-run_server-clause-serves g c =
     let err : IoState (List ℕ) = io_state_of g.E.Sink.faults g.E.Sink.written c.args.err.now in
     let err' : IoState (List ℕ) = io_state_of g.E.Sink.faults g.E.Sink.written c.end_server.new.err in
     inr (record {
-      films = films;
+      films = c.in-Ok.prepared.films.items;
       loaded = (c.in-Ok.ensures {u = tt}).loaded;
       journal = subst (λ (es : List Entry). IsJournal serving es) (sym c.end_server.ensures.journal)
           ((c.in-Ok-run_server.ensures {u = tt}).closed);
