@@ -3,17 +3,15 @@ use Rattle.std.proofs.Common.{◌≡◌, ◌∙◌, ◌≤◌, ℕ, ap, List, Op
 use Rattle.std.proofs.Common.{Global, inl, inr, sym, subst}
 use Rattle.std.specs.Prelude.{IfOk, IfErr}
 use Rattle.cli_args.specs.InvocationViews.{invocation_view}
-use Rattle.cli_args.specs.declared.invocations.MediaKind.{MediaKind}
 use Rattle.cli_args.specs.declared.invocations.Invocation.{Invocation as OrderRead}
-use Rattle.cli_args.specs.Invocations.{Invocation, help, make_of, version}
+use Rattle.cli_args.specs.Invocations.{Invocation}
 use Rattle.plan_cert.specs.declared.Segment.{Segment}
 use Rattle.cli_errors.specs.ReadErrors.{IsLibraryUnchanged, IsReadError}
 use Rattle.cli_errors.specs.declared.errors.CliError.{CliError}
 use Rattle.cli_errors.specs.declared.errors.CliError.TheVariants.{Usage, Refused, StoreFault}
 use Rattle.cli_errors.specs.declared.errors.CliError.TheVariants.{SinkFault, NoMemory, GateFault, LinkFault}
 use Rattle.vod_base.specs.IoState.{File}
-use Rattle.offline_commands.specs.OfflineCommands.{IsOutputOf, IsInputRefused, IsRead, generated_text}
-use Rattle.offline_commands.specs.HelpText.{help_text, version_text}
+use Rattle.offline_commands.specs.OfflineCommands.{IsOutputOf, IsInputRefused, IsRead}
 use Rattle.offline_commands.proofs.CommandOutputLemmas.{text_of}
 use Rattle.vodserve.specs.Run.{CommandSpec, HasServedNothing, IsPrintedOrFailed, IsCause, IsReadInputError}
 use Rattle.vodserve.specs.Run.{IsWritten, PrintResult, PrintSpec, RunSpec}
@@ -91,37 +89,13 @@ ran_as {order = order} is same library output gate does = record {
   does = inl (invocation_view order, (sym is ∙ ap (λ (o : OrderRead). Some (invocation_view o)) same, does));
 }
 
--- which film is made, with its seed and its pictures
-pub record MadeFilm : Type 0 where
-  pub kind : MediaKind
-  pub seed : ℕ
-  pub pictures : ℕ
-
-pub made_done : {E : Type 0} (told : Option (List File)) (film : MadeFilm) (made : Result (Vec ℕ Global) E) →
-    IfOk made (λ text. text.items ≡ generated_text film.kind film.seed film.pictures) → (result : Result CommandOutput
-    CliError) →
-    IfOk result (λ done. (done.status ≡ 0) × (made ≡ Ok done.text) × (done.plan ≡ None)) →
-    IfOk result (λ done. IsOutputOf told (make_of film.kind film.seed film.pictures) done.status done.text.items
-    done.plan)
-made_done told film made text (Err error) is = tt
-made_done told film made text (Ok done) is =
-    (is.0, is.2, text_of (generated_text film.kind film.seed film.pictures) made done.text text is.1)
-
-pub help_done : {E : Type 0} (told : Option (List File)) (made : Result (Vec ℕ Global) E) →
-    IfOk made (λ text. text.items ≡ help_text) →
-    (result : Result CommandOutput CliError) →
-    IfOk result (λ done. (done.status ≡ 0) × (made ≡ Ok done.text) × (done.plan ≡ None)) →
-    IfOk result (λ done. IsOutputOf told help done.status done.text.items done.plan)
-help_done told made text (Err error) is = tt
-help_done told made text (Ok done) is = (is.0, is.2, text_of help_text made done.text text is.1)
-
-pub version_done : {E : Type 0} (told : Option (List File)) (made : Result (Vec ℕ Global) E) →
-    IfOk made (λ text. text.items ≡ version_text) →
-    (result : Result CommandOutput CliError) →
-    IfOk result (λ done. (done.status ≡ 0) × (made ≡ Ok done.text) × (done.plan ≡ None)) →
-    IfOk result (λ done. IsOutputOf told version done.status done.text.items done.plan)
-version_done told made text (Err error) is = tt
-version_done told made text (Ok done) is = (is.0, is.2, text_of version_text made done.text text is.1)
+-- a text that was made is the text of what was done
+pub text_done : {E : Type 0} (text : List ℕ) (made : Result (Vec ℕ Global) E) → IfOk made (λ own. own.items ≡ text)
+    → (result : Result CommandOutput CliError)
+    → IfOk result (λ done. (done.status ≡ 0) × (made ≡ Ok done.text) × (done.plan ≡ None))
+    → IfOk result (λ done. (done.status ≡ 0) × (done.plan ≡ None) × (done.text.items ≡ text))
+text_done text made own (Err error) is = tt
+text_done text made own (Ok done) is = (is.0, is.2, text_of text made done.text own is.1)
 
 -- out of memory stops each command
 pub no_memory : (told : Option (List File)) (faults faults' : ℕ) (order : Invocation)

@@ -1,6 +1,5 @@
 -- The gate of a client, and how its watching ends.
-use Rattle.std.proofs.Common.{ℕ, Option, Result, Ok, Err, subst}
-use Rattle.std.specs.Prelude.{OnErr}
+use Rattle.std.proofs.Common.{ℕ, Option, subst}
 use Rattle.vod_base.specs.Gates.{Content}
 use Rattle.cli_args.specs.Invocations.{WatchArgs}
 use Rattle.rtsp_client.specs.declared.watch_request.Wish.{Wish}
@@ -14,8 +13,3 @@ pub opened_for : (watching : WatchArgs) (wish : Wish) (gate : Option Content) �
 opened_for watching wish gate is open_as =
     subst (λ (n : ℕ). IsOpenAs (opening_at watching.port n) gate) is.slot
     (subst (λ (n : ℕ). IsOpenAs (opening_at n wish.slot_units) gate) is.port open_as)
-
--- what holds after an error, from what else holds after it
-pub on_err_map : {T E P Q : Type 0} (r : Result T E) → (P → Q) → OnErr r P → OnErr r Q
-on_err_map (Ok t) f p = tt
-on_err_map (Err e) f p = f p

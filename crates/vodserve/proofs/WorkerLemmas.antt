@@ -17,8 +17,8 @@ use Rattle.slot_calendar.specs.declared.profiles.CapStep.{CapStep}
 use Rattle.turnstile.specs.Passes.{AllJoined, IsJoined}
 use Rattle.turnstile.specs.declared.view.Joined.{Joined}
 use Rattle.turnstile.proofs.Prefixes.{prefix_trans}
-use Rattle.conn.specs.Journals.{Terms, terms_of}
-use Rattle.station.specs.Seats.{StationState, IsSameSeat, SeatState, after_join}
+use Rattle.conn.specs.Journals.{Terms}
+use Rattle.station.specs.Seats.{StationState, SeatState, after_join}
 use Rattle.conn.specs.Parts.{WorkerGate, worker_gate}
 use Rattle.conn.specs.declared.reports.ConnReport.{ConnReport}
 use Rattle.conn.specs.declared.reports.PartReport.{PartReport}
@@ -27,7 +27,7 @@ use Rattle.cli_args.specs.Invocations.{ServeArgs}
 use Rattle.conn.specs.declared.reports.PartEnd.TheVariants.{AllTaken, GateFault as PartFault, NoMemory}
 use Rattle.vodserve.specs.WorkerResults.{AreWorkerResults, AreLeft, IsPartBack, HasOne, IsWorkerResult, IsWorse}
 use Rattle.vodserve.specs.WorkerResults.{ServerRun}
-use Rattle.vodserve.specs.WorkerResults.{all_reports, settings_of, terms_for}
+use Rattle.vodserve.specs.WorkerResults.{all_reports, settings_of}
 use Rattle.vodserve.specs.Workers.{ArePartsBack, AreJoined, ArePartsOut, AreWorkers, HasFinished, IsWorker, joined_of}
 use Rattle.vodserve.specs.Workers.{report_of}
 use Rattle.vodserve.specs.declared.workers.Worker.{Worker}
@@ -369,16 +369,6 @@ pub record IsStationOf (serving : ServeArgs) (hall : StationState) : Type 0 wher
 abbrev terms_with : List CapStep → ℕ → ℕ → Terms
 terms_with steps limit maker = record { steps = steps; limit = limit; maker = maker }
 
--- so has each seat of it
-seat_terms : {serving : ServeArgs} {hall : StationState} {seat left : SeatState} (worker : ℕ) → IsStationOf serving hall
-    →
-    IsSameSeat seat left → left.steps ≡ hall.steps →
-    left.limit ≡ hall.limit → left.number ≡ worker + 1 → terms_of seat ≡ terms_for serving worker
-seat_terms {serving} {seat} {left} worker is same steps limit number =
-    ap (λ (s : List CapStep). terms_with s seat.limit seat.number) (sym same.steps ∙ steps ∙ is.steps)
-    ∙ ap (λ (l : ℕ). terms_with serving.capacity l seat.number) (sym same.limit ∙ limit ∙ is.limit)
-    ∙ ap (λ (n : ℕ). terms_with serving.capacity serving.journal n) (sym same.number ∙ number)
-
 -- what a worker has seen of a journal, and its own entries of it
 record WorkerJournal {G : Type 0} (worker : Worker G) (journal : List Entry) : Type 0 where
   seen : List Entry
@@ -400,7 +390,12 @@ one_worked {told} {faults} {work} {worker} own of_words is finished back counted
   part = finished.part;
   after = worker_gate (faults worker.part) (told worker.part);
   served = finished.served;
-  terms = seat_terms worker.number of_words finished.served.seat is.steps is.limit is.seat;
+  terms = ap (λ (s : List CapStep). terms_with s finished.seat.limit finished.seat.number)
+      (sym finished.served.seat.steps ∙ is.steps ∙ of_words.steps)
+      ∙ ap (λ (l : ℕ). terms_with work.serving.capacity l finished.seat.number)
+      (sym finished.served.seat.limit ∙ is.limit ∙ of_words.limit)
+      ∙ ap (λ (n : ℕ). terms_with work.serving.capacity work.serving.journal n)
+      (sym finished.served.seat.number ∙ is.seat);
   mine = finished.mine;
   untouched = finished.untouched;
   seen = prefix_trans worker.seat.seen seen work.journal front whole;

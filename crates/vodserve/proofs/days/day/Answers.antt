@@ -58,18 +58,22 @@ returns-in-Err-clause-runs g c =
     )
 
 -- a script that was read from a library
-record HasReadScript (store store' : IoState (List File)) (name : List ℕ) (script : Script) : Type 0 where
+record ReadScript : Type 0 where
+  store : IoState (List File)
+  store' : IoState (List File)
+  name : List ℕ
+  script : Script
   is : IsScriptOf store.told name script
   kept : store'.told ≡ store.told
   count : store.faults ≤ store'.faults
 
 -- what prevents the films and traces from being loaded that a script names, prevents its day
-day_error : {store store' : IoState (List File)} {name : List ℕ} {script : Script} (after : ℕ) (error : CliError) →
-    HasReadScript store store' name script →
-    IsReadError (Contains (names_in script.named.items)) (IsFirstNamedRefused script.named.items) store'.told
-    store'.faults after error →
-    IsReadError (IsDayInput store.told name) (IsDayRefused name) store.told store.faults after error
-day_error {store} {store'} {name} {script} after error read =
+day_error : (read : ReadScript) (after : ℕ) (error : CliError) →
+    IsReadError (Contains (names_in read.script.named.items)) (IsFirstNamedRefused read.script.named.items)
+    read.store'.told read.store'.faults after error →
+    IsReadError (IsDayInput read.store.told read.name) (IsDayRefused read.name) read.store.told read.store.faults after
+    error
+day_error read after error =
     trouble_map (record {
       Reads = Contains (names_in script.named.items);
       Refuses = IsFirstNamedRefused script.named.items;
@@ -92,12 +96,16 @@ day_error {store} {store'} {name} {script} after error read =
       low = read.count;
       high = omega arith;
     })
+  where
+    open read use {store, store', name, script}
 
 pub returns-in-Err-load_sources-clause-runs : goal.returns-in-Err-load_sources-clause-runs
 returns-in-Err-load_sources-clause-runs g c =
-    let read : HasReadScript (io_state_of g.L.Library.faults g.L.Library.files c.args.library.now)
-    (io_state_of g.L.Library.faults g.L.Library.files c.load_script.new.library) c.args.run.now.script.now
-    c.in-Ok.script = record {
+    let read : ReadScript = record {
+      store = io_state_of g.L.Library.faults g.L.Library.files c.args.library.now;
+      store' = io_state_of g.L.Library.faults g.L.Library.files c.load_script.new.library;
+      name = c.args.run.now.script.now;
+      script = c.in-Ok.script;
       is = (c.in-Ok.ensures {u = tt}).read;
       kept = c.load_script.ensures.library.kept;
       count = c.load_script.ensures.library.count;
@@ -105,7 +113,7 @@ returns-in-Err-load_sources-clause-runs g c =
     inl (
       c.in-Err-load_sources.error,
       (
-        day_error _ c.in-Err-load_sources.error read
+        day_error read _ c.in-Err-load_sources.error
             (rw c.deref.ensures.value at (c.in-Err-load_sources.ensures {u = tt}).error),
         refl,
         c.end_with-in-Err-load_sources.ensures.nothing,

@@ -1,10 +1,10 @@
-use Rattle.std.proofs.Common.{◌≡◌, ℕ, true, List, None, inl, inr, refl, sym, subst, arith}
+use Rattle.std.proofs.Common.{◌≡◌, ℕ, true, List, inl, inr, refl, sym, subst, arith}
 use Rattle.vod_base.specs.Names.{good_name}
 use Rattle.cli_args.specs.InvocationViews.{client_params_of}
 use Rattle.cli_args.specs.Ranges.{IsInvocationInRange}
 use Rattle.cli_args.specs.Invocations.{check_of, help, make_of, plan_of, scan_of, version}
 use Rattle.vodserve.proofs.ErrorNameLemmas.{causes_of, good_result, nameless, viewer_named}
-use Rattle.vodserve.proofs.PrintLemmas.{help_done, made_done, no_memory, printed, ran_as, version_done}
+use Rattle.vodserve.proofs.PrintLemmas.{no_memory, printed, ran_as, text_done}
 use Rattle.vodserve.proofs.run.run.Goals as goal
 
 pub print-requires-in-Plan : goal.print-requires-in-Plan
@@ -69,7 +69,7 @@ returns-in-Make g c = record {
         refl,
         printed c.output_with_text-in-Make.result refl
             c.print-in-Make.ensures.nothing
-            (made_done None (record { kind = c.in-Make.kind; seed = c.in-Make.seed; pictures = c.in-Make.pictures })
+            (text_done _
             c.make.result c.make.ensures c.output_with_text-in-Make.result c.output_with_text-in-Make.ensures.done)
             (no_memory _ _ _ (make_of c.in-Make.kind c.in-Make.seed c.in-Make.pictures)
             c.output_with_text-in-Make.result c.output_with_text-in-Make.ensures.error)
@@ -91,7 +91,7 @@ returns-in-Help g c = record {
       c.print.ensures.count (omega arith) (
         refl,
         printed c.output_with_text.result refl c.print.ensures.nothing
-            (help_done None c.help.result c.help.ensures c.output_with_text.result c.output_with_text.ensures.done)
+            (text_done _ c.help.result c.help.ensures c.output_with_text.result c.output_with_text.ensures.done)
             (no_memory _ _ _ help c.output_with_text.result c.output_with_text.ensures.error) c.print.ensures.printed,
       );
 }
@@ -102,7 +102,7 @@ returns-in-Version g c = record {
       c.print-in-Version.ensures.count (omega arith) (
         refl,
         printed c.output_with_text-in-Version.result refl c.print-in-Version.ensures.nothing
-            (version_done None c.version.result c.version.ensures c.output_with_text-in-Version.result
+            (text_done _ c.version.result c.version.ensures c.output_with_text-in-Version.result
             c.output_with_text-in-Version.ensures.done)
             (no_memory _ _ _ version c.output_with_text-in-Version.result c.output_with_text-in-Version.ensures.error)
             c.print-in-Version.ensures.printed,

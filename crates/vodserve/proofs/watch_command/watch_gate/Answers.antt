@@ -1,11 +1,11 @@
-use Rattle.vodserve.proofs.WatchLemmas.{on_err_map}
+use Rattle.std.proofs.lemmas.Result.{IfErr-weaker}
 use Rattle.vodserve.proofs.GateLemmas.{failed_few}
 use Rattle.vodserve.proofs.watch_command.watch_gate.Goals as goal
 
 pub returns-clause-few : goal.returns-clause-few
 returns-clause-few g c =
-    on_err_map c.watch_part-heard.result
-    (λ lost. failed_few (record {
+    IfErr-weaker c.watch_part-heard.result _ _
+    (λ _ lost. failed_few (record {
       how = _;
       before = g.G.Gate.told c.args.gate.now;
       door = g.G.Gate.told c.open.new.self;

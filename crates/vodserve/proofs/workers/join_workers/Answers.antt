@@ -45,6 +45,10 @@ loop-worker-preserved g c =
     let inv = c.loop-worker.invariant in
     let done : List (Worker _) = c.loop-worker.yielded in
     let worker : Worker _ = c.in-Some.worker in
+    let told = g.G.Gate.told in
+    let before = g.G.Gate.faults c.args.gate.now in
+    let mid = g.G.Gate.faults c.loop-worker.gate in
+    let after = g.G.Gate.faults c.rejoin.new.self in
     let turn = YieldsList-turn (YieldsList-from_vec {s = c.into_iter-worker-iterator.result} c.args.workers.items
     (search rules) (search rules)) c.loop-worker.yielded c.loop-worker.worker-iterator c.loop-worker.yielded_by
     c.next.result c.next.new.self c.in-Some.worker c.in-Some.is c.next.ensures.steps in
@@ -68,22 +72,14 @@ loop-worker-preserved g c =
       left = subst (λ (ps : List PartReport). AreLeft ps c.add_reports-end.result
           c.add_reports-end.new.reports.items) (sym (map-append report_of done (worker ∷ [])))
           (c.add_reports-end.ensures.left (map report_of done) inv.left);
-      opened = λ opening opened. back_still_open opening (g.G.Gate.told worker.part)
-          (g.G.Gate.told c.loop-worker.gate) (g.G.Gate.told c.rejoin.new.self) (inv.opened opening opened)
-          c.rejoin.ensures.joined;
-      since = not_opened_back (g.G.Gate.told c.args.gate.now) (g.G.Gate.told worker.part)
-          (g.G.Gate.told c.loop-worker.gate) (g.G.Gate.told c.rejoin.new.self) inv.since
-          c.rejoin.ensures.joined;
+      opened = λ opening opened. back_still_open opening (told worker.part) (told c.loop-worker.gate)
+          (told c.rejoin.new.self) (inv.opened opening opened) c.rejoin.ensures.joined;
+      since = not_opened_back (told c.args.gate.now) (told worker.part) (told c.loop-worker.gate)
+          (told c.rejoin.new.self) inv.since c.rejoin.ensures.joined;
       count = omega (arith, c.rejoin.ensures.count, inv.count);
-      counted = All-push
-          (λ (w : Worker _). 0 < g.G.Gate.faults w.part
-          → HasRisen (g.G.Gate.faults c.args.gate.now) (g.G.Gate.faults c.rejoin.new.self)) done worker
-          (λ i d h some. risen_on (g.G.Gate.faults c.args.gate.now) (g.G.Gate.faults c.loop-worker.gate)
-          (g.G.Gate.faults c.rejoin.new.self)
-          (inv.counted i d h some) c.rejoin.ensures.count)
-          (λ some. risen_since (g.G.Gate.faults c.args.gate.now) (g.G.Gate.faults c.loop-worker.gate)
-          (g.G.Gate.faults c.rejoin.new.self)
-          (c.rejoin.ensures.risen some) inv.count);
+      counted = All-push (λ (w : Worker _). 0 < g.G.Gate.faults w.part → HasRisen before after) done worker
+          (λ i d h some. risen_on before mid after (inv.counted i d h some) c.rejoin.ensures.count)
+          (λ some. risen_since before mid after (c.rejoin.ensures.risen some) inv.count);
     }
 
 pub join-requires-clause-other : goal.join-requires-clause-other
