@@ -52,8 +52,7 @@ loop-worker-preserved g c =
     let turn = YieldsList-turn (YieldsList-from_vec {s = c.into_iter-worker-iterator.result} c.args.workers.items
     (search rules) (search rules)) c.loop-worker.yielded c.loop-worker.worker-iterator c.loop-worker.yielded_by
     c.next.result c.next.new.self c.in-Some.worker c.in-Some.is c.next.ensures.steps in
-    let next = taken_worker {worker = c.in-Some.worker} c.args.workers.items c.loop-worker.yielded c.requires.workers
-    turn in
+    let next = taken_worker {worker = worker} c.args.workers.items done c.requires.workers turn in
     record {
       joined = join_one (record {
         worker = worker;
