@@ -1,19 +1,21 @@
 #!/bin/sh
-# `serve` beside a bare C server and gst-rtsp-server: bench/serve.sh [PROGRAM] [SESSIONS] [ROUNDS]
+# `serve` beside other servers: bench/serve.sh [PROGRAM [SESSIONS [ROUNDS [OTHER]]]]
 #
-# PROGRAM is the built vodserve (default: ../crates/vodserve/out/vodserve). SESSIONS play a film of
-# 25 s and 1.5 Mbit/s at once (default: 100, at most 256), in each of ROUNDS (default: 3) from each
-# server in turn. The bare server (serve/bare.c) has a thread for each connection too, checks
-# nothing, and sends bytes that were put together before. Needs python3, ffmpeg and cc; leaves
-# gst-rtsp-server out where it is missing (Debian packages python3-gi, gir1.2-gst-rtsp-server-1.0
-# and gstreamer1.0-plugins-bad). Prints the processor time of each, and its ratio to the bare
-# server; and where valgrind is there, how many instructions of its own `serve` takes for a wake.
-# Ends with status 1 if a session didn't get the film, and 2 if nothing could be tried. All files are
-# made in a folder that is removed again, and the servers are stopped in any case.
+# PROGRAM is the built vodserve (default: ../crates/vodserve/out/vodserve), OTHER another one.
+# SESSIONS play a film of 25 s and 1.5 Mbit/s at once (default: 100, at most 256), in each of ROUNDS
+# (default: 3) from each server in turn. The bare C server (serve/bare.c) has a thread for each
+# connection too, checks nothing, and sends bytes that were put together before. Needs python3,
+# ffmpeg and cc; leaves gst-rtsp-server out where it is missing (Debian packages python3-gi,
+# gir1.2-gst-rtsp-server-1.0 and gstreamer1.0-plugins-bad). Prints the processor time of each, and
+# its ratio to the bare server; and where valgrind is there, how many instructions of its own `serve`
+# takes for a wake. Ends with status 1 if a session didn't get the film, and 2 if nothing could be
+# tried. All files are made in a folder that is removed again, and the servers are stopped in any
+# case.
 set -u
 here=$(cd "$(dirname "$0")" && pwd)
 . "$here/setup.sh"
 find_program "${1:-}"
+other=${4:+$(realpath "$4")}
 need python3 ffmpeg cc
 enter_folder
 cc -O2 -D_GNU_SOURCE -pthread -o bare "$here/serve/bare.c" || exit 2
@@ -28,4 +30,5 @@ export GST_PYTHON
 if command -v valgrind >/dev/null; then
     python3 "$here/serve/count.py" "$program" "$folder" || exit 1
 fi
-python3 "$here/serve/turns.py" "$program" "$folder/bare" "$folder" "${2:-100}" "${3:-3}"
+python3 "$here/serve/turns.py" \
+    "$program" "$folder/bare" "$folder" "${2:-100}" "${3:-3}" ${other:+"$other"}

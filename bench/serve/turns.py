@@ -1,13 +1,13 @@
 #!/usr/bin/env python3
 """Sessions of `serve`, of the bare C server and of gst-rtsp-server in turn: turns.py PROGRAM BARE
-FOLDER COUNT ROUNDS
+FOLDER COUNT ROUNDS [OTHER]
 
 FOLDER has film.mpg with 25 pictures a second, and film.mkv, the same in Matroska. In each round
-each server plays the film to COUNT clients, which compare each byte. A server's processor time is
-that of the process from the first PLAY until all clients have the film; the kernel's part of
-sending and receiving on this machine is in it. A wake is a slot of a session. Prints a line for
-each server: the median of the rounds, the lowest and the highest, and the medians' ratio to that of
-the bare server. Ends with status 1 if a session had a fault.
+each server plays the film to COUNT clients, which compare each byte; OTHER is another vodserve. A
+server's processor time is that of the process from the first PLAY until all clients have the film;
+the kernel's part of sending and receiving on this machine is in it. A wake is a slot of a session.
+Prints a line for each server: the median of the rounds, the lowest and the highest, and the
+medians' ratio to that of the bare server. Ends with status 1 if a session had a fault.
 """
 
 import contextlib
@@ -83,12 +83,14 @@ def row(name, seconds, peaks, wakes, length, bare):
 
 
 def main():
-    program, bare, folder, count, rounds = sys.argv[1:]
+    program, bare, folder, count, rounds, *others = sys.argv[1:]
     folder, count = Path(folder), int(count)
     slots = write_play(folder)
     servers = {
         "vodserve": lambda: by_vodserve(program, folder, count),
         "bare C server": lambda: by_bare(bare, folder)}
+    for other in others:
+        servers["the other vodserve"] = lambda: by_vodserve(other, folder, count)
     if os.environ.get("GST_PYTHON"):
         servers["gst-rtsp-server"] = lambda: play.gst_server(folder, NAME)
     seconds, peaks = ({name: [] for name in servers} for _ in range(2))
