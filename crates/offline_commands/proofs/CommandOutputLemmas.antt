@@ -1,5 +1,6 @@
 -- What the commands' answers mean, in terms of the definitions that the run cites.
 use Rattle.std.proofs.Common.{◌≡◌, ◌∙◌, ℕ, List, ◌++◌, Some, None, Result, Ok, Vec, Global, ap, subst, sym, inl, inr}
+use Rattle.std.proofs.Common.{◌<◌, ◌^◌, All, Bool, Option, length, refl, arith}
 use Rattle.std.specs.Prelude.{IfOk, OnOk, codes}
 use Rattle.vod_base.specs.IoState.{File, file_named}
 use Rattle.wire_curve.specs.declared.curves.Curves.{Curves}
@@ -10,9 +11,12 @@ use Rattle.cert_check.specs.CertFaults.{IsFirstFault}
 use Rattle.cert_check.specs.declared.CertFault.{CertFault}
 use Rattle.mpeg_scan.specs.declared.units.Unit.{Unit as PictureUnit}
 use Rattle.inputs.specs.ChunkScans.{HoldsFilm}
-use Rattle.offline_commands.specs.ScanText.{scan_text}
+use Rattle.offline_commands.specs.ScanText.{film_line, scan_text, unit_lines}
+use Rattle.offline_commands.specs.TextLaws.{IsShortUnit}
+use Rattle.cli_errors.specs.StreamWrites.{IsTextWritten}
+use Rattle.cli_errors.proofs.StreamWriteLemmas.{said_as}
 use Rattle.cli_args.specs.Invocations.{ClientParams}
-use Rattle.offline_commands.specs.OfflineCommands.{IsScanned}
+use Rattle.offline_commands.specs.OfflineCommands.{IsListed}
 use Rattle.offline_commands.specs.Plans.{HasCurves, IsChecked, IsVerdict}
 use Rattle.offline_commands.specs.VerdictText.{cert_fault_text}
 use Rattle.offline_commands.specs.declared.command_output.CommandOutput.{CommandOutput}
@@ -92,15 +96,35 @@ fault_checked read {fault} first {r} text done is =
       ),
     ))
 
-pub film_done : {E : Type 0} {held : List File} {film : List ℕ} {size rate : ℕ} {units : List PictureUnit} →
-    HoldsFilm held film size rate units →
-    {r : Result (Vec ℕ Global) E} → IfOk r (λ v. v.items ≡ scan_text size rate units) →
-    (done : CommandOutput) → r ≡ Ok done.text → IsScanned held film done.text.items
-film_done {size} {rate} {units} holds {r} text done is =
+-- what was written of a scan, whose first line and whose units were written one after another
+pub listed : {told : Option (List File)} {film : List ℕ} {faults faults' : ℕ} {out out' : Option (List ℕ)}
+    {is_whole : Bool} {head : List ℕ} {size rate pictures : ℕ} {units : List PictureUnit} →
+    pictures ≡ length units → head ≡ film_line size rate pictures →
+    (size < 2 ^ 64) × (rate < 2 ^ 64) × (pictures < 2 ^ 64) → All IsShortUnit units →
+    ((held : List File) → told ≡ Some held → HoldsFilm held film size rate units) →
+    IsTextWritten faults faults' out out' (head ++ unit_lines 0 units ++ codes "end\n") is_whole →
+    IsListed told film faults faults' out out' is_whole
+listed {size} {rate} {units} count head short units_short holds written =
+    let counted : length units < 2 ^ 64 = omega (arith, count, short.2) in
     record {
-      size = size;
-      rate = rate;
-      units = units;
-      holds = holds;
-      printed = text_of (scan_text size rate units) r done.text text is;
+      text = scan_text size rate units;
+      done = (
+        refl,
+        refl,
+        record {
+          size = size;
+          rate = rate;
+          units = units;
+          short = record {
+            size_short = short.0;
+            rate_short = short.1;
+            count_short = counted;
+            units_short = units_short;
+          };
+          printed = refl;
+        },
+        λ held is. record { size = size; rate = rate; units = units; holds = holds held is; printed = refl },
+      );
+      written = said_as (ap (λ (h : List ℕ). h ++ unit_lines 0 units ++ codes "end\n")
+          (head ∙ ap (film_line size rate) count)) written;
     }

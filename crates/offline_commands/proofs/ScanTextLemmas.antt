@@ -1,47 +1,103 @@
--- The lines of units, from the front on, and the words at their end.
-use Rattle.std.proofs.Common.{◌≡◌, ℕ, ◌+◌, ◌<◌, Bool, List, [], ◌∷◌, ◌++◌, codes, length, take}
-use Rattle.std.proofs.Common.{get_or, sym, ap, ◌∙◌, arith, add-zero, zero-add}
-use Rattle.std.proofs.lemmas.List.{append_assoc, append-nil, take_more, length-take-le}
+-- The lines of units, piece by piece, and the words at their end.
+use Rattle.std.proofs.Common.{◌≡◌, ℕ, ◌+◌, ◌-◌, ◌≤◌, List, [], ◌∷◌, ◌++◌, All, codes, drop, length, take}
+use Rattle.std.proofs.Common.{sym, subst, ap, ◌∙◌, arith, add-zero}
+use Rattle.std.specs.Prelude.{slice_range}
+use Rattle.std.proofs.Common.{get_or, ◌<◌, Bool, Option, Result}
+use Rattle.std.specs.Prelude.{OnErr, OnOk, is_ok}
+use Rattle.std.proofs.Math.Seq.{take-add}
+use Rattle.std.proofs.lemmas.List.{append_assoc, drop_more, length-drop, length-take-le, take_all}
+use Rattle.std.proofs.lemmas.List.Elements.{All-append, All-cons}
+use Rattle.vod_base.specs.IoState.{HasRisen, IsWrittenPrefix, told_more}
+use Rattle.vod_base.specs.declared.errors.SinkFault.{SinkFault}
+use Rattle.cli_errors.specs.StreamWrites.{IsTextWritten}
+use Rattle.cli_errors.proofs.StreamWriteLemmas.{said_by}
 use Rattle.mpeg_scan.specs.declared.units.Unit.{Unit as PictureUnit}
 use Rattle.offline_commands.specs.ScanText.{word_if, unit_line, unit_lines}
+use Rattle.offline_commands.specs.TextLaws.{IsShortUnit}
 
 -- the words at the end of a unit's line
 abbrev pub marks : Bool → Bool → List ℕ
 marks sequence group = word_if sequence (codes " sequence") ++ word_if group (codes " group") ++ codes "\n"
 
-unit_lines-more : (number : ℕ) (units : List PictureUnit) (unit : PictureUnit) →
-    unit_lines number (units ++ unit ∷ []) ≡ unit_lines number units ++ unit_line (number + length units) unit
-unit_lines-more number [] unit = append-nil (unit_line number unit)
-    ∙ ap (λ (n : ℕ). unit_line n unit) (sym (add-zero number))
-unit_lines-more number (first ∷ units) unit =
-    ap (λ (l : List ℕ). unit_line number first ++ l) (unit_lines-more (number + 1) units unit)
-    ∙ ap (λ (n : ℕ). unit_line number first ++ (unit_lines (number + 1) units ++ unit_line n unit)) (omega arith)
+unit_lines-append : (number : ℕ) (units more : List PictureUnit) →
+    unit_lines number (units ++ more) ≡ unit_lines number units ++ unit_lines (number + length units) more
+unit_lines-append number [] more = ap (λ (n : ℕ). unit_lines n more) (sym (add-zero number))
+unit_lines-append number (first ∷ units) more =
+    ap (λ (l : List ℕ). unit_line number first ++ l) (unit_lines-append (number + 1) units more)
+    ∙ ap (λ (n : ℕ). unit_line number first ++ (unit_lines (number + 1) units ++ unit_lines n more)) (omega arith)
     ∙ sym (append_assoc (unit_line number first) (unit_lines (number + 1) units)
-    (unit_line (number + length (first ∷ units)) unit))
+    (unit_lines (number + length (first ∷ units)) more))
 
--- a line more
-pub unit_lines-take : (units : List PictureUnit) (i : ℕ) (unit : PictureUnit) → i < length units →
-    unit_lines 0 (take (i + 1) units) ≡ unit_lines 0 (take i units) ++ unit_line i (get_or units i unit)
-unit_lines-take units i unit within =
-    ap (unit_lines 0) (take_more units i unit within)
-    ∙ unit_lines-more 0 (take i units) (get_or units i unit)
-    ∙ ap (λ (n : ℕ). unit_lines 0 (take i units) ++ unit_line n (get_or units i unit))
-    (zero-add (length (take i units)) ∙ length-take-le i units (omega (arith, within)))
+-- the units up to a place, and a piece more
+take-piece : (units : List PictureUnit) (first last : ℕ) → first ≤ last →
+    take last units ≡ take first units ++ slice_range units first last
+take-piece units first last order =
+    ap (λ (n : ℕ). take n units) (omega (arith, order)) ∙ take-add first (last - first) units
 
--- the lines of the first units, written after a head
-pub record UnitsWritten (head : List ℕ) (units : List PictureUnit) (text : List ℕ) : Type 0 where
-  pub count : ℕ
-  pub within : count < length units
-  pub before : text ≡ head ++ unit_lines 0 (take count units)
+-- the lines up to a place after a head, and those of a piece more
+pub lines-more : (head : List ℕ) (units : List PictureUnit) (first last : ℕ) → first ≤ last → last ≤ length units →
+    (head ++ unit_lines 0 (take first units)) ++ unit_lines first (slice_range units first last)
+    ≡ head ++ unit_lines 0 (take last units)
+lines-more head units first last order within =
+    let at : first ≡ 0 + length (take first units) =
+    omega (arith, length-take-le first units (omega (arith, order, within))) in
+    append_assoc head (unit_lines 0 (take first units)) (unit_lines first (slice_range units first last))
+    ∙ ap (λ (l : List ℕ). head ++ l)
+    (ap (λ (n : ℕ). unit_lines 0 (take first units) ++ unit_lines n (slice_range units first last)) at
+    ∙ sym (unit_lines-append 0 (take first units) (slice_range units first last))
+    ∙ ap (unit_lines 0) (sym (take-piece units first last order)))
 
-pub text-more : {text text' : List ℕ} (head : List ℕ) (units : List PictureUnit)
-    (written : UnitsWritten head units text) (unit : PictureUnit) →
-    text' ≡ text ++ unit_line written.count (get_or units written.count unit) →
-    text' ≡ head ++ unit_lines 0 (take (written.count + 1) units)
-text-more {text} head units written unit pushed =
-    pushed
-    ∙ ap (λ (t : List ℕ). t ++ unit_line i (get_or units i unit)) before
-    ∙ append_assoc head (unit_lines 0 (take i units)) (unit_line i (get_or units i unit))
-    ∙ ap (λ (t : List ℕ). head ++ t) (sym (unit_lines-take units i unit within))
+pub short-more : (units : List PictureUnit) (first last : ℕ) → first ≤ last →
+    All IsShortUnit (take first units) → All IsShortUnit (slice_range units first last) →
+    All IsShortUnit (take last units)
+short-more units first last order before piece =
+    subst (λ us. All IsShortUnit us) (sym (take-piece units first last order))
+    (All-append IsShortUnit (take first units) (slice_range units first last) before piece)
+
+-- the lines up to a place that is the end, and a last one
+pub lines-end : (head : List ℕ) (units : List PictureUnit) (place : ℕ) (end : List ℕ) → length units ≤ place →
+    (head ++ unit_lines 0 (take place units)) ++ end ≡ head ++ unit_lines 0 units ++ end
+lines-end head units place end past =
+    ap (λ (us : List PictureUnit). head ++ unit_lines 0 us ++ end) (take_all place units past)
+
+-- what stands in a piece from a place on
+pub piece-from : (piece : List ℕ) (start : ℕ) → slice_range piece start (length piece) ≡ drop start piece
+piece-from piece start =
+    take_all (length piece - start) (drop start piece) (omega (arith, length-drop start piece))
+
+pub written-if : {faults faults' : ℕ} {told told' : Option (List ℕ)} {text : List ℕ} {is is' : Bool} → is ≡ is' →
+    IsTextWritten faults faults' told told' text is → IsTextWritten faults faults' told told' text is'
+written-if {faults} {faults'} {told} {told'} {text} e said =
+    subst (λ b. IsTextWritten faults faults' told told' text b) e said
+
+-- the line of the unit before others, and theirs
+pub line-before : {text rest : List ℕ} (first : ℕ) (units : List PictureUnit) (left : ℕ) (unit : PictureUnit) →
+    0 < left → left ≤ length units →
+    text ≡ unit_line (first + (left - 1)) (get_or units (left - 1) unit) ++ rest →
+    rest ≡ unit_lines (first + left) (drop left units) →
+    text ≡ unit_lines (first + (left - 1)) (drop (left - 1) units)
+line-before first units left unit some within is after =
+    is
+    ∙ ap (λ (t : List ℕ). line ++ t) after
+    ∙ ap (λ (n : ℕ). line ++ unit_lines n (drop left units)) (omega (arith, some))
+    ∙ ap (λ (n : ℕ). line ++ unit_lines (first + (left - 1) + 1) (drop n units)) (omega (arith, some))
+    ∙ sym (ap (unit_lines (first + (left - 1))) (drop_more units (left - 1) unit (omega (arith, some, within))))
   where
-    open written use {count as i, within, before}
+    line : List ℕ
+    line = unit_line (first + (left - 1)) (get_or units (left - 1) unit)
+
+pub short-before : (units : List PictureUnit) (left : ℕ) (unit : PictureUnit) → 0 < left → left ≤ length units →
+    IsShortUnit (get_or units (left - 1) unit) → All IsShortUnit (drop left units) →
+    All IsShortUnit (drop (left - 1) units)
+short-before units left unit some within one rest =
+    subst (λ us. All IsShortUnit us) (sym (drop_more units (left - 1) unit (omega (arith, some, within))))
+    (All-cons IsShortUnit (get_or units (left - 1) unit) (drop (left - 1 + 1) units) one
+    (subst (λ n. All IsShortUnit (drop n units)) (omega (arith, some)) rest))
+
+-- what a write wrote, as a truth value says
+pub written-by : {faults faults' : ℕ} {told told' : Option (List ℕ)} {part : List ℕ} {is : Bool}
+    (r : Result (Unit {0}) SinkFault) → is ≡ is_ok r → faults ≤ faults' → OnErr r (HasRisen faults faults') →
+    OnOk r (told' ≡ told_more told part) → OnErr r (IsWrittenPrefix told told' part) →
+    IsTextWritten faults faults' told told' part is
+written-by r is count fault whole front =
+    written-if (sym is) (said_by r count fault whole front)

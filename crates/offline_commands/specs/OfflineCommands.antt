@@ -1,6 +1,7 @@
 -- What carrying out the arguments gives, as a library holds its files.
 use Rattle.std.specs.List.{Contains}
-use Rattle.std.specs.Prelude.{◌≡◌, ◌⊎◌, ℕ, List, Option, Some, None, codes}
+use Rattle.std.specs.Prelude.{◌≡◌, ◌⊎◌, ℕ, Bool, true, false, List, Option, Some, None, codes}
+use Rattle.std.specs.Prelude.{Result, Ok, Err}
 use Rattle.vod_base.specs.IoState.{File}
 use Rattle.plan_cert.specs.declared.Segment.{Segment}
 use Rattle.plan_cert.specs.CertFormat.{cert_text}
@@ -19,6 +20,10 @@ use Rattle.inputs.specs.LoadErrors.{IsServedFilmRefused}
 use Rattle.inputs.specs.ChunkScans.{HoldsFilm, IsFilmRefused}
 use Rattle.mpeg_scan.specs.declared.units.Unit.{Unit as PictureUnit}
 use Rattle.cli_errors.specs.declared.errors.InputError.{InputError}
+use Rattle.cli_errors.specs.declared.errors.CliError.{CliError}
+use Rattle.cli_errors.specs.declared.errors.CliError.TheVariants.{SinkFault}
+use Rattle.cli_errors.specs.ReadErrors.{IsReadError}
+use Rattle.cli_errors.specs.StreamWrites.{IsTextWritten}
 pub use Rattle.offline_commands.specs.Plans.{IsCertRefused, IsChecked, IsPlanned, IsPlanRefused}
 use Rattle.offline_commands.specs.ScanText.{scan_text}
 use Rattle.offline_commands.specs.TextLaws.{IsShortFault, IsShortScan}
@@ -110,3 +115,22 @@ IsInputRefused (watch_of watching) held name fault = ⊥
 IsInputRefused (make_of kind seed pictures) held name fault = ⊥
 IsInputRefused (scan_of film) held name fault = IsFilmRefused held name fault
 IsInputRefused (serve_of serving) held name fault = IsServedFilmRefused held name fault
+
+-- the text of a scan, and what was written of it
+pub record IsListed (held : Option (List File)) (film : List ℕ) (faults faults' : ℕ)
+    (told told' : Option (List ℕ)) (is_whole : Bool) : Type 0 where
+  pub text : List ℕ
+  pub done : IsOutputOf held (scan_of film) 0 text None
+  pub written : IsTextWritten faults faults' told told' text is_whole
+
+-- a scan was written, or a fault of the output left a prefix of it; any other error came before
+-- the first write
+abbrev pub IsListedOrFailed : List ℕ → Option (List File) → ℕ → ℕ → ℕ → ℕ → Option (List ℕ)
+    → Option (List ℕ) → Result (Unit {0}) CliError → Type 0
+IsListedOrFailed film held reads reads' faults faults' told told' (Ok done) =
+    IsListed held film faults faults' told told' true
+IsListedOrFailed film held reads reads' faults faults' told told' (Err SinkFault) =
+    IsListed held film faults faults' told told' false
+IsListedOrFailed film held reads reads' faults faults' told told' (Err error) =
+    IsReadError (IsRead (scan_of film)) (IsInputRefused (scan_of film)) held reads reads' error
+    × (faults' ≡ faults) × (told' ≡ told)

@@ -22,5 +22,5 @@ pub use command_output::{CommandOutput, output_with_text};
 pub use days::{load_script, load_sources, run_day, run_fair};
 pub use generators::make;
 pub use plans::plan_source;
-pub use scans::list_units;
+pub use scans::write_units;
 pub use texts::{help, version};

@@ -1,45 +1,47 @@
 //! The command `scan`: the units of a film of the library.
 
-ghost use Rattle.std.specs.Prelude.{◌≡◌, ℕ, List, IfOk, IfErr};
+ghost use Rattle.std.specs.Prelude.{◌≡◌, ◌≤◌, ℕ, List};
 ghost use Rattle.vod_base.specs.IoState.{File};
 ghost use Rattle.inputs.specs.ChunkScans.{IsFilmRefused};
 ghost use Rattle.cli_errors.specs.declared.errors.InputError.{InputError};
-ghost use Rattle.cli_args.specs.Invocations.{scan_of};
-ghost use Rattle.cli_errors.specs.ReadErrors.{IsReadOnly, IsReadError};
-ghost use Rattle.offline_commands.specs.OfflineCommands.{IsOutputOf, IsInputRefused, IsRead};
-ghost use Rattle.offline_commands.specs.OfflineCommands.{IsScanned};
+ghost use Rattle.cli_errors.specs.ReadErrors.{IsReadOnly};
+ghost use Rattle.offline_commands.specs.OfflineCommands.{IsListedOrFailed, IsScanned};
 
-use crate::command_output::{CommandOutput, output_with_text};
-use crate::scan_text::scan_text;
+use crate::scan_text::{film_text, new_piece, write_scan};
 use cli_errors::CliError;
 use inputs::scan_film;
 use std::alloc::Global;
-use vod_base::Library;
+use vod_base::{Library, Sink};
 
-/// Lists the units of a film.
+/// Writes the units of a film to `out`.
 ///
 /// # Errors
 ///
-/// As of [`scan_film`].
-pub fn list_units<'a, L: Library>(
+/// As of [`scan_film`], and then nothing is written; and [`CliError::SinkFault`] where a write
+/// failed, after a prefix of the text.
+pub fn write_units<'a, L: Library, O: Sink>(
     alloc: Global,
     library: &mut L,
+    out: &mut O,
     film: &'a str,
-) -> Result<CommandOutput, CliError<'a>>
+) -> Result<(), CliError<'a>>
     ensures library { IsReadOnly L.files L.faults library.old library.new }
-    ensures done { IfOk result (λ done.
-        IsOutputOf (L.files library.old) (scan_of film.entry.now)
-        done.status done.text.items done.plan) }
-    ensures error { IfErr result (IsReadError (IsRead (scan_of film.entry.now))
-        (IsInputRefused (scan_of film.entry.now))
-        (L.files library.old) (L.faults library.old) (L.faults library.new)) }
+    ensures count { O.faults out.old ≤ O.faults out.new }
+    ensures listed { IsListedOrFailed film.entry.now
+        (L.files library.old) (L.faults library.old) (L.faults library.new)
+        (O.faults out.old) (O.faults out.new) (O.written out.old) (O.written out.new) result }
 {
-    // The entire film is judged before a line of it is written: a refused film prints no units.
+    // The entire film is judged, and all memory taken, before a line is written: a refused film
+    // prints no units.
     let scanned = scan_film(alloc, library, film)?;
-    output_with_text(
-        0,
-        scan_text(alloc, scanned.bytes, scanned.rate, &scanned.units),
-    )
+    let units = &scanned.units;
+    let head = film_text(alloc, scanned.bytes, scanned.rate, units.len() as u64)?;
+    let mut piece = new_piece(alloc)?;
+    if write_scan(out, &head, &mut piece, units) {
+        Ok(())
+    } else {
+        Err(CliError::SinkFault)
+    }
 }
 
 /// A law: a film that a library holds has one scan, and is not refused as well.

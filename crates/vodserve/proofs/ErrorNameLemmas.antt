@@ -6,14 +6,15 @@ use Rattle.vod_base.specs.Names.{good_name}
 use Rattle.vod_base.specs.IoState.{File}
 use Rattle.cli_args.specs.InvocationViews.{source_name}
 use Rattle.cli_args.specs.ArgumentText.{IsValidSource, IsValidClient}
-use Rattle.cli_args.specs.Invocations.{Invocation, PlanSource, ClientParams, are_films, film_source, trace_source}
+use Rattle.cli_args.specs.Invocations.{Invocation, PlanSource, ClientParams, are_films, film_source, scan_of}
+use Rattle.cli_args.specs.Invocations.{trace_source}
 use Rattle.cli_args.proofs.FilmLemmas.{films_asked}
 use Rattle.cli_errors.specs.ErrorReports.{HasGoodName}
 use Rattle.cli_errors.specs.declared.errors.CliError.{CliError}
 use Rattle.cli_errors.specs.declared.errors.CliError.TheVariants.{Usage, Refused, StoreFault}
 use Rattle.cli_errors.specs.declared.errors.CliError.TheVariants.{SinkFault, NoMemory, GateFault, LinkFault}
 use Rattle.cli_errors.proofs.ReadErrorLemmas.{Causes, IsTroubleOf, good_input}
-use Rattle.offline_commands.specs.OfflineCommands.{IsInputRefused, IsRead}
+use Rattle.offline_commands.specs.OfflineCommands.{IsInputRefused, IsListedOrFailed, IsRead}
 use Rattle.offline_commands.specs.declared.command_output.CommandOutput.{CommandOutput}
 use Rattle.vodserve.specs.Workers.{IsMakeWorkersError}
 use Rattle.vodserve.proofs.FilmLoadLemmas.{Keeps, ServingRun}
@@ -42,6 +43,23 @@ pub good_result : (causes : Causes) (result : Result CommandOutput CliError) →
     IfErr result HasGoodName
 good_result causes (Ok done) good is = tt
 good_result causes (Err error) good is = good_input causes error good is
+
+-- so has the one that the error of a scan names
+pub good_listing : (film : List ℕ) (told : Option (List File)) (reads reads' faults faults' : ℕ)
+    (out out' : Option (List ℕ)) (result : Result (Unit {0}) CliError) → good_name film ≡ true →
+    IsListedOrFailed film told reads reads' faults faults' out out' result → IfErr result HasGoodName
+good_listing film told reads reads' faults faults' out out' (Ok done) good is = tt
+good_listing film told reads reads' faults faults' out out' (Err SinkFault) good is = tt
+good_listing film told reads reads' faults faults' out out' (Err NoMemory) good is = tt
+good_listing film told reads reads' faults faults' out out' (Err Usage) good is = absurd is.0
+good_listing film told reads reads' faults faults' out out' (Err GateFault) good is = absurd is.0
+good_listing film told reads reads' faults faults' out out' (Err LinkFault) good is = absurd is.0
+good_listing film told reads reads' faults faults' out out' (Err (Refused name fault)) good is =
+    good_input (causes_of told reads reads' (scan_of film)) (Refused name fault)
+    (λ n named. subst (λ (m : List ℕ). good_name m ≡ true) (sym named) good) is.0
+good_listing film told reads reads' faults faults' out out' (Err (StoreFault name)) good is =
+    good_input (causes_of told reads reads' (scan_of film)) (StoreFault name)
+    (λ n named. subst (λ (m : List ℕ). good_name m ≡ true) (sym named) good) is.0
 
 -- out of memory names no input
 pub nameless : (result : Result CommandOutput CliError) → IfErr result (λ error. error ≡ NoMemory) → IfErr result

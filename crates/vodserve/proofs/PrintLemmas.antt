@@ -1,21 +1,21 @@
 -- What was printed of what was done.
 use Rattle.std.proofs.Common.{◌≡◌, ◌∙◌, ◌≤◌, ℕ, ap, List, Option, Some, None, Result, Ok, Err, Vec}
-use Rattle.std.proofs.Common.{Global, inl, inr, sym, subst}
+use Rattle.std.proofs.Common.{Global, inl, inr, refl, sym, subst}
 use Rattle.std.specs.Prelude.{IfOk, IfErr}
 use Rattle.cli_args.specs.InvocationViews.{invocation_view}
 use Rattle.cli_args.specs.declared.invocations.Invocation.{Invocation as OrderRead}
-use Rattle.cli_args.specs.Invocations.{Invocation}
+use Rattle.cli_args.specs.Invocations.{Invocation, scan_of}
 use Rattle.plan_cert.specs.declared.Segment.{Segment}
 use Rattle.cli_errors.specs.ReadErrors.{IsLibraryUnchanged, IsReadError}
 use Rattle.cli_errors.specs.declared.errors.CliError.{CliError}
 use Rattle.cli_errors.specs.declared.errors.CliError.TheVariants.{Usage, Refused, StoreFault}
 use Rattle.cli_errors.specs.declared.errors.CliError.TheVariants.{SinkFault, NoMemory, GateFault, LinkFault}
 use Rattle.vod_base.specs.IoState.{File}
-use Rattle.offline_commands.specs.OfflineCommands.{IsOutputOf, IsInputRefused, IsRead}
+use Rattle.offline_commands.specs.OfflineCommands.{IsOutputOf, IsInputRefused, IsRead, IsListedOrFailed}
 use Rattle.offline_commands.proofs.CommandOutputLemmas.{text_of}
 use Rattle.vodserve.specs.Run.{CommandSpec, HasServedNothing, IsPrintedOrFailed, IsCause, IsReadInputError}
-use Rattle.vodserve.specs.Run.{IsWritten, PrintResult, PrintSpec, RunSpec}
-use Rattle.vodserve.specs.IoStates.{World, streams_of}
+use Rattle.vodserve.specs.Run.{EndResult, IsWritten, PrintResult, PrintSpec, RunSpec}
+use Rattle.vodserve.specs.IoStates.{IoState, World, streams_of}
 use Rattle.offline_commands.specs.declared.command_output.CommandOutput.{CommandOutput}
 use Rattle.vodserve.specs.declared.run_results.Ended.{Ended}
 
@@ -74,6 +74,56 @@ pub printed : {before after : World} {order : Invocation} {ended : Ended} (resul
     PrintResult (streams_of before after) result ended → PrintSpec before after order ended
 printed {before} {after} {order} {ended} result gate nothing ok err is =
     record { gate = gate; nothing = nothing; out = carried_out result ended (record { ok = ok; err = err }) is }
+
+-- a stream that counted no fault and exposed no more
+same_stream : (one other : IoState (List ℕ)) → one.faults ≡ other.faults → one.told ≡ other.told → one ≡ other
+same_stream one other faults told =
+    ap (λ (n : ℕ). record { faults = n; told = one.told }) faults
+    ∙ ap (λ (t : Option (List ℕ)). record { faults = other.faults; told = t }) told
+
+listed_out : {before after : World} {film : List ℕ} {ended : Ended} (result : Result (Unit {0}) CliError) →
+    IsListedOrFailed film before.store.told before.store.faults after.store.faults before.out.faults
+    after.out.faults before.out.told after.out.told result →
+    EndResult before.err after.err result ended → IsPrintedOrFailed before after (scan_of film) ended
+listed_out {before} {film = film} {ended = ended} (Ok done) listed is = inl (record {
+  text = listed.text;
+  done = subst (λ (status : ℕ). IsOutputOf before.store.told (scan_of film) status listed.text ended.plan) (sym is.0)
+      (subst (λ (plan : Option (List Segment)). IsOutputOf before.store.told (scan_of film) 0 listed.text plan)
+      (sym is.1) listed.done);
+  wrote = listed.written.all refl;
+  quiet = is.2;
+})
+listed_out (Err SinkFault) listed is = inr (
+  SinkFault,
+  (
+    record {
+      status = 0;
+      text = listed.text;
+      plan = None;
+      done = listed.done;
+      risen = listed.written.risen refl;
+      front = listed.written.front refl;
+    },
+    is,
+  ),
+)
+listed_out (Err Usage) listed is = absurd listed.0
+listed_out {before} {after} (Err (Refused name fault)) listed is =
+    inr (Refused name fault, ((listed.0, same_stream after.out before.out listed.1 listed.2), is))
+listed_out {before} {after} (Err (StoreFault name)) listed is =
+    inr (StoreFault name, ((listed.0, same_stream after.out before.out listed.1 listed.2), is))
+listed_out {before} {after} (Err NoMemory) listed is =
+    inr (NoMemory, (same_stream after.out before.out listed.1 listed.2, is))
+listed_out (Err GateFault) listed is = absurd listed.0
+listed_out (Err LinkFault) listed is = absurd listed.0
+
+-- a scan was written as it was made
+pub scan_written : {before after : World} {film : List ℕ} {ended : Ended} (result : Result (Unit {0}) CliError) →
+    after.gate ≡ before.gate → HasServedNothing ended →
+    IsListedOrFailed film before.store.told before.store.faults after.store.faults before.out.faults
+    after.out.faults before.out.told after.out.told result →
+    EndResult before.err after.err result ended → PrintSpec before after (scan_of film) ended
+scan_written result gate nothing text is = record { gate = gate; nothing = nothing; out = listed_out result text is }
 
 -- what the words ask for was done
 pub ran_as : {before after : World} {seed : List ℕ} {asked : Option Invocation} {ended : Ended} {read order : OrderRead}

@@ -100,6 +100,12 @@ abbrev pub PrintResult : Streams → Result CommandOutput CliError → Ended →
 PrintResult s (Ok done) ended = IsWritten s done.text.items done.status done.plan ended
 PrintResult s (Err error) ended = (s.out_after ≡ s.out) × FailsWith s.err s.err_after error ended
 
+-- a command that wrote its text itself ended; or the error that prevented it was said
+abbrev pub EndResult : IoState (List ℕ) → IoState (List ℕ) → Result (Unit {0}) CliError → Ended
+    → Type 0
+EndResult err err' (Ok done) ended = (ended.status ≡ 0) × (ended.plan ≡ None) × (err' ≡ err)
+EndResult err err' (Err error) ended = FailsWith err err' error ended
+
 -- an input that a command reads is refused, or the library failed as it was read
 abbrev pub IsReadInputError : Invocation → IoState (List File) → IoState (List File) → CliError →
     Type 0

@@ -10,14 +10,14 @@ ghost use Rattle.vodserve.specs.Run.{RunSpec, ServeSpec};
 ghost use Rattle.vodserve.specs.IoStates.{gate_state_of, io_state_of, world};
 
 use crate::days::{day, fair};
-use crate::run_results::{Ended, end_with, print};
+use crate::run_results::{Ended, end_with, end_written, print};
 use crate::server::{prepare, run_server};
 use crate::server_output::end_server;
 use crate::watch_command::watch_film;
 use cli_args::{Invocation, ServeArgs, parse_args};
 use cli_errors::CliError;
 use offline_commands::{
-    check_plan, help, list_units, make, output_with_text, plan_source, version,
+    check_plan, help, make, output_with_text, plan_source, version, write_units,
 };
 use std::alloc::Global;
 use std::sync::Wait;
@@ -76,8 +76,8 @@ where
             )
         }
         Invocation::Scan(film) => {
-            let done = list_units(alloc, library, film);
-            print(alloc, out, err, done)
+            let done = write_units(alloc, library, out, film);
+            end_written(alloc, err, done)
         }
         Invocation::Day(order) => day(alloc, library, out, err, &order),
         Invocation::Fair(order) => fair(alloc, out, err, &order),

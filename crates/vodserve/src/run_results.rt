@@ -2,7 +2,7 @@
 
 ghost use Rattle.std.specs.Prelude.{◌≡◌, ◌≤◌, None, IfErr};
 ghost use Rattle.cli_errors.specs.ErrorReports.{HasGoodName};
-ghost use Rattle.vodserve.specs.Run.{FailsWith, HasServedNothing, PrintResult};
+ghost use Rattle.vodserve.specs.Run.{EndResult, FailsWith, HasServedNothing, PrintResult};
 ghost use Rattle.vodserve.specs.IoStates.{io_state_of, streams};
 
 use admission::Entry;
@@ -56,6 +56,24 @@ pub(crate) fn end_with<E: Sink>(alloc: Global, err: &mut E, error: CliError<'_>)
     // There is no further stream to report a fault of this one on.
     let _ = write_error(err, error);
     Ended::with_status(alloc, status)
+}
+
+/// Ends a command that has written its text, or says the error that prevented it.
+pub(crate) fn end_written<E: Sink>(
+    alloc: Global,
+    err: &mut E,
+    done: Result<(), CliError<'_>>,
+) -> Ended
+    requires { IfErr done HasGoodName }
+    ensures ended { EndResult
+        (io_state_of E.faults E.written err.old) (io_state_of E.faults E.written err.new)
+        done.entry result }
+    ensures nothing { HasServedNothing result }
+{
+    match done {
+        Ok(()) => Ended::with_status(alloc, 0),
+        Err(error) => end_with(alloc, err, error),
+    }
 }
 
 /// Writes the text of what was done, or the error that prevented it.

@@ -2,9 +2,9 @@ use Rattle.std.proofs.Common.{◌≡◌, ℕ, true, List, inl, inr, refl, sym, s
 use Rattle.vod_base.specs.Names.{good_name}
 use Rattle.cli_args.specs.InvocationViews.{client_params_of}
 use Rattle.cli_args.specs.Ranges.{IsInvocationInRange}
-use Rattle.cli_args.specs.Invocations.{check_of, help, make_of, plan_of, scan_of, version}
-use Rattle.vodserve.proofs.ErrorNameLemmas.{causes_of, good_result, nameless, viewer_named}
-use Rattle.vodserve.proofs.PrintLemmas.{no_memory, printed, ran_as, text_done}
+use Rattle.cli_args.specs.Invocations.{check_of, help, make_of, plan_of, version}
+use Rattle.vodserve.proofs.ErrorNameLemmas.{causes_of, good_result, nameless, viewer_named, good_listing}
+use Rattle.vodserve.proofs.PrintLemmas.{no_memory, printed, ran_as, text_done, scan_written}
 use Rattle.vodserve.proofs.run.run.Goals as goal
 
 pub print-requires-in-Plan : goal.print-requires-in-Plan
@@ -28,12 +28,11 @@ print-requires-in-Check g c =
     ])
     c.check_plan-done.ensures.error
 
-pub print-requires-in-Scan : goal.print-requires-in-Scan
-print-requires-in-Scan g c =
-    good_result (causes_of _ _ _ (scan_of c.in-Scan.film.now)) c.list_units-done.result
-    (λ name is. subst (λ (n : List ℕ). good_name n ≡ true) (sym is)
-    (subst IsInvocationInRange c.in-Scan.is ((c.in-Some.ensures {u = tt}).range)))
-    c.list_units-done.ensures.error
+pub end_written-requires : goal.end_written-requires
+end_written-requires g c =
+    good_listing _ _ _ _ _ _ _ _ c.write_units-done.result
+    (subst IsInvocationInRange c.in-Scan.is ((c.in-Some.ensures {u = tt}).range))
+    c.write_units-done.ensures.listed
 
 pub print-requires-in-Make : goal.print-requires-in-Make
 print-requires-in-Make g c = nameless c.output_with_text-in-Make.result c.output_with_text-in-Make.ensures.error
@@ -79,10 +78,10 @@ returns-in-Make g c = record {
 
 pub returns-in-Scan : goal.returns-in-Scan
 returns-in-Scan g c = record {
-  ran = ran_as ((c.in-Some.ensures {u = tt}).order) c.in-Scan.is c.list_units-done.ensures.library
-      c.print-in-Scan.ensures.count
-      (omega arith) (printed c.list_units-done.result refl c.print-in-Scan.ensures.nothing
-      c.list_units-done.ensures.done c.list_units-done.ensures.error c.print-in-Scan.ensures.printed);
+  ran = ran_as ((c.in-Some.ensures {u = tt}).order) c.in-Scan.is c.write_units-done.ensures.library
+      c.write_units-done.ensures.count
+      (omega arith) (scan_written c.write_units-done.result refl c.end_written.ensures.nothing
+      c.write_units-done.ensures.listed c.end_written.ensures.ended);
 }
 
 pub returns-in-Help : goal.returns-in-Help
