@@ -95,9 +95,11 @@ other_line a name value rest none line =
     (ap (map to_ascii_lowercase) (sym (begin_slice a name value rest)) ∙ line.name)
 
 -- the value of the line
-value_at : {value : List ℕ} (a name rest : List ℕ) → length name ≡ 14 → is_one_line value ≡ true
-    → without_blanks value ≡ value → IsValueAt (line_bytes a name value rest) (length a + 15) (written_length value)
-value_at {value} a name rest size one bare =
+value_at : (a : List ℕ) (f : Field) (rest : List ℕ) → length f.name ≡ 14 → IsPlain f
+    → IsValueAt (line_bytes a f.name f.value rest) (length a + 15) (written_length f.value)
+value_at a f rest size plain =
+    let name = f.name in
+    let value = f.value in
     let b = a ++ (name ++ 58 ∷ []) in
     let w = line_bytes a name value rest in
     let shape : b ++ ((32 ∷ value) ++ 13 ∷ 10 ∷ rest) ≡ w =
@@ -108,7 +110,7 @@ value_at {value} a name rest size one bare =
     let line : IsLine w (length a + 15) (length b + length (32 ∷ value)) (length b + length (32 ∷ value) + 2) =
     subst (λ n. IsLine w n (length b + length (32 ∷ value)) (length b + length (32 ∷ value) + 2)) place
     (subst (λ (v : List ℕ). IsLine v (length b) (length b + length (32 ∷ value))
-    (length b + length (32 ∷ value) + 2)) shape (line_here b (32 ∷ value) rest one)) in
+    (length b + length (32 ∷ value) + 2)) shape (line_here b (32 ∷ value) rest plain.one_line)) in
     let text : slice_range w (length a + 15) (length b + length (32 ∷ value)) ≡ 32 ∷ value =
     ap (λ (v : List ℕ). slice_range v (length a + 15) (length b + length (32 ∷ value))) (sym shape)
     ∙ ap (λ l. take (length b + length (32 ∷ value) - (length a + 15)) l)
@@ -118,7 +120,7 @@ value_at {value} a name rest size one bare =
       text_end = length b + length (32 ∷ value);
       next = length b + length (32 ∷ value) + 2;
       line = line;
-      written = ap written_length (sym (ap without_blanks text ∙ bare));
+      written = ap written_length (sym (ap without_blanks text ∙ plain.bare));
     }
 
 -- no line begins within another
@@ -173,11 +175,15 @@ feed_last b next e =
     ∙ get_or-append_right b (codes "\r\n") (length b) (length next - 1) 0 refl (omega (arith, size))
     ∙ ap (λ k. get_or (codes "\r\n") k 0) (let k : length next - 1 - length b ≡ 1 = omega (arith, size) in k)
 
+-- no line that begins before a place gives a length
+abbrev HasNoLength : List ℕ → ℕ → Type 0
+HasNoLength w n = (k : ℕ) → k < n → ¬ IsLengthLine w k
+
 -- after these bytes, whose last is a line's end, come a field and others; no line before gives a length
 record IsAtField (a : List ℕ) (f : Field) (fs : List Field) : Type 0 where
   plain : IsPlain f
   ended : EndsWithFeed a
-  none : (k : ℕ) → k < length a → ¬ IsLengthLine (a ++ fields_text (f ∷ fs)) k
+  none : HasNoLength (a ++ fields_text (f ∷ fs)) (length a)
 
 -- this field gives the length
 given_here : (a : List ℕ) (f : Field) (fs : List Field) → IsAtField a f fs →
@@ -194,15 +200,14 @@ given_here a f fs at same =
           (named_line a f.name f.value (fields_text fs) at.ended lower);
       first = at.none;
       value = inl (subst (λ (v : List ℕ). IsValueAt v (length a + 15) (written_length f.value)) spelled
-          (value_at a f.name (fields_text fs) size at.plain.one_line at.plain.bare));
+          (value_at a f (fields_text fs) size at.plain));
     }
 
 -- a field of another name gives none, so none stands before the next field
 none_before_next : (a : List ℕ) (f : Field) (fs : List Field) → IsAtField a f fs →
-    str_eq_ignore_ascii_case f.name (codes "Content-Length") ≡ false → (k : ℕ) →
-    k < length (a ++ (text_of f ++ codes "\r\n")) →
-    ¬ IsLengthLine ((a ++ (text_of f ++ codes "\r\n")) ++ fields_text fs) k
-none_before_next a f fs at other k below line =
+    str_eq_ignore_ascii_case f.name (codes "Content-Length") ≡ false →
+    HasNoLength ((a ++ (text_of f ++ codes "\r\n")) ++ fields_text fs) (length (a ++ (text_of f ++ codes "\r\n")))
+none_before_next a f fs at other = λ k below line.
     let line_w = subst (λ (v : List ℕ). IsLengthLine v k) (line_moved a f fs) line in
     elim (cases_lt k (length a)) [
       | inl before ↦ at.none k before line_w
@@ -221,7 +226,7 @@ none_before_next a f fs at other k below line =
 
 -- the lines from here on give this length, where no line before gives one
 scan : (a : List ℕ) (fields : List Field) → All IsPlain fields → EndsWithFeed a →
-    ((k : ℕ) → k < length a → ¬ IsLengthLine (a ++ fields_text fields) k) →
+    HasNoLength (a ++ fields_text fields) (length a) →
     IsBodyLength (a ++ fields_text fields) (length_given (value_named (codes "Content-Length") fields))
 unfolding value_named
 scan a [] all ended none =
@@ -262,7 +267,7 @@ body_length_of s fields one all =
     let last : get_or a (length a - 1) 0 ≡ 10 =
     get_or-append_right s (codes "\r\n") (length s) (length a - 1) 0 refl (omega (arith, size))
     ∙ ap (λ k. get_or (codes "\r\n") k 0) (let k : length a - 1 - length s ≡ 1 = omega (arith, size) in k) in
-    let none : (k : ℕ) → k < length a → ¬ IsLengthLine (a ++ rest) k = λ k below line.
+    let none : HasNoLength (a ++ rest) (length a) = λ k below line.
     inner_line [] s rest one.one_line (record { after = line.after; below = omega (arith, below, size) })
     (subst (λ (v : List ℕ). IsLengthLine v k) (append_assoc s (codes "\r\n") rest) line) in
     subst (λ (v : List ℕ). IsBodyLength v (length_given (value_named (codes "Content-Length") fields))) moved

@@ -6,10 +6,10 @@ use Rattle.std.proofs.lemmas.Bool.Decides.{nat_tests}
 use Rattle.std.proofs.lemmas.List.{append_assoc, length-append, get_or_append_left, get_or-append_right}
 use Rattle.std.proofs.lemmas.List.Elements.{All-head, All-tail}
 use Rattle.vod_base.specs.Lines.{IsLine}
-use Rattle.interleave.specs.Heads.{HasNoHead, IsHead}
+use Rattle.interleave.specs.Heads.{IsHead}
 use Rattle.rtsp_text.specs.Lines.{is_one_line}
 use Rattle.rtsp_text.specs.TerminatedLines.{EndedLine, line_bytes, head_bytes, IsEnded, IsHeader, IsEmpty}
-use Rattle.rtsp_text.proofs.HeadEnds.{no_head_first, no_head_more, head_here}
+use Rattle.rtsp_text.proofs.HeadEnds.{IsAfterLine, IsFullLine, after_first, after_more, head_here}
 use Rattle.rtsp_text.proofs.LineTexts.{line_here, other_byte}
 
 and_right_false : (p q : Bool) → q ≡ false → (p && q) ≡ false
@@ -105,12 +105,6 @@ here a line rest ended =
       | inr lf ↦ subst P (sym lf.0) (lf_here a line.text rest ended.one_line lf.1)
     ]
 
--- a line ends before this place, and no head does
-record IsAfterLine (w : List ℕ) (n : ℕ) : Type 0 where
-  some : 0 < n
-  feed : get_or w (n - 1) 0 ≡ 10
-  none : HasNoHead w n
-
 -- the header lines are walked over
 walk : (a : List ℕ) (headers : List EndedLine) (rest : List ℕ) → All IsHeader headers →
     IsAfterLine (a ++ (flat_map line_bytes headers ++ rest)) (length a) →
@@ -126,11 +120,8 @@ walk a (l ∷ ls) rest all at =
     let n = length a + length (line_bytes l) in
     let line : IsLine w (length a) (length a + length l.text) n =
     subst (λ (v : List ℕ). IsLine v (length a) (length a + length l.text) n) shape (here a l tail header.is_ended) in
-    let next : IsAfterLine w n = record {
-      some = omega (arith, at.some);
-      feed = line.feed;
-      none = no_head_more at.some line (λ e. omega (arith, e, header.some)) at.none;
-    } in
+    let next = after_more at
+    (record { end = length a + length l.text; line = line; some = λ e. omega (arith, e, header.some) }) in
     let size : n ≡ length (a ++ line_bytes l) = sym (length-append a (line_bytes l)) in
     let start : IsAfterLine ((a ++ line_bytes l) ++ tail) (length (a ++ line_bytes l)) =
     subst (λ (v : List ℕ). IsAfterLine v (length (a ++ line_bytes l))) moved (subst (λ k. IsAfterLine w k) size next) in
@@ -165,11 +156,7 @@ head_found {first} {headers} {last} later lines =
     subst (λ k. IsLine (a ++ (fields ++ rest)) 0 (length first.text) k) next
     (subst (λ k. IsLine (a ++ (fields ++ rest)) 0 k (0 + length a)) text_end
     (here [] first (fields ++ rest) lines.first_is)) in
-    let start : IsAfterLine (a ++ (fields ++ rest)) (length a) = record {
-      some = zero.after;
-      feed = zero.feed;
-      none = no_head_first (a ++ (fields ++ rest)) (length first.text) (length a) zero;
-    } in
+    let start = after_first (a ++ (fields ++ rest)) (length first.text) (length a) zero in
     let at = walk a headers rest lines.headers_are start in
     let n = length a + length fields in
     let size : n ≡ length (a ++ fields) = sym (length-append a fields) in
@@ -188,4 +175,4 @@ head_found {first} {headers} {last} later lines =
     subst (λ (v : List ℕ). IsAfterLine v (length (a ++ fields))) shape
     (subst (λ k. IsAfterLine (a ++ (fields ++ rest)) k) size at) in
     subst (λ k. IsHead w k) (sym (length-append (a ++ fields) (line_bytes last)))
-    (head_here done.some done.feed line done.none)
+    (head_here done line)

@@ -7,8 +7,8 @@ use Rattle.std.proofs.lemmas.List.{append_assoc}
 use Rattle.vod_base.specs.Numbers.{is_decimal, number_of}
 use Rattle.rtsp_text.specs.Lines.{before_empty, first_line, header_lines}
 use Rattle.rtsp_text.specs.Grammar.{IsRequestLine, IsHeaderLine}
-use Rattle.rtsp_text.specs.Fields.{first_value, header_value, value_in, IsFirstField}
-use Rattle.rtsp_text.specs.Requests.{HasVersion, IsRequest, IsFault, IsFirstBad}
+use Rattle.rtsp_text.specs.Fields.{first_value, header_value, sequence_number, value_in, IsFirstField}
+use Rattle.rtsp_text.specs.Requests.{HasLength, HasVersion, IsFault, IsFirstBad}
 use Rattle.rtsp_text.specs.RequestTexts.{IsNamedText}
 use Rattle.rtsp_text.specs.RequestFaults.{HasLines, IsFirstUnnamed, IsLineOf, IsWrong, Writes, WritesNoDigits}
 use Rattle.rtsp_text.specs.declared.requests.RequestFault.{RequestFault}
@@ -23,7 +23,7 @@ first_is : (message first : List ℕ) (texts : List (List ℕ)) → HasLines mes
 unfolding first_line
 first_is message first texts has = ap (λ (ls : List (List ℕ)). slice_index_or ls 0 []) has.lines_are
 
-headers_are : (message first : List ℕ) (texts : List (List ℕ)) → HasLines message first texts
+pub headers_are : (message first : List ℕ) (texts : List (List ℕ)) → HasLines message first texts
     → header_lines message ≡ texts
 unfolding header_lines
 headers_are message first texts has =
@@ -177,21 +177,18 @@ fault_wrong message first texts fault has is =
     (record { line_is = first_is message first texts has; texts_are = headers_are message first texts has }) is
 
 -- the sequence number of a request, and its length
-pub sequence_written : {message first : List ℕ} {texts : List (List ℕ)} {method url : List ℕ} {sequence : ℕ}
-    {head body : List ℕ} →
-    HasLines message first texts → IsRequest message method url sequence head body →
-    Writes (codes "CSeq") texts sequence
-sequence_written {message} {first} {texts} {sequence} has request =
+pub sequence_written : {message first : List ℕ} {texts : List (List ℕ)} {sequence : ℕ} →
+    HasLines message first texts → sequence_number message ≡ Some sequence → Writes (codes "CSeq") texts sequence
+sequence_written {message} {first} {texts} {sequence} has is =
     writes (codes "CSeq") texts sequence
     (ap (λ ls. option_and_then number_of (first_value (codes "CSeq") ls))
-    (sym (headers_are message first texts has)) ∙ request.sequence_is)
+    (sym (headers_are message first texts has)) ∙ is)
 
-pub length_digits : {message first : List ℕ} {texts : List (List ℕ)} {method url : List ℕ} {sequence : ℕ}
-    {head body value : List ℕ} →
-    HasLines message first texts → IsRequest message method url sequence head body →
+pub length_digits : (message : List ℕ) {texts : List (List ℕ)} {value : List ℕ} →
+    header_lines message ≡ texts → HasLength message →
     IsFirstField (codes "Content-Length") texts value → is_decimal value ≡ true
-length_digits {message} {first} {texts} {value} has request field =
+length_digits message {texts} {value} are has field =
     let found : header_value message (codes "Content-Length") ≡ Some value =
-    ap (first_value (codes "Content-Length")) (headers_are message first texts has)
+    ap (first_value (codes "Content-Length")) are
     ∙ found_value (codes "Content-Length") texts value field (first_value (codes "Content-Length") texts) refl in
-    subst (λ (o : Option (List ℕ)). IfSome o (λ v. is_decimal v ≡ true)) found request.length_is
+    subst (λ (o : Option (List ℕ)). IfSome o (λ v. is_decimal v ≡ true)) found has

@@ -107,7 +107,7 @@ first_tells name (line ∷ lines) = go (value_in name line) refl (first_tells na
           none = λ is. none_more name line lines o_is (rest.none (sym same ∙ is));
         }
     go (Some v) o_is rest =
-        let same = first_value_some name line (line ∷ lines) lines refl o_is in
+        let same = first_value_some name line lines o_is in
         record {
           first = λ value is. record {
             index = 0;
@@ -187,7 +187,7 @@ number_tells name (line ∷ lines) = go (option_and_then number_of (value_in nam
           none = λ is. number_none_more name line lines o_is (rest.none (sym same ∙ is));
         }
     go (Some m) o_is rest =
-        let same = first_number_some name line (line ∷ lines) lines refl o_is in
+        let same = first_number_some name line lines o_is in
         record {
           first = λ n is. (
               let read = read_of (value_in name line) n (o_is ∙ sym same ∙ is) in

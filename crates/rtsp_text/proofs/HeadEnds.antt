@@ -39,47 +39,59 @@ cr_line m n b less is = rw is (grind (arith, nat_tests))
 cr_byte : (m n b : ℕ) → (nat_lt m n && (b == 13)) ≡ true → b ≡ 13
 cr_byte m n b h = grind (arith, nat_tests)
 
--- a line that isn't empty ends no head
-pub no_head_more : {w : List ℕ} {at e n : ℕ} → 0 < at → IsLine w at e n → e ≢ at → HasNoHead w at → HasNoHead w n
-no_head_more {w} {at} {n} after line some none = λ k below. (
+-- a line ends before this place, and no head does
+pub record IsAfterLine (w : List ℕ) (n : ℕ) : Type 0 where
+  pub some : 0 < n
+  pub feed : get_or w (n - 1) 0 ≡ 10
+  pub none : HasNoHead w n
+
+-- a line from `at` up to `n` has a text
+pub record IsFullLine (w : List ℕ) (at n : ℕ) : Type 0 where
+  pub end : ℕ
+  pub line : IsLine w at end n
+  pub some : end ≢ at
+
+-- such a line ends no head
+pub after_more : {w : List ℕ} {at n : ℕ} → IsAfterLine w at → IsFullLine w at n → IsAfterLine w n
+after_more {w} {at} {n} after full =
+    record { some = omega (arith, full.line.after); feed = full.line.feed; none = λ k below. (
     elim (cases_lt k at) [
-      | inl before ↦ none k before
+      | inl before ↦ after.none k before
       | inr from ↦ elim (cases_lt (k + 1) n) [
-        | inl inside ↦ not_feed w k (line.first k from inside)
+        | inl inside ↦ not_feed w k (full.line.first k from inside)
         | inr last ↦ (
             let k_is : k ≡ n - 1 = omega (arith, last, below) in
             not_after_feed w k
             (λ some_before e10. elim (cases_lt at k) [
-              | inl longer ↦ line.first (k - 1) (omega arith) (omega arith) e10
+              | inl longer ↦ full.line.first (k - 1) (omega arith) (omega arith) e10
               | inr short ↦
-                  some (line.text
+                  full.some (full.line.text
                   ∙ cond-false (nat_lt (at + 1) n && (get_or w (n - 2) 0 == 13)) (n - 2) (n - 1)
-                  (not_less (at + 1) n (get_or w (n - 2) 0 == 13) (omega arith)) ∙ omega (arith, line.after))
+                  (not_less (at + 1) n (get_or w (n - 2) 0 == 13) (omega arith)) ∙ omega (arith, full.line.after))
             ])
             (λ two_before e13 e10. elim (cases_lt (at + 1) k) [
-              | inl longer ↦ line.first (k - 2) (omega arith) (omega arith) e10
+              | inl longer ↦ full.line.first (k - 2) (omega arith) (omega arith) e10
               | inr short ↦ elim (cases_eq (at + 1) k) [
                 | inl here ↦ (
                     let same : k - 1 ≡ n - 2 = omega arith in
                     let cr : get_or w (n - 2) 0 ≡ 13 = ap (λ j. get_or w j 0) (sym same) ∙ e13 in
-                    some (line.text
+                    full.some (full.line.text
                     ∙ cond-true (nat_lt (at + 1) n && (get_or w (n - 2) 0 == 13)) (n - 2) (n - 1)
                     (cr_line (at + 1) n (get_or w (n - 2) 0) (omega arith) cr) ∙ omega arith)
                     )
                 | inr other ↦
-                    some (line.text
+                    full.some (full.line.text
                     ∙ cond-false (nat_lt (at + 1) n && (get_or w (n - 2) 0 == 13)) (n - 2) (n - 1)
-                    (not_less (at + 1) n (get_or w (n - 2) 0 == 13) (omega arith)) ∙ omega (arith, line.after))
+                    (not_less (at + 1) n (get_or w (n - 2) 0 == 13) (omega arith)) ∙ omega (arith, full.line.after))
               ]
             ])
             )
       ]
-    ])
+    ]) }
 
 -- an empty line ends the head
-pub head_here : {w : List ℕ} {at n : ℕ} → 0 < at → get_or w (at - 1) 0 ≡ 10 → IsLine w at at n → HasNoHead w at
-    → IsHead w n
-head_here {w} {at} {n} after feed line none = record {
+pub head_here : {w : List ℕ} {at n : ℕ} → IsAfterLine w at → IsLine w at at n → IsHead w n
+head_here {w} {at} {n} after line = record {
   some = omega (arith, line.after);
   within = line.within;
   ends = elim (cases_Bool (nat_lt (at + 1) n && (get_or w (n - 2) 0 == 13))) [
@@ -90,33 +102,33 @@ head_here {w} {at} {n} after feed line none = record {
         let byte : get_or w (n - 1 - 1) 0 ≡ get_or w (n - 2) 0 =
         ap (λ j. get_or w j 0) (let j : n - 1 - 1 ≡ n - 2 = omega arith in j) in
         let before : get_or w (n - 1 - 2) 0 ≡ 10 =
-        ap (λ j. get_or w j 0) (let j : n - 1 - 2 ≡ at - 1 = omega arith in j) ∙ feed in
+        ap (λ j. get_or w j 0) (let j : n - 1 - 2 ≡ at - 1 = omega arith in j) ∙ after.feed in
         let bytes : get_or w (n - 2) 0 ≡ 13 = cr_byte (at + 1) n (get_or w (n - 2) 0) cr in
-        ends_two w (n - 1) line.feed (omega (arith, after, text_end)) (byte ∙ bytes) before
+        ends_two w (n - 1) line.feed (omega (arith, after.some, text_end)) (byte ∙ bytes) before
         )
     | inr other ↦ (
         let text_end : at ≡ n - 1 =
         line.text ∙ cond-false (nat_lt (at + 1) n && (get_or w (n - 2) 0 == 13)) (n - 2) (n - 1) other in
         let before : get_or w (n - 1 - 1) 0 ≡ 10 =
-        ap (λ j. get_or w j 0) (let j : n - 1 - 1 ≡ at - 1 = omega (arith, line.after) in j) ∙ feed in
-        ends_one w (n - 1) line.feed (omega arith) before
+        ap (λ j. get_or w j 0) (let j : n - 1 - 1 ≡ at - 1 = omega (arith, line.after) in j) ∙ after.feed in
+        ends_one w (n - 1) line.feed (omega (arith, after.some, text_end)) before
         )
   ];
   first = λ k below. elim (cases_lt k at) [
-    | inl before ↦ none k before
+    | inl before ↦ after.none k before
     | inr from ↦ not_feed w k (line.first k from below)
   ];
 }
 
 -- the first line of a text ends no head
-pub no_head_first : (w : List ℕ) (e n : ℕ) → IsLine w 0 e n → HasNoHead w n
-no_head_first w e n line = λ k below.
+pub after_first : (w : List ℕ) (e n : ℕ) → IsLine w 0 e n → IsAfterLine w n
+after_first w e n line = record { some = line.after; feed = line.feed; none = λ k below.
     elim (cases_lt (k + 1) n) [
       | inl inside ↦ not_feed w k (line.first k (omega arith) inside)
       | inr last ↦
           not_after_feed w k (λ some. line.first (k - 1) (omega arith) (omega arith))
           (λ two cr. line.first (k - 2) (omega arith) (omega arith))
-    ]
+    ] }
 
 -- no head ends where no line does
 pub no_head_open : (w : List ℕ) (at head : ℕ) → HasNoHead w at → HasNoLine w at → IsHead w head → ⊥
@@ -208,10 +220,8 @@ text_take w at e m from few =
 
 -- the lines before a place are read, and no head ends among them
 pub record HasWalked (message : List ℕ) (at : ℕ) : Type 0 where
-  pub after : 0 < at
+  pub after : IsAfterLine message at
   pub within : at ≤ length message
-  pub feed : get_or message (at - 1) 0 ≡ 10
-  pub none : HasNoHead message at
   pub seen : List (List ℕ)
   pub whole : header_lines message ≡ seen ++ lines_before_empty (drop at message)
   pub front : (m : ℕ) → at ≤ m
@@ -222,10 +232,8 @@ pub walk_first : (w : List ℕ) (e n : ℕ) → IsLine w 0 e n → HasWalked w n
 walk_first w e n line =
     let next = next_here w e n line in
     record {
-      after = line.after;
+      after = after_first w e n line;
       within = line.within;
-      feed = line.feed;
-      none = no_head_first w e n line;
       seen = [];
       whole = sym (header_lines-next w (take e w) (drop n w) next);
       front = λ m few.
@@ -237,18 +245,18 @@ walk_first w e n line =
     }
 
 -- after one line more
-pub walk_more : {w : List ℕ} {at e n : ℕ} → HasWalked w at → IsLine w at e n → e ≢ at → HasWalked w n
-walk_more {w} {at} {e} {n} walked line some =
+pub walk_more : {w : List ℕ} {at n : ℕ} → HasWalked w at → IsFullLine w at n → HasWalked w n
+walk_more {w} {at} {n} walked full =
+    let e = full.end in
+    let line = full.line in
     let bounds = line_bounds w at e n line in
     let text = take (e - at) (drop at w) in
     let long : 0 < length text =
-    omega (arith, length-take (e - at) (drop at w), length-drop at w, bounds.0, bounds.1, line.within, some) in
+    omega (arith, length-take (e - at) (drop at w), length-drop at w, bounds.0, bounds.1, line.within, full.some) in
     let next = next_header (drop at w) text (drop n w) (next_at w at e n line) long in
     record {
-      after = omega (arith, line.after);
+      after = after_more walked.after full;
       within = line.within;
-      feed = line.feed;
-      none = no_head_more walked.after line some walked.none;
       seen = walked.seen ++ text ∷ [];
       whole = walked.whole ∙ ap (λ l. walked.seen ++ l) next
           ∙ sym (append_assoc walked.seen (text ∷ []) (lines_before_empty (drop n w)));
@@ -292,10 +300,10 @@ walk_end w at n walked line =
     let P : ℕ → Type 0 = λ k. IsHead w k in
     record {
       parts = sym (take-append-drop n w);
-      is_head = subst P (sym len) (head_here walked.after walked.feed line walked.none);
+      is_head = subst P (sym len) (head_here walked.after line);
       lines_are = lines_are;
       same_lines = same_header_lines (take n w) w lines_are;
     }
 
 pub next_ends : (w : List ℕ) (at total : ℕ) → IsMessageLength w total → HasWalked w at → HasNoLine w at → ⊥
-next_ends w at total request walked open_line = no_head_open w at request.head walked.none open_line request.is_head
+next_ends w at total request walked open_line = no_head_open w at request.head walked.after.none open_line request.is_head

@@ -99,13 +99,10 @@ pub first_value-nil : (name : List ℕ) (lines : List (List ℕ)) → lines ≡ 
 unfolding first_value
 first_value-nil name lines none = ap (λ ls. slice_get (filter_map (value_in name) ls) 0) none
 
-pub first_value_some : {value : List ℕ} (name line : List ℕ) (lines more : List (List ℕ)) →
-    lines ≡ line ∷ more → value_in name line ≡ Some value →
-    first_value name lines ≡ Some value
+pub first_value_some : {value : List ℕ} (name line : List ℕ) (more : List (List ℕ)) →
+    value_in name line ≡ Some value → first_value name (line ∷ more) ≡ Some value
 unfolding first_value
-first_value_some name line lines more are is =
-    ap (λ ls. slice_get (filter_map (value_in name) ls) 0) are
-    ∙ ap (λ o. slice_get (cons_option o (filter_map (value_in name) more)) 0) is
+first_value_some name line more is = ap (λ o. slice_get (cons_option o (filter_map (value_in name) more)) 0) is
 
 pub first_value_more : (name line : List ℕ) (lines more : List (List ℕ)) → lines ≡ line ∷ more
     → value_in name line ≡ None → first_value name lines ≡ first_value name more
@@ -129,12 +126,10 @@ number_none : (o : Option (List ℕ)) (values : List (List ℕ)) → option_and_
 number_none None values is = refl
 number_none (Some value) values is = ap (λ p. slice_get (cons_option p (filter_map number_of values)) 0) is
 
-pub first_number_some : {n : ℕ} (name line : List ℕ) (lines more : List (List ℕ)) → lines ≡ line ∷ more →
-    option_and_then number_of (value_in name line) ≡ Some n → first_number name lines ≡ Some n
+pub first_number_some : {n : ℕ} (name line : List ℕ) (more : List (List ℕ)) →
+    option_and_then number_of (value_in name line) ≡ Some n → first_number name (line ∷ more) ≡ Some n
 unfolding first_number
-first_number_some {n} name line lines more are is =
-    ap (λ ls. slice_get (filter_map number_of (filter_map (value_in name) ls)) 0) are
-    ∙ number_some (value_in name line) (filter_map (value_in name) more) n is
+first_number_some {n} name line more is = number_some (value_in name line) (filter_map (value_in name) more) n is
 
 pub first_number_more : (name line : List ℕ) (lines more : List (List ℕ)) → lines ≡ line ∷ more
     → option_and_then number_of (value_in name line) ≡ None → first_number name lines ≡ first_number name more

@@ -85,7 +85,7 @@ walk_texts a (t ∷ ts) rest all walked =
     ∙ sym (append_assoc a (t ++ codes "\r\n") (flat ts ++ rest)) in
     let here = subst (λ (w : List ℕ). IsLine w (length a) (length a + length t) (length a + length t + 2)) shape
     (line_here a t (flat ts ++ rest) line.one_line) in
-    let next = walk_more walked here (omega (arith, line.some)) in
+    let next = walk_more walked (record { end = length a + length t; line = here; some = omega (arith, line.some) }) in
     let size : length (a ++ (t ++ codes "\r\n")) ≡ length a + length t + 2 =
     length-append a (t ++ codes "\r\n") ∙ omega (arith, length-append t (codes "\r\n")) in
     let start : HasWalked ((a ++ (t ++ codes "\r\n")) ++ (flat ts ++ rest)) (length (a ++ (t ++ codes "\r\n"))) =

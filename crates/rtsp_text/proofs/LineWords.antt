@@ -65,10 +65,6 @@ line_parts {text} {method} {url} {version} {m} {u} first second line =
     let two = cut_once second one.after (all_other is_url_byte 32 refl u line.url_is.bytes) in
     record { method_is = one.front; url_is = two.front; version_is = two.after }
 
-pub line_rest : {text method rest m u v : List ℕ} → IsSplitAtFirst 32 text method rest
-    → IsRequestLine text m u v → rest ≡ u ++ 32 ∷ v
-line_rest {text} {method} {m} first line = (cut_once first line.parts (token_without 32 refl m line.method_is)).after
-
 -- what stands after the scheme
 record IsSlashSplit (rest authority path : List ℕ) : Type 0 where
   parts : rest ≡ authority ++ path

@@ -58,7 +58,7 @@ values_named name (f ∷ fs) all =
     let cut = field_cut f plain in
     elim (cases_Bool (str_eq_ignore_ascii_case f.name name)) [
       | inl same ↦
-          first_value_some name (text_of f) (map text_of (f ∷ fs)) (map text_of fs) refl
+          first_value_some name (text_of f) (map text_of fs)
           (value_some name (text_of f) f.name (32 ∷ f.value) cut same ∙ ap Some plain.bare)
           ∙ sym (cond-true (str_eq_ignore_ascii_case f.name name) (Some f.value) (value_named name fs) same)
       | inr other ↦
@@ -113,7 +113,7 @@ read_back {message} parts whole is plain text =
       reply = record {
         split = split;
         line = subst (λ (t : List ℕ). IsStatusLine t code (phrase code)) (sym first) (status_text-status code status);
-        body_is = (lengths_of message (front ++ codes "\r\n") body whole split).body_is;
+        body_is = (lengths_of whole split).body_is;
       };
       values = λ name. ap (first_value name) headers ∙ values_named name (all_fields sequence fields) plain;
     }

@@ -5,8 +5,8 @@ use Rattle.std.proofs.lemmas.List.Concat.{flat_map-append}
 use Rattle.rtsp_text.specs.Replies.{Field, field_line, sequence_line, status_line, reply_front, reply_text}
 
 -- a part after another
-pub two_put : {t1 t2 : List ℕ} (old a b : List ℕ) → t1 ≡ old ++ a → t2 ≡ t1 ++ b → t2 ≡ old ++ (a ++ b)
-two_put old a b h1 h2 = h2 ∙ ap (λ t. t ++ b) h1 ∙ append_assoc old a b
+pub two_put : {text : List ℕ} (old a b : List ℕ) → text ≡ old ++ a → text ++ b ≡ old ++ (a ++ b)
+two_put old a b is = ap (λ t. t ++ b) is ∙ append_assoc old a b
 
 -- a reply up to its last field grows by its fields
 pub front_start : (code : ℕ) (sequence : Option ℕ) (old new : List ℕ)

@@ -1,5 +1,5 @@
 -- The bounds of a request's parts.
-use Rattle.std.proofs.Common.{◌≡◌, ℕ, ◌<◌, ◌≤◌, List, [], ◌∷◌, ◌++◌, length, take, Result, Ok, Err, refl, ap, subst}
+use Rattle.std.proofs.Common.{◌≡◌, ℕ, ◌<◌, ◌≤◌, List, [], ◌∷◌, ◌++◌, codes, length, take, Result, Ok, Err, refl, ap, subst}
 use Rattle.std.proofs.Common.{◌∙◌, arith}
 use Rattle.std.specs.Prelude.{IfOk}
 use Rattle.std.proofs.lemmas.List.{length-append, take_at}
@@ -9,7 +9,6 @@ use Rattle.interleave.specs.Lengths.{IsBodyLength}
 use Rattle.interleave.specs.Elements.{IsMessageLength}
 use Rattle.interleave.proofs.ElementUniqueness.{head_once}
 use Rattle.rtsp_text.specs.Lines.{first_line, header_lines, IsSplit}
-use Rattle.rtsp_text.specs.Grammar.{IsRequestLine}
 use Rattle.rtsp_text.specs.Requests.{IsRequest}
 use Rattle.rtsp_text.proofs.LineBounds.{first_line_inside}
 
@@ -19,9 +18,9 @@ pub record AreLengths (head body : List ℕ) : Type 0 where
   pub body_is : IsBodyLength head (length body)
   pub body_short : length body ≤ MAX_BODY_BYTES
 
-pub lengths_of : (message head body : List ℕ) → IsMessageLength message (length message)
+pub lengths_of : {message head body : List ℕ} → IsMessageLength message (length message)
     → IsSplit message head body → AreLengths head body
-lengths_of message head body whole split =
+lengths_of {message} {head} {body} whole split =
     let same : whole.head ≡ length head = head_once message whole.head (length head) whole.is_head split.is_head in
     let front : take whole.head message ≡ head =
     ap (λ n. take n message) same ∙ ap (take (length head)) split.parts ∙ take_at head body (length head) refl in
@@ -32,19 +31,6 @@ lengths_of message head body whole split =
       body_is = subst (λ n. IsBodyLength head n) long (subst (λ h. IsBodyLength h whole.body) front whole.is_body);
       body_short = omega (arith, long, whole.small);
     }
-
--- a request's URL is shorter than its head
-url_short : {message head body method url version : List ℕ} → IsSplit message head body
-    → IsRequestLine (first_line message) method url version → length url < length head
-url_short {message} {head} {method} {url} {version} split line =
-    let i = first_line_inside head (first_line message) (header_lines message ++ [] ∷ []) split.lines_are in
-    omega (
-      arith,
-      i.short,
-      ap length line.parts,
-      length-append method (32 ∷ (url ++ 32 ∷ version)),
-      length-append url (32 ∷ version),
-    )
 
 -- how a value gives the parts of a request
 pub record RequestParts (X : Type 0) : Type 0 where
@@ -58,23 +44,18 @@ abbrev pub IsRequestOf : {X : Type 0} → RequestParts X → List ℕ → X → 
 IsRequestOf parts message x =
     IsRequest message (parts.method x) (parts.url x) (parts.sequence x) (parts.head x) (parts.body x)
 
--- the same of what was read
-pub read_head : {X E : Type 0} (message : List ℕ) (parts : RequestParts X) (r : Result X E) →
-    IsMessageLength message (length message) →
-    IfOk r (IsRequestOf parts message) → IfOk r (λ x. length (parts.head x) ≤ MAX_HEAD_BYTES)
-read_head message parts (Ok x) whole read =
-    (lengths_of message (parts.head x) (parts.body x) whole read.split).head_short
-read_head message parts (Err e) whole read = tt
-
-pub read_body : {X E : Type 0} (message : List ℕ) (parts : RequestParts X) (r : Result X E) →
-    IsMessageLength message (length message) →
-    IfOk r (IsRequestOf parts message) → IfOk r (λ x. length (parts.body x) ≤ MAX_BODY_BYTES)
-read_body message parts (Ok x) whole read =
-    (lengths_of message (parts.head x) (parts.body x) whole read.split).body_short
-read_body message parts (Err e) whole read = tt
-
+-- a request's URL is shorter than its head
 pub read_url : {X E : Type 0} (message : List ℕ) (parts : RequestParts X) (r : Result X E)
     → IfOk r (IsRequestOf parts message) →
     IfOk r (λ x. length (parts.url x) < length (parts.head x))
-read_url message parts (Ok x) read = url_short read.split read.line
+read_url message parts (Ok x) read =
+    let i = first_line_inside (parts.head x) (first_line message) (header_lines message ++ [] ∷ [])
+    read.split.lines_are in
+    omega (
+      arith,
+      i.short,
+      ap length read.line.parts,
+      length-append (parts.method x) (32 ∷ (parts.url x ++ 32 ∷ codes "RTSP/1.0")),
+      length-append (parts.url x) (32 ∷ codes "RTSP/1.0"),
+    )
 read_url message parts (Err e) read = tt

@@ -37,27 +37,27 @@ use Rattle.rtsp_text.proofs.GrammarBytes.{word_is, word_of, value_is, named_text
 use Rattle.rtsp_text.proofs.BodyLengths.{length_given, body_length_of}
 
 -- a message of these lines and this body, which has the length that the fields give, is complete
-record IsShort (head body : List ℕ) : Type 0 where
-  head_is : length head ≤ MAX_HEAD_BYTES
+record IsFitting (s : List ℕ) (fields : List Field) (body : List ℕ) : Type 0 where
+  given : length_given (value_named (codes "Content-Length") fields) ≡ length body
+  head_is : length (flat (s ∷ map text_of fields) ++ codes "\r\n") ≤ MAX_HEAD_BYTES
   body_is : length body ≤ MAX_BODY_BYTES
 
 whole_message : {s : List ℕ} (fields : List Field) (body : List ℕ) → IsLineText s → All IsPlain fields →
-    length_given (value_named (codes "Content-Length") fields) ≡ length body →
-    IsShort (flat (s ∷ map text_of fields) ++ codes "\r\n") body →
+    IsFitting s fields body →
     IsMessageLength ((flat (s ∷ map text_of fields) ++ codes "\r\n") ++ body)
     (length ((flat (s ∷ map text_of fields) ++ codes "\r\n") ++ body))
-whole_message {s} fields body one all given short =
+whole_message {s} fields body one all fits =
     let head = flat (s ∷ map text_of fields) ++ codes "\r\n" in
     let is_body : IsBodyLength head (length body) =
-    subst (λ n. IsBodyLength head n) given (body_length_of s fields one all) in
+    subst (λ n. IsBodyLength head n) fits.given (body_length_of s fields one all) in
     record {
       head = length head;
       body = length body;
       is_head = (core s (map text_of fields) body one (texts_lines fields all)).split.is_head;
-      fits = short.head_is;
+      fits = fits.head_is;
       is_body =
           subst (λ (h : List ℕ). IsBodyLength h (length body)) (sym (take_at head body (length head) refl)) is_body;
-      small = short.body_is;
+      small = fits.body_is;
       total_is = length-append head body;
     }
 
@@ -200,8 +200,11 @@ request_whole parts sequence request short =
     subst (λ (f : List ℕ). IsMessageLength ((f ++ codes "\r\n") ++ parts.body)
     (length ((f ++ codes "\r\n") ++ parts.body))) (sym (front_of parts))
     (whole_message parts.fields parts.body (line_text parts front) (plain_fields parts.fields front.fields_are)
-    (given_is (value_named (codes "Content-Length") parts.fields) parts.body request.length_is)
-    (record { head_is = subst long (front_of parts) short.head_is; body_is = short.body_is }))
+    (record {
+      given = given_is (value_named (codes "Content-Length") parts.fields) parts.body request.length_is;
+      head_is = subst long (front_of parts) short.head_is;
+      body_is = short.body_is;
+    }))
 
 -- a method begins a request
 byte_begins : (c : ℕ) → is_token_byte c ≡ true → (is_line_end c ≡ false) × ((c == BLOCK_START) ≡ false)
@@ -303,8 +306,11 @@ reply_whole parts is plain given short small =
     subst (λ (f : List ℕ). IsMessageLength ((f ++ codes "\r\n") ++ body) (length ((f ++ codes "\r\n") ++ body)))
     (sym lines_are)
     (whole_message (all_fields sequence fields) body (status_text-line code (status_of code is)) plain
-    (given_is (value_named (codes "Content-Length") (all_fields sequence fields)) body given)
-    (record { head_is = subst long lines_are short; body_is = small }))
+    (record {
+      given = given_is (value_named (codes "Content-Length") (all_fields sequence fields)) body given;
+      head_is = subst long lines_are short;
+      body_is = small;
+    }))
   where
     open parts use {code, sequence, fields, body}
 

@@ -9,10 +9,9 @@ use Rattle.std.proofs.lemmas.Str.Parse.{digits_value_short}
 use Rattle.std.proofs.lemmas.Option.{none-some}
 use Rattle.vod_base.specs.Numbers.{is_decimal, number_of}
 use Rattle.vod_base.specs.Splits.{IsSplitAtFirst}
-use Rattle.rtsp_text.specs.StatusLines.{IsCode, IsStatusLine, IsReply}
-use Rattle.rtsp_text.proofs.CutUniqueness.{cut_once, cut_none, all_other}
+use Rattle.rtsp_text.specs.StatusLines.{IsCode, IsStatusLine}
+use Rattle.rtsp_text.proofs.CutUniqueness.{cut_once, all_other}
 use Rattle.rtsp_text.proofs.NumberTexts.{number_read}
-use Rattle.rtsp_text.proofs.MessageUniqueness.{split_once}
 use Rattle.vod_base.proofs.DigitLemmas.{decimal_numerals}
 
 code_small : (text : List ℕ) → length text ≡ 3 → is_decimal text ≡ true → digits_value 10 text < 10 ^ 3
@@ -53,24 +52,13 @@ pub record AreStatusParts (version digits phrase d r : List ℕ) : Type 0 where
   pub digits_are : digits ≡ d
   pub phrase_is : phrase ≡ r
 
-pub status_rest : {text version rest : List ℕ} {code : ℕ} {r : List ℕ} → IsSplitAtFirst 32 text version rest
-    → (line : IsStatusLine text code r) → (version ≡ codes "RTSP/1.0") × (rest ≡ line.digits ++ 32 ∷ r)
-status_rest {text} {version} {code} {r} first line =
-    let one = cut_once first line.parts refl in
-    (one.front, one.after)
-
-pub status_none : {text version rest : List ℕ} {code : ℕ} {r : List ℕ} → IsSplitAtFirst 32 text version rest
-    → list_all (λ byte. not (byte == 32)) rest ≡ true → IsStatusLine text code r → ⊥
-status_none {text} {version} {rest} {code} {r} first none line =
-    cut_none 32 rest line.digits r none (status_rest first line).1
-
 pub status_parts : {text version rest digits phrase : List ℕ} {code : ℕ} {r : List ℕ}
     → IsSplitAtFirst 32 text version rest → IsSplitAtFirst 32 rest digits phrase
     → (line : IsStatusLine text code r) → AreStatusParts version digits phrase line.digits r
 status_parts {text} {version} {code} {r} first second line =
-    let one = status_rest first line in
-    let two = cut_once second one.1 (digits_cut line.digits r code line.is_code).first in
-    record { version_is = one.0; digits_are = two.front; phrase_is = two.after }
+    let one = cut_once {a = codes "RTSP/1.0"} first line.parts refl in
+    let two = cut_once second one.after (digits_cut line.digits r code line.is_code).first in
+    record { version_is = one.front; digits_are = two.front; phrase_is = two.after }
 
 pub whole_status : {text version rest digits phrase : List ℕ} {code : ℕ} → IsSplitAtFirst 32 text version rest →
     IsSplitAtFirst 32 rest digits phrase → version ≡ codes "RTSP/1.0" → IsCode digits code →
@@ -91,26 +79,3 @@ line_once {text} {c} {r} {s} a b =
     record { parts = a.parts; first = refl } in
     let same = status_parts first (digits_cut a.digits r c a.is_code) b in
     (a.is_code.code_is ∙ ap (digits_value 10) same.digits_are ∙ sym b.is_code.code_is, same.phrase_is)
-
--- what is read of a reply
-pub record Answered : Type 0 where
-  pub code : ℕ
-  pub phrase : List ℕ
-  pub head : List ℕ
-  pub body : List ℕ
-
-pub record AreSameReply (one other : Answered) : Type 0 where
-  pub code_is : one.code ≡ other.code
-  pub phrase_is : one.phrase ≡ other.phrase
-  pub head_is : one.head ≡ other.head
-  pub body_is : one.body ≡ other.body
-
--- a reply has one list of parts
-pub reply_once : {message : List ℕ} {c : ℕ} {r h b : List ℕ} {c' : ℕ} {r' h' b' : List ℕ}
-    → IsReply message c r h b → IsReply message c' r' h' b'
-    → AreSameReply (record { code = c; phrase = r; head = h; body = b })
-    (record { code = c'; phrase = r'; head = h'; body = b' })
-reply_once x y =
-    let line = line_once x.line y.line in
-    let split = split_once x.split y.split in
-    record { code_is = line.0; phrase_is = line.1; head_is = split.0; body_is = split.1 }

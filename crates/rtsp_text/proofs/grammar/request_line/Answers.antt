@@ -1,8 +1,8 @@
-use Rattle.std.proofs.Common.{sym, ap, subst, ◌∙◌}
+use Rattle.std.proofs.Common.{refl, sym, ap, subst, ◌∙◌}
 use Rattle.std.proofs.lemmas.Bool.{both_ways}
 use Rattle.rtsp_text.specs.Grammar.{is_token, IsUrl, IsVersion}
-use Rattle.rtsp_text.proofs.CutUniqueness.{cut_none}
-use Rattle.rtsp_text.proofs.LineWords.{line_rest, line_parts}
+use Rattle.rtsp_text.proofs.CutUniqueness.{cut_none, cut_once}
+use Rattle.rtsp_text.proofs.LineWords.{line_parts, token_without}
 use Rattle.rtsp_text.proofs.grammar.request_line.Goals as goal
 use Rattle.rtsp_text.proofs.grammar.request_line.Goals.{else-is_token-via-then-is_token+then-is_url+else-is_version}
 use Rattle.rtsp_text.proofs.grammar.request_line.Goals.{else-is_token-via-then-is_token+else-is_url}
@@ -12,7 +12,7 @@ pub returns-in_err-url : goal.returns-in_err-url
 returns-in_err-url c =
     rw c.from_residual-in_err-url.ensures
     (λ m u v line. cut_none 32 c.in_ok-method.rest.now u v c.in_err-url.ensures
-    (line_rest c.in_ok-method.ensures line))
+    (cut_once c.in_ok-method.ensures line.parts (token_without 32 refl m line.method_is)).after)
 
 pub returns-else-is_token : goal.returns-else-is_token
 returns-else-is_token c = λ m u v line.

@@ -12,7 +12,8 @@ returns-then-line-at-clause-split c =
 
 pub loop-line-preserved : goal.loop-line-preserved
 loop-line-preserved c =
-    walk_more c.loop-line.invariant c.in-Some-line_end.ensures.found c.if-line-at.false
+    walk_more c.loop-line.invariant
+    (record { end = _; line = c.in-Some-line_end.ensures.found; some = c.if-line-at.false })
 
 -- each line has an end, and so does a complete request's head
 pub returns-clause-split : goal.returns-clause-split

@@ -10,5 +10,5 @@ returns-clause-read c = record {
   sequence_is = search rules;
   length_is = search rules;
   body_is =
-      (lengths_of c.args.message.now c.split.result.0.now c.split.result.1.now c.requires c.split.ensures).body_is;
+      (lengths_of c.requires c.split.ensures).body_is;
 }

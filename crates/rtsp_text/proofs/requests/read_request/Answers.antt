@@ -1,6 +1,7 @@
+use Rattle.std.proofs.lemmas.Result.{IfOk-weaker}
 use Rattle.rtsp_text.specs.declared.requests.Request.{Request}
 use Rattle.rtsp_text.proofs.MessageUniqueness.{fault_once, no_fault, request_once, ok_and, err_is}
-use Rattle.rtsp_text.proofs.RequestBounds.{RequestParts, read_head, read_body, read_url}
+use Rattle.rtsp_text.proofs.RequestBounds.{RequestParts, lengths_of, read_url}
 use Rattle.rtsp_text.proofs.requests.read_request.Goals as goal
 
 pub returns-clause-requests : goal.returns-clause-requests
@@ -28,10 +29,12 @@ parts = record {
 }
 
 pub returns-clause-head : goal.returns-clause-head
-returns-clause-head c = read_head c.args.message.now parts c.read_parts.result c.requires c.read_parts.ensures.read
+returns-clause-head c =
+    IfOk-weaker c.read_parts.result _ _ (λ r read. (lengths_of c.requires read.split).head_short) c.read_parts.ensures.read
 
 pub returns-clause-url : goal.returns-clause-url
 returns-clause-url c = read_url c.args.message.now parts c.read_parts.result c.read_parts.ensures.read
 
 pub returns-clause-body : goal.returns-clause-body
-returns-clause-body c = read_body c.args.message.now parts c.read_parts.result c.requires c.read_parts.ensures.read
+returns-clause-body c =
+    IfOk-weaker c.read_parts.result _ _ (λ r read. (lengths_of c.requires read.split).body_short) c.read_parts.ensures.read

@@ -1,7 +1,8 @@
 use Rattle.std.proofs.Common.{ℕ, List, sym, subst}
 use Rattle.rtsp_text.specs.StatusLines.{IsStatusLine}
+use Rattle.rtsp_text.proofs.MessageUniqueness.{split_once}
 use Rattle.rtsp_text.proofs.RequestBounds.{lengths_of}
-use Rattle.rtsp_text.proofs.StatusTexts.{reply_once}
+use Rattle.rtsp_text.proofs.StatusTexts.{line_once}
 use Rattle.rtsp_text.proofs.status_lines.read_reply.Goals as goal
 
 pub returns-in_err-code-clause-read : goal.returns-in_err-code-clause-read
@@ -21,19 +22,17 @@ returns-clause-read c = record {
   split = c.split.ensures;
   line = subst (λ (t : List ℕ). IsStatusLine t c.in_ok-code.code c.in_ok-code.phrase.now) c.first_line.ensures
       c.in_ok-code.ensures;
-  body_is =
-      (lengths_of c.args.message.now c.split.result.0.now c.split.result.1.now c.requires c.split.ensures).body_is;
+  body_is = (lengths_of c.requires c.split.ensures).body_is;
 }
 
 pub returns-clause-replies : goal.returns-clause-replies
 returns-clause-replies c = λ code phrase head body is.
-    let same = reply_once (returns-clause-read c) is in
-    (same.code_is, same.phrase_is, same.head_is, same.body_is)
+    let line = line_once (returns-clause-read c).line is.line in
+    let split = split_once (returns-clause-read c).split is.split in
+    (line.0, line.1, split.0, split.1)
 
 pub returns-clause-head : goal.returns-clause-head
-returns-clause-head c =
-    (lengths_of c.args.message.now c.split.result.0.now c.split.result.1.now c.requires c.split.ensures).head_short
+returns-clause-head c = (lengths_of c.requires c.split.ensures).head_short
 
 pub returns-clause-body : goal.returns-clause-body
-returns-clause-body c =
-    (lengths_of c.args.message.now c.split.result.0.now c.split.result.1.now c.requires c.split.ensures).body_short
+returns-clause-body c = (lengths_of c.requires c.split.ensures).body_short

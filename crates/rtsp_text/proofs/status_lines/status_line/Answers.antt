@@ -1,8 +1,9 @@
-use Rattle.std.proofs.Common.{◌≡◌, ℕ, List, length, get_or, sym, ap, subst, ◌∙◌, arith}
+use Rattle.std.proofs.Common.{◌≡◌, ℕ, List, codes, length, get_or, refl, sym, ap, subst, ◌∙◌, arith}
 use Rattle.std.proofs.lemmas.Bool.{both_ways, eqb-true}
 use Rattle.rtsp_text.specs.StatusLines.{IsCode}
+use Rattle.rtsp_text.proofs.CutUniqueness.{cut_none, cut_once}
 use Rattle.rtsp_text.proofs.LineIteration.{some_bytes}
-use Rattle.rtsp_text.proofs.StatusTexts.{status_none, status_parts, whole_status}
+use Rattle.rtsp_text.proofs.StatusTexts.{status_parts, whole_status}
 use Rattle.rtsp_text.proofs.status_lines.status_line.Goals as goal
 use Rattle.rtsp_text.proofs.status_lines.status_line.Goals.{then-not-is_rtsp_1_0-via-then-not-is_rtsp_1_0}
 use Rattle.rtsp_text.proofs.status_lines.status_line.Goals.{then-not-is_rtsp_1_0-via-else-not-is_rtsp_1_0+then-is_empty}
@@ -11,7 +12,8 @@ use Rattle.rtsp_text.proofs.status_lines.status_line.Goals.{then-not-is_rtsp_1_0
 pub returns-in_err-digits : goal.returns-in_err-digits
 returns-in_err-digits c =
     rw c.from_residual-in_err-digits.ensures
-    (λ code phrase line. status_none c.in_ok-version.ensures c.in_err-digits.ensures line)
+    (λ code phrase line. cut_none 32 _ line.digits phrase c.in_err-digits.ensures
+    (cut_once {a = codes "RTSP/1.0"} c.in_ok-version.ensures line.parts refl).after)
 
 pub returns-then-not-is_rtsp_1_0 : goal.returns-then-not-is_rtsp_1_0
 returns-then-not-is_rtsp_1_0 c = λ code phrase line.
@@ -36,6 +38,5 @@ returns c =
 pub returns-in_err-code : goal.returns-in_err-code
 returns-in_err-code c =
     rw c.from_residual-in_err-code.ensures
-    (λ code phrase line.
-    let same = status_parts c.in_ok-version.ensures c.in_ok-digits.ensures line in
-    c.in_err-code.ensures code (subst (λ (d : List ℕ). IsCode d code) (sym same.digits_are) line.is_code))
+    (λ code phrase line. c.in_err-code.ensures code (subst (λ (d : List ℕ). IsCode d code)
+    (sym (status_parts c.in_ok-version.ensures c.in_ok-digits.ensures line).digits_are) line.is_code))

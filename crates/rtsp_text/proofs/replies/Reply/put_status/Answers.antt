@@ -11,8 +11,9 @@ returns-clause-text c =
     let version = codes "RTSP/1.0 " in
     let code = decimal c.args.code in
     let with_code =
-    two_put old version code c.put.ensures.text (c.put-2.ensures.text ∙ ap (λ t. c.put.new.self ++ t) digits) in
-    let with_phrase = two_put old (version ++ code ++ codes " ") (phrase c.args.code)
-    (two_put old (version ++ code) (codes " ") with_code c.put-3.ensures.text)
-    (c.put-4.ensures.text ∙ ap (λ t. c.put-3.new.self ++ t) c.phrase.ensures.text) in
-    two_put old (version ++ code ++ codes " " ++ phrase c.args.code) (codes "\r\n") with_phrase c.put-5.ensures.text
+    c.put-2.ensures.text ∙ ap (λ t. c.put.new.self ++ t) digits ∙ two_put old version code c.put.ensures.text in
+    let with_phrase =
+    c.put-4.ensures.text ∙ ap (λ t. c.put-3.new.self ++ t) c.phrase.ensures.text
+    ∙ two_put old (version ++ code ++ codes " ") (phrase c.args.code)
+    (c.put-3.ensures.text ∙ two_put old (version ++ code) (codes " ") with_code) in
+    c.put-5.ensures.text ∙ two_put old (version ++ code ++ codes " " ++ phrase c.args.code) (codes "\r\n") with_phrase

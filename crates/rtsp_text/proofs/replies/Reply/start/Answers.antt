@@ -11,8 +11,8 @@ returns-in-Some-clause-text c =
     let line : field_line (record { name = codes "CSeq"; value = c.as_bytes.result.now })
     ≡ sequence_line c.args.sequence =
     ap (λ t. field_line (record { name = codes "CSeq"; value = t })) digits ∙ sym (ap sequence_line c.in-Some.is) in
-    two_put c.args.self.now (status_line c.args.code) (sequence_line c.args.sequence) c.put_status.ensures.text
-    (c.put_field.ensures.text ∙ ap (λ t. c.put_status.new.self ++ t) line)
+    c.put_field.ensures.text ∙ ap (λ t. c.put_status.new.self ++ t) line
+    ∙ two_put c.args.self.now (status_line c.args.code) (sequence_line c.args.sequence) c.put_status.ensures.text
 
 pub returns-in-Some-clause-front : goal.returns-in-Some-clause-front
 returns-in-Some-clause-front c =
