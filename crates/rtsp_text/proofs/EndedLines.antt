@@ -9,7 +9,7 @@ use Rattle.vod_base.specs.Lines.{IsLine}
 use Rattle.interleave.specs.Heads.{IsHead}
 use Rattle.rtsp_text.specs.Lines.{is_one_line}
 use Rattle.rtsp_text.specs.TerminatedLines.{EndedLine, line_bytes, head_bytes, IsEnded, IsHeader, IsEmpty}
-use Rattle.rtsp_text.proofs.HeadEnds.{IsAfterLine, IsFullLine, after_first, after_more, head_here}
+use Rattle.rtsp_text.proofs.HeadEnds.{IsAfterLine, after_first, after_more, head_here}
 use Rattle.rtsp_text.proofs.LineTexts.{line_here, other_byte}
 
 and_right_false : (p q : Bool) → q ≡ false → (p && q) ≡ false

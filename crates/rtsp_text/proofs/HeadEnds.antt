@@ -54,40 +54,44 @@ pub record IsFullLine (w : List ℕ) (at n : ℕ) : Type 0 where
 -- such a line ends no head
 pub after_more : {w : List ℕ} {at n : ℕ} → IsAfterLine w at → IsFullLine w at n → IsAfterLine w n
 after_more {w} {at} {n} after full =
-    record { some = omega (arith, full.line.after); feed = full.line.feed; none = λ k below. (
-    elim (cases_lt k at) [
-      | inl before ↦ after.none k before
-      | inr from ↦ elim (cases_lt (k + 1) n) [
-        | inl inside ↦ not_feed w k (full.line.first k from inside)
-        | inr last ↦ (
-            let k_is : k ≡ n - 1 = omega (arith, last, below) in
-            not_after_feed w k
-            (λ some_before e10. elim (cases_lt at k) [
-              | inl longer ↦ full.line.first (k - 1) (omega arith) (omega arith) e10
-              | inr short ↦
-                  full.some (full.line.text
-                  ∙ cond-false (nat_lt (at + 1) n && (get_or w (n - 2) 0 == 13)) (n - 2) (n - 1)
-                  (not_less (at + 1) n (get_or w (n - 2) 0 == 13) (omega arith)) ∙ omega (arith, full.line.after))
-            ])
-            (λ two_before e13 e10. elim (cases_lt (at + 1) k) [
-              | inl longer ↦ full.line.first (k - 2) (omega arith) (omega arith) e10
-              | inr short ↦ elim (cases_eq (at + 1) k) [
-                | inl here ↦ (
-                    let same : k - 1 ≡ n - 2 = omega arith in
-                    let cr : get_or w (n - 2) 0 ≡ 13 = ap (λ j. get_or w j 0) (sym same) ∙ e13 in
-                    full.some (full.line.text
-                    ∙ cond-true (nat_lt (at + 1) n && (get_or w (n - 2) 0 == 13)) (n - 2) (n - 1)
-                    (cr_line (at + 1) n (get_or w (n - 2) 0) (omega arith) cr) ∙ omega arith)
-                    )
-                | inr other ↦
-                    full.some (full.line.text
-                    ∙ cond-false (nat_lt (at + 1) n && (get_or w (n - 2) 0 == 13)) (n - 2) (n - 1)
-                    (not_less (at + 1) n (get_or w (n - 2) 0 == 13) (omega arith)) ∙ omega (arith, full.line.after))
-              ]
-            ])
-            )
-      ]
-    ]) }
+    record {
+      some = omega (arith, full.line.after);
+      feed = full.line.feed;
+      none = λ k below. (
+          elim (cases_lt k at) [
+            | inl before ↦ after.none k before
+            | inr from ↦ elim (cases_lt (k + 1) n) [
+              | inl inside ↦ not_feed w k (full.line.first k from inside)
+              | inr last ↦ (
+                  let k_is : k ≡ n - 1 = omega (arith, last, below) in
+                  not_after_feed w k
+                  (λ some_before e10. elim (cases_lt at k) [
+                    | inl longer ↦ full.line.first (k - 1) (omega arith) (omega arith) e10
+                    | inr short ↦
+                        full.some (full.line.text
+                        ∙ cond-false (nat_lt (at + 1) n && (get_or w (n - 2) 0 == 13)) (n - 2) (n - 1)
+                        (not_less (at + 1) n (get_or w (n - 2) 0 == 13) (omega arith)) ∙ omega (arith, full.line.after))
+                  ])
+                  (λ two_before e13 e10. elim (cases_lt (at + 1) k) [
+                    | inl longer ↦ full.line.first (k - 2) (omega arith) (omega arith) e10
+                    | inr short ↦ elim (cases_eq (at + 1) k) [
+                      | inl here ↦ (
+                          let same : k - 1 ≡ n - 2 = omega arith in
+                          let cr : get_or w (n - 2) 0 ≡ 13 = ap (λ j. get_or w j 0) (sym same) ∙ e13 in
+                          full.some (full.line.text
+                          ∙ cond-true (nat_lt (at + 1) n && (get_or w (n - 2) 0 == 13)) (n - 2) (n - 1)
+                          (cr_line (at + 1) n (get_or w (n - 2) 0) (omega arith) cr) ∙ omega arith)
+                          )
+                      | inr other ↦
+                          full.some (full.line.text
+                          ∙ cond-false (nat_lt (at + 1) n && (get_or w (n - 2) 0 == 13)) (n - 2) (n - 1)
+                          (not_less (at + 1) n (get_or w (n - 2) 0 == 13) (omega arith)) ∙ omega (arith, full.line.after))
+                    ]
+                  ])
+                  )
+            ]
+          ]);
+    }
 
 -- an empty line ends the head
 pub head_here : {w : List ℕ} {at n : ℕ} → IsAfterLine w at → IsLine w at at n → IsHead w n
@@ -122,13 +126,17 @@ head_here {w} {at} {n} after line = record {
 
 -- the first line of a text ends no head
 pub after_first : (w : List ℕ) (e n : ℕ) → IsLine w 0 e n → IsAfterLine w n
-after_first w e n line = record { some = line.after; feed = line.feed; none = λ k below.
-    elim (cases_lt (k + 1) n) [
-      | inl inside ↦ not_feed w k (line.first k (omega arith) inside)
-      | inr last ↦
-          not_after_feed w k (λ some. line.first (k - 1) (omega arith) (omega arith))
-          (λ two cr. line.first (k - 2) (omega arith) (omega arith))
-    ] }
+after_first w e n line = record {
+  some = line.after;
+  feed = line.feed;
+  none = λ k below.
+      elim (cases_lt (k + 1) n) [
+        | inl inside ↦ not_feed w k (line.first k (omega arith) inside)
+        | inr last ↦
+            not_after_feed w k (λ some. line.first (k - 1) (omega arith) (omega arith))
+            (λ two cr. line.first (k - 2) (omega arith) (omega arith))
+      ];
+}
 
 -- no head ends where no line does
 pub no_head_open : (w : List ℕ) (at head : ℕ) → HasNoHead w at → HasNoLine w at → IsHead w head → ⊥

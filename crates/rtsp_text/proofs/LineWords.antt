@@ -144,8 +144,8 @@ numbers text major minor cut major_is minor_is =
     record { major = major; minor = minor; parts = cut.parts; major_is = major_is; minor_is = minor_is }
 
 -- a request line's cuts
-pub method_cut : (text m u v : List ℕ) → IsRequestLine text m u v → IsSplitAtFirst 32 text m (u ++ 32 ∷ v)
-method_cut text m u v line = record { parts = line.parts; first = token_without 32 refl m line.method_is }
+pub method_cut : {text m u v : List ℕ} → IsRequestLine text m u v → IsSplitAtFirst 32 text m (u ++ 32 ∷ v)
+method_cut {m} line = record { parts = line.parts; first = token_without 32 refl m line.method_is }
 
-pub url_cut : (text m u v : List ℕ) → IsRequestLine text m u v → IsSplitAtFirst 32 (u ++ 32 ∷ v) u v
-url_cut text m u v line = record { parts = refl; first = all_other is_url_byte 32 refl u line.url_is.bytes }
+pub url_cut : {text m u v : List ℕ} → IsRequestLine text m u v → IsSplitAtFirst 32 (u ++ 32 ∷ v) u v
+url_cut {u} line = record { parts = refl; first = all_other is_url_byte 32 refl u line.url_is.bytes }

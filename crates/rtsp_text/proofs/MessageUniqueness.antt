@@ -6,22 +6,19 @@ use Rattle.std.proofs.lemmas.Bool.{cases_order}
 use Rattle.std.proofs.lemmas.List.{take_at, drop_at, length-drop, get_or-drop, drop-drop}
 use Rattle.std.proofs.lemmas.List.Elements.{All-from_get_or}
 use Rattle.std.proofs.lemmas.Option.{none-some, same_Some}
+use Rattle.interleave.specs.Heads.{IsHead}
 use Rattle.interleave.proofs.ElementUniqueness.{head_once}
 use Rattle.rtsp_text.specs.Lines.{header_lines, IsSplit}
-use Rattle.rtsp_text.specs.Grammar.{IsRequestLine, IsHeaderLine}
+use Rattle.rtsp_text.specs.Grammar.{IsHeaderLine}
 use Rattle.rtsp_text.specs.Requests.{HasVersion, IsRequest, IsFirstBad, IsFault}
 use Rattle.rtsp_text.specs.declared.requests.RequestFault.{RequestFault}
 use Rattle.rtsp_text.specs.declared.requests.RequestFault.TheVariants.{BadLine, BadVersion, BadHeader}
 use Rattle.rtsp_text.specs.declared.requests.RequestFault.TheVariants.{NoSequenceNumber, BadLength}
-use Rattle.rtsp_text.proofs.LineWords.{AreLineParts, line_parts, method_cut, url_cut}
+use Rattle.rtsp_text.proofs.LineWords.{line_parts, method_cut, url_cut}
 
--- a request line has one method, one URL and one version
-line_once : {text m u v m' u' v' : List ℕ} → IsRequestLine text m u v → IsRequestLine text m' u' v'
-    → AreLineParts m u v m' u' v'
-line_once {text} {m} {u} {v} a b = line_parts (method_cut text m u v a) (url_cut text m u v a) b
-
+-- a request line has one version
 version_once : (message v w : List ℕ) → HasVersion message v → HasVersion message w → v ≡ w
-version_once message v w a b = (line_once a.1.1 b.1.1).version_is
+version_once message v w a b = (line_parts (method_cut a.1.1) (url_cut a.1.1) b.1.1).version_is
 
 -- the first bad line
 pub bad_once : (lines : List (List ℕ)) (n m : ℕ) → IsFirstBad lines n → IsFirstBad lines m → n ≡ m
@@ -75,13 +72,12 @@ no_fault {sequence} NoSequenceNumber r f = none-some sequence (sym f.2 ∙ r.seq
 no_fault BadLength r f = f.3 r.length_is
 
 -- a message has one head and one body
-pub split_once : {message h b h' b' : List ℕ} → IsSplit message h b → IsSplit message h' b' → (h ≡ h') × (b ≡ b')
-split_once {message} {h} {b} {h'} {b'} x y =
-    let len : length h ≡ length h' = head_once message (length h) (length h') x.is_head y.is_head in (
-      sym (take_at h b (length h) refl) ∙ ap (take (length h)) (sym x.parts) ∙ ap (λ n. take n message) len
-          ∙ ap (take (length h')) y.parts ∙ take_at h' b' (length h') refl,
-      sym (drop_at h b (length h) refl) ∙ ap (drop (length h)) (sym x.parts) ∙ ap (λ n. drop n message) len
-          ∙ ap (drop (length h')) y.parts ∙ drop_at h' b' (length h') refl,
+pub split_at : {message h b : List ℕ} (n : ℕ) → IsSplit message h b → IsHead message n
+    → (h ≡ take n message) × (b ≡ drop n message)
+split_at {message} {h} {b} n split head =
+    let size : length h ≡ n = head_once message (length h) n split.is_head head in (
+      sym (take_at h b n size) ∙ ap (take n) (sym split.parts),
+      sym (drop_at h b n size) ∙ ap (drop n) (sym split.parts),
     )
 
 -- what is read of a request
@@ -104,27 +100,26 @@ pub request_once : {message m u : List ℕ} {s : ℕ} {h b m' u' : List ℕ} {s'
     → IsRequest message m u s h b → IsRequest message m' u' s' h' b'
     → AreSameParts (record { method = m; url = u; sequence = s; head = h; body = b })
     (record { method = m'; url = u'; sequence = s'; head = h'; body = b' })
-request_once {s} {s'} x y =
-    let line = line_once x.line y.line in
-    let split = split_once x.split y.split in
+request_once {s} {s'} {h'} x y =
+    let line = line_parts (method_cut x.line) (url_cut x.line) y.line in
+    let one = split_at (length h') x.split y.split.is_head in
+    let other = split_at (length h') y.split y.split.is_head in
     record {
       method_is = line.method_is;
       url_is = line.url_is;
       sequence_is = same_Some s s' (sym x.sequence_is ∙ y.sequence_is);
-      head_is = split.0;
-      body_is = split.1;
+      head_is = one.0 ∙ sym other.0;
+      body_is = one.1 ∙ sym other.1;
     }
 
 -- from what an answer says to the answer
-pub ok_and : {X E : Type 0} {P Q : X → Type 0} {R : E → Type 0} (r : Result X E) → IfOk r P → IfErr r R
-    → ((x : X) → P x → Q x) → ((e : E) → R e → ⊥) → IsOkAnd r Q
-ok_and {P} (Ok x) read refused read_is refused_is = read_is x read
-ok_and {P} (Err e) read refused read_is refused_is = absurd (refused_is e refused)
+pub ok_and : {X E : Type 0} (Q : X → Type 0) (r : Result X E) → IfOk r Q → IfErr r (λ _. ⊥) → IsOkAnd r Q
+ok_and Q (Ok x) read refused = read
+ok_and Q (Err e) read refused = absurd refused
 
-pub err_is : {X E : Type 0} {r : Result X E} {P : X → Type 0} {R : E → Type 0} {f : E} → IfOk r P → IfErr r R
-    → ((x : X) → P x → ⊥) → ((e : E) → R e → e ≡ f) → r ≡ Err f
-err_is {r = Ok x} {P} read refused refused_is read_is = absurd (refused_is x read)
-err_is {r = Err e} {P} read refused refused_is read_is = ap Err (read_is e refused)
+pub err_is : {X E : Type 0} {f : E} (r : Result X E) → IfOk r (λ _. ⊥) → IfErr r (λ e. e ≡ f) → r ≡ Err f
+err_is (Ok x) read refused = absurd read
+err_is (Err e) read refused = ap Err refused
 
 -- one header line more
 pub record IsAt (lines : List (List ℕ)) (n : ℕ) (line : List ℕ) (more : List (List ℕ)) : Type 0 where

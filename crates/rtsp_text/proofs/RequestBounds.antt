@@ -10,6 +10,7 @@ use Rattle.interleave.specs.Elements.{IsMessageLength}
 use Rattle.interleave.proofs.ElementUniqueness.{head_once}
 use Rattle.rtsp_text.specs.Lines.{first_line, header_lines, IsSplit}
 use Rattle.rtsp_text.specs.Requests.{IsRequest}
+use Rattle.rtsp_text.specs.declared.requests.Request.{Request}
 use Rattle.rtsp_text.proofs.LineBounds.{first_line_inside}
 
 -- the head and the body of a complete request, by its length
@@ -39,6 +40,16 @@ pub record RequestParts (X : Type 0) : Type 0 where
   pub method : X → List ℕ
   pub url : X → List ℕ
   pub sequence : X → ℕ
+
+-- a request that was read gives its parts
+abbrev pub request_parts : RequestParts Request
+request_parts = record {
+  head = λ r. r.head.now;
+  body = λ r. r.body.now;
+  method = λ r. r.method.now;
+  url = λ r. r.url.now;
+  sequence = λ r. r.sequence;
+}
 
 abbrev pub IsRequestOf : {X : Type 0} → RequestParts X → List ℕ → X → Type 0
 IsRequestOf parts message x =

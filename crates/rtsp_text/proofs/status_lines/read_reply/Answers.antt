@@ -1,6 +1,6 @@
-use Rattle.std.proofs.Common.{ℕ, List, sym, subst}
+use Rattle.std.proofs.Common.{ℕ, List, length, sym, subst, ◌∙◌}
 use Rattle.rtsp_text.specs.StatusLines.{IsStatusLine}
-use Rattle.rtsp_text.proofs.MessageUniqueness.{split_once}
+use Rattle.rtsp_text.proofs.MessageUniqueness.{split_at}
 use Rattle.rtsp_text.proofs.RequestBounds.{lengths_of}
 use Rattle.rtsp_text.proofs.StatusTexts.{line_once}
 use Rattle.rtsp_text.proofs.status_lines.read_reply.Goals as goal
@@ -28,8 +28,9 @@ returns-clause-read c = record {
 pub returns-clause-replies : goal.returns-clause-replies
 returns-clause-replies c = λ code phrase head body is.
     let line = line_once (returns-clause-read c).line is.line in
-    let split = split_once (returns-clause-read c).split is.split in
-    (line.0, line.1, split.0, split.1)
+    let one = split_at (length head) c.split.ensures is.split.is_head in
+    let other = split_at (length head) is.split is.split.is_head in
+    (line.0, line.1, one.0 ∙ sym other.0, one.1 ∙ sym other.1)
 
 pub returns-clause-head : goal.returns-clause-head
 returns-clause-head c = (lengths_of c.requires c.split.ensures).head_short
