@@ -7,7 +7,7 @@ use Rattle.rtsp_fields.specs.NptTimes.{IsDigits, IsClock, AreSeconds, IsFraction
 use Rattle.rtsp_fields.proofs.PartPlaces.{end_once}
 
 -- a clock time, cut at its colons
-pub record IsClockAt (text : List ℕ) (first second seconds : ℕ) : Type 0 where
+pub record IsClockAt (text : List ℕ) (first second : ℕ) : Type 0 where
   pub inside : second < length text
   pub hours : ℕ
   pub minutes : ℕ
@@ -22,14 +22,19 @@ pub first_colon : (text : List ℕ) (first seconds : ℕ) (clock : IsClock text 
     → clock.first ≡ first
 first_colon text first seconds clock e = end_once clock.hours_end e
 
-pub clock_at : {text : List ℕ} {first second seconds : ℕ} → IsPartEnd 58 text 0 first
-    → IsPartEnd 58 text (first + 1) second → IsClock text seconds → IsClockAt text first second seconds
-clock_at {text} {first} {second} {seconds} e f clock =
-    let same : clock.first ≡ first = first_colon text first seconds clock e in
+-- the first two colons, or the text's end
+pub record AreColons (text : List ℕ) (first second : ℕ) : Type 0 where
+  pub hours_end : IsPartEnd 58 text 0 first
+  pub minutes_end : IsPartEnd 58 text (first + 1) second
+
+pub clock_at : {text : List ℕ} {first second seconds : ℕ} → AreColons text first second → IsClock text seconds
+    → IsClockAt text first second
+clock_at {text} {first} {second} {seconds} colons clock =
+    let same : clock.first ≡ first = first_colon text first seconds clock colons.hours_end in
     let E : ℕ → Type 0 = λ n. IsPartEnd 58 text (n + 1) clock.second in
-    let same_second : clock.second ≡ second = end_once (subst E same clock.minutes_end) f in
-    let C : ℕ → Type 0 = λ n. IsClockAt text n clock.second seconds in
-    subst (λ (n : ℕ). IsClockAt text first n seconds) same_second
+    let same_second : clock.second ≡ second = end_once (subst E same clock.minutes_end) colons.minutes_end in
+    let C : ℕ → Type 0 = λ n. IsClockAt text n clock.second in
+    subst (λ (n : ℕ). IsClockAt text first n) same_second
     (subst C same (record {
       inside = clock.inside;
       hours = clock.hours;
@@ -43,8 +48,8 @@ clock_at {text} {first} {second} {seconds} e f clock =
     }))
 
 -- the part ends before the text does
-pub inside_text : (text : List ℕ) (from to : ℕ) → IsPartEnd 58 text from to → (to ≡ length text → ⊥) → to < length text
-inside_text text from to e other =
+pub inside_text : {text : List ℕ} {from to : ℕ} → IsPartEnd 58 text from to → (to ≡ length text → ⊥) → to < length text
+inside_text {text} {to = to} e other =
     elim (cases_order to (length text)) [
       | inl same ↦ absurd (other same)
       | inr (inl less) ↦ less
@@ -56,9 +61,10 @@ pub value_once : (most : ℕ) (text : List ℕ) (a b : ℕ) → IsDigits most te
 value_once most text a b x y = x.value ∙ sym y.value
 
 -- the parts of a clock time as they were read
-pub record AreClockParts (text : List ℕ) (first second hours minutes seconds : ℕ) : Type 0 where
-  pub hours_end : IsPartEnd 58 text 0 first
-  pub minutes_end : IsPartEnd 58 text (first + 1) second
+pub record AreClockParts (text : List ℕ) (hours minutes seconds : ℕ) : Type 0 where
+  pub first : ℕ
+  pub second : ℕ
+  pub colons : AreColons text first second
   pub inside : second < length text
   pub are_hours : IsDigits 5 (take first text) hours × (hours < 10 ^ 9)
   pub are_minutes : IsDigits 2 (slice_range text (first + 1) second) minutes × (minutes < 10 ^ 9)
@@ -67,15 +73,14 @@ pub record AreClockParts (text : List ℕ) (first second hours minutes seconds :
   pub small_seconds : seconds ≤ 59
 
 -- the clock time that was read
-pub whole_clock : {text : List ℕ} {first second hours minutes seconds : ℕ} →
-    AreClockParts text first second hours minutes seconds →
+pub whole_clock : {text : List ℕ} {hours minutes seconds : ℕ} → AreClockParts text hours minutes seconds →
     IsClock text (hours * 3600 + minutes * 60 + seconds) × (hours * 3600 + minutes * 60 + seconds < 10 ^ 13)
-whole_clock {first} {second} {hours} {minutes} {seconds} parts = (
+whole_clock {hours} {minutes} {seconds} parts = (
   record {
-    first = first;
-    second = second;
-    hours_end = parts.hours_end;
-    minutes_end = parts.minutes_end;
+    first = parts.first;
+    second = parts.second;
+    hours_end = parts.colons.hours_end;
+    minutes_end = parts.colons.minutes_end;
     inside = parts.inside;
     hours = hours;
     minutes = minutes;
@@ -105,13 +110,12 @@ pub record IsTimeAt (text : List ℕ) (point : ℕ) : Type 0 where
   pub part : ((point ≡ length text) × (fraction ≡ 0))
       ⊎ ((point < length text) × IsFraction (slice_range text (point + 1) (length text)) fraction)
 
-pub time_at : (text : List ℕ) (point n : ℕ) → IsPartEnd 46 text 0 point → IsTime text n → IsTimeAt text point
-time_at text point n e t =
+pub time_at : {text : List ℕ} {point n : ℕ} → IsPartEnd 46 text 0 point → IsTime text n → IsTimeAt text point
+time_at {text} e t =
     subst (IsTimeAt text) (end_once t.point_is e)
     (record { seconds = t.seconds; fraction = t.fraction; whole = t.whole; part = t.part })
 
-pub no_fraction : {text : List ℕ} {point n : ℕ} → IsPartEnd 46 text 0 point → point < length text →
-    ((f : ℕ) → ¬ IsFraction (slice_range text (point + 1) (length text)) f) → IsTime text n → ⊥
-no_fraction {text} {point} {n} e inside none t =
-    let at : IsTimeAt text point = time_at text point n e t in
+pub no_fraction : {text : List ℕ} {point : ℕ} → point < length text →
+    ((f : ℕ) → ¬ IsFraction (slice_range text (point + 1) (length text)) f) → IsTimeAt text point → ⊥
+no_fraction inside none at =
     elim at.part [ inl whole ↦ omega (arith, inside, whole.0) | inr part ↦ none at.fraction part.1 ]

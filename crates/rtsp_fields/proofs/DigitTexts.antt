@@ -65,11 +65,12 @@ counted_value None text all short h =
     ]
 counted_value (Some n) text all short h = h.0.value
 
-pub fraction_read : {text : List ℕ} {k power : ℕ} (o : Option ℕ) → list_all is_ascii_digit text ≡ true
+pub fraction_read : {text : List ℕ} {k : ℕ} (o : Option ℕ) → list_all is_ascii_digit text ≡ true
     → k ≡ min (length text) 9 →
     MatchOption o ((n : ℕ) → ¬ IsDigits 9 (take k text) n) (λ n. IsDigits 9 (take k text) n × (n < 10 ^ 9)) →
-    power ≡ 10 ^ (9 - length (take k text)) → IsFraction text (unwrap_or o 0 * power) × (unwrap_or o 0 * power < 10 ^ 9)
-fraction_read {text} {k} {power} o all cut read is_power =
+    IsFraction text (unwrap_or o 0 * 10 ^ (9 - length (take k text)))
+    × (unwrap_or o 0 * 10 ^ (9 - length (take k text)) < 10 ^ 9)
+fraction_read {text} {k} o all cut read =
     let nine : take k text ≡ take 9 text = ap (λ n. take n text) (cut ∙ min_comm (length text) 9) ∙ take_min 9 text in
     let digits : list_all is_ascii_digit (take k text) ≡ true = all-take is_ascii_digit k text all in
     let short : length (take k text) ≤ 9 = rw (length-take k text, cut) (omega arith) in
@@ -82,8 +83,8 @@ fraction_read {text} {k} {power} o all cut read is_power =
     let positive : 0 < 10 ^ (9 - length (take k text)) = one-le-pow (9 - length (take k text)) 10 (omega arith) in
     let below : digits_value 10 (take k text) * 10 ^ (9 - length (take k text)) < 10 ^ 9 =
     rw (← whole) (mul-lt-mul_of_pos_right small positive) in
-    let total : unwrap_or o 0 * power ≡ digits_value 10 (take k text) * 10 ^ (9 - length (take k text)) =
-    rw (value, is_power) refl in (
+    let total : unwrap_or o 0 * 10 ^ (9 - length (take k text)) ≡ digits_value 10 (take k text) * 10 ^ (9 - length (take k text)) =
+    rw value refl in (
       record { digits = all; value = total ∙ ap (λ (t : List ℕ). digits_value 10 t * 10 ^ (9 - length t)) nine },
       rw total below,
     )

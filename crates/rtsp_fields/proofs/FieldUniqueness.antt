@@ -23,7 +23,7 @@ use Rattle.std.proofs.Math.Nat.{min-le_left}
 use Rattle.vod_base.proofs.DigitLemmas.{decimal_numerals}
 use Rattle.rtsp_text.proofs.NumberTexts.{number_read}
 use Rattle.rtsp_fields.proofs.PartPlaces.{end_once, first_once}
-use Rattle.rtsp_fields.proofs.PartLemmas.{IsPairAt, pair_at, within_once}
+use Rattle.rtsp_fields.proofs.PartLemmas.{IsPairAt, named_part, pair_at, within_once}
 use Rattle.rtsp_fields.proofs.ClockTimes.{value_once}
 
 -- a decimal text has no byte of another kind
@@ -145,7 +145,7 @@ not_both_forms text a b pair single =
 
 channels_once : (text : List ℕ) (a b : Channels) → AreChannels text a → AreChannels text b → a ≡ b
 channels_once text a b (inl x) (inl y) =
-    let p : IsPairAt text y.dash a = pair_at text y.dash a y.is_dash x in
+    let p : IsPairAt text y.dash a = pair_at y.is_dash x in
     same_channels a b (within_once p.media y.media)
     (within_once p.control y.control)
 channels_once text a b (inl x) (inr y) = absurd (not_both_forms text a b x y)
@@ -156,8 +156,7 @@ channels_once text a b (inr x) (inr y) =
 
 has_once : (text : List ℕ) (a b : Channels) → HasChannels text a → HasChannels text b → a ≡ b
 has_once text a b (inl x) (inl y) =
-    let same = first_once NamesChannels (record { part = x.part; holds = x.names; first = x.first })
-    (record { part = y.part; holds = y.names; first = y.first }) in
+    let same = first_once NamesChannels (named_part x) (named_part y) in
     let P : ℕ → Type 0 = λ n. AreChannels (after_name (without_blanks (slice_range text n x.to))) a in
     let Q : ℕ → Type 0 = λ n. AreChannels (after_name (without_blanks (slice_range text y.from n))) a in
     channels_once (after_name (without_blanks (slice_range text y.from y.to))) a b
@@ -168,8 +167,9 @@ has_once text a b (inr x) (inr y) = same_channels a b (x.media ∙ sym y.media) 
 
 pub transport_once : (value : List ℕ) (a b : Channels) → IsTransport value a → IsTransport value b → a ≡ b
 transport_once value a b x y =
-    let same = first_once CanBeTaken (record { part = x.part; holds = (a, x.taken); first = x.first })
-    (record { part = y.part; holds = (b, y.taken); first = y.first }) in
+    let same = first_once CanBeTaken
+    (record { from = x.from; to = x.to; part = x.part; holds = (a, x.taken); first = x.first })
+    (record { from = y.from; to = y.to; part = y.part; holds = (b, y.taken); first = y.first }) in
     let P : ℕ → Type 0 = λ n. IsDelivery (slice_range value n x.to) a in
     let Q : ℕ → Type 0 = λ n. IsDelivery (slice_range value y.from n) a in
     has_once (slice_range value y.from y.to) a b (subst Q same.1 (subst P same.0 x.taken)).has y.taken.has

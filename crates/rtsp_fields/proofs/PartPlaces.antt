@@ -13,28 +13,14 @@ end_once {a} {b} x y =
       | inr (inr more) ↦ absurd (x.none b y.after more (y.ends (omega (arith, more, x.within))))
     ]
 
--- no part begins after the place where one begins and before its end
-pub no_start_inside : {c : ℕ} {text : List ℕ} {from to k : ℕ} → IsPartEnd c text from to → from < k → k ≤ to
-    → IsStart c text k → ⊥
-no_start_inside {c} {text} {from} e after before (inl zero) = omega (arith, after, zero)
-no_start_inside {c} {text} {from} {k} e after before (inr s) =
-    e.none (k - 1) (omega (arith, after)) (omega (arith, after, before)) s.1
+-- no part begins after `from` and up to `to`
+abbrev HasNoStart : ℕ → List ℕ → ℕ → ℕ → Type 0
+HasNoStart c text from to = (k : ℕ) → from < k → k ≤ to → ¬ IsStart c text k
 
--- the part that begins at `from` isn't such a text either
-pub none_before_next : {c : ℕ} {text : List ℕ} {from to : ℕ} (P : List ℕ → Type 0) → IsPartEnd c text from to →
-    NoneBefore c text from P →
-    ¬ P (slice_range text from to) → NoneBefore c text (to + 1) P
-none_before_next {c} {text} {from} {to} P e before here = λ k end below part.
-    elim (cases_order k from) [
-      | inl same ↦
-          let same_end : end ≡ to =
-          end_once (let Q : ℕ → Type 0 = λ n. IsPartEnd c text n end in subst Q same part.end) e in
-          let Q : ℕ → Type 0 = λ n. P (slice_range text n end) → ⊥ in
-          let R : ℕ → Type 0 = λ n. P (slice_range text from n) → ⊥ in
-          subst Q (sym same) (subst R (sym same_end) here)
-      | inr (inl less) ↦ before k end less part
-      | inr (inr more) ↦ λ _. no_start_inside e more (omega (arith, below)) part.start
-    ]
+-- none begins within a part
+no_start_inside : {c : ℕ} {text : List ℕ} {from to : ℕ} → IsPartEnd c text from to → HasNoStart c text from to
+no_start_inside e k after before (inl zero) = omega (arith, after, zero)
+no_start_inside e k after before (inr s) = e.none (k - 1) (omega (arith, after)) (omega (arith, after, before)) s.1
 
 -- the next part begins after the separator
 pub next_start : (c : ℕ) (text : List ℕ) (from to : ℕ) → IsPartEnd c text from to → to + 1 ≤ length text
@@ -49,22 +35,23 @@ passed_all c text P from past before =
     λ k end part. before k end (omega (arith, past, part.end.after, part.end.within)) part
 
 -- the first part of one kind
-pub record IsFirstPart (P : List ℕ → Type 0) (c : ℕ) (text : List ℕ) (a b : ℕ) : Type 0 where
-  pub part : IsPart c text a b
-  pub holds : P (slice_range text a b)
-  pub first : NoneBefore c text a P
+pub record FirstPart (P : List ℕ → Type 0) (c : ℕ) (text : List ℕ) : Type 0 where
+  pub from : ℕ
+  pub to : ℕ
+  pub part : IsPart c text from to
+  pub holds : P (slice_range text from to)
+  pub first : NoneBefore c text from P
 
 -- it is one part
-pub first_once : {c : ℕ} {text : List ℕ} {a b a' b' : ℕ} (P : List ℕ → Type 0) → IsFirstPart P c text a b →
-    IsFirstPart P c text a' b' →
-    (a ≡ a') × (b ≡ b')
-first_once {c} {text} {a} {b} {a'} {b'} P x y =
-    let same : a ≡ a' = elim (cases_order a a') [
+pub first_once : {c : ℕ} {text : List ℕ} (P : List ℕ → Type 0) (x y : FirstPart P c text) →
+    (x.from ≡ y.from) × (x.to ≡ y.to)
+first_once {c} {text} P x y =
+    let same : x.from ≡ y.from = elim (cases_order x.from y.from) [
       | inl e ↦ e
-      | inr (inl less) ↦ absurd (y.first a b less x.part x.holds)
-      | inr (inr more) ↦ absurd (x.first a' b' more y.part y.holds)
+      | inr (inl less) ↦ absurd (y.first x.from x.to less x.part x.holds)
+      | inr (inr more) ↦ absurd (x.first y.from y.to more y.part y.holds)
     ] in
-    (same, end_once (let Q : ℕ → Type 0 = λ n. IsPartEnd c text n b in subst Q same x.part.end) y.part.end)
+    (same, end_once (let Q : ℕ → Type 0 = λ n. IsPartEnd c text n x.to in subst Q same x.part.end) y.part.end)
 
 -- the parts that were gone through before a place are no such texts
 pub record HasPassed (P : List ℕ → Type 0) (c : ℕ) (text : List ℕ) (parts : SeparatedParts) : Type 0 where
@@ -87,26 +74,48 @@ passed_none P text_is separator_is first = record {
   before = λ k end below part. absurd (omega (arith, below, first));
 }
 
--- the part that came, as one of this text
-next_of : {P : List ℕ → Type 0} {c : ℕ} {text : List ℕ} {old : SeparatedParts} {part : List ℕ} (new : SeparatedParts)
-    → HasPassed P c text old →
-    GivesNext old part new → IsNextPart c text old.from new.from part
-next_of {text} {old} {part} new passed gives =
-    subst (λ s. IsNextPart s text old.from new.from part) passed.separator_is
-    (subst (λ t. IsNextPart old.separator t old.from new.from part) passed.text_is gives.0)
+-- a part that came after those that were gone through
+pub record NextPart (P : List ℕ → Type 0) (c : ℕ) (text : List ℕ) : Type 0 where
+  pub old : SeparatedParts
+  pub new : SeparatedParts
+  pub part : List ℕ
+  pub passed : HasPassed P c text old
+  pub gives : GivesNext old part new
 
-pub passed_more : {P : List ℕ → Type 0} {c : ℕ} {text : List ℕ} {old new : SeparatedParts} {part : List ℕ}
-    → HasPassed P c text old →
-    GivesNext old part new → ¬ P part → HasPassed P c text new
-passed_more {P} {c} {text} {old} {new} passed gives other =
-    let next = next_of new passed gives in
+-- it is one of this text
+next_of : {P : List ℕ → Type 0} {c : ℕ} {text : List ℕ} (n : NextPart P c text) →
+    IsNextPart c text n.old.from n.new.from n.part
+next_of {text} n =
+    subst (λ s. IsNextPart s text n.old.from n.new.from n.part) n.passed.separator_is
+    (subst (λ t. IsNextPart n.old.separator t n.old.from n.new.from n.part) n.passed.text_is n.gives.0)
+
+-- no part up to it is such a text
+none_before_next : {P : List ℕ → Type 0} {c : ℕ} {text : List ℕ} (n : NextPart P c text) → ¬ P n.part →
+    NoneBefore c text n.new.from P
+none_before_next {P} {c} {text} n other =
+    let next = next_of n in
+    let from = n.old.from in
+    λ k end below part is. elim (cases_order k from) [
+      | inl same ↦
+          let same_end : end ≡ next.end =
+          end_once (let Q : ℕ → Type 0 = λ n. IsPartEnd c text n end in subst Q same part.end) next.is_end in
+          let Q : ℕ → Type 0 = λ n. P (slice_range text n end) in
+          let R : ℕ → Type 0 = λ n. P (slice_range text from n) in
+          other (subst P (sym next.part_is) (subst R same_end (subst Q same is)))
+      | inr (inl less) ↦ n.passed.before k end less part is
+      | inr (inr more) ↦ no_start_inside next.is_end k more (omega (arith, below, next.next_is)) part.start
+    ]
+
+pub passed_more : {P : List ℕ → Type 0} {c : ℕ} {text : List ℕ} (n : NextPart P c text) → ¬ P n.part →
+    HasPassed P c text n.new
+passed_more {P} {c} {text} n other =
+    let next = next_of n in
     record {
-      text_is = gives.1 ∙ passed.text_is;
-      separator_is = gives.2 ∙ passed.separator_is;
+      text_is = n.gives.1 ∙ n.passed.text_is;
+      separator_is = n.gives.2 ∙ n.passed.separator_is;
       start = subst (λ n. n ≤ length text → IsStart c text n) (sym next.next_is)
-          (next_start c text old.from next.end next.is_end);
-      before = subst (λ n. NoneBefore c text n P) (sym next.next_is)
-          (none_before_next P next.is_end passed.before (subst (λ t. ¬ P t) next.part_is other));
+          (next_start c text n.old.from next.end next.is_end);
+      before = none_before_next n other;
     }
 
 pub passed_every : {P : List ℕ → Type 0} {c : ℕ} {text : List ℕ} {parts : SeparatedParts} → HasPassed P c text parts →
@@ -115,21 +124,17 @@ passed_every {P} {c} {text} {parts} passed past =
     passed_all c text P parts.from (subst (λ t. length t < parts.from) passed.text_is past) passed.before
 
 -- the first part that is such a text
-pub found_part : {P : List ℕ → Type 0} {c : ℕ} {text : List ℕ} {old : SeparatedParts} {part : List ℕ} (new :
-    SeparatedParts)
-    → HasPassed P c text old →
-    GivesNext old part new → P part →
-    (end : ℕ) × (IsFirstPart P c text old.from end × (part ≡ slice_range text old.from end))
-found_part {P = P} {text = text} {old = old} new passed gives holds =
-    let next = next_of new passed gives in
-    let inside : old.from ≤ length text = omega (arith, next.is_end.after, next.is_end.within) in (
-      next.end,
-      (
-        record {
-          part = record { start = passed.start inside; end = next.is_end };
-          holds = subst P next.part_is holds;
-          first = passed.before;
-        },
-        next.part_is,
-      ),
+pub found_part : {P : List ℕ → Type 0} {c : ℕ} {text : List ℕ} (n : NextPart P c text) → P n.part →
+    (f : FirstPart P c text) × (n.part ≡ slice_range text f.from f.to)
+found_part {P} {text = text} n holds =
+    let next = next_of n in
+    let inside : n.old.from ≤ length text = omega (arith, next.is_end.after, next.is_end.within) in (
+      record {
+        from = n.old.from;
+        to = next.end;
+        part = record { start = n.passed.start inside; end = next.is_end };
+        holds = subst P next.part_is holds;
+        first = n.passed.before;
+      },
+      next.part_is,
     )

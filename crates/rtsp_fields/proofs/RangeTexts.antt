@@ -123,9 +123,14 @@ drop_later : (a b c : ℕ) (rest : List ℕ) (k : ℕ) → 4 ≤ k
 drop_later a b c rest (suc (suc (suc (suc k)))) low = refl
 drop_later a b c rest k low = absurd (omega (arith, low))
 
-three_case_read : (a b c : ℕ) (rest : List ℕ) (span : Span) → in_lower_case (a ∷ b ∷ c ∷ []) ≡ codes "npt"
-    → IsSpan (codes "npt=" ++ rest) span → IsSpan (a ∷ b ∷ c ∷ 61 ∷ rest) span
-three_case_read a b c rest span same s =
+pub any_case_read : (unit rest : List ℕ) (span : Span) → in_lower_case unit ≡ codes "npt"
+    → IsSpan (codes "npt=" ++ rest) span → IsSpan (unit ++ codes "=" ++ rest) span
+any_case_read [] rest span same s = absurd (let e : 0 ≡ 3 = ap (λ (l : List ℕ). length l) same in omega (arith, e))
+any_case_read (a ∷ []) rest span same s =
+    absurd (let e : 1 ≡ 3 = ap (λ (l : List ℕ). length l) same in omega (arith, e))
+any_case_read (a ∷ (b ∷ [])) rest span same s =
+    absurd (let e : 2 ≡ 3 = ap (λ (l : List ℕ). length l) same in omega (arith, e))
+any_case_read (a ∷ (b ∷ (c ∷ []))) rest span same s =
     let text = a ∷ b ∷ c ∷ 61 ∷ rest in
     let low : 4 ≤ s.dash = s.is_dash.after in
     let back : slice_range (codes "npt=" ++ rest) (s.dash + 1) (length text) ≡ slice_range text (s.dash + 1) (length text) =
@@ -144,15 +149,6 @@ three_case_read a b c rest span same s =
       from = s.from;
       to = subst (λ (t : List ℕ). IsLimit t span.to) back s.to;
     }
-
-pub any_case_read : (unit rest : List ℕ) (span : Span) → in_lower_case unit ≡ codes "npt"
-    → IsSpan (codes "npt=" ++ rest) span → IsSpan (unit ++ codes "=" ++ rest) span
-any_case_read [] rest span same s = absurd (let e : 0 ≡ 3 = ap (λ (l : List ℕ). length l) same in omega (arith, e))
-any_case_read (a ∷ []) rest span same s =
-    absurd (let e : 1 ≡ 3 = ap (λ (l : List ℕ). length l) same in omega (arith, e))
-any_case_read (a ∷ (b ∷ [])) rest span same s =
-    absurd (let e : 2 ≡ 3 = ap (λ (l : List ℕ). length l) same in omega (arith, e))
-any_case_read (a ∷ (b ∷ (c ∷ []))) rest span same s = three_case_read a b c rest span same s
 any_case_read (a ∷ (b ∷ (c ∷ (d ∷ more)))) rest span same s =
     absurd (let e : 4 + length (in_lower_case more) ≡ 3 = long ∙ ap (λ (l : List ℕ). length l) same in omega (arith, e))
   where

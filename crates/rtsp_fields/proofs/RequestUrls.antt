@@ -21,11 +21,11 @@ authority_byte authority k all inside = λ slash.
     let wrong : true ≡ false = sym all ∙ list_all_at (λ byte. not (byte == 47)) authority k 0 inside other in
     cc
 
--- the byte after `front` at place k of the rest
-byte_after : {url : List ℕ} {n : ℕ} (front rest : List ℕ) (k : ℕ) → url ≡ front ++ rest → length front ≡ n
-    → n ≤ k → get_or url k 0 ≡ get_or rest (k - n) 0
-byte_after {url} {n} front rest k parts size after =
-    ap (λ l. get_or l k 0) parts ∙ get_or-append_right front rest n k 0 size after
+-- the byte at place k of a URL, after its scheme
+byte_after : {url : List ℕ} (u : IsRtspUrl url) (k : ℕ) → length u.scheme ≡ 7 → 7 ≤ k
+    → get_or url k 0 ≡ get_or (u.authority ++ u.path) (k - 7) 0
+byte_after u k size after =
+    ap (λ l. get_or l k 0) u.parts ∙ get_or-append_right u.scheme (u.authority ++ u.path) 7 k 0 size after
 
 -- an RTSP URL by its places: the authority has one or more bytes from place 7 on, and ends at `path`
 pub record IsCutAt (url : List ℕ) (path : ℕ) : Type 0 where
@@ -55,14 +55,14 @@ cut_of url u =
           none = λ k from below.
               let inside : k - 7 < length u.authority = omega (arith, from, below) in
               let here : get_or url k 0 ≡ get_or u.authority (k - 7) 0 =
-              byte_after u.scheme (u.authority ++ u.path) k u.parts seven from
+              byte_after u k seven from
               ∙ get_or_append_left u.authority u.path 0 (k - 7) inside in
               λ slash. authority_byte u.authority (k - 7) u.no_slash inside (sym here ∙ slash);
           ends = λ inside.
               let some : 0 < length u.path = omega (arith, inside, size) in
               let left : 7 + length u.authority - 7 ≡ length u.authority = omega arith in
               let none : 7 + length u.authority - 7 - length u.authority ≡ 0 = omega arith in
-              byte_after u.scheme (u.authority ++ u.path) (7 + length u.authority) u.parts seven (omega arith) ∙
+              byte_after u (7 + length u.authority) seven (omega arith) ∙
               get_or-append_right u.authority u.path (length u.authority) (7 + length u.authority - 7) 0 refl
               (omega arith) ∙ ap (λ n. get_or u.path n 0) none ∙ u.path_begins some;
         };

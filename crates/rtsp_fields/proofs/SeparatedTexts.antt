@@ -174,23 +174,6 @@ slice_later c a rest k end order =
         (let e : length (x ∷ front) + 1 + k ≡ suc (length front + 1 + k) = omega arith in e)
         ∙ dropped front rest k
 
--- no part is such a text
-pub none_more : {c : ℕ} {a rest : List ℕ} (P : List ℕ → Type 0) → HasNone c a 0 (length a) → ¬ P a
-    → NoPart c rest P → NoPart c (text_of c a rest) P
-none_more {c} {a} {rest} P none first more = λ k end p. go k end p (part_cases none p)
-  where
-    go : (k end : ℕ) → IsPart c (text_of c a rest) k end → ((k ≡ 0) × (end ≡ length a)) ⊎ Later c a rest k end
-        → ¬ P (slice_range (text_of c a rest) k end)
-    go k end p (inl e) = λ is.
-        let S : ℕ → Type 0 = λ n. P (slice_range (text_of c a rest) n end) in
-        let E : ℕ → Type 0 = λ n. P (slice_range (text_of c a rest) 0 n) in
-        first (subst P (slice_first c a rest) (subst E e.1 (subst S e.0 is)))
-    go k end p (inr l) = λ is.
-        let S : ℕ → Type 0 = λ n. P (slice_range (text_of c a rest) n end) in
-        let E : ℕ → Type 0 = λ n. P (slice_range (text_of c a rest) (length a + 1 + l.from) n) in
-        more l.from l.to l.part
-        (subst P (slice_later c a rest l.from l.to l.part.end.after) (subst E l.to_is (subst S l.from_is is)))
-
 -- the part of a text without the separator is the entire text
 pub part_is_whole : (c : ℕ) (a : List ℕ) (k end : ℕ) → HasNone c a 0 (length a) → IsPart c a k end
     → (k ≡ 0) × (end ≡ length a)
@@ -230,6 +213,12 @@ none_before {c} {a} {rest} {at} P none first more = λ k end below p. go k end b
         let E : ℕ → Type 0 = λ n. P (slice_range (text_of c a rest) (length a + 1 + l.from) n) in
         more l.from l.to (omega (arith, below, l.from_is)) l.part
         (subst P (slice_later c a rest l.from l.to l.part.end.after) (subst E l.to_is (subst S l.from_is is)))
+
+-- no part is such a text
+pub none_more : {c : ℕ} {a rest : List ℕ} (P : List ℕ → Type 0) → HasNone c a 0 (length a) → ¬ P a
+    → NoPart c rest P → NoPart c (text_of c a rest) P
+none_more P none first more = λ k end p.
+    none_before {at = k} P none first (λ j to below. more j to) k end (omega arith) p
 
 -- no byte is the separator
 unfoldable pub other_than : ℕ → ℕ → Bool

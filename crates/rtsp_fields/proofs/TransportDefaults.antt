@@ -75,11 +75,11 @@ record IsPlainValue (protocol : List ℕ) (parts : List (List ℕ)) : Type 0 whe
 
 protocol_free : (protocol : List ℕ) → IsSpelling (codes "rtp/avp/tcp") protocol → HasNone 59 protocol 0 (length protocol)
 unfolding other_than
-protocol_free protocol s = none_from 59 protocol (spelled_free 59 (codes "rtp/avp/tcp") protocol refl refl refl s)
+protocol_free protocol s = none_from 59 protocol (spelled_free 59 (codes "rtp/avp/tcp") protocol (refl, refl) refl s)
 
 comma_free : (protocol : List ℕ) → IsSpelling (codes "rtp/avp/tcp") protocol → list_all (other_than 44) protocol ≡ true
 unfolding other_than
-comma_free protocol s = spelled_free 44 (codes "rtp/avp/tcp") protocol refl refl refl s
+comma_free protocol s = spelled_free 44 (codes "rtp/avp/tcp") protocol (refl, refl) refl s
 
 taken : (protocol : List ℕ) (parts : List (List ℕ)) → IsPlainValue protocol parts
     → IsDelivery (joined protocol parts) default

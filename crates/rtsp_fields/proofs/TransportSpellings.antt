@@ -97,17 +97,17 @@ letters_other c (b ∷ bs) fixed all =
     and_from (other_than c b) (list_all (other_than c) bs) (lower_other c b fixed parts.0)
     (letters_other c bs fixed parts.1)
 
-pub spelled_free : (c : ℕ) (word text : List ℕ) → is_blank c ≡ false → to_ascii_lowercase c ≡ c
+pub spelled_free : (c : ℕ) (word text : List ℕ) → (is_blank c ≡ false) × (to_ascii_lowercase c ≡ c)
     → list_all (other_than c) word ≡ true → IsSpelling word text → list_all (other_than c) text ≡ true
-spelled_free c word text no_blank fixed free s =
+spelled_free c word text is free s =
     let P : List ℕ → Type 0 = λ l. list_all (other_than c) l ≡ true in
     let inner : list_all (other_than c) (s.letters ++ s.back) ≡ true =
     list_all-append (other_than c) s.letters s.back
     ∙ and_from (list_all (other_than c) s.letters) (list_all (other_than c) s.back)
-    (letters_other c s.letters fixed (subst P (sym s.same) free)) (blanks_other c s.back no_blank s.back_is_blank) in
+    (letters_other c s.letters is.1 (subst P (sym s.same) free)) (blanks_other c s.back is.0 s.back_is_blank) in
     subst P (sym s.text_is) (list_all-append (other_than c) s.front (s.letters ++ s.back)
     ∙ and_from (list_all (other_than c) s.front) (list_all (other_than c) (s.letters ++ s.back))
-    (blanks_other c s.front no_blank s.front_is_blank) inner)
+    (blanks_other c s.front is.0 s.front_is_blank) inner)
 
 pub protocol_word : (text : List ℕ) → IsSpelling (codes "rtp/avp/tcp") text → part_word text ≡ codes "rtp/avp/tcp"
 protocol_word text s =
@@ -143,16 +143,16 @@ plain_part part (inl quoted) =
     record {
       plain = quoted_plain part is;
       nameless = names_none part 109 (ap (λ (l : List ℕ). get_or l 0 0) is) (omega arith);
-      no_semicolon = spelled_free 59 (codes "mode=\"play\"") part refl refl refl quoted;
-      no_comma = spelled_free 44 (codes "mode=\"play\"") part refl refl refl quoted;
+      no_semicolon = spelled_free 59 (codes "mode=\"play\"") part (refl, refl) refl quoted;
+      no_comma = spelled_free 44 (codes "mode=\"play\"") part (refl, refl) refl quoted;
     }
 plain_part part (inr (inl bare)) =
     let is = spelled (codes "mode=play") part (record { some = omega arith; first = refl; last = refl }) bare in
     record {
       plain = mode_plain part is;
       nameless = names_none part 109 (ap (λ (l : List ℕ). get_or l 0 0) is) (omega arith);
-      no_semicolon = spelled_free 59 (codes "mode=play") part refl refl refl bare;
-      no_comma = spelled_free 44 (codes "mode=play") part refl refl refl bare;
+      no_semicolon = spelled_free 59 (codes "mode=play") part (refl, refl) refl bare;
+      no_comma = spelled_free 44 (codes "mode=play") part (refl, refl) refl bare;
     }
 plain_part part (inr (inr other)) = record {
   plain = first_letter part (get_or (part_word part) 0 0) refl other.no_mode;

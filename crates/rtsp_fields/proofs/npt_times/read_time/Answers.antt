@@ -5,10 +5,11 @@ pub returns-in_err-seconds : goal.returns-in_err-seconds
 returns-in_err-seconds c =
     rw c.from_residual.ensures
     (λ n time.
-    let at = time_at c.args.text.now c.part_end-point.result n c.part_end-point.ensures time in
+    let at = time_at c.part_end-point.ensures time in
     c.in_err-seconds.ensures at.seconds at.whole)
 
 pub returns-in_err-fraction : goal.returns-in_err-fraction
 returns-in_err-fraction c =
     rw c.from_residual-in_err-fraction.ensures
-    (λ n time. no_fraction c.part_end-point.ensures c.if-point-text.true c.in_err-fraction.ensures time)
+    (λ n time. no_fraction c.if-point-text.true c.in_err-fraction.ensures
+    (time_at c.part_end-point.ensures time))

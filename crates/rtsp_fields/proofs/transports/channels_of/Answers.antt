@@ -12,13 +12,14 @@ loop-part-init c =
 
 pub returns-then-starts_with : goal.returns-then-starts_with
 returns-then-starts_with c =
-    channels_found c.read_channels.result c.next.new.self c.loop-part.invariant c.in-Some.ensures.steps
+    channels_found c.read_channels.result
+    (record { old = _; new = c.next.new.self; part = _; passed = c.loop-part.invariant; gives = c.in-Some.ensures.steps })
     (rw (← c.trim-part.ensures) (c.if-starts_with.ensures.0 refl))
     (rw (← c.trim-part.ensures) c.read_channels.ensures)
 
 pub loop-part-preserved : goal.loop-part-preserved
 loop-part-preserved c =
-    passed_more c.loop-part.invariant c.in-Some.ensures.steps
+    passed_more (record { old = _; new = _; part = _; passed = c.loop-part.invariant; gives = c.in-Some.ensures.steps })
     (λ names. let wrong : false ≡ true = c.if-starts_with.ensures.1 (rw c.trim-part.ensures names) in cc)
 
 pub returns : goal.returns

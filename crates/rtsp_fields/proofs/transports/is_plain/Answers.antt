@@ -13,14 +13,14 @@ pub returns-then-asks_other_delivery : goal.returns-then-asks_other_delivery
 returns-then-asks_other_delivery c = (
   λ wrong. cc,
   λ none.
-      let found = found_part c.next.new.self c.loop-part.invariant c.in-Some.ensures.steps
+      let found = found_part (record { old = _; new = c.next.new.self; part = _; passed = c.loop-part.invariant; gives = c.in-Some.ensures.steps })
       (c.if-asks_other_delivery.ensures.0 refl) in
-      absurd (none _ found.0 found.1.0.part found.1.0.holds),
+      absurd (none _ _ found.0.part found.0.holds),
 )
 
 pub loop-part-preserved : goal.loop-part-preserved
 loop-part-preserved c =
-    passed_more c.loop-part.invariant c.in-Some.ensures.steps
+    passed_more (record { old = _; new = _; part = _; passed = c.loop-part.invariant; gives = c.in-Some.ensures.steps })
     (λ holds. let wrong : false ≡ true = c.if-asks_other_delivery.ensures.1 holds in cc)
 
 pub returns : goal.returns
