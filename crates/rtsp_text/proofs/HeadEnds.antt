@@ -1,5 +1,5 @@
 -- Where a head ends, found line by line.
-use Rattle.std.proofs.Common.{◌≡◌, ◌≢◌, ℕ, ◌+◌, ◌-◌, ◌<◌, ◌≤◌, ◌&&◌, ◌==◌, Bool, true, false, cond, nat_lt, List, []}
+use Rattle.std.proofs.Common.{◌≡◌, ◌≢◌, ℕ, ◌+◌, ◌-◌, ◌<◌, ◌≤◌, ◌⊎◌, ◌&&◌, ◌==◌, Bool, true, false, cond, nat_lt, List, []}
 use Rattle.std.proofs.Common.{◌∷◌, ◌++◌, length, get_or, take, drop, refl, sym, ap, subst, ◌∙◌, arith, inl, inr}
 use Rattle.std.proofs.Common.{ne_eqb}
 use Rattle.std.specs.Str.Lines.{lines}
@@ -39,6 +39,10 @@ cr_line m n b less is = rw is (grind (arith, nat_tests))
 cr_byte : (m n b : ℕ) → (nat_lt m n && (b == 13)) ≡ true → b ≡ 13
 cr_byte m n b h = grind (arith, nat_tests)
 
+-- whether a CR stands before the LF of the line from a place to n
+abbrev is_cr : ℕ → List ℕ → ℕ → Bool
+is_cr at w n = nat_lt (at + 1) n && (get_or w (n - 2) 0 == 13)
+
 -- a line ends before this place, and no head does
 pub record IsAfterLine (w : List ℕ) (n : ℕ) : Type 0 where
   pub some : 0 < n
@@ -53,69 +57,67 @@ pub record IsFullLine (w : List ℕ) (at n : ℕ) : Type 0 where
 
 -- such a line ends no head
 pub after_more : {w : List ℕ} {at n : ℕ} → IsAfterLine w at → IsFullLine w at n → IsAfterLine w n
-after_more {w} {at} {n} after full =
-    record {
-      some = omega (arith, full.line.after);
-      feed = full.line.feed;
-      none = λ k below. (
-          elim (cases_lt k at) [
-            | inl before ↦ after.none k before
-            | inr from ↦ elim (cases_lt (k + 1) n) [
-              | inl inside ↦ not_feed w k (full.line.first k from inside)
-              | inr last ↦ (
-                  let k_is : k ≡ n - 1 = omega (arith, last, below) in
-                  not_after_feed w k
-                  (λ some_before e10. elim (cases_lt at k) [
-                    | inl longer ↦ full.line.first (k - 1) (omega arith) (omega arith) e10
-                    | inr short ↦
-                        full.some (full.line.text
-                        ∙ cond-false (nat_lt (at + 1) n && (get_or w (n - 2) 0 == 13)) (n - 2) (n - 1)
-                        (not_less (at + 1) n (get_or w (n - 2) 0 == 13) (omega arith)) ∙ omega (arith, full.line.after))
-                  ])
-                  (λ two_before e13 e10. elim (cases_lt (at + 1) k) [
-                    | inl longer ↦ full.line.first (k - 2) (omega arith) (omega arith) e10
-                    | inr short ↦ elim (cases_eq (at + 1) k) [
-                      | inl here ↦ (
-                          let same : k - 1 ≡ n - 2 = omega arith in
-                          let cr : get_or w (n - 2) 0 ≡ 13 = ap (λ j. get_or w j 0) (sym same) ∙ e13 in
-                          full.some (full.line.text
-                          ∙ cond-true (nat_lt (at + 1) n && (get_or w (n - 2) 0 == 13)) (n - 2) (n - 1)
-                          (cr_line (at + 1) n (get_or w (n - 2) 0) (omega arith) cr) ∙ omega arith)
-                          )
-                      | inr other ↦
-                          full.some (full.line.text
-                          ∙ cond-false (nat_lt (at + 1) n && (get_or w (n - 2) 0 == 13)) (n - 2) (n - 1)
-                          (not_less (at + 1) n (get_or w (n - 2) 0 == 13) (omega arith)) ∙ omega (arith, full.line.after))
-                    ]
-                  ])
+after_more {w} {at} {n} after full = record {
+  some = omega (arith, full.line.after);
+  feed = full.line.feed;
+  none = λ k below. elim (cases_lt k at) [
+    | inl before ↦ after.none k before
+    | inr from ↦ elim (cases_lt (k + 1) n) [
+      | inl inside ↦ not_feed w k (full.line.first k from inside)
+      | inr last ↦ (
+          let k_is : k ≡ n - 1 = omega (arith, last, below) in
+          let one_byte : n ≤ at + 1 → ⊥ = λ few.
+          full.some (full.line.text ∙ cond-false (is_cr at w n) (n - 2) (n - 1)
+          (not_less (at + 1) n (get_or w (n - 2) 0 == 13) few) ∙ omega (arith, few, full.line.after)) in
+          not_after_feed w k
+          (λ some_before e10. elim (cases_lt at k) [
+            | inl longer ↦ full.line.first (k - 1) (omega arith) (omega arith) e10
+            | inr short ↦ one_byte (omega arith)
+          ])
+          (λ two_before e13 e10. elim (cases_lt (at + 1) k) [
+            | inl longer ↦ full.line.first (k - 2) (omega arith) (omega arith) e10
+            | inr short ↦ elim (cases_eq (at + 1) k) [
+              | inl here ↦ (
+                  let same : k - 1 ≡ n - 2 = omega arith in
+                  let cr : get_or w (n - 2) 0 ≡ 13 = ap (λ j. get_or w j 0) (sym same) ∙ e13 in
+                  full.some (full.line.text ∙ cond-true (is_cr at w n) (n - 2) (n - 1)
+                  (cr_line (at + 1) n (get_or w (n - 2) 0) (omega arith) cr) ∙ omega arith)
                   )
+              | inr other ↦ one_byte (omega arith)
             ]
-          ]);
-    }
+          ])
+          )
+    ]
+  ];
+}
+
+-- a line's text ends before CR LF, or before LF
+line_end : (w : List ℕ) (at e n : ℕ) → IsLine w at e n →
+    ((e ≡ n - 2) × (at + 1 < n) × (get_or w (n - 2) 0 ≡ 13)) ⊎ (e ≡ n - 1)
+line_end w at e n line = elim (cases_Bool (is_cr at w n)) [
+  | inl cr ↦
+      let more : at + 1 < n = grind (arith, nat_tests) in
+      inl (line.text ∙ cond-true (is_cr at w n) (n - 2) (n - 1) cr, more, cr_byte (at + 1) n (get_or w (n - 2) 0) cr)
+  | inr other ↦ inr (line.text ∙ cond-false (is_cr at w n) (n - 2) (n - 1) other)
+]
 
 -- an empty line ends the head
 pub head_here : {w : List ℕ} {at n : ℕ} → IsAfterLine w at → IsLine w at at n → IsHead w n
 head_here {w} {at} {n} after line = record {
   some = omega (arith, line.after);
   within = line.within;
-  ends = elim (cases_Bool (nat_lt (at + 1) n && (get_or w (n - 2) 0 == 13))) [
+  ends = elim (line_end w at at n line) [
     | inl cr ↦ (
-        let text_end : at ≡ n - 2 = line.text
-        ∙ cond-true (nat_lt (at + 1) n && (get_or w (n - 2) 0 == 13)) (n - 2) (n - 1) cr in
-        let more : 2 ≤ n = omega (arith, line.after) in
-        let byte : get_or w (n - 1 - 1) 0 ≡ get_or w (n - 2) 0 =
-        ap (λ j. get_or w j 0) (let j : n - 1 - 1 ≡ n - 2 = omega arith in j) in
+        let byte : get_or w (n - 1 - 1) 0 ≡ 13 =
+        ap (λ j. get_or w j 0) (let j : n - 1 - 1 ≡ n - 2 = omega arith in j) ∙ cr.2 in
         let before : get_or w (n - 1 - 2) 0 ≡ 10 =
-        ap (λ j. get_or w j 0) (let j : n - 1 - 2 ≡ at - 1 = omega arith in j) ∙ after.feed in
-        let bytes : get_or w (n - 2) 0 ≡ 13 = cr_byte (at + 1) n (get_or w (n - 2) 0) cr in
-        ends_two w (n - 1) line.feed (omega (arith, after.some, text_end)) (byte ∙ bytes) before
+        ap (λ j. get_or w j 0) (let j : n - 1 - 2 ≡ at - 1 = omega (arith, cr.0) in j) ∙ after.feed in
+        ends_two w (n - 1) line.feed (omega (arith, after.some, cr.0, cr.1)) byte before
         )
-    | inr other ↦ (
-        let text_end : at ≡ n - 1 =
-        line.text ∙ cond-false (nat_lt (at + 1) n && (get_or w (n - 2) 0 == 13)) (n - 2) (n - 1) other in
+    | inr end ↦ (
         let before : get_or w (n - 1 - 1) 0 ≡ 10 =
-        ap (λ j. get_or w j 0) (let j : n - 1 - 1 ≡ at - 1 = omega (arith, line.after) in j) ∙ after.feed in
-        ends_one w (n - 1) line.feed (omega (arith, after.some, text_end)) before
+        ap (λ j. get_or w j 0) (let j : n - 1 - 1 ≡ at - 1 = omega (arith, line.after, end) in j) ∙ after.feed in
+        ends_one w (n - 1) line.feed (omega (arith, after.some, line.after, end)) before
         )
   ];
   first = λ k below. elim (cases_lt k at) [
@@ -150,24 +152,10 @@ no_head_open w at head none open_line is_head =
 
 -- a line's text ends within the line
 line_bounds : (w : List ℕ) (at e n : ℕ) → IsLine w at e n → (at ≤ e) × (e < n)
-line_bounds w at e n line =
-    elim (cases_Bool (nat_lt (at + 1) n && (get_or w (n - 2) 0 == 13))) [
-      | inl cr ↦ (
-          let text_end : e ≡ n - 2 = line.text
-          ∙ cond-true (nat_lt (at + 1) n && (get_or w (n - 2) 0 == 13)) (n - 2) (n - 1) cr in
-          let more : at + 1 < n = grind (arith, nat_tests) in
-          (omega arith, omega arith)
-          )
-      | inr other ↦ (
-          let text_end : e ≡ n - 1 =
-          line.text ∙ cond-false (nat_lt (at + 1) n && (get_or w (n - 2) 0 == 13)) (n - 2) (n - 1) other in
-          (omega (arith, line.after), omega (arith, line.after))
-          )
-    ]
-
--- whether a CR stands before the LF of the line from a place to n
-abbrev is_cr : ℕ → List ℕ → ℕ → Bool
-is_cr at w n = nat_lt (at + 1) n && (get_or w (n - 2) 0 == 13)
+line_bounds w at e n line = elim (line_end w at e n line) [
+  | inl cr ↦ (omega (arith, cr.0, cr.1), omega (arith, cr.0, cr.1))
+  | inr end ↦ (omega (arith, line.after, end), omega (arith, line.after, end))
+]
 
 -- the end of its text, from that place on
 cut_before : (at n : ℕ) (cr : Bool) → cond cr (n - 2) (n - 1) - at ≡ cond cr (n - at - 2) (n - at - 1)

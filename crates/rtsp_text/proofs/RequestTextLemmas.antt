@@ -36,9 +36,18 @@ use Rattle.rtsp_text.proofs.NumberTexts.{number_read}
 use Rattle.rtsp_text.proofs.GrammarBytes.{word_is, word_of, value_is, named_texts, visible_of}
 use Rattle.rtsp_text.proofs.BodyLengths.{length_given, body_length_of}
 
+-- the length that a Content-Length gives
+written_is : (value : List ℕ) → is_decimal value ≡ true → written_length value ≡ digits_value 10 value
+written_is value decimal = cond-true (is_decimal value) (digits_value 10 value) 0 decimal
+
+given_is : (o : Option (List ℕ)) (body : List ℕ)
+    → MatchOption o (body ≡ []) (λ value. number_of value ≡ Some (length body)) → length_given o ≡ length body
+given_is None body none = sym (ap length none)
+given_is (Some value) body read = let is = number_read value (length body) read in written_is value is.0 ∙ sym is.1
+
 -- a message of these lines and this body, which has the length that the fields give, is complete
 record IsFitting (s : List ℕ) (fields : List Field) (body : List ℕ) : Type 0 where
-  given : length_given (value_named (codes "Content-Length") fields) ≡ length body
+  given : HasGivenLength fields body
   head_is : length (flat (s ∷ map text_of fields) ++ codes "\r\n") ≤ MAX_HEAD_BYTES
   body_is : length body ≤ MAX_BODY_BYTES
 
@@ -49,7 +58,8 @@ whole_message : {s : List ℕ} (fields : List Field) (body : List ℕ) → IsLin
 whole_message {s} fields body one all fits =
     let head = flat (s ∷ map text_of fields) ++ codes "\r\n" in
     let is_body : IsBodyLength head (length body) =
-    subst (λ n. IsBodyLength head n) fits.given (body_length_of s fields one all) in
+    subst (λ n. IsBodyLength head n) (given_is (value_named (codes "Content-Length") fields) body fits.given)
+    (body_length_of s fields one all) in
     record {
       head = length head;
       body = length body;
@@ -60,15 +70,6 @@ whole_message {s} fields body one all fits =
       small = fits.body_is;
       total_is = length-append head body;
     }
-
--- the length that a Content-Length gives
-written_is : (value : List ℕ) → is_decimal value ≡ true → written_length value ≡ digits_value 10 value
-written_is value decimal = cond-true (is_decimal value) (digits_value 10 value) 0 decimal
-
-given_is : (o : Option (List ℕ)) (body : List ℕ)
-    → MatchOption o (body ≡ []) (λ value. number_of value ≡ Some (length body)) → length_given o ≡ length body
-given_is None body none = sym (ap length none)
-given_is (Some value) body read = let is = number_read value (length body) read in written_is value is.0 ∙ sym is.1
 
 given_digits : (o : Option (List ℕ)) (body : List ℕ)
     → MatchOption o (body ≡ []) (λ value. number_of value ≡ Some (length body))
@@ -200,11 +201,7 @@ request_whole parts sequence request short =
     subst (λ (f : List ℕ). IsMessageLength ((f ++ codes "\r\n") ++ parts.body)
     (length ((f ++ codes "\r\n") ++ parts.body))) (sym (front_of parts))
     (whole_message parts.fields parts.body (line_text parts front) (plain_fields parts.fields front.fields_are)
-    (record {
-      given = given_is (value_named (codes "Content-Length") parts.fields) parts.body request.length_is;
-      head_is = subst long (front_of parts) short.head_is;
-      body_is = short.body_is;
-    }))
+    (record { given = request.length_is; head_is = subst long (front_of parts) short.head_is; body_is = short.body_is }))
 
 -- a method begins a request
 byte_begins : (c : ℕ) → is_token_byte c ≡ true → (is_line_end c ≡ false) × ((c == BLOCK_START) ≡ false)
@@ -306,11 +303,7 @@ reply_whole parts is plain given short small =
     subst (λ (f : List ℕ). IsMessageLength ((f ++ codes "\r\n") ++ body) (length ((f ++ codes "\r\n") ++ body)))
     (sym lines_are)
     (whole_message (all_fields sequence fields) body (status_text-line code (status_of code is)) plain
-    (record {
-      given = given_is (value_named (codes "Content-Length") (all_fields sequence fields)) body given;
-      head_is = subst long lines_are short;
-      body_is = small;
-    }))
+    (record { given = given; head_is = subst long lines_are short; body_is = small }))
   where
     open parts use {code, sequence, fields, body}
 
