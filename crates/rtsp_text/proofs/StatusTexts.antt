@@ -1,6 +1,6 @@
 -- A status line, from where it is cut.
-use Rattle.std.proofs.Common.{◌≡◌, ◌≢◌, ℕ, ◌^◌, ◌<◌, ◌&&◌, true, nat_lt, List, ◌∷◌, ◌++◌, codes, length}
-use Rattle.std.proofs.Common.{get_or, Some, None, refl, sym, ap, ◌∙◌, arith, lt-ltb}
+use Rattle.std.proofs.Common.{◌≡◌, ℕ, ◌^◌, ◌<◌, ◌&&◌, true, nat_lt, List, ◌∷◌, ◌++◌, codes, length}
+use Rattle.std.proofs.Common.{Some, None, refl, sym, ap, ◌∙◌, arith, lt-ltb}
 use Rattle.std.specs.List.{list_all}
 use Rattle.std.specs.Char.{is_ascii_digit}
 use Rattle.std.specs.Str.Parse.{digits_value}
@@ -59,17 +59,6 @@ status_parts {text} {version} {code} {r} first second line =
     let one = cut_once {a = codes "RTSP/1.0"} first line.parts refl in
     let two = cut_once second one.after (digits_cut line.digits r code line.is_code).first in
     record { version_is = one.front; digits_are = two.front; phrase_is = two.after }
-
-pub whole_status : {text version rest digits phrase : List ℕ} {code : ℕ} → IsSplitAtFirst 32 text version rest →
-    IsSplitAtFirst 32 rest digits phrase → version ≡ codes "RTSP/1.0" → IsCode digits code →
-    0 < length phrase → get_or phrase 0 0 ≢ 32 → IsStatusLine text code phrase
-whole_status {text} {version} {rest} {digits} {code} first second version_is is some no_space = record {
-  digits = digits;
-  parts = first.parts ∙ ap (λ v. v ++ 32 ∷ rest) version_is ∙ ap (λ t. codes "RTSP/1.0" ++ 32 ∷ t) second.parts;
-  is_code = is;
-  some = some;
-  no_space = no_space;
-}
 
 -- a status line has one code and one phrase
 pub line_once : {text : List ℕ} {c : ℕ} {r : List ℕ} {d : ℕ} {s : List ℕ} → IsStatusLine text c r

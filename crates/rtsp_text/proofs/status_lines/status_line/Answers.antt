@@ -1,9 +1,9 @@
-use Rattle.std.proofs.Common.{◌≡◌, ℕ, List, codes, length, get_or, refl, sym, ap, subst, ◌∙◌, arith}
+use Rattle.std.proofs.Common.{◌≡◌, ◌++◌, ◌∷◌, ℕ, List, codes, length, get_or, refl, sym, ap, subst, ◌∙◌, arith}
 use Rattle.std.proofs.lemmas.Bool.{both_ways, eqb-true}
 use Rattle.rtsp_text.specs.StatusLines.{IsCode}
 use Rattle.rtsp_text.proofs.CutUniqueness.{cut_none, cut_once}
 use Rattle.rtsp_text.proofs.LineIteration.{some_bytes}
-use Rattle.rtsp_text.proofs.StatusTexts.{status_parts, whole_status}
+use Rattle.rtsp_text.proofs.StatusTexts.{status_parts}
 use Rattle.rtsp_text.proofs.status_lines.status_line.Goals as goal
 use Rattle.rtsp_text.proofs.status_lines.status_line.Goals.{then-not-is_rtsp_1_0-via-then-not-is_rtsp_1_0}
 use Rattle.rtsp_text.proofs.status_lines.status_line.Goals.{then-not-is_rtsp_1_0-via-else-not-is_rtsp_1_0+then-is_empty}
@@ -30,10 +30,15 @@ returns-then-not-is_rtsp_1_0 c = λ code phrase line.
     ]
 
 pub returns : goal.returns
-returns c =
-    whole_status c.in_ok-version.ensures c.in_ok-digits.ensures
-    (c.is_rtsp_1_0.ensures.0 c.if-not-is_rtsp_1_0.false) c.in_ok-code.ensures
-    (some_bytes c.in_ok-digits.phrase.now (sym c.is_empty.ensures ∙ c.if-is_empty.false)) c.if-phrase-eq32.false
+returns c = record {
+  digits = c.in_ok-digits.digits.now;
+  parts = c.in_ok-version.ensures.parts ∙ ap (λ v. v ++ 32 ∷ c.in_ok-version.rest.now)
+      (c.is_rtsp_1_0.ensures.0 c.if-not-is_rtsp_1_0.false)
+      ∙ ap (λ t. codes "RTSP/1.0" ++ 32 ∷ t) c.in_ok-digits.ensures.parts;
+  is_code = c.in_ok-code.ensures;
+  some = some_bytes c.in_ok-digits.phrase.now (sym c.is_empty.ensures ∙ c.if-is_empty.false);
+  no_space = c.if-phrase-eq32.false;
+}
 
 pub returns-in_err-code : goal.returns-in_err-code
 returns-in_err-code c =
