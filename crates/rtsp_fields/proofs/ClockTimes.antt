@@ -18,10 +18,6 @@ pub record IsClockAt (text : List ℕ) (first second : ℕ) : Type 0 where
   pub small_minutes : minutes ≤ 59
   pub small_seconds : rest ≤ 59
 
-pub first_colon : (text : List ℕ) (first seconds : ℕ) (clock : IsClock text seconds) → IsPartEnd 58 text 0 first
-    → clock.first ≡ first
-first_colon text first seconds clock e = end_once clock.hours_end e
-
 -- the first two colons, or the text's end
 pub record AreColons (text : List ℕ) (first second : ℕ) : Type 0 where
   pub hours_end : IsPartEnd 58 text 0 first
@@ -30,7 +26,7 @@ pub record AreColons (text : List ℕ) (first second : ℕ) : Type 0 where
 pub clock_at : {text : List ℕ} {first second seconds : ℕ} → AreColons text first second → IsClock text seconds
     → IsClockAt text first second
 clock_at {text} {first} {second} {seconds} colons clock =
-    let same : clock.first ≡ first = first_colon text first seconds clock colons.hours_end in
+    let same : clock.first ≡ first = end_once clock.hours_end colons.hours_end in
     let E : ℕ → Type 0 = λ n. IsPartEnd 58 text (n + 1) clock.second in
     let same_second : clock.second ≡ second = end_once (subst E same clock.minutes_end) colons.minutes_end in
     let C : ℕ → Type 0 = λ n. IsClockAt text n clock.second in

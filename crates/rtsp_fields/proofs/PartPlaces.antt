@@ -28,12 +28,6 @@ pub next_start : (c : ℕ) (text : List ℕ) (from to : ℕ) → IsPartEnd c tex
 next_start c text from to e inside =
     inr (omega arith, let same : to + 1 - 1 ≡ to = omega arith in rw same (e.ends (omega (arith, inside))))
 
--- all parts were passed
-pub passed_all : (c : ℕ) (text : List ℕ) (P : List ℕ → Type 0) (from : ℕ) → length text < from
-    → NoneBefore c text from P → NoPart c text P
-passed_all c text P from past before =
-    λ k end part. before k end (omega (arith, past, part.end.after, part.end.within)) part
-
 -- the first part of one kind
 pub record FirstPart (P : List ℕ → Type 0) (c : ℕ) (text : List ℕ) : Type 0 where
   pub from : ℕ
@@ -118,10 +112,12 @@ passed_more {P} {c} {text} n other =
       before = none_before_next n other;
     }
 
+-- all parts were passed
 pub passed_every : {P : List ℕ → Type 0} {c : ℕ} {text : List ℕ} {parts : SeparatedParts} → HasPassed P c text parts →
     length parts.text.now < parts.from → NoPart c text P
-passed_every {P} {c} {text} {parts} passed past =
-    passed_all c text P parts.from (subst (λ t. length t < parts.from) passed.text_is past) passed.before
+passed_every {text = text} {parts} passed past =
+    let over : length text < parts.from = subst (λ t. length t < parts.from) passed.text_is past in
+    λ k end part. passed.before k end (omega (arith, over, part.end.after, part.end.within)) part
 
 -- the first part that is such a text
 pub found_part : {P : List ℕ → Type 0} {c : ℕ} {text : List ℕ} (n : NextPart P c text) → P n.part →
