@@ -1,10 +1,10 @@
 -- Which line of a text that is no certificate is the bad one.
-use Rattle.std.proofs.Common.{◌≡◌, ◌≢◌, ◌≤◌, ◌+◌, ◌⊎◌, ℕ, List, [], ◌∷◌, ◌++◌, All, length, get_or}
+use Rattle.std.proofs.Common.{◌≡◌, ◌≢◌, ◌<◌, ◌≤◌, ◌+◌, ◌⊎◌, ℕ, List, [], ◌∷◌, ◌++◌, All, length, get_or}
 use Rattle.std.proofs.Common.{decimal, codes, flat_map, not, inl, inr, arith, refl, sym, ap, subst, ◌∙◌}
-use Rattle.std.proofs.Common.{length-append, ne_eqb}
+use Rattle.std.proofs.Common.{length-append, ne_eqb, add-one, drop, zero, suc}
 use Rattle.std.proofs.lemmas.Bool.{and_from, cases_lt}
-use Rattle.std.proofs.lemmas.List.{append_assoc}
-use Rattle.std.proofs.lemmas.List.Elements.{All-append, All-cons, All-head, All-nil, All-tail}
+use Rattle.std.proofs.lemmas.List.{append_assoc, drop_all, drop_more}
+use Rattle.std.proofs.lemmas.List.Elements.{All-append, All-cons, All-get_or, All-head, All-nil, All-tail}
 use Rattle.std.proofs.lemmas.List.Sums.{sum_by-cons}
 use Rattle.std.proofs.Math.ListN.{get_or-eq_default}
 use Rattle.plan_cert.specs.declared.cert_reader.TheConstants.{MAX_NUMBER}
@@ -20,7 +20,7 @@ use Rattle.plan_cert.specs.CertGrammar.{MayStand, begun_text, line_at, lines_of}
 use Rattle.plan_cert.specs.CertGrammar.MayStand.{Bytes, SegmentLine, Slots, Title}
 use Rattle.plan_cert.proofs.CertUniqueness.{Contents, IsSame, end_is_no_segment, lines_are, lines-certificate}
 use Rattle.plan_cert.proofs.CertUniqueness.{no_break, nothing_after, number_clean, one_text}
-use Rattle.plan_cert.proofs.CertUniqueness.{words_clean}
+use Rattle.plan_cert.proofs.CertUniqueness.{contents, words_clean}
 use Rattle.plan_cert.proofs.GrammarLemmas.{breaks_here, breaks_missing, goes_after_end, head_text, not_bytes}
 use Rattle.plan_cert.proofs.GrammarLemmas.{not_one_more, not_segment, not_slots, not_title, read_more, read_none}
 
@@ -118,17 +118,8 @@ bad-bytes slots line rest small is other = (
       (not_bytes line (λ n number. other n number.small number.words)) (λ ends. omega (arith, ends.after_head))),
 )
 
--- a head of two numbers, and segments that a certificate can name
-pub record Begun : Type 0 where
-  pub slots : ℕ
-  pub bytes : ℕ
-  pub segments : List Segment
-  pub few_slots : slots ≤ MAX_NUMBER
-  pub few_bytes : bytes ≤ MAX_NUMBER
-  pub small : AreSmall segments
-
 abbrev pub begun_of : (slots bytes : ℕ) (segments : List Segment) → slots ≤ MAX_NUMBER → bytes ≤ MAX_NUMBER
-    → AreSmall segments → Begun
+    → AreSmall segments → Contents
 begun_of slots bytes segments few_slots few_bytes small = record {
   slots = slots;
   bytes = bytes;
@@ -162,33 +153,41 @@ head-lines slots bytes rest few_slots few_bytes =
     (read_more (slots-line slots third few_slots) (cut-off line rest (number-line (codes "bytes ") bytes few_bytes refl))
     (Bytes bytes refl (record { small = few_bytes; words = refl })))
 
-segment-lines : {text : List ℕ} (k : ℕ) (segments : List Segment) (rest : List ℕ)
-    → All (λ s. (s.slots ≤ MAX_NUMBER) × (s.bytes ≤ MAX_NUMBER)) segments → 3 ≤ k → k + length segments ≤ 1000003
-    → HasReadLines text k (flat_map segment_line segments ++ rest) → HasReadLines text (k + length segments) rest
-segment-lines {text} k [] rest few after room read =
-    subst (λ n. HasReadLines text n rest) (omega arith) read
-segment-lines {text} k (s ∷ segments) rest few after room read =
-    let Few : Segment → Type 0 = λ x. (x.slots ≤ MAX_NUMBER) × (x.bytes ≤ MAX_NUMBER) in
-    let one : Few s = All-head Few s segments few in
+-- after the head and k segments
+segment-lines : (begun : Contents) (rest : List ℕ) (k : ℕ) → k ≤ length begun.segments
+    → HasReadLines (begun_text begun.slots begun.bytes begun.segments rest) (3 + k)
+    (flat_map segment_line (drop k begun.segments) ++ rest)
+segment-lines begun rest zero within =
+    head-lines begun.slots begun.bytes (flat_map segment_line begun.segments ++ rest) begun.few_slots begun.few_bytes
+segment-lines begun rest (suc k) within =
+    let none : Segment = record { slots = 0; bytes = 0 } in
+    let inside : k < length begun.segments = omega (arith, within) in
+    let s = get_or begun.segments k none in
+    let one = All-get_or (λ (x : Segment). (x.slots ≤ MAX_NUMBER) × (x.bytes ≤ MAX_NUMBER)) begun.segments k none inside
+    begun.small.small in
     let words = segment_words s in
-    let more = flat_map segment_line segments ++ rest in
-    let shape : (segment_line s ++ flat_map segment_line segments) ++ rest ≡ words ++ 10 ∷ more =
-    append_assoc (segment_line s) (flat_map segment_line segments) rest
-    ∙ append_assoc words (10 ∷ []) more in
-    let next : HasReadLines text (k + 1) more =
-    read_more (subst (λ l. HasReadLines text k l) shape read)
+    let after = drop (k + 1) begun.segments in
+    let more = flat_map segment_line after ++ rest in
+    let shape : flat_map segment_line (drop k begun.segments) ++ rest ≡ words ++ 10 ∷ more =
+    ap (λ l. flat_map segment_line l ++ rest) (drop_more begun.segments k none inside)
+    ∙ append_assoc (segment_line s) (flat_map segment_line after) rest ∙ append_assoc words (10 ∷ []) more in
+    let place : 3 + k + 1 ≡ 3 + (k + 1) = omega arith in
+    rw (← add-one k) (subst (λ n. HasReadLines (begun_text begun.slots begun.bytes begun.segments rest) n more) place
+    (read_more (subst (λ l. HasReadLines (begun_text begun.slots begun.bytes begun.segments rest) (3 + k) l) shape
+    (segment-lines begun rest k (omega (arith, within))))
     (cut-off words more (one-line words (words_clean s one.0 one.1)))
-    (SegmentLine s after (omega (arith, room)) (record { few_slots = one.0; few_bytes = one.1; words = refl })) in
-    subst (λ n. HasReadLines text n rest) (omega arith)
-    (segment-lines (k + 1) segments rest (All-tail Few s segments few) (omega (arith, after)) (omega (arith, room)) next)
+    (SegmentLine s (omega arith) (omega (arith, inside, begun.small.few))
+    (record { few_slots = one.0; few_bytes = one.1; words = refl }))))
 
-begun-lines : (begun : Begun) (rest : List ℕ)
+begun-lines : (begun : Contents) (rest : List ℕ)
     → HasReadLines (begun_text begun.slots begun.bytes begun.segments rest) (3 + length begun.segments) rest
 begun-lines begun rest =
-    segment-lines 3 begun.segments rest begun.small.small (omega arith) (omega (arith, begun.small.few))
-    (head-lines begun.slots begun.bytes (flat_map segment_line begun.segments ++ rest) begun.few_slots begun.few_bytes)
+    let count = length begun.segments in
+    subst (λ l. HasReadLines (begun_text begun.slots begun.bytes begun.segments rest) (3 + count)
+    (flat_map segment_line l ++ rest)) (drop_all count begun.segments (omega arith))
+    (segment-lines begun rest count (omega arith))
 
-pub bad-segment : (begun : Begun) (line rest : List ℕ) → IsOneLine line → line ≢ codes "end"
+pub bad-segment : (begun : Contents) (line rest : List ℕ) → IsOneLine line → line ≢ codes "end"
     → (length begun.segments ≡ 1000000)
     ⊎ ((s : Segment) → s.slots ≤ MAX_NUMBER → s.bytes ≤ MAX_NUMBER → line ≢ segment_words s)
     → IsBadLine (begun_text begun.slots begun.bytes begun.segments (line ++ 10 ∷ rest)) (length begun.segments + 4)
@@ -205,14 +204,14 @@ bad-segment begun line rest is other wrong =
           (λ ends. other ends.words)),
     )
 
-pub cut-short : (begun : Begun) (line : List ℕ) → IsOneLine line
+pub cut-short : (begun : Contents) (line : List ℕ) → IsOneLine line
     → IsBadLine (begun_text begun.slots begun.bytes begun.segments line) (length begun.segments + 4)
 cut-short begun line is =
     let text = begun_text begun.slots begun.bytes begun.segments line in
     let count = length begun.segments in
     (3 + count, omega arith, inl (breaks_missing text (3 + count) line (begun-lines begun line) is))
 
-pub behind-end : (begun : Begun) (rest : List ℕ) → rest ≢ []
+pub behind-end : (begun : Contents) (rest : List ℕ) → rest ≢ []
     → IsBadLine (begun_text begun.slots begun.bytes begun.segments (codes "end" ++ 10 ∷ rest))
     (length begun.segments + 5)
 behind-end begun rest some =
@@ -225,7 +224,7 @@ behind-end begun rest some =
 
 -- ---- wrong sums
 
-wrong-sum : (begun : Begun) (i : ℕ)
+wrong-sum : (begun : Contents) (i : ℕ)
     → ((i ≡ 1) × (total_slots begun.segments ≢ begun.slots))
     ⊎ ((i ≡ 2) × (total_slots begun.segments ≡ begun.slots) × (total_bytes begun.segments ≢ begun.bytes))
     → HasWrongSum (begun_text begun.slots begun.bytes begun.segments (codes "end\n")) i
@@ -240,11 +239,11 @@ wrong-sum begun i wrong = record {
   wrong = wrong;
 }
 
-pub wrong-slots : (begun : Begun) → total_slots begun.segments ≢ begun.slots
+pub wrong-slots : (begun : Contents) → total_slots begun.segments ≢ begun.slots
     → IsBadLine (begun_text begun.slots begun.bytes begun.segments (codes "end\n")) 2
 wrong-slots begun other = (1, refl, inr (inr (wrong-sum begun 1 (inl (refl, other)))))
 
-pub wrong-bytes : (begun : Begun) → total_slots begun.segments ≡ begun.slots
+pub wrong-bytes : (begun : Contents) → total_slots begun.segments ≡ begun.slots
     → total_bytes begun.segments ≢ begun.bytes
     → IsBadLine (begun_text begun.slots begun.bytes begun.segments (codes "end\n")) 3
 wrong-bytes begun same other = (2, refl, inr (inr (wrong-sum begun 2 (inr (refl, same, other)))))
@@ -311,33 +310,18 @@ one-end one other =
 
 -- well formed lines have no break and nothing behind their end
 well-formed : {text : List ℕ} {i : ℕ} (wrong : HasWrongSum text i)
-    → lines_of text ≡ lines_are wrong.slots wrong.bytes wrong.segments
-well-formed wrong =
-    ap lines_of wrong.text_is
-    ∙ lines-certificate wrong.slots wrong.bytes wrong.segments wrong.small_slots wrong.small_bytes wrong.small.small
+    → lines_of text ≡ lines_are (contents wrong)
+well-formed wrong = ap lines_of wrong.text_is ∙ lines-certificate (contents wrong)
 
 no-break-there : {text : List ℕ} {i j : ℕ} → HasWrongSum text i → BreaksAt (lines_of text) j → ⊥
 no-break-there {j} wrong breaks =
-    no_break wrong.slots wrong.bytes wrong.small_slots wrong.small_bytes wrong.small
-    (subst (λ ls. BreaksAt ls j) (well-formed wrong) breaks)
+    no_break (contents wrong) (subst (λ ls. BreaksAt ls j) (well-formed wrong) breaks)
 
 no-end-there : {text : List ℕ} {i j : ℕ} → HasWrongSum text i → IsAfterEnd (lines_of text) j → ⊥
 no-end-there {j} wrong after =
-    nothing_after wrong.slots wrong.bytes wrong.small_slots wrong.small_bytes wrong.small
-    (subst (λ ls. IsAfterEnd ls j) (well-formed wrong) after)
-
-contents : {text : List ℕ} {i : ℕ} → HasWrongSum text i → Contents
-contents wrong = record {
-  slots = wrong.slots;
-  bytes = wrong.bytes;
-  segments = wrong.segments;
-  few_slots = wrong.small_slots;
-  few_bytes = wrong.small_bytes;
-  few = wrong.small.small;
-}
+    nothing_after (contents wrong) (subst (λ ls. IsAfterEnd ls j) (well-formed wrong) after)
 
 one-sum : {text : List ℕ} {i j : ℕ} → HasWrongSum text i → HasWrongSum text j → i ≡ j
-unfolding contents
 one-sum one other =
     let same : IsSame (contents one) (contents other) =
     one_text (contents one) (contents other) (sym one.text_is ∙ other.text_is) in

@@ -62,7 +62,7 @@ one_list segments others one other e =
       segments = list;
       few_slots = is.few_slots;
       few_bytes = is.few_bytes;
-      few = is.small.small;
+      small = is.small;
     } in told in
     (one_text (contents segments one) (contents others other) e).segments_are
 

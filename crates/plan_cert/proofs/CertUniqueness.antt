@@ -15,7 +15,7 @@ use Rattle.plan_cert.specs.declared.cert_reader.CertRead.TheVariants.{BadCert, N
 use Rattle.plan_cert.specs.PlanSlots.{total_slots, total_bytes}
 use Rattle.plan_cert.specs.CertFormat.{segment_words, segment_line, cert_head}
 use Rattle.plan_cert.specs.CertGrammar.{Lines, lines_of, line_at, MayStand, BreaksAt, IsAfterEnd, AreSmall}
-use Rattle.plan_cert.specs.CertGrammar.{IsCertificate}
+use Rattle.plan_cert.specs.CertGrammar.{HasWrongSum, IsCertificate}
 use Rattle.plan_cert.specs.CertGrammar.{IsBadLine, IsCertRefusal}
 use Rattle.plan_cert.specs.CertGrammar.MayStand.{Title, Slots, Bytes, SegmentLine}
 use Rattle.vod_base.proofs.SplitLemmas.{none_is, split_once}
@@ -35,15 +35,25 @@ words_clean s few_slots few_bytes =
     (none_is 10 (codes " ") refl))
     (number_clean s.bytes few_bytes)
 
+-- what a certificate contains: the two numbers at its head and its segments
+pub record Contents : Type 0 where
+  pub slots : ℕ
+  pub bytes : ℕ
+  pub segments : List Segment
+  pub few_slots : slots ≤ MAX_NUMBER
+  pub few_bytes : bytes ≤ MAX_NUMBER
+  pub small : AreSmall segments
+
 -- ---- the lines of a certificate
 abbrev body_of : List Segment → List (List ℕ)
 body_of segments = map segment_words segments ++ codes "end" ∷ []
 
-abbrev pub lines_are : ℕ → ℕ → List Segment → Lines
-lines_are slots bytes segments =
+abbrev pub lines_are : Contents → Lines
+lines_are told =
     record {
       whole =
-          codes "smooth 1" ∷ (codes "slots " ++ decimal slots) ∷ (codes "bytes " ++ decimal bytes) ∷ body_of segments;
+          codes "smooth 1" ∷ (codes "slots " ++ decimal told.slots) ∷ (codes "bytes " ++ decimal told.bytes)
+          ∷ body_of told.segments;
       rest = [];
     }
 
@@ -64,10 +74,10 @@ lines-body (s ∷ rest) small =
     (words_clean s few.0 few.1)
     ∙ ap (λ ls. record { whole = segment_words s ∷ ls.whole; rest = ls.rest }) others
 
-pub lines-certificate : (slots bytes : ℕ) (segments : List Segment) → slots ≤ MAX_NUMBER → bytes ≤ MAX_NUMBER
-    → All IsFew segments →
-    lines_of (cert_head slots bytes ++ flat_map segment_line segments ++ codes "end\n") ≡ lines_are slots bytes segments
-lines-certificate slots bytes segments small_slots small_bytes small =
+pub lines-certificate : (told : Contents)
+    → lines_of (cert_head told.slots told.bytes ++ flat_map segment_line told.segments ++ codes "end\n")
+    ≡ lines_are told
+lines-certificate told =
     let body = flat_map segment_line segments ++ codes "end\n" in
     let third = (codes "bytes " ++ decimal bytes) ++ 10 ∷ body in
     let second = (codes "slots " ++ decimal slots) ++ 10 ∷ third in
@@ -90,10 +100,10 @@ lines-certificate slots bytes segments small_slots small_bytes small =
     append_assoc (cert_head slots bytes) (flat_map segment_line segments) (codes "end\n") ∙ sym shape in
     let clean_slots =
     All-append (λ b. b ≢ 10) (codes "slots ") (decimal slots) (none_is 10 (codes "slots ") refl)
-    (number_clean slots small_slots) in
+    (number_clean slots told.few_slots) in
     let clean_bytes =
     All-append (λ b. b ≢ 10) (codes "bytes ") (decimal bytes) (none_is 10 (codes "bytes ") refl)
-    (number_clean bytes small_bytes) in
+    (number_clean bytes told.few_bytes) in
     ap lines_of whole
     ∙ lines-cut (codes "smooth 1") second (none_is 10 (codes "smooth 1") refl)
     ∙ ap (λ ls. record { whole = codes "smooth 1" ∷ ls.whole; rest = ls.rest })
@@ -101,7 +111,9 @@ lines-certificate slots bytes segments small_slots small_bytes small =
     ∙ ap (λ ls. record { whole = (codes "slots " ++ decimal slots) ∷ ls.whole; rest = ls.rest })
     (lines-cut (codes "bytes " ++ decimal bytes) body clean_bytes
     ∙ ap (λ ls. record { whole = (codes "bytes " ++ decimal bytes) ∷ ls.whole; rest = ls.rest })
-    (lines-body segments small)))
+    (lines-body segments told.small.small)))
+  where
+    open told use {slots, bytes, segments}
 
 -- ---- one text, one list
 abbrev pair : ℕ → ℕ → Segment
@@ -136,15 +148,6 @@ same_list (x ∷ xs) (y ∷ ys) few few' e =
     let rest : xs ≡ ys = same_list xs ys (All-tail IsFew x xs few) (All-tail IsFew y ys few') others in
     cc
 
--- what a certificate contains: the two numbers at its head and its segments
-pub record Contents : Type 0 where
-  pub slots : ℕ
-  pub bytes : ℕ
-  pub segments : List Segment
-  pub few_slots : slots ≤ MAX_NUMBER
-  pub few_bytes : bytes ≤ MAX_NUMBER
-  pub few : All IsFew segments
-
 pub record IsSame (one other : Contents) : Type 0 where
   pub slots_are : one.slots ≡ other.slots
   pub bytes_are : one.bytes ≡ other.bytes
@@ -155,9 +158,8 @@ pub one_text : (one other : Contents)
     ≡ cert_head other.slots other.bytes ++ flat_map segment_line other.segments ++ codes "end\n"
     → IsSame one other
 one_text one other e =
-    let lines : lines_are slots bytes xs ≡ lines_are slots' bytes' ys =
-    sym (lines-certificate slots bytes xs few_slots few_bytes few) ∙ ap lines_of e
-    ∙ lines-certificate slots' bytes' ys few_slots' few_bytes' few' in
+    let lines : lines_are one ≡ lines_are other =
+    sym (lines-certificate one) ∙ ap lines_of e ∙ lines-certificate other in
     let second : codes "slots " ++ decimal slots ≡ codes "slots " ++ decimal slots' =
     ap (λ ls. get_or ls.whole 1 []) lines in
     let third : codes "bytes " ++ decimal bytes ≡ codes "bytes " ++ decimal bytes' =
@@ -169,18 +171,18 @@ one_text one other e =
       bytes_are = decimal_injective bytes bytes' (omega (arith, few_bytes)) (omega (arith, few_bytes'))
           (append_cancel_left (codes "bytes ") (decimal bytes) (decimal bytes') third);
       segments_are =
-          same_list xs ys few few' (append_cancel_right (map segment_words xs) (map segment_words ys)
+          same_list xs ys small.small small'.small (append_cancel_right (map segment_words xs) (map segment_words ys)
           (codes "end" ∷ []) rest);
     }
   where
-    open one use {slots, bytes, segments as xs, few_slots, few_bytes, few}
+    open one use {slots, bytes, segments as xs, few_slots, few_bytes, small}
     open other use {
       slots as slots',
       bytes as bytes',
       segments as ys,
       few_slots as few_slots',
       few_bytes as few_bytes',
-      few as few',
+      small as small',
     }
 
 abbrev contents_of : {text : List ℕ} {slots bytes : ℕ} {segments : List Segment}
@@ -191,7 +193,18 @@ contents_of {segments} certificate = record {
   segments = segments;
   few_slots = omega (arith, certificate.slots_are, certificate.small_slots);
   few_bytes = omega (arith, certificate.bytes_are, certificate.small_bytes);
-  few = certificate.small.small;
+  small = certificate.small;
+}
+
+-- what a text with a wrong sum contains
+abbrev pub contents : {text : List ℕ} {i : ℕ} → HasWrongSum text i → Contents
+contents wrong = record {
+  slots = wrong.slots;
+  bytes = wrong.bytes;
+  segments = wrong.segments;
+  few_slots = wrong.small_slots;
+  few_bytes = wrong.small_bytes;
+  small = wrong.small;
 }
 
 -- a text is the certificate of one list of segments
@@ -214,89 +227,69 @@ length-body : (segments : List Segment) → length (body_of segments) ≡ length
 length-body segments =
     length-append (map segment_words segments) (codes "end" ∷ []) ∙ ap (λ n. n + 1) (length-map segments segment_words)
 
-stands : {segments : List Segment} (slots bytes : ℕ) → slots ≤ MAX_NUMBER → bytes ≤ MAX_NUMBER → AreSmall segments →
-    {i : ℕ} → i < 3 + length segments → MayStand i (line_at (lines_are slots bytes segments) i)
-stands slots bytes small_slots small_bytes small {i = zero} few = Title refl refl
-stands slots bytes small_slots small_bytes small {i = suc zero} few =
-    Slots slots refl (record { small = small_slots; words = refl })
-stands slots bytes small_slots small_bytes small {i = suc (suc zero)} few =
-    Bytes bytes refl (record { small = small_bytes; words = refl })
-stands {segments} slots bytes small_slots small_bytes small {i = suc (suc (suc j))} few =
+stands : (told : Contents) {i : ℕ} → i < 3 + length told.segments → MayStand i (line_at (lines_are told) i)
+stands told {i = zero} few = Title refl refl
+stands told {i = suc zero} few = Slots told.slots refl (record { small = told.few_slots; words = refl })
+stands told {i = suc (suc zero)} few = Bytes told.bytes refl (record { small = told.few_bytes; words = refl })
+stands told {i = suc (suc (suc j))} few =
+    let segments = told.segments in
     let s : Segment = get_or segments j (pair 0 0) in
     let inside : j < length segments = omega (arith, few) in
     let inside' : j < length (map segment_words segments) = omega (arith, inside, length-map segments segment_words) in
     let words : get_or (body_of segments) j [] ≡ segment_words s =
     get_or_append_left (map segment_words segments) (codes "end" ∷ []) [] j inside'
     ∙ get_or-map segment_words segments j (pair 0 0) [] inside in
-    let one : IsFew s = All-get_or IsFew segments j (pair 0 0) inside small.small in
-    SegmentLine s (omega arith) (omega (arith, inside, small.few))
+    let one : IsFew s = All-get_or IsFew segments j (pair 0 0) inside told.small.small in
+    SegmentLine s (omega arith) (omega (arith, inside, told.small.few))
     (record { few_slots = one.0; few_bytes = one.1; words = words })
 
-ends : (slots bytes : ℕ) (segments : List Segment) (i : ℕ) → i ≡ 3 + length segments
-    → line_at (lines_are slots bytes segments) i ≡ codes "end"
-ends slots bytes segments i is =
-    let front = codes "smooth 1" ∷ (codes "slots " ++ decimal slots) ∷ (codes "bytes " ++ decimal bytes)
-    ∷ map segment_words segments in
-    let count : length front ≡ i = omega (arith, is, length-map segments segment_words) in
+ends : (told : Contents) (i : ℕ) → i ≡ 3 + length told.segments → line_at (lines_are told) i ≡ codes "end"
+ends told i is =
+    let front = codes "smooth 1" ∷ (codes "slots " ++ decimal told.slots) ∷ (codes "bytes " ++ decimal told.bytes)
+    ∷ map segment_words told.segments in
+    let count : length front ≡ i = omega (arith, is, length-map told.segments segment_words) in
     get_or_at front (codes "end") [] [] i count
 
-pub no_break : {segments : List Segment} (slots bytes : ℕ) → slots ≤ MAX_NUMBER → bytes ≤ MAX_NUMBER → AreSmall segments
-    → {i : ℕ} → BreaksAt (lines_are slots bytes segments) i → ⊥
-no_break {segments} slots bytes small_slots small_bytes small {i} breaks =
-    let last = 3 + length segments in
-    let at_last : line_at (lines_are slots bytes segments) last ≡ codes "end" = ends slots bytes segments last refl in
+pub no_break : (told : Contents) {i : ℕ} → BreaksAt (lines_are told) i → ⊥
+no_break told {i} breaks =
+    let last = 3 + length told.segments in
     elim breaks.here [
       | inl over ↦
-          end_is_no_segment last (line_at (lines_are slots bytes segments) last) (omega arith) at_last
-          (breaks.before last (omega (arith, over, length-body segments)))
-      | inr bad ↦ elim (cases_lt i (3 + length segments)) [
-        | inl inside ↦ bad.1 (stands slots bytes small_slots small_bytes small inside)
+          end_is_no_segment last (line_at (lines_are told) last) (omega arith) (ends told last refl)
+          (breaks.before last (omega (arith, over, length-body told.segments)))
+      | inr bad ↦ elim (cases_lt i last) [
+        | inl inside ↦ bad.1 (stands told inside)
         | inr after ↦ (
-            let is : i ≡ 3 + length segments = omega (arith, after, bad.0, length-body segments) in
-            bad.2 (record { after_head = omega (arith, is); words = ends slots bytes segments i is })
+            let is : i ≡ last = omega (arith, after, bad.0, length-body told.segments) in
+            bad.2 (record { after_head = omega (arith, is); words = ends told i is })
             )
       ]
     ]
 
-pub nothing_after : {segments : List Segment} (slots bytes : ℕ) → slots ≤ MAX_NUMBER → bytes ≤ MAX_NUMBER
-    → AreSmall segments → {i : ℕ} → IsAfterEnd (lines_are slots bytes segments) i → ⊥
-nothing_after {segments} slots bytes small_slots small_bytes small after =
-    elim (cases_lt after.last (3 + length segments)) [
+pub nothing_after : (told : Contents) {i : ℕ} → IsAfterEnd (lines_are told) i → ⊥
+nothing_after told after =
+    elim (cases_lt after.last (3 + length told.segments)) [
       | inl inside ↦
-          end_is_no_segment after.last (line_at (lines_are slots bytes segments) after.last) after.ends.after_head
-          after.ends.words
-          (stands slots bytes small_slots small_bytes small inside)
+          end_is_no_segment after.last (line_at (lines_are told) after.last) after.ends.after_head after.ends.words
+          (stands told inside)
       | inr over ↦ elim after.more [
-        | inl more ↦ omega (arith, more, over, after.last_is, length-body segments)
+        | inl more ↦ omega (arith, more, over, after.last_is, length-body told.segments)
         | inr some ↦ some refl
       ]
     ]
 
 pub certificate_has_no_bad_line : {text : List ℕ} {slots bytes : ℕ} {segments : List Segment} (line : ℕ)
     → IsCertificate text slots bytes segments → IsBadLine text line → ⊥
-certificate_has_no_bad_line {text} {segments} line cert bad =
-    let s = total_slots segments in
-    let b = total_bytes segments in
-    let small_slots : s ≤ MAX_NUMBER = omega (arith, cert.slots_are, cert.small_slots) in
-    let small_bytes : b ≤ MAX_NUMBER = omega (arith, cert.bytes_are, cert.small_bytes) in
-    let lines : lines_of text ≡ lines_are s b segments =
-    ap lines_of cert.text_is ∙ lines-certificate s b segments small_slots small_bytes cert.small.small in
+certificate_has_no_bad_line {text} line cert bad =
+    let told : Contents = contents_of cert in
+    let lines : lines_of text ≡ lines_are told = ap lines_of cert.text_is ∙ lines-certificate told in
     elim bad.2 [
-      | inl breaks ↦ no_break s b small_slots small_bytes cert.small (subst (λ ls. BreaksAt ls bad.0) lines breaks)
+      | inl breaks ↦ no_break told (subst (λ ls. BreaksAt ls bad.0) lines breaks)
       | inr other ↦ elim other [
-        | inl after ↦ nothing_after s b small_slots small_bytes cert.small
-            (subst (λ ls. IsAfterEnd ls bad.0) lines after)
+        | inl after ↦ nothing_after told (subst (λ ls. IsAfterEnd ls bad.0) lines after)
         | inr wrong ↦ (
-            let told : Contents = record {
-              slots = wrong.slots;
-              bytes = wrong.bytes;
-              segments = wrong.segments;
-              few_slots = wrong.small_slots;
-              few_bytes = wrong.small_bytes;
-              few = wrong.small.small;
-            } in
-            let same : IsSame told (contents_of cert) =
-            one_text told (contents_of cert) (sym wrong.text_is ∙ cert.text_is) in
+            let same : IsSame (contents wrong) told =
+            one_text (contents wrong) told (sym wrong.text_is ∙ cert.text_is) in
             let slots_are : total_slots wrong.segments ≡ wrong.slots = ap total_slots same.segments_are
             ∙ sym same.slots_are in
             let bytes_are : total_bytes wrong.segments ≡ wrong.bytes = ap total_bytes same.segments_are

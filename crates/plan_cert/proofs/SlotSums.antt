@@ -9,6 +9,7 @@ use Rattle.std.proofs.lemmas.List.Sums.{sum_by-cons, sum_by-append, sum_by_push,
 use Rattle.std.proofs.lemmas.List.Elements.{All-head, All-tail}
 use Rattle.std.proofs.lemmas.List.FromFn.{length-map-range_with_len, take-map-range_with_len, map-range_with_len_more}
 use Rattle.plan_cert.specs.declared.Segment.{Segment}
+use Rattle.plan_cert.specs.declared.segments.SlotPosition.{SlotPosition}
 use Rattle.plan_cert.specs.PlanSlots.{slot_of, slots_of, plan_slots, total_slots, total_bytes, sum_through}
 use Rattle.plan_cert.specs.Plan.{IsPlan, IsSlotPosition}
 use Rattle.plan_cert.proofs.FloorLemmas.{floor_rises}
@@ -120,18 +121,20 @@ sum-take-at {s} (x ∷ rest) (suc i) j some given few =
     ∙ sum-take-past x rest (total_slots (take i rest) + j) pos ∙ omega (arith, after, bytes)
 
 -- the running sum through a slot that has a place
-pub sum_through-at : {segments : List Segment} {slot : ℕ} {s : Segment} {passed before : ℕ} → IsPlan segments →
-    IsSlotPosition segments slot s passed before →
-    before + (passed + 1) * s.bytes / s.slots ≡ sum_through segments slot
-sum_through-at {segments} {slot} {s} {passed} plan place =
+pub sum_through-at : {segments : List Segment} {slot : ℕ} (at : SlotPosition) → IsPlan segments
+    → IsSlotPosition segments slot at.segment at.passed at.before
+    → at.before + (at.passed + 1) * at.segment.bytes / at.segment.slots ≡ sum_through segments slot
+sum_through-at {segments} {slot} at plan place =
+    let s = at.segment in
+    let passed = at.passed in
     let h = sum-take-at segments place.index (passed + 1) plan.no_empty (record {
       inside = place.inside;
       segment_is = place.segment_is;
     }) (omega (arith, place.within)) in
-    let at : total_slots (take place.index segments) + (passed + 1) ≡ slot + 1 = omega (arith, place.slot_is) in
+    let end : total_slots (take place.index segments) + (passed + 1) ≡ slot + 1 = omega (arith, place.slot_is) in
     let whole : sum (take (slot + 1) (plan_slots segments))
     ≡ total_bytes (take place.index segments) + (passed + 1) * s.bytes / s.slots =
-    ap (λ n. sum (take n (plan_slots segments))) (sym at) ∙ h in
+    ap (λ n. sum (take n (plan_slots segments))) (sym end) ∙ h in
     omega (arith, whole, place.before_is)
 
 -- the running sum past the end
@@ -142,11 +145,14 @@ sum_through-past segments slot plan past =
     sym (ap sum (take_all (slot + 1) (plan_slots segments) short) ∙ sum-plan_slots segments plan.no_empty)
 
 -- a slot that has a place
-pub slot-at : {segments : List Segment} {slot : ℕ} {s : Segment} {passed before : ℕ} → IsPlan segments →
-    IsSlotPosition segments slot s passed before →
-    (passed + 1) * s.bytes / s.slots - passed * s.bytes / s.slots ≡ slice_index (plan_slots segments) slot
-slot-at {segments} {slot} {s} {passed} plan place =
-    let through = sum_through-at plan place in
+pub slot-at : {segments : List Segment} {slot : ℕ} (at : SlotPosition) → IsPlan segments
+    → IsSlotPosition segments slot at.segment at.passed at.before
+    → (at.passed + 1) * at.segment.bytes / at.segment.slots - at.passed * at.segment.bytes / at.segment.slots
+    ≡ slice_index (plan_slots segments) slot
+slot-at {segments} {slot} at plan place =
+    let s = at.segment in
+    let passed = at.passed in
+    let through = sum_through-at at plan place in
     let h = sum-take-at segments place.index passed plan.no_empty (record {
       inside = place.inside;
       segment_is = place.segment_is;

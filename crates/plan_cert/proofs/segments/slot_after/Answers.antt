@@ -5,8 +5,7 @@ use Rattle.plan_cert.proofs.segments.slot_after.Goals as goal
 
 pub returns-in-Some-clause-value : goal.returns-in-Some-clause-value
 returns-in-Some-clause-value c =
-    let p = c.in-Some.place in
-    let whole = slot-at c.requires.plan c.in-Some.ensures.place in
+    let whole = slot-at c.in-Some.place c.requires.plan c.in-Some.ensures.place in
     cc (whole, c.first_bytes.ensures, c.first_bytes-sent.ensures)
 
 pub returns-in-None-clause-value : goal.returns-in-None-clause-value
