@@ -15,19 +15,6 @@ accepted-no_fault sizes timing (BufferTooSmall slot used least) ok small =
     let over = small.2 in omega (arith, over.above_buffer, over.used_is, ok.buffer_holds slot over.in_range)
 
 -- two first slots are one
-first_is_one : {sizes : List ℕ} {timing : Timing} {s u l s' u' l' : ℕ} → IsBufferTooSmall sizes timing s u l
-    → IsBufferTooSmall sizes timing s' u' l' → s ≤ s'
-first_is_one {s} {l} {s'} a b =
-    elim (cases_lt s' s) [
-      | inl lt ↦ absurd (let le = a.first s' lt in let up = b.above_buffer in
-          let is = b.used_is in omega (arith, le, up, is))
-      | inr le ↦ le
-    ]
-
-greatest_is_one : {sizes : List ℕ} {timing : Timing} {s u l s' u' l' : ℕ} → IsBufferTooSmall sizes timing s u l
-    → IsBufferTooSmall sizes timing s' u' l' → l ≤ l'
-greatest_is_one {s} {l} a b = let le = b.greatest a.reached.0 a.reached.1 in omega (arith, le, a.reached.2)
-
 pub HasCurveFault-unique : (sizes : List ℕ) (timing : Timing) (one other : CurveFault) → HasCurveFault sizes timing one
     → HasCurveFault sizes timing other → one ≡ other
 HasCurveFault-unique sizes timing NoPictures NoPictures a b = refl
@@ -43,7 +30,16 @@ HasCurveFault-unique sizes timing (BufferTooSmall slot used least) (TooManySlots
 HasCurveFault-unique sizes timing (BufferTooSmall slot used least) (BufferTooSmall slot' used' least') a b =
     let one = a.2 in
     let other = b.2 in
-    let same_slot : slot ≡ slot' = omega (arith, first_is_one one other, first_is_one other one) in
+    let same_slot : slot ≡ slot' =
+    elim (cases_lt slot' slot) [
+      | inl lt ↦ absurd (omega (arith, one.first slot' lt, other.above_buffer, other.used_is))
+      | inr low ↦ elim (cases_lt slot slot') [
+        | inl lt ↦ absurd (omega (arith, other.first slot lt, one.above_buffer, one.used_is))
+        | inr high ↦ omega (arith, low, high)
+      ]
+    ] in
     let same_used : used ≡ used' = one.used_is ∙ (ap (bytes_used_in sizes timing) same_slot ∙ sym other.used_is) in
-    let same_least : least ≡ least' = omega (arith, greatest_is_one one other, greatest_is_one other one) in
+    let above = other.greatest one.reached.0 one.reached.1 in
+    let below = one.greatest other.reached.0 other.reached.1 in
+    let same_least : least ≡ least' = omega (arith, above, below, one.reached.2, other.reached.2) in
     cc

@@ -1,7 +1,7 @@
 -- Pictures of which each has a slot of its own: what the slots use.
 use Rattle.std.proofs.Common.{◌≡◌, ℕ, ◌+◌, ◌-◌, ◌*◌, ◌/◌, ◌<◌, ◌≤◌, ◌≢◌, cond, eqb, List}
 use Rattle.std.proofs.Common.{length, get_or, sym, ap, ◌∙◌, subst, inl, inr, add-one, arith, zero, suc, [], ◌∷◌, ◌++◌}
-use Rattle.std.proofs.Common.{All, length-append}
+use Rattle.std.proofs.Common.{All, length-append, below_more}
 use Rattle.std.proofs.Math.ListN.{get_or-append}
 use Rattle.std.proofs.lemmas.List.{get_or_push, get_or_default}
 use Rattle.std.proofs.Math.Nat.{mul-div_cancel}
@@ -102,29 +102,19 @@ IsAccepted-own {timing} sizes own some few fit = record {
           subst (λ u. bytes_used_in sizes timing u ≤ timing.buffer) is (omega (arith, used, fits))
     ]
 
--- a list that has the numbers of f, with the next one at its end
-pub each_pushed : (f : ℕ → ℕ) (xs ys : List ℕ) (x n : ℕ) → ys ≡ xs ++ x ∷ [] → length xs ≡ n
-    → ((t : ℕ) → t < n → get_or xs t 0 ≡ f t) → x ≡ f n → (t : ℕ) → t < n + 1 → get_or ys t 0 ≡ f t
-each_pushed f xs ys x n is len each here t lt =
-    ap (λ zs. get_or zs t 0) is ∙ elim (cases_lt t n) [
-      | inl below ↦ get_or-append xs (x ∷ []) 0 t (omega (arith, below, len)) ∙ each t below
-      | inr le ↦
-          let at_end : n ≡ t = omega (arith, le, lt) in
-          get_or_push xs x 0 t (omega (arith, len, at_end)) ∙ (here ∙ ap f at_end)
-    ]
+-- the numbers of f, as many as n
+pub record AreValues (f : ℕ → ℕ) (n : ℕ) (xs : List ℕ) : Type 0 where
+  pub len : length xs ≡ n
+  pub each : (t : ℕ) → t < n → get_or xs t 0 ≡ f t
 
-pub length_pushed : (xs ys : List ℕ) (x n : ℕ) → ys ≡ xs ++ x ∷ [] → length xs ≡ n → length ys ≡ n + 1
-length_pushed xs ys x n is len = rw is (omega (arith, length-append xs (x ∷ []), len))
-
--- numbers that don't pass a bound, with one more
-pub fit_more : (xs : List ℕ) (bound n : ℕ) → ((k : ℕ) → k < n → get_or xs k 0 ≤ bound) → get_or xs n 0 ≤ bound
-    → (k : ℕ) → k < n + 1 → get_or xs k 0 ≤ bound
-fit_more xs bound n each here k lt = elim (cases_lt k n) [
-  | inl below ↦ each k below
-  | inr le ↦
-      let is : n ≡ k = omega (arith, le, lt) in
-      subst (λ j. get_or xs j 0 ≤ bound) is here
-]
+-- and the next one at their end
+pub values_pushed : {f : ℕ → ℕ} {n : ℕ} {xs : List ℕ} (x : ℕ) → AreValues f n xs → x ≡ f n
+    → AreValues f (n + 1) (xs ++ x ∷ [])
+values_pushed {f} {n} {xs} x are here = record {
+  len = omega (arith, length-append xs (x ∷ []), are.len);
+  each = below_more _ _ (λ t below. get_or-append xs (x ∷ []) 0 t (omega (arith, below, are.len)) ∙ are.each t below)
+      (get_or_push xs x 0 n are.len ∙ here);
+}
 
 pub all_fit : (xs : List ℕ) (bound n : ℕ) → length xs ≡ n → ((k : ℕ) → k < n → get_or xs k 0 ≤ bound)
     → All (λ x. x ≤ bound) xs

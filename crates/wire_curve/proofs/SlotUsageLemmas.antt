@@ -1,13 +1,13 @@
 -- What pictures use in each slot: adding up one picture after another, and the running sums over the slots.
 use Rattle.std.proofs.Common.{◌≡◌, ℕ, ◌+◌, ◌*◌, ◌-◌, ◌/◌, ◌<◌, ◌≤◌, ◌≢◌, Bool, true, false, cond, eqb, ltb, List}
-use Rattle.std.proofs.Common.{length, take, set, get_or, sum, sum_by, refl, sym, ◌∙◌, subst, inl, inr, add-one, arith}
+use Rattle.std.proofs.Common.{length, take, set, get_or, sum, sum_by, refl, sym, ap, ◌∙◌, subst, inl, inr, add-one, arith}
 use Rattle.std.proofs.Common.{zero, suc}
 use Rattle.std.specs.List.{range_with_len}
 use Rattle.std.proofs.Math.Nat.{le_refl, le_trans, mul-le-mul_right, div-mul-le_self}
 use Rattle.std.proofs.lemmas.Nat.{le-div}
 use Rattle.std.proofs.lemmas.Bool.{cases_eq}
 use Rattle.std.proofs.lemmas.Bool.Decides.{nat_tests}
-use Rattle.std.proofs.lemmas.List.{get_or-set_same, get_or-set_other}
+use Rattle.std.proofs.lemmas.List.{get_or-set_same, get_or-set_other, length-set}
 use Rattle.std.proofs.lemmas.List.Sums.{sum_by_more}
 use Rattle.wire_curve.specs.declared.film.Timing.{Timing}
 use Rattle.wire_curve.specs.FilmCurves.{due_slot, used_before, bytes_used_in, total_of, slot_count}
@@ -56,42 +56,29 @@ pub record AreFirstUses (sizes : List ℕ) (timing : Timing) (slots n : ℕ) (us
   pub slots_are : length uses ≡ slots
   pub each : (t : ℕ) → t < slots → get_or uses t 0 ≡ first_used_in sizes timing n t
 
-first_uses_at : {sizes : List ℕ} {timing : Timing} {slots n : ℕ} {uses : List ℕ}
-    → AreFirstUses sizes timing slots n uses
-    → {s : ℕ} → s ≡ due_slot timing n → s < slots
-    → get_or (set uses s (get_or uses s 0 + get_or sizes n 0)) s 0 ≡ first_used_in sizes timing (n + 1) s
-first_uses_at {sizes} {timing} {n} {uses} so_far {s} is in' =
-    let here : s < length uses = omega (arith, so_far.slots_are) in
-    let at_s = get_or-set_same uses s (get_or uses s 0 + get_or sizes n 0) 0 here in
-    let more_s = sum_by-range_more (λ k. cond (eqb (due_slot timing k) s) (get_or sizes k 0) 0) n in
-    let before_s = so_far.each s in' in
-    let yes : cond (eqb (due_slot timing n) s) (get_or sizes n 0) 0 ≡ get_or sizes n 0 =
-    cond_same (due_slot timing n) s (get_or sizes n 0) (sym is) in
-    omega (arith, at_s, more_s, before_s, yes)
-
-first_uses_off : {sizes : List ℕ} {timing : Timing} {slots n : ℕ} {uses : List ℕ}
-    → AreFirstUses sizes timing slots n uses
-    → {s : ℕ} → s ≡ due_slot timing n → (t : ℕ) → t < slots → t ≢ s
-    → get_or (set uses s (get_or uses s 0 + get_or sizes n 0)) t 0 ≡ first_used_in sizes timing (n + 1) t
-first_uses_off {sizes} {timing} {n} {uses} so_far {s} is t lt other =
-    let same_there = get_or-set_other uses s t (get_or uses s 0 + get_or sizes n 0) 0 other in
-    let more = sum_by-range_more (λ k. cond (eqb (due_slot timing k) t) (get_or sizes k 0) 0) n in
-    let before = so_far.each t lt in
-    let no : cond (eqb (due_slot timing n) t) (get_or sizes n 0) 0 ≡ 0 =
-    cond_other (due_slot timing n) t (get_or sizes n 0) (λ e. other (sym (is ∙ e))) in
-    omega (arith, same_there, more, before, no)
-
 pub first_uses_more : {sizes : List ℕ} {timing : Timing} {slots n : ℕ} {uses : List ℕ}
-    → AreFirstUses sizes timing slots n uses
-    → {s : ℕ} → s ≡ due_slot timing n → s < slots → (t : ℕ) → t < slots
-    → get_or (set uses s (get_or uses s 0 + get_or sizes n 0)) t 0 ≡ first_used_in sizes timing (n + 1) t
-first_uses_more {sizes} {timing} {n} {uses} so_far {s} is in' t lt =
-    elim (cases_eq t s) [
-      | inl same ↦
-          subst (λ u. get_or (set uses s (get_or uses s 0 + get_or sizes n 0)) u 0
-          ≡ first_used_in sizes timing (n + 1) u) (sym same) (first_uses_at so_far is in')
-      | inr other ↦ first_uses_off so_far is t lt other
-    ]
+    → AreFirstUses sizes timing slots n uses → due_slot timing n < slots
+    → AreFirstUses sizes timing slots (n + 1)
+    (set uses (due_slot timing n) (get_or uses (due_slot timing n) 0 + get_or sizes n 0))
+first_uses_more {sizes} {timing} {slots} {n} {uses} so_far in' = record {
+  slots_are = length-set uses s _ ∙ so_far.slots_are;
+  each = λ t lt.
+      let more = sum_by-range_more (λ k. cond (eqb (due_slot timing k) t) (get_or sizes k 0) 0) n in
+      let before = so_far.each t lt in
+      elim (cases_eq s t) [
+        | inl same ↦
+            let here = get_or-set_same uses s (get_or uses s 0 + get_or sizes n 0) 0 (omega (arith, so_far.slots_are)) in
+            let there = ap (λ u. get_or (set uses s (get_or uses s 0 + get_or sizes n 0)) u 0) same in
+            let yes = cond_same s t (get_or sizes n 0) same in
+            omega (arith, here, there, ap (λ u. get_or uses u 0) same, more, before, yes)
+        | inr other ↦
+            let same_there = get_or-set_other uses s t (get_or uses s 0 + get_or sizes n 0) 0 (λ e. other (sym e)) in
+            omega (arith, same_there, more, before, cond_other s t (get_or sizes n 0) other)
+      ];
+}
+  where
+    s : ℕ
+    s = due_slot timing n
 
 -- The running sums
 

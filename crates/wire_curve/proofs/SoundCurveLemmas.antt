@@ -5,9 +5,9 @@ use Rattle.vod_base.specs.declared.limits.TheConstants.{MAX_BYTES}
 use Rattle.wire_curve.specs.declared.film.Timing.{Timing}
 use Rattle.wire_curve.specs.declared.curves.Curves.{Curves}
 use Rattle.wire_curve.specs.SoundCurves.{AreSound}
-use Rattle.wire_curve.specs.FilmCurves.{used_before, total_of, slot_count, up_at, IsWithinLimits, AreFilmCurves}
+use Rattle.wire_curve.specs.FilmCurves.{used_before, total_of, slot_count, IsWithinLimits, AreFilmCurves}
 use Rattle.wire_curve.specs.CurveFaults.{IsAccepted}
-use Rattle.wire_curve.specs.SlotUsage.{AreSlotUses, used_by, AreCurvesOfUses}
+use Rattle.wire_curve.specs.SlotUsage.{AreSlotUses, AreCurvesOfUses}
 use Rattle.wire_curve.proofs.SlotUsageLemmas.{used_before-none, used_before-more, used_before-all, used_before_rises}
 use Rattle.wire_curve.proofs.SlotUsageLemmas.{used_by-is}
 
@@ -21,49 +21,24 @@ sum_of_uses sizes timing uses limits some are =
     let all = used_before-all sizes timing limits.some_slot_units some in
     omega (arith, at_end, whole, all)
 
-pub AreFilmCurves-of_uses : {sizes : List ℕ} {timing : Timing} {uses : List ℕ} {total : ℕ} {curves : Curves}
-    → AreSlotUses sizes timing uses → total ≡ total_of sizes timing → AreCurvesOfUses timing uses total curves
+pub AreFilmCurves-of_uses : {sizes : List ℕ} {timing : Timing} {uses : List ℕ} {curves : Curves}
+    → AreSlotUses sizes timing uses → AreCurvesOfUses timing uses (total_of sizes timing) curves
     → AreFilmCurves sizes timing curves
-AreFilmCurves-of_uses {sizes} {timing} {uses} {total} are is of = record {
+AreFilmCurves-of_uses {sizes} {timing} {uses} are of = record {
   from_is = of.from_is;
   low_slots = of.low_slots ∙ are.slots;
   up_slots = of.up_slots ∙ are.slots;
   low_is = λ t lt. of.low_is t (omega (arith, are.slots))
       ∙ ap (max timing.sent) (used_by-is sizes timing uses are (t + 1) (omega arith));
-  up_is = λ t lt. of.up_is t (omega (arith, are.slots)) ∙ up_same are is t (omega arith);
+  up_is = λ t lt. of.up_is t (omega (arith, are.slots))
+      ∙ ap (λ used. min (total_of sizes timing) (used + timing.buffer)) (used_by-is sizes timing uses are t (omega arith));
 }
-  where
-    up_same : {sizes : List ℕ} {timing : Timing} {uses : List ℕ} {total : ℕ} → AreSlotUses sizes timing uses
-        → total ≡ total_of sizes timing → (t : ℕ) → t ≤ slot_count sizes timing
-        → min total (used_by timing uses t + timing.buffer) ≡ up_at sizes timing t
-    up_same {sizes} {timing} {uses} are is t le =
-        let by = used_by-is sizes timing uses are t le in
-        omega (arith, is, by)
 
--- the lower curve of accepted pictures stays below the upper one
-low_under_up : (sizes : List ℕ) (timing : Timing) (curves : Curves) → IsWithinLimits sizes timing
-    → IsAccepted sizes timing → AreFilmCurves sizes timing curves
-    → (t : ℕ) → t < length curves.low.items → get_or curves.low.items t 0 ≤ get_or curves.up.items t 0
-low_under_up sizes timing curves limits ok are t lt =
-    let n = slot_count sizes timing in omega (
-      arith,
-      are.low_is t (omega (arith, are.low_slots)),
-      are.up_is t (omega (arith, are.low_slots)),
-      used_before-more sizes timing t,
-      ok.buffer_holds t (omega (arith, are.low_slots)),
-      limits.sent_of_total,
-      limits.sent_fits_buffer,
-      limits.played_was_sent,
-      used_before_rises sizes timing 0 t (omega arith),
-      used_before_rises sizes timing (t + 1) n (omega (arith, are.low_slots)),
-      used_before-none sizes timing,
-      used_before-all sizes timing limits.some_slot_units ok.some_picture,
-    )
-
--- at the last slot they meet, at all bytes of the film
+-- the lower curve of accepted pictures stays below the upper one; at the last slot they meet, at all bytes of the film
 curves_meet : (sizes : List ℕ) (timing : Timing) (curves : Curves) → IsWithinLimits sizes timing
     → IsAccepted sizes timing → AreFilmCurves sizes timing curves
-    → (get_or curves.low.items (length curves.low.items - 1) 0 ≡ get_or curves.up.items (length curves.low.items - 1) 0)
+    → ((t : ℕ) → t < length curves.low.items → get_or curves.low.items t 0 ≤ get_or curves.up.items t 0)
+    × (get_or curves.low.items (length curves.low.items - 1) 0 ≡ get_or curves.up.items (length curves.low.items - 1) 0)
     × (get_or curves.low.items (length curves.low.items - 1) 0 ≤ MAX_BYTES)
 curves_meet sizes timing curves limits ok are =
     let n = slot_count sizes timing in
@@ -76,6 +51,20 @@ curves_meet sizes timing curves limits ok are =
     let up_end = ap (λ k. get_or curves.up.items (k - 1) 0) are.low_slots in
     let more = used_before-more sizes timing (n - 1) in
     let holds = ok.buffer_holds (n - 1) (omega arith) in (
+      λ t lt. omega (
+        arith,
+        are.low_is t (omega (arith, are.low_slots)),
+        are.up_is t (omega (arith, are.low_slots)),
+        used_before-more sizes timing t,
+        ok.buffer_holds t (omega (arith, are.low_slots)),
+        limits.sent_of_total,
+        limits.sent_fits_buffer,
+        limits.played_was_sent,
+        used_before_rises sizes timing 0 t (omega arith),
+        used_before_rises sizes timing (t + 1) n (omega (arith, are.low_slots)),
+        used_before-none sizes timing,
+        all,
+      ),
       omega (arith, low_end, up_end, low_last, up_last, at_end, more, holds, limits.sent_of_total),
       omega (arith, low_end, low_last, at_end, limits.sent_of_total, limits.total_fits),
     )
@@ -106,7 +95,7 @@ AreSound-of_film sizes timing curves limits ok are =
             are.up_is (t + 1) (omega (arith, are.low_slots)),
             more t,
           );
-      low_below_up = low_under_up sizes timing curves limits ok are;
-      meet_at_end = meet.0;
-      total_fits = meet.1;
+      low_below_up = meet.0;
+      meet_at_end = meet.1;
+      total_fits = meet.2;
     }

@@ -15,12 +15,12 @@ curves_of_uses-requires-clause-total c =
 pub returns-clause-curves : goal.returns-clause-curves
 returns-clause-curves c =
     AreFilmCurves-of_uses
-    c.in_ok-uses.ensures.in_slot c.in_ok-uses.ensures.total c.in_ok-curves_of_uses.ensures
+    c.in_ok-uses.ensures.in_slot (rw c.in_ok-uses.ensures.total at c.in_ok-curves_of_uses.ensures)
 
 pub returns-clause-sound : goal.returns-clause-sound
 returns-clause-sound c =
     let are = AreFilmCurves-of_uses
-    c.in_ok-uses.ensures.in_slot c.in_ok-uses.ensures.total c.in_ok-curves_of_uses.ensures in
+    c.in_ok-uses.ensures.in_slot (rw c.in_ok-uses.ensures.total at c.in_ok-curves_of_uses.ensures) in
     let ok : IsAccepted c.args.sizes.now c.args.timing.now = grind (arith, common_steps) in
     AreSound-of_film c.args.sizes.now c.args.timing.now c.in_ok-curves_of_uses.field-0 c.requires ok are
 

@@ -1,8 +1,8 @@
-use Rattle.std.proofs.Common.{◌≡◌, ◌+◌, length, get_or, refl, sym, subst, arith, rules, ◌++◌, ◌∷◌, []}
+use Rattle.std.proofs.Common.{◌≡◌, ◌+◌, length, get_or, refl, sym, subst, arith, rules, below_more, ◌++◌, ◌∷◌, []}
 use Rattle.std.proofs.lemmas.List.Sums.{sum_by_more}
 use Rattle.wire_curve.specs.FilmCurves.{low_at, up_at, used_before}
 use Rattle.wire_curve.proofs.OwnSlotLemmas.{HasOwnSlots, slots_own, used_before-delay, used_before-own}
-use Rattle.wire_curve.proofs.OwnSlotLemmas.{each_pushed, length_pushed, fit_more, all_fit}
+use Rattle.wire_curve.proofs.OwnSlotLemmas.{AreValues, values_pushed, all_fit}
 use Rattle.wire_curve.proofs.film.picture_curves.Goals as goal
 
 pub loop-preserved : goal.loop-preserved
@@ -21,10 +21,8 @@ loop-preserved c =
     record {
       low_room = omega (arith, so_far.low_room);
       up_room = omega (arith, so_far.up_room);
-      low_slots = length_pushed _ _ _ _ low so_far.low_slots;
-      up_slots = length_pushed _ _ _ _ up so_far.up_slots;
-      low = each_pushed (low_at sizes timing) _ _ _ _ low so_far.low_slots so_far.low low_here;
-      up = each_pushed (up_at sizes timing) _ _ _ _ up so_far.up_slots so_far.up up_here;
+      low = rw low (values_pushed _ so_far.low low_here);
+      up = rw up (values_pushed _ so_far.up up_here);
     }
 
 pub loop-size-init : goal.loop-size-init
@@ -41,10 +39,8 @@ loop-size-init c =
       used = sym before;
       small = omega arith;
       fit = λ k lt. absurd (omega (arith, lt));
-      low_slots = omega (arith, so_far.low_slots, at_end);
-      up_slots = omega (arith, so_far.up_slots, at_end);
-      low = λ t lt. so_far.low t (omega (arith, lt, at_end));
-      up = λ t lt. so_far.up t (omega (arith, lt, at_end));
+      low = subst (λ n. AreValues (low_at sizes timing) n c.loop.low.items) (omega (arith, at_end)) so_far.low;
+      up = subst (λ n. AreValues (up_at sizes timing) n c.loop.up.items) (omega (arith, at_end)) so_far.up;
     }
 
 pub loop-size-preserved : goal.loop-size-preserved
@@ -58,10 +54,11 @@ loop-size-preserved c =
     let low : c.push_reserved-in-loop-size-2.new.self.items ≡ c.loop-size.low.items ++ c.max.result ∷ [] = search rules in
     let up : c.push_reserved-in-loop-size.new.self.items ≡ c.loop-size.up.items ++ c.min-in-loop-size.result ∷ [] = search rules in
     let grown = used_before-own sizes own k inside in
+    let place : timing.delay + k + 1 ≡ timing.delay + (k + 1) = omega arith in
     let next : used_before sizes timing (timing.delay + (k + 1))
     ≡ used_before sizes timing (timing.delay + k) + get_or sizes k 0 =
     subst (λ t. used_before sizes timing t ≡ used_before sizes timing (timing.delay + k) + get_or sizes k 0)
-    (omega arith) grown in
+    place grown in
     let more = sum_by_more (λ x. x) sizes k 0 inside in
     let low_here : c.max.result ≡ low_at sizes timing (timing.delay + k) =
     omega (arith, c.max.ensures, so_far.used, grown) in
@@ -72,11 +69,11 @@ loop-size-preserved c =
       up_room = omega (arith, so_far.up_room);
       used = omega (arith, so_far.used, next);
       small = omega (arith, so_far.small, more);
-      fit = fit_more sizes timing.buffer k so_far.fit (omega (arith, c.if-size-timing.false));
-      low_slots = omega (arith, length_pushed _ _ _ _ low so_far.low_slots);
-      up_slots = omega (arith, length_pushed _ _ _ _ up so_far.up_slots);
-      low = λ t lt. each_pushed (low_at sizes timing) _ _ _ _ low so_far.low_slots so_far.low low_here t (omega (arith, lt));
-      up = λ t lt. each_pushed (up_at sizes timing) _ _ _ _ up so_far.up_slots so_far.up up_here t (omega (arith, lt));
+      fit = below_more _ _ so_far.fit (omega (arith, c.if-size-timing.false));
+      low = rw low (subst (λ n. AreValues (low_at sizes timing) n (c.loop-size.low.items ++ c.max.result ∷ [])) place
+          (values_pushed _ so_far.low low_here));
+      up = rw up (subst (λ n. AreValues (up_at sizes timing) n (c.loop-size.up.items ++ c.min-in-loop-size.result ∷ []))
+          place (values_pushed _ so_far.up up_here));
     }
 
 pub returns-clause-curves : goal.returns-clause-curves
@@ -89,10 +86,10 @@ returns-clause-curves c =
     let slots = slots_own sizes own c.requires.some_picture in
     record {
       from_is = refl;
-      low_slots = omega (arith, so_far.low_slots, at_end, slots);
-      up_slots = omega (arith, so_far.up_slots, at_end, slots);
-      low_is = λ t lt. so_far.low t (omega (arith, lt, at_end, slots));
-      up_is = λ t lt. so_far.up t (omega (arith, lt, at_end, slots));
+      low_slots = omega (arith, so_far.low.len, at_end, slots);
+      up_slots = omega (arith, so_far.up.len, at_end, slots);
+      low_is = λ t lt. so_far.low.each t (omega (arith, lt, at_end, slots));
+      up_is = λ t lt. so_far.up.each t (omega (arith, lt, at_end, slots));
     }
 
 pub returns-clause-fits : goal.returns-clause-fits

@@ -1,15 +1,14 @@
 use Rattle.std.proofs.Common.{◌≡◌, ℕ, ◌+◌, ◌<◌, ◌≤◌, length, take, slice_index, sum, vec_capacity}
 use Rattle.wire_curve.specs.FilmCurves.{low_at, up_at, used_before}
+use Rattle.wire_curve.proofs.OwnSlotLemmas.{AreValues}
 use Rattle.wire_curve.proofs.film.picture_curves.Given as goal
 
 abbrev pub invariant-loop : goal.invariant-loop
 invariant-loop l = record {
   low_room : l.timing.delay + length l.sizes ≤ vec_capacity l.low;
   up_room : l.timing.delay + length l.sizes ≤ vec_capacity l.up;
-  low_slots : length l.low.items ≡ l.counter;
-  up_slots : length l.up.items ≡ l.counter;
-  low : (t : ℕ) → t < l.counter → slice_index l.low.items t ≡ low_at l.sizes l.timing t;
-  up : (t : ℕ) → t < l.counter → slice_index l.up.items t ≡ up_at l.sizes l.timing t;
+  low : AreValues (low_at l.sizes l.timing) l.counter l.low.items;
+  up : AreValues (up_at l.sizes l.timing) l.counter l.up.items;
 }
 
 abbrev pub invariant-loop-size : goal.invariant-loop-size
@@ -19,8 +18,6 @@ invariant-loop-size l = record {
   used : l.used ≡ used_before l.sizes l.timing (l.timing.delay + l.size-index);
   small : l.used ≡ l.timing.played + sum (take l.size-index l.sizes);
   fit : (k : ℕ) → k < l.size-index → slice_index l.sizes k ≤ l.timing.buffer;
-  low_slots : length l.low.items ≡ l.timing.delay + l.size-index;
-  up_slots : length l.up.items ≡ l.timing.delay + l.size-index;
-  low : (t : ℕ) → t < l.timing.delay + l.size-index → slice_index l.low.items t ≡ low_at l.sizes l.timing t;
-  up : (t : ℕ) → t < l.timing.delay + l.size-index → slice_index l.up.items t ≡ up_at l.sizes l.timing t;
+  low : AreValues (low_at l.sizes l.timing) (l.timing.delay + l.size-index) l.low.items;
+  up : AreValues (up_at l.sizes l.timing) (l.timing.delay + l.size-index) l.up.items;
 }

@@ -1,7 +1,8 @@
 use Rattle.std.proofs.lemmas.Grind.{common_steps}
 use Rattle.std.proofs.Common.{◌<◌, arith, length, ◌∙◌}
-use Rattle.std.proofs.lemmas.List.{length-set, get_or_default}
+use Rattle.std.proofs.lemmas.List.{get_or_default}
 use Rattle.std.proofs.lemmas.List.Sums.{sum_by_more, sum_by_more_le}
+use Rattle.wire_curve.specs.FilmCurves.{due_slot}
 use Rattle.wire_curve.proofs.SlotUsageLemmas.{due_in_range, first_used_in_fits, first_uses_more}
 use Rattle.wire_curve.proofs.film.sum_slot_uses.Goals as goal
 
@@ -31,12 +32,9 @@ loop-picture-preserved c =
     let inside : slot < length uses = omega (arith, c.loop-picture.invariant.uses.slots_are) in
     let read = c.index_mut.ensures.value ∙ get_or_default uses slot c.index_mut.result.now 0 inside in
     let more = sum_by_more (λ x. x) sizes n 0 c.loop-picture-test.true in
-    let so_far = c.loop-picture.invariant.uses in
-    rw read record {
-      uses = record {
-        slots_are = length-set uses slot _ ∙ so_far.slots_are;
-        each = first_uses_more so_far c.due_slot-slot.ensures lt;
-      };
+    let due : due_slot c.args.timing.now n < c.args.slots = omega (arith, in', c.requires.slots) in
+    rw (read, c.due_slot-slot.ensures) record {
+      uses = first_uses_more c.loop-picture.invariant.uses due;
       total = omega (arith, more);
     }
 
