@@ -21,7 +21,7 @@ use Rattle.plan_cert.specs.CertGrammar.MayStand.{Bytes, SegmentLine, Slots, Titl
 use Rattle.plan_cert.proofs.CertUniqueness.{Contents, IsSame, end_is_no_segment, lines_are, lines-certificate}
 use Rattle.plan_cert.proofs.CertUniqueness.{no_break, nothing_after, number_clean, one_text}
 use Rattle.plan_cert.proofs.CertUniqueness.{contents, words_clean}
-use Rattle.plan_cert.proofs.GrammarLemmas.{breaks_here, breaks_missing, goes_after_end, head_text, not_bytes}
+use Rattle.plan_cert.proofs.GrammarLemmas.{breaks_here, breaks_missing, goes_after_end, head_text, next_is, not_bytes}
 use Rattle.plan_cert.proofs.GrammarLemmas.{not_one_more, not_segment, not_slots, not_title, read_more, read_none}
 
 -- ---- the certificate of a plan
@@ -68,15 +68,16 @@ cut-off line rest is = record { parts = refl; first = is }
 
 title-line : (rest : List ℕ) → HasReadLines (codes "smooth 1" ++ 10 ∷ rest) 1 rest
 title-line rest =
-    read_more (read_none (codes "smooth 1" ++ 10 ∷ rest)) (cut-off (codes "smooth 1") rest refl) (Title refl refl)
+    read_more (next_is (read_none (codes "smooth 1" ++ 10 ∷ rest)) (cut-off (codes "smooth 1") rest refl))
+    (Title refl refl)
 
 pub bad-title : (line rest : List ℕ) → IsOneLine line → line ≢ codes "smooth 1" → IsBadLine (line ++ 10 ∷ rest) 1
 bad-title line rest is other =
     let text = line ++ 10 ∷ rest in (
       0,
       refl,
-      inl (breaks_here (read_none text) (cut-off line rest is) (not_title line other)
-          (λ ends. omega (arith, ends.after_head))),
+      inl (breaks_here (next_is (read_none text) (cut-off line rest is))
+          (not_title line other, λ ends. omega (arith, ends.after_head))),
     )
 
 pub bad-slots : (line rest : List ℕ) → IsOneLine line
@@ -85,8 +86,8 @@ pub bad-slots : (line rest : List ℕ) → IsOneLine line
 bad-slots line rest is other = (
   1,
   refl,
-  inl (breaks_here (title-line (line ++ 10 ∷ rest)) (cut-off line rest is)
-      (not_slots line (λ n number. other n number.small number.words)) (λ ends. omega (arith, ends.after_head))),
+  inl (breaks_here (next_is (title-line (line ++ 10 ∷ rest)) (cut-off line rest is))
+      (not_slots line (λ n number. other n number.small number.words), λ ends. omega (arith, ends.after_head))),
 )
 
 -- bytes that aren't LF make one line
@@ -105,7 +106,8 @@ slots-line : (slots : ℕ) (rest : List ℕ) → slots ≤ MAX_NUMBER
     → HasReadLines (codes "smooth 1" ++ 10 ∷ ((codes "slots " ++ decimal slots) ++ 10 ∷ rest)) 2 rest
 slots-line slots rest small =
     let line = codes "slots " ++ decimal slots in
-    read_more (title-line (line ++ 10 ∷ rest)) (cut-off line rest (number-line (codes "slots ") slots small refl))
+    read_more
+    (next_is (title-line (line ++ 10 ∷ rest)) (cut-off line rest (number-line (codes "slots ") slots small refl)))
     (Slots slots refl (record { small = small; words = refl }))
 
 pub bad-bytes : (slots : ℕ) (line rest : List ℕ) → slots ≤ MAX_NUMBER → IsOneLine line
@@ -114,8 +116,8 @@ pub bad-bytes : (slots : ℕ) (line rest : List ℕ) → slots ≤ MAX_NUMBER �
 bad-bytes slots line rest small is other = (
   2,
   refl,
-  inl (breaks_here (slots-line slots (line ++ 10 ∷ rest) small) (cut-off line rest is)
-      (not_bytes line (λ n number. other n number.small number.words)) (λ ends. omega (arith, ends.after_head))),
+  inl (breaks_here (next_is (slots-line slots (line ++ 10 ∷ rest) small) (cut-off line rest is))
+      (not_bytes line (λ n number. other n number.small number.words), λ ends. omega (arith, ends.after_head))),
 )
 
 abbrev pub begun_of : (slots bytes : ℕ) (segments : List Segment) → slots ≤ MAX_NUMBER → bytes ≤ MAX_NUMBER
@@ -150,7 +152,8 @@ head-lines slots bytes rest few_slots few_bytes =
       bytes_is = refl;
     }) in
     subst (λ text. HasReadLines text 3 rest) shape
-    (read_more (slots-line slots third few_slots) (cut-off line rest (number-line (codes "bytes ") bytes few_bytes refl))
+    (read_more
+    (next_is (slots-line slots third few_slots) (cut-off line rest (number-line (codes "bytes ") bytes few_bytes refl)))
     (Bytes bytes refl (record { small = few_bytes; words = refl })))
 
 -- after the head and k segments
@@ -173,9 +176,9 @@ segment-lines begun rest (suc k) within =
     ∙ append_assoc (segment_line s) (flat_map segment_line after) rest ∙ append_assoc words (10 ∷ []) more in
     let place : 3 + k + 1 ≡ 3 + (k + 1) = omega arith in
     rw (← add-one k) (subst (λ n. HasReadLines (begun_text begun.slots begun.bytes begun.segments rest) n more) place
-    (read_more (subst (λ l. HasReadLines (begun_text begun.slots begun.bytes begun.segments rest) (3 + k) l) shape
-    (segment-lines begun rest k (omega (arith, within))))
-    (cut-off words more (one-line words (words_clean s one.0 one.1)))
+    (read_more (next_is (subst (λ l. HasReadLines (begun_text begun.slots begun.bytes begun.segments rest) (3 + k) l)
+    shape (segment-lines begun rest k (omega (arith, within))))
+    (cut-off words more (one-line words (words_clean s one.0 one.1))))
     (SegmentLine s (omega arith) (omega (arith, inside, begun.small.few))
     (record { few_slots = one.0; few_bytes = one.1; words = refl }))))
 
@@ -195,13 +198,14 @@ bad-segment begun line rest is other wrong =
     let count = length begun.segments in (
       3 + count,
       omega arith,
-      inl (breaks_here (begun-lines begun (line ++ 10 ∷ rest)) (cut-off line rest is)
-          (λ stands. elim wrong [
-            | inl full ↦ not_one_more count line full stands
-            | inr never ↦ not_segment count line
-                (λ s segment. never s segment.few_slots segment.few_bytes segment.words) stands
-          ])
-          (λ ends. other ends.words)),
+      inl (breaks_here (next_is (begun-lines begun (line ++ 10 ∷ rest)) (cut-off line rest is)) (
+        (λ stands. elim wrong [
+          | inl full ↦ not_one_more count line full stands
+          | inr never ↦ not_segment count line
+              (λ s segment. never s segment.few_slots segment.few_bytes segment.words) stands
+        ]),
+        (λ ends. other ends.words),
+      )),
     )
 
 pub cut-short : (begun : Contents) (line : List ℕ) → IsOneLine line
@@ -218,8 +222,8 @@ behind-end begun rest some =
     let count = length begun.segments in (
       3 + count + 1,
       omega arith,
-      inr (inl (goes_after_end (begun-lines begun (codes "end" ++ 10 ∷ rest)) (cut-off (codes "end") rest refl)
-          (record { after_head = omega arith; words = refl }) some)),
+      inr (inl (goes_after_end (next_is (begun-lines begun (codes "end" ++ 10 ∷ rest)) (cut-off (codes "end") rest refl))
+          (record { after_head = omega arith; words = refl }, some))),
     )
 
 -- ---- wrong sums

@@ -74,12 +74,13 @@ read_none text = record {
   before = λ j few. absurd (omega (arith, few));
 }
 
--- the next line of the rest is the next one of the text
+-- the lines before line k are read, and what is left begins with it: it is the next line of the text
 pub record IsNext (text : List ℕ) (k : ℕ) (line after : List ℕ) : Type 0 where
   pub inside : k < length (lines_of text).whole
   pub line_is : line_at (lines_of text) k ≡ line
   pub left : drop (k + 1) (lines_of text).whole ≡ (lines_of after).whole
   pub rest : (lines_of text).rest ≡ (lines_of after).rest
+  pub before : (j : ℕ) → j < k → MayStand j (line_at (lines_of text) j)
 
 pub next_is : {text : List ℕ} {k : ℕ} {rest line after : List ℕ} → HasReadLines text k rest
     → IsSplitAtFirst 10 rest line after → IsNext text k line after
@@ -97,19 +98,18 @@ next_is {text} {k} {rest} {line} {after} read cut =
           ∙ ap (λ ls. get_or ls 0 []) left;
       left = sym (drop-drop 1 k (lines_of text).whole) ∙ ap (drop 1) left;
       rest = read.after ∙ ap (λ ls. ls.rest) lines;
+      before = read.before;
     }
 
 -- one line more
-pub read_more : {text : List ℕ} {k : ℕ} {rest line after : List ℕ} → HasReadLines text k rest
-    → IsSplitAtFirst 10 rest line after → MayStand k line → HasReadLines text (k + 1) after
-read_more {text} {k} {line} {after} read cut stands =
-    let next = next_is read cut in
-    record {
-      within = omega (arith, next.inside);
-      left = next.left;
-      after = next.rest;
-      before = below_more _ _ read.before (subst (λ l. MayStand k l) (sym next.line_is) stands);
-    }
+pub read_more : {text : List ℕ} {k : ℕ} {line after : List ℕ} → IsNext text k line after → MayStand k line
+    → HasReadLines text (k + 1) after
+read_more {text} {k} next stands = record {
+  within = omega (arith, next.inside);
+  left = next.left;
+  after = next.rest;
+  before = below_more _ _ next.before (subst (λ l. MayStand k l) (sym next.line_is) stands);
+}
 
 -- the text ends before line k does
 pub breaks_missing : (text : List ℕ) (k : ℕ) (rest : List ℕ) → HasReadLines text k rest
@@ -121,34 +121,29 @@ breaks_missing text k rest read none =
     record { before = read.before; here = inl (omega (arith, count, length-drop k (lines_of text).whole, read.within)) }
 
 -- line k may not be there
-pub breaks_here : {text : List ℕ} {k : ℕ} {rest line after : List ℕ} → HasReadLines text k rest
-    → IsSplitAtFirst 10 rest line after →
-    (MayStand k line → ⊥) → (MayEnd k line → ⊥) → BreaksAt (lines_of text) k
-breaks_here {text} {k} {line} read cut no_stand no_end =
-    let next = next_is read cut in
-    record {
-      before = read.before;
-      here = inr (
-        next.inside,
-        (λ stands. no_stand (subst (λ l. MayStand k l) next.line_is stands)),
-        (λ ends. no_end (subst (λ l. MayEnd k l) next.line_is ends)),
-      );
-    }
+pub breaks_here : {text : List ℕ} {k : ℕ} {line after : List ℕ} → IsNext text k line after
+    → (¬ MayStand k line) × (¬ MayEnd k line) → BreaksAt (lines_of text) k
+breaks_here {text} {k} next wrong = record {
+  before = next.before;
+  here = inr (
+    next.inside,
+    (λ stands. wrong.0 (subst (λ l. MayStand k l) next.line_is stands)),
+    (λ ends. wrong.1 (subst (λ l. MayEnd k l) next.line_is ends)),
+  );
+}
 
 -- something stands after the end
-pub goes_after_end : {text : List ℕ} {k : ℕ} {rest line after : List ℕ} → HasReadLines text k rest →
-    IsSplitAtFirst 10 rest line after →
-    MayEnd k line → after ≢ [] → IsAfterEnd (lines_of text) (k + 1)
-goes_after_end {text} {k} {line} {after} read cut ends some =
-    let next = next_is read cut in
+pub goes_after_end : {text : List ℕ} {k : ℕ} {line after : List ℕ} → IsNext text k line after
+    → MayEnd k line × (after ≢ []) → IsAfterEnd (lines_of text) (k + 1)
+goes_after_end {text} {k} {line} {after} next end =
     let count : length (drop (k + 1) (lines_of text).whole) ≡ length (lines_of after).whole = ap length next.left in
     record {
       last = k;
       last_is = refl;
-      before = read.before;
+      before = next.before;
       inside = next.inside;
-      ends = subst (λ l. MayEnd k l) (sym next.line_is) ends;
-      more = elim (something after some) [
+      ends = subst (λ l. MayEnd k l) (sym next.line_is) end.0;
+      more = elim (something after end.1) [
         | inl lines ↦ inl (omega (arith, lines, count, length-drop (k + 1) (lines_of text).whole))
         | inr left ↦ inr (λ e. left (sym next.rest ∙ e))
       ];
@@ -229,26 +224,13 @@ head_text {text} slots bytes after given =
     }
 
 -- one more segment's line
-pub segment_text : {text rest line : List ℕ} (after : List ℕ) (segments : List Segment) (s : Segment) →
-    text ≡ flat_map segment_line segments ++ rest →
-    rest ≡ line ++ 10 ∷ after → line ≡ segment_words s → text ≡ flat_map segment_line (segments ++ s ∷ []) ++ after
-segment_text {text} {line} after segments s so_far cut words =
-    let whole : text ≡ flat_map segment_line segments ++ (segment_words s ++ 10 ∷ after) =
-    so_far ∙ ap (λ r. flat_map segment_line segments ++ r) (cut ∙ ap (λ l. l ++ 10 ∷ after) words) in
+pub segment_text : (after : List ℕ) (segments : List Segment) (s : Segment)
+    → flat_map segment_line segments ++ (segment_words s ++ 10 ∷ after)
+    ≡ flat_map segment_line (segments ++ s ∷ []) ++ after
+segment_text after segments s =
     let more : flat_map segment_line (segments ++ s ∷ [])
     ≡ flat_map segment_line segments ++ (segment_line s ++ []) = flat_map-append segment_line segments (s ∷ []) in
     let ended : segment_line s ++ [] ≡ segment_words s ++ 10 ∷ [] = append-nil (segment_line s) in
-    let joined : flat_map segment_line (segments ++ s ∷ []) ++ after
-    ≡ flat_map segment_line segments ++ (segment_words s ++ 10 ∷ after) =
-    ap (λ x. x ++ after) (more ∙ ap (λ x. flat_map segment_line segments ++ x) ended)
+    sym (ap (λ x. x ++ after) (more ∙ ap (λ x. flat_map segment_line segments ++ x) ended)
     ∙ append_assoc (flat_map segment_line segments) (segment_words s ++ 10 ∷ []) after
-    ∙ ap (λ x. flat_map segment_line segments ++ x) (append_assoc (segment_words s) (10 ∷ []) after) in
-    whole ∙ sym joined
-
-pub whole_text : {text rest : List ℕ} (slots bytes : ℕ) (segments : List Segment)
-    → text ≡ cert_head slots bytes ++ rest →
-    rest ≡ flat_map segment_line segments ++ codes "end\n"
-    → text ≡ cert_head slots bytes ++ flat_map segment_line segments ++ codes "end\n"
-whole_text {text} slots bytes segments head body =
-    head ∙ ap (λ r. cert_head slots bytes ++ r) body
-    ∙ sym (append_assoc (cert_head slots bytes) (flat_map segment_line segments) (codes "end\n"))
+    ∙ ap (λ x. flat_map segment_line segments ++ x) (append_assoc (segment_words s) (10 ∷ []) after))

@@ -126,14 +126,11 @@ pub sum_through-at : {segments : List Segment} {slot : ℕ} (at : SlotPosition) 
     → at.before + (at.passed + 1) * at.segment.bytes / at.segment.slots ≡ sum_through segments slot
 sum_through-at {segments} {slot} at plan place =
     let s = at.segment in
-    let passed = at.passed in
-    let h = sum-take-at segments place.index (passed + 1) plan.no_empty (record {
-      inside = place.inside;
-      segment_is = place.segment_is;
-    }) (omega (arith, place.within)) in
-    let end : total_slots (take place.index segments) + (passed + 1) ≡ slot + 1 = omega (arith, place.slot_is) in
+    let there : IsSegmentAt s segments place.index = record { inside = place.inside; segment_is = place.segment_is } in
+    let h = sum-take-at segments place.index (at.passed + 1) plan.no_empty there (omega (arith, place.within)) in
+    let end : total_slots (take place.index segments) + (at.passed + 1) ≡ slot + 1 = omega (arith, place.slot_is) in
     let whole : sum (take (slot + 1) (plan_slots segments))
-    ≡ total_bytes (take place.index segments) + (passed + 1) * s.bytes / s.slots =
+    ≡ total_bytes (take place.index segments) + (at.passed + 1) * s.bytes / s.slots =
     ap (λ n. sum (take n (plan_slots segments))) (sym end) ∙ h in
     omega (arith, whole, place.before_is)
 
@@ -151,14 +148,11 @@ pub slot-at : {segments : List Segment} {slot : ℕ} (at : SlotPosition) → IsP
     ≡ slice_index (plan_slots segments) slot
 slot-at {segments} {slot} at plan place =
     let s = at.segment in
-    let passed = at.passed in
     let through = sum_through-at at plan place in
-    let h = sum-take-at segments place.index passed plan.no_empty (record {
-      inside = place.inside;
-      segment_is = place.segment_is;
-    }) (omega (arith, place.within)) in
+    let there : IsSegmentAt s segments place.index = record { inside = place.inside; segment_is = place.segment_is } in
+    let h = sum-take-at segments place.index at.passed plan.no_empty there (omega (arith, place.within)) in
     let up_to : sum (take slot (plan_slots segments))
-    ≡ total_bytes (take place.index segments) + passed * s.bytes / s.slots =
+    ≡ total_bytes (take place.index segments) + at.passed * s.bytes / s.slots =
     ap (λ n. sum (take n (plan_slots segments))) place.slot_is ∙ h in
     let within : total_slots (take place.index segments) + (slice_index_or segments place.index s).slots
     ≤ total_slots segments = sum_by_more_le (λ x. x.slots) segments place.index s place.inside in

@@ -1,23 +1,24 @@
 use Rattle.std.proofs.lemmas.Grind.{common_steps}
-use Rattle.std.proofs.Common.{◌≡◌, ◌≢◌, ◌<◌, ◌≤◌, ◌+◌, ◌++◌, [], ◌∷◌, length, arith, ap, subst, ◌∙◌, inl, inr}
+use Rattle.std.proofs.Common.{◌≡◌, ◌≢◌, ◌<◌, ◌≤◌, ◌+◌, ◌++◌, [], ◌∷◌, length, arith, ap, subst, ◌∙◌, inl, inr, flat_map}
 use Rattle.std.proofs.Common.{eq-eqb}
 use Rattle.std.proofs.lemmas.Bool.{both_ways}
 use Rattle.std.proofs.lemmas.List.{length_push}
 use Rattle.std.proofs.lemmas.List.Elements.{All-push}
 use Rattle.plan_cert.specs.declared.cert_reader.TheConstants.{MAX_NUMBER}
+use Rattle.plan_cert.specs.CertFormat.{segment_line}
 use Rattle.plan_cert.specs.CertGrammar.{HasReadLines, MayEnd}
 use Rattle.plan_cert.specs.CertGrammar.MayStand.{SegmentLine}
 use Rattle.plan_cert.proofs.GrammarLemmas.{read_more, breaks_missing, breaks_here, goes_after_end, not_segment}
-use Rattle.plan_cert.proofs.GrammarLemmas.{not_one_more, segment_text}
+use Rattle.plan_cert.proofs.GrammarLemmas.{next_is, not_one_more, segment_text}
 use Rattle.plan_cert.proofs.cert_reader.read_body.Goals as goal
 
 pub returns-clause-refused : goal.returns-clause-refused
-returns-clause-refused c = λ whole read.
-    let k = 3 + c.loop-line.count in (
-      k,
-      omega arith,
-      inl (breaks_missing whole k c.loop-line.rest.now (c.loop-line.invariant.read whole read) c.in_default.ensures),
-    )
+returns-clause-refused c = λ whole read. (
+  3 + c.loop-line.count,
+  omega arith,
+  inl (breaks_missing whole (3 + c.loop-line.count) c.loop-line.rest.now (c.loop-line.invariant.read whole read)
+      c.in_default.ensures),
+)
 
 pub returns-then-is_text-clause-refused : goal.returns-then-is_text-clause-refused
 returns-then-is_text-clause-refused c = λ whole read.
@@ -29,28 +30,28 @@ returns-then-is_text-clause-refused c = λ whole read.
     (c.is_empty.ensures ∙ eq-eqb (length c.in-Some.after.now) 0 (ap length e)) in (
       k + 1,
       omega arith,
-      inr (inl (goes_after_end (c.loop-line.invariant.read whole read) c.in-Some.ensures ends some)),
+      inr (inl (goes_after_end (next_is (c.loop-line.invariant.read whole read) c.in-Some.ensures) (ends, some))),
     )
 
 pub returns-in_default-segment_in-clause-refused : goal.returns-in_default-segment_in-clause-refused
-returns-in_default-segment_in-clause-refused c = λ whole read.
-    let k = 3 + c.loop-line.count in (
-      k,
-      omega arith,
-      inl (breaks_here (c.loop-line.invariant.read whole read) c.in-Some.ensures
-          (not_segment c.loop-line.count c.in-Some.line.now c.in_default-segment_in.ensures)
-          (λ ends. both_ways c.is_text.result c.if-is_text.false (c.is_text.ensures.1 ends.words))),
-    )
+returns-in_default-segment_in-clause-refused c = λ whole read. (
+  3 + c.loop-line.count,
+  omega arith,
+  inl (breaks_here (next_is (c.loop-line.invariant.read whole read) c.in-Some.ensures) (
+    not_segment c.loop-line.count c.in-Some.line.now c.in_default-segment_in.ensures,
+    λ ends. both_ways c.is_text.result c.if-is_text.false (c.is_text.ensures.1 ends.words),
+  )),
+)
 
 pub returns-then-count-eq-MAX_SEGMENTS-clause-refused : goal.returns-then-count-eq-MAX_SEGMENTS-clause-refused
-returns-then-count-eq-MAX_SEGMENTS-clause-refused c = λ whole read.
-    let k = 3 + c.loop-line.count in (
-      k,
-      omega arith,
-      inl (breaks_here (c.loop-line.invariant.read whole read) c.in-Some.ensures
-          (not_one_more c.loop-line.count c.in-Some.line.now c.if-count-eq-MAX_SEGMENTS.true)
-          (λ ends. both_ways c.is_text.result c.if-is_text.false (c.is_text.ensures.1 ends.words))),
-    )
+returns-then-count-eq-MAX_SEGMENTS-clause-refused c = λ whole read. (
+  3 + c.loop-line.count,
+  omega arith,
+  inl (breaks_here (next_is (c.loop-line.invariant.read whole read) c.in-Some.ensures) (
+    not_one_more c.loop-line.count c.in-Some.line.now c.if-count-eq-MAX_SEGMENTS.true,
+    λ ends. both_ways c.is_text.result c.if-is_text.false (c.is_text.ensures.1 ends.words),
+  )),
+)
 
 pub loop-line-preserved : goal.loop-line-preserved
 loop-line-preserved c =
@@ -63,14 +64,13 @@ loop-line-preserved c =
       counted = ap length items ∙ length_push c.loop-line.segments.items s ∙ ap (λ n. n + 1) inv.counted;
       small = rw items (All-push (λ x. (x.slots ≤ MAX_NUMBER) × (x.bytes ≤ MAX_NUMBER)) c.loop-line.segments.items s inv.small
           (c.in-Some-segment_in.ensures.few_slots, c.in-Some-segment_in.ensures.few_bytes));
-      text_is = rw items (segment_text c.in-Some.after.now c.loop-line.segments.items s
-          inv.text_is c.in-Some.ensures.parts c.in-Some-segment_in.ensures.words);
+      text_is = rw items (inv.text_is ∙ ap (λ r. flat_map segment_line c.loop-line.segments.items ++ r)
+          (c.in-Some.ensures.parts ∙ ap (λ l. l ++ 10 ∷ c.in-Some.after.now) c.in-Some-segment_in.ensures.words)
+          ∙ segment_text c.in-Some.after.now c.loop-line.segments.items s);
       read = λ whole read.
-          let next : HasReadLines whole (3 + c.loop-line.count + 1) c.in-Some.after.now =
-          read_more (inv.read whole read) c.in-Some.ensures
-          (SegmentLine s (omega arith) (omega arith) c.in-Some-segment_in.ensures) in
-          let place : 3 + c.loop-line.count + 1 ≡ 3 + (c.loop-line.count + 1) = omega arith in
-          subst (λ n. HasReadLines whole n c.in-Some.after.now) place next;
+          subst (λ n. HasReadLines whole n c.in-Some.after.now) (omega arith)
+          (read_more (next_is (inv.read whole read) c.in-Some.ensures)
+          (SegmentLine s (omega arith) (omega arith) c.in-Some-segment_in.ensures));
     }
 
 pub returns-then-is_empty-clause-read : goal.returns-then-is_empty-clause-read

@@ -1,10 +1,15 @@
-use Rattle.std.proofs.Common.{arith, refl, inl}
+use Rattle.std.proofs.Common.{◌≡◌, ℕ, List, codes, arith, refl, inl}
 use Rattle.std.proofs.lemmas.Bool.{both_ways}
+use Rattle.vod_base.specs.Splits.{IsSplitAtFirst}
 use Rattle.plan_cert.specs.CertGrammar.{HasReadLines}
 use Rattle.plan_cert.specs.CertGrammar.MayStand.{Title, Slots, Bytes}
 use Rattle.plan_cert.proofs.GrammarLemmas.{read_none, read_more, breaks_missing, breaks_here, not_title, not_slots}
-use Rattle.plan_cert.proofs.GrammarLemmas.{not_bytes, head_text}
+use Rattle.plan_cert.proofs.GrammarLemmas.{next_is, not_bytes, head_text}
 use Rattle.plan_cert.proofs.cert_reader.read_head.Goals as goal
+
+title_read : {text title rest : List ℕ} → IsSplitAtFirst 10 text title rest → title ≡ codes "smooth 1"
+    → HasReadLines text 1 rest
+title_read {text} cut is = read_more (next_is (read_none text) cut) (Title refl is)
 
 pub returns-in_default : goal.returns-in_default
 returns-in_default c =
@@ -12,73 +17,66 @@ returns-in_default c =
     (0, omega arith, inl (breaks_missing text 0 text (read_none text) c.in_default.ensures))
 
 pub returns-then-not-is_text : goal.returns-then-not-is_text
-returns-then-not-is_text c =
-    let text = c.args.text.now in (
-      0,
-      omega arith,
-      inl (breaks_here (read_none text) c.in-Some.ensures
-          (not_title c.in-Some.title.now
-          (λ e. both_ways c.is_text.result c.if-not-is_text.true (c.is_text.ensures.1 e)))
-          (λ ends. omega (arith, ends.after_head))),
-    )
+returns-then-not-is_text c = (
+  0,
+  omega arith,
+  inl (breaks_here (next_is (read_none _) c.in-Some.ensures) (
+    not_title c.in-Some.title.now
+        (λ e. both_ways c.is_text.result c.if-not-is_text.true (c.is_text.ensures.1 e)),
+    λ ends. omega (arith, ends.after_head),
+  )),
+)
 
 pub returns-in_default-split_at_first : goal.returns-in_default-split_at_first
 returns-in_default-split_at_first c =
-    let text = c.args.text.now in
-    let r1 : HasReadLines text 1 c.in-Some.rest.now =
-    read_more (read_none text) c.in-Some.ensures (Title refl (c.is_text.ensures.0 c.if-not-is_text.false)) in
-    (1, omega arith, inl (breaks_missing text 1 c.in-Some.rest.now r1 c.in_default-split_at_first.ensures))
+    let r1 = title_read c.in-Some.ensures (c.is_text.ensures.0 c.if-not-is_text.false) in
+    (1, omega arith, inl (breaks_missing _ 1 c.in-Some.rest.now r1 c.in_default-split_at_first.ensures))
 
 pub returns-in_default-number_after : goal.returns-in_default-number_after
 returns-in_default-number_after c =
-    let text = c.args.text.now in
-    let r1 : HasReadLines text 1 c.in-Some.rest.now =
-    read_more (read_none text) c.in-Some.ensures (Title refl (c.is_text.ensures.0 c.if-not-is_text.false)) in (
+    let r1 = title_read c.in-Some.ensures (c.is_text.ensures.0 c.if-not-is_text.false) in (
       1,
       omega arith,
-      inl (breaks_here r1 c.in-Some-split_at_first.ensures
-          (not_slots c.in-Some-split_at_first.slots_line.now c.in_default-number_after.ensures)
-          (λ ends. omega (arith, ends.after_head))),
+      inl (breaks_here (next_is r1 c.in-Some-split_at_first.ensures) (
+        not_slots c.in-Some-split_at_first.slots_line.now c.in_default-number_after.ensures,
+        λ ends. omega (arith, ends.after_head),
+      )),
     )
 
 pub returns-in_default-split_at_first-2 : goal.returns-in_default-split_at_first-2
 returns-in_default-split_at_first-2 c =
-    let text = c.args.text.now in
-    let r1 : HasReadLines text 1 c.in-Some.rest.now =
-    read_more (read_none text) c.in-Some.ensures (Title refl (c.is_text.ensures.0 c.if-not-is_text.false)) in
-    let r2 : HasReadLines text 2 c.in-Some-split_at_first.rest.now =
-    read_more r1 c.in-Some-split_at_first.ensures
+    let r1 = title_read c.in-Some.ensures (c.is_text.ensures.0 c.if-not-is_text.false) in
+    let r2 =
+    read_more (next_is r1 c.in-Some-split_at_first.ensures)
     (Slots c.in-Some-number_after.slots refl c.in-Some-number_after.ensures) in (
       2,
       omega arith,
-      inl (breaks_missing text 2 c.in-Some-split_at_first.rest.now r2 c.in_default-split_at_first-2.ensures),
+      inl (breaks_missing _ 2 c.in-Some-split_at_first.rest.now r2 c.in_default-split_at_first-2.ensures),
     )
 
 pub returns-in_default-number_after-2 : goal.returns-in_default-number_after-2
 returns-in_default-number_after-2 c =
-    let text = c.args.text.now in
-    let r1 : HasReadLines text 1 c.in-Some.rest.now =
-    read_more (read_none text) c.in-Some.ensures (Title refl (c.is_text.ensures.0 c.if-not-is_text.false)) in
-    let r2 : HasReadLines text 2 c.in-Some-split_at_first.rest.now =
-    read_more r1 c.in-Some-split_at_first.ensures
+    let r1 = title_read c.in-Some.ensures (c.is_text.ensures.0 c.if-not-is_text.false) in
+    let r2 =
+    read_more (next_is r1 c.in-Some-split_at_first.ensures)
     (Slots c.in-Some-number_after.slots refl c.in-Some-number_after.ensures) in (
       2,
       omega arith,
-      inl (breaks_here r2 c.in-Some-split_at_first-2.ensures
-          (not_bytes c.in-Some-split_at_first-2.bytes_line.now c.in_default-number_after-2.ensures)
-          (λ ends. omega (arith, ends.after_head))),
+      inl (breaks_here (next_is r2 c.in-Some-split_at_first-2.ensures) (
+        not_bytes c.in-Some-split_at_first-2.bytes_line.now c.in_default-number_after-2.ensures,
+        λ ends. omega (arith, ends.after_head),
+      )),
     )
 
 pub returns : goal.returns
 returns c =
     let text = c.args.text.now in
-    let r1 : HasReadLines text 1 c.in-Some.rest.now =
-    read_more (read_none text) c.in-Some.ensures (Title refl (c.is_text.ensures.0 c.if-not-is_text.false)) in
-    let r2 : HasReadLines text 2 c.in-Some-split_at_first.rest.now =
-    read_more r1 c.in-Some-split_at_first.ensures
+    let r1 = title_read c.in-Some.ensures (c.is_text.ensures.0 c.if-not-is_text.false) in
+    let r2 =
+    read_more (next_is r1 c.in-Some-split_at_first.ensures)
     (Slots c.in-Some-number_after.slots refl c.in-Some-number_after.ensures) in
-    let r3 : HasReadLines text 3 c.in-Some-split_at_first-2.rest.now =
-    read_more r2 c.in-Some-split_at_first-2.ensures
+    let r3 =
+    read_more (next_is r2 c.in-Some-split_at_first-2.ensures)
     (Bytes c.in-Some-number_after-2.bytes refl c.in-Some-number_after-2.ensures) in
     record {
       small_slots = c.in-Some-number_after.ensures.small;
