@@ -1,11 +1,11 @@
 -- The refusals exclude one another, and acceptance excludes them all.
-use Rattle.std.proofs.Common.{◌≡◌, ℕ, ◌≤◌, List, refl, sym, ap, ◌∙◌, arith, inl, inr}
+use Rattle.std.proofs.Common.{◌≡◌, ℕ, List, refl, sym, ap, ◌∙◌, arith, inl, inr}
 use Rattle.std.proofs.lemmas.Bool.{cases_lt}
 use Rattle.wire_curve.specs.declared.film.Timing.{Timing}
 use Rattle.wire_curve.specs.declared.film.CurveFault.{CurveFault}
 use Rattle.wire_curve.specs.declared.film.CurveFault.TheVariants.{NoPictures, TooManySlots, BufferTooSmall}
 use Rattle.wire_curve.specs.FilmCurves.{bytes_used_in}
-use Rattle.wire_curve.specs.CurveFaults.{IsAccepted, IsBufferTooSmall, HasCurveFault}
+use Rattle.wire_curve.specs.CurveFaults.{IsAccepted, HasCurveFault}
 
 pub accepted-no_fault : (sizes : List ℕ) (timing : Timing) (fault : CurveFault) → IsAccepted sizes timing
     → HasCurveFault sizes timing fault → ⊥
