@@ -18,50 +18,38 @@ front_of_first before text next after cut = record {
   after_is = cut.after_is;
 }
 
--- after the complete first text, a prefix of the second one
-front_of_second : {before next mid after : List ℕ} (text : List ℕ) → mid ≡ before ++ text
-    → HasPrefixOf mid next after → HasPrefixOf before (text ++ next) after
-front_of_second {before} {next} text whole cut = record {
-  front = text ++ cut.front;
-  rest = cut.rest;
-  text_is = ap (λ (l : List ℕ). text ++ l) cut.text_is ∙ sym (append_assoc text cut.front cut.rest);
-  after_is = cut.after_is ∙ ap (λ (l : List ℕ). l ++ cut.front) whole ∙ append_assoc before text cut.front;
-}
-
 -- both texts
 pub both : {mid after : List ℕ} (before text next : List ℕ) → mid ≡ before ++ text → after ≡ mid ++ next
     → after ≡ before ++ (text ++ next)
 both before text next first second = second ∙ ap (λ (l : List ℕ). l ++ next) first ∙ append_assoc before text next
 
-after_first : {before next mid after : List ℕ} {r : Answer} (text : List ℕ) → mid ≡ before ++ text
-    → IsAppended mid next after r → IsAppended before (text ++ next) after r
-after_first {before} {next} {mid} {after} {r = Ok done} text whole more =
-    record { whole = both before text next whole more.whole; cut = tt }
-after_first {next} {r = Err e} text whole more = record { whole = tt; cut = front_of_second text whole more.cut }
-
 -- after the complete first text, the second one is appended
 pub then_appended : {before next mid after : List ℕ} {r : Answer} → (text : List ℕ) → mid ≡ before ++ text
     → IsAppended mid next after r → IsAppended before (text ++ next) after r
-then_appended text whole more = after_first text whole more
+then_appended {before} {next} {r = Ok done} text whole more =
+    record { whole = both before text next whole more.whole; cut = tt }
+then_appended {before} {r = Err e} text whole more =
+    let cut = more.cut in
+    record {
+      whole = tt;
+      cut = record {
+        front = text ++ cut.front;
+        rest = cut.rest;
+        text_is = ap (λ (l : List ℕ). text ++ l) cut.text_is ∙ sym (append_assoc text cut.front cut.rest);
+        after_is = both before text cut.front whole cut.after_is;
+      };
+    }
 
 -- an incomplete text stays so, whatever was to follow
 pub cut_before : {before text after : List ℕ} {e : NoMemory} → (next : List ℕ)
     → IsAppended before text after (Err e) → IsAppended before (text ++ next) after (Err e)
 cut_before next cut = record { whole = tt; cut = front_of_first _ _ next _ cut.cut }
 
-handed : {before text after : List ℕ} {e : NoMemory} {r : Answer} → IsErr r
-    → IsAppended before text after (Err e) → IsAppended before text after r
-handed {text} {r = Ok done} none cut = absurd (false≢true none)
-handed {text} {r = Err other} none cut = record { whole = tt; cut = cut.cut }
-
 -- an error of memory is passed on
 pub handed_on : {before text after : List ℕ} {e : NoMemory} (r : Answer) → IsErr r
     → IsAppended before text after (Err e) → IsAppended before text after r
-handed_on r none cut = handed none cut
-
-same_text : {before text whole after : List ℕ} {r : Answer} → text ≡ whole → IsAppended before text after r
-    → IsAppended before whole after r
-same_text {before} {text} {whole} {after} {r} same done = subst (λ (l : List ℕ). IsAppended before l after r) same done
+handed_on (Ok done) none cut = absurd (false≢true none)
+handed_on (Err other) none cut = record { whole = tt; cut = cut.cut }
 
 -- without memory, nothing of a text was appended
 pub none_appended : {before text after : List ℕ} (r : Answer) → IsErr r → after ≡ before → IsAppended before text after
@@ -81,4 +69,4 @@ all_or_none (Err e) whole kept = none_appended (Err e) refl kept
 -- the same text in other words
 pub appended_as : {before text whole after : List ℕ} {r : Answer} → text ≡ whole
     → IsAppended before text after r → IsAppended before whole after r
-appended_as same done = same_text same done
+appended_as {before} {after} {r} same done = subst (λ (l : List ℕ). IsAppended before l after r) same done

@@ -4,7 +4,7 @@ use Rattle.std.proofs.Common.{sym, ap, ◌∙◌, Vec, Global}
 use Rattle.std.proofs.lemmas.List.{drop_more, drop_all, drop-drop, length-drop, length-map, get_or-map, take_min}
 use Rattle.std.proofs.lemmas.List.{drop_min}
 use Rattle.vod_base.specs.declared.memory_links.Event.{Event}
-use Rattle.vod_base.specs.declared.memory_links.Event.TheVariants.{Bytes, Slot, End}
+use Rattle.vod_base.specs.declared.memory_links.Event.TheVariants.{Bytes}
 use Rattle.vod_base.specs.declared.memory_links.EventCursor.{EventCursor}
 use Rattle.vod_base.specs.Links.{IoEvent, HeardBytes, HeardSlot, HeardEnd, Sent}
 use Rattle.vod_base.specs.MemoryLinks.{heard_whole, without_first_bytes, left_from, without_empty_front, first_out}
@@ -41,19 +41,17 @@ pub record IsPassed (front new : EventCursor) : Type 0 where
   pub event : new.event ≡ front.event + 1
   pub offset : new.offset ≡ 0
 
-left_passed : (events : List Event) {front new : EventCursor} → IsPassed front new
+pub left_passed : (events : List Event) {front new : EventCursor} → IsPassed front new
     → left_from events new ≡ rest_from events front
 left_passed events {front} passed =
     rw (passed.event, passed.offset) (whole (rest_from events front))
 
 -- an event of which no bytes are left is passed over
-pub empty_passed : {events : List Event} {front new : EventCursor} {bytes : Vec ℕ Global}
-    → IsAt events front.event (Bytes bytes) →
-    length bytes.items ≤ front.offset → IsPassed front new
-    → without_empty_front (left_from events new) ≡ without_empty_front (left_from events front)
-empty_passed {events} {front} {bytes} is none passed =
-    ap without_empty_front (left_passed events passed)
-    ∙ sym (ap without_empty_front (left_here events front (Bytes bytes) is)
+pub empty_passed : {events : List Event} {front : EventCursor} {bytes : Vec ℕ Global}
+    → IsAt events front.event (Bytes bytes) → length bytes.items ≤ front.offset
+    → without_empty_front (rest_from events front) ≡ without_empty_front (left_from events front)
+empty_passed {events} {front} {bytes} is none =
+    sym (ap without_empty_front (left_here events front (Bytes bytes) is)
     ∙ ap (λ (bs : List ℕ). without_empty_front (HeardBytes bs ∷ rest_from events front))
     (drop_all front.offset bytes.items none))
 
@@ -62,26 +60,10 @@ pub record IsInFront (events : List Event) (first front : EventCursor) (event : 
   pub passed : without_empty_front (left_from events front) ≡ without_empty_front (left_from events first)
   pub is : IsAt events front.event event
 
-in_front : {events : List Event} {first front : EventCursor} {event : Event} → IsInFront events first front event →
+pub in_front : {events : List Event} {first front : EventCursor} {event : Event} → IsInFront events first front event →
     without_empty_front (left_from events first)
     ≡ without_empty_front (without_first_bytes front.offset (heard_whole event ∷ rest_from events front))
 in_front {events} {front} {event} at = sym at.passed ∙ ap without_empty_front (left_here events front event at.is)
-
-pub slot_out : {events : List Event} {first front new : EventCursor} {slot : ℕ} (room : ℕ) →
-    IsInFront events first front (Slot slot) → IsPassed front new →
-    (HeardSlot slot ≡ next_doing room (left_from events first))
-    × (left_from events new ≡ left_after room (left_from events first))
-slot_out {events} room at passed =
-    let here = in_front at in
-    (sym (ap (first_out room) here), left_passed events passed ∙ sym (ap (rest_left room) here))
-
-pub end_out : {events : List Event} {first front new : EventCursor} (room : ℕ) →
-    IsInFront events first front End → IsPassed front new →
-    (HeardEnd ≡ next_doing room (left_from events first))
-    × (left_from events new ≡ left_after room (left_from events first))
-end_out {events} room at passed =
-    let here = in_front at in
-    (sym (ap (first_out room) here), left_passed events passed ∙ sym (ap (rest_left room) here))
 
 -- a first event of which so many bytes were handed out
 pub record IsFrontOut (bytes into : List ℕ) (offset count : ℕ) : Type 0 where

@@ -96,27 +96,19 @@ feed_line front text rest free last =
           ∙ ap (λ n. get_or whole n 0) there ∙ cr));
     }
 
-next_isnt_earlier : {bytes : List ℕ} {at one other next after : ℕ} → IsLine bytes at one next
-    → IsLine bytes at other after → next < after → ⊥
-next_isnt_earlier {at} {one} {other} {next} is are earlier =
-    are.first (next - 1) (omega (arith, is.after)) (omega (arith, is.after)) is.feed
-
-same_next : {bytes : List ℕ} {at one other next after : ℕ} → IsLine bytes at one next → IsLine bytes at other after
-    → next ≡ after
-same_next {at} {one} {other} {next} {after} is are =
-    elim (cases_lt next after) [
-      | inl earlier ↦ absurd (next_isnt_earlier is are earlier)
-      | inr late ↦ elim (cases_lt after next) [
-        | inl later ↦ absurd (next_isnt_earlier are is later)
-        | inr early ↦ omega arith
-      ]
-    ]
-
-pub one_line : {bytes : List ℕ} {at one other next after : ℕ} → IsLine bytes at one next
-    → IsLine bytes at other after → (one ≡ other) × (next ≡ after)
-one_line {bytes} {at} is are =
-    let same = same_next is are in
+-- the text of a line has one end, and the next line one beginning
+pub one_line : {bytes : List ℕ} {at : ℕ} (one other : ℕ × ℕ) → IsLine bytes at one.0 one.1
+    → IsLine bytes at other.0 other.1 → (one.0 ≡ other.0) × (one.1 ≡ other.1)
+one_line {bytes} {at} one other is are =
     let end : ℕ → ℕ = λ n. if nat_lt (at + 1) n && (get_or bytes (n - 2) 0 == 13) then n - 2 else n - 1 in
+    let same : one.1 ≡ other.1 =
+    elim (cases_lt one.1 other.1) [
+      | inl less ↦ absurd (are.first (one.1 - 1) (omega (arith, is.after)) (omega (arith, is.after, less)) is.feed)
+      | inr late ↦ elim (cases_lt other.1 one.1) [
+        | inl less ↦ absurd (is.first (other.1 - 1) (omega (arith, are.after)) (omega (arith, are.after, less)) are.feed)
+        | inr early ↦ omega (arith, late, early)
+      ]
+    ] in
     (is.text ∙ ap end same ∙ sym are.text, same)
 
 -- ---- blanks

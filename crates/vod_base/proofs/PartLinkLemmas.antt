@@ -1,7 +1,6 @@
 -- The links of a part, before and after one is given.
-use Rattle.std.proofs.Common.{◌≡◌, ℕ, zero, suc, ◌-◌, ◌<◌, ◌≤◌, List, [], ◌∷◌, ◌++◌, length, map, take, drop, get_or}
-use Rattle.std.proofs.Common.{Some, slice_get, refl, sym, ap, ◌∙◌, arith}
-use Rattle.std.proofs.lemmas.List.{drop-append-le, take-append-le, map-append}
+use Rattle.std.proofs.Common.{◌≡◌, ℕ, zero, suc, ◌-◌, ◌<◌, List, [], ◌∷◌, length, take, drop, get_or, Some}
+use Rattle.std.proofs.Common.{slice_get, refl, arith}
 use Rattle.std.proofs.Math.Seq.{drop-nil}
 use Rattle.std.specs.Prelude.{remove}
 
@@ -31,21 +30,8 @@ rest_waits old new (suc k) is some =
     rw (e, is) (first_left old k)
 
 -- which is the one that is given
-pub first_waits : {A : Type 0} (xs : List A) (waiting : ℕ) (x : A) → x ≡ get_or xs 0 x → 0 < length xs
-    → 0 < waiting → slice_get (take waiting xs) 0 ≡ Some x
-first_waits [] waiting x is long some = absurd (omega (arith, long))
-first_waits (y ∷ xs) zero x is long some = absurd (omega arith)
-first_waits (y ∷ xs) (suc k) x is long some = ap Some (sym is)
-
--- where a link is put at the end, it is the last of those that came back
-pub back_grows : {A B : Type 0} {new : List A} (f : A → B) (old : List A) (waiting : ℕ) (x : A) →
-    new ≡ old ++ x ∷ [] → waiting ≤ length old →
-    map f (drop waiting new) ≡ map f (drop waiting old) ++ f x ∷ []
-back_grows f old waiting x is low =
-    ap (λ (l : List _). map f (drop waiting l)) is ∙ ap (map f) (drop-append-le waiting old (x ∷ []) low)
-    ∙ map-append f (drop waiting old) (x ∷ [])
-
--- and those that wait stay
-pub waiting_stay : {A : Type 0} {new : List A} (old : List A) (waiting : ℕ) (x : A) → new ≡ old ++ x ∷ []
-    → waiting ≤ length old → take waiting new ≡ take waiting old
-waiting_stay old waiting x is low = ap (take waiting) is ∙ take-append-le waiting old (x ∷ []) low
+pub first_waits : {A : Type 0} (xs : List A) (waiting : ℕ) (x : A) → 0 < length xs → 0 < waiting
+    → slice_get (take waiting xs) 0 ≡ Some (get_or xs 0 x)
+first_waits [] waiting x long some = absurd (omega (arith, long))
+first_waits (y ∷ xs) zero x long some = absurd (omega arith)
+first_waits (y ∷ xs) (suc k) x long some = refl

@@ -8,4 +8,4 @@ pub returns-clause-feed : goal.returns-clause-feed
 returns-clause-feed c = feed_line
 
 pub returns-clause-one : goal.returns-clause-one
-returns-clause-one c = λ bytes at one other next after is are. one_line is are
+returns-clause-one c = λ bytes at one other next after is are. one_line (one, next) (other, after) is are

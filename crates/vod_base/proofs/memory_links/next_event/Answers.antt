@@ -1,7 +1,8 @@
-use Rattle.std.proofs.Common.{rules, ◌∙◌, ◌<◌, ◌≤◌, length}
+use Rattle.std.proofs.Common.{rules, ◌∙◌, ◌<◌, ◌≤◌, length, ap, sym}
 use Rattle.vod_base.specs.declared.memory_links.Event.TheVariants.{Bytes, Slot, End}
-use Rattle.vod_base.proofs.EventDelivery.{IsAt, IsPassed, IsInFront, IsFrontOut, empty_passed, slot_out, end_out}
-use Rattle.vod_base.proofs.EventDelivery.{bytes_out, none_out}
+use Rattle.vod_base.specs.MemoryLinks.{first_out, rest_left, without_empty_front}
+use Rattle.vod_base.proofs.EventDelivery.{IsAt, IsPassed, IsInFront, IsFrontOut, empty_passed, in_front}
+use Rattle.vod_base.proofs.EventDelivery.{bytes_out, left_passed, none_out}
 use Rattle.vod_base.proofs.memory_links.next_event.Goals as goal
 
 pub loop-bytes-preserved : goal.loop-bytes-preserved
@@ -11,7 +12,7 @@ loop-bytes-preserved c =
     let none : length c.in-Some-Bytes.bytes.items ≤ c.loop-bytes.front.offset = search rules in
     let passed : IsPassed c.loop-bytes.front c.pass.new.self =
     record { event = c.pass.ensures.event; offset = c.pass.ensures.offset } in
-    empty_passed at none passed ∙ c.loop-bytes.invariant
+    ap without_empty_front (left_passed c.args.events.now passed) ∙ empty_passed at none ∙ c.loop-bytes.invariant
 
 pub returns-in-Some-Bytes-get-clause-front : goal.returns-in-Some-Bytes-get-clause-front
 returns-in-Some-Bytes-get-clause-front c =
@@ -33,7 +34,9 @@ returns-in-Some-Slot-clause-front c =
     record { passed = c.loop-bytes.invariant; is = record { inside = search rules; is = search rules } } in
     let passed : IsPassed c.loop-bytes.front c.pass-in-Some-Slot.new.self =
     record { event = c.pass-in-Some-Slot.ensures.event; offset = c.pass-in-Some-Slot.ensures.offset } in
-    slot_out (length c.args.into.now) at passed
+    let room = length c.args.into.now in
+    let here = in_front at in
+    (sym (ap (first_out room) here), left_passed c.args.events.now passed ∙ sym (ap (rest_left room) here))
 
 pub returns-in-Some-End-clause-front : goal.returns-in-Some-End-clause-front
 returns-in-Some-End-clause-front c =
@@ -41,7 +44,9 @@ returns-in-Some-End-clause-front c =
     record { passed = c.loop-bytes.invariant; is = record { inside = search rules; is = search rules } } in
     let passed : IsPassed c.loop-bytes.front c.pass-in-Some-End.new.self =
     record { event = c.pass-in-Some-End.ensures.event; offset = c.pass-in-Some-End.ensures.offset } in
-    end_out (length c.args.into.now) at passed
+    let room = length c.args.into.now in
+    let here = in_front at in
+    (sym (ap (first_out room) here), left_passed c.args.events.now passed ∙ sym (ap (rest_left room) here))
 
 pub returns-in-None-clause-front : goal.returns-in-None-clause-front
 returns-in-None-clause-front c =

@@ -1,4 +1,4 @@
-use Rattle.std.proofs.Common.{rules, ◌<◌, length}
+use Rattle.std.proofs.Common.{rules, ◌<◌, ◌∙◌, ap, sym, length, Some}
 use Rattle.vod_base.proofs.PartLinkLemmas.{rest_waits, first_waits}
 use Rattle.vod_base.proofs.memory_gates.MemoryGateGate.take.Goals as goal
 
@@ -14,5 +14,5 @@ returns-clause-first c =
     let some : 0 < c.self.inside.own.waiting = search rules in
     let long : 0 < length c.self.inside.own.links.items = search rules in
     let first = first_waits c.self.inside.own.links.items c.self.inside.own.waiting c.remove-link.result
-    c.remove-link.ensures.value long some in
+    long some ∙ ap Some (sym c.remove-link.ensures.value) in
     search (rules, first)
