@@ -60,9 +60,11 @@ sent_more events old new bytes are =
     )
 
 -- one byte more is noted as sent
-pub noted_more : (old : List LinkLogEntry) (bytes : List ℕ) (i : ℕ) → i < length bytes
-    → (old ++ map Gone (take i bytes)) ++ Gone (get_or bytes i 0) ∷ [] ≡ old ++ map Gone (take (i + 1) bytes)
-noted_more old bytes i inside =
-    append_assoc old (map Gone (take i bytes)) (Gone (get_or bytes i 0) ∷ [])
+pub noted_more : {now : List LinkLogEntry} (old : List LinkLogEntry) (bytes : List ℕ) (i : ℕ) → i < length bytes
+    → now ≡ old ++ map Gone (take i bytes)
+    → now ++ Gone (get_or bytes i 0) ∷ [] ≡ old ++ map Gone (take (i + 1) bytes)
+noted_more old bytes i inside was =
+    let one : List LinkLogEntry = Gone (get_or bytes i 0) ∷ [] in
+    ap (λ (l : List LinkLogEntry). l ++ one) was ∙ append_assoc old (map Gone (take i bytes)) one
     ∙ ap (λ (l : List LinkLogEntry). old ++ l)
     (sym (ap (map Gone) (take_more bytes i 0 inside) ∙ map-append Gone (take i bytes) (get_or bytes i 0 ∷ [])))
