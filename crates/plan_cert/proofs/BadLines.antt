@@ -21,7 +21,7 @@ use Rattle.plan_cert.specs.CertGrammar.MayStand.{Bytes, SegmentLine, Slots, Titl
 use Rattle.plan_cert.proofs.CertUniqueness.{Contents, IsSame, end_is_no_segment, lines_are, lines-certificate}
 use Rattle.plan_cert.proofs.CertUniqueness.{no_break, nothing_after, number_clean, one_text}
 use Rattle.plan_cert.proofs.CertUniqueness.{contents, words_clean}
-use Rattle.plan_cert.proofs.GrammarLemmas.{breaks_here, breaks_missing, goes_after_end, head_text, next_is, not_bytes}
+use Rattle.plan_cert.proofs.GrammarLemmas.{breaks_here, breaks_missing, goes_after_end, head_joined, next_is, not_bytes}
 use Rattle.plan_cert.proofs.GrammarLemmas.{not_one_more, not_segment, not_slots, not_title, read_more, read_none}
 
 -- ---- the certificate of a plan
@@ -136,22 +136,7 @@ head-lines : (slots bytes : ℕ) (rest : List ℕ) → slots ≤ MAX_NUMBER → 
 head-lines slots bytes rest few_slots few_bytes =
     let line = codes "bytes " ++ decimal bytes in
     let third = line ++ 10 ∷ rest in
-    let slots_line = codes "slots " ++ decimal slots in
-    let shape : codes "smooth 1" ++ 10 ∷ (slots_line ++ 10 ∷ third) ≡ cert_head slots bytes ++ rest =
-    head_text slots bytes rest (record {
-      title = codes "smooth 1";
-      after_title = slots_line ++ 10 ∷ third;
-      slots_line = slots_line;
-      after_slots = third;
-      bytes_line = line;
-      title_cut = refl;
-      title_is = refl;
-      slots_cut = refl;
-      slots_is = refl;
-      bytes_cut = refl;
-      bytes_is = refl;
-    }) in
-    subst (λ text. HasReadLines text 3 rest) shape
+    subst (λ text. HasReadLines text 3 rest) (head_joined slots bytes rest)
     (read_more
     (next_is (slots-line slots third few_slots) (cut-off line rest (number-line (codes "bytes ") bytes few_bytes refl)))
     (Bytes bytes refl (record { small = few_bytes; words = refl })))

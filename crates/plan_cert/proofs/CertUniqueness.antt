@@ -20,7 +20,7 @@ use Rattle.plan_cert.specs.CertGrammar.{IsBadLine, IsCertRefusal}
 use Rattle.plan_cert.specs.CertGrammar.MayStand.{Title, Slots, Bytes, SegmentLine}
 use Rattle.vod_base.proofs.SplitLemmas.{none_is, split_once}
 use Rattle.plan_cert.proofs.DecimalLemmas.{not_in_decimal}
-use Rattle.plan_cert.proofs.GrammarLemmas.{lines-cut, head_text}
+use Rattle.plan_cert.proofs.GrammarLemmas.{lines-cut, head_joined}
 
 -- ---- lines without LF
 pub number_clean : (n : ℕ) → n ≤ MAX_NUMBER → All (λ b. b ≢ 10) (decimal n)
@@ -81,23 +81,10 @@ lines-certificate told =
     let body = flat_map segment_line segments ++ codes "end\n" in
     let third = (codes "bytes " ++ decimal bytes) ++ 10 ∷ body in
     let second = (codes "slots " ++ decimal slots) ++ 10 ∷ third in
-    let shape : codes "smooth 1" ++ 10 ∷ second ≡ cert_head slots bytes ++ body =
-    head_text slots bytes body (record {
-      title = codes "smooth 1";
-      after_title = second;
-      slots_line = codes "slots " ++ decimal slots;
-      after_slots = third;
-      bytes_line = codes "bytes " ++ decimal bytes;
-      title_cut = refl;
-      title_is = refl;
-      slots_cut = refl;
-      slots_is = refl;
-      bytes_cut = refl;
-      bytes_is = refl;
-    }) in
     let whole : cert_head slots bytes ++ flat_map segment_line segments ++ codes "end\n"
     ≡ codes "smooth 1" ++ 10 ∷ second =
-    append_assoc (cert_head slots bytes) (flat_map segment_line segments) (codes "end\n") ∙ sym shape in
+    append_assoc (cert_head slots bytes) (flat_map segment_line segments) (codes "end\n")
+    ∙ sym (head_joined slots bytes body) in
     let clean_slots =
     All-append (λ b. b ≢ 10) (codes "slots ") (decimal slots) (none_is 10 (codes "slots ") refl)
     (number_clean slots told.few_slots) in

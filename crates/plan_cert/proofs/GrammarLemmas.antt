@@ -194,6 +194,13 @@ pub record IsHeadOf (text : List ℕ) (slots bytes : ℕ) (after : List ℕ) : T
   pub bytes_cut : after_slots ≡ bytes_line ++ 10 ∷ after
   pub bytes_is : bytes_line ≡ codes "bytes " ++ decimal bytes
 
+-- the three lines of a head make its text
+pub head_joined : (slots bytes : ℕ) (after : List ℕ)
+    → codes "smooth 1" ++ 10
+    ∷ ((codes "slots " ++ decimal slots) ++ 10 ∷ ((codes "bytes " ++ decimal bytes) ++ 10 ∷ after))
+    ≡ cert_head slots bytes ++ after
+head_joined slots bytes after = simp append_assoc
+
 -- the text of the head, put together from its lines
 pub head_text : {text : List ℕ} (slots bytes : ℕ) (after : List ℕ) → IsHeadOf text slots bytes after
     → text ≡ cert_head slots bytes ++ after
@@ -207,10 +214,7 @@ head_text {text} slots bytes after given =
     ≡ codes "smooth 1" ++ 10 ∷ ((codes "slots " ++ decimal slots) ++ 10
     ∷ ((codes "bytes " ++ decimal bytes) ++ 10 ∷ after)) =
     cut1 ∙ ap (λ l. l ++ 10 ∷ after_title) title_is ∙ ap (λ r. codes "smooth 1" ++ 10 ∷ r) second in
-    let joined : codes "smooth 1" ++ 10
-    ∷ ((codes "slots " ++ decimal slots) ++ 10 ∷ ((codes "bytes " ++ decimal bytes) ++ 10 ∷ after))
-    ≡ cert_head slots bytes ++ after = simp append_assoc in
-    first ∙ joined
+    first ∙ head_joined slots bytes after
   where
     open given use {
       after_title,
