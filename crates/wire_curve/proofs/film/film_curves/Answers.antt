@@ -1,6 +1,6 @@
-use Rattle.std.proofs.Common.{◌<◌, ◌≤◌, length, arith, rules, All}
+use Rattle.std.proofs.Common.{arith, rules}
 use Rattle.std.proofs.lemmas.Grind.{common_steps}
-use Rattle.wire_curve.specs.FilmCurves.{slot_count, AreFilmCurves}
+use Rattle.wire_curve.specs.FilmCurves.{AreFilmCurves}
 use Rattle.wire_curve.specs.CurveFaults.{IsAccepted}
 use Rattle.wire_curve.proofs.OwnSlotLemmas.{HasOwnSlots, IsAccepted-own}
 use Rattle.wire_curve.proofs.SoundCurveLemmas.{sum_of_uses, AreFilmCurves-of_uses, AreSound-of_film}
@@ -26,21 +26,14 @@ returns-clause-sound c =
 
 pub returns-in-Some-2-clause-accepted : goal.returns-in-Some-2-clause-accepted
 returns-in-Some-2-clause-accepted c =
-    let sizes = c.args.sizes.now in
-    let timing = c.args.timing.now in
-    let own : HasOwnSlots timing = record { some = c.requires.some_slot_units; same = c.if-timing.true } in
-    let some : 0 < length sizes = grind (arith, common_steps) in
-    let few : slot_count sizes timing ≤ 1000000 = grind (arith, common_steps) in
-    let fit : All (λ size. size ≤ timing.buffer) sizes = search rules in
-    IsAccepted-own sizes own some few fit
+    let own : HasOwnSlots c.args.timing.now = record { some = c.requires.some_slot_units; same = c.if-timing.true } in
+    IsAccepted-own c.args.sizes.now own (grind (arith, common_steps)) (grind (arith, common_steps)) (search rules)
 
 pub returns-in-Some-2-clause-sound : goal.returns-in-Some-2-clause-sound
 returns-in-Some-2-clause-sound c =
     let sizes = c.args.sizes.now in
     let timing = c.args.timing.now in
     let own : HasOwnSlots timing = record { some = c.requires.some_slot_units; same = c.if-timing.true } in
-    let some : 0 < length sizes = grind (arith, common_steps) in
-    let few : slot_count sizes timing ≤ 1000000 = grind (arith, common_steps) in
-    let fit : All (λ size. size ≤ timing.buffer) sizes = search rules in
     let are : AreFilmCurves sizes timing c.in-Some-2.curves = search rules in
-    AreSound-of_film sizes timing c.in-Some-2.curves c.requires (IsAccepted-own sizes own some few fit) are
+    AreSound-of_film sizes timing c.in-Some-2.curves c.requires
+    (IsAccepted-own sizes own (grind (arith, common_steps)) (grind (arith, common_steps)) (search rules)) are
