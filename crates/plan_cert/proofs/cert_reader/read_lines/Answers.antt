@@ -21,7 +21,8 @@ returns-then-not-has_slots-clause-refused c =
     (c.has_slots.ensures.1 (ap total_slots c.as_slice.ensures.value ∙ e)) in
     let told = begun_of c.in_ok-head.head.slots c.in_ok-head.head.bytes c.in_ok-segments.segments.items
     c.in_ok-head.ensures.small_slots c.in_ok-head.ensures.small_bytes c.in_ok-segments.ensures.read.small in
-    subst (λ t. IsBadLine t 2) (sums_of told c.in_ok-head.ensures.text_is c.in_ok-segments.ensures.read.text_is) (wrong-slots told wrong)
+    subst (λ t. IsBadLine t 2) (sums_of told c.in_ok-head.ensures.text_is c.in_ok-segments.ensures.read.text_is)
+    (wrong-slots told wrong)
 
 pub returns-then-not-has_bytes-clause-refused : goal.returns-then-not-has_bytes-clause-refused
 returns-then-not-has_bytes-clause-refused c =
@@ -31,7 +32,8 @@ returns-then-not-has_bytes-clause-refused c =
     (c.has_bytes.ensures.1 (ap total_bytes c.as_slice-2.ensures.value ∙ e)) in
     let told = begun_of c.in_ok-head.head.slots c.in_ok-head.head.bytes c.in_ok-segments.segments.items
     c.in_ok-head.ensures.small_slots c.in_ok-head.ensures.small_bytes c.in_ok-segments.ensures.read.small in
-    subst (λ t. IsBadLine t 3) (sums_of told c.in_ok-head.ensures.text_is c.in_ok-segments.ensures.read.text_is) (wrong-bytes told same wrong)
+    subst (λ t. IsBadLine t 3) (sums_of told c.in_ok-head.ensures.text_is c.in_ok-segments.ensures.read.text_is)
+    (wrong-bytes told same wrong)
 
 pub returns-clause-read : goal.returns-clause-read
 returns-clause-read c = grind (arith, common_steps)
