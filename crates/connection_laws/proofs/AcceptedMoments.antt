@@ -26,7 +26,7 @@ use Rattle.rtsp_client.specs.Films.{is_complete, is_good_frame, units_until}
 use Rattle.rtsp_client.specs.MeterGuarantee.{frames_heard, frames_of}
 use Rattle.rtsp_client.specs.Meters.{watched_in}
 use Rattle.rtsp_client.specs.Replies.{IsAnswer, play_range, play_start, setup_session}
-use Rattle.rtsp_client.specs.ClientHistory.{History, ClientEvent, Frame, Reply, Report, end_ms, replies}
+use Rattle.rtsp_client.specs.ClientHistory.{History, ClientEvent, Frame, Reply, end_ms, replies}
 use Rattle.rtsp_client.specs.WatchCourses.{IsNext}
 use Rattle.rtsp_client.specs.WholeFilms.{AwaitsFilm, frames_of_film}
 use Rattle.connection_laws.specs.WatchEnds.{AreAnswers, AreGoodReplies}
@@ -34,10 +34,11 @@ use Rattle.connection_laws.proofs.ClientInput.{no_sum}
 use Rattle.connection_laws.proofs.ElementStreams.{AreAlone, no_element, FramedFront}
 use Rattle.connection_laws.proofs.FilmReading.{film_run, units_all, more_reply, WholeStream, run_from}
 use Rattle.connection_laws.proofs.FirstFrames.{HasGoneOn}
-use Rattle.connection_laws.proofs.HistorySums.{AreOneBlocks, Sum, blocks_same, steps, steps_on, sum_of}
+use Rattle.connection_laws.proofs.HistorySums.{AreOneBlocks, IsOneBlock, Sum, blocks_same, steps, steps_on, sum_of}
 use Rattle.connection_laws.proofs.MeterInput.{AreTexts, Stream, all_of, begun_sum, two_moments}
 use Rattle.connection_laws.proofs.PlayReplyReading.{film_counted}
 use Rattle.connection_laws.proofs.UnitSizes.{frames_parts, moments_parts, units_told}
+use Rattle.connection_laws.proofs.Lists.{each_front, each_rest}
 
 -- ---- where a client stands in a stream
 
@@ -247,15 +248,6 @@ in_film {h} s qs are sum =
       two = two;
     }
 
-blocks_front : (qs rest : List (List ℕ)) → AreOneBlocks (qs ++ rest) → AreOneBlocks qs
-blocks_front [] rest are = tt
-blocks_front (q ∷ qs) rest are = (are.0, blocks_front qs rest are.1)
-
-block_at : (qs : List (List ℕ)) (b : List ℕ) (rest : List (List ℕ)) → AreOneBlocks (qs ++ b ∷ rest)
-    → (element_events b ≡ Frame b ∷ []) ⊎ (element_events b ≡ Report b ∷ [])
-block_at [] b rest are = are.0.moment
-block_at (q ∷ qs) b rest are = block_at qs b rest are.1
-
 frames_front : (qs : List (List ℕ)) (b : List ℕ) (rest : List (List ℕ)) → element_events b ≡ Frame b ∷ []
     → frames_of (events_of_elements (qs ++ b ∷ rest))
     ≡ frames_of (events_of_elements qs) ++ b ∷ frames_of (events_of_elements rest)
@@ -325,8 +317,8 @@ module _ (w : FilmWatch) where
       let rest = next.more in
       let blocks = next.all_is in
       let are : AreOneBlocks (qs ++ b ∷ rest) = subst AreOneBlocks blocks s.stream.x.blocks_are in
-      let inside = in_film s qs (blocks_front qs (b ∷ rest) are) (accepted.sum ∙ two_moments s.stream.x qs) in
-      elim (block_at qs b rest are) [
+      let inside = in_film s qs (each_front IsOneBlock qs (b ∷ rest) are) (accepted.sum ∙ two_moments s.stream.x qs) in
+      elim (each_rest IsOneBlock qs (b ∷ rest) are).0.moment [
         | inl frame ↦
             let frames : frames_of_film s.stream.film s.stream.identity
             ≡ frames_heard h ++ b ∷ frames_of (events_of_elements rest) =

@@ -1,13 +1,11 @@
 -- In which slots a connection asks for plays, and in which slots its plays begin.
-use Rattle.std.specs.Prelude.{⊤, All, Option}
+use Rattle.std.specs.Prelude.{⊤, All}
 use Rattle.std.specs.List.{fold}
 use Rattle.std.proofs.Common.{◌≡◌, ℕ, zero, suc, ◌+◌, ◌^◌, ◌≤◌, ◌++◌, List, ◌∷◌, max, min, take, arith, refl, sym, ap}
 use Rattle.std.proofs.Common.{subst, map, []}
 use Rattle.std.proofs.lemmas.List.Elements.{All-append, All-contains, All-cons, All-get_or, All-head, All-nil, All-tail}
 use Rattle.std.proofs.lemmas.List.Elements.{All-weaker}
-use Rattle.plan_cert.specs.PlanSlots.{total_bytes}
 use Rattle.film_frames.specs.declared.stored_films.Stored.{Stored}
-use Rattle.film_frames.specs.FramedRuns.{run_pieces}
 use Rattle.slot_calendar.specs.declared.profiles.CapStep.{CapStep}
 use Rattle.admission.specs.declared.entries.Answer.{Answer}
 use Rattle.admission.specs.declared.entries.Answer.TheVariants.{Admitted}
@@ -19,33 +17,32 @@ use Rattle.admission.specs.Machine.{IsAnswer, State}
 use Rattle.admission.specs.Makers.{PlacedEntry}
 use Rattle.admission.proofs.HistoryPrefixes.{legal-take, no_entry}
 use Rattle.admission.proofs.PlayCounts.{tally}
-use Rattle.session.specs.declared.commands.Ask.{Ask}
 use Rattle.film_streams.specs.declared.settings.Settings.{Settings}
 use Rattle.session.specs.declared.states.Awaited.{Awaited}
 use Rattle.session.specs.declared.states.Awaited.TheVariants.{Play}
-use Rattle.session.specs.SessionStates.{OpenBooking, SessionState, AwaitedAnswer}
+use Rattle.session.specs.SessionStates.{SessionState, AwaitedAnswer}
 use Rattle.rtsp_client.specs.declared.watch_request.Wish.{Wish}
 use Rattle.conn.specs.Agreement.{Activity, HasDone, Visit, doings_outcomes}
 use Rattle.conn.specs.EventSteps.{Ending, AtElement, InReply, Round, ending_outcomes, entries_in, round_outcomes}
 use Rattle.conn.specs.EventSteps.{rounds_outcomes}
-use Rattle.conn.specs.InputSteps.{Outcome, Unasked, Entered, WasFull, Offered, IsHaltAnswered}
+use Rattle.conn.specs.InputSteps.{Outcome, Unasked, Entered, WasFull, Offered}
 use Rattle.conn.specs.Journals.{AgreeWith, StandsIn, Terms}
 use Rattle.conn.specs.Plays.{ending_rounds}
 use Rattle.conn.specs.declared.reports.ConnReport.{ConnReport}
 use Rattle.connection_laws.specs.ClientRequests.{IsAskedFor}
 use Rattle.connection_laws.specs.Courses.{Course, askings_of, course_plays}
-use Rattle.connection_laws.specs.Plays.{StationRequest, Asks, FilmPlay, kept_in, plays_admitted, plays_begun, plays_of}
+use Rattle.connection_laws.specs.Plays.{StationRequest, Asks, FilmPlay, play_by, plays_admitted, plays_begun, plays_of}
 use Rattle.connection_laws.specs.StartRanges.{AreMadeByConnections, IsCourseIn, IsMadeByConnection, StartsInRange}
 use Rattle.connection_laws.proofs.BookedPlays.{course_outcomes, outcomes_in}
-use Rattle.connection_laws.proofs.StationAnswers.{AnswersAs, PlayAdmitted, PlayRefused, PlayHalted, LookMade}
-use Rattle.connection_laws.proofs.StationAnswers.{answers_as, ClosesAs, NothingOpen, BookingHalted, halted_by}
+use Rattle.connection_laws.proofs.RequestEffects.{RequestAnswer, Admission, Refusal, HaltMade, LookAnswer, request_answer}
 use Rattle.std.proofs.lemmas.List.{map-append}
 use Rattle.connection_laws.specs.Notes.{StationCall, outcome_of}
 use Rattle.connection_laws.proofs.CourseTurns.{IsKeptByDoings, doings_kept, turns_told}
 use Rattle.station.specs.Ledgers.{play_of}
 use Rattle.plan_cert.specs.declared.Segment.{Segment}
 use Rattle.connection_laws.proofs.CourseInduction.{begin_of}
-use Rattle.conn.proofs.StationAnswers.{FinishesAs, NothingLeft, DoneHalted}
+use Rattle.conn.proofs.StationAnswers.{FinishesAs, NothingLeft, DoneHalted, IsHaltEntry}
+use Rattle.connection_laws.proofs.Lists.{Each, each_append, each_front, each_rest}
 
 -- ---- the entries among what the station answered
 abbrev InEntry : (PlacedEntry → Type 0) → Outcome → Type 0
@@ -53,21 +50,7 @@ InEntry P (Entered placed) = P placed
 InEntry P _ = ⊤
 
 abbrev InEntries : (PlacedEntry → Type 0) → List Outcome → Type 0
-InEntries P [] = ⊤
-InEntries P (outcome ∷ outcomes) = InEntry P outcome × InEntries P outcomes
-
-entries_join : (P : PlacedEntry → Type 0) (xs ys : List Outcome) → InEntries P xs → InEntries P ys
-    → InEntries P (xs ++ ys)
-entries_join P [] ys one two = two
-entries_join P (x ∷ xs) ys one two = (one.0, entries_join P xs ys one.1 two)
-
-entries_front : (P : PlacedEntry → Type 0) (xs ys : List Outcome) → InEntries P (xs ++ ys) → InEntries P xs
-entries_front P [] ys are = tt
-entries_front P (x ∷ xs) ys are = (are.0, entries_front P xs ys are.1)
-
-entries_rest : (P : PlacedEntry → Type 0) (xs ys : List Outcome) → InEntries P (xs ++ ys) → InEntries P ys
-entries_rest P [] ys are = are
-entries_rest P (x ∷ xs) ys are = entries_rest P xs ys are.1
+InEntries P = Each (InEntry P)
 
 all_entries : (P : PlacedEntry → Type 0) (outcomes : List Outcome) → InEntries P outcomes → All P (entries_in outcomes)
 all_entries P [] are = All-nil P
@@ -79,36 +62,30 @@ all_entries P (_ ∷ outcomes) are = all_entries P outcomes are.1
 abbrev AsksInRange : PlacedEntry → Type 0
 AsksInRange placed = asked_in placed.entry.command ≤ 2 ^ 62
 
-halt_range : {old new : SessionState} {keep : ℕ} {placed : PlacedEntry} → IsHaltAnswered old keep placed new
-    → AsksInRange placed
-halt_range {placed = placed} halt =
-    let none : asked_in placed.entry.command ≡ 0 = ap asked_in halt.command in omega (arith, none)
+halt_range : {keep : ℕ} {placed : PlacedEntry} → IsHaltEntry keep placed → AsksInRange placed
+halt_range {placed = placed} entry =
+    let none : asked_in placed.entry.command ≡ 0 = ap asked_in entry.command in omega (arith, none)
 
 play_range : (placed : PlacedEntry) (heard : ℕ) (plan : List Segment) → placed.entry.command ≡ play_of heard plan
     → AsksInRange placed
 play_range placed heard plan command =
     let slot : asked_in placed.entry.command ≡ min heard (2 ^ 62) = ap asked_in command in omega (arith, slot)
 
-ask_range : {asking new : SessionState} {ask : Ask} {outcome : Outcome} → AnswersAs asking new ask outcome
+ask_range : {old asking new : SessionState} {outcome : Outcome} → RequestAnswer old asking outcome new
     → InEntry AsksInRange outcome
-ask_range {asking} (PlayAdmitted {plan = plan} {placed = placed} play) =
-    play_range placed asking.heard plan play.command
-ask_range {asking} (PlayRefused {plan = plan} {placed = placed} play) =
-    play_range placed asking.heard plan play.command
-ask_range (PlayHalted halt) = halt_range halt
-ask_range (LookMade {placed = placed} look) =
-    let none : asked_in placed.entry.command ≡ 0 = ap asked_in look.command in omega (arith, none)
+ask_range (Admission {placed = placed} play entry answered) =
+    play_range placed play.base.heard play.prepared.plan entry.command
+ask_range (Refusal {placed = placed} play entry) =
+    play_range placed play.base.heard play.prepared.plan entry.command
+ask_range (HaltMade halt entry) = halt_range entry
+ask_range (LookAnswer {placed = placed} command looked) =
+    let none : asked_in placed.entry.command ≡ 0 = ap asked_in command in omega (arith, none)
 ask_range _ = tt
 
 finish_range : {s new : SessionState} {asks : AwaitedAnswer} {halt : Outcome} → FinishesAs s asks halt new
     → InEntry AsksInRange halt
 finish_range NothingLeft = tt
-finish_range {s} (DoneHalted entry) = halt_range (halted_by {s = s} entry)
-
-close_range : {old new : SessionState} {booking : Option OpenBooking} {halt : Outcome} → ClosesAs old new booking halt
-    → InEntry AsksInRange halt
-close_range (NothingOpen is) = tt
-close_range (BookingHalted halt) = halt_range halt
+finish_range (DoneHalted entry) = halt_range entry
 
 abbrev RangeOfCalls : SessionState → List StationCall → SessionState → Type 0
 RangeOfCalls old turns new = InEntries AsksInRange (map outcome_of turns)
@@ -117,15 +94,15 @@ range_kept : IsKeptByDoings RangeOfCalls
 range_kept = record {
   none = λ s. tt;
   joins = λ a b c xs ys one two. subst (InEntries AsksInRange) (sym (map-append outcome_of xs ys))
-      (entries_join AsksInRange (map outcome_of xs) (map outcome_of ys) one two);
-  request = λ old new message outcome heard. (ask_range (answers_as heard.ask outcome heard.answered), tt);
+      (each_append (InEntry AsksInRange) (map outcome_of xs) (map outcome_of ys) one two);
+  request = λ old new message outcome heard. (ask_range (request_answer heard), tt);
   reply = λ s. tt;
   slot = λ s n. tt;
-  finish = λ awaited halt s new finishing asks. (finish_range finishing, tt);
+  finish = λ halt s new finishing. (finish_range finishing, tt);
   bytes = λ s. (tt, tt);
   failed = λ old new slot front failed. tt;
   lost = λ s. tt;
-  close = λ held halt last closed closing opens rest. (close_range closing, tt);
+  close = λ halt last closed closes rest. (finish_range closes, tt);
 }
 
 -- a connection asks for no play in a slot after 2^62
@@ -219,9 +196,9 @@ agree_next terms journal from (Offered at_slot note ∷ outcomes) legal agree =
 
 ending_entries : (P : PlacedEntry → Type 0) (ending : Ending) → InEntries P (ending_outcomes ending)
     → InEntries P (rounds_outcomes (ending_rounds ending))
-ending_entries P (AtElement round) are = entries_join P (round_outcomes round) [] are tt
+ending_entries P (AtElement round) are = each_append (InEntry P) (round_outcomes round) [] are tt
 ending_entries P (InReply round message outcome front) are =
-    entries_join P (round_outcomes round) [] (entries_front P (round_outcomes round) (outcome ∷ []) are) tt
+    each_append (InEntry P) (round_outcomes round) [] (each_front (InEntry P) (round_outcomes round) (outcome ∷ []) are) tt
 ending_entries P _ are = tt
 
 course_entries : (P : PlacedEntry → Type 0) (rounds : List Round) (ending : Ending)
@@ -231,8 +208,8 @@ course_entries P [] ending are last = ending_entries P ending last
 course_entries P (round ∷ rounds) ending are last =
     let first = round_outcomes round in
     let rest = rounds_outcomes rounds in
-    entries_join P first (rounds_outcomes (rounds ++ ending_rounds ending)) (entries_front P first rest are)
-    (course_entries P rounds ending (entries_rest P first rest are) last)
+    each_append (InEntry P) first (rounds_outcomes (rounds ++ ending_rounds ending)) (each_front (InEntry P) first rest are)
+    (course_entries P rounds ending (each_rest (InEntry P) first rest are) last)
 
 -- a play begins where the entry that admits it says
 abbrev Begins : (ℕ → Type 0) → FilmPlay → Type 0
@@ -241,13 +218,7 @@ Begins S play = S play.start
 admitted_starts : (S : ℕ → Type 0) (asked : Awaited) (answer : Answer) (askings : List StationRequest)
     → ((start : ℕ) → answer ≡ Admitted start → S start) → All (Begins S) (plays_admitted asked answer askings)
 admitted_starts S (Play prepared) (Admitted start) askings starts =
-    All-cons (Begins S) (record {
-      start = start;
-      plan = prepared.plan;
-      keep = kept_in askings (total_bytes prepared.plan);
-      before = prepared.run.sent;
-      pieces = run_pieces prepared.frames;
-    }) [] (starts start refl) (All-nil (Begins S))
+    All-cons (Begins S) (play_by prepared start askings) [] (starts start refl) (All-nil (Begins S))
 admitted_starts S _ _ askings starts = All-nil (Begins S)
 
 begun_starts : (journal : List Entry) (asked : Awaited) (outcome : Outcome) (askings : List StationRequest)
@@ -275,9 +246,9 @@ course_starts visit terms journal course is =
     let rounds = rounds_outcomes doings.rounds in
     let ending = ending_outcomes doings.ending in
     let all = agree_next terms journal 0 (doings_outcomes doings) agrees.legal agrees.agree in
-    let part = entries_front P (rounds ++ ending) (doings.halt ∷ []) all in
-    let mine = course_entries P doings.rounds doings.ending (entries_front P rounds ending part)
-    (entries_rest P rounds ending part) in
+    let part = each_front (InEntry P) (rounds ++ ending) (doings.halt ∷ []) all in
+    let mine = course_entries P doings.rounds doings.ending (each_front (InEntry P) rounds ending part)
+    (each_rest (InEntry P) rounds ending part) in
     let first = begin_of course in
     let R : List Round → Type 0 = λ rs. InEntries P (rounds_outcomes rs) in
     let these : InEntries P (rounds_outcomes course.rounds) = subst R (sym is.course_is.rounds_are) mine in

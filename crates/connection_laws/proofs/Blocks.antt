@@ -12,7 +12,8 @@ use Rattle.film_frames.specs.Pieces.{count_of, octets_of, unit_of, unit_pieces}
 use Rattle.film_frames.specs.FramedRuns.{FramedRun, blocks_from, interleaved_block, payload, piece_bytes}
 use Rattle.rtsp_client.specs.Answers.{block_events, element_events}
 use Rattle.rtsp_client.specs.ClientHistory.{Frame, Report, is_last}
-use Rattle.connection_laws.proofs.HistorySums.{AreOneBlocks, blocks_one_append}
+use Rattle.connection_laws.proofs.HistorySums.{IsOneBlock, AreOneBlocks}
+use Rattle.connection_laws.proofs.Lists.{each_append}
 
 -- the pieces of a run: what their units are taken of
 abbrev pub Domain : {A : Type 0} {B : Type 0} → (A → B) → Type 0
@@ -202,7 +203,7 @@ pub record RunFrom : Type 0 where
 pub unit_one : (from : RunFrom) (starts : List ℕ) (unit : PictureUnit) →
     AreOneBlocks (unit_blocks from.run starts unit from.frames from.octets)
 unit_one from starts unit =
-    blocks_one_append (report_if unit.starts_group run unit f o) (frame_blocks run unit f (unit_packets starts unit))
+    each_append IsOneBlock (report_if unit.starts_group run unit f o) (frame_blocks run unit f (unit_packets starts unit))
     (reports_one unit.starts_group run f o unit control) (frames_one run f unit (unit_packets starts unit) media)
   where
     open from use {run, frames as f, octets as o, media, control}

@@ -1,5 +1,4 @@
 -- The plays of a course are those that its entries record, and what was sent of its one play by the step of a slot.
-use Rattle.std.specs.Prelude.{⊤}
 use Rattle.std.proofs.Common.{◌≡◌, ℕ, ◌++◌, List, ◌∷◌, map, refl, ap, sym, ◌∙◌, ◌<◌, ◌≤◌, ◌⊎◌, subst, append_assoc}
 use Rattle.std.proofs.Common.{arith, inl, inr, []}
 use Rattle.std.proofs.lemmas.List.{map-append}
@@ -10,19 +9,18 @@ use Rattle.admission.specs.Makers.{PlacedEntry}
 use Rattle.admission.specs.declared.entries.Answer.TheVariants.{Admitted, Halted}
 use Rattle.station.specs.Ledgers.{play_of}
 use Rattle.session.specs.declared.states.Awaited.{Awaited}
-use Rattle.session.specs.declared.states.Awaited.TheVariants.{Play, Nothing, Halt, Look, Offer}
+use Rattle.session.specs.declared.states.Awaited.TheVariants.{Play}
 use Rattle.session.specs.SessionStates.{SessionState, AwaitedAnswer}
 use Rattle.conn.specs.EventSteps.{Round, entries_in, round_outcomes, rounds_outcomes, takings_outcomes}
 use Rattle.conn.specs.InputSteps.{Outcome, Unasked, Stage, ElementStep, Passed, Answered, TakesAll, entry_in, Entered}
 use Rattle.connection_laws.specs.Courses.{IsCourseBetween, asked_by, askings_of, round_askings, takings_askings, Course}
 use Rattle.connection_laws.specs.Courses.{course_plays, IsCourseSplit}
 use Rattle.connection_laws.specs.Plays.{StationRequest, Asks, plays_admitted, plays_begun, booked_by, booked_plays}
-use Rattle.connection_laws.specs.Plays.{booking_of, kept_among, kept_in, kept_with, plays_of, FilmPlay, kept_by}
-use Rattle.connection_laws.proofs.RequestEffects.{Ends, Starts, Stays, TurnsAs, told_by, Begins}
+use Rattle.connection_laws.specs.Plays.{booking_of, kept_among, kept_in, kept_with, play_by, plays_of, FilmPlay, kept_by}
+use Rattle.connection_laws.proofs.RequestEffects.{Ends, Starts, Stays, TurnsAs, told_by, Begins, begun_is}
 use Rattle.connection_laws.proofs.CourseInduction.{Piece, parts_of, comes_heard, begin_of, course_kept}
 use Rattle.connection_laws.proofs.CourseSteps.{IsKeptStanding, Stands, request_turns, all_kept, kept_from_standing}
 use Rattle.plan_cert.specs.Plan.{IsPlan}
-use Rattle.film_frames.specs.FramedRuns.{run_pieces}
 use Rattle.admission.specs.declared.entries.Answer.{Answer}
 use Rattle.admission.specs.declared.entries.Command.{Command}
 use Rattle.admission.specs.declared.entries.Command.TheVariants.{Halt as HaltCommand}
@@ -30,6 +28,7 @@ use Rattle.session.specs.declared.states.Prepared.{Prepared}
 use Rattle.connection_laws.proofs.KeptParts.{LastingPart, taken_keeps}
 use Rattle.conn.proofs.StationAnswers.{FinishesAs, NothingLeft, DoneHalted, ComesAs, BytesCame, SlotCame}
 use Rattle.session.specs.SlotSteps.{after_slot}
+use Rattle.connection_laws.proofs.Lists.{Each, each_append, each_weaker}
 
 -- the play that begins is the one that the entry records, if any
 abbrev pub IsToldBy : Awaited → Outcome → Type 0
@@ -37,9 +36,11 @@ IsToldBy asked outcome = (askings : List StationRequest) (made : List PlacedEntr
     → ((all : ℕ) → kept_in askings all ≡ kept_among made all)
     → map booking_of (plays_begun asked outcome askings) ≡ told_by outcome made
 
+abbrev IsTold : StationRequest → Type 0
+IsTold (Asks asked outcome) = IsToldBy asked outcome
+
 abbrev pub AreTold : List StationRequest → Type 0
-AreTold [] = ⊤
-AreTold (Asks asked outcome ∷ askings) = IsToldBy asked outcome × AreTold askings
+AreTold = Each IsTold
 
 -- the entries of askings
 abbrev pub outcomes_in : List StationRequest → List Outcome
@@ -71,10 +72,6 @@ plays_told (Asks asked outcome ∷ askings) told =
     ∙ ap (λ ps. ps ++ map booking_of (plays_of askings)) (told.0 askings made (kept_same askings))
     ∙ ap (λ ps. told_by outcome made ++ ps) (plays_told askings told.1) ∙ told_more outcome made
 
-told_append : (xs ys : List StationRequest) → AreTold xs → AreTold ys → AreTold (xs ++ ys)
-told_append [] ys one two = two
-told_append (Asks asked outcome ∷ xs) ys one two = (one.0, told_append xs ys one.1 two)
-
 outcomes_append : (xs ys : List StationRequest) → outcomes_in (xs ++ ys) ≡ outcomes_in xs ++ outcomes_in ys
 outcomes_append [] ys = refl
 outcomes_append (Asks asked outcome ∷ xs) ys = ap (λ os. outcome ∷ os) (outcomes_append xs ys)
@@ -86,16 +83,12 @@ turn_told old new asked outcome (Stays same after still) = λ askings made keeps
     ap (map booking_of) (still.none askings) ∙ sym (still.untold made)
 turn_told old new asked outcome (Starts after begins) = λ askings made keeps.
     let p = begins.prepared in
-    let mine : plays_begun asked outcome askings ≡ plays_admitted (Play p) (Admitted begins.start) askings =
-    ap (λ o. plays_begun asked o askings) begins.outcome_is
-    ∙ ap (λ a. plays_admitted a begins.placed.entry.answer askings) begins.asked_is
-    ∙ ap (λ a. plays_admitted (Play p) a askings) begins.answer in
     let told : told_by outcome made ≡ truncated_play begins.start p.plan (kept_among made (total_bytes p.plan)) ∷ [] =
     ap (λ o. told_by o made) begins.outcome_is
     ∙ ap (λ c. booked_by (play_admitted c begins.placed.entry.answer) made) begins.command
     ∙ ap (λ a. booked_by (play_admitted (play_of old.heard p.plan) a) made) begins.answer in
-    ap (map booking_of) mine ∙ ap (λ k. truncated_play begins.start p.plan k ∷ []) (keeps (total_bytes p.plan)) ∙ sym
-    told
+    ap (map booking_of) (begun_is begins askings)
+    ∙ ap (λ k. truncated_play begins.start p.plan k ∷ []) (keeps (total_bytes p.plan)) ∙ sym told
 turn_told old new asked outcome (Ends after halts) = λ askings made keeps.
     ap (map booking_of) (halts.none askings)
     ∙ sym (ap (λ o. told_by o made) halts.outcome_is
@@ -145,7 +138,7 @@ ToldOn old piece new = AreTold piece.askings
 told_kept : IsKeptStanding ToldOn
 told_kept = record {
   none = λ s. tt;
-  joins = λ a b c one two first rest. told_append one.askings two.askings first rest;
+  joins = λ a b c one two first rest. each_append IsTold one.askings two.askings first rest;
   request = λ old new request stands. (
     turn_told old.session request.replied.answered request.replied.heard.asking.awaited request.outcome
         (request_turns request stands),
@@ -219,32 +212,20 @@ kept_all : (a : List StationRequest) (rest all : ℕ) → IsKeptSome (kept_in a)
 kept_all a rest all (inl same) is = same all
 kept_all a rest all (inr (n, const)) is = const all ∙ (sym (const rest) ∙ is)
 
-abbrev begun_play : Prepared → ℕ → List StationRequest → FilmPlay
-begun_play prepared start askings = record {
-  start = start;
-  plan = prepared.plan;
-  keep = kept_in askings (total_bytes prepared.plan);
-  before = prepared.run.sent;
-  pieces = run_pieces prepared.frames;
-}
-
 -- an asking begins no play, or one
 data Beginning (asked : Awaited) (outcome : Outcome) : Type 0 where
   BeginsNone : ((askings : List StationRequest) → plays_begun asked outcome askings ≡ []) → Beginning asked outcome
   BeginsOne : (prepared : Prepared) (start : ℕ)
-      → ((askings : List StationRequest) → plays_begun asked outcome askings ≡ begun_play prepared start askings ∷ [])
+      → ((askings : List StationRequest) → plays_begun asked outcome askings ≡ play_by prepared start askings ∷ [])
       → Beginning asked outcome
 
 entered_either : (asked : Awaited) (placed : PlacedEntry) (answer : Answer) → placed.entry.answer ≡ answer
     → Beginning asked (Entered placed)
 entered_either (Play prepared) placed (Admitted start) is =
     BeginsOne prepared start (λ askings. ap (λ a. plays_admitted (Play prepared) a askings) is)
-entered_either Nothing placed answer is = BeginsNone (λ askings. refl)
-entered_either (Halt keep next) placed answer is = BeginsNone (λ askings. refl)
-entered_either (Look sequence) placed answer is = BeginsNone (λ askings. refl)
-entered_either (Offer sequence) placed answer is = BeginsNone (λ askings. refl)
 entered_either (Play prepared) placed _ is =
     BeginsNone (λ askings. ap (λ a. plays_admitted (Play prepared) a askings) is)
+entered_either _ placed answer is = BeginsNone (λ askings. refl)
 
 either : (asked : Awaited) (outcome : Outcome) → Beginning asked outcome
 either asked (Entered placed) = entered_either asked placed placed.entry.answer refl
@@ -258,7 +239,7 @@ none_before (Asks asked outcome ∷ a) b none = elim (either asked outcome) [
       ap (λ l. l ++ plays_of a) (is a)
       ∙ none_before a b (sym (ap (λ l. l ++ plays_of (a ++ b)) (is (a ++ b))) ∙ none)
   | BeginsOne prepared start is ↦
-      let some : begun_play prepared start (a ++ b) ∷ plays_of (a ++ b) ≡ [] =
+      let some : play_by prepared start (a ++ b) ∷ plays_of (a ++ b) ≡ [] =
       sym (ap (λ l. l ++ plays_of (a ++ b)) (is (a ++ b))) ∙ none in
       absurd (let no : ⊥ = cc in no)
 ]
@@ -277,19 +258,19 @@ one_so_far (Asks asked outcome ∷ a) b play one whole = elim (either asked outc
       subst P (sym (is a))
       (one_so_far a b play (sym (ap (λ l. l ++ plays_of (a ++ b)) (is (a ++ b))) ∙ one) whole)
   | BeginsOne prepared start is ↦
-      let there : begun_play prepared start (a ++ b) ∷ plays_of (a ++ b) ≡ play ∷ [] =
+      let there : play_by prepared start (a ++ b) ∷ plays_of (a ++ b) ≡ play ∷ [] =
       sym (ap (λ l. l ++ plays_of (a ++ b)) (is (a ++ b))) ∙ one in
-      let same : begun_play prepared start (a ++ b) ≡ play = cc in
+      let same : play_by prepared start (a ++ b) ≡ play = cc in
       let none : plays_of (a ++ b) ≡ [] = cc in
       let all : kept_in (a ++ b) (total_bytes prepared.plan) ≡ total_bytes prepared.plan =
       ap (λ (p : FilmPlay). p.keep) same ∙ (whole ∙ sym (ap (λ (p : FilmPlay). total_bytes p.plan) same)) in
       let kept : kept_in a (total_bytes prepared.plan) ≡ kept_in (a ++ b) (total_bytes prepared.plan) =
       kept_all a (kept_in b (total_bytes prepared.plan)) (total_bytes prepared.plan) (kept_some a)
       (sym (kept_append a b (total_bytes prepared.plan)) ∙ all) ∙ sym all in
-      let mine : begun_play prepared start a ≡ begun_play prepared start (a ++ b) =
-      ap (λ k. record (begun_play prepared start a) { keep = k }) kept in
+      let mine : play_by prepared start a ≡ play_by prepared start (a ++ b) =
+      ap (λ k. record (play_by prepared start a) { keep = k }) kept in
       inl (ap (λ l. l ++ plays_of a) (is a)
-      ∙ (ap (λ l. begun_play prepared start a ∷ l) (none_before a b none) ∙ ap (λ p. p ∷ []) (mine ∙ same)))
+      ∙ (ap (λ l. play_by prepared start a ∷ l) (none_before a b none) ∙ ap (λ p. p ∷ []) (mine ∙ same)))
 ]
 
 -- ---- a play begins after the slot that was received, with a plan of segments
@@ -303,21 +284,16 @@ IsLate heard asked outcome =
     (askings : List StationRequest) (play : FilmPlay) (rest : List FilmPlay)
     → plays_begun asked outcome askings ≡ play ∷ rest → IsLatePlay heard play
 
+abbrev IsLateRequest : ℕ → StationRequest → Type 0
+IsLateRequest heard (Asks asked outcome) = IsLate heard asked outcome
+
 abbrev pub AreLate : ℕ → List StationRequest → Type 0
-AreLate heard [] = ⊤
-AreLate heard (Asks asked outcome ∷ askings) = IsLate heard asked outcome × AreLate heard askings
+AreLate heard = Each (IsLateRequest heard)
 
-late_append : (heard : ℕ) (a b : List StationRequest) → AreLate heard a → AreLate heard b → AreLate heard (a ++ b)
-late_append heard [] b one two = two
-late_append heard (Asks asked outcome ∷ a) b one two = (one.0, late_append heard a b one.1 two)
-
-late_lower : (low heard : ℕ) (a : List StationRequest) → low ≤ heard → AreLate heard a → AreLate low a
-late_lower low heard [] less are = tt
-late_lower low heard (Asks asked outcome ∷ a) less are = (
-  λ askings play rest is. let its =
-      are.0 askings play rest is in record { late = omega (arith, less, its.late); plan = its.plan },
-  late_lower low heard a less are.1,
-)
+late_lower : (low heard : ℕ) → low ≤ heard → (request : StationRequest) → IsLateRequest heard request
+    → IsLateRequest low request
+late_lower low heard less (Asks asked outcome) late = λ askings play rest is.
+    let its = late askings play rest is in record { late = omega (arith, less, its.late); plan = its.plan }
 
 pub late_play : (heard : ℕ) (a : List StationRequest) (play : FilmPlay) (rest : List FilmPlay) → AreLate heard a
     → plays_of a ≡ play ∷ rest → IsLatePlay heard play
@@ -325,9 +301,9 @@ late_play heard [] play rest are is = absurd (let no : ⊥ = cc in no)
 late_play heard (Asks asked outcome ∷ a) play rest are is = elim (either asked outcome) [
   | BeginsNone none ↦ late_play heard a play rest are.1 (sym (ap (λ l. l ++ plays_of a) (none a)) ∙ is)
   | BeginsOne prepared start one ↦
-      let all : begun_play prepared start a ∷ plays_of a ≡ play ∷ rest =
+      let all : play_by prepared start a ∷ plays_of a ≡ play ∷ rest =
       sym (ap (λ l. l ++ plays_of a) (one a)) ∙ is in
-      let same : begun_play prepared start a ≡ play = cc in
+      let same : play_by prepared start a ≡ play = cc in
       are.0 a play [] (one a ∙ ap (λ p. p ∷ []) same)
 ]
 
@@ -340,12 +316,8 @@ none_late heard asked outcome none = λ askings play rest is.
 begins_late : (old new : SessionState) (asked : Awaited) (outcome : Outcome) → Begins old asked outcome new
     → IsLate old.heard asked outcome
 begins_late old new asked outcome begins = λ askings play rest is.
-    let mine : plays_begun asked outcome askings ≡ begun_play begins.prepared begins.start askings ∷ [] =
-    ap (λ o. plays_begun asked o askings) begins.outcome_is
-    ∙ (ap (λ a. plays_admitted a begins.placed.entry.answer askings) begins.asked_is
-    ∙ ap (λ a. plays_admitted (Play begins.prepared) a askings) begins.answer) in
-    let all : begun_play begins.prepared begins.start askings ∷ [] ≡ play ∷ rest = sym mine ∙ is in
-    let same : begun_play begins.prepared begins.start askings ≡ play = cc in
+    let all : play_by begins.prepared begins.start askings ∷ [] ≡ play ∷ rest = sym (begun_is begins askings) ∙ is in
+    let same : play_by begins.prepared begins.start askings ≡ play = cc in
     let L : FilmPlay → Type 0 = λ p. IsLatePlay old.heard p in
     subst L same (record { late = begins.later; plan = subst IsPlan begins.paced begins.pacing.plan })
 
@@ -368,8 +340,9 @@ late_kept = record {
   none = λ s. record { later = omega arith; late = tt };
   joins = λ a b c one two first rest. record {
     later = omega (arith, first.later, rest.later);
-    late = late_append a.heard one.askings two.askings first.late
-        (late_lower a.heard b.heard two.askings first.later rest.late);
+    late = each_append (IsLateRequest a.heard) one.askings two.askings first.late
+        (each_weaker (IsLateRequest b.heard) (IsLateRequest a.heard) (late_lower a.heard b.heard first.later)
+        two.askings rest.late);
   };
   request = λ old new request stands. record {
     later = let same = ap (λ (part : LastingPart). part.heard) (taken_keeps request.replied) in omega (arith, same);

@@ -45,10 +45,8 @@ heard_none = record { elements = []; cut = refl; sum = refl; frames = refl; gone
 frames_later : (h : History) (ms : List ClientEvent)
     → frames_heard (history_after h ms) ≡ frames_heard h ++ frames_of ms
 frames_later h [] = sym (append-nil (frames_heard h))
-frames_later h (Reply m ∷ ms) = frames_later (Reply m ∷ h) ms
 frames_later h (Frame b ∷ ms) = frames_later (Frame b ∷ h) ms ∙ append_assoc (frames_heard h) (b ∷ []) (frames_of ms)
-frames_later h (Report b ∷ ms) = frames_later (Report b ∷ h) ms
-frames_later h (Slot t cut ∷ ms) = frames_later (Slot t cut ∷ h) ms
+frames_later h (other ∷ ms) = frames_later (other ∷ h) ms
 
 -- with further elements
 pub heard_more : {bytes : List ℕ} {old : WatchStage} {rest : List ℕ} (more : List ℕ) (elements : List (List ℕ))

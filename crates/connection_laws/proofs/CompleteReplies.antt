@@ -1,14 +1,14 @@
 -- Each reply to a client's SETUP, PLAY and TEARDOWN is a complete message.
 use Rattle.std.specs.Prelude.{⊤}
-use Rattle.std.proofs.Common.{◌≡◌, ℕ, ◌<◌, ◌≤◌, ◌^◌, ◌⊎◌, true, nat_lt, nat_le, List, [], ◌∷◌, ◌++◌, ◌&&◌, ◌==◌, not}
-use Rattle.std.proofs.Common.{map, get_or, codes, decimal, string_bytes, length, sym, ap, subst, ◌∙◌, arith, inl, inr}
+use Rattle.std.proofs.Common.{◌≡◌, ℕ, ◌<◌, ◌≤◌, ◌^◌, ◌⊎◌, true, nat_lt, nat_le, List, [], ◌++◌, ◌&&◌, ◌==◌, not}
+use Rattle.std.proofs.Common.{refl, get_or, codes, decimal, string_bytes, length, sym, ap, subst, ◌∙◌, arith, inl, inr}
 use Rattle.std.specs.List.{list_all}
 use Rattle.std.proofs.lemmas.Bool.{and_parts}
 use Rattle.std.proofs.lemmas.Bool.Decides.{nat_tests}
-use Rattle.std.proofs.lemmas.Fmt.{length-decimal-le}
+use Rattle.rtsp_replies.proofs.ReplyMessages.{short-decimal}
 use Rattle.std.proofs.lemmas.List.{length-append}
 use Rattle.film_frames.specs.declared.stored_films.Stored.{Stored}
-use Rattle.admission.specs.declared.entries.Answer.TheVariants.{Admitted, Halted, Overflow, Looked}
+use Rattle.admission.specs.declared.entries.Answer.TheVariants.{Admitted}
 use Rattle.admission.specs.Makers.{PlacedEntry}
 use Rattle.rtsp_client.specs.RequestParts.{teardown_parts}
 use Rattle.rtsp_client.specs.Requests.{film_url, play_text, setup_text, teardown_text}
@@ -33,17 +33,16 @@ use Rattle.rtsp_replies.specs.Messages.{IsMessage}
 use Rattle.session_laws.proofs.PauseTeardownLemmas.{teardown_ends}
 use Rattle.session_laws.proofs.CompleteReplyLemmas.{keeps_named, replies_whole}
 use Rattle.conn.specs.InputSteps.{Entered, Outcome, Stage}
-use Rattle.connection_laws.specs.Replies.{PlacedText, text_of}
 use Rattle.connection_laws.proofs.KeptParts.{answered_names, names_in, replied_names, IsSameSetup, halted_setup}
 use Rattle.connection_laws.proofs.KeptParts.{replied_setup, comes_setup}
 use Rattle.connection_laws.proofs.ReplyReadings.{IsPrinted, printed_w64, teardown_read as read_teardown}
 use Rattle.connection_laws.specs.WatchEnds.{AreAnswers}
 use Rattle.connection_laws.proofs.RequestReplies.{IsNamed, named_still, teardown_replied}
-use Rattle.connection_laws.proofs.StationAnswers.{AnswersAs, NoneAsked, PlayAdmitted, PlayRefused, PlayHalted, LookMade}
-use Rattle.connection_laws.proofs.StationAnswers.{answers_as}
+use Rattle.conn.proofs.StationAnswers.{AnswersAs, NoneAsked, PlayAdmitted, PlayOverflowed, PlayHalted, LookMade, answers_as}
 use Rattle.connection_laws.proofs.CourseInduction.{AnsweredRequest, Piece, GoesBack}
 use Rattle.rtsp_client.specs.Replies.{IsAnswer}
 use Rattle.connection_laws.proofs.ClientSetups.{Beginning}
+use Rattle.connection_laws.proofs.Lists.{Each}
 
 -- ---- the films and the id stay
 
@@ -78,18 +77,11 @@ pub record OwnReply (asking new : SessionState) (ask : Ask) : Type 0 where
   pub text : new.text ≡ asking.text
   pub setup : setup_in new.state ≡ setup_in asking.state
 
-pub own_reply : {asking new : SessionState} {ask : Ask} {outcome : Outcome} → AnswersAs asking new ask outcome
+pub own_reply : {asking new : SessionState} {ask : Ask} {outcome : Outcome} → AnswersAs asking ask outcome new
     → IsOwnReply ask → OwnReply asking new ask
-own_reply (NoneAsked is) own = record {
-  whole = λ whole. subst IsMessage (sym (ap (λ (s : SessionState). s.text) is)) whole;
-  text = ap (λ (s : SessionState). s.text) is;
-  setup = ap (λ (s : SessionState). setup_in s.state) is;
-}
-own_reply {asking} (PlayHalted halt) own = record {
-  whole = λ whole. subst IsMessage (sym (ap (λ (s : SessionState). s.text) halt.halts)) whole;
-  text = ap (λ (s : SessionState). s.text) halt.halts;
-  setup = ap (λ (s : SessionState). setup_in s.state) halt.halts ∙ halted_setup asking.state asking.awaited;
-}
+own_reply NoneAsked own = record { whole = λ whole. whole; text = refl; setup = refl }
+own_reply {asking} (PlayHalted entry) own =
+    record { whole = λ whole. whole; text = refl; setup = halted_setup asking.state asking.awaited }
 own_reply _ own = absurd own
 
 -- the session after a play was admitted, whose reply is complete if each one that it can have is
@@ -99,27 +91,19 @@ pub record IsAdmittedFrom (asking : SessionState) (ask : Ask) (place start : ℕ
   pub whole : RepliesAreComplete ask asking → start < 2 ^ 64 → IsMessage new.text
 
 pub admitted_from : {start : ℕ} {placed : PlacedEntry} {asking new : SessionState} {ask : Ask}
-    → placed.entry.answer ≡ Admitted start → AnswersAs asking new ask (Entered placed)
+    → placed.entry.answer ≡ Admitted start → AnswersAs asking ask (Entered placed) new
     → IsAdmittedFrom asking ask placed.place start new
-admitted_from {start} {placed} {asking} {new} is (PlayAdmitted play) =
-    let both : Admitted play.start ≡ Admitted start = sym play.answer ∙ is in
-    let same : play.start ≡ start = cc in
-    let new_is : new ≡ after_admission asking placed.place start =
-    play.new_is ∙ ap (after_admission asking placed.place) same in
-    record {
-      later = subst (λ n. asking.heard < n) same play.later;
-      new_is = new_is;
-      whole = λ whole small. subst IsMessage (sym (ap (λ (s : SessionState). s.text) new_is))
-          (whole.admission placed.place start small);
-    }
-admitted_from {start} is (PlayRefused play) =
-    let clash : Overflow play.slot play.booked play.asked ≡ Admitted start = sym play.answer ∙ is in
-    absurd (let no : ⊥ = cc in no)
-admitted_from {start} is (PlayHalted halt) =
-    let clash : Halted ≡ Admitted start = sym halt.answer ∙ is in absurd (let no : ⊥ = cc in no)
-admitted_from {start} is (LookMade look) =
-    let clash : Looked look.now look.at look.booked ≡ Admitted start = sym look.answer ∙ is in
-    absurd (let no : ⊥ = cc in no)
+admitted_from {start} {placed} {asking} is (PlayAdmitted {start = began} entry answered) =
+    let both : Admitted began ≡ Admitted start = sym entry.answer_is ∙ is in
+    let same : began ≡ start = cc in
+    rw same (record {
+      later = subst (λ n. asking.heard < n) same answered.0;
+      new_is = refl;
+      whole = λ whole small. whole.admission placed.place start small;
+    })
+admitted_from is (PlayOverflowed entry) = absurd (let no : ⊥ = cc in no)
+admitted_from is (PlayHalted entry) = absurd (let no : ⊥ = cc in no)
+admitted_from is (LookMade looked) = absurd (let no : ⊥ = cc in no)
 
 -- ---- TEARDOWN
 
@@ -163,9 +147,6 @@ name_short name good =
     (and_parts (nat_lt 0 (length name) && nat_le (length name) 64) (not (get_or name 0 0 == 46)) all.0).0).1 in
     grind (arith, nat_tests)
 
-number_short : (n : ℕ) → n < 2 ^ 64 → length (decimal n) ≤ 20
-number_short n small = length-decimal-le 20 n (omega arith) (omega (arith, small)) small
-
 url_short : (b : Beginning) → length (film_url b.wish) ≤ 102
 url_short b =
     let name = string_bytes b.wish.name in
@@ -174,7 +155,7 @@ url_short b =
       length-append (codes "rtsp://127.0.0.1:") (decimal b.wish.port ++ (codes "/" ++ name)),
       length-append (decimal b.wish.port) (codes "/" ++ name),
       name_short name b.wished.name,
-      number_short b.wish.port (omega (arith, b.port)),
+      short-decimal b.wish.port (omega (arith, b.port)),
     )
 
 room_for : {message : List ℕ} (text : List ℕ) → message ≡ text → length text ≤ 15872 → LeavesRoom message
@@ -185,8 +166,8 @@ setup_room b is = room_for (setup_text b.wish) is (omega (
   arith,
   put-long (codes "SETUP ") (setup_rest b.wish),
   url_short b,
-  number_short b.wish.buffer (omega (arith, b.wished.most_buffer)),
-  number_short b.wish.startup (omega (arith, b.wished.startup)),
+  short-decimal b.wish.buffer (omega (arith, b.wished.most_buffer)),
+  short-decimal b.wish.startup (omega (arith, b.wished.startup)),
 ))
 
 pub play_room : (b : Beginning) {message : List ℕ} → message ≡ play_text b.wish b.session → LeavesRoom message
@@ -208,24 +189,15 @@ teardown_room b is = room_for (teardown_text b.wish b.session) is (omega (
 -- ---- all replies to TEARDOWN
 
 -- the requests are TEARDOWN
+abbrev pub IsTeardownOf : Beginning → List ℕ → Type 0
+IsTeardownOf b message = message ≡ teardown_text b.wish b.session
+
 abbrev pub AreTeardowns : Beginning → List (List ℕ) → Type 0
-AreTeardowns b [] = ⊤
-AreTeardowns b (message ∷ messages) = (message ≡ teardown_text b.wish b.session) × AreTeardowns b messages
+AreTeardowns b = Each (IsTeardownOf b)
 
 -- the replies are complete messages
 abbrev pub AreWhole : List (List ℕ) → Type 0
-AreWhole [] = ⊤
-AreWhole (message ∷ messages) = IsMessage message × AreWhole messages
-
-abbrev pub AreMessages : List PlacedText → Type 0
-AreMessages [] = ⊤
-AreMessages (text ∷ texts) = IsMessage text.text × AreMessages texts
-
--- texts before others
-pub texts_whole : (texts : List PlacedText) (more : List (List ℕ)) → AreWhole (map text_of texts ++ more)
-    → AreMessages texts
-texts_whole [] more are = tt
-texts_whole (text ∷ texts) more are = (are.0, texts_whole texts more are.1)
+AreWhole = Each IsMessage
 
 -- the reply to a TEARDOWN is complete and 200, and the session keeps its names
 record IsTorn (b : Beginning) (new : SessionState) (reply : List ℕ) : Type 0 where

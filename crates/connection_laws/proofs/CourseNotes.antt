@@ -1,64 +1,46 @@
 -- The notes of a connection's report, event by event: each play that its entries admit has its note.
-use Rattle.std.proofs.Common.{◌≡◌, ℕ, ◌++◌, if◌then◌else◌, Bool, true, false, List, [], ◌∷◌, None, refl, sym, ap, subst}
+use Rattle.std.proofs.Common.{◌≡◌, ℕ, ◌++◌, Bool, false, List, [], ◌∷◌, None, refl, sym, ap}
 use Rattle.std.proofs.Common.{◌∙◌, Option, Some, map}
 use Rattle.std.proofs.lemmas.List.{append-nil, map-append, append_assoc}
 use Rattle.film_frames.specs.declared.stored_films.Stored.{Stored}
 use Rattle.film_streams.specs.declared.settings.Settings.{Settings}
 use Rattle.session.specs.declared.states.Awaited.{Awaited}
-use Rattle.session.specs.declared.states.Awaited.TheVariants.{Nothing, Play, Halt, Look}
+use Rattle.session.specs.declared.states.Awaited.TheVariants.{Nothing, Halt}
 use Rattle.session.specs.declared.states.AfterHalt.{AfterHalt}
 use Rattle.session.specs.declared.states.State.{State}
 use Rattle.session.specs.declared.states.State.TheVariants.{Init, Ready, Playing, Stopping}
-use Rattle.session.specs.SlotSteps.{due_state, is_between, kept_of, after_slot, stepped_in}
-use Rattle.session.specs.SessionStates.{SessionState, open_in, OpenBooking, open_of, AwaitedAnswer, awaited_answer}
+use Rattle.session.specs.SlotSteps.{kept_of, after_slot, stepped_in}
+use Rattle.session.specs.SessionStates.{SessionState, open_in, open_of, AwaitedAnswer, awaited_answer, AwaitedAnswer, HaltAnswer, NoAnswer}
 use Rattle.session.specs.SlotTransitions.{IsCarried, after_stop}
-use Rattle.conn.specs.InputSteps.{Outcome, Unasked, Entered, entry_in, IsHaltAnswered}
+use Rattle.conn.specs.InputSteps.{Outcome, Unasked, Entered, entry_in}
 use Rattle.conn.specs.declared.reports.ConnReport.{ConnReport}
 use Rattle.conn.specs.Agreement.{Activity, HasDone, doings_outcomes}
 use Rattle.connection_laws.specs.Notes.{StationCall, notes_of_calls, notes_of, station_call, kept_later, noted_for}
 use Rattle.connection_laws.specs.Notes.{noted_play, outcome_of, placed_play, placed_plays, PlacedPlay}
-use Rattle.connection_laws.proofs.PlayNotes.{HaveSameNotes, note_part, Carries, IsKept, carries_to, carries_none}
-use Rattle.connection_laws.proofs.PlayNotes.{halt_turn, halted_open, heard_on, no_note, notes_until, open_note}
-use Rattle.connection_laws.proofs.PlayNotes.{unasked_turn, begun_note, until_append, no_play}
-use Rattle.connection_laws.proofs.StationAnswers.{ClosesAs, NothingOpen, BookingHalted, closes_as, halted_by, halt_of}
-use Rattle.connection_laws.proofs.CourseTurns.{IsKeptByDoings, doings_kept, last_rest, all_calls, turns_told}
-use Rattle.connection_laws.proofs.KeptParts.{slot_keeps}
-use Rattle.std.specs.Prelude.{⊤}
+use Rattle.connection_laws.proofs.PlayNotes.{HaveSameNotes, note_part, Carries, IsKept, answered_on, asks_play, carries_none}
+use Rattle.connection_laws.proofs.PlayNotes.{halt_turn, halted_open, no_note, notes_until, open_note, same_notes}
+use Rattle.connection_laws.proofs.PlayNotes.{unasked_turn, until_append}
+use Rattle.connection_laws.proofs.StationAnswers.{closing, closes_as, halt_of}
+use Rattle.connection_laws.proofs.CourseTurns.{IsKeptByDoings, doings_kept, all_calls, turns_told}
+use Rattle.connection_laws.proofs.KeptParts.{slot_keeps, state_keeps}
 use Rattle.film_run.specs.declared.runs.Run.{Run}
 use Rattle.slot_calendar.specs.Plays.{Play as Booked, truncated_play}
 use Rattle.admission.specs.Histories.{play_admitted}
 use Rattle.admission.specs.Makers.{PlacedEntry}
-use Rattle.station.specs.Ledgers.{play_of}
-use Rattle.session.specs.declared.states.Prepared.{Prepared}
 use Rattle.film_streams.specs.declared.setups.Setup.{Setup}
 use Rattle.conn.specs.EventSteps.{entries_in}
 use Rattle.connection_laws.specs.Plays.{booked_by, kept_among, kept_with}
-use Rattle.connection_laws.proofs.RequestEffects.{RequestAnswer, Admission, Refusal, HaltMade, LookAnswer, JournalFull}
-use Rattle.connection_laws.proofs.RequestEffects.{OfferAnswer, PlayRequest, request_answer}
+use Rattle.connection_laws.proofs.RequestEffects.{RequestAnswer, Admission, Refusal, HaltMade, LookAnswer, at_play}
+use Rattle.connection_laws.proofs.RequestEffects.{PlayRequest, request_answer}
 use Rattle.connection_laws.proofs.BookedPlays.{kept_more}
 use Rattle.conn.proofs.StationAnswers.{FinishesAs, NothingLeft, DoneHalted}
-use Rattle.session.specs.RequestSteps.{after_halt}
-
-abbrev CarriesOf : SessionState → List StationCall → SessionState → Type 0
-CarriesOf old turns new = Carries (note_part old) turns (note_part new)
+use Rattle.connection_laws.proofs.Lists.{Each, each_append}
 
 -- ---- slots
 stepped_open : (stop : Bool) (slot : ℕ) (state : State) (later : List StationCall)
     → open_note (stepped_in stop slot state) later ≡ open_note state later
 stepped_open stop slot Init later = refl
 stepped_open stop slot _ later = refl
-
-between_open : (between : Bool) (slot : ℕ) (state : State) (later : List StationCall)
-    → open_note (if between then stepped_in false slot (stepped_in true slot state) else stepped_in true slot
-    state) later ≡ open_note state later
-between_open true slot state later =
-    stepped_open false slot (stepped_in true slot state) later ∙ stepped_open true slot state later
-between_open false slot state later = stepped_open true slot state later
-
-due_open : (waits : Bool) (slot : ℕ) (state : State) (later : List StationCall)
-    → open_note (due_state waits state slot) later ≡ open_note state later
-due_open true slot state later = between_open (is_between (stepped_in true slot state)) slot state later
-due_open false slot state later = stepped_open false slot state later
 
 settled_open : (state : State) (later : List StationCall) → open_note (after_stop state) later ≡ open_note state later
 settled_open Init later = refl
@@ -72,28 +54,49 @@ slotted_same old slot = record {
     done = λ s. refl;
     idle = λ s n. refl;
   }) old slot;
-  under_way = λ later. slot_keeps {part = λ (s : SessionState). open_note s.state later} (record {
-    reply = λ s. settled_open s.state later;
-    due = λ s n. due_open s.waits n s.state later;
-    done = λ s. refl;
-    idle = λ s n. refl;
-  }) old slot;
+  under_way = λ later. state_keeps (λ state. open_note state later) (λ stop n state. stepped_open stop n state later)
+      (λ state. settled_open state later) old slot;
 }
+
+-- what is halted as a slot or a connection ends is kept as it was asked for, and is no play that was asked for
+abbrev HaltsKept : SessionState → AwaitedAnswer → Type 0
+HaltsKept s asks = (keep : ℕ) → asks ≡ HaltAnswer keep
+    → IsKept s.state s.awaited keep × (asks_play s.awaited ≡ false)
 
 kept_halt : (state : State) (awaited : Awaited) (keep : ℕ) (next : AfterHalt) → awaited ≡ Halt keep next
     → IsKept state awaited keep
 kept_halt (Playing setup play) awaited keep next is = ap (λ a. kept_of a play.pacer.due) is
 kept_halt _ awaited keep next is = tt
 
-finished_turn : {s new : SessionState} {asks : AwaitedAnswer} {halt : Outcome} → FinishesAs s asks halt new
-    → awaited_answer s ≡ asks → CarriesOf s (station_call s halt ∷ []) new
-finished_turn {s} NothingLeft asks = unasked_turn (note_part s) s
-finished_turn {s} (DoneHalted {keep = keep} {placed = placed} entry) asks =
+slot_halts : (s : SessionState) → HaltsKept s (awaited_answer s)
+slot_halts s = λ keep asks.
     let halts = halt_of s.awaited asks in
-    halt_turn {s = s}
-    (record { keep = keep; placed = placed; new = after_halt s placed.place; halted = halted_by entry }) s
-    (kept_halt s.state s.awaited keep halts.0 halts.1)
-    (λ later. no_note s.state s.awaited placed later (no_play halts.1))
+    (kept_halt s.state s.awaited keep halts.0 halts.1, ap asks_play halts.1)
+
+kept_open : (state : State) (awaited : Awaited) (keep : ℕ) → closing (open_in state) ≡ HaltAnswer keep
+    → awaited ≡ Nothing → IsKept state awaited keep
+kept_open (Playing setup play) awaited keep opens rest =
+    let same : play.pacer.due ≡ keep = cc in ap (λ a. kept_of a play.pacer.due) rest ∙ same
+kept_open _ awaited keep opens rest = tt
+
+end_halts : (s : SessionState) → s.awaited ≡ Nothing → HaltsKept s (closing (open_of s))
+end_halts s rest = λ keep opens. (kept_open s.state s.awaited keep opens rest, ap asks_play rest)
+
+finished_turn : {s new : SessionState} {asks : AwaitedAnswer} {halt : Outcome} → FinishesAs s asks halt new
+    → HaltsKept s asks → Carries (note_part s) (station_call s halt ∷ []) (note_part new)
+finished_turn {s} NothingLeft kept = unasked_turn (note_part s) s
+finished_turn {s} (DoneHalted {keep = keep} entry) kept =
+    halt_turn s entry (kept keep refl).0 (kept keep refl).1
+
+-- no play is under way once a connection has ended
+none_open : (state : State) (later : List StationCall) → closing (open_in state) ≡ NoAnswer → open_note state later ≡ []
+none_open (Playing setup play) later none = absurd (let no : ⊥ = cc in no)
+none_open _ later none = refl
+
+closed_none : {s new : SessionState} {asks : AwaitedAnswer} {halt : Outcome} (later : List StationCall)
+    → FinishesAs s asks halt new → closing (open_of s) ≡ asks → open_note new.state later ≡ []
+closed_none {s} later NothingLeft opens = none_open s.state later opens
+closed_none {s} later (DoneHalted entry) opens = halted_open s.state s.awaited later
 
 -- a play that a failed send leaves as it was
 carried_open : (old new : State) → IsCarried old new → (later : List StationCall) → open_note new later ≡ open_note old
@@ -105,40 +108,10 @@ carried_open (Playing setup play) (Playing s p) carried later =
 carried_open (Stopping setup stop) (Stopping s p) carried later = refl
 carried_open _ _ carried later = absurd carried
 
--- ---- the halt of a booking that is open at the end
-record IsShut (last closed : SessionState) (halt : Outcome) : Type 0 where
-  on : CarriesOf last (station_call last halt ∷ []) closed
-  none : (later : List StationCall) → open_note closed.state later ≡ []
-
-none_open : (state : State) (later : List StationCall) → open_in state ≡ None → open_note state later ≡ []
-none_open (Playing setup play) later none = absurd (let no : ⊥ = cc in no)
-none_open _ later none = refl
-
-kept_open : {booking : OpenBooking} (state : State) (awaited : Awaited) → open_in state ≡ Some booking
-    → awaited ≡ Nothing → IsKept state awaited booking.due
-kept_open {booking} (Playing setup play) awaited opens rest =
-    let same : record { plan = play.plan; start = play.start; due = play.pacer.due } ≡ booking = cc in
-    ap (λ a. kept_of a play.pacer.due) rest ∙ ap (λ (b : OpenBooking). b.due) same
-kept_open _ awaited opens rest = tt
-
-shut : {last closed : SessionState} {held : Option OpenBooking} {halt : Outcome} → ClosesAs last closed held halt
-    → open_of last ≡ held → last.awaited ≡ Nothing → IsShut last closed halt
-shut {last} (NothingOpen is) opens rest =
-    let C : SessionState → Type 0 = λ s. IsShut last s Unasked in
-    subst C (sym is) (record {
-      on = unasked_turn (note_part last) last;
-      none = λ later. none_open last.state later opens;
-    })
-shut {last} {closed} (BookingHalted {booking = booking} {placed = placed} halted) opens rest = record {
-  on = halt_turn {s = last} (record { keep = booking.due; placed = placed; new = closed; halted = halted }) last
-      (kept_open last.state last.awaited opens rest)
-      (λ later. no_note last.state last.awaited placed later
-      (λ prepared asks. let no : Nothing ≡ Play prepared = sym rest ∙ asks in cc no));
-  none = λ later. ap (λ (s : SessionState). open_note s.state later) halted.halts
-      ∙ halted_open last.state last.awaited later;
-}
-
 -- ---- all notes
+abbrev CarriesOf : SessionState → List StationCall → SessionState → Type 0
+CarriesOf old turns new = Carries (note_part old) turns (note_part new)
+
 carries_kept : IsKeptByDoings CarriesOf
 carries_kept = record {
   none = λ s. carries_none (note_part s);
@@ -150,18 +123,17 @@ carries_kept = record {
         ∙ sym (append_assoc front (notes_until xs (ys ++ later)) (notes_until ys later))
         ∙ ap (λ ns. ns ++ notes_until ys later) (one.on (ys ++ later)) ∙ two.on later;
   };
-  request = λ old new message outcome heard. heard_on old new message outcome heard;
-  reply = λ s. carries_to (record { plays = refl; under_way = λ later. settled_open s.state later })
-      (carries_none (note_part s));
-  slot = λ s n. carries_to (slotted_same s n) (carries_none (note_part s));
-  finish = λ awaited halt s new finishing asks. finished_turn finishing asks;
+  request = λ old new message outcome heard. answered_on (request_answer heard);
+  reply = λ s. same_notes (record { plays = refl; under_way = λ later. settled_open s.state later });
+  slot = λ s n. same_notes (slotted_same s n);
+  finish = λ halt s new finishing. finished_turn finishing (slot_halts s);
   bytes = λ s. unasked_turn (note_part s) s;
-  failed = λ old new slot front failed. carries_to (record {
+  failed = λ old new slot front failed. same_notes (record {
     plays = failed.plays;
     under_way = carried_open old.session.state new.session.state failed.carried;
-  }) (carries_none (note_part old.session));
+  });
   lost = λ s. carries_none (note_part s);
-  close = λ held halt last closed closing opens rest. (shut closing opens rest).on;
+  close = λ halt last closed closes rest. finished_turn closes (end_halts last rest);
 }
 
 until_none : (turns : List StationCall) → notes_until turns [] ≡ notes_of turns
@@ -174,9 +146,9 @@ pub plays_noted : {films : List Stored} {settings : Settings} {words : List ℕ}
     (done : HasDone films settings words doings report) → report.plays.items ≡ notes_of (all_calls done)
 plays_noted {doings = doings} done =
     let all = doings_kept done carries_kept in
-    let closed = shut (closes_as (open_of done.last.session) doings.halt done.closes) refl (last_rest done) in
+    let closed = closed_none [] (closes_as (open_of done.last.session) doings.halt done.closes) refl in
     done.report_is.plays ∙ sym (append-nil done.closed.plays)
-    ∙ ap (λ ns. done.closed.plays ++ ns) (sym (closed.none [])) ∙ sym (all.on []) ∙ until_none (all_calls done)
+    ∙ ap (λ ns. done.closed.plays ++ ns) (sym closed) ∙ sym (all.on []) ∙ until_none (all_calls done)
 
 -- the play that an answer's entry records
 abbrev placed_by : Outcome → List PlacedEntry → List PlacedPlay
@@ -199,13 +171,8 @@ abbrev IsNoted : SessionState → Outcome → Type 0
 IsNoted asking outcome = (later : Sequel)
     → map noted_play (notes_of_calls asking outcome later.turns) ≡ placed_by outcome later.made
 
-abbrev AreNoted : List StationCall → Type 0
-AreNoted [] = ⊤
-AreNoted (turn ∷ turns) = IsNoted turn.asking turn.outcome × AreNoted turns
-
-noted_append : (xs ys : List StationCall) → AreNoted xs → AreNoted ys → AreNoted (xs ++ ys)
-noted_append [] ys one two = two
-noted_append (x ∷ xs) ys one two = (one.0, noted_append xs ys one.1 two)
+abbrev IsNotedCall : StationCall → Type 0
+IsNotedCall turn = IsNoted turn.asking turn.outcome
 
 -- ---- turns and entries
 abbrev made_by_turns : List StationCall → List PlacedEntry
@@ -221,7 +188,7 @@ placed_more : (outcome : Outcome) (made : List PlacedEntry)
 placed_more Unasked made = refl
 placed_more _ made = refl
 
-turns_noted : (turns : List StationCall) → AreNoted turns
+turns_noted : (turns : List StationCall) → Each IsNotedCall turns
     → map noted_play (notes_of turns) ≡ placed_plays (made_by_turns turns)
 turns_noted [] are = refl
 turns_noted (turn ∷ turns) are =
@@ -232,32 +199,13 @@ turns_noted (turn ∷ turns) are =
     ∙ placed_more turn.outcome (made_by_turns turns)
 
 -- ---- one turn
-unasked_noted : (asking : SessionState) → IsNoted asking Unasked
-unasked_noted asking later = refl
 
 -- an entry that a session makes without asking for a play, and that admits none
-other_noted : (asking : SessionState) (placed : PlacedEntry) → ((prepared : Prepared) → asking.awaited ≡ Play prepared →
-    ⊥) → play_admitted placed.entry.command placed.entry.answer ≡ None → IsNoted asking (Entered placed)
+other_noted : (asking : SessionState) (placed : PlacedEntry) → asks_play asking.awaited ≡ false
+    → play_admitted placed.entry.command placed.entry.answer ≡ None → IsNoted asking (Entered placed)
 other_noted asking placed other none later =
     ap (map noted_play) (no_note asking.state asking.awaited placed later.turns other)
     ∙ sym (ap (λ p. map (placed_play placed.place) (booked_by p later.made)) none)
-
-halt_noted : {keep : ℕ} {placed : PlacedEntry} {new : SessionState} (asking : SessionState)
-    → ((prepared : Prepared) → asking.awaited ≡ Play prepared → ⊥) → IsHaltAnswered asking keep placed new
-    → IsNoted asking (Entered placed)
-halt_noted {placed = placed} asking other halted =
-    other_noted asking placed other (ap (λ c. play_admitted c placed.entry.answer) halted.command)
-
-not_halt : {awaited : Awaited} {keep : ℕ} {next : AfterHalt} → awaited ≡ Halt keep next
-    → (prepared : Prepared) → awaited ≡ Play prepared → ⊥
-not_halt {keep} {next} halts prepared asks = let no : Halt keep next ≡ Play prepared = sym halts ∙ asks in cc no
-
-not_look : {awaited : Awaited} {sequence : ℕ} → awaited ≡ Look sequence
-    → (prepared : Prepared) → awaited ≡ Play prepared → ⊥
-not_look {sequence} looks prepared asks = let no : Look sequence ≡ Play prepared = sym looks ∙ asks in cc no
-
-not_nothing : {awaited : Awaited} → awaited ≡ Nothing → (prepared : Prepared) → awaited ≡ Play prepared → ⊥
-not_nothing rest prepared asks = let no : Nothing ≡ Play prepared = sym rest ∙ asks in cc no
 
 -- the note of a play is what its entry records, and what is kept by what comes later
 note_is : (setup : Setup) (run : Run) (place : ℕ) (admitted : Option Booked) (later : Sequel)
@@ -267,57 +215,44 @@ note_is setup run place None later = refl
 note_is setup run place (Some booked) later =
     ap (λ k. placed_play place (truncated_play booked.start booked.segments k) ∷ []) (later.keeps booked.keep)
 
-play_noted : {old asking : SessionState} (play : PlayRequest old asking) (placed : PlacedEntry)
-    → placed.entry.command ≡ play_of asking.heard play.prepared.plan → IsNoted asking (Entered placed)
-play_noted {asking = asking} play placed command = λ later.
-    ap (map noted_play) (begun_note play placed later.turns command) ∙ note_is play.setup play.prepared.run placed.place
-    (play_admitted (play_of asking.heard play.prepared.plan) placed.entry.answer) later
-    ∙ sym (ap (λ c. map (placed_play placed.place) (booked_by (play_admitted c placed.entry.answer) later.made))
-    command)
+play_noted : (play : PlayRequest) (placed : PlacedEntry) → IsNoted (at_play play) (Entered placed)
+play_noted play placed later =
+    note_is play.setup play.prepared.run placed.place (play_admitted placed.entry.command placed.entry.answer) later
 
 -- by what was asked and answered
-answered_noted : {old asking new : SessionState} {outcome : Outcome} → RequestAnswer old asking new outcome
+answered_noted : {old asking new : SessionState} {outcome : Outcome} → RequestAnswer old asking outcome new
     → IsNoted asking outcome
-answered_noted (Admission {placed = placed} play is) = play_noted play placed is.command
-answered_noted (Refusal {placed = placed} play is) = play_noted play placed is.command
-answered_noted {asking = asking} (HaltMade halt is) =
-    halt_noted asking (not_halt (ap (λ (s : SessionState). s.awaited) halt.asking_is)) is
-answered_noted {asking = asking} (LookAnswer {placed = placed} look is) =
-    other_noted asking placed (not_look (ap (λ (s : SessionState). s.awaited) look.waiting.asking_is))
-    (ap (λ c. play_admitted c placed.entry.answer) is.command)
-answered_noted (JournalFull awaited waiting is) = λ later. refl
-answered_noted (OfferAnswer sequence waiting is) = λ later. refl
-answered_noted {asking} _ = unasked_noted asking
+answered_noted (Admission {placed = placed} play entry answered) = play_noted play placed
+answered_noted (Refusal {placed = placed} play entry) = play_noted play placed
+answered_noted {asking = asking} (HaltMade {placed = placed} halt entry) =
+    other_noted asking placed refl (ap (λ c. play_admitted c placed.entry.answer) entry.command)
+answered_noted {asking = asking} (LookAnswer {placed = placed} command looked) =
+    other_noted asking placed refl (ap (λ c. play_admitted c placed.entry.answer) command)
+answered_noted _ = λ later. refl
 
--- the halt of a play that is done
-finished_noted : {asking new : SessionState} {asks : AwaitedAnswer} {halt : Outcome} → FinishesAs asking asks halt new
-    → awaited_answer asking ≡ asks → IsNoted asking halt
-finished_noted {asking} NothingLeft asks = unasked_noted asking
-finished_noted {asking} (DoneHalted entry) asks =
-    halt_noted asking (not_halt (halt_of asking.awaited asks).1) (halted_by entry)
-
--- the halt of a booking that is open at the end
-shut_noted : {last closed : SessionState} {held : Option OpenBooking} {halt : Outcome} → ClosesAs last closed held halt
-    → last.awaited ≡ Nothing → IsNoted last halt
-shut_noted {last} (NothingOpen is) rest = unasked_noted last
-shut_noted {last} (BookingHalted halt) rest = halt_noted last (not_nothing rest) halt
+-- the halt of a play that is done, or of a booking that is open at the end
+finished_noted : {s new : SessionState} {asks : AwaitedAnswer} {halt : Outcome} → FinishesAs s asks halt new
+    → HaltsKept s asks → IsNoted s halt
+finished_noted NothingLeft kept = λ later. refl
+finished_noted {s} (DoneHalted {keep = keep} {placed = placed} entry) kept =
+    other_noted s placed (kept keep refl).1 (ap (λ c. play_admitted c placed.entry.answer) entry.command)
 
 -- ---- all notes
 abbrev NotedCalls : SessionState → List StationCall → SessionState → Type 0
-NotedCalls old turns new = AreNoted turns
+NotedCalls old turns new = Each IsNotedCall turns
 
 noted_kept : IsKeptByDoings NotedCalls
 noted_kept = record {
   none = λ s. tt;
-  joins = λ a b c xs ys one two. noted_append xs ys one two;
+  joins = λ a b c xs ys one two. each_append IsNotedCall xs ys one two;
   request = λ old new message outcome heard. (answered_noted (request_answer heard), tt);
   reply = λ s. tt;
   slot = λ s n. tt;
-  finish = λ awaited halt s new finishing asks. (finished_noted finishing asks, tt);
-  bytes = λ s. (unasked_noted s, tt);
+  finish = λ halt s new finishing. (finished_noted finishing (slot_halts s), tt);
+  bytes = λ s. (λ later. refl, tt);
   failed = λ old new slot front failed. tt;
   lost = λ s. tt;
-  close = λ held halt last closed closing opens rest. (shut_noted closing rest, tt);
+  close = λ halt last closed closes rest. (finished_noted closes (end_halts last rest), tt);
 }
 
 pub entries_noted : {films : List Stored} {settings : Settings} {words : List ℕ} {doings : Activity}

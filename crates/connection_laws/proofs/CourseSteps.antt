@@ -13,7 +13,7 @@ use Rattle.session.specs.declared.states.AfterHalt.TheVariants.{Done}
 use Rattle.session.specs.declared.states.Play.{Play as Played}
 use Rattle.film_streams.specs.declared.setups.Setup.{Setup}
 use Rattle.session.specs.declared.states.State.{State}
-use Rattle.session.specs.declared.states.State.TheVariants.{Playing, Stopping, Init, Ready}
+use Rattle.session.specs.declared.states.State.TheVariants.{Playing, Stopping}
 use Rattle.session.specs.SlotSteps.{can_reply, after_play, halted_in, is_between, is_sending, sent_due, sent_reply}
 use Rattle.session.specs.SlotSteps.{sent_slot, stepped_in, next_of, finished_in, after_slot}
 use Rattle.session.specs.SessionStates.{SessionState, AwaitedAnswer, NoAnswer, HaltAnswer, awaited_answer}
@@ -27,7 +27,7 @@ use Rattle.connection_laws.specs.Courses.{course_film}
 use Rattle.connection_laws.specs.Plays.{StationRequest, Asks, plays_admitted, plays_begun, kept_by, kept_in, kept_with}
 use Rattle.connection_laws.specs.Plays.{plays_of, AreOver, FilmPlay}
 use Rattle.connection_laws.proofs.RequestEffects.{Ends, Going, Idle, IsAfter, Starts, Stays, TurnsAs, sends_in}
-use Rattle.connection_laws.proofs.RequestEffects.{turns_as, Sends, Ending}
+use Rattle.connection_laws.proofs.RequestEffects.{turns_as, Sends, Ending, no_entry}
 use Rattle.connection_laws.proofs.StationAnswers.{SlotTo, SlotSent, SlotIdle, SlotPast, slot_to}
 use Rattle.connection_laws.proofs.CourseInduction.{IsKeptByCourse, Piece, course_kept, course_piece, event_piece}
 use Rattle.connection_laws.proofs.CourseInduction.{joined, no_piece, request_piece, course_heard, AnsweredRequest}
@@ -37,7 +37,6 @@ use Rattle.connection_laws.specs.ReplyPlaces.{AreSentAt, slots_from}
 use Rattle.connection_laws.specs.Replies.{course_texts}
 use Rattle.connection_laws.proofs.Slots.{sound_waits, turn_sound, state_after, waits_after}
 use Rattle.connection_laws.proofs.ReplyBoundaries.{Replying, replying, turn_goes, turn_piece, slot_moves, still_fits}
-use Rattle.connection_laws.proofs.ReplyBoundaries.{unasked}
 use Rattle.connection_laws.proofs.WaitingReplies.{GoesTo, IsHeld, Point, Stand, goes_same, goes_then, point, over_at}
 use Rattle.connection_laws.proofs.WaitingReplies.{due_here}
 use Rattle.connection_laws.proofs.JoinedFilms.{IsSound, IsOnTime, play_with, film_is, film_now, film_over_all}
@@ -206,11 +205,7 @@ slot_asks {old} {slot = slot} (SlotSent sending later) rest =
     let goes : Bool = old.waits && is_between (stepped_in true slot old.state) in
     asks_in (sent_slot old slot).state refl
     (ap (finished_in (sent_slot old slot).state) (reply_awaited goes (sent_due old slot) ∙ rest))
-slot_asks (SlotIdle none later) rest = rest_asks rest
-  where
-    rest_asks : {s : SessionState} → s.awaited ≡ Nothing → AsksDone s
-    rest_asks is = inl is
-slot_asks SlotPast rest = inl rest
+slot_asks _ rest = inl rest
 
 halted_idle : {s : SessionState} (done : DonePlay s) → sends_in (halted_in s.state s.awaited) ≡ Idle
 halted_idle {s} done =
@@ -235,13 +230,12 @@ pub finish_by : {s new : SessionState} {asks : AwaitedAnswer} {halt : Outcome} �
 finish_by (inl rest) is NothingLeft = Quiet rest
 finish_by (inl rest) is (DoneHalted {keep = keep} entry) =
     let no : NoAnswer ≡ HaltAnswer keep = sym (ap awaited_answer_of rest) ∙ is in absurd (let clash : ⊥ = cc in clash)
-finish_by (inr done) is NothingLeft =
-    let no : HaltAnswer done.keep ≡ NoAnswer = sym (ap awaited_answer_of done.asks) ∙ is in
-    absurd (let clash : ⊥ = cc in clash)
-finish_by (inr done) is (DoneHalted {keep = keep} {placed = placed} entry) =
-    let same : HaltAnswer done.keep ≡ HaltAnswer keep = sym (ap awaited_answer_of done.asks) ∙ is in
-    let size : keep ≡ done.keep = cc in
-    Ended done (subst (λ k. IsHaltEntry k placed) size entry)
+finish_by {s} {new} {halt = halt} (inr done) is finishes =
+    by-halt (subst (λ a. FinishesAs s a halt new) (sym is ∙ ap awaited_answer_of done.asks) finishes)
+  where
+    by-halt : {outcome : Outcome} {t : SessionState} → FinishesAs s (HaltAnswer done.keep) outcome t
+        → Finished s outcome t
+    by-halt (DoneHalted entry) = Ended done entry
 
 -- the halt keeps all that was sent
 done_move : {s : SessionState} {placed : PlacedEntry} (paced : IsPaced s) (done : DonePlay s)
@@ -288,7 +282,7 @@ quiet_move paced asked same =
       after = paced;
       goes_on = record {
         later = omega arith;
-        rest = λ askings come on fits. still_fits (unasked asked) fits;
+        rest = λ askings come on fits. still_fits (no_entry Unasked refl) fits;
       };
     })
 
@@ -306,11 +300,10 @@ finish_rest (Ended done entry) = refl
 -- nothing is being sent
 idle_none : (state : State) (pending : Option ℕ) (waits : Bool) (heard : ℕ) → is_sending state ≡ false
     → IsHeld pending (sends_in state) waits heard → (pending ≡ None) × (sends_in state ≡ Idle)
-idle_none Init (Some slot) waits heard none held = absurd held
-idle_none (Ready setup paused) (Some slot) waits heard none held = absurd held
 idle_none (Playing setup play) pending waits heard none held = absurd (true≢false none)
 idle_none (Stopping setup stop) pending waits heard none held = absurd (true≢false none)
 idle_none _ None waits heard none held = (refl, refl)
+idle_none _ (Some slot) waits heard none held = absurd held
 
 idle_later : (from to : ℕ) → from ≤ to → GoesTo (point Idle from None) (point Idle to None) no_piece
 idle_later from to less = record {

@@ -7,7 +7,7 @@ use Rattle.film_streams.specs.declared.settings.Settings.{Settings}
 use Rattle.session.specs.declared.states.Awaited.TheVariants.{Nothing}
 use Rattle.session.specs.SlotSteps.{can_reply, sent_reply, after_slot, after_play, is_between, is_sending, is_taken}
 use Rattle.session.specs.SlotSteps.{missed_between, sent_due, sent_slot, start_in, stepped_in}
-use Rattle.session.specs.SessionStates.{SessionState, OpenBooking, open_of, AwaitedAnswer, awaited_answer}
+use Rattle.session.specs.SessionStates.{SessionState, OpenBooking, open_of, awaited_answer}
 use Rattle.conn.specs.EventSteps.{Ending, Overfull, AtElement, InSlot, InReply, Ends, Round, Runs, RunsAll}
 use Rattle.conn.specs.EventSteps.{ending_outcomes, round_outcomes, rounds_outcomes, takings_outcomes, HasFailedInSlot}
 use Rattle.conn.specs.InputSteps.{Outcome, Unasked, Stage, ElementStep, Passed, Answered, TakesAll, after_reply}
@@ -24,11 +24,11 @@ use Rattle.connection_laws.proofs.RequestEffects.{turns_as}
 use Rattle.connection_laws.proofs.CourseInduction.{follows_all}
 use Rattle.session.proofs.StepInvariantLemmas.{nothing_of}
 use Rattle.conn.proofs.ReplyContents.{CourseEnd}
-use Rattle.connection_laws.proofs.StationAnswers.{ClosesAs, closes_as}
+use Rattle.connection_laws.proofs.StationAnswers.{closing, closes_as}
 use Rattle.std.proofs.lemmas.Bool.{and_from}
 use Rattle.session_laws.specs.PlayLaws.{slots_missed}
 use Rattle.session_laws.proofs.SlotCountLemmas.{missed_is}
-use Rattle.connection_laws.proofs.KeptParts.{LastingPart, close_keeps, finish_keeps, reply_keeps, request_keeps}
+use Rattle.connection_laws.proofs.KeptParts.{LastingPart, finish_keeps, reply_keeps, request_keeps}
 use Rattle.connection_laws.proofs.KeptParts.{takes_keep}
 use Rattle.conn.proofs.StationAnswers.{FinishesAs, ComesAs, BytesCame, SlotCame, comes_as}
 
@@ -41,15 +41,14 @@ pub record IsKeptByDoings (R : SessionState → List StationCall → SessionStat
       (heard : HasHeard old message outcome new) → R old (station_call heard.asking outcome ∷ []) new
   pub reply : (s : SessionState) → R s [] (sent_reply s)
   pub slot : (s : SessionState) (slot : ℕ) → R s [] (after_slot s slot)
-  pub finish : (asks : AwaitedAnswer) (halt : Outcome) (s new : SessionState) → FinishesAs s asks halt new
-      → awaited_answer s ≡ asks → R s (station_call s halt ∷ []) new
+  pub finish : (halt : Outcome) (s new : SessionState) → FinishesAs s (awaited_answer s) halt new
+      → R s (station_call s halt ∷ []) new
   pub bytes : (s : SessionState) → R s (station_call s Unasked ∷ []) s
   pub failed : (old new : Stage) (slot : ℕ) (front : List ℕ) → HasFailedInSlot old slot front new
       → R old.session [] new.session
   pub lost : (s : SessionState) → R s [] (record s { lost = true })
-  pub close : (held : Option OpenBooking) (halt : Outcome) (last closed : SessionState)
-      → ClosesAs last closed held halt → open_of last ≡ held → last.awaited ≡ Nothing
-      → R last (station_call last halt ∷ []) closed
+  pub close : (halt : Outcome) (last closed : SessionState) → FinishesAs last (closing (open_of last)) halt closed
+      → last.awaited ≡ Nothing → R last (station_call last halt ∷ []) closed
 
 module _ {R : SessionState → List StationCall → SessionState → Type 0} (kept : IsKeptByDoings R) where
   sent_if : (goes : Bool) (s : SessionState) → R s [] (if goes then sent_reply s else s)
@@ -62,7 +61,7 @@ module _ {R : SessionState → List StationCall → SessionState → Type 0} (ke
   came {old} (SlotCame {slot = slot} {halt = halt} {new = new} finish) =
       let s : SessionState = after_slot old.session slot in
       kept.joins old.session s new [] (station_call s halt ∷ []) (kept.slot old.session slot)
-      (kept.finish (awaited_answer s) halt s new finish refl)
+      (kept.finish halt s new finish)
 
   still : (old new : Stage) → new ≡ old → R old.session [] new.session
   still old new is = subst (λ (s : Stage). R old.session [] s.session) (sym is) (kept.none old.session)
@@ -198,8 +197,7 @@ module _ {films : List Stored} {settings : Settings} {words : List ℕ} {doings 
       (kept.joins first.session done.mid.session last heard_calls ended_calls
       (rounds_kept kept first done.mid doings.rounds done.runs)
       (ending_kept kept done.mid doings.ending course_end))
-      (kept.close (open_of last) doings.halt last done.closed (closes_as (open_of last) doings.halt done.closes) refl
-      last_rest)
+      (kept.close doings.halt last done.closed (closes_as (open_of last) doings.halt done.closes) last_rest)
 
   pub turns_told : map outcome_of all_calls ≡ doings_outcomes doings
   turns_told =
@@ -271,7 +269,7 @@ ending_late old new count _ end ends = ap (λ (s : Stage). s.session.late) ends.
 closed_late : (held : Option OpenBooking) (last closed : SessionState) (halt : Outcome) → IsClosed held last halt closed
     → closed.late ≡ last.late
 closed_late held last closed halt closes =
-    ap (λ (part : LastingPart). part.late) (close_keeps (closes_as held halt closes))
+    ap (λ (part : LastingPart). part.late) (finish_keeps (closes_as held halt closes))
 
 pub late_is : {films : List Stored} {settings : Settings} {words : List ℕ} {doings : Activity} {report : ConnReport}
     (done : HasDone films settings words doings report) → report.late

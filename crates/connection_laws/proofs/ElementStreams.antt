@@ -8,6 +8,7 @@ use Rattle.film_frames.specs.FramedRuns.{count_ended}
 use Rattle.film_frames.specs.Tracks.{framed_bytes}
 use Rattle.interleave.specs.Streams.{AreInputElements, IsElementLength, IsStream, LineEnd, WholeBlock, WholeMessage}
 use Rattle.interleave.proofs.StreamElements.{TwoCuts, cut_more, cuts_agree, element_once, element_stays, element_within}
+use Rattle.connection_laws.proofs.Lists.{Each}
 
 -- an element by itself, whatever comes after it
 pub record IsAlone (element : List ℕ) : Type 0 where
@@ -15,12 +16,7 @@ pub record IsAlone (element : List ℕ) : Type 0 where
   pub whole : IsElementLength element (length element)
 
 abbrev pub AreAlone : List (List ℕ) → Type 0
-AreAlone [] = Unit {0}
-AreAlone (element ∷ elements) = IsAlone element × AreAlone elements
-
-pub alone_append : (xs ys : List (List ℕ)) → AreAlone xs → AreAlone ys → AreAlone (xs ++ ys)
-alone_append [] ys one two = two
-alone_append (x ∷ xs) ys one two = (one.0, alone_append xs ys one.1 two)
+AreAlone = Each IsAlone
 
 -- the prefix of an element at which a stream is split
 abbrev pub rest_at : ℕ → List (List ℕ) → List ℕ

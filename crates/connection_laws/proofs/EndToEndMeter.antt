@@ -39,14 +39,15 @@ use Rattle.connection_laws.specs.LinkDelivery.{IsWrittenBy, latest_slot, sent_by
 use Rattle.connection_laws.specs.WholePlays.{AreAfter, HasPlayedWhole, IsWholePlay, film_blocks, playback_of, whole_run}
 use Rattle.connection_laws.proofs.Curves.{curves_same}
 use Rattle.connection_laws.proofs.FilmReading.{blocks_sum, film_sizes, run_blocks, WholeStream}
-use Rattle.connection_laws.proofs.MeterInput.{AreTexts, Stream, all_of, text_is}
+use Rattle.connection_laws.proofs.MeterInput.{AreTexts, Stream, all_of, text_is, IsText}
 use Rattle.connection_laws.proofs.MeterBounds.{IsFed}
 use Rattle.connection_laws.proofs.BookedPlays.{askings_parts, course_late, late_play, one_so_far}
-use Rattle.connection_laws.proofs.ElementStreams.{AreAlone, alone_append}
+use Rattle.connection_laws.proofs.ElementStreams.{AreAlone, IsAlone}
 use Rattle.connection_laws.proofs.UnitSizes.{blocks_one}
-use Rattle.connection_laws.proofs.SentStreams.{AreEvents, IsCounted, IsEvent, IsFromTo, IsFrontOf, all_woven}
+use Rattle.connection_laws.proofs.SentStreams.{AreEvents, IsCounted, IsEvent, IsFromTo, IsFrontOf, all_woven, HasEvent}
 use Rattle.connection_laws.proofs.SentStreams.{counted_by, framed_append, parts_length, rounds_latest, rounds_sent_are}
 use Rattle.connection_laws.proofs.SentStreams.{texts_parts, texts_within, texts_length, whole_rounds}
+use Rattle.connection_laws.proofs.Lists.{each_append, each_front, each_weaker}
 
 -- ---- the stream
 
@@ -62,10 +63,6 @@ alone_from (b ∷ bs) are =
 texts_of : (total : ℕ) (texts : List PlacedText) → AreAfter total texts → AreTexts (map text_of texts)
 texts_of total [] after = tt
 texts_of total (placed ∷ texts) after = (text_is placed.text after.1.starts after.1.size, texts_of total texts after.2)
-
-alone_texts : (ms : List (List ℕ)) → AreTexts ms → AreAlone ms
-alone_texts [] are = tt
-alone_texts (m ∷ ms) are = (are.0.alone, alone_texts ms are.1)
 
 pub stream_of : {wish : Wish} {stored : Stored} {course : Course} → HasPlayedWhole wish stored course → Stream
 stream_of {stored = stored} played =
@@ -93,8 +90,9 @@ stream_of {stored = stored} played =
         setup.alone,
         (
           reply.alone,
-          alone_append blocks (map text_of played.later)
-              (alone_from blocks (are-blocks run 0 0 (pieces_in run))) (alone_texts (map text_of played.later) texts),
+          each_append IsAlone blocks (map text_of played.later)
+              (alone_from blocks (are-blocks run 0 0 (pieces_in run)))
+              (each_weaker IsText IsAlone (λ m is. is.alone) (map text_of played.later) texts),
         ),
       );
     }
@@ -188,10 +186,6 @@ events_are old new (round ∷ rounds) follows = (
   event_is old follows.1.0.opened round.event round.due round.halt follows.1.0.comes,
   events_are follows.0 new rounds follows.1.1,
 )
-
-events_front : (a b : List Round) → AreEvents (a ++ b) → AreEvents a
-events_front [] b are = tt
-events_front (round ∷ a) b are = (are.0, events_front a b are.1)
 
 pub stream_blocks : {wish : Wish} {stored : Stored} {course : Course} (played : HasPlayedWhole wish stored course)
     → (stream_of played).blocks ≡ film_blocks stored played.identity
@@ -307,7 +301,7 @@ module _ {wish : Wish} {stored : Stored} {course : Course} (played : HasPlayedWh
       let whole = whole_rounds course.rounds written.front written.rest written.parts written.whole in
       let E : List Round → Type 0 = λ rs. AreEvents rs in
       let events =
-      events_front whole.first whole.later
+      each_front HasEvent whole.first whole.later
       (subst E whole.parts (events_are begin course.last course.rounds course.follows)) in
       let slot : greatest_slot whole.first ≡ played.play.start + j =
       sym (rounds_latest whole.first) ∙ (ap latest_slot (sym whole.front_is) ∙ written.slot_is) in

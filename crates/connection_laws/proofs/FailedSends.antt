@@ -10,8 +10,6 @@ use Rattle.admission.specs.declared.entries.Answer.TheVariants.{Halted}
 use Rattle.admission.specs.declared.entries.Command.TheVariants.{Halt as HaltCommand}
 use Rattle.admission.specs.Makers.{PlacedEntry}
 use Rattle.session.specs.declared.states.Awaited.{Awaited}
-use Rattle.session.specs.declared.states.Awaited.TheVariants.{Nothing, Halt}
-use Rattle.session.specs.declared.states.AfterHalt.TheVariants.{Done}
 use Rattle.session.specs.RequestSteps.{after_halt}
 use Rattle.session.specs.SlotSteps.{can_reply, due_bytes, is_between, is_sending, is_taken, step_bytes, stepped_in}
 use Rattle.session.specs.SessionStates.{SessionState, awaited_answer, awaited_answer_of}
@@ -23,6 +21,7 @@ use Rattle.connection_laws.specs.Failures.{IsCutShort}
 use Rattle.connection_laws.proofs.CourseSteps.{Stands, course_stands, first_stands, AsksDone, slot_asks}
 use Rattle.connection_laws.proofs.CourseInduction.{follows_more, begin_of}
 use Rattle.connection_laws.proofs.StationAnswers.{slot_to}
+use Rattle.connection_laws.proofs.Lists.{joins_parts}
 
 -- ---- prefixes
 front_of : (xs ys : List ℕ) → IsPrefixOf xs (xs ++ ys)
@@ -33,10 +32,6 @@ front_after xs front ys is = (
   length xs + is.0,
   (omega (arith, is.1.0, length-append xs ys), ap (λ f. xs ++ f) is.1.1 ∙ sym (take-append-add xs ys is.0)),
 )
-
-bytes_append : (xs ys : List Round) → rounds_bytes (xs ++ ys) ≡ rounds_bytes xs ++ rounds_bytes ys
-bytes_append [] ys = refl
-bytes_append (x ∷ xs) ys = rw (bytes_append xs ys, append_assoc (round_bytes x) (rounds_bytes xs) (rounds_bytes ys))
 
 -- ---- one event more
 cut_short : (course : Course) (round : Round) (new : Stage) (sent : List ℕ) → Runs course.last round new
@@ -52,7 +47,7 @@ cut_short course round new sent runs front =
       follows = follows_more (begin_of course) course.rounds course.follows runs;
     } in
     let all : rounds_bytes longer.rounds ≡ rounds_bytes course.rounds ++ round_bytes round =
-    bytes_append course.rounds (round ∷ [])
+    joins_parts rounds_bytes round_bytes refl (λ x xs. refl) course.rounds (round ∷ [])
     ∙ ap (λ bs. rounds_bytes course.rounds ++ bs) (append-nil (round_bytes round)) in
     let F : List ℕ → Type 0 = λ bs. IsPrefixOf (rounds_bytes course.rounds ++ sent) bs in
     record {
@@ -75,25 +70,19 @@ record CanFinish (s : SessionState) : Type 0 where
   new : SessionState
   finished : IsFinished (awaited_answer s) s halt new
 
-finish_none : (s : SessionState) → s.awaited ≡ Nothing → CanFinish s
-finish_none s rest =
+can_finish : {s : SessionState} → AsksDone s → CanFinish s
+can_finish {s} (inl rest) =
     let F : Awaited → Type 0 = λ a. IsFinished (awaited_answer_of a) s Unasked s in
     record { halt = Unasked; new = s; finished = subst F (sym rest) refl }
-
-finish_halt : (s : SessionState) (keep : ℕ) → s.awaited ≡ Halt keep Done → CanFinish s
-finish_halt s keep halts =
+can_finish {s} (inr done) =
     let placed : PlacedEntry =
-    record { place = 0; entry = record { maker = 0; command = HaltCommand 0 keep; answer = Halted } } in
+    record { place = 0; entry = record { maker = 0; command = HaltCommand 0 done.keep; answer = Halted } } in
     let F : Awaited → Type 0 = λ a. IsFinished (awaited_answer_of a) s (Entered placed) (after_halt s 0) in
     record {
       halt = Entered placed;
       new = after_halt s 0;
-      finished = subst F (sym halts) (record { number = 0; command = refl; answer = refl; halts = refl });
+      finished = subst F (sym done.asks) (record { number = 0; command = refl; answer = refl; halts = refl });
     }
-
-can_finish : {s : SessionState} → AsksDone s → CanFinish s
-can_finish {s} (inl rest) = finish_none s rest
-can_finish {s} (inr done) = finish_halt s done.keep done.asks
 
 between_bytes : (old : SessionState) (slot : ℕ) (between : Bool)
     → parts_bytes (if between then Text old.text ∷ Film (step_bytes false slot (stepped_in true slot old.state))

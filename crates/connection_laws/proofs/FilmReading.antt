@@ -13,7 +13,7 @@ use Rattle.rtsp_client.specs.ClientHistory.{payloads, bytes_received, sizes}
 use Rattle.connection_laws.proofs.ClientInput.{IsDrained, no_sum}
 use Rattle.connection_laws.proofs.MeterInput.{AreTexts, Stream, all_of, begun_sum, two_moments, IsReadingOf, film_place}
 use Rattle.connection_laws.proofs.ElementStreams.{cut_front}
-use Rattle.connection_laws.proofs.HistorySums.{AreOneBlocks, Sum, replies_grow, step, steps, sum_of, blocks_one_take}
+use Rattle.connection_laws.proofs.HistorySums.{IsOneBlock, AreOneBlocks, Sum, replies_grow, step, steps, sum_of}
 use Rattle.connection_laws.proofs.HistorySums.{blocks_received, blocks_same, steps_payloads}
 use Rattle.std.proofs.lemmas.Bool.{cases_lt, cond-false, eqb-true, ltb-true, ne_eqb, and_parts}
 use Rattle.std.proofs.lemmas.List.Sums.{sum_by-take-le}
@@ -36,6 +36,7 @@ use Rattle.connection_laws.proofs.PieceCounts.{count_whole}
 use Rattle.connection_laws.proofs.FirstFrames.{HasGoneOn, first_frame_is, first_good, frame_time_is}
 use Rattle.connection_laws.proofs.UnitSizes.{HasCome, units_come, units_told}
 use Rattle.connection_laws.proofs.Blocks.{RunFrom}
+use Rattle.connection_laws.proofs.Lists.{each_take}
 
 -- a block is no reply
 no_reply : (b x : List ℕ) (m : List ℕ) → (element_events b ≡ Frame b ∷ []) ⊎ (element_events b ≡ Report b ∷ [])
@@ -231,7 +232,7 @@ module _ (s : WholeStream) where
       let count : frames h ≡ t.frames = ap (λ (s : Sum). s.frames) sum_is in
       let end : end_ms h ≡ (begun_sum x).end_ms =
       ap (λ (s : Sum). s.end_ms) sum_is
-      ∙ (blocks_same (take k x.blocks) (begun_sum x) (blocks_one_take k x.blocks x.blocks_are)).end_ms in
+      ∙ (blocks_same (take k x.blocks) (begun_sum x) (each_take IsOneBlock k x.blocks x.blocks_are)).end_ms in
       let B : List ℕ → Type 0 = λ f. begins_film (drop 20 f) ≡ true in
       let frame_time : 0 < frames h → time_in (first_frame h) ≡ picture_time film.rate = λ some.
       ap time_in first ∙ time_by s k film.units.items refl (omega (arith, count, some))
@@ -262,7 +263,7 @@ module _ (s : WholeStream) where
       let many : length (sizes at.history) ≡ its.count =
       ap (λ (l : List ℕ). length l) are ∙ length-take-le its.count all its.among in
       let bytes = ap (λ (s : Sum). s.received) reading.sum
-      ∙ blocks_received (take k x.blocks) (begun_sum x) (blocks_one_take k x.blocks x.blocks_are) refl in
+      ∙ blocks_received (take k x.blocks) (begun_sum x) (each_take IsOneBlock k x.blocks x.blocks_are) refl in
       let came : bytes_received at.history + cut_bytes at.rest ≡ min d (length (framed_bytes x.blocks)) =
       omega (arith, bytes, reading.cut) in
       let its_time = timed k gone reading.sum in (

@@ -9,8 +9,8 @@ use Rattle.film_frames.specs.declared.stored_films.Stored.{Stored}
 use Rattle.mpeg_scan.specs.StartCodes.{read_after}
 use Rattle.mpeg_scan.specs.PictureRates.{picture_time}
 use Rattle.mpeg_scan.specs.declared.films.Film.{Film}
-use Rattle.mpeg_scan.specs.declared.units.Unit.{Unit as PictureUnit}
-use Rattle.mpeg_scan.proofs.FilmBoundLemmas.{film-pictures, film-rate, film-units}
+use Rattle.mpeg_scan.proofs.FilmBoundLemmas.{film-rate}
+use Rattle.film_frames.proofs.FilmPieceLemmas.{film-few}
 use Rattle.rtsp_client.specs.Requests.{play_text}
 use Rattle.rtsp_client.proofs.PictureTimes.{time_bounds}
 use Rattle.rtsp_text.specs.Grammar.{is_url_byte}
@@ -34,20 +34,10 @@ use Rattle.connection_laws.proofs.ReplyReadings.{IsPrinted, IsPlayAnswer, play_a
 use Rattle.connection_laws.proofs.RequestEffects.{Begins}
 use Rattle.connection_laws.proofs.RequestReplies.{IsNamed, named_still, play_asked, asked_named, AsksClientPlay}
 use Rattle.connection_laws.proofs.SetupOnly.{IsUnbegun, IsWaiting}
-use Rattle.connection_laws.proofs.StationAnswers.{answers_as}
+use Rattle.conn.proofs.StationAnswers.{answers_as}
 use Rattle.connection_laws.proofs.ClientSetups.{Beginning}
 
 -- ---- numbers in their ranges
-
-film_few : (film : Film) → length film.units.items ≤ 4194304
-film_few film =
-    let accepted = film.grammar.accepted in
-    omega (
-      arith,
-      ap (λ (l : List PictureUnit). length l) film.grammar.units,
-      film-units film.bytes.items accepted,
-      film-pictures (read_after [] film.bytes.items) accepted,
-    )
 
 film_brief : (film : Film) → picture_time film.rate ≤ 360000
 film_brief film =
@@ -59,7 +49,7 @@ film_brief film =
 end_fits : (film : Film) → length_ms film < 2 ^ 64
 end_fits film =
     let units = length film.units.items * picture_time film.rate in
-    let most : units ≤ 4194304 * 360000 = mul-le-mul (film_few film) (film_brief film) in
+    let most : units ≤ 4194304 * 360000 = mul-le-mul (film-few film) (film_brief film) in
     let small : units / 360 * 360 ≤ units = div-mul-le_self units 360 in
     omega (arith, most, small)
 

@@ -19,9 +19,11 @@ use Rattle.rtsp_client.specs.ClientHistory.{History, ClientEvent, Frame, Report,
 use Rattle.rtsp_client.specs.ClientHistory.{is_playing}
 use Rattle.connection_laws.proofs.Blocks.{frame_block, frame_blocks, frame_moment, frames_one, frames_after}
 use Rattle.connection_laws.proofs.Blocks.{octets_after, report_block, report_if, report_moment, RunFrom}
-use Rattle.connection_laws.proofs.HistorySums.{AreOneBlocks, Sum, blocks_first, blocks_one_append, blocks_one_take}
+use Rattle.connection_laws.proofs.HistorySums.{IsOneBlock, AreOneBlocks, Sum, blocks_first}
 use Rattle.connection_laws.proofs.HistorySums.{step, steps}
-use Rattle.connection_laws.proofs.UnitSizes.{blocks_one, frame_sizes, more_blocks, packets_there, report_sizes}
+use Rattle.connection_laws.proofs.UnitSizes.{blocks_one, block_sizes, more_blocks}
+use Rattle.rtsp_client.proofs.RunFrames.{has-packet}
+use Rattle.connection_laws.proofs.Lists.{each_append, each_take}
 
 -- at each of its moments a watching went on
 abbrev pub HasGoneOn : History → Type 0
@@ -78,8 +80,8 @@ lead : (starts : Bool) (from : RunFrom) (k : ℕ) (first : FirstFrame) (sum : Fr
     first.packet from.frames
 lead false from (suc k) first sum some =
     let b = frame_block run unit p f in
-    frame_sizes b (take k rest) s (λ t. t.first ≡ b) (frame_moment run f unit p media)
-    (blocks_first (take k rest) (step (Frame b) s) (blocks_one_take k rest are) (omega arith)
+    block_sizes b (take k rest) s (λ t. t.first ≡ b) (frame_moment run f unit p media)
+    (blocks_first (take k rest) (step (Frame b) s) (each_take IsOneBlock k rest are) (omega arith)
     ∙ cond-true (s.frames == 0) b s.first (eq-eqb s.frames 0 none))
   where
     open from use {run, frames as f, media}
@@ -89,7 +91,7 @@ lead true from (suc k) first sum some =
     let r = report_block run unit f o in
     let b = frame_block run unit p f in
     let is = report_moment run f o unit control in
-    report_sizes r (take k (b ∷ rest)) sum.sum (λ t. 0 < t.frames → t.first ≡ b) is
+    block_sizes r (take k (b ∷ rest)) sum.sum (λ t. 0 < t.frames → t.first ≡ b) is
     (λ more. lead false from k first (record { sum = step (Report r) sum.sum; none = sum.none }) more) some
   where
     open from use {run, frames as f, octets as o, control}
@@ -108,7 +110,7 @@ module _ {starts : List ℕ} {unit : PictureUnit} where
       (events_of_elements (take k (blocks_from from.run from.frames from.octets (pieces_of starts (unit ∷ units))))) in
       0 < t.frames → IsLed from.run starts unit from.frames t.first
   first_frame_is from k units s none some =
-      let there = packets_there starts unit in
+      let there = has-packet starts unit in
       let rest = blocks_from run (frames_after f (unit_pieces starts unit))
       (octets_after o (unit_pieces starts unit)) (pieces_of starts units) in
       let front = report_if unit.starts_group run unit f o in
@@ -119,7 +121,7 @@ module _ {starts : List ℕ} {unit : PictureUnit} where
       ∙ (ap (λ ps. (front ++ frame_blocks run unit f ps) ++ rest) there.are
       ∙ append_assoc front (frame_block run unit there.packet f ∷ frames_rest) rest) in
       let are : AreOneBlocks (frames_rest ++ rest) =
-      blocks_one_append frames_rest rest (frames_one run (f + 1) unit there.packets media)
+      each_append IsOneBlock frames_rest rest (frames_one run (f + 1) unit there.packets media)
       (blocks_one (record {
         run = run;
         frames = frames_after f (unit_pieces starts unit);

@@ -1,6 +1,6 @@
 -- What a client's history comes to, but for its slots: a sum that each moment adds to.
-use Rattle.std.proofs.Common.{◌≡◌, ℕ, suc, ◌+◌, ◌<◌, ◌≤◌, ◌⊎◌, ◌==◌, ◌&&◌, Bool, true, false, not, nat_lt}
-use Rattle.std.proofs.Common.{if◌then◌else◌, List, [], ◌∷◌, ◌++◌, length, take, drop, get_or, unwrap_or, refl, sym}
+use Rattle.std.proofs.Common.{◌≡◌, ℕ, ◌+◌, ◌<◌, ◌≤◌, ◌⊎◌, ◌==◌, ◌&&◌, Bool, true, false, not, nat_lt}
+use Rattle.std.proofs.Common.{if◌then◌else◌, List, [], ◌∷◌, ◌++◌, length, drop, get_or, unwrap_or, refl, sym}
 use Rattle.std.proofs.Common.{subst, ◌∙◌, append_assoc, arith, inl, inr}
 use Rattle.std.proofs.lemmas.Bool.{cond-true, cond-false, ne_eqb}
 use Rattle.std.proofs.lemmas.List.{append-nil, length-append}
@@ -10,6 +10,7 @@ use Rattle.rtsp_client.specs.ClientHistory.{History, ClientEvent, Frame, Reply, 
 use Rattle.rtsp_client.specs.ClientHistory.{frames, is_inside, is_last, payloads, bytes_pending, bytes_received}
 use Rattle.rtsp_client.specs.ClientHistory.{replies, sizes}
 use Rattle.rtsp_client.specs.Answers.{history_after, events_of_elements, element_events, payloads_of}
+use Rattle.connection_laws.proofs.Lists.{Each}
 
 pub record Sum : Type 0 where
   pub replies : ℕ
@@ -69,26 +70,20 @@ steps_on s (m ∷ a) b = steps_on (step m s) a b
 pub sum_after : (h : History) (ms : List ClientEvent) → sum_of (history_after h ms) ≡ steps (sum_of h) ms
 sum_after h [] = refl
 sum_after h (Reply m ∷ ms) = sum_after (Reply m ∷ h) ms
-sum_after h (Frame b ∷ ms) = sum_after (Frame b ∷ h) ms
-sum_after h (Report b ∷ ms) = sum_after (Report b ∷ h) ms
-sum_after h (Slot t cut ∷ ms) = sum_after (Slot t cut ∷ h) ms
+sum_after h (other ∷ ms) = sum_after (other ∷ h) ms
 
 -- what is handed on
 pub steps_payloads : (s : Sum) (ms : List ClientEvent) → (steps s ms).payloads ≡ s.payloads ++ payloads_of ms
 steps_payloads s [] = sym (append-nil s.payloads)
-steps_payloads s (Reply m ∷ ms) = steps_payloads (step (Reply m) s) ms
 steps_payloads s (Frame b ∷ ms) = steps_payloads (step (Frame b) s) ms
     ∙ append_assoc s.payloads (drop 20 b) (payloads_of ms)
-steps_payloads s (Report b ∷ ms) = steps_payloads (step (Report b) s) ms
-steps_payloads s (Slot t cut ∷ ms) = steps_payloads s ms
+steps_payloads s (other ∷ ms) = steps_payloads (step other s) ms
 
 -- replies never fall
 pub replies_grow : (s : Sum) (ms : List ClientEvent) → s.replies ≤ (steps s ms).replies
 replies_grow s [] = omega arith
 replies_grow s (Reply m ∷ ms) = omega (arith, replies_grow (step (Reply m) s) ms)
-replies_grow s (Frame b ∷ ms) = replies_grow (step (Frame b) s) ms
-replies_grow s (Report b ∷ ms) = replies_grow (step (Report b) s) ms
-replies_grow s (Slot t cut ∷ ms) = replies_grow s ms
+replies_grow s (other ∷ ms) = replies_grow (step other s) ms
 
 -- ---- blocks, as moments
 
@@ -99,16 +94,7 @@ pub record IsOneBlock (b : List ℕ) : Type 0 where
   pub channel : get_or b 1 0 < 2
 
 abbrev pub AreOneBlocks : List (List ℕ) → Type 0
-AreOneBlocks [] = Unit {0}
-AreOneBlocks (b ∷ bs) = IsOneBlock b × AreOneBlocks bs
-
-pub blocks_one_append : (xs ys : List (List ℕ)) → AreOneBlocks xs → AreOneBlocks ys → AreOneBlocks (xs ++ ys)
-blocks_one_append [] ys one two = two
-blocks_one_append (x ∷ xs) ys one two = (one.0, blocks_one_append xs ys one.1 two)
-
-pub blocks_one_take : (k : ℕ) (bs : List (List ℕ)) → AreOneBlocks bs → AreOneBlocks (take k bs)
-blocks_one_take (suc k) (b ∷ bs) are = (are.0, blocks_one_take k bs are.1)
-blocks_one_take _ _ are = tt
+AreOneBlocks = Each IsOneBlock
 
 -- what blocks leave as it was
 pub record IsSame (s t : Sum) : Type 0 where

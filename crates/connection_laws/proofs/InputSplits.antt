@@ -20,6 +20,7 @@ use Rattle.connection_laws.proofs.ElementPaths.{GoesAll, Path, Element, ends_sam
 use Rattle.connection_laws.proofs.ElementPaths.{longer, path_of, elements_answers, elements_bytes, Exchange}
 use Rattle.connection_laws.proofs.ElementPaths.{no_exchange, joined, joined_assoc, exchange_of, join_exchange}
 use Rattle.connection_laws.proofs.ElementPaths.{takings_exchange}
+use Rattle.connection_laws.proofs.Lists.{joins_parts}
 
 -- a slot, and the bytes that came after it
 record Leg : Type 0 where
@@ -82,10 +83,6 @@ elements_join : (xs ys : List ℕ) (one two : List Element)
     → elements_exchange (xs ++ ys) (one ++ two) ≡ joined (elements_exchange xs one) (elements_exchange ys two)
 elements_join xs ys one two =
     ap₂ (λ hs (e : Exchange). record e { heard = hs }) (heard_append xs ys) (join_exchange one two)
-
-answers_append : (xs ys : List Outcome) → answers_in (xs ++ ys) ≡ answers_in xs ++ answers_in ys
-answers_append [] ys = refl
-answers_append (x ∷ xs) ys = rw (answers_append xs ys, append_assoc (answer_in x) (answers_in xs) (answers_in ys))
 
 -- a course from a place on: the bytes that came before the next slot, and then slot after slot
 record Split (base new : Stage) (all : Exchange) : Type 0 where
@@ -223,7 +220,7 @@ round_exchange {cur} new round rounds takes path =
     (joined (record e { heard = [] }) rest)) path.is
     ∙ rw (
       append_assoc (parts_bytes round.due) (takings_bytes round.takings) rest.bytes,
-      answers_append (takings_outcomes round.takings) (rounds_outcomes rounds),
+      joins_parts answers_in answer_in refl (λ x xs. refl) (takings_outcomes round.takings) (rounds_outcomes rounds),
     )
 
 rounds_split : (cur new : Stage) (rounds : List Round) (takes : TakesUp cur rounds new) → IsDrained cur

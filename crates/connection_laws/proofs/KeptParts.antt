@@ -1,5 +1,5 @@
 -- Parts of a session that requests, replies and slots leave as they were, with what SETUP settled.
-use Rattle.std.proofs.Common.{◌≡◌, ℕ, ◌&&◌, if◌then◌else◌, Bool, true, false, List, [], ◌∷◌, Option, refl, ap, ◌∙◌}
+use Rattle.std.proofs.Common.{◌≡◌, ℕ, ◌&&◌, if◌then◌else◌, Bool, true, false, List, [], ◌∷◌, refl, ap, ◌∙◌}
 use Rattle.std.proofs.Common.{Some}
 use Rattle.film_frames.specs.declared.stored_films.Stored.{Stored}
 use Rattle.film_streams.specs.declared.settings.Settings.{Settings}
@@ -8,14 +8,11 @@ use Rattle.session.specs.declared.commands.Ask.{Ask}
 use Rattle.session.specs.declared.states.Awaited.{Awaited}
 use Rattle.session.specs.SlotSteps.{after_play, after_slot, can_reply, is_between, is_sending, is_taken, sent_due}
 use Rattle.session.specs.SlotSteps.{sent_reply, sent_slot, stepped_in, halted_in, next_of, state_once_halted}
-use Rattle.session.specs.SessionStates.{OpenBooking, SessionState, awaited_answer, AwaitedAnswer}
-use Rattle.session_laws.proofs.RequestShapes.{HearsAs, Replies, SetsUp, AsksPlay, Stops, AsksLook, AsksOffer, hears_as}
+use Rattle.session.specs.SessionStates.{SessionState, awaited_answer, AwaitedAnswer}
 use Rattle.conn.proofs.HaltAnswers.{finished_as_before}
 use Rattle.conn.specs.InputSteps.{Answered, ElementStep, HasHeard, HasStepped, IsAskAnswered, IsReplied, Outcome}
 use Rattle.conn.specs.InputSteps.{Passed, SentPart, Stage, TakesAll, after_reply}
-use Rattle.connection_laws.proofs.StationAnswers.{AnswersAs, NoneAsked, PlayAdmitted, PlayRefused, PlayFull, PlayHalted}
-use Rattle.connection_laws.proofs.StationAnswers.{LookMade, LookFull, OfferMade, answers_as, ClosesAs, NothingOpen}
-use Rattle.connection_laws.proofs.StationAnswers.{BookingHalted}
+use Rattle.connection_laws.proofs.RequestEffects.{RequestAnswer, OwnReply, request_answer}
 use Rattle.session.specs.declared.states.AfterHalt.{AfterHalt}
 use Rattle.session.specs.declared.states.AfterHalt.TheVariants.{Done}
 use Rattle.session.specs.declared.states.Play.{Play as Played}
@@ -24,7 +21,8 @@ use Rattle.session.specs.declared.states.State.{State}
 use Rattle.session.specs.declared.states.State.TheVariants.{Init, Playing}
 use Rattle.session_laws.specs.MethodLaws.{setup_in}
 use Rattle.session.specs.SlotTransitions.{after_stop}
-use Rattle.conn.proofs.StationAnswers.{FinishesAs, NothingLeft, DoneHalted, ComesAs, BytesCame, SlotCame}
+use Rattle.conn.proofs.StationAnswers.{AnswersAs, NoneAsked, answers_as, FinishesAs, NothingLeft, DoneHalted, ComesAs}
+use Rattle.conn.proofs.StationAnswers.{BytesCame, SlotCame}
 use Rattle.conn.specs.EventSteps.{Round}
 
 -- what no request and no reply to one changes
@@ -48,31 +46,20 @@ lasting_part s = record {
   lost = s.lost;
 }
 
-pub hears_keep : {old asking : SessionState} {ask : Ask} → HearsAs old ask asking
-    → lasting_part asking ≡ lasting_part old
-hears_keep (Replies text tearing ask_is is) = ap lasting_part is
-hears_keep (SetsUp text setup init ask_is is) = ap lasting_part is
-hears_keep (AsksPlay setup paused prepared text ready ask_is is) = ap lasting_part is
-hears_keep (Stops setup play keep next text playing told keep_is ask_is is) = ap lasting_part is
-hears_keep (AsksLook looks sequence ask_is is) = ap lasting_part is
-hears_keep (AsksOffer plan offers sequence ask_is is) = ap lasting_part is
-
-pub answer_keeps : {asking new : SessionState} {ask : Ask} {outcome : Outcome} → AnswersAs asking new ask outcome
+pub answer_keeps : {asking new : SessionState} {ask : Ask} {outcome : Outcome} → AnswersAs asking ask outcome new
     → lasting_part new ≡ lasting_part asking
-answer_keeps (NoneAsked is) = ap lasting_part is
-answer_keeps (PlayAdmitted play) = ap lasting_part play.new_is
-answer_keeps (PlayRefused play) = ap lasting_part play.new_is
-answer_keeps (PlayFull is) = ap lasting_part is
-answer_keeps (PlayHalted halt) = ap lasting_part halt.halts
-answer_keeps (LookMade look) = ap lasting_part look.new_is
-answer_keeps (LookFull is) = ap lasting_part is
-answer_keeps (OfferMade is) = ap lasting_part is
+answer_keeps NoneAsked = refl
+answer_keeps _ = refl
 
 pub request_keeps : {old new : SessionState} {message : List ℕ} {outcome : Outcome}
     → HasHeard old message outcome new → lasting_part new ≡ lasting_part old
-request_keeps {old} {new} {message} {outcome} heard =
-    answer_keeps (answers_as heard.ask outcome heard.answered)
-    ∙ hears_keep (hears_as old message heard.ask heard.asking heard.hears)
+request_keeps heard =
+    by-answer (request_answer heard)
+  where
+    by-answer : {old asking new : SessionState} {outcome : Outcome} → RequestAnswer old asking outcome new
+        → lasting_part new ≡ lasting_part old
+    by-answer OwnReply = refl
+    by-answer _ = refl
 
 -- a part of a session that a reply leaves as it was
 pub reply_keeps : {A : Type 0} (part : SessionState → A) → ((s : SessionState) → part (sent_reply s) ≡ part s)
@@ -103,12 +90,6 @@ pub finish_keeps : {s new : SessionState} {asks : AwaitedAnswer} {outcome : Outc
     → lasting_part new ≡ lasting_part s
 finish_keeps NothingLeft = refl
 finish_keeps (DoneHalted entry) = refl
-
--- the end of a connection
-pub close_keeps : {old new : SessionState} {held : Option OpenBooking} {outcome : Outcome}
-    → ClosesAs old new held outcome → lasting_part new ≡ lasting_part old
-close_keeps (NothingOpen is) = ap lasting_part is
-close_keeps (BookingHalted halt) = ap lasting_part halt.halts
 
 -- a part of a session that what is sent in a slot leaves as it was
 pub record IsKeptInSlots {A : Type 0} (part : SessionState → A) : Type 0 where
@@ -172,14 +153,6 @@ stepped_setup : (stop : Bool) (slot : ℕ) (state : State) → setup_in (stepped
 stepped_setup stop slot Init = refl
 stepped_setup stop slot _ = refl
 
-due_setup : (waits between : Bool) (state : State) (slot : ℕ)
-    → setup_in (if waits then (if between then stepped_in false slot (stepped_in true slot state)
-    else stepped_in true slot state) else stepped_in false slot state) ≡ setup_in state
-due_setup true true state slot =
-    stepped_setup false slot (stepped_in true slot state) ∙ stepped_setup true slot state
-due_setup true false state slot = stepped_setup true slot state
-due_setup false between state slot = stepped_setup false slot state
-
 stop_setup : (state : State) → setup_in (after_stop state) ≡ setup_in state
 stop_setup Init = refl
 stop_setup _ = refl
@@ -193,16 +166,25 @@ pub halted_setup : (state : State) (awaited : Awaited) → setup_in (halted_in s
 halted_setup (Playing setup play) awaited = once_halted setup play (next_of awaited)
 halted_setup _ awaited = refl
 
--- ---- steps
+-- a part of a state that the steps of a slot leave as it was
+module _ {A : Type 0} (part : State → A)
+    (same : (stop : Bool) (slot : ℕ) (state : State) → part (stepped_in stop slot state) ≡ part state) where
+  due_keeps : (waits between : Bool) (state : State) (slot : ℕ)
+      → part (if waits then (if between then stepped_in false slot (stepped_in true slot state)
+      else stepped_in true slot state) else stepped_in false slot state) ≡ part state
+  due_keeps true true state slot = same false slot (stepped_in true slot state) ∙ same true slot state
+  due_keeps true false state slot = same true slot state
+  due_keeps false between state slot = same false slot state
 
-slot_setup : (old : SessionState) (slot : ℕ) → setup_in (after_slot old slot).state ≡ setup_in old.state
-slot_setup old slot =
-    slot_keeps {part = λ (s : SessionState). setup_in s.state} (record {
-      reply = λ s. stop_setup s.state;
-      due = λ s n. due_setup s.waits (is_between (stepped_in true n s.state)) s.state n;
-      done = λ s. refl;
-      idle = λ s n. refl;
-    }) old slot
+  pub state_keeps : ((state : State) → part (after_stop state) ≡ part state) → (old : SessionState) (slot : ℕ)
+      → part (after_slot old slot).state ≡ part old.state
+  state_keeps stops =
+      slot_keeps {part = λ (s : SessionState). part s.state} (record {
+        reply = λ s. stops s.state;
+        due = λ s n. due_keeps s.waits (is_between (stepped_in true n s.state)) s.state n;
+        done = λ s. refl;
+        idle = λ s n. refl;
+      })
 
 finish_setup : {s new : SessionState} {asks : AwaitedAnswer} {outcome : Outcome} → FinishesAs s asks outcome new
     → setup_in new.state ≡ setup_in s.state
@@ -221,7 +203,7 @@ pub comes_setup : {old opened : Stage} {round : Round} → ComesAs old round ope
 comes_setup BytesCame = record { names = refl; setup = refl }
 comes_setup {old} (SlotCame {slot = slot} {new = new} finish) = record {
   names = same_names (after_slot old.session slot) new (finish_keeps finish) ∙ slot_names old.session slot;
-  setup = finish_setup finish ∙ slot_setup old.session slot;
+  setup = finish_setup finish ∙ state_keeps setup_in stepped_setup stop_setup old.session slot;
 }
 
 pub replied_setup : (s : SessionState) → IsSameSetup s (after_reply s)

@@ -1,3 +1,4 @@
+mod Lists
 mod StationAnswers
 mod KeptParts
 mod RequestEffects

@@ -13,9 +13,8 @@ use Rattle.conn.specs.InputSteps.{HasHeard, Outcome}
 use Rattle.connection_laws.specs.Courses.{Course}
 use Rattle.connection_laws.specs.LookLimits.{MayLackMemory}
 use Rattle.connection_laws.proofs.PlayRuns.{looks_used}
-use Rattle.connection_laws.proofs.StationAnswers.{AnswersAs, NoneAsked, PlayAdmitted, PlayRefused, PlayFull, PlayHalted}
-use Rattle.connection_laws.proofs.StationAnswers.{LookMade, LookFull, OfferMade, answers_as}
-use Rattle.session.specs.RequestSteps.{after_admission}
+use Rattle.conn.proofs.StationAnswers.{AnswersAs, NoneAsked, PlayAdmitted, PlayOverflowed, PlayFull, PlayHalted}
+use Rattle.conn.proofs.StationAnswers.{LookMade, LookFull, OfferMade, answers_as}
 
 -- a reply of another code
 overflow_not_500 : (sequence slot booked asked : ℕ) → HasCode 500 (overflow_text sequence slot booked asked) → ⊥
@@ -34,28 +33,20 @@ unfolding reply_text reply_front status_line digits
 ok_not_500 sequence fields body is =
     let first : 50 ≡ 53 = ap (λ l. get_or l 0 0) is in omega (arith, first)
 
--- the code of a session's reply, as the session that it is
-code_in : {new : SessionState} (s : SessionState) → new ≡ s → HasCode 500 new.text → HasCode 500 s.text
-code_in s is code = subst (λ (t : SessionState). HasCode 500 t.text) is code
-
 -- what an answer of the station's makes of a session has another code; so the session itself answered it
-own_code : {asking new : SessionState} {ask : Ask} {outcome : Outcome} → AnswersAs asking new ask outcome
+own_code : {asking new : SessionState} {ask : Ask} {outcome : Outcome} → AnswersAs asking ask outcome new
     → NeverLacks ask asking → HasCode 500 new.text → Is500 ask asking
-own_code {asking} (NoneAsked is) never code = code_in asking is code
-own_code {asking} (PlayAdmitted {placed = placed} play) never code =
-    let line : List ℕ = field_line (field (codes "x-Start") (decimal (play.start - asking.heard))) in
-    let told : HasCode 500 ((asking.text ++ line) ++ codes "\r\n") =
-    code_in (after_admission asking placed.place play.start) play.new_is code in
-    absurd (never (line ++ codes "\r\n") (subst (HasCode 500) (append_assoc asking.text line (codes "\r\n")) told))
-own_code (PlayRefused play) never code =
-    absurd (overflow_not_500 _ play.slot play.booked play.asked (code_in _ play.new_is code))
-own_code (PlayFull {entries = entries} {live = live} is) never code =
-    absurd (full_not_500 _ entries live (code_in _ is code))
-own_code (PlayHalted halt) never code = absurd (never (code_in _ halt.halts code))
-own_code (LookMade look) never code = absurd (ok_not_500 _ _ _ (code_in _ look.new_is code))
-own_code (LookFull {entries = entries} {live = live} is) never code =
-    absurd (full_not_500 _ entries live (code_in _ is code))
-own_code (OfferMade is) never code = absurd (ok_not_500 _ _ _ (code_in _ is code))
+own_code NoneAsked never code = code
+own_code {asking} (PlayAdmitted {start = start} entry answered) never code =
+    let line : List ℕ = field_line (field (codes "x-Start") (decimal (start - asking.heard))) in
+    absurd (never (line ++ codes "\r\n") (subst (HasCode 500) (append_assoc asking.text line (codes "\r\n")) code))
+own_code (PlayOverflowed {slot = slot} {booked = booked} {asked = asked} entry) never code =
+    absurd (overflow_not_500 _ slot booked asked code)
+own_code (PlayFull {entries = entries} {live = live} more) never code = absurd (full_not_500 _ entries live code)
+own_code (PlayHalted entry) never code = absurd (never code)
+own_code (LookMade looked) never code = absurd (ok_not_500 _ _ _ code)
+own_code (LookFull {entries = entries} {live = live}) never code = absurd (full_not_500 _ entries live code)
+own_code OfferMade never code = absurd (ok_not_500 _ _ _ code)
 
 pub memory_lacks : (course : Course) (message : List ℕ) (outcome : Outcome) (new : SessionState)
     → HasHeard course.last.session message outcome new → HasCode 500 new.text → MayLackMemory course message

@@ -1,11 +1,10 @@
 -- At each reading of the meter what came lies between the film's curves.
-use Rattle.std.specs.Prelude.{⊤}
 use Rattle.std.proofs.Common.{◌≡◌, ℕ, ◌+◌, ◌-◌, ◌<◌, ◌≤◌, ◌==◌, ◌&&◌, Bool, true, false, nat_lt, nat_le, cond, min}
 use Rattle.std.proofs.Common.{List, [], ◌∷◌, ◌++◌, length, take, get_or, Ok, refl, sym, ap, subst, ◌∙◌, append_assoc}
 use Rattle.std.proofs.Common.{arith, inl, inr}
 use Rattle.std.proofs.lemmas.Bool.{cases_lt, leb-true, ltb-true, and_parts}
 use Rattle.std.proofs.lemmas.List.{append-nil, length-append, length-take, take-append-le, take-take, take_all}
-use Rattle.vod_base.specs.Links.{IoEvent, HeardBytes, HeardEnd, HeardSlot, Sent}
+use Rattle.vod_base.specs.Links.{IoEvent, HeardBytes, HeardSlot}
 use Rattle.interleave.specs.Heads.{is_line_end}
 use Rattle.interleave.specs.Elements.{IsFirst}
 use Rattle.interleave.specs.declared.elements.Step.TheVariants.{More}
@@ -15,12 +14,13 @@ use Rattle.mpeg_scan.specs.PictureRates.{picture_time}
 use Rattle.film_frames.specs.Tracks.{framed_bytes}
 use Rattle.rtsp_client.specs.declared.watch_request.Wish.{Wish}
 use Rattle.rtsp_client.specs.Answers.{history_after, cut_bytes, events_of_elements, element_events}
-use Rattle.rtsp_client.specs.WatchCourses.{Brings, Round, Runs, RunsAll, WatchStage, events_of_rounds}
+use Rattle.rtsp_client.specs.WatchCourses.{Brings, Round, RunsAll, WatchStage, events_of_rounds}
 use Rattle.rtsp_client.specs.Films.{units_until}
 use Rattle.rtsp_client.specs.Meters.{first_slot, is_read, place_in}
 use Rattle.rtsp_client.specs.ClientHistory.{History, ClientEvent, Frame, Reply, Report, Slot, is_playing, last_slot}
 use Rattle.rtsp_client.specs.ClientHistory.{bytes_received, replies}
 use Rattle.rtsp_client.specs.MeterGuarantee.{IsBetween, IsBetweenAlways, IsFilmHeard}
+use Rattle.rtsp_client.proofs.ElementSteps.{after-on}
 use Rattle.rtsp_client.proofs.EventCourses.{history-later}
 use Rattle.connection_laws.proofs.FilmReading.{film_sizes, heard_of, WholeStream}
 use Rattle.connection_laws.specs.Requests.{bytes_in}
@@ -29,54 +29,27 @@ use Rattle.connection_laws.proofs.MeterInput.{Stream, all_of, begun_sum, film_pl
 
 -- ---- elements bring no slot
 
-abbrev HasNoSlot : List ClientEvent → Type 0
-HasNoSlot [] = ⊤
-HasNoSlot (Slot t cut ∷ ms) = ⊥
-HasNoSlot (_ ∷ ms) = HasNoSlot ms
-
-no_slot_append : (a b : List ClientEvent) → HasNoSlot a → HasNoSlot b → HasNoSlot (a ++ b)
-no_slot_append [] b one two = two
-no_slot_append (Slot t cut ∷ a) b one two = absurd one
-no_slot_append (_ ∷ a) b one two = no_slot_append a b one two
-
-no_slot_if : (c : Bool) (a b : List ClientEvent) → HasNoSlot a → HasNoSlot b → HasNoSlot (cond c a b)
-no_slot_if true a b one two = one
-no_slot_if false a b one two = two
-
-no_slot_of : (line block frame report : Bool) (p : List ℕ)
-    → HasNoSlot (cond line [] (cond block (cond frame (Frame p ∷ []) (cond report (Report p ∷ []) [])) (Reply p ∷ [])))
-no_slot_of line block frame report p =
-    no_slot_if line [] (cond block (cond frame (Frame p ∷ []) (cond report (Report p ∷ []) [])) (Reply p ∷ [])) tt
-    (no_slot_if block (cond frame (Frame p ∷ []) (cond report (Report p ∷ []) [])) (Reply p ∷ [])
-    (no_slot_if frame (Frame p ∷ []) (cond report (Report p ∷ []) []) tt
-    (no_slot_if report (Report p ∷ []) [] tt tt)) tt)
-
-no_slot_in : (ps : List (List ℕ)) → HasNoSlot (events_of_elements ps)
-no_slot_in [] = tt
-no_slot_in (p ∷ ps) =
-    no_slot_append (element_events p) (events_of_elements ps)
-    (no_slot_of (is_line_end (get_or p 0 0)) (get_or p 0 0 == 36) (get_or p 1 0 == 0) (get_or p 1 0 == 1) p)
-    (no_slot_in ps)
-
--- a film's sizes and the time of its pictures, for a wish
-record WishedFilm : Type 0 where
-  wish : Wish
-  sizes : List ℕ
-  time : ℕ
-
-always_more : (film : WishedFilm) (h : History) (ms : List ClientEvent) → HasNoSlot ms →
-    IsBetweenAlways film.wish film.sizes film.time h
-    → IsBetweenAlways film.wish film.sizes film.time (history_after h ms)
-always_more film h [] none met = met
-always_more film h (Reply m ∷ ms) none met = always_more film (Reply m ∷ h) ms none met
-always_more film h (Frame b ∷ ms) none met = always_more film (Frame b ∷ h) ms none met
-always_more film h (Report b ∷ ms) none met = always_more film (Report b ∷ h) ms none met
-always_more film h (Slot t cut ∷ ms) none met = absurd none
+element_case : (P : List ClientEvent → Type 0) (p : List ℕ) → P [] → P (Frame p ∷ []) → P (Report p ∷ [])
+    → P (Reply p ∷ []) → P (element_events p)
+element_case P p none frame report reply =
+    by-tests (is_line_end (get_or p 0 0)) (get_or p 0 0 == 36) (get_or p 1 0 == 0) (get_or p 1 0 == 1)
+  where
+    by-tests : (line block media control : Bool) → P (cond line [] (cond block
+        (cond media (Frame p ∷ []) (cond control (Report p ∷ []) [])) (Reply p ∷ [])))
+    by-tests true block media control = none
+    by-tests false false media control = reply
+    by-tests false true true control = frame
+    by-tests false true false true = report
+    by-tests false true false false = none
 
 pub always_elements : (wish : Wish) (all : List ℕ) (time : ℕ) (h : History) (ps : List (List ℕ))
     → IsBetweenAlways wish all time h → IsBetweenAlways wish all time (history_after h (events_of_elements ps))
-always_elements wish all time h ps met =
-    always_more (record { wish = wish; sizes = all; time = time }) h (events_of_elements ps) (no_slot_in ps) met
+always_elements wish all time h [] met = met
+always_elements wish all time h (p ∷ ps) met =
+    let A : History → Type 0 = λ g. IsBetweenAlways wish all time g in
+    subst A (sym (after-on h (element_events p) (events_of_elements ps)))
+    (always_elements wish all time (history_after h (element_events p)) ps
+    (element_case (λ events. A (history_after h events)) p met met met met))
 
 -- ---- the film that came
 
@@ -165,40 +138,27 @@ slot_met {bytes} {at} s slot front two fed read =
 
 -- ---- all events
 
--- a round with this event
-record RoundHeard (event : IoEvent) (old : WatchStage) (round : Round) (new : WatchStage) : Type 0 where
-  event_is : round.event ≡ event
-  runs : Runs old round new
-
-always_round : {event : IoEvent} {bytes : List ℕ} {old new : WatchStage} {round : Round} (s : WatchedStream)
-    → RoundHeard event old round new → HeardFront s.stream.x bytes old → TwoReplies new s.begin
+always_round : {event : IoEvent} {bytes : List ℕ} {old new : WatchStage} (moments : List ClientEvent)
+    (s : WatchedStream) → Brings event old.rest moments new.rest → new.history ≡ history_after old.history moments
+    → HeardFront s.stream.x bytes old → TwoReplies new s.begin
     → ((slot : ℕ) → event ≡ HeardSlot slot → s.begin ≤ slot
     → IsFed s.wish s.stream.film s.stream.x bytes (slot - s.begin))
     → IsMet s old.history → IsMet s new.history
-always_round {event = HeardBytes more} {old} {new} {round} s round_heard front two fed met =
-    let B : IoEvent → Type 0 = λ e. Brings e old.rest round.moments new.rest in
-    let brings = subst B round_heard.event_is round_heard.runs.brings in
-    subst (IsMet s) (sym (round_heard.runs.history_is ∙ ap (history_after old.history) brings.1.1))
+always_round {event = HeardBytes more} {old = old} moments s brings history front two fed met =
+    subst (IsMet s) (sym (history ∙ ap (history_after old.history) brings.1.1))
     (always_elements s.wish (film_sizes s.stream.film) (picture_time s.stream.film.rate) old.history brings.0 met)
-always_round {event = HeardSlot slot} {old} {new} {round} s round_heard front two fed met =
-    let B : IoEvent → Type 0 = λ e. Brings e old.rest round.moments new.rest in
-    let brings = subst B round_heard.event_is round_heard.runs.brings in
-    let history : new.history ≡ Slot slot (cut_bytes old.rest) ∷ old.history =
-    round_heard.runs.history_is ∙ ap (history_after old.history) brings.0 in
-    let same : replies new.history ≡ replies old.history = ap replies history in
+always_round {event = HeardSlot slot} {old = old} {new} moments s brings history front two fed met =
+    let grown : new.history ≡ Slot slot (cut_bytes old.rest) ∷ old.history =
+    history ∙ ap (history_after old.history) brings.0 in
+    let same : replies new.history ≡ replies old.history = ap replies grown in
     let begins_here : 1 < replies old.history → first_slot old.history ≡ s.begin = λ playing.
-    sym (ap first_slot history) ∙ two.begins (omega (arith, playing, same)) in
-    subst (IsMet s) (sym history) (
+    sym (ap first_slot grown) ∙ two.begins (omega (arith, playing, same)) in
+    subst (IsMet s) (sym grown) (
       met,
       λ read. slot_met s slot front
           (record { few = omega (arith, two.few, same); begins = begins_here }) (fed slot refl) read,
     )
-always_round {event = HeardEnd} {old} {new} {round} s round_heard front two fed met =
-    let B : IoEvent → Type 0 =
-    λ e. Brings e old.rest round.moments new.rest in absurd (subst B round_heard.event_is round_heard.runs.brings)
-always_round {event = Sent byte} {old} {new} {round} s round_heard front two fed met =
-    let B : IoEvent → Type 0 =
-    λ e. Brings e old.rest round.moments new.rest in absurd (subst B round_heard.event_is round_heard.runs.brings)
+always_round moments s brings history front two fed met = absurd brings
 
 -- what was received by a stage, and what rounds bring after it, is a prefix of a stream
 pub record HeardThrough (x : Stream) (bytes : List ℕ) (rounds : List Round) (old : WatchStage) : Type 0 where
@@ -230,7 +190,7 @@ always_all {bytes} {old} {rounds = round ∷ rounds} {new} s through all known f
     subst F (append-nil bytes) (fed [] rounds round slot refl event after_begin) in
     let mine : bytes ≡ take (length bytes) (framed_bytes (all_of x)) =
     front_of bytes (rounds_heard (round ∷ rounds)) (framed_bytes (all_of x)) c front in
-    let now = always_round s (record { event_is = refl; runs = all.1.0 })
+    let now = always_round {event = round.event} round.moments s all.1.0.brings all.1.0.history_is
     (record { heard = heard; idle = idle; front_is = mine }) (record { few = few_here; begins = begins_here })
     fed_here met in
     let next : (bytes ++ bytes_in round.event) ++ rounds_heard rounds ≡ take c (framed_bytes (all_of x)) =

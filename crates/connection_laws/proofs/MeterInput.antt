@@ -21,6 +21,7 @@ use Rattle.connection_laws.proofs.ClientInput.{Heard, no_sum}
 use Rattle.connection_laws.proofs.ElementStreams.{AreAlone, IsAlone, cut_at, rest_at}
 use Rattle.connection_laws.proofs.HistorySums.{AreOneBlocks, Sum, blocks_same, step, steps, steps_on, sum_of}
 use Rattle.connection_laws.proofs.UnitSizes.{moments_parts}
+use Rattle.connection_laws.proofs.Lists.{Each}
 
 -- ---- a reply, as it is received
 
@@ -30,8 +31,7 @@ pub record IsText (m : List ℕ) : Type 0 where
   pub alone : IsAlone m
 
 abbrev pub AreTexts : List (List ℕ) → Type 0
-AreTexts [] = Unit {0}
-AreTexts (m ∷ ms) = IsText m × AreTexts ms
+AreTexts = Each IsText
 
 pub text_is : (m : List ℕ) → StartsMessage m → IsMessageLength m (length m) → IsText m
 text_is m starts size = record {

@@ -3,28 +3,23 @@
 use Rattle.std.specs.Prelude.{⊤}
 use Rattle.std.proofs.Common.{true, false, Option, None, is_some, inl, inr, ◌+◌, ◌≤◌, ◌≡◌, ℕ, zero, suc, ◌<◌, ◌^◌, List}
 use Rattle.std.proofs.Common.{[], ◌∷◌, ◌++◌, length, get_or, codes, refl, sym, ap, subst, ◌∙◌, arith}
-use Rattle.film_frames.specs.FramedRuns.{run_pieces}
-use Rattle.plan_cert.specs.PlanSlots.{total_bytes}
 use Rattle.rtsp_client.specs.Requests.{film_url, play_text, setup_text}
 use Rattle.rtsp_client.specs.RequestParts.{setup_parts}
 use Rattle.rtsp_text.specs.RequestTexts.{request_head}
 use Rattle.rtsp_text.proofs.MessageUniqueness.{request_once}
-use Rattle.session.specs.declared.states.Awaited.{Awaited}
-use Rattle.session.specs.declared.states.Awaited.TheVariants.{Play}
 use Rattle.session.specs.declared.commands.Ask.TheVariants.{Reply}
 use Rattle.session_laws.specs.MethodLaws.{setup_in}
 use Rattle.session.specs.SessionStates.{SessionState, has_session_in}
 use Rattle.film_streams.specs.declared.setups.Setup.{Setup}
 use Rattle.session.specs.declared.states.State.{State}
 use Rattle.session.specs.declared.states.State.TheVariants.{Init}
-use Rattle.session_laws.specs.CompleteReplies.{HasValidIds, RepliesAreComplete}
-use Rattle.rtsp_replies.specs.Messages.{IsMessage}
+use Rattle.session_laws.specs.CompleteReplies.{HasValidIds}
 use Rattle.session_laws.proofs.CompleteReplyLemmas.{replies_whole}
 use Rattle.conn.specs.InputSteps.{HasHeard, IsAskAnswered, Outcome, Stage, Entered}
 use Rattle.connection_laws.specs.Courses.{Course}
-use Rattle.connection_laws.specs.Plays.{StationRequest, Asks, FilmPlay, kept_in, plays_admitted, plays_begun, plays_of}
+use Rattle.connection_laws.specs.Plays.{StationRequest, Asks, FilmPlay, plays_begun, play_by, plays_of}
 use Rattle.connection_laws.proofs.CourseSteps.{request_stands}
-use Rattle.connection_laws.proofs.StationAnswers.{answers_as}
+use Rattle.conn.proofs.StationAnswers.{answers_as}
 use Rattle.connection_laws.proofs.KeptParts.{LastingPart, taken_keeps, replied_setup, comes_setup}
 use Rattle.connection_laws.proofs.CourseInduction.{comes_heard, AnsweredRequest, Piece, joined, request_piece}
 use Rattle.connection_laws.proofs.CourseInduction.{asking_of, GoesBack, course_back, begin_of, piece_of}
@@ -33,7 +28,7 @@ use Rattle.connection_laws.proofs.SetupOnly.{reply_same, setup_asked, NonePlayed
 use Rattle.session_laws.proofs.PlayInReadyLemmas.{IsPlayHeard, play_heard}
 use Rattle.connection_laws.proofs.ClientSetups.{setup_is, Beginning}
 use Rattle.session_laws.proofs.SetupLemmas.{IsSetupRequest}
-use Rattle.connection_laws.proofs.RequestEffects.{Begins, Ends, Starts, Stays, TurnsAs, turns_as}
+use Rattle.connection_laws.proofs.RequestEffects.{Begins, Ends, Starts, Stays, TurnsAs, begun_is, turns_as}
 use Rattle.connection_laws.proofs.CompleteReplies.{AreTeardowns, AreWhole, admitted_from, answered_named, id_printed}
 use Rattle.connection_laws.proofs.CompleteReplies.{play_room, setup_room, TornFrom, torn_back, named_as, own_reply}
 use Rattle.connection_laws.proofs.CompleteReplies.{IsOwnReply}
@@ -144,17 +139,6 @@ record IsPlayTaken (b : Beginning) (out : Outlook) (old : SessionState) (message
   none : plays_of later ≡ []
   plays : plays_of (asking ∷ later) ≡ out.play ∷ out.others
 
--- the play that begins at PLAY
-abbrev play_begun : {old : SessionState} {asked : Awaited} {outcome : Outcome} {new : SessionState}
-    → List StationRequest → Begins old asked outcome new → FilmPlay
-play_begun later begins = record {
-  start = begins.start;
-  plan = begins.prepared.plan;
-  keep = kept_in later (total_bytes begins.prepared.plan);
-  before = begins.prepared.run.sent;
-  pieces = run_pieces begins.prepared.frames;
-}
-
 -- it is the one that is to come, with those after it
 record IsPlayBegun (out : Outlook) (mine : FilmPlay) (later : List StationRequest) : Type 0 where
   same : mine ≡ out.play
@@ -175,17 +159,13 @@ Turns turn = TurnsAs turn.old turn.heard.asking.awaited turn.outcome turn.new
 
 begun_same : {b : Beginning} {out : Outlook} (turn : PlayTurn b out)
     (begins : Begins turn.old turn.heard.asking.awaited turn.outcome turn.new)
-    → IsPlayBegun out (play_begun turn.later begins) turn.later
+    → IsPlayBegun out (play_by begins.prepared begins.start turn.later) turn.later
 begun_same {out = out} turn begins =
-    let mine = play_begun later begins in
-    let made : plays_begun heard.asking.awaited outcome later ≡ mine ∷ [] =
-    ap (λ o. plays_begun heard.asking.awaited o later) begins.outcome_is
-    ∙ (ap (λ a. plays_admitted a begins.placed.entry.answer later) begins.asked_is
-    ∙ ap (λ a. plays_admitted (Play begins.prepared) a later) begins.answer) in
-    let all : mine ∷ plays_of later ≡ out.play ∷ out.others = sym (ap (λ l. l ++ plays_of later) made) ∙ taken.plays in
+    let all : play_by begins.prepared begins.start later ∷ plays_of later ≡ out.play ∷ out.others =
+    sym (ap (λ l. l ++ plays_of later) (begun_is begins later)) ∙ taken.plays in
     record { same = cc; rest = cc }
   where
-    open turn use {outcome, later, heard, taken}
+    open turn use {later, taken}
 
 -- a play begins at PLAY
 begun_play : {b : Beginning} {out : Outlook} (turn : PlayTurn b out) (slots : List ℕ)
@@ -211,33 +191,11 @@ not_begun {out = out} turn begun =
     sym turn.taken.none ∙ (sym (ap (λ l. l ++ plays_of turn.later) begun) ∙ turn.taken.plays) in
     let no : ⊥ = cc in no
 
-play_turn : {b : Beginning} {out : Outlook} (turn : PlayTurn b out) (slots : List ℕ) → Turns turn
-    → IsOnePlay b out turn.old.heard 0 (turn.old.heard ∷ slots)
-play_turn turn slots (Stays same after still) = absurd (not_begun turn (still.none turn.later))
-play_turn turn slots (Ends after halts) = absurd (not_begun turn (halts.none turn.later))
-play_turn turn slots (Starts after begins) =
-    begun_play turn slots begins
-    (play_heard turn.old turn.message turn.heard.ask turn.heard.asking begins.prepared turn.taken.waits.stands.rest
-    begins.asked_is turn.heard.hears)
-
--- its reply is complete
-play_whole : {b : Beginning} {out : Outlook} (turn : PlayTurn b out)
-    → RepliesAreComplete turn.heard.ask turn.heard.asking → Turns turn → IsMessage turn.new.text
-play_whole turn whole (Stays same after still) = absurd (not_begun turn (still.none turn.later))
-play_whole turn whole (Ends after halts) = absurd (not_begun turn (halts.none turn.later))
-play_whole turn whole (Starts after begins) =
-    (admitted_from begins.answer (answers_as turn.heard.ask (Entered begins.placed)
-    (subst (λ o. IsAskAnswered turn.heard.asking turn.heard.ask o turn.new) begins.outcome_is
-    turn.heard.answered))).whole whole begins.small
-
--- and what the client reads in it
-play_read : {b : Beginning} {out : Outlook} (turn : PlayTurn b out) → HasValidIds turn.old → IsMessage turn.new.text
-    → Turns turn → IsPlayBegunAt b out.play.start turn.old turn.new
-play_read turn valid whole (Stays same after still) = absurd (not_begun turn (still.none turn.later))
-play_read turn valid whole (Ends after halts) = absurd (not_begun turn (halts.none turn.later))
-play_read {b} turn valid whole (Starts after begins) =
-    subst (λ (p : FilmPlay). IsPlayBegunAt b p.start turn.old turn.new) (begun_same turn begins).same
-    (play_begun_at turn.taken.waits valid turn.heard turn.taken.message_is begins whole)
+turn_begins : {b : Beginning} {out : Outlook} (turn : PlayTurn b out) → Turns turn
+    → Begins turn.old turn.heard.asking.awaited turn.outcome turn.new
+turn_begins turn (Stays same after still) = absurd (not_begun turn (still.none turn.later))
+turn_begins turn (Ends after halts) = absurd (not_begun turn (halts.none turn.later))
+turn_begins turn (Starts after begins) = begins
 
 -- a request that is processed, and what comes after it
 record Taken (b : Beginning) (out : Outlook) : Type 0 where
@@ -270,9 +228,7 @@ play_walk : {b : Beginning} {out : Outlook} (taken : Taken b out)
 play_walk {b} {out} taken is =
     let play = play_first taken is in
     let heard = replied.heard in
-    let turns = turns_as old.session message outcome replied.answered heard is.waits.stands.rest in
-    let whole = replies_whole old.session message heard.ask heard.asking is.named (play_room b play.0.message_is)
-    heard.hears in
+    let rest = is.waits.stands.rest in
     let turn : PlayTurn b out = record {
       old = old.session;
       new = replied.answered;
@@ -282,14 +238,20 @@ play_walk {b} {out} taken is =
       heard = heard;
       taken = play.0;
     } in
-    let mine = play_whole turn whole turns in
-    let begun = play_read turn is.named mine turns in
+    let begins = turn_begins turn (turns_as old.session message outcome replied.answered heard rest) in
+    let hears = play_heard old.session message heard.ask heard.asking begins.prepared rest begins.asked_is heard.hears in
+    let admitted = admitted_from begins.answer (answers_as heard.ask (Entered begins.placed)
+    (subst (λ o. IsAskAnswered heard.asking heard.ask o replied.answered) begins.outcome_is heard.answered)) in
+    let whole = admitted.whole (replies_whole old.session message heard.ask heard.asking is.named
+    (play_room b play.0.message_is) heard.hears) begins.small in
+    let begun = subst (λ (p : FilmPlay). IsPlayBegunAt b p.start old.session replied.answered)
+    (begun_same turn begins).same (play_begun_at is.waits is.named heard play.0.message_is begins whole) in
     let own : IsNamed b new.session = rw replied.new_is (named_still (replied_setup replied.answered) begun.own) in
     let after = leads.torn (answered_named request is.named) own
     (subst (AreTeardowns b) (sym play.1) is.teardowns) in
     record {
-      one = play_turn turn later.slots turns;
-      whole = (mine, after.0);
+      one = begun_play turn later.slots begins hears;
+      whole = (whole, after.0);
       ready = begun.ready;
       read = λ few. (begun.answer few, after.1);
     }

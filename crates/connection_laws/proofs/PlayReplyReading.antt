@@ -25,7 +25,7 @@ use Rattle.interleave.specs.Elements.{IsMessageLength}
 use Rattle.rtsp_text.specs.Fields.{header_value}
 use Rattle.rtsp_text.specs.Replies.{Field, IsPlain, all_fields, phrase, reply_front, reply_text, value_named}
 use Rattle.rtsp_text.proofs.ReplyRoundTrip.{read_back}
-use Rattle.rtsp_client.specs.Replies.{has_point, milliseconds, range_end, session_id, start_within, time_in}
+use Rattle.rtsp_client.specs.Replies.{has_point, milliseconds, range_end, session_id, start_within, time_in, IsAnswer}
 
 -- as many pictures as a film has last until its end in whole milliseconds
 units_counted : (n time : ℕ) → 360 ≤ time → units_until (n * time / 360) time ≡ n
@@ -193,34 +193,48 @@ pub record PlayNumbers : Type 0 where
   pub some : 1 ≤ slots
   pub few : slots ≤ 2 ^ 62 + 1
 
+-- a reply of 200 answers the request of its number, and each name has the value of its first field of that name
+pub record IsReplyRead (message : List ℕ) (number : ℕ) (fields : List Field) : Type 0 where
+  pub answer : IsAnswer message number 200
+  pub values : (name : List ℕ) → header_value message name ≡ value_named name (all_fields (Some number) fields)
+
+pub read_reply : {message : List ℕ} (number : ℕ) (fields : List Field) → number < 2 ^ 64
+    → IsMessageLength message (length message) → All IsPlain (all_fields (Some number) fields)
+    → message ≡ reply_text 200 (Some number) fields [] → IsReplyRead message number fields
+unfolding reply_text value_named
+read_reply {message} number fields small size plain is =
+    let head = reply_front 200 (Some number) fields ++ codes "\r\n" in
+    let back = read_back (record { code = 200; sequence = Some number; fields = fields; body = [] }) size
+    refl plain is in
+    let same : message ≡ head = is ∙ append-nil head in
+    let value : (name : List ℕ)
+    → header_value message name ≡ value_named name (all_fields (Some number) fields) = λ name.
+    ap (λ m. header_value m name) same ∙ back.values name in
+    record {
+      answer = record {
+        phrase = phrase 200;
+        line = back.reply.line;
+        sequence = ap (λ v. option_and_then number_of v) (value (codes "CSeq")) ∙ decimal_read number small;
+      };
+      values = value;
+    }
+
 named_read : {message : List ℕ} (info : List ℕ) (numbers : PlayNumbers) → IsMessageLength message (length message) →
     All IsPlain (all_fields (Some numbers.sequence)
     (play_named numbers.id (codes "npt=0.000-" ++ seconds_text numbers.end_ms) info numbers.slots)) →
     message ≡ reply_text 200 (Some numbers.sequence)
     (play_named numbers.id (codes "npt=0.000-" ++ seconds_text numbers.end_ms) info numbers.slots) [] →
     IsPlayRead message numbers.id numbers.sequence numbers.end_ms numbers.slots
-unfolding reply_text value_named
-named_read {message} info numbers size plain is =
-    let range = codes "npt=0.000-" ++ seconds_text end_ms in
-    let fields = play_named id range info slots in
-    let head = reply_front 200 (Some sequence) fields ++ codes "\r\n" in
-    let back = read_back (record { code = 200; sequence = Some sequence; fields = fields; body = [] }) size
-    refl plain is in
-    let whole : message ≡ head = is ∙ append-nil head in
-    let value : (name : List ℕ)
-    → header_value message name ≡ value_named name (all_fields (Some sequence) fields) = λ name.
-    ap (λ m. header_value m name) whole ∙ back.values name in
+unfolding value_named
+named_read info numbers size plain is =
+    let fields = play_named id (codes "npt=0.000-" ++ seconds_text end_ms) info slots in
+    let read = read_reply sequence fields small size plain is in
     record {
-      answer = record {
-        phrase = phrase 200;
-        line = back.reply.line;
-        sequence = ap (λ v. option_and_then number_of v)
-            (value (codes "CSeq")) ∙ decimal_read sequence small;
-      };
-      session = ap (λ v. option_map session_id v) (value (codes "Session"));
-      range = ap (λ v. option_and_then range_end v) (value (codes "Range")) ∙ range_read end_ms short;
+      answer = read.answer;
+      session = ap (λ v. option_map session_id v) (read.values (codes "Session"));
+      range = ap (λ v. option_and_then range_end v) (read.values (codes "Range")) ∙ range_read end_ms short;
       start = ap (λ v. option_and_then start_within (option_and_then number_of v))
-          (value (codes "x-Start")) ∙ start_read slots some few;
+          (read.values (codes "x-Start")) ∙ start_read slots some few;
     }
   where
     open numbers use {id, sequence, end_ms, slots, small, short, some, few}

@@ -8,7 +8,7 @@ use Rattle.std.proofs.lemmas.Bool.{true≢false}
 use Rattle.std.proofs.lemmas.List.{append_assoc, append-nil}
 use Rattle.plan_cert.specs.PlanSlots.{total_bytes}
 use Rattle.film_frames.specs.declared.stored_films.Stored.{Stored}
-use Rattle.film_frames.specs.FramedRuns.{FramedRun, frames_before, octets_before, run_of, run_pieces}
+use Rattle.film_frames.specs.FramedRuns.{FramedRun, frames_before, octets_before, run_of}
 use Rattle.plan_cert.specs.declared.Segment.{Segment}
 use Rattle.early_start.specs.StartSearch.{Offers}
 use Rattle.film_run.specs.declared.runs.Run.{Run}
@@ -39,22 +39,21 @@ use Rattle.session.specs.SlotSteps.{sent_slot, stepped_in}
 use Rattle.session.specs.SlotTransitions.{after_stop}
 use Rattle.session_laws.proofs.RunLemmas.{IsLeftBy, IsNextRun, RunsAs, Replies, SetsUp, AsksPlay, Stops, AsksLook}
 use Rattle.session_laws.proofs.RunLemmas.{AsksOffer, one_film, run_goes_on, runs_as}
-use Rattle.conn.specs.InputSteps.{Outcome, Entered, SentPart, Stage, IsHaltAnswered, WasFull, Offered}
+use Rattle.conn.specs.InputSteps.{Outcome, Entered, SentPart, Stage, Unasked, IsAskAnswered}
 use Rattle.connection_laws.specs.Courses.{Course, asked_by, askings_of, course_plays}
-use Rattle.connection_laws.specs.Plays.{FilmPlay, StationRequest, Asks, kept_by, kept_in, kept_with, plays_admitted}
-use Rattle.connection_laws.specs.Plays.{plays_of, booked_by}
+use Rattle.connection_laws.specs.Plays.{FilmPlay, StationRequest, Asks, kept_by, kept_in, kept_with, play_by, plays_admitted}
+use Rattle.connection_laws.specs.Plays.{plays_of}
 use Rattle.connection_laws.specs.LookLimits.{course_looks, look_in, looks_in}
 use Rattle.connection_laws.specs.PlayRuns.{AreRunsInOrder, IsFirstRun, IsLaterRun, RunPlace, SendsNext, run_place}
-use Rattle.connection_laws.proofs.StationAnswers.{AnswersAs, NoneAsked, PlayAdmitted, PlayRefused, PlayFull, PlayHalted}
-use Rattle.connection_laws.proofs.StationAnswers.{LookMade, LookFull, OfferMade, answers_as, SlotTo, SlotSent, SlotIdle}
-use Rattle.connection_laws.proofs.StationAnswers.{SlotPast, slot_to, IsAdmitted, halted_by}
+use Rattle.connection_laws.proofs.StationAnswers.{SlotTo, SlotSent, slot_to}
+use Rattle.connection_laws.proofs.RequestEffects.{IsStill, looked_still, no_entry, refused_still}
 use Rattle.connection_laws.proofs.KeptParts.{reply_keeps, slot_keeps}
 use Rattle.connection_laws.proofs.CourseInduction.{Piece, AnsweredRequest, asking_of, begin_of}
-use Rattle.connection_laws.proofs.ReplyBoundaries.{StillRequest, still_asked, unasked}
-use Rattle.admission.specs.Histories.{play_admitted}
-use Rattle.station.specs.Ledgers.{play_of}
+use Rattle.conn.proofs.StationAnswers.{AnswersAs, NoneAsked, PlayAdmitted, PlayOverflowed, PlayFull, PlayHalted}
+use Rattle.conn.proofs.StationAnswers.{LookMade, LookFull, OfferMade, answers_as, IsHaltEntry, IsPlayEntry}
 use Rattle.conn.proofs.StationAnswers.{ComesAs, BytesCame, SlotCame}
 use Rattle.conn.specs.EventSteps.{Round}
+use Rattle.admission.specs.declared.entries.Answer.TheVariants.{Admitted}
 
 -- what the runs of a session go by, and what of a reply matters to them
 record Stream : Type 0 where
@@ -198,13 +197,13 @@ module _ (words : List ℕ) where
       subst (λ k. IsUnderWay at.stream setup play.run (play.run.sent + k) at.last) (same (total_bytes play.plan)) is
   same_kept at g _ same is = is
 
-  still : {old new : SessionState} (request : StillRequest) → new.looks_left ≡ old.looks_left - look_in request.asked
-      → Moves old new → Leads old new (still_asked request ∷ [])
-  still {old} {new} request looks move = record {
-    on = λ later follows last is. rw (request.still.none later) (follows last (move (kept_in later) last
-        (same_kept (standing old (λ k. kept_with request.outcome (kept_in later k)) last) (kept_in later) old.state
-        (λ k. request.still.kept (kept_in later k)) is)));
-    looks = looks ∙ ap (λ n. old.looks_left - n) (sym (plus_none (look_in request.asked)));
+  still : {old new : SessionState} {asked : Awaited} {outcome : Outcome} → IsStill asked outcome
+      → new.looks_left ≡ old.looks_left - look_in asked → Moves old new → Leads old new (Asks asked outcome ∷ [])
+  still {old} {asked = asked} {outcome} same looks move = record {
+    on = λ later follows last is. rw (same.none later) (follows last (move (kept_in later) last
+        (same_kept (standing old (λ k. kept_with outcome (kept_in later k)) last) (kept_in later) old.state
+        (λ k. same.kept (kept_in later k)) is)));
+    looks = looks ∙ ap (λ n. old.looks_left - n) (sym (plus_none (look_in asked)));
   }
 
   -- ---- slots and replies
@@ -256,8 +255,7 @@ module _ (words : List ℕ) where
 
   slot_moves : {s t : SessionState} {slot : ℕ} {parts : List SentPart} → SlotTo s slot t parts → Moves s t
   slot_moves {s} {slot = slot} (SlotSent sending later) = sent_moves s slot
-  slot_moves (SlotIdle none later) = λ kept last is. is
-  slot_moves SlotPast = λ kept last is. is
+  slot_moves _ = λ kept last is. is
 
   -- ---- halts
 
@@ -271,9 +269,6 @@ module _ (words : List ℕ) where
         counts = counts_done stream.source stream.counts setup run keep found;
       } in
       rw (way.at, way.place) (record { before = stream.counts; identity = refl; counts = refl })
-
-  abbrev Halts : SessionState → ℕ → PlacedEntry → SessionState → Type 0
-  Halts s keep placed new = IsHaltAnswered s keep placed new → Leads s new (Asks s.awaited (Entered placed) ∷ [])
 
   halt_state : {next : AfterHalt} {last : Option RunPlace} (kept : ℕ → ℕ) (stop : Stopped next) (place : ℕ)
       → IsUnderWay (stream_of stop.s) stop.setup stop.play.run (stop.play.run.sent + stop.keep) last
@@ -297,46 +292,34 @@ module _ (words : List ℕ) where
       open stop use {s, setup, play, keep, left}
   halt_state {next = Torn} kept stop place way = (refl, inl refl)
 
-  halts : {next : AfterHalt} (stop : Stopped next) (placed : PlacedEntry) (new : SessionState)
-      → Halts (stopping stop) stop.keep placed new
-  halts stop placed new halted =
-      rw halted.halts (record {
-        on = λ later follows last is. follows last (halt_state (kept_in later) stop placed.place
-            (subst (λ c. IsUnderWay (stream_of s) setup play.run
-            (play.run.sent + kept_by c (kept_in later (total_bytes play.plan))) last) halted.command is));
-        looks = sym (minus_none s.looks_left);
-      })
+  halts : {next : AfterHalt} {placed : PlacedEntry} (stop : Stopped next) → IsHaltEntry stop.keep placed
+      → Leads (stopping stop) (after_halt (stopping stop) placed.place) (Asks (Halt stop.keep next) (Entered placed) ∷ [])
+  halts {placed = placed} stop entry = record {
+    on = λ later follows last is. follows last (halt_state (kept_in later) stop placed.place
+        (subst (λ c. IsUnderWay (stream_of s) setup play.run
+        (play.run.sent + kept_by c (kept_in later (total_bytes play.plan))) last) entry.command is));
+    looks = sym (minus_none s.looks_left);
+  }
     where
       open stop use {s, setup, play}
 
   finishes : {s new : SessionState} {halt : Outcome} → Finished s halt new → Leads s new (Asks s.awaited halt ∷ [])
-  finishes {s} (Quiet rest) =
-      still (unasked s.awaited) (none_asked s.looks_left s.awaited rest) (moves_none s)
+  finishes {s} (Quiet rest) = still (no_entry Unasked refl) (none_asked s.looks_left s.awaited rest) (moves_none s)
   finishes {s} (Ended {placed = placed} done entry) =
       let stop : Stopped Done = record { s = s; setup = done.setup; play = done.play; keep = done.keep; left = tt } in
-      let halt : (new : SessionState) → Halts s done.keep placed new =
-      λ new. rw (done.asks, done.state_is) (halts stop placed new) in
-      halt (after_halt s placed.place) (halted_by entry)
+      let L : State → Awaited → Type 0 = λ st a. Leads (record s { state = st; awaited = a })
+      (after_halt (record s { state = st; awaited = a }) placed.place) (Asks a (Entered placed) ∷ []) in
+      subst (λ st. L st s.awaited) (sym done.state_is)
+      (subst (L (Playing done.setup done.play)) (sym done.asks) (halts stop entry))
 
   comes_leads : {old opened : Stage} {round : Round} → Stands old.session → ComesAs old round opened
       → Leads old.session opened.session (Asks (asked_by old.session round.event) round.halt ∷ [])
   comes_leads {old} stands BytesCame =
-      still (unasked Nothing) (sym (minus_none old.session.looks_left)) (moves_none old.session)
+      still (no_entry Unasked refl) (sym (minus_none old.session.looks_left)) (moves_none old.session)
   comes_leads {old} stands (SlotCame {slot = slot} finish) =
       let to = slot_to old.session slot in
       leads_then (moves (slot_looks old.session slot) (slot_moves to))
       (finishes (finish_by (slot_asks to stands.rest) refl finish))
-
-  -- ---- requests
-
-  -- a request is processed where no reply waits and no TEARDOWN was answered; then its own waits
-  said : (at : Standing) (state : State) (tearing : Bool) → at.flags.waits ≡ false → at.flags.torn ≡ false
-      → IsIn state at
-      → IsIn state (record at { flags = record { waits = true; tearing = tearing; torn = at.flags.torn } })
-  said at (Ready setup paused) tearing replied on (inl torn) = absurd (true≢false (sym torn.1 ∙ on))
-  said at (Ready setup paused) tearing replied on (inr rest) = inr rest
-  said at (Stopping setup stop) tearing replied on is = absurd (true≢false (sym is.0 ∙ replied))
-  said at _ tearing replied on is = is
 
 -- a session that hears a request: no reply waits, and no TEARDOWN was answered
 record Hearing : Type 0 where
@@ -360,55 +343,36 @@ record AskedPlay (old : SessionState) : Type 0 where
 abbrev asking_for : {old : SessionState} → AskedPlay old → SessionState
 asking_for {old} asked = record old { awaited = Play asked.prepared; text = asked.text }
 
--- the journal is full
-abbrev full : Awaited → ℕ → ℕ → ℕ → StillRequest
-full asked more entries live = record {
-  asked = asked;
-  outcome = WasFull more entries live;
-  still = record { none = λ later. refl; kept = λ k. refl; untold = λ made. refl };
-}
-
 module _ (h : Hearing) where
   open h use {words, old, replied, linked}
 
   abbrev Answers : Outcome → SessionState → Ask → SessionState → Type 0
-  Answers outcome new ask asking = AnswersAs asking new ask outcome
+  Answers outcome new ask asking = IsAskAnswered asking ask outcome new → AnswersAs asking ask outcome new
       → Leads words old new (Asks asking.awaited outcome ∷ [])
 
   -- a reply waits, and else all is as before
-  waiting : (tearing : Bool) (kept : ℕ → ℕ) (last : Option RunPlace) → IsLast words old kept last
-      → IsLastIn words old.state (stream_of old) (record { waits = true; tearing = tearing; torn = old.torn }) kept
-      last
-  waiting tearing kept last is = said words (standing old kept last) old.state tearing replied linked is
+  waiting : (tearing : Bool) (state : State) (kept : ℕ → ℕ) (last : Option RunPlace)
+      → IsLastIn words state (stream_of old) (flags_of old) kept last → IsLastIn words state (stream_of old)
+      (record { waits = true; tearing = tearing; torn = old.torn }) kept last
+  waiting tearing (Ready setup paused) kept last (inl torn) = absurd (true≢false (sym torn.1 ∙ linked))
+  waiting tearing (Ready setup paused) kept last (inr rest) = inr rest
+  waiting tearing (Stopping setup stop) kept last is = absurd (true≢false (sym is.0 ∙ replied))
+  waiting tearing _ kept last is = is
 
-  replies : {outcome : Outcome} (asking new : SessionState) → asking.awaited ≡ Nothing
+  replies : (asking : SessionState) (outcome : Outcome) (new : SessionState) → asking.awaited ≡ Nothing
       → asking.looks_left ≡ old.looks_left → Moves words old asking → Answers outcome new AskReply asking
-  replies asking new rest looks move (NoneAsked answered) =
-      rw answered (still words (unasked asking.awaited) (looks ∙ none_asked old.looks_left asking.awaited rest) move)
+  replies asking outcome new rest looks move is NoneAsked =
+      still words (no_entry Unasked refl) (looks ∙ none_asked old.looks_left asking.awaited rest) move
 
-  looks_at : {outcome : Outcome} (sequence slot : ℕ) (new : SessionState)
-      → Answers outcome new (AskLook slot) (record old { looks_left = old.looks_left - 1; awaited = Look sequence })
-  looks_at sequence slot new (LookMade {placed = placed} is) =
-      rw is.new_is (still words (record {
-        asked = Look sequence;
-        outcome = Entered placed;
-        still = record {
-          none = λ later. refl;
-          kept = λ k. ap (λ c. kept_by c k) is.command;
-          untold = λ made. ap (λ c. booked_by (play_admitted c placed.entry.answer) made) is.command;
-        };
-      }) refl (waiting old.tearing))
-  looks_at sequence slot new (LookFull {more = more} {entries = entries} {live = live} is) =
-      rw is (still words (full (Look sequence) more entries live) refl (waiting old.tearing))
+  looks_at : (sequence : ℕ) (outcome : Outcome) (new : SessionState)
+      → Answers outcome new (AskLook old.heard) (record old { looks_left = old.looks_left - 1; awaited = Look sequence })
+  looks_at sequence outcome new is (LookMade looked) = still words (looked_still old.heard is.0) refl (waiting old.tearing old.state)
+  looks_at sequence outcome new is LookFull = still words (no_entry _ refl) refl (waiting old.tearing old.state)
 
-  offers_of : {outcome : Outcome} (plan : List Segment) (offers : Offers) (sequence : ℕ) (new : SessionState)
+  offers_of : {plan : List Segment} {offers : Offers} (sequence : ℕ) (outcome : Outcome) (new : SessionState)
       → Answers outcome new (AskOffer plan offers) (record old { awaited = Offer sequence })
-  offers_of plan offers sequence new (OfferMade {at_slot = at_slot} {note = note} is) =
-      rw is (still words (record {
-        asked = Offer sequence;
-        outcome = Offered at_slot note;
-        still = record { none = λ later. refl; kept = λ k. refl; untold = λ made. refl };
-      }) (sym (minus_none old.looks_left)) (waiting old.tearing))
+  offers_of sequence outcome new is OfferMade =
+      still words (no_entry _ refl) (sym (minus_none old.looks_left)) (waiting old.tearing old.state)
 
   -- ---- a play
 
@@ -450,29 +414,30 @@ module _ (h : Hearing) where
     rw fresh.counts (later_identity last old.source asked.setup fresh.before fresh.identity),
   )
 
+  -- of the film's own run so many bytes were sent
+  own_place : {run : Run} {sent : ℕ} {last : Option RunPlace} (asked : AskedPlay old)
+      → IsUnderWay (stream_of old) asked.setup run sent last
+      → last ≡ Some (run_place (sending_of asked.stored.film old.source asked.setup old.counts run) sent)
+  own_place {run} {sent} {last} asked way =
+      one_film old.films asked.setup.film way.stored (λ s. last ≡ Some (run_place
+      (sending_of s.film old.source asked.setup old.counts run) sent)) way.at way.place asked.stored asked.at
+
   rest_next : (asked : AskedPlay old) (paused : Option Run) (last : Option RunPlace) (run : Run) → run.sent ≡ 0
       → IsAtRest words paused (stream_of old) asked.setup last
       → Next asked.stored asked.setup last (counts_before asked.stored.film old.source asked.setup old.counts paused) run
   rest_next asked None last run sent rest play before = new_next asked last run sent rest play before
   rest_next asked (Some paused) last run sent rest play before =
-      let sending : FramedRun = sending_of stored.film old.source setup old.counts paused in
-      let place : last ≡ Some (run_place sending paused.sent) =
-      one_film old.films setup.film rest.stored (λ s. last ≡ Some (run_place
-      (sending_of s.film old.source setup old.counts paused) paused.sent)) rest.at rest.place stored at in
-      rw place (inr (before ∙ sent, later_identity (run_place sending paused.sent) old.source setup old.counts refl))
-    where
-      open asked use {stored, setup, at}
+      let sending : FramedRun = sending_of asked.stored.film old.source asked.setup old.counts paused in
+      rw (own_place asked rest) (inr (
+        before ∙ sent,
+        later_identity (run_place sending paused.sent) old.source asked.setup old.counts refl,
+      ))
 
   resumed_next : (asked : AskedPlay old) (last : Option RunPlace) (run : Run)
       → IsUnderWay (stream_of old) asked.setup run run.sent last → Next asked.stored asked.setup last old.counts run
   resumed_next asked last run rest play before =
-      let sending : FramedRun = sending_of stored.film old.source setup old.counts run in
-      let place : last ≡ Some (run_place sending run.sent) =
-      one_film old.films setup.film rest.stored (λ s. last ≡ Some (run_place
-      (sending_of s.film old.source setup old.counts run) run.sent)) rest.at rest.place stored at in
-      subst (λ l. SendsNext words l sending play) (sym place) (inl (refl, before))
-    where
-      open asked use {stored, setup, at}
+      let sending : FramedRun = sending_of asked.stored.film old.source asked.setup old.counts run in
+      subst (λ l. SendsNext words l sending play) (sym (own_place asked rest)) (inl (refl, before))
 
   next_run : (asked : AskedPlay old) (last : Option RunPlace)
       → IsAtRest words asked.paused (stream_of old) asked.setup last
@@ -493,65 +458,49 @@ module _ (h : Hearing) where
         | inr rest ↦ rest
       ]
 
-  admitted : {plan : List Segment} {placed : PlacedEntry} (asked : AskedPlay old) (new : SessionState)
-      → IsAdmitted (asking_for asked) plan placed new
-      → Leads words old new (Asks (Play asked.prepared) (Entered placed) ∷ [])
-  admitted {placed = placed} asked new is =
-      subst (λ n. Leads words old n (Asks (Play prepared) (Entered placed) ∷ [])) (sym is.new_is) (record {
-        on = λ later follows last was.
-            let play : FilmPlay = record {
-              start = is.start;
-              plan = prepared.plan;
-              keep = kept_in later (total_bytes prepared.plan);
-              before = prepared.run.sent;
-              pieces = run_pieces prepared.frames;
-            } in
-            let under : IsLast words (after_admission (asking_for asked) placed.place is.start) (kept_in later)
-            (Some (run_place prepared.frames (play.before + play.keep))) =
-            subst (λ st. IsLastIn words (admitted_in st (Play prepared) placed.place is.start)
-            (record { films = old.films; source = old.source; counts = prepared.counts })
-            (record { waits = true; tearing = old.tearing; torn = old.torn }) (kept_in later)
-            (Some (run_place prepared.frames (play.before + play.keep)))) (sym ready)
-            (record {
-              stored = stored;
-              at = at;
-              place = ap (λ run. Some (run_place run (play.before + play.keep))) frames;
-            }) in
-            subst (λ a. AreRunsInOrder words last (plays_admitted (Play prepared) a later ++ plays_of later))
-            (sym is.answer) (
-              prepared.frames,
-              (
-                refl,
-                subst (λ run. SendsNext words last run play) (sym frames)
-                    (next_run asked last (at_rest asked
-                    (kept_in (Asks (Play prepared) (Entered placed) ∷ later)) last was)
-                    next play refl),
-                follows (Some (run_place prepared.frames (play.before + play.keep))) under,
-              ),
-            );
-        looks = sym (minus_none old.looks_left);
-      })
+  admitted : {placed : PlacedEntry} {start : ℕ} (asked : AskedPlay old)
+      → IsPlayEntry (asking_for asked) asked.prepared.plan placed (Admitted start)
+      → Leads words old (after_admission (asking_for asked) placed.place start)
+      (Asks (Play asked.prepared) (Entered placed) ∷ [])
+  admitted {placed} {start} asked entry = record {
+    on = λ later follows last was.
+        let play : FilmPlay = play_by prepared start later in
+        let under : IsLast words (after_admission (asking_for asked) placed.place start) (kept_in later)
+        (Some (run_place prepared.frames (play.before + play.keep))) =
+        subst (λ st. IsLastIn words (admitted_in st (Play prepared) placed.place start)
+        (record { films = old.films; source = old.source; counts = prepared.counts })
+        (record { waits = true; tearing = old.tearing; torn = old.torn }) (kept_in later)
+        (Some (run_place prepared.frames (play.before + play.keep)))) (sym ready)
+        (record {
+          stored = stored;
+          at = at;
+          place = ap (λ run. Some (run_place run (play.before + play.keep))) frames;
+        }) in
+        subst (λ a. AreRunsInOrder words last (plays_admitted (Play prepared) a later ++ plays_of later))
+        (sym entry.answer_is) (
+          prepared.frames,
+          (
+            refl,
+            subst (λ run. SendsNext words last run play) (sym frames)
+                (next_run asked last (at_rest asked
+                (kept_in (Asks (Play prepared) (Entered placed) ∷ later)) last was)
+                next play refl),
+            follows (Some (run_place prepared.frames (play.before + play.keep))) under,
+          ),
+        );
+    looks = sym (minus_none old.looks_left);
+  }
     where
       open asked use {stored, prepared, ready, at, next, frames}
 
   -- or refused
-  plays : {plan : List Segment} {outcome : Outcome} (asked : AskedPlay old) (new : SessionState)
-      → Answers outcome new (AskPlay plan) (asking_for asked)
-  plays asked new (PlayAdmitted is) = admitted asked new is
-  plays {plan} asked new (PlayRefused {placed = placed} is) =
-      rw is.new_is (still words (record {
-        asked = Play asked.prepared;
-        outcome = Entered placed;
-        still = record {
-          none = λ later. ap (λ a. plays_admitted (Play asked.prepared) a later) is.answer;
-          kept = λ k. ap (λ c. kept_by c k) is.command;
-          untold = λ made. ap (λ c. booked_by (play_admitted c placed.entry.answer) made) is.command
-              ∙ ap (λ a. booked_by (play_admitted (play_of old.heard plan) a) made) is.answer;
-        };
-      }) (sym (minus_none old.looks_left)) (waiting old.tearing))
-  plays asked new (PlayFull {more = more} {entries = entries} {live = live} is) =
-      rw is (still words (full (Play asked.prepared) more entries live) (sym (minus_none old.looks_left))
-      (waiting old.tearing))
+  plays : (asked : AskedPlay old) (outcome : Outcome) (new : SessionState)
+      → Answers outcome new (AskPlay asked.prepared.plan) (asking_for asked)
+  plays asked outcome new is (PlayAdmitted entry answered) = admitted asked entry
+  plays asked outcome new is (PlayOverflowed entry) =
+      still words (refused_still entry) (sym (minus_none old.looks_left)) (waiting old.tearing old.state)
+  plays asked outcome new is (PlayFull more) =
+      still words (no_entry _ refl) (sym (minus_none old.looks_left)) (waiting old.tearing old.state)
 
   -- ---- by what a message comes to
 
@@ -562,21 +511,21 @@ module _ (h : Hearing) where
       subst (λ st. IsLastIn words st (stream_of old) (flags_of old) kept last) init was in
       rw (state, stream, first.0) (inr (first.1, first.2))
 
-  halt_asked : {outcome : Outcome} {asking : SessionState} {keep : ℕ} (new : SessionState)
-      → ((placed : PlacedEntry) → IsHaltAnswered asking keep placed new
-      → Leads words old new (Asks asking.awaited (Entered placed) ∷ [])) → Answers outcome new (AskHalt keep) asking
-  halt_asked new leads (PlayHalted {placed = placed} answered) = leads placed answered
+  halt_asked : {asking : SessionState} {keep : ℕ} (outcome : Outcome) (new : SessionState)
+      → ((placed : PlacedEntry) → IsHaltEntry keep placed
+      → Leads words old (after_halt asking placed.place) (Asks asking.awaited (Entered placed) ∷ []))
+      → Answers outcome new (AskHalt keep) asking
+  halt_asked outcome new leads is (PlayHalted {placed = placed} entry) = leads placed entry
 
-  message_leads : (ask : Ask) (asking new : SessionState) (outcome : Outcome) → old.awaited ≡ Nothing
+  message_leads : {ask : Ask} {asking : SessionState} (outcome : Outcome) (new : SessionState) → old.awaited ≡ Nothing
       → RunsAs old ask asking → Answers outcome new ask asking
-  message_leads ask asking new outcome rest (Replies text tearing command is) =
+  message_leads outcome new rest (Replies text tearing command is) =
       rw (command, is)
-      (replies (record old { text = text; waits = true; tearing = tearing }) new rest refl (waiting tearing))
-  message_leads ask asking new outcome rest (SetsUp text setup init command is) =
+      (replies (record old { text = text; waits = true; tearing = tearing }) outcome new rest refl (waiting tearing old.state))
+  message_leads outcome new rest (SetsUp text setup init command is) =
       let asked : SessionState = record old { text = text; waits = true; state = Ready setup None } in
-      rw (command, is) (replies asked new rest refl (set_up asked setup init refl refl))
-  message_leads ask asking new outcome rest
-      (AsksPlay stored setup paused prepared text ready at next frames command is) =
+      rw (command, is) (replies asked outcome new rest refl (set_up asked setup init refl refl))
+  message_leads outcome new rest (AsksPlay stored setup paused prepared text ready at next frames command is) =
       rw (command, is) (plays (record {
         stored = stored;
         setup = setup;
@@ -587,23 +536,20 @@ module _ (h : Hearing) where
         at = at;
         next = next;
         frames = frames;
-      }) new)
-  message_leads ask asking new outcome rest (Stops setup play keep next text playing left command is) =
+      }) outcome new)
+  message_leads outcome new rest (Stops setup play keep next text playing left command is) =
       let stopping : Played = record play { pacer = record play.pacer { keep = keep } } in
       let same : Moves words old (record old { state = Playing setup stopping; awaited = Halt keep next; text = text }) =
       λ kept last was. subst (λ st. IsLastIn words st (stream_of old) (flags_of old) kept last) playing was in
-      rw (command, is) (halt_asked new (λ placed answered. leads_then words (moves words refl same)
-      (halts words (record {
+      rw (command, is) (halt_asked outcome new (λ placed entry. leads_then words (moves words refl same) (halts words (record {
         s = record old { text = text };
         setup = setup;
         play = stopping;
         keep = keep;
         left = left;
-      }) placed new answered)))
-  message_leads ask asking new outcome rest (AsksLook sequence command is) =
-      rw (command, is) (looks_at sequence old.heard new)
-  message_leads ask asking new outcome rest (AsksOffer plan offers sequence command is) =
-      rw (command, is) (offers_of plan offers sequence new)
+      }) entry)))
+  message_leads outcome new rest (AsksLook sequence command is) = rw (command, is) (looks_at sequence outcome new)
+  message_leads outcome new rest (AsksOffer plan offers sequence command is) = rw (command, is) (offers_of sequence outcome new)
 
 module _ (words : List ℕ) where
   -- ---- elements and events
@@ -615,8 +561,7 @@ module _ (words : List ℕ) where
       let made : List StationRequest = Asks heard.asking.awaited outcome ∷ [] in
       let one : Leads words old.session replied.answered made =
       message_leads (record { words = words; old = old.session; replied = replied.next.replied; linked = replied.next.torn })
-      heard.ask heard.asking replied.answered outcome stands.rest
-      (runs_as old.session message heard.ask heard.asking stands.rest heard.hears)
+      outcome replied.answered stands.rest (runs_as old.session message heard.ask heard.asking stands.rest heard.hears) heard.answered
       (answers_as heard.ask outcome heard.answered) in
       rw replied.new_is (leads_then words one (moves words
       (reply_keeps (λ (s : SessionState). s.looks_left) (λ s. refl) (can_reply replied.answered) replied.answered)

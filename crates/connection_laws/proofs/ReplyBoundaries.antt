@@ -7,64 +7,48 @@ use Rattle.std.proofs.Common.{◌≡◌, ℕ, ◌+◌, ◌-◌, ◌<◌, ◌≤�
 use Rattle.std.proofs.Common.{Option, Some, None, length, refl, ap, sym, ◌∙◌, subst, inl, arith, []}
 use Rattle.conn.proofs.ReplyPlacement.{boundary_here}
 use Rattle.std.proofs.lemmas.Bool.{true≢false}
-use Rattle.film_frames.specs.FramedRuns.{run_pieces}
 use Rattle.film_frames.specs.Tracks.{IsBoundary, framed_bytes}
 use Rattle.pacer.proofs.PacerStateLemmas.{boundary-from}
-use Rattle.plan_cert.specs.declared.Segment.{Segment}
 use Rattle.plan_cert.specs.PlanSlots.{total_bytes}
 use Rattle.pacer.specs.PacerStates.{IsPacerState, PacerState, first_slots, next_boundary, stands_at_boundary}
 use Rattle.pacer.specs.PacerStates.{after_step, due_by}
 use Rattle.session.specs.declared.states.Awaited.{Awaited}
-use Rattle.session.specs.declared.states.Awaited.TheVariants.{Play}
-use Rattle.session.specs.declared.states.Prepared.{Prepared}
 use Rattle.session.specs.declared.states.State.{State}
-use Rattle.session.specs.declared.states.State.TheVariants.{Init, Ready, Playing, Stopping}
+use Rattle.session.specs.declared.states.State.TheVariants.{Playing, Stopping}
 use Rattle.session.specs.SlotSteps.{is_between, is_sending}
 use Rattle.session.specs.SessionStates.{SessionState}
 use Rattle.session.specs.SlotTransitions.{after_stop}
-use Rattle.conn.specs.InputSteps.{Outcome, Text, Unasked}
+use Rattle.conn.specs.InputSteps.{Outcome, Text}
 use Rattle.conn.proofs.FilmBytes.{sent_through, slot_is, stopped_is}
 use Rattle.connection_laws.specs.ReplyPlaces.{IsSentAt}
-use Rattle.connection_laws.specs.Plays.{StationRequest, Asks, FilmPlay, plays_admitted, plays_begun, due_by as all_due}
-use Rattle.connection_laws.specs.Plays.{due_of, kept_by, kept_in, kept_with, plays_of}
+use Rattle.connection_laws.specs.Plays.{StationRequest, Asks, due_by as all_due}
+use Rattle.connection_laws.specs.Plays.{due_of, kept_by, kept_in, kept_with, play_by, plays_of}
 use Rattle.connection_laws.specs.Replies.{placed_text}
 use Rattle.connection_laws.proofs.JoinedFilms.{IsOnTime, IsSound, play_with, through_time, IsAtLast}
 use Rattle.connection_laws.proofs.TextPlaces.{AreLater, StandAt, from_lower, later_lower, none_due, text_at, AreSent}
 use Rattle.connection_laws.proofs.TextPlaces.{ToCome, part_then}
 use Rattle.connection_laws.proofs.Slots.{ended_at, ending_cases, going_cases, parts_of, state_after, waits_after}
-use Rattle.connection_laws.proofs.RequestEffects.{Begins, Ends, Ending, Going, Idle, IsStill, Sends, Starts, Stays}
-use Rattle.connection_laws.proofs.RequestEffects.{TurnsAs, pacing_for, sends_in, unasked_still}
+use Rattle.connection_laws.proofs.RequestEffects.{Ends, Ending, Going, Idle, IsStill, Sends, Starts, Stays}
+use Rattle.connection_laws.proofs.RequestEffects.{TurnsAs, begun_is, pacing_for, sends_in}
 use Rattle.connection_laws.proofs.CourseInduction.{Piece, parts_piece, no_piece}
 use Rattle.film_streams.specs.declared.setups.Setup.{Setup}
 use Rattle.session.specs.declared.states.Stop.{Stop}
 
 -- ---- a request is answered
 
--- a request that neither begins nor halts a play
-pub record StillRequest : Type 0 where
-  pub asked : Awaited
-  pub outcome : Outcome
-  pub still : IsStill asked outcome
+still_stand : {asked : Awaited} {outcome : Outcome} (still : IsStill asked outcome) (sends : Sends)
+    (askings : List StationRequest) (come : ToCome) → Stand sends askings come
+    → Stand sends (Asks asked outcome ∷ askings) come
+still_stand still (Going p) askings come stand =
+    rw (still.none askings, still.kept (kept_in askings (total_bytes p.plan))) stand
+still_stand still _ askings come stand = rw (still.none askings) stand
 
-abbrev pub still_asked : StillRequest → StationRequest
-still_asked request = Asks request.asked request.outcome
-
-abbrev pub unasked : Awaited → StillRequest
-unasked asked = record { asked = asked; outcome = Unasked; still = unasked_still asked }
-
-still_stand : (request : StillRequest) (sends : Sends) (askings : List StationRequest) (come : ToCome)
-    → Stand sends askings come → Stand sends (still_asked request ∷ askings) come
-still_stand request Idle askings come stand = rw (request.still.none askings) stand
-still_stand request (Going p) askings come stand =
-    rw (request.still.none askings, request.still.kept (kept_in askings (total_bytes p.plan))) stand
-still_stand request (Ending p) askings come stand = rw (request.still.none askings) stand
-
-pub still_fits : {at : Point} {askings : List StationRequest} {come : ToCome} (request : StillRequest)
-    → Fits at askings come → Fits at (still_asked request ∷ askings) come
-still_fits {at} {askings} {come} request fits = record {
+pub still_fits : {at : Point} {askings : List StationRequest} {come : ToCome} {asked : Awaited} {outcome : Outcome}
+    → IsStill asked outcome → Fits at askings come → Fits at (Asks asked outcome ∷ askings) come
+still_fits {at} {askings} {come} still fits = record {
   from = fits.from;
-  later = rw (request.still.none askings) fits.later;
-  stand = still_stand request at.sends askings (pending_then at.pending come) fits.stand;
+  later = rw (still.none askings) fits.later;
+  stand = still_stand still at.sends askings (pending_then at.pending come) fits.stand;
 }
 
 -- a request was processed, and its reply is in hand
@@ -76,32 +60,13 @@ taken_fits : {sends : Sends} {heard : ℕ} {askings : List StationRequest} {come
     → Fits (point sends heard None) askings (record come { slots = heard ∷ come.slots })
 taken_fits fits = record { from = (omega arith, fits.from); later = fits.later; stand = fits.stand }
 
-abbrev play_for : Prepared → ℕ → List Segment → ℕ → FilmPlay
-play_for prepared start plan keep = record {
-  start = start;
-  plan = plan;
-  keep = keep;
-  before = prepared.run.sent;
-  pieces = run_pieces prepared.frames;
-}
-
-begun_is : {old new : SessionState} {asked : Awaited} {outcome : Outcome} (begins : Begins old asked outcome new)
-    (askings : List StationRequest) → plays_begun asked outcome askings
-    ≡ play_for begins.prepared begins.start begins.prepared.plan
-    (kept_in askings (total_bytes begins.prepared.plan)) ∷ []
-begun_is {asked = asked} begins askings =
-    ap (λ o. plays_begun asked o askings) begins.outcome_is
-    ∙ ap (λ a. plays_admitted a begins.placed.entry.answer askings) begins.asked_is
-    ∙ ap (λ a. plays_admitted (Play begins.prepared) a askings) begins.answer
-
 pub turn_goes : {old new : SessionState} {asked : Awaited} {outcome : Outcome} → TurnsAs old asked outcome new
     → GoesTo (point (sends_in old.state) old.heard None) (point (sends_in new.state) old.heard (Some old.heard))
     (turn_piece asked outcome old.heard)
-turn_goes {old} {asked = asked} {outcome} (Stays same after still) = record {
+turn_goes {old} (Stays same after still) = record {
   later = omega arith;
   rest = λ askings come on fits.
-      still_fits (record { asked = asked; outcome = outcome; still = still })
-      (taken_fits (subst (λ s. Fits (point s old.heard (Some old.heard)) askings come) same fits));
+      still_fits still (taken_fits (subst (λ s. Fits (point s old.heard (Some old.heard)) askings come) same fits));
 }
 turn_goes {old} (Starts after begins) = record {
   later = omega arith;
@@ -115,8 +80,10 @@ turn_goes {old} (Starts after begins) = record {
       rw begins.idle (record {
         from = (omega arith, there.from);
         later = rw made (record { starts = (begins.later, there.later.starts); begins = inl (omega arith, starts) });
-        stand = rw made (subst (λ plan. AreSent (play_for begins.prepared begins.start plan
-            (kept_in askings (total_bytes plan)) ∷ plays_of askings) (record come { slots = old.heard ∷ come.slots }))
+        stand = rw made (subst (λ plan. AreSent (record (play_by begins.prepared begins.start askings) {
+          plan = plan;
+          keep = kept_in askings (total_bytes plan);
+        } ∷ plays_of askings) (record come { slots = old.heard ∷ come.slots }))
             begins.paced (record { texts = there.stand.texts; film = there.stand.film }));
       });
 }
@@ -226,8 +193,6 @@ replying (Playing setup play) true heard text sound is =
       };
     }
 replying (Stopping setup stop) true heard text sound is = ended_replying setup stop heard text sound is
-replying Init false heard text sound is = absurd (true≢false is)
-replying (Ready setup paused) false heard text sound is = absurd (true≢false is)
 replying (Playing setup play) false heard text sound is = record {
   after = Some heard;
   sound = sound;
@@ -240,6 +205,7 @@ replying (Stopping setup stop) false heard text sound is = record {
   held = (refl, held_here stop.pacer heard sound.0 is);
   goes_on = goes_same (point (Ending stop.pacer) heard (Some heard));
 }
+replying _ false heard text sound is = absurd (true≢false is)
 replying _ true heard text sound is = record {
   after = None;
   sound = tt;

@@ -17,9 +17,10 @@ use Rattle.session.specs.SlotSteps.{can_reply, is_between, sent_due, sent_reply,
 use Rattle.session.specs.SessionStates.{SessionState}
 use Rattle.connection_laws.proofs.CourseSteps.{Stands, turn_after, IsKeptStanding, film_written_is, request_turns}
 use Rattle.connection_laws.proofs.CourseSteps.{all_kept, slot_asks, film_sent, Finished, Quiet, Ended, finish_by}
-use Rattle.connection_laws.proofs.StationAnswers.{SlotTo, SlotSent, SlotIdle, SlotPast, slot_to}
+use Rattle.connection_laws.proofs.StationAnswers.{SlotTo, SlotSent, slot_to}
 use Rattle.connection_laws.proofs.CourseInduction.{Piece, AnsweredRequest, begin_of}
 use Rattle.conn.proofs.StationAnswers.{ComesAs, BytesCame, SlotCame}
+use Rattle.connection_laws.proofs.Lists.{joins_parts}
 
 -- the first text stands at or after a place
 abbrev IsFrom : ℕ → List PlacedText → Type 0
@@ -65,9 +66,7 @@ parts_woven place (Text text ∷ parts) =
 
 -- all bytes of the parts are those of the rounds
 parts_bytes_append : (xs ys : List SentPart) → parts_bytes (xs ++ ys) ≡ parts_bytes xs ++ parts_bytes ys
-parts_bytes_append [] ys = refl
-parts_bytes_append (x ∷ xs) ys =
-    rw (parts_bytes_append xs ys, append_assoc (part_bytes x) (parts_bytes xs) (parts_bytes ys))
+parts_bytes_append = joins_parts parts_bytes part_bytes refl (λ x xs. refl)
 
 takings_sent : (takings : List ElementStep) → takings_bytes takings ≡ parts_bytes (takings_parts takings)
 takings_sent [] = refl
@@ -102,23 +101,6 @@ texts_append (Text text ∷ xs) ys = ap (λ ts. text ∷ ts) (texts_append xs ys
 -- these texts were sent, and these are replies to requests that were processed meanwhile
 abbrev Replies : SessionState → List (List ℕ) → List (List ℕ) → SessionState → Type 0
 Replies old sent replies new = sent ++ waiting_reply new ≡ waiting_reply old ++ replies
-
--- replies that come from a session on
-record LaterReplies : Type 0 where
-  old : SessionState
-  new : SessionState
-  texts : List (List ℕ)
-  messages : List (List ℕ)
-  replied : Replies old texts messages new
-
-replies_then : (a : SessionState) (next : LaterReplies) (one first : List (List ℕ)) → Replies a one first next.old →
-    Replies a (one ++ next.texts) (first ++ next.messages) next.new
-replies_then a next one first is =
-    append_assoc one two (waiting_reply c) ∙ ap (λ ts. one ++ ts) later
-    ∙ sym (append_assoc one (waiting_reply b) second)
-    ∙ ap (λ ts. ts ++ second) is ∙ append_assoc (waiting_reply a) first second
-  where
-    open next use {old as b, new as c, texts as two, messages as second, replied as later}
 
 waiting_same : (a b : SessionState) → b ≡ a → Replies a [] [] b
 waiting_same a b same = ap waiting_reply same ∙ sym (append-nil (waiting_reply a))
@@ -171,8 +153,7 @@ sent_texts {old} {slot = slot} (SlotSent sending later) =
     ap (λ ts. texts_in (due_parts old slot) ++ ts) (reply_waiting (old.waits && between) (sent_due old slot))
     ∙ slot_texts old.waits between old.text (step_bytes true slot old.state)
     (step_bytes false slot (stepped_in true slot old.state)) (step_bytes false slot old.state)
-sent_texts (SlotIdle none later) = refl
-sent_texts SlotPast = refl
+sent_texts _ = refl
 
 comes_replies : {old opened : Stage} {round : Round} → ComesAs old round opened → Stands old.session
     → Replies old.session (texts_in round.due) [] opened.session
@@ -190,13 +171,14 @@ replies_kept : IsKeptStanding RepliesOn
 replies_kept = record {
   none = λ s. waiting_same s s refl;
   joins = λ a b c one two first rest.
-      rw (texts_append one.parts two.parts) (replies_then a (record {
-        old = b;
-        new = c;
-        texts = texts_in two.parts;
-        messages = two.replies;
-        replied = rest;
-      }) (texts_in one.parts) one.replies first);
+      rw (
+        texts_append one.parts two.parts,
+        append_assoc (texts_in one.parts) (texts_in two.parts) (waiting_reply c),
+        rest,
+        ← (append_assoc (texts_in one.parts) (waiting_reply b) two.replies),
+        first,
+        append_assoc (waiting_reply a) one.replies two.replies,
+      );
   request = λ old new request stands. answered_replies request stands;
   event = λ old opened round comes stands. comes_replies comes stands;
 }

@@ -9,14 +9,14 @@ use Rattle.std.specs.Char.{is_ascii_digit}
 use Rattle.std.specs.Int.{w32, w64, to_be_bytes}
 use Rattle.std.proofs.lemmas.Bool.{and_from, and_parts, cases_Bool, cond-false, cond-true}
 use Rattle.std.proofs.lemmas.Fmt.{digits_decimal}
-use Rattle.std.proofs.lemmas.List.{reverse-reverse, append-nil}
+use Rattle.std.proofs.lemmas.List.{reverse-reverse}
 use Rattle.std.proofs.lemmas.List.Folds.{list_all_at}
 use Rattle.hex.specs.Hex.{encode_lower, encode_with, lower_digits}
 use Rattle.vod_base.specs.Blanks.{is_blank, without_blanks, without_leading_blanks}
 use Rattle.vod_base.proofs.DigitLemmas.{decimal_numerals}
-use Rattle.vod_base.proofs.TextLemmas.{all-reverse, decimal_read}
+use Rattle.vod_base.proofs.TextLemmas.{all-reverse}
 use Rattle.rtsp_text.specs.Grammar.{is_token, is_url_byte, is_value_byte}
-use Rattle.rtsp_text.specs.Replies.{IsPlain, Field, all_fields, phrase, reply_front, reply_text, value_named}
+use Rattle.rtsp_text.specs.Replies.{IsPlain, Field, all_fields, value_named}
 use Rattle.rtsp_text.proofs.LineBounds.{all-append, all-take}
 use Rattle.rtsp_text.proofs.SingleLineTexts.{one_line-url}
 use Rattle.rtsp_text.proofs.UrlBytes.{all_of}
@@ -24,13 +24,11 @@ use Rattle.rtsp_fields.specs.Sdp.{seconds_text}
 use Rattle.rtsp_replies.specs.Replies.{field, joined_parts, play_fields, play_text, session_text, setup_text}
 use Rattle.rtsp_replies.specs.Replies.{transport_value}
 use Rattle.std.proofs.lemmas.List.Elements.{All-cons, All-nil}
-use Rattle.vod_base.specs.Numbers.{number_of}
 use Rattle.rtsp_text.specs.Fields.{header_value}
-use Rattle.rtsp_text.proofs.ReplyRoundTrip.{read_back}
 use Rattle.rtsp_replies.specs.Messages.{IsMessage}
 use Rattle.rtsp_client.specs.Replies.{IsAnswer, play_range, play_start, session_id, setup_session, usable_id}
 use Rattle.connection_laws.specs.PlayReplies.{IsPlayRead}
-use Rattle.connection_laws.proofs.PlayReplyReading.{PlayNumbers, StreamInfo, play_read}
+use Rattle.connection_laws.proofs.PlayReplyReading.{IsReplyRead, PlayNumbers, StreamInfo, play_read, read_reply}
 
 -- a text of printable bytes other than the space
 abbrev pub IsPrinted : List ℕ → Type 0
@@ -129,11 +127,6 @@ printed_w64 n =
 
 -- ---- a reply of 200 without a body
 
--- it answers the request of its number, and each name has the value of its first field of that name
-record IsReplyRead (message : List ℕ) (number : ℕ) (fields : List Field) : Type 0 where
-  answer : IsAnswer message number 200
-  values : (name : List ℕ) → header_value message name ≡ value_named name (all_fields (Some number) fields)
-
 -- plain fields, with the number's
 with_number : (number : ℕ) (fields : List Field) → number < 2 ^ 64 → All IsPlain fields
     → All IsPlain (all_fields (Some number) fields)
@@ -144,27 +137,6 @@ with_number number fields small plain =
 one_more : {value : List ℕ} (name : List ℕ) (fields : List Field) → IsPlain (field name value) → All IsPlain fields
     → All IsPlain (field name value ∷ fields)
 one_more {value} name fields plain rest = All-cons IsPlain (field name value) fields plain rest
-
-read_reply : {message : List ℕ} (number : ℕ) (fields : List Field) → number < 2 ^ 64 → IsMessage message
-    → All IsPlain fields → message ≡ reply_text 200 (Some number) fields [] → IsReplyRead message number fields
-unfolding reply_text value_named
-read_reply {message} number fields small whole plain is =
-    let head = reply_front 200 (Some number) fields ++ codes "\r\n" in
-    let back = read_back (record { code = 200; sequence = Some number; fields = fields; body = [] }) whole.size
-    refl (with_number number fields small plain) is in
-    let same : message ≡ head = is ∙ append-nil head in
-    let value : (name : List ℕ)
-    → header_value message name ≡ value_named name (all_fields (Some number) fields) = λ name.
-    ap (λ m. header_value m name) same ∙ back.values name in
-    record {
-      answer = record {
-        phrase = phrase 200;
-        line = back.reply.line;
-        sequence = ap (λ v. option_and_then number_of v) (value (codes "CSeq"))
-            ∙ decimal_read number small;
-      };
-      values = value;
-    }
 
 -- ---- a session's id
 
@@ -211,7 +183,8 @@ setup_read {message} ssrc id whole printed is =
     let plain : All IsPlain fields =
     one_more (codes "Transport") named (plain_field (codes "Transport") refl transport)
     (one_more (codes "Session") [] (plain_field (codes "Session") refl printed) (All-nil IsPlain)) in
-    let read : IsReplyRead message 1 fields = read_reply 1 fields (omega arith) whole plain is in
+    let read : IsReplyRead message 1 fields =
+    read_reply 1 fields (omega arith) whole.size (with_number 1 fields (omega arith) plain) is in
     record {
       answer = read.answer;
       named = session_named message (read.values (codes "Session")) printed;
@@ -225,8 +198,7 @@ teardown_read {message} id whole printed is =
     let fields = field (codes "Session") id ∷ [] in
     let plain : All IsPlain fields =
     one_more (codes "Session") [] (plain_field (codes "Session") refl printed) (All-nil IsPlain) in
-    let read : IsReplyRead message 3 fields = read_reply 3 fields (omega arith) whole plain is in
-    read.answer
+    (read_reply 3 fields (omega arith) whole.size (with_number 3 fields (omega arith) plain) is).answer
 
 -- ---- PLAY
 

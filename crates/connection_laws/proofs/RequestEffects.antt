@@ -1,6 +1,6 @@
 -- What a request asks and how it is answered, case by case, and what that makes of a session: what is sent of a film,
 -- and the play that begins or ends.
-use Rattle.std.proofs.Common.{◌≡◌, ℕ, Bool, true, List, Option, None, refl, subst, ◌<◌, ◌^◌, if◌then◌else◌, false, []}
+use Rattle.std.proofs.Common.{◌≡◌, ℕ, Bool, true, List, Option, None, refl, subst, ◌<◌, ◌^◌, if◌then◌else◌, [], ◌∷◌}
 use Rattle.std.proofs.Common.{sym, ap, ◌∙◌}
 use Rattle.admission.specs.Makers.{PlacedEntry}
 use Rattle.early_start.specs.StartSearch.{Offers}
@@ -17,145 +17,169 @@ use Rattle.session.specs.declared.states.Awaited.TheVariants.{Play, Halt, Look, 
 use Rattle.session.specs.declared.states.Play.{Play as Played}
 use Rattle.session.specs.declared.states.Prepared.{Prepared}
 use Rattle.session.specs.declared.states.State.TheVariants.{Init, Ready, Playing, Stopping}
-use Rattle.session.specs.RequestSteps.{after_full, after_offer, is_answered, after_halt}
+use Rattle.session.specs.RequestSteps.{after_admission, after_full, after_halt, after_look, after_offer, after_overflow}
+use Rattle.session.specs.RequestSteps.{is_answered}
 use Rattle.session.specs.SessionStates.{SessionState}
 use Rattle.session_records.specs.declared.notes.OfferNote.{OfferNote}
 use Rattle.session_laws.proofs.RequestShapes.{HearsAs, Replies, SetsUp, AsksPlay, Stops, AsksLook, AsksOffer, hears_as}
-use Rattle.conn.specs.InputSteps.{HasHeard, IsHaltAnswered, Outcome, Unasked, Entered, WasFull, Offered}
-use Rattle.connection_laws.proofs.StationAnswers.{AnswersAs, NoneAsked, PlayAdmitted, PlayRefused, PlayFull, PlayHalted}
-use Rattle.connection_laws.proofs.StationAnswers.{LookMade, LookFull, OfferMade, IsAdmitted, IsLooked, IsRefused}
-use Rattle.connection_laws.proofs.StationAnswers.{answers_as}
+use Rattle.conn.specs.InputSteps.{HasHeard, IsAskAnswered, IsPlayAnswered, Outcome, Unasked, Entered, WasFull, Offered, entry_in}
+use Rattle.conn.proofs.StationAnswers.{AnswersAs, NoneAsked, PlayAdmitted, PlayOverflowed, PlayFull, PlayHalted}
+use Rattle.conn.proofs.StationAnswers.{LookMade, LookFull, OfferMade, IsPlayEntry, IsHaltEntry, answers_as}
 use Rattle.film_frames.specs.FramedRuns.{run_pieces}
-use Rattle.admission.specs.declared.entries.Answer.TheVariants.{Admitted, Halted}
+use Rattle.admission.specs.declared.entries.Answer.TheVariants.{Admitted, Halted, Looked, Overflow}
 use Rattle.admission.specs.declared.entries.Command.TheVariants.{Halt as HaltCommand}
 use Rattle.admission.specs.Histories.{play_admitted}
 use Rattle.slot_calendar.specs.Plays.{Play as Booked}
-use Rattle.station.specs.Ledgers.{play_of}
+use Rattle.station.specs.Ledgers.{look_at, play_of}
 use Rattle.session.specs.declared.states.AfterHalt.TheVariants.{Done}
 use Rattle.session.specs.declared.states.State.{State}
-use Rattle.session.specs.SlotSteps.{admitted_in, halted_in, next_of, state_once_halted}
-use Rattle.session.specs.SlotTransitions.{IsPlayIn}
+use Rattle.session.specs.SlotSteps.{state_once_halted}
 use Rattle.connection_laws.specs.Plays.{StationRequest, plays_admitted, plays_begun, booked_by, kept_by, kept_with}
-
--- a session asks for a play, a look or an offer; its state is as before
-pub record IsAsking (old asking : SessionState) (awaited : Awaited) : Type 0 where
-  pub text : List ℕ
-  pub looks : ℕ
-  pub asking_is : asking ≡ record old { awaited = awaited; text = text; looks_left = looks }
+use Rattle.connection_laws.specs.Plays.{play_by}
 
 -- a session that is Ready asks for a play
-pub record PlayRequest (old asking : SessionState) : Type 0 where
+pub record PlayRequest : Type 0 where
+  pub base : SessionState
   pub setup : Setup
   pub paused : Option Run
   pub prepared : Prepared
-  pub ready : old.state ≡ Ready setup paused
-  pub waiting : IsAsking old asking (Play prepared)
+  pub text : List ℕ
+
+abbrev pub before_play : PlayRequest → SessionState
+before_play play = record play.base { state = Ready play.setup play.paused }
+
+abbrev pub at_play : PlayRequest → SessionState
+at_play play = record (before_play play) { awaited = Play play.prepared; text = play.text }
 
 -- a session that plays asks for a halt at the next boundary
-pub record HaltRequest (old asking : SessionState) : Type 0 where
+pub record HaltRequest : Type 0 where
+  pub base : SessionState
   pub setup : Setup
   pub play : Played
   pub keep : ℕ
   pub next : AfterHalt
   pub text : List ℕ
-  pub playing : old.state ≡ Playing setup play
   pub told : is_answered next ≡ true
   pub keep_is : keep ≡ next_boundary play.pacer
-  pub asking_is : asking ≡ record old {
-    state = Playing setup (record play { pacer = record play.pacer { keep = keep } });
-    awaited = Halt keep next;
-    text = text;
-  }
 
--- a session asks for a look at the link
-pub record LookRequest (old asking : SessionState) : Type 0 where
-  pub sequence : ℕ
-  pub waiting : IsAsking old asking (Look sequence)
+abbrev pub before_halt : HaltRequest → SessionState
+before_halt halt = record halt.base { state = Playing halt.setup halt.play }
 
--- a request's answer: the session's own reply, that to a SETUP, or what the station answers
-pub data RequestAnswer (old asking new : SessionState) : Outcome → Type 0 where
-  OwnReply : (text : List ℕ) (tearing : Bool) → asking ≡ record old { text = text; waits = true; tearing = tearing }
-      → new ≡ asking → RequestAnswer old asking new Unasked
-  SetupReply : (text : List ℕ) (setup : Setup) → old.state ≡ Init
-      → asking ≡ record old { text = text; waits = true; state = Ready setup None } → new ≡ asking
-      → RequestAnswer old asking new Unasked
-  Admission : {placed : PlacedEntry} (play : PlayRequest old asking) → IsAdmitted asking play.prepared.plan placed new
-      → RequestAnswer old asking new (Entered placed)
-  Refusal : {placed : PlacedEntry} (play : PlayRequest old asking) → IsRefused asking play.prepared.plan placed new
-      → RequestAnswer old asking new (Entered placed)
-  HaltMade : {placed : PlacedEntry} (halt : HaltRequest old asking) → IsHaltAnswered asking halt.keep placed new
-      → RequestAnswer old asking new (Entered placed)
-  LookAnswer : {placed : PlacedEntry} → LookRequest old asking → IsLooked asking old.heard placed new
-      → RequestAnswer old asking new (Entered placed)
-  JournalFull : {more entries live : ℕ} (awaited : Awaited) → IsAsking old asking awaited
-      → new ≡ after_full asking entries live → RequestAnswer old asking new (WasFull more entries live)
-  OfferAnswer : {at_slot : ℕ} {note : OfferNote} (sequence : ℕ) → IsAsking old asking (Offer sequence)
-      → new ≡ after_offer asking note → RequestAnswer old asking new (Offered at_slot note)
+abbrev pub at_halt : HaltRequest → SessionState
+at_halt halt = record halt.base {
+  state = Playing halt.setup (record halt.play { pacer = record halt.play.pacer { keep = halt.keep } });
+  awaited = Halt halt.keep halt.next;
+  text = halt.text;
+}
 
-module _ {old asking new : SessionState} where
-  reply_answer : {outcome : Outcome} → AnswersAs asking new AskReply outcome
-      → (new ≡ asking → RequestAnswer old asking new Unasked) → RequestAnswer old asking new outcome
-  reply_answer (NoneAsked is) reply = reply is
+-- a session asks for a look or an offer, or for a play, and its journal is full; its state is as before
+abbrev pub asking_for : SessionState → Awaited → List ℕ → ℕ → SessionState
+asking_for old awaited text looks = record old { awaited = awaited; text = text; looks_left = looks }
 
-  play_answer : {outcome : Outcome} (play : PlayRequest old asking)
-      → AnswersAs asking new (AskPlay play.prepared.plan) outcome → RequestAnswer old asking new outcome
-  play_answer play (PlayAdmitted is) = Admission play is
-  play_answer play (PlayRefused is) = Refusal play is
-  play_answer play (PlayFull is) = JournalFull (Play play.prepared) play.waiting is
+-- a request, and its answer: the session's own reply, that to a SETUP, or what the station answers
+pub data RequestAnswer : SessionState → SessionState → Outcome → SessionState → Type 0 where
+  OwnReply : {old : SessionState} {text : List ℕ} {tearing : Bool}
+      → RequestAnswer old (record old { text = text; waits = true; tearing = tearing }) Unasked
+      (record old { text = text; waits = true; tearing = tearing })
+  SetupReply : {text : List ℕ} {setup : Setup} (old : SessionState)
+      → RequestAnswer (record old { state = Init })
+      (record old { text = text; waits = true; state = Ready setup None }) Unasked
+      (record old { text = text; waits = true; state = Ready setup None })
+  Admission : {placed : PlacedEntry} {start : ℕ} (play : PlayRequest)
+      → IsPlayEntry (at_play play) play.prepared.plan placed (Admitted start)
+      → IsPlayAnswered (at_play play) placed (Admitted start) (after_admission (at_play play) placed.place start)
+      → RequestAnswer (before_play play) (at_play play) (Entered placed)
+      (after_admission (at_play play) placed.place start)
+  Refusal : {placed : PlacedEntry} {slot booked asked : ℕ} (play : PlayRequest)
+      → IsPlayEntry (at_play play) play.prepared.plan placed (Overflow slot booked asked)
+      → RequestAnswer (before_play play) (at_play play) (Entered placed)
+      (after_overflow (at_play play) placed.place slot booked asked)
+  HaltMade : {placed : PlacedEntry} (halt : HaltRequest) → IsHaltEntry halt.keep placed
+      → RequestAnswer (before_halt halt) (at_halt halt) (Entered placed) (after_halt (at_halt halt) placed.place)
+  LookAnswer : {old : SessionState} {looks sequence now at booked : ℕ} {placed : PlacedEntry}
+      → placed.entry.command ≡ look_at old.heard → placed.entry.answer ≡ Looked now at booked
+      → RequestAnswer old (asking_for old (Look sequence) old.text looks) (Entered placed)
+      (after_look (asking_for old (Look sequence) old.text looks) placed.place now at booked)
+  JournalFull : {old : SessionState} {awaited : Awaited} {text : List ℕ} {looks more entries live : ℕ}
+      → RequestAnswer old (asking_for old awaited text looks) (WasFull more entries live)
+      (after_full (asking_for old awaited text looks) entries live)
+  OfferAnswer : {old : SessionState} {sequence at_slot : ℕ} {note : OfferNote}
+      → RequestAnswer old (asking_for old (Offer sequence) old.text old.looks_left) (Offered at_slot note)
+      (after_offer (asking_for old (Offer sequence) old.text old.looks_left) note)
 
-  halt_answer : {outcome : Outcome} (halt : HaltRequest old asking) → AnswersAs asking new (AskHalt halt.keep) outcome
-      → RequestAnswer old asking new outcome
-  halt_answer halt (PlayHalted is) = HaltMade halt is
+-- a request is answered so, by what it asked of the station
+abbrev Answers : Outcome → SessionState → SessionState → Ask → SessionState → Type 0
+Answers outcome new old ask asking = IsAskAnswered asking ask outcome new → AnswersAs asking ask outcome new
+    → RequestAnswer old asking outcome new
 
-  look_answer : {outcome : Outcome} (look : LookRequest old asking) → AnswersAs asking new (AskLook old.heard) outcome
-      → RequestAnswer old asking new outcome
-  look_answer look (LookMade is) = LookAnswer look is
-  look_answer look (LookFull is) = JournalFull (Look look.sequence) look.waiting is
+own_answer : (old : SessionState) (text : List ℕ) (tearing : Bool) (outcome : Outcome) (new : SessionState)
+    → Answers outcome new old AskReply (record old { text = text; waits = true; tearing = tearing })
+own_answer old text tearing outcome new is NoneAsked = OwnReply
 
-  offer_answer : {plan : List Segment} {offers : Offers} {outcome : Outcome} (sequence : ℕ)
-      → IsAsking old asking (Offer sequence) → AnswersAs asking new (AskOffer plan offers) outcome
-      → RequestAnswer old asking new outcome
-  offer_answer sequence waiting (OfferMade is) = OfferAnswer sequence waiting is
+setup_answer : (old : SessionState) (text : List ℕ) (setup : Setup) (outcome : Outcome) (new : SessionState)
+    → Answers outcome new (record old { state = Init }) AskReply
+    (record old { text = text; waits = true; state = Ready setup None })
+setup_answer old text setup outcome new is NoneAsked = SetupReply old
 
-  answer_of : {ask : Ask} {outcome : Outcome} → HearsAs old ask asking → AnswersAs asking new ask outcome
-      → RequestAnswer old asking new outcome
-  answer_of {outcome = o} (Replies text tearing ask_is is) answers =
-      reply_answer (subst (λ a. AnswersAs asking new a o) ask_is answers) (OwnReply text tearing is)
-  answer_of {outcome = o} (SetsUp text setup init ask_is is) answers =
-      reply_answer (subst (λ a. AnswersAs asking new a o) ask_is answers) (SetupReply text setup init is)
-  answer_of {outcome = o} (AsksPlay setup paused prepared text ready ask_is is) answers =
-      play_answer (record {
-        setup = setup;
-        paused = paused;
-        prepared = prepared;
-        ready = ready;
-        waiting = record { text = text; looks = old.looks_left; asking_is = is };
-      }) (subst (λ a. AnswersAs asking new a o) ask_is answers)
-  answer_of {outcome = o} (Stops setup play keep next text playing told keep_is ask_is is) answers =
-      halt_answer (record {
-        setup = setup;
-        play = play;
-        keep = keep;
-        next = next;
-        text = text;
-        playing = playing;
-        told = told;
-        keep_is = keep_is;
-        asking_is = is;
-      }) (subst (λ a. AnswersAs asking new a o) ask_is answers)
-  answer_of {outcome = o} (AsksLook looks sequence ask_is is) answers =
-      look_answer (record {
-        sequence = sequence;
-        waiting = record { text = old.text; looks = looks; asking_is = is };
-      }) (subst (λ a. AnswersAs asking new a o) ask_is answers)
-  answer_of {outcome = o} (AsksOffer plan offers sequence ask_is is) answers =
-      offer_answer sequence (record { text = old.text; looks = old.looks_left; asking_is = is })
-      (subst (λ a. AnswersAs asking new a o) ask_is answers)
+play_answer : (play : PlayRequest) (outcome : Outcome) (new : SessionState)
+    → Answers outcome new (before_play play) (AskPlay play.prepared.plan) (at_play play)
+play_answer play outcome new is (PlayAdmitted entry answered) = Admission play entry answered
+play_answer play outcome new is (PlayOverflowed entry) = Refusal play entry
+play_answer play outcome new is (PlayFull more) = JournalFull {old = before_play play}
+
+halt_answer : (halt : HaltRequest) (outcome : Outcome) (new : SessionState)
+    → Answers outcome new (before_halt halt) (AskHalt halt.keep) (at_halt halt)
+halt_answer halt outcome new is (PlayHalted entry) = HaltMade halt entry
+
+look_answer : (old : SessionState) (looks sequence : ℕ) (outcome : Outcome) (new : SessionState)
+    → Answers outcome new old (AskLook old.heard) (asking_for old (Look sequence) old.text looks)
+look_answer old looks sequence outcome new is (LookMade looked) = LookAnswer is.0 looked
+look_answer old looks sequence outcome new is LookFull = JournalFull
+
+offer_answer : {plan : List Segment} {offers : Offers} (old : SessionState) (sequence : ℕ) (outcome : Outcome)
+    (new : SessionState)
+    → Answers outcome new old (AskOffer plan offers) (asking_for old (Offer sequence) old.text old.looks_left)
+offer_answer old sequence outcome new is OfferMade = OfferAnswer
+
+answer_of : {old asking new : SessionState} {ask : Ask} {outcome : Outcome} → HearsAs old ask asking
+    → Answers outcome new old ask asking
+answer_of {old} {new = new} {outcome = o} (Replies text tearing ask_is is) =
+    rw (ask_is, is) (own_answer old text tearing o new)
+answer_of {old} {new = new} {outcome = o} (SetsUp text setup init ask_is is) =
+    rw (ask_is, is) (subst (λ st. Answers o new (record old { state = st }) AskReply
+    (record old { text = text; waits = true; state = Ready setup None })) (sym init) (setup_answer old text setup o new))
+answer_of {old} {new = new} {outcome = o} (AsksPlay setup paused prepared text ready ask_is is) =
+    rw (ask_is, is) (subst (λ st. Answers o new (record old { state = st }) (AskPlay prepared.plan)
+    (record old { state = st; awaited = Play prepared; text = text })) (sym ready) (play_answer (record {
+      base = old;
+      setup = setup;
+      paused = paused;
+      prepared = prepared;
+      text = text;
+    }) o new))
+answer_of {old} {new = new} {outcome = o} (Stops setup play keep next text playing told keep_is ask_is is) =
+    let halt : HaltRequest = record {
+      base = old;
+      setup = setup;
+      play = play;
+      keep = keep;
+      next = next;
+      text = text;
+      told = told;
+      keep_is = keep_is;
+    } in
+    rw (ask_is, is) (subst (λ st. Answers o new (record old { state = st }) (AskHalt keep) (at_halt halt))
+    (sym playing) (halt_answer halt o new))
+answer_of {old} {new = new} {outcome = o} (AsksLook looks sequence ask_is is) =
+    rw (ask_is, is) (look_answer old looks sequence o new)
+answer_of {old} {new = new} {outcome = o} (AsksOffer plan offers sequence ask_is is) =
+    rw (ask_is, is) (offer_answer old sequence o new)
 
 pub request_answer : {old new : SessionState} {message : List ℕ} {outcome : Outcome}
-    (heard : HasHeard old message outcome new) → RequestAnswer old heard.asking new outcome
+    (heard : HasHeard old message outcome new) → RequestAnswer old heard.asking outcome new
 request_answer {old} {message = message} {outcome} heard =
-    answer_of (hears_as old message heard.ask heard.asking heard.hears) (answers_as heard.ask outcome heard.answered)
+    answer_of (hears_as old message heard.ask heard.asking heard.hears) heard.answered
+    (answers_as heard.ask outcome heard.answered)
 
 -- what of a film is being sent: nothing, a play, or the rest of one that was halted
 pub data Sends : Type 0 where
@@ -222,113 +246,28 @@ pub data TurnsAs (old : SessionState) (asked : Awaited) (outcome : Outcome) (new
   Starts : IsAfter old new → Begins old asked outcome new → TurnsAs old asked outcome new
   Ends : IsAfter old new → Halts old asked outcome new → TurnsAs old asked outcome new
 
-pub unasked_still : (asked : Awaited) → IsStill asked Unasked
-unasked_still asked = record { none = λ later. refl; kept = λ later. refl; untold = λ made. refl }
-
--- what tells how a play goes on
-record PlayPart : Type 0 where
-  state : State
-  heard : ℕ
-  awaited : Awaited
-  waits : Bool
-
-abbrev play_part : SessionState → PlayPart
-play_part s = record { state = s.state; heard = s.heard; awaited = s.awaited; waits = s.waits }
-
--- a session whose request was answered, and whose state is as it was
-module _ {old asking : SessionState} {awaited : Awaited} where
-  answered_after : {new : SessionState} → IsAsking old asking awaited
-      → play_part new ≡ record { state = asking.state; heard = asking.heard; awaited = Nothing; waits = true }
-      → IsAfter old new
-  answered_after waiting is = record {
-    heard = ap (λ (p : PlayPart). p.heard) is ∙ ap (λ (s : SessionState). s.heard) waiting.asking_is;
-    awaited = ap (λ (p : PlayPart). p.awaited) is;
-    waits = ap (λ (p : PlayPart). p.waits) is;
-  }
-
-  answered_turn : {outcome : Outcome} (new : SessionState) → IsAsking old asking awaited
-      → play_part new ≡ record { state = asking.state; heard = asking.heard; awaited = Nothing; waits = true }
-      → IsStill asking.awaited outcome → TurnsAs old asking.awaited outcome new
-  answered_turn new waiting is still =
-      Stays (ap (λ (p : PlayPart). sends_in p.state) is ∙ ap (λ (s : SessionState). sends_in s.state) waiting.asking_is)
-      (answered_after {new = new} waiting is) still
-
--- a reply of the session's own
-reply_turn : {old new : SessionState} (state : State) (asking : SessionState) → sends_in state ≡ sends_in old.state
-    → play_part new ≡ record { state = state; heard = old.heard; awaited = old.awaited; waits = true }
-    → old.awaited ≡ Nothing → TurnsAs old asking.awaited Unasked new
-reply_turn state asking sends is rest =
-    Stays (ap (λ (p : PlayPart). sends_in p.state) is ∙ sends) (record {
-      heard = ap (λ (p : PlayPart). p.heard) is;
-      awaited = ap (λ (p : PlayPart). p.awaited) is ∙ rest;
-      waits = ap (λ (p : PlayPart). p.waits) is;
-    }) (unasked_still asking.awaited)
+-- an answer that is no entry
+pub no_entry : {asked : Awaited} (outcome : Outcome) → entry_in outcome ≡ [] → IsStill asked outcome
+no_entry (Entered placed) none = absurd (let no : ⊥ = cc in no)
+no_entry _ none = record { none = λ later. refl; kept = λ later. refl; untold = λ made. refl }
 
 -- a play that isn't admitted
-refused_still : {asking new : SessionState} {prepared : Prepared} {placed : PlacedEntry}
-    → asking.awaited ≡ Play prepared → IsRefused asking prepared.plan placed new
-    → IsStill asking.awaited (Entered placed)
-refused_still {asking} {prepared = prepared} {placed = placed} awaited refused = record {
-  none = λ later. ap (λ a. plays_admitted a placed.entry.answer later) awaited
-      ∙ ap (λ a. plays_admitted (Play prepared) a later) refused.answer;
-  kept = λ later. ap (λ c. kept_by c later) refused.command;
-  untold = λ made. ap (λ c. booked_by (play_admitted c placed.entry.answer) made) refused.command
-      ∙ ap (λ a. booked_by (play_admitted (play_of asking.heard prepared.plan) a) made) refused.answer;
+pub refused_still : {old : SessionState} {prepared : Prepared} {placed : PlacedEntry} {slot booked asked : ℕ}
+    → IsPlayEntry old prepared.plan placed (Overflow slot booked asked) → IsStill (Play prepared) (Entered placed)
+refused_still {old} {prepared} {placed} entry = record {
+  none = λ later. ap (λ a. plays_admitted (Play prepared) a later) entry.answer_is;
+  kept = λ later. ap (λ c. kept_by c later) entry.command;
+  untold = λ made. ap (λ c. booked_by (play_admitted c placed.entry.answer) made) entry.command
+      ∙ ap (λ a. booked_by (play_admitted (play_of old.heard prepared.plan) a) made) entry.answer_is;
 }
 
-looked_still : {old asking new : SessionState} {placed : PlacedEntry} (look : LookRequest old asking)
-    → IsLooked asking old.heard placed new → IsStill asking.awaited (Entered placed)
-looked_still {placed = placed} look looked =
-    let awaited = ap (λ (s : SessionState). s.awaited) look.waiting.asking_is in
-    record {
-      none = λ later. ap (λ a. plays_admitted a placed.entry.answer later) awaited;
-      kept = λ later. ap (λ c. kept_by c later) looked.command;
-      untold = λ made. ap (λ c. booked_by (play_admitted c placed.entry.answer) made) looked.command;
-    }
-
-admitted_sends : {old asking : SessionState} (play : PlayRequest old asking) (place start : ℕ)
-    → sends_in (admitted_in asking.state asking.awaited place start) ≡ Going (pacing_for play.prepared start)
-admitted_sends play place start =
-    ap (λ (s : SessionState). sends_in (admitted_in s.state s.awaited place start)) play.waiting.asking_is
-    ∙ ap (λ (s : State). sends_in (admitted_in s (Play play.prepared) place start)) play.ready
-
-play_in : {old asking : SessionState} (play : PlayRequest old asking) (place start : ℕ)
-    → IsPlayIn (admitted_in asking.state asking.awaited place start)
-    → IsPacerState (pacing_for play.prepared start) × (play.prepared.paced ≡ play.prepared.plan)
-play_in play place start plays =
-    let At : State → Awaited → Type 0 = λ s a. IsPlayIn (admitted_in s a place start) in
-    let there : At (Ready play.setup play.paused) (Play play.prepared) =
-    subst (λ (s : State). At s (Play play.prepared)) play.ready
-    (subst (λ (s : SessionState). At s.state s.awaited) play.waiting.asking_is plays) in
-    (there.pacing, there.plan)
-
-begins_turn : {old asking new : SessionState} {placed : PlacedEntry} (play : PlayRequest old asking)
-    → IsAdmitted asking play.prepared.plan placed new → TurnsAs old asking.awaited (Entered placed) new
-begins_turn {old} {asking} {new} {placed} play is =
-    let heard : asking.heard ≡ old.heard = ap (λ (s : SessionState). s.heard) waiting.asking_is in
-    let awaited : asking.awaited ≡ Play prepared = ap (λ (s : SessionState). s.awaited) waiting.asking_is in
-    let plays = subst IsPlayIn (ap (λ (s : SessionState). s.state) is.new_is) is.playing in
-    Starts (record {
-      heard = ap (λ (s : SessionState). s.heard) is.new_is ∙ heard;
-      awaited = ap (λ (s : SessionState). s.awaited) is.new_is;
-      waits = ap (λ (s : SessionState). s.waits) is.new_is;
-    }) (record {
-      prepared = prepared;
-      placed = placed;
-      start = is.start;
-      idle = ap sends_in ready;
-      asked_is = awaited;
-      outcome_is = refl;
-      answer = is.answer;
-      command = is.command ∙ ap (λ h. play_of h prepared.plan) heard;
-      later = subst (λ h. h < is.start) heard is.later;
-      small = is.small;
-      paced = (play_in play placed.place is.start plays).1;
-      sends = ap (λ (s : SessionState). sends_in s.state) is.new_is ∙ admitted_sends play placed.place is.start;
-      pacing = (play_in play placed.place is.start plays).0;
-    })
-  where
-    open play use {prepared, ready, waiting}
+pub looked_still : {sequence : ℕ} {placed : PlacedEntry} (slot : ℕ) → placed.entry.command ≡ look_at slot
+    → IsStill (Look sequence) (Entered placed)
+looked_still {placed = placed} slot command = record {
+  none = λ later. refl;
+  kept = λ later. ap (λ c. kept_by c later) command;
+  untold = λ made. ap (λ c. booked_by (play_admitted c placed.entry.answer) made) command;
+}
 
 -- a halt's answer
 stopped_sends : (setup : Setup) (play : Played) (next : AfterHalt) → is_answered next ≡ true
@@ -336,60 +275,65 @@ stopped_sends : (setup : Setup) (play : Played) (next : AfterHalt) → is_answer
 stopped_sends setup play Done told = absurd (let no : ⊥ = cc in no)
 stopped_sends setup play _ told = refl
 
-told_if : (b waits : Bool) → b ≡ true → (if b then true else waits) ≡ true
-told_if true waits is = refl
-told_if false waits is = absurd (let no : ⊥ = cc in no)
+-- a play that begins is this one
+pub begun_is : {old new : SessionState} {asked : Awaited} {outcome : Outcome} (begins : Begins old asked outcome new)
+    (askings : List StationRequest) → plays_begun asked outcome askings
+    ≡ play_by begins.prepared begins.start askings ∷ []
+begun_is {asked = asked} begins askings =
+    ap (λ o. plays_begun asked o askings) begins.outcome_is
+    ∙ ap (λ a. plays_admitted a begins.placed.entry.answer askings) begins.asked_is
+    ∙ ap (λ a. plays_admitted (Play begins.prepared) a askings) begins.answer
 
-halt_state : {old asking : SessionState} (halt : HaltRequest old asking) → halted_in asking.state asking.awaited
-    ≡ state_once_halted halt.setup (record halt.play { pacer = record halt.play.pacer { keep = halt.keep } }) halt.next
-halt_state halt = ap (λ (s : SessionState). halted_in s.state s.awaited) halt.asking_is
-
-ends_turn : {old asking new : SessionState} {placed : PlacedEntry} (halt : HaltRequest old asking)
-    → IsHaltAnswered asking halt.keep placed new → TurnsAs old asking.awaited (Entered placed) new
-ends_turn {old} {asking} {new} {placed} halt halted =
-    let stopped : Played = record play { pacer = record play.pacer { keep = keep } } in
-    let is : new ≡ after_halt asking placed.place = halted.halts in
-    let awaited : asking.awaited ≡ Halt keep next = ap (λ (s : SessionState). s.awaited) asking_is in
+-- a halt that is answered leaves the rest of the play
+ends_turn : {placed : PlacedEntry} (halt : HaltRequest) → IsHaltEntry halt.keep placed
+    → TurnsAs (before_halt halt) (Halt halt.keep halt.next) (Entered placed) (after_halt (at_halt halt) placed.place)
+ends_turn {placed} halt entry =
     Ends (record {
-      heard = ap (λ (s : SessionState). s.heard) is ∙ ap (λ (s : SessionState). s.heard) asking_is;
-      awaited = ap (λ (s : SessionState). s.awaited) is;
-      waits = ap (λ (s : SessionState). s.waits) is ∙ told_if (is_answered (next_of asking.awaited)) asking.waits
-          (ap (λ (a : Awaited). is_answered (next_of a)) awaited ∙ told);
+      heard = refl;
+      awaited = refl;
+      waits = ap (λ b. if b then true else base.waits) told;
     }) (record {
       pacing = play.pacer;
       placed = placed;
-      number = halted.number;
-      going = ap sends_in playing;
+      number = entry.number;
+      going = refl;
       outcome_is = refl;
-      command = halted.command ∙ ap (λ k. HaltCommand halted.number k) keep_is;
-      answer = halted.answer;
-      none = λ later. ap (λ a. plays_admitted a placed.entry.answer later) awaited;
-      sends = ap (λ (s : SessionState). sends_in s.state) is ∙ ap sends_in (halt_state halt)
-          ∙ stopped_sends setup stopped next told ∙ ap (λ k. Ending (record play.pacer { keep = k })) keep_is;
+      command = entry.command ∙ ap (λ k. HaltCommand entry.number k) keep_is;
+      answer = entry.answer_is;
+      none = λ later. refl;
+      sends = stopped_sends setup (record play { pacer = record play.pacer { keep = keep } }) next told
+          ∙ ap (λ k. Ending (record play.pacer { keep = k })) keep_is;
     })
   where
-    open halt use {setup, play, keep, next, playing, told, keep_is, asking_is}
+    open halt use {base, setup, play, keep, next, told, keep_is}
 
 -- by what was asked and answered
-turn_of : {old asking new : SessionState} {outcome : Outcome} → RequestAnswer old asking new outcome
+turn_of : {old asking new : SessionState} {outcome : Outcome} → RequestAnswer old asking outcome new
     → old.awaited ≡ Nothing → TurnsAs old asking.awaited outcome new
-turn_of {old} {asking} (OwnReply text tearing is same) rest =
-    reply_turn old.state asking refl (ap play_part (same ∙ is)) rest
-turn_of {asking = asking} (SetupReply text setup init is same) rest =
-    reply_turn (Ready setup None) asking (sym (ap sends_in init)) (ap play_part (same ∙ is)) rest
-turn_of (Admission play is) rest = begins_turn play is
-turn_of {new = new} (Refusal play is) rest =
-    answered_turn new play.waiting (ap play_part is.new_is)
-    (refused_still (ap (λ (s : SessionState). s.awaited) play.waiting.asking_is) is)
-turn_of (HaltMade halt is) rest = ends_turn halt is
-turn_of {new = new} (LookAnswer look is) rest =
-    answered_turn new look.waiting (ap play_part is.new_is) (looked_still look is)
-turn_of {new = new} (JournalFull awaited waiting is) rest =
-    answered_turn new waiting (ap play_part is)
-    (record { none = λ later. refl; kept = λ later. refl; untold = λ made. refl })
-turn_of {new = new} (OfferAnswer sequence waiting is) rest =
-    answered_turn new waiting (ap play_part is)
-    (record { none = λ later. refl; kept = λ later. refl; untold = λ made. refl })
+turn_of OwnReply rest = Stays refl (record { heard = refl; awaited = rest; waits = refl }) (no_entry Unasked refl)
+turn_of (SetupReply old) rest = Stays refl (record { heard = refl; awaited = rest; waits = refl }) (no_entry Unasked refl)
+turn_of (Admission {placed = placed} {start = start} play entry answered) rest =
+    Starts (record { heard = refl; awaited = refl; waits = refl }) (record {
+      prepared = play.prepared;
+      placed = placed;
+      start = start;
+      idle = refl;
+      asked_is = refl;
+      outcome_is = refl;
+      answer = entry.answer_is;
+      command = entry.command;
+      later = answered.0;
+      small = answered.3;
+      paced = answered.2.plan;
+      sends = refl;
+      pacing = answered.2.pacing;
+    })
+turn_of (Refusal play entry) rest =
+    Stays refl (record { heard = refl; awaited = refl; waits = refl }) (refused_still entry)
+turn_of (HaltMade halt entry) rest = ends_turn halt entry
+turn_of (LookAnswer command looked) rest =
+    Stays refl (record { heard = refl; awaited = refl; waits = refl }) (looked_still _ command)
+turn_of _ rest = Stays refl (record { heard = refl; awaited = refl; waits = refl }) (no_entry _ refl)
 
 -- a request was received and answered
 pub turns_as : (old : SessionState) (message : List ℕ) (outcome : Outcome) (new : SessionState)

@@ -10,7 +10,7 @@ use Rattle.connection_laws.specs.WholePlays.{AreAfter, HasPlayedWhole, IsWholePl
 use Rattle.connection_laws.specs.Plays.{FilmPlay, due_by, due_of}
 use Rattle.connection_laws.specs.Replies.{PlacedText, placed_text, course_replies, course_texts, waiting_reply, text_of}
 use Rattle.connection_laws.proofs.OnePlay.{AreBefore, IsPlayedWhole, Outlook, setup_no_play, AreRead, course_walk}
-use Rattle.connection_laws.proofs.CompleteReplies.{AreMessages, AreTeardowns, AreWhole, texts_whole}
+use Rattle.connection_laws.proofs.CompleteReplies.{AreTeardowns, AreWhole, IsTeardownOf}
 use Rattle.connection_laws.proofs.TextPlaces.{none_due}
 use Rattle.std.proofs.lemmas.List.{append-nil}
 use Rattle.film_frames.specs.declared.stored_films.Stored.{Stored}
@@ -44,6 +44,7 @@ use Rattle.connection_laws.proofs.WatchedFilms.{IsServed}
 use Rattle.connection_laws.proofs.AcceptedMoments.{FilmClauses}
 use Rattle.connection_laws.proofs.CourseInduction.{begin_of, piece_of, rounds_requests}
 use Rattle.connection_laws.proofs.ClientSetups.{Beginning}
+use Rattle.connection_laws.proofs.Lists.{each_front, each_weaker}
 
 first_boundary : (play : FilmPlay) → play.before ≡ 0 → IsBoundaryIn (play ∷ []) 0
 first_boundary play before =
@@ -77,7 +78,7 @@ never_unsent {slot} play now before late unsent =
 record AreOnceDue (play : FilmPlay) (now : ℕ) (slots : List ℕ) (texts : List PlacedText) : Type 0 where
   due : IsDueBy play slots
   sent : AreSentAt now (play ∷ []) slots texts
-  messages : AreMessages texts
+  messages : AreWhole (map text_of texts)
 
 -- they stand after it
 after_film : {play : FilmPlay} {now : ℕ} (slots : List ℕ) (texts : List PlacedText) → AreOnceDue play now slots texts
@@ -108,7 +109,7 @@ pub record AreReplies (play : FilmPlay) (now total : ℕ) (slots : List ℕ) (te
   pub before : AreBefore 2 play.start slots
   pub due : IsDueBy play (drop 2 slots)
   pub sent : AreSentAt now (play ∷ []) slots texts
-  pub messages : AreMessages texts
+  pub messages : AreWhole (map text_of texts)
 
 pub two_first : {play : FilmPlay} {now total : ℕ} (slots : List ℕ) (texts : List PlacedText)
     → AreReplies play now total slots texts → AreTwoFirst total texts
@@ -147,7 +148,7 @@ beginning_of {wish} {stored} {course} asked = record {
 }
 
 -- TEARDOWN asks for no play
-teardown_no_play : (b : Beginning) {message : List ℕ} → message ≡ teardown_text b.wish b.session → IsNoPlay message
+pub teardown_no_play : (b : Beginning) {message : List ℕ} → message ≡ teardown_text b.wish b.session → IsNoPlay message
 teardown_no_play b {message} is = λ request read method.
     let asked = teardown-asked b.wish b.session b.wished b.port b.session_is in
     let R : List ℕ → Type 0 = λ m.
@@ -163,10 +164,6 @@ pub record AreAsked (b : Beginning) (requests : List (List ℕ)) : Type 0 where
 
 abbrev all_texts : Beginning → List (List ℕ)
 all_texts b = setup_text b.wish ∷ play_text b.wish b.session ∷ teardown_text b.wish b.session ∷ []
-
-pub torn_no_plays : (b : Beginning) (messages : List (List ℕ)) → AreTeardowns b messages → AreNoPlays messages
-torn_no_plays b [] are = tt
-torn_no_plays b (message ∷ messages) are = (teardown_no_play b are.0, torn_no_plays b messages are.1)
 
 last_teardowns : (b : Beginning) (last more : List (List ℕ)) → teardown_text b.wish b.session ∷ [] ≡ last ++ more
     → AreTeardowns b last
@@ -225,7 +222,8 @@ abbrev pub outlook_of : {wish : Wish} {stored : Stored} {course : Course} (asked
     → AreAsked (beginning_of asked) (rounds_requests course.rounds) → Outlook
 outlook_of asked its = record {
   last = its.last;
-  last_are = torn_no_plays (beginning_of asked) its.last its.teardowns;
+  last_are = each_weaker (IsTeardownOf (beginning_of asked)) IsNoPlay
+      (λ message is. teardown_no_play (beginning_of asked) is) its.last its.teardowns;
   play = asked.play;
   others = asked.others;
 }
@@ -284,7 +282,7 @@ asked_played {wish} {stored} {course} asked =
       before = one.before;
       due = asked.due;
       sent = sent;
-      messages = texts_whole (course_texts course) (waiting_reply course.last.session)
+      messages = each_front IsMessage (map text_of (course_texts course)) (waiting_reply course.last.session)
           (subst AreWhole (sym ordered) played.whole);
     } in
     let two = two_first slots (course_texts course) replies in (

@@ -48,54 +48,42 @@ over_other input n (ABlock starts four size inside) =
     let same : get_or (take n input) 0 0 ≡ 36 = get_or-take n input 0 0 (omega (arith, size)) ∙ starts.1 in
     ap (λ b. is_line_end b || (b == 36)) same
 
--- elements that are processed are those of the input
-record Cuts (old new : Stage) (messages : List (List ℕ)) : Type 0 where
-  elements : List (List ℕ)
-  cut : AreInputElements old.input elements new.input
-  requests : requests_in elements ≡ messages
+-- bytes are split into elements with these requests, and into what waits
+pub record CutsAll (heard : List ℕ) (new : Stage) (messages : List (List ℕ)) : Type 0 where
+  pub elements : List (List ℕ)
+  pub cut : AreInputElements heard elements new.input
+  pub requests : requests_in elements ≡ messages
 
+-- one element first
+first_cut : {input after : List ℕ} {new : Stage} {messages : List (List ℕ)} (n : ℕ) → IsElementLength input n
+    → after ≡ drop n input → CutsAll after new messages
+    → CutsAll input new (if is_no_request (take n input) then messages else take n input ∷ messages)
+first_cut {input} {new = new} n element is rest = record {
+  elements = take n input ∷ rest.elements;
+  cut = (n, (element, refl, subst (λ w. AreInputElements w rest.elements new.input) is rest.cut));
+  requests = ap (λ rs. if is_no_request (take n input) then rs else take n input ∷ rs) rest.requests;
+}
+
+-- elements that are processed are those of the input
 goes_cut : (old new : Stage) (elements : List Element) → GoesAll old elements new
-    → Cuts old new (map message_of (elements_hearings elements))
+    → CutsAll old.input new (map message_of (elements_hearings elements))
 goes_cut old new [] goes = record { elements = []; cut = ap (λ (s : Stage). s.input) (sym goes); requests = refl }
 goes_cut old new (Over n ∷ elements) goes =
-    let mid : Stage = goes.0 in
-    let rest = goes_cut mid new elements goes.1.1 in
     let passing = goes.1.0 in
-    record {
-      elements = take n old.input ∷ rest.elements;
-      cut = (
-        n,
-        (
-          over_element old.input n passing.over,
-          refl,
-          subst (λ input. AreInputElements input rest.elements new.input)
-              (ap (λ (s : Stage). s.input) passing.new_is) rest.cut,
-        ),
-      );
-      requests = ap (λ b. if b then requests_in rest.elements else take n old.input ∷ requests_in rest.elements)
-          (over_other old.input n passing.over) ∙ rest.requests;
-    }
+    let ms = map message_of (elements_hearings elements) in
+    subst (λ b. CutsAll old.input new (if b then ms else take n old.input ∷ ms)) (over_other old.input n passing.over)
+    (first_cut n (over_element old.input n passing.over) (ap (λ (s : Stage). s.input) passing.new_is)
+    (goes_cut goes.0 new elements goes.1.1))
 goes_cut old new (RequestElement turn ∷ elements) goes =
-    let mid : Stage = goes.0 in
-    let rest = goes_cut mid new elements goes.1.1 in
-    let taken = goes.1.0 in
+    let next = goes.1.0.next in
     let n : ℕ = length turn.message in
-    let some : 0 < n = omega (arith, taken.next.first.1.total_is, taken.next.first.1.is_head.some) in
-    record {
-      elements = take n old.input ∷ rest.elements;
-      cut = (
-        n,
-        (
-          WholeMessage taken.next.first.0 taken.next.first.1 taken.next.first.2,
-          refl,
-          subst (λ input. AreInputElements input rest.elements new.input)
-              (ap (λ (s : Stage). s.input) taken.new_is) rest.cut,
-        ),
-      );
-      requests = ap (λ b. if b then requests_in rest.elements else take n old.input ∷ requests_in rest.elements)
-          (starts_request old.input n taken.next.first.0 some) ∙ ap (λ rs. take n old.input ∷ rs) rest.requests
-          ∙ ap (λ m. m ∷ map message_of (elements_hearings elements)) (sym taken.next.message_is);
-    }
+    let ms = map message_of (elements_hearings elements) in
+    let some : 0 < n = omega (arith, next.first.1.total_is, next.first.1.is_head.some) in
+    subst (λ m. CutsAll old.input new (m ∷ ms)) (sym next.message_is)
+    (subst (λ b. CutsAll old.input new (if b then ms else take n old.input ∷ ms))
+    (starts_request old.input n next.first.0 some)
+    (first_cut n (WholeMessage next.first.0 next.first.1 next.first.2)
+    (ap (λ (s : Stage). s.input) goes.1.0.new_is) (goes_cut goes.0 new elements goes.1.1)))
 
 -- bytes that wait are split further
 record LaterCut : Type 0 where
@@ -119,17 +107,10 @@ hearings_map : (xs ys : List HeardRequest) → map message_of (xs ++ ys) ≡ map
 hearings_map [] ys = refl
 hearings_map (x ∷ xs) ys = ap (λ ms. x.message ∷ ms) (hearings_map xs ys)
 
-pub record CutsAll (heard : List ℕ) (new : Stage) (messages : List (List ℕ)) : Type 0 where
-  pub elements : List (List ℕ)
-  pub cut : AreInputElements heard elements new.input
-  pub requests : requests_in elements ≡ messages
-
--- what was received by a stage is split into elements with these requests, and into what waits
+-- what was received by a stage
 pub record HeardCut (old : Stage) (messages : List (List ℕ)) : Type 0 where
   pub heard : List ℕ
-  pub elements : List (List ℕ)
-  pub cut : AreInputElements heard elements old.input
-  pub requests : requests_in elements ≡ messages
+  pub cuts : CutsAll heard old messages
 
 -- the requests that are received are those that are processed
 takings_heard : (old new : Stage) (takings : List ElementStep) (takes : TakesAll old takings new)
@@ -157,13 +138,9 @@ takes_follow old new (round ∷ rounds) takes = (takes.0, (takes.1.0, takes_foll
 pub follows_cut : {new : Stage} {messages : List (List ℕ)} (old : Stage) (rounds : List Round)
     (follows : IsCourseBetween old rounds new) (heard_cut : HeardCut old messages) →
     CutsAll (heard_cut.heard ++ rounds_input rounds) new (messages ++ rounds_requests rounds)
-follows_cut {new} {messages} old [] follows heard_cut = record {
-  elements = elements;
-  cut = rw (append-nil heard) (subst (AreInputElements heard elements) (ap (λ (s : Stage). s.input) (sym follows)) cut);
-  requests = requests ∙ sym (append-nil messages);
-}
-  where
-    open heard_cut use {heard, elements, cut, requests}
+follows_cut {messages = messages} old [] follows heard_cut =
+    rw (append-nil heard_cut.heard, append-nil messages)
+    (subst (λ s. CutsAll heard_cut.heard s messages) (sym follows) heard_cut.cuts)
 follows_cut {new} {messages} old (round ∷ rounds) follows heard_cut =
     let mid : Stage = follows.0 in
     let runs = follows.1.0 in
@@ -174,31 +151,27 @@ follows_cut {new} {messages} old (round ∷ rounds) follows heard_cut =
     (sym (comes_input old opened round.event round.due round.halt runs.comes))
     (cut_grows heard bytes elements old.input cut) in
     let path = path_of opened mid round.takings runs.takes in
-    let cuts = goes_cut opened mid path.elements path.goes in
     let more : List (List ℕ) = takings_requests round.takings in
-    let these : requests_in (elements ++ cuts.elements) ≡ messages ++ more =
-    requests_append elements cuts.elements ∙ ap (λ rs. rs ++ requests_in cuts.elements) requests
-    ∙ ap (λ rs. messages ++ rs) (cuts.requests ∙ ap (λ (e : Exchange). map message_of e.hearings) path.is
-    ∙ takings_heard opened mid round.takings runs.takes) in
-    let rest = follows_cut {new = new} {messages = messages ++ more} mid rounds follows.1.1
-    (record {
+    let next = goes_cut opened mid path.elements path.goes in
+    rw (← (append_assoc heard bytes (rounds_input rounds)), ← (append_assoc messages more (rounds_requests rounds)))
+    (follows_cut {new = new} {messages = messages ++ more} mid rounds follows.1.1 (record {
       heard = heard ++ bytes;
-      elements = elements ++ cuts.elements;
-      cut = cut_then (heard ++ bytes) elements (record {
-        input = opened.input;
-        elements = cuts.elements;
-        rest = mid.input;
-        cut = cuts.cut;
-      }) grown;
-      requests = these;
-    }) in
-    record {
-      elements = rest.elements;
-      cut = rw (← (append_assoc heard bytes (rounds_input rounds))) rest.cut;
-      requests = rest.requests ∙ append_assoc messages more (rounds_requests rounds);
-    }
+      cuts = record {
+        elements = elements ++ next.elements;
+        cut = cut_then (heard ++ bytes) elements (record {
+          input = opened.input;
+          elements = next.elements;
+          rest = mid.input;
+          cut = next.cut;
+        }) grown;
+        requests = requests_append elements next.elements ∙ ap (λ rs. rs ++ requests_in next.elements) requests
+            ∙ ap (λ rs. messages ++ rs) (next.requests ∙ ap (λ (e : Exchange). map message_of e.hearings) path.is
+            ∙ takings_heard opened mid round.takings runs.takes);
+      };
+    }))
   where
-    open heard_cut use {heard, elements, cut, requests}
+    open heard_cut use {heard, cuts}
+    open cuts use {elements, cut, requests}
 
 -- what isn't processed isn't complete, or waits for a reply
 abbrev IsRest : Stage → Type 0
@@ -229,7 +202,7 @@ requests_taken beginning cutting =
     let first : Stage = first_stage beginning.films beginning.settings beginning.words in
     let follows = takes_follow first cutting.last cutting.rounds cutting.takes in
     let cuts = follows_cut first cutting.rounds follows
-    (record { heard = []; elements = []; cut = refl; requests = refl }) in
+    (record { heard = []; cuts = record { elements = []; cut = refl; requests = refl } }) in
     let begins : IsDrained first = inl (record { torn = refl; waits = inl (inl refl) }) in
     record {
       elements = cuts.elements;
@@ -308,7 +281,7 @@ pub requests_front : (course : Course) (texts : List (List ℕ)) → AreFound te
 requests_front course texts found front =
     let first = begin_of course in
     let cuts = follows_cut first course.rounds course.follows
-    (record { heard = []; elements = []; cut = refl; requests = refl }) in
+    (record { heard = []; cuts = record { elements = []; cut = refl; requests = refl } }) in
     let its = front_cut {input = rounds_input course.rounds} texts cuts.elements course.last.input found front
     cuts.cut in (
       requests_in its.0,

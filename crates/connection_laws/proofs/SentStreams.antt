@@ -1,7 +1,7 @@
 -- What a connection sent as a stream of two replies, a film's blocks, and later replies.
 use Rattle.std.specs.Prelude.{⊤}
 use Rattle.std.proofs.Common.{◌≡◌, ℕ, ◌+◌, ◌-◌, ◌<◌, ◌≤◌, max, min, List, [], ◌∷◌, ◌++◌, length, take, drop, map, refl}
-use Rattle.std.proofs.Common.{sym, ap, subst, ◌∙◌, append_assoc, arith, inl, inr}
+use Rattle.std.proofs.Common.{sym, ap, subst, ◌∙◌, arith, inl, inr}
 use Rattle.std.proofs.lemmas.Bool.{cases_lt}
 use Rattle.std.proofs.lemmas.List.{append-nil, drop_all, length-append, length-take, take_all}
 use Rattle.std.proofs.Math.Seq.{drop-nil, take-append-add, take-nil}
@@ -13,6 +13,7 @@ use Rattle.connection_laws.specs.Courses.{greatest_slot, rounds_bytes}
 use Rattle.connection_laws.specs.Replies.{PlacedText, placed_text, placed_texts, text_of, insert_texts}
 use Rattle.connection_laws.specs.LinkDelivery.{latest_slot, sent_bytes}
 use Rattle.connection_laws.specs.WholePlays.{AreAfter}
+use Rattle.connection_laws.proofs.Lists.{Each, joins_parts}
 
 -- ---- texts among parts
 
@@ -116,8 +117,7 @@ counted_by {later} {rest} {total} texts_first (a ∷ b ∷ c ∷ texts) all with
 -- ---- all of it, as a prefix of the stream
 
 pub framed_append : (xs ys : List (List ℕ)) → framed_bytes (xs ++ ys) ≡ framed_bytes xs ++ framed_bytes ys
-framed_append [] ys = refl
-framed_append (x ∷ xs) ys = rw (framed_append xs ys, append_assoc x (framed_bytes xs) (framed_bytes ys))
+framed_append = joins_parts framed_bytes (λ x. x) refl (λ x xs. refl)
 
 woven_texts : (from : ℕ) (film : List ℕ) (texts : List PlacedText) → film ≡ []
     → insert_texts from film texts ≡ framed_bytes (map text_of texts)
@@ -216,9 +216,11 @@ abbrev pub IsEvent : IoEvent → Type 0
 IsEvent (Sent byte) = ⊥
 IsEvent _ = ⊤
 
+abbrev pub HasEvent : Round → Type 0
+HasEvent round = IsEvent round.event
+
 abbrev pub AreEvents : List Round → Type 0
-AreEvents [] = ⊤
-AreEvents (round ∷ rounds) = IsEvent round.event × AreEvents rounds
+AreEvents = Each HasEvent
 
 event_sent : (event : IoEvent) (rest : List IoEvent) → IsEvent event → sent_bytes (event ∷ rest) ≡ sent_bytes rest
 event_sent (Sent byte) rest is = absurd is

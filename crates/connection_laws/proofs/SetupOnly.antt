@@ -1,13 +1,13 @@
 -- Requests other than PLAY begin no play. A connection that is asked for SETUP alone, before PLAY, plays nothing; where
 -- SETUP was answered 200 it settled what was wished.
 use Rattle.std.specs.Prelude.{⊤}
-use Rattle.std.proofs.Common.{ℕ, ◌≡◌, ◌≢◌, List, [], ◌∷◌, ◌++◌, codes, refl, ap, ◌∙◌, if◌then◌else◌, Bool, true, false}
+use Rattle.std.proofs.Common.{ℕ, ◌≡◌, ◌≢◌, List, [], ◌++◌, codes, refl, ap, ◌∙◌, if◌then◌else◌, Bool, true, false}
 use Rattle.std.proofs.Common.{None, sym, subst}
 use Rattle.session.specs.declared.states.Awaited.{Awaited}
 use Rattle.session.specs.RefusalOrder.{IsReadAs}
 use Rattle.session.specs.SessionStates.{SessionState, awaited_answer_of}
 use Rattle.rtsp_text.specs.declared.requests.Request.{Request}
-use Rattle.conn.specs.InputSteps.{Outcome, Stage, Entered, IsAskAnswered, Offered, Unasked, WasFull}
+use Rattle.conn.specs.InputSteps.{Outcome, Stage, IsAskAnswered, Unasked}
 use Rattle.connection_laws.specs.Courses.{Course, course_plays}
 use Rattle.connection_laws.specs.Plays.{StationRequest, plays_begun, plays_of}
 use Rattle.connection_laws.proofs.CourseSteps.{Stands, request_turns, request_stands, stands_by, event_step}
@@ -37,14 +37,13 @@ use Rattle.session_laws.proofs.SetupLemmas.{IsSetupRequest, SetupHeard, Refused,
 use Rattle.connection_laws.proofs.CourseInduction.{AnsweredRequest, Piece, GoesBack, course_back, rounds_requests}
 use Rattle.conn.proofs.StationAnswers.{ComesAs, BytesCame, SlotCame}
 use Rattle.conn.specs.EventSteps.{Round}
-use Rattle.pacer.specs.PacerStates.{at_slot}
+use Rattle.connection_laws.proofs.Lists.{Each}
 
 abbrev pub IsNoPlay : List ℕ → Type 0
 IsNoPlay message = (request : Request) → IsReadAs message request → request.method.now ≢ codes "PLAY"
 
 abbrev pub AreNoPlays : List (List ℕ) → Type 0
-AreNoPlays [] = ⊤
-AreNoPlays (message ∷ messages) = IsNoPlay message × AreNoPlays messages
+AreNoPlays = Each IsNoPlay
 
 pub no_play_begins : {old new : Stage} (request : AnsweredRequest old new) → Stands old.session
     → IsNoPlay request.message → (askings : List StationRequest)
@@ -170,9 +169,7 @@ reply_same asking ask outcome new is answered =
   where
     go : (o : Outcome) → IsAskAnswered asking Reply o new → new ≡ asking
     go Unasked same = same
-    go (Entered placed) same = absurd same
-    go (WasFull more entries live) same = absurd same
-    go (Offered at_slot note) same = absurd same
+    go _ same = absurd same
 
 setup_waits : {b : Beginning} {old asking : SessionState} {ask : Ask} → IsWaiting b old
     → SetupHeard old (film_url b.wish ++ codes "/video") (request_head (setup_parts b.wish)) ask asking

@@ -1,5 +1,4 @@
 -- Where texts stand among the bytes of a play, and of the plays after it.
-use Rattle.std.specs.Prelude.{⊤}
 use Rattle.std.proofs.Common.{◌≡◌, ℕ, ◌+◌, ◌-◌, ◌<◌, ◌≤◌, List, ◌∷◌, Option, Some, None, length, refl, ap, ◌∙◌, subst}
 use Rattle.std.proofs.Common.{inl, inr, arith, ◌++◌, append_assoc, take, drop, sym, []}
 use Rattle.std.proofs.lemmas.List.Sums.{sum_by-cons}
@@ -11,27 +10,26 @@ use Rattle.connection_laws.specs.Plays.{FilmPlay, due_by as all_due, due_of, fil
 use Rattle.connection_laws.specs.Replies.{placed_text, placed_texts}
 use Rattle.connection_laws.proofs.JoinedFilms.{play_with, IsFilm, sent_to, film_in}
 use Rattle.std.proofs.lemmas.List.{length-take, length-drop}
+use Rattle.connection_laws.proofs.Lists.{Each, each_weaker}
 
 due_cons : (slot : ℕ) (play : FilmPlay) (plays : List FilmPlay)
     → all_due slot (play ∷ plays) ≡ due_of slot play + all_due slot plays
 due_cons slot play plays = sum_by-cons (due_of slot) play plays
 
 -- plays that begin after a slot, the first at a boundary
+abbrev BeginsAfter : ℕ → FilmPlay → Type 0
+BeginsAfter slot play = slot < play.start
+
 abbrev AreAfter : ℕ → List FilmPlay → Type 0
-AreAfter slot [] = ⊤
-AreAfter slot (play ∷ plays) = (slot < play.start) × AreAfter slot plays
+AreAfter slot = Each (BeginsAfter slot)
 
 pub record AreLater (slot : ℕ) (plays : List FilmPlay) : Type 0 where
   pub starts : AreAfter slot plays
   pub begins : IsBoundaryIn plays 0
 
-after_lower : (low slot : ℕ) (plays : List FilmPlay) → low ≤ slot → AreAfter slot plays → AreAfter low plays
-after_lower low slot [] less are = tt
-after_lower low slot (play ∷ plays) less are = (omega (arith, less, are.0), after_lower low slot plays less are.1)
-
 pub later_lower : (low slot : ℕ) (plays : List FilmPlay) → low ≤ slot → AreLater slot plays → AreLater low plays
 later_lower low slot plays less are = record {
-  starts = after_lower low slot plays less are.starts;
+  starts = each_weaker (BeginsAfter slot) (BeginsAfter low) (λ play is. omega (arith, less, is)) plays are.starts;
   begins = are.begins;
 }
 
@@ -50,12 +48,10 @@ none_due slot (play ∷ plays) are =
 
 -- slots from one on
 abbrev pub AreFrom : ℕ → List ℕ → Type 0
-AreFrom low [] = ⊤
-AreFrom low (slot ∷ slots) = (low ≤ slot) × AreFrom low slots
+AreFrom low = Each (λ slot. low ≤ slot)
 
 pub from_lower : (low from : ℕ) (slots : List ℕ) → low ≤ from → AreFrom from slots → AreFrom low slots
-from_lower low from [] less are = tt
-from_lower low from (slot ∷ slots) less are = (omega (arith, less, are.0), from_lower low from slots less are.1)
+from_lower low from slots less = each_weaker (λ s. from ≤ s) (λ s. low ≤ s) (λ s is. omega (arith, less, is)) slots
 
 -- ---- the play in hand
 

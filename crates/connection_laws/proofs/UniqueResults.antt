@@ -11,9 +11,8 @@ use Rattle.session.specs.SlotSteps.{after_slot}
 use Rattle.session.specs.SessionStates.{SessionState, AwaitedAnswer, HaltAnswer, awaited_answer}
 use Rattle.conn.specs.InputSteps.{Outcome, Unasked, SentPart, HasStepped, IsAskAnswered}
 use Rattle.connection_laws.specs.InputSplits.{AreSameAnswers, HeardRequest, LackMemoryAlike, RanOutOfMemory, answer_in}
-use Rattle.connection_laws.proofs.StationAnswers.{AnswersAs, NoneAsked, answer_leaves, answers_as, after_outcome}
-use Rattle.connection_laws.proofs.StationAnswers.{finish_leaves}
-use Rattle.conn.proofs.StationAnswers.{FinishesAs, NothingLeft, DoneHalted, finishes_as}
+use Rattle.connection_laws.proofs.StationAnswers.{after_outcome, answer_leaves, finish_leaves}
+use Rattle.conn.proofs.StationAnswers.{AnswersAs, NoneAsked, answers_as, FinishesAs, NothingLeft, DoneHalted, finishes_as}
 
 -- ---- a request is received
 
@@ -99,9 +98,9 @@ abbrev is_asking : Ask → Bool
 is_asking AskReply = false
 is_asking _ = true
 
-asked_as : {asking new : SessionState} {ask : Ask} {outcome : Outcome} → AnswersAs asking new ask outcome
+asked_as : {asking new : SessionState} {ask : Ask} {outcome : Outcome} → AnswersAs asking ask outcome new
     → IsAsked (is_asking ask) outcome
-asked_as (NoneAsked is) = refl
+asked_as NoneAsked = refl
 asked_as _ = tt
 
 -- the same answer, and the same session after it
@@ -112,7 +111,7 @@ answers_same {one = one} {other = other} old ask alike answered =
     let is = answers_as ask one answered.0 in
     let also = answers_as ask other answered.1 in
     let both = outcomes_same (is_asking ask) alike (asked_as is) (asked_as also) in
-    (answer_leaves old also ∙ ap (after_outcome old) both.0 ∙ sym (answer_leaves old is), both.1)
+    (answer_leaves also ∙ ap (after_outcome old) both.0 ∙ sym (answer_leaves is), both.1)
 
 -- ---- a slot is processed
 
@@ -140,6 +139,6 @@ steps_same {old} {slot} {one} {other} alike is also =
     let second = finishes_as (awaited_answer s) other also.stepped.finished in
     let both = outcomes_same (is_halting (awaited_answer s)) alike (finished_as first) (finished_as second) in (
       also.stepped.parts_are ∙ sym is.stepped.parts_are,
-      finish_leaves s second ∙ ap (after_outcome s) both.0 ∙ sym (finish_leaves s first),
+      finish_leaves second ∙ ap (after_outcome s) both.0 ∙ sym (finish_leaves first),
       both.1,
     )

@@ -9,10 +9,8 @@ use Rattle.std.proofs.Math.Seq.{take-append-add}
 use Rattle.mpeg_scan.specs.declared.units.Unit.{Unit as PictureUnit}
 use Rattle.mpeg_scan.specs.Layout.{AreLaid}
 use Rattle.rtp_pack.specs.declared.payloads.Packet.{Packet}
-use Rattle.rtp_pack.specs.declared.open_packet.OpenPacket.{OpenPacket}
-use Rattle.rtp_pack.specs.Packetization.{first_portion, next_filling}
 use Rattle.rtp_pack.specs.Laws.{IsLastMarked}
-use Rattle.rtp_pack.specs.Packets.{IsLaid, packets_from, slice_packets, unit_lengths, unit_packets}
+use Rattle.rtp_pack.specs.Packets.{IsLaid, unit_packets}
 use Rattle.rtp_pack.proofs.MarkerLemmas.{last-marked}
 use Rattle.rtp_pack.proofs.UnitPacketLemmas.{packets-are, packets-cover}
 use Rattle.film_frames.specs.Laws.{frames_among}
@@ -25,32 +23,28 @@ use Rattle.film_frames.proofs.TrackLemmas.{begin-all}
 use Rattle.rtsp_client.specs.Answers.{events_of_elements, element_events}
 use Rattle.rtsp_client.specs.ClientHistory.{Frame, ClientEvent, Report, is_last}
 use Rattle.rtsp_client.specs.MeterGuarantee.{frames_of}
+use Rattle.rtsp_client.proofs.RunFrames.{has-packet}
 use Rattle.connection_laws.proofs.Blocks.{blocks_append, frame_block, frame_blocks, frame_moment, frames_after, last_is}
 use Rattle.connection_laws.proofs.Blocks.{octets_after, report_block, report_if, report_moment, unit_among, unit_blocks}
 use Rattle.connection_laws.proofs.Blocks.{unit_made, unit_one, RunFrom}
 use Rattle.connection_laws.proofs.PieceCounts.{count_past, count_within}
-use Rattle.connection_laws.proofs.HistorySums.{AreOneBlocks, Sum, blocks_one_append, blocks_same, plays, step, steps}
+use Rattle.connection_laws.proofs.HistorySums.{IsOneBlock, AreOneBlocks, Sum, blocks_same, plays, step, steps}
 use Rattle.connection_laws.proofs.HistorySums.{steps_on}
+use Rattle.connection_laws.proofs.Lists.{each_append, joins_parts}
 
 -- the moments of blocks, in two parts
 pub moments_parts : (xs ys : List (List ℕ)) → events_of_elements (xs ++ ys) ≡ events_of_elements xs ++
     events_of_elements ys
-moments_parts [] ys = refl
-moments_parts (x ∷ xs) ys =
-    rw (moments_parts xs ys, append_assoc (element_events x) (events_of_elements xs) (events_of_elements ys))
+moments_parts = joins_parts events_of_elements element_events refl (λ x xs. refl)
 
 -- ---- the frames of a unit
 
--- the sizes after a frame
-pub frame_sizes : (b : List ℕ) (bs : List (List ℕ)) (s : Sum) (P : Sum → Type 0) → element_events b ≡ Frame b ∷ []
-    → P (steps (step (Frame b) s) (events_of_elements bs)) → P (steps s (events_of_elements (b ∷ bs)))
-frame_sizes b bs s P is met = let Q : List ClientEvent → Type 0 = λ l. P (steps s (l ++ events_of_elements bs)) in
-    subst Q (sym is) met
-
-pub report_sizes : (b : List ℕ) (bs : List (List ℕ)) (s : Sum) (P : Sum → Type 0) → element_events b ≡ Report b ∷ []
-    → P (steps (step (Report b) s) (events_of_elements bs)) → P (steps s (events_of_elements (b ∷ bs)))
-report_sizes b bs s P is met = let Q : List ClientEvent → Type 0 = λ l. P (steps s (l ++ events_of_elements bs)) in
-    subst Q (sym is) met
+-- the sizes after a block of one event
+pub block_sizes : {event : ClientEvent} (b : List ℕ) (bs : List (List ℕ)) (s : Sum) (P : Sum → Type 0)
+    → element_events b ≡ event ∷ [] → P (steps (step event s) (events_of_elements bs))
+    → P (steps s (events_of_elements (b ∷ bs)))
+block_sizes b bs s P is met =
+    let Q : List ClientEvent → Type 0 = λ l. P (steps s (l ++ events_of_elements bs)) in subst Q (sym is) met
 
 -- a unit of a run on channel 0, with the frames that the run sent before
 record UnitOfRun : Type 0 where
@@ -66,7 +60,7 @@ part_frames : (of_run : UnitOfRun) (k : ℕ) (packets : List Packet) (s : Sum) �
 part_frames of_run zero packets s marked few = refl
 part_frames of_run (suc k) (p ∷ (q ∷ packets)) s marked few =
     let b = frame_block run unit p f in
-    frame_sizes b (take k (frame_blocks run unit (f + 1) (q ∷ packets))) s (λ t. t.sizes ≡ s.sizes)
+    block_sizes b (take k (frame_blocks run unit (f + 1) (q ∷ packets))) s (λ t. t.sizes ≡ s.sizes)
     (frame_moment run f unit p media)
     (part_frames (record { run = run; frames = f + 1; unit = unit; media = media }) k (q ∷ packets)
     (step (Frame b) s) marked.1 (omega (arith, few))
@@ -90,7 +84,7 @@ whole_frames {s} of_run (p ∷ []) marked some =
     let last : is_last b ≡ true = last_is run f unit p ∙ marked in
     let size : s.pending + length b ≡ s.pending + length (b ++ []) =
     ap (λ (l : List ℕ). s.pending + length l) (sym (append-nil b)) in
-    frame_sizes b [] s (λ t. IsUnitDone s (s.pending + length (b ++ [])) t) (frame_moment run f unit p media)
+    block_sizes b [] s (λ t. IsUnitDone s (s.pending + length (b ++ [])) t) (frame_moment run f unit p media)
     (record {
       sizes = cond-true (is_last b) (s.sizes ++ (s.pending + length b) ∷ []) s.sizes last
           ∙ ap (λ n. s.sizes ++ n ∷ []) size;
@@ -110,7 +104,7 @@ whole_frames {s} of_run (p ∷ (q ∷ packets)) marked some =
     let pending_is = cond-false (is_last b) 0 (s.pending + length b) last in
     let size : t.pending + length (framed_bytes blocks) ≡ s.pending + length (b ++ framed_bytes blocks) =
     omega (arith, pending_is, length-append b (framed_bytes blocks)) in
-    frame_sizes b blocks s (λ u. IsUnitDone s (s.pending + length (b ++ framed_bytes blocks)) u)
+    block_sizes b blocks s (λ u. IsUnitDone s (s.pending + length (b ++ framed_bytes blocks)) u)
     (frame_moment run f unit p media)
     (record {
       sizes = rest.sizes
@@ -147,7 +141,7 @@ part_unit false from k marked_unit s few =
 part_unit true from zero marked_unit s few = refl
 part_unit true from (suc k) marked_unit s few =
     let b = report_block run unit f o in
-    report_sizes b (take k (frame_blocks run unit f packets)) s (λ t. t.sizes ≡ s.sizes)
+    block_sizes b (take k (frame_blocks run unit f packets)) s (λ t. t.sizes ≡ s.sizes)
     (report_moment run f o unit control)
     (part_frames (record { run = run; frames = f; unit = unit; media = media }) k packets (step (Report b) s)
     marked (omega (arith, few)))
@@ -189,7 +183,7 @@ whole_unit {s} true from marked_unit some between =
       between.none,
       length-append b (framed_bytes blocks),
     ) in
-    report_sizes b blocks s (λ u. IsUnitDone s (length (b ++ framed_bytes blocks)) u)
+    block_sizes b blocks s (λ u. IsUnitDone s (length (b ++ framed_bytes blocks)) u)
     (report_moment run f o unit control)
     (record {
       sizes = done.sizes ∙ ap (λ n. s.sizes ++ n ∷ []) size;
@@ -208,31 +202,6 @@ pub record HasCome (sizes : List ℕ) (c : ℕ) (s t : Sum) : Type 0 where
   pub sizes_are : t.sizes ≡ s.sizes ++ take count sizes
   pub among : count ≤ length sizes
   pub next : count < length sizes → c < sum (take (count + 1) sizes)
-
-packets_some : (unit : PictureUnit) (f : OpenPacket) (slices : List ℕ) → 0 < length (packets_from unit f slices)
-packets_some unit f [] = omega arith
-packets_some unit f (l ∷ slices) =
-    omega (
-      arith,
-      length-append (slice_packets unit f l) (packets_from unit (next_filling f l) slices),
-      packets_some unit (next_filling f l) slices,
-    )
-
--- a unit has a first packet
-pub record HasPacket (starts : List ℕ) (unit : PictureUnit) : Type 0 where
-  pub packet : Packet
-  pub packets : List Packet
-  pub are : unit_packets starts unit ≡ packet ∷ packets
-
-first_there : (starts : List ℕ) (unit : PictureUnit) (packets : List Packet)
-    → unit_packets starts unit ≡ packets → 0 < length packets → HasPacket starts unit
-first_there starts unit [] is some = absurd (omega (arith, some))
-first_there starts unit (p ∷ packets) is some = record { packet = p; packets = packets; are = is }
-
-pub packets_there : (starts : List ℕ) (unit : PictureUnit) → HasPacket starts unit
-packets_there starts unit =
-    first_there starts unit (unit_packets starts unit) refl
-    (packets_some unit (first_portion unit.from unit.head_end) (unit_lengths starts unit))
 
 unit_marked : (starts : List ℕ) (unit : PictureUnit) → IsLaid starts unit → IsLastMarked (unit_packets starts unit)
 unit_marked starts unit laid =
@@ -261,7 +230,7 @@ blocks_one from starts (unit ∷ units) =
     let f2 = frames_after f (unit_pieces starts unit) in
     let o2 = octets_after o (unit_pieces starts unit) in
     subst AreOneBlocks (sym (more_blocks run f o starts unit units))
-    (blocks_one_append (unit_blocks run starts unit f o) (blocks_from run f2 o2 (pieces_of starts units))
+    (each_append IsOneBlock (unit_blocks run starts unit f o) (blocks_from run f2 o2 (pieces_of starts units))
     (unit_one from starts unit) (blocks_one (record from { frames = f2; octets = o2 }) starts units))
   where
     open from use {run, frames as f, octets as o}
@@ -332,8 +301,7 @@ module _ {s : Sum} where
       (steps s (events_of_elements (first_blocks first)))
   first_done first =
       whole_unit {s = s} first.unit.starts_group first.from (first_marked first)
-      (packets_some first.unit (first_portion first.unit.from first.unit.head_end)
-      (unit_lengths first.starts first.unit))
+      (let there = has-packet first.starts first.unit in omega (arith, ap (λ (l : List Packet). length l) there.are))
       first.between
 
   come_past : {c : ℕ} (first : FirstUnit s) (ys : List (List ℕ)) (sizes : List ℕ) → first_size first ≤ c

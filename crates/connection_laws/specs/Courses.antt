@@ -1,7 +1,7 @@
 -- A connection's course as complete lists: what it received, what it asked the station, and the
 -- greatest slot.
 use Rattle.std.specs.Prelude.{ℕ, ◌≡◌, if◌then◌else◌, max, nat_le, List, [], ◌∷◌, ◌++◌}
-use Rattle.vod_base.specs.Links.{IoEvent, HeardBytes, HeardEnd, HeardSlot, Sent}
+use Rattle.vod_base.specs.Links.{IoEvent, HeardSlot}
 use Rattle.vod_base.specs.declared.links.TheConstants.{LATEST_SLOT}
 use Rattle.film_frames.specs.declared.stored_films.Stored.{Stored}
 use Rattle.film_streams.specs.declared.settings.Settings.{Settings}
@@ -31,10 +31,8 @@ IsCourseSplit old first rest new = (mid : Stage) × (IsCourseBetween old first m
 
 -- the greatest slot up to LATEST_SLOT among events that were received, 0 where there is none
 abbrev pub slot_in : IoEvent → ℕ
-slot_in (HeardBytes bytes) = 0
 slot_in (HeardSlot slot) = if nat_le slot LATEST_SLOT then slot else 0
-slot_in HeardEnd = 0
-slot_in (Sent byte) = 0
+slot_in _ = 0
 
 abbrev pub greatest_slot : List Round → ℕ
 greatest_slot [] = 0
@@ -48,10 +46,8 @@ rounds_bytes (round ∷ rounds) = round_bytes round ++ rounds_bytes rounds
 -- what the station was asked, and its answers: as an event came, as elements were processed, and in
 -- all
 abbrev pub asked_by : SessionState → IoEvent → Awaited
-asked_by session (HeardBytes bytes) = Nothing
 asked_by session (HeardSlot slot) = (after_slot session slot).awaited
-asked_by session HeardEnd = Nothing
-asked_by session (Sent byte) = Nothing
+asked_by session _ = Nothing
 
 abbrev pub takings_askings : (old : Stage) (takings : List ElementStep) (new : Stage) →
     TakesAll old takings new → List StationRequest

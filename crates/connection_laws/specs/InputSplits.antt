@@ -7,9 +7,9 @@ use Rattle.film_streams.specs.declared.settings.Settings.{Settings}
 use Rattle.session.specs.Laws.{IsOutOfMemory}
 use Rattle.session.specs.SessionStates.{SessionState}
 use Rattle.conn.specs.EventSteps.{IsIdle, IsStopped, Round, Runs, rounds_outcomes}
-use Rattle.conn.specs.InputSteps.{Answered, Entered, Offered, Outcome, Passed, Stage, ElementStep}
+use Rattle.conn.specs.InputSteps.{Answered, Outcome, Passed, Stage, ElementStep}
 use Rattle.conn.specs.InputSteps.{TakesAll}
-use Rattle.conn.specs.InputSteps.{Unasked, WasFull}
+use Rattle.conn.specs.InputSteps.{Unasked}
 use Rattle.conn.specs.declared.reports.ConnEnd.{ConnEnd}
 use Rattle.connection_laws.specs.Courses.{first_stage, rounds_bytes}
 
@@ -42,9 +42,7 @@ all_heard (round ∷ rounds) = heard_in round.event ++ all_heard rounds
 -- what the station answered, where it was asked
 abbrev pub answer_in : Outcome → List Outcome
 answer_in Unasked = []
-answer_in (Entered placed) = Entered placed ∷ []
-answer_in (WasFull more entries live) = WasFull more entries live ∷ []
-answer_in (Offered at_slot note) = Offered at_slot note ∷ []
+answer_in outcome = outcome ∷ []
 
 abbrev pub answers_in : List Outcome → List Outcome
 answers_in [] = []
@@ -83,20 +81,18 @@ heard_requests_in old (round ∷ rounds) new takes =
 
 -- as far as both go the station's answers are the same, and memory ran out for the same requests
 abbrev pub AreSameAnswers : List Outcome → List Outcome → Type 0
-AreSameAnswers [] others = ⊤
-AreSameAnswers (answer ∷ answers) [] = ⊤
 AreSameAnswers (answer ∷ answers) (other ∷ others) = (answer ≡ other)
     × AreSameAnswers answers others
+AreSameAnswers _ _ = ⊤
 
 pub record LackMemoryAlike (one other : HeardRequest) : Type 0 where
   pub there : RanOutOfMemory one → RanOutOfMemory other
   pub back : RanOutOfMemory other → RanOutOfMemory one
 
 abbrev pub AllLackMemoryAlike : List HeardRequest → List HeardRequest → Type 0
-AllLackMemoryAlike [] others = ⊤
-AllLackMemoryAlike (one ∷ ones) [] = ⊤
 AllLackMemoryAlike (one ∷ ones) (other ∷ others) = LackMemoryAlike one other × AllLackMemoryAlike
     ones others
+AllLackMemoryAlike _ _ = ⊤
 
 -- what a connection begins with, and its course from there
 pub record Beginning : Type 0 where

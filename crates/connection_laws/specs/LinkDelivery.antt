@@ -1,6 +1,6 @@
 -- What a link carries from a server to a client, slot by slot, by what each end's link exposed.
 use Rattle.std.specs.Prelude.{◌≡◌, ℕ, ◌+◌, ◌-◌, ◌≤◌, max, List, [], ◌∷◌, ◌++◌, length}
-use Rattle.vod_base.specs.Links.{IoEvent, HeardBytes, HeardEnd, HeardSlot, Sent}
+use Rattle.vod_base.specs.Links.{IoEvent, HeardBytes, HeardSlot, Sent}
 use Rattle.conn.specs.EventSteps.{IsPrefixOf, rounds_doings}
 use Rattle.connection_laws.specs.Courses.{Course, slot_in}
 use Rattle.connection_laws.specs.Replies.{course_texts}
@@ -9,16 +9,12 @@ use Rattle.connection_laws.specs.Replies.{course_texts}
 abbrev pub heard_bytes : List IoEvent → List ℕ
 heard_bytes [] = []
 heard_bytes (HeardBytes bytes ∷ doings) = bytes ++ heard_bytes doings
-heard_bytes (HeardSlot slot ∷ doings) = heard_bytes doings
-heard_bytes (HeardEnd ∷ doings) = heard_bytes doings
-heard_bytes (Sent byte ∷ doings) = heard_bytes doings
+heard_bytes (_ ∷ doings) = heard_bytes doings
 
 abbrev pub sent_bytes : List IoEvent → List ℕ
 sent_bytes [] = []
-sent_bytes (HeardBytes bytes ∷ doings) = sent_bytes doings
-sent_bytes (HeardSlot slot ∷ doings) = sent_bytes doings
-sent_bytes (HeardEnd ∷ doings) = sent_bytes doings
 sent_bytes (Sent byte ∷ doings) = byte ∷ sent_bytes doings
+sent_bytes (_ ∷ doings) = sent_bytes doings
 
 -- the greatest slot up to LATEST_SLOT that was received, 0 where there is none
 abbrev pub latest_slot : List IoEvent → ℕ

@@ -1,7 +1,7 @@
 -- For which requests of a connection memory may run out.
 use Rattle.std.specs.Prelude.{ℕ, ◌+◌, ◌≤◌, ◌⊎◌, List, [], ◌∷◌}
 use Rattle.session.specs.declared.states.Awaited.{Awaited}
-use Rattle.session.specs.declared.states.Awaited.TheVariants.{Nothing, Play, Halt, Look, Offer}
+use Rattle.session.specs.declared.states.Awaited.TheVariants.{Look}
 use Rattle.session.specs.Laws.{IsOfferInReady, IsPlayInReady}
 use Rattle.session.specs.LookLaws.{AsksBooked}
 use Rattle.connection_laws.specs.Courses.{Course, askings_of, first_stage}
@@ -9,11 +9,8 @@ use Rattle.connection_laws.specs.Plays.{StationRequest, Asks}
 
 -- how many looks the station was asked for
 abbrev pub look_in : Awaited → ℕ
-look_in Nothing = 0
-look_in (Play prepared) = 0
-look_in (Halt keep next) = 0
 look_in (Look sequence) = 1
-look_in (Offer sequence) = 0
+look_in _ = 0
 
 abbrev pub looks_in : List StationRequest → ℕ
 looks_in [] = 0

@@ -1,7 +1,7 @@
 -- What a connection's report notes: its plays, and the slots that were missed.
 use Rattle.std.specs.Prelude.{ℕ, ◌+◌, ◌&&◌, if◌then◌else◌, List, [], ◌∷◌, ◌++◌, length, map}
 use Rattle.std.specs.Prelude.{Option, Some, None}
-use Rattle.vod_base.specs.Links.{IoEvent, HeardBytes, HeardEnd, HeardSlot, Sent}
+use Rattle.vod_base.specs.Links.{IoEvent, HeardSlot}
 use Rattle.slot_calendar.specs.Plays.{Play as Booked, truncated_play}
 use Rattle.film_run.specs.declared.runs.Run.{Run}
 use Rattle.admission.specs.Histories.{play_admitted}
@@ -15,9 +15,9 @@ use Rattle.session.specs.declared.states.State.TheVariants.{Ready}
 use Rattle.session_laws.specs.PlayLaws.{slots_missed}
 use Rattle.session.specs.SlotSteps.{is_sending, is_taken, after_slot, start_in}
 use Rattle.session.specs.SessionStates.{SessionState}
-use Rattle.conn.specs.EventSteps.{Ending, Unheard, PeerEnded, Overfull, AtElement, InSlot, InReply}
+use Rattle.conn.specs.EventSteps.{Ending, AtElement, InSlot, InReply}
 use Rattle.conn.specs.EventSteps.{Ends, Round, Runs, RunsAll}
-use Rattle.conn.specs.InputSteps.{Outcome, Unasked, Entered, WasFull, Offered, Stage, ElementStep}
+use Rattle.conn.specs.InputSteps.{Outcome, Entered, Stage, ElementStep}
 use Rattle.conn.specs.InputSteps.{Passed}
 use Rattle.conn.specs.InputSteps.{Answered, TakesAll}
 use Rattle.conn.specs.Agreement.{Activity, HasDone}
@@ -41,10 +41,8 @@ outcome_of turn = turn.outcome
 
 -- as an event came, as elements were processed, and in all
 abbrev pub asking_at : SessionState → IoEvent → SessionState
-asking_at session (HeardBytes bytes) = session
 asking_at session (HeardSlot slot) = after_slot session slot
-asking_at session HeardEnd = session
-asking_at session (Sent byte) = session
+asking_at session _ = session
 
 abbrev pub taken_calls : (old : Stage) (takings : List ElementStep) (new : Stage)
     → TakesAll old takings new → List StationCall
@@ -67,14 +65,11 @@ rounds_calls old (round ∷ rounds) new runs =
 
 abbrev pub ending_calls : (old : Stage) (count : ℕ) (ending : Ending) (end : ConnEnd) (new : Stage)
     → Ends old count ending end new → List StationCall
-ending_calls old count Unheard end new ends = []
-ending_calls old count PeerEnded end new ends = []
-ending_calls old count (Overfull bytes) end new ends = []
 ending_calls old count (AtElement round) end new ends = round_calls old round new ends.0
-ending_calls old count (InSlot slot front) end new ends = []
 ending_calls old count (InReply round message outcome front) end new ends =
     round_calls old round ends.1.mid ends.1.runs ++ station_call ends.1.fails.heard.asking outcome ∷
     []
+ending_calls old count _ end new ends = []
 
 -- with the halt of a booking that was open at the end
 abbrev pub station_calls : (films : List Stored) (settings : Settings) (words : List ℕ)
@@ -120,10 +115,8 @@ noted_entry (Ready setup paused) (Play prepared) placed turns =
 noted_entry _ _ placed turns = []
 
 abbrev pub notes_of_calls : SessionState → Outcome → List StationCall → List PlayNote
-notes_of_calls asking Unasked turns = []
 notes_of_calls asking (Entered placed) turns = noted_entry asking.state asking.awaited placed turns
-notes_of_calls asking (WasFull more entries live) turns = []
-notes_of_calls asking (Offered at_slot note) turns = []
+notes_of_calls asking _ turns = []
 
 -- one note for each play that was admitted, in order
 abbrev pub notes_of : List StationCall → List PlayNote
@@ -157,10 +150,8 @@ missed_in session slot = if is_taken session slot && is_sending session.state
     then slots_missed session.heard slot (start_in session.state) else 0
 
 abbrev pub missed_by : SessionState → IoEvent → ℕ
-missed_by session (HeardBytes bytes) = 0
 missed_by session (HeardSlot slot) = missed_in session slot
-missed_by session HeardEnd = 0
-missed_by session (Sent byte) = 0
+missed_by session _ = 0
 
 abbrev pub rounds_missed : (old : Stage) (rounds : List Round) (new : Stage)
     → RunsAll old rounds new → ℕ
@@ -169,9 +160,7 @@ rounds_missed old (round ∷ rounds) new runs =
     missed_by old.session round.event + rounds_missed runs.0 rounds new runs.1.2
 
 abbrev pub ending_missed : SessionState → Ending → ℕ
-ending_missed session Unheard = 0
-ending_missed session PeerEnded = 0
-ending_missed session (Overfull bytes) = 0
 ending_missed session (AtElement round) = missed_by session round.event
 ending_missed session (InSlot slot front) = missed_in session slot
 ending_missed session (InReply round message outcome front) = missed_by session round.event
+ending_missed session _ = 0

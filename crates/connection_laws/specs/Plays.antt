@@ -11,12 +11,11 @@ use Rattle.admission.specs.Makers.{PlacedEntry}
 use Rattle.admission.specs.declared.entries.Answer.{Answer}
 use Rattle.admission.specs.declared.entries.Answer.TheVariants.{Admitted}
 use Rattle.admission.specs.declared.entries.Command.{Command}
-use Rattle.admission.specs.declared.entries.Command.TheVariants.{Play as PlayCommand}
 use Rattle.admission.specs.declared.entries.Command.TheVariants.{Halt as HaltCommand}
-use Rattle.admission.specs.declared.entries.Command.TheVariants.{Look as LookCommand}
 use Rattle.session.specs.declared.states.Awaited.{Awaited}
 use Rattle.session.specs.declared.states.Awaited.TheVariants.{Play}
-use Rattle.conn.specs.InputSteps.{Outcome, Unasked, Entered, WasFull, Offered}
+use Rattle.session.specs.declared.states.Prepared.{Prepared}
+use Rattle.conn.specs.InputSteps.{Outcome, Entered}
 
 -- a play of a film: the slot in which it begins, its plan, and the bytes that are kept of it; the
 -- frames and reports of its run (RFC 2326 section 10.12), and the place in them of the plan's first
@@ -54,10 +53,9 @@ film_written slot plays = take (due_by slot plays) (bytes_of_plays plays)
 
 -- each play that another one follows was sent as far as it is kept
 abbrev pub AreOver : ℕ → List FilmPlay → Type 0
-AreOver slot [] = ⊤
-AreOver slot (play ∷ []) = ⊤
 AreOver slot (play ∷ next ∷ plays) =
     (due_of slot play ≡ play.keep) × AreOver slot (next ∷ plays)
+AreOver slot _ = ⊤
 
 -- what a connection asked the station for, and what the station answered
 pub data StationRequest : Type 0 where
@@ -66,36 +64,35 @@ pub data StationRequest : Type 0 where
 -- what is kept of a play, where this is kept if no halt comes: what the next halt keeps, since a
 -- connection's plays follow one another
 abbrev pub kept_by : Command → ℕ → ℕ
-kept_by (PlayCommand slot plan) later = later
 kept_by (HaltCommand number keep) later = keep
-kept_by (LookCommand slot) later = later
+kept_by _ later = later
 
 abbrev pub kept_with : Outcome → ℕ → ℕ
-kept_with Unasked later = later
 kept_with (Entered placed) later = kept_by placed.entry.command later
-kept_with (WasFull more entries live) later = later
-kept_with (Offered at_slot note) later = later
+kept_with _ later = later
 
 abbrev pub kept_in : List StationRequest → ℕ → ℕ
 kept_in [] all = all
 kept_in (Asks asked outcome ∷ askings) all = kept_with outcome (kept_in askings all)
 
--- the play that an answer admits, if any, and what is kept of it by what is asked later
-abbrev pub plays_admitted : Awaited → Answer → List StationRequest → List FilmPlay
-plays_admitted (Play prepared) (Admitted start) askings = record {
+-- the play that begins in a slot, with what is kept of it by what is asked later
+abbrev pub play_by : Prepared → ℕ → List StationRequest → FilmPlay
+play_by prepared start askings = record {
   start = start;
   plan = prepared.plan;
   keep = kept_in askings (total_bytes prepared.plan);
   before = prepared.run.sent;
   pieces = run_pieces prepared.frames;
-} ∷ []
+}
+
+-- the play that an answer admits, if any
+abbrev pub plays_admitted : Awaited → Answer → List StationRequest → List FilmPlay
+plays_admitted (Play prepared) (Admitted start) askings = play_by prepared start askings ∷ []
 plays_admitted _ _ askings = []
 
 abbrev pub plays_begun : Awaited → Outcome → List StationRequest → List FilmPlay
-plays_begun asked Unasked askings = []
 plays_begun asked (Entered placed) askings = plays_admitted asked placed.entry.answer askings
-plays_begun asked (WasFull more entries live) askings = []
-plays_begun asked (Offered at_slot note) askings = []
+plays_begun asked _ askings = []
 
 -- the plays that were admitted, in order
 abbrev pub plays_of : List StationRequest → List FilmPlay

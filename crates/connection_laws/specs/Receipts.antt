@@ -4,25 +4,22 @@ use Rattle.std.specs.Prelude.{List, [], ◌∷◌, ◌++◌}
 use Rattle.session_records.specs.declared.notes.OfferNote.{OfferNote}
 use Rattle.session_records.specs.declared.notes.Receipt.{Receipt}
 use Rattle.session_records.specs.declared.notes.Receipt.TheVariants.{Entry, Full}
-use Rattle.conn.specs.InputSteps.{Outcome, Unasked, Entered, WasFull, Offered}
+use Rattle.conn.specs.InputSteps.{Outcome, Entered, WasFull, Offered}
 
 -- an entry's receipt has its place in the journal and the answer; that of a full journal has how
 -- many entries it had, and how many of its plays were open
 abbrev pub receipt_in : Outcome → List Receipt
-receipt_in Unasked = []
 receipt_in (Entered placed) = Entry placed.place placed.entry.answer ∷ []
 receipt_in (WasFull more entries live) = Full entries live ∷ []
-receipt_in (Offered at_slot note) = []
+receipt_in _ = []
 
 abbrev pub receipts_in : List Outcome → List Receipt
 receipts_in [] = []
 receipts_in (outcome ∷ outcomes) = receipt_in outcome ++ receipts_in outcomes
 
 abbrev pub offer_in : Outcome → List OfferNote
-offer_in Unasked = []
-offer_in (Entered placed) = []
-offer_in (WasFull more entries live) = []
 offer_in (Offered at_slot note) = note ∷ []
+offer_in _ = []
 
 abbrev pub offers_in : List Outcome → List OfferNote
 offers_in [] = []

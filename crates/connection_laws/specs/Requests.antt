@@ -1,7 +1,7 @@
 -- The requests in a connection's input, and those of them that were processed.
 use Rattle.std.specs.Prelude.{ℕ, ◌≡◌, ◌⊎◌, ◌++◌, ◌==◌, ◌||◌, if◌then◌else◌, Bool, true, List, []}
 use Rattle.std.specs.Prelude.{◌∷◌, map, slice_index, Ok}
-use Rattle.vod_base.specs.Links.{IoEvent, HeardBytes, HeardEnd, HeardSlot, Sent}
+use Rattle.vod_base.specs.Links.{IoEvent, HeardBytes}
 use Rattle.interleave.specs.Heads.{is_line_end}
 use Rattle.interleave.specs.Elements.{IsFirst}
 use Rattle.interleave.specs.Streams.{AreInputElements, IsElementLength}
@@ -13,9 +13,7 @@ use Rattle.connection_laws.specs.InputSplits.{Beginning, InputSplit, HeardReques
 -- all bytes that were received
 abbrev pub bytes_in : IoEvent → List ℕ
 bytes_in (HeardBytes bytes) = bytes
-bytes_in (HeardSlot slot) = []
-bytes_in HeardEnd = []
-bytes_in (Sent byte) = []
+bytes_in _ = []
 
 abbrev pub rounds_input : List Round → List ℕ
 rounds_input [] = []

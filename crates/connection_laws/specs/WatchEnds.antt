@@ -4,30 +4,21 @@ use Rattle.mpeg_scan.specs.declared.films.Film.{Film}
 use Rattle.film_streams.specs.Films.{length_ms}
 use Rattle.rtsp_client.specs.Replies.{IsAnswer, play_range, play_start, setup_session}
 use Rattle.rtsp_client.specs.declared.watch_request.WatchEnd.{WatchEnd}
-use Rattle.rtsp_client.specs.declared.watch_request.WatchEnd.TheVariants.{Done, Fault, LinkFault}
-use Rattle.rtsp_client.specs.declared.watch_request.WatchEnd.TheVariants.{SinkFault, NoMemory}
+use Rattle.rtsp_client.specs.declared.watch_request.WatchEnd.TheVariants.{Fault}
 use Rattle.rtsp_client.specs.declared.watch_request.WatchFault.{WatchFault}
-use Rattle.rtsp_client.specs.declared.watch_request.WatchFault.TheVariants.{Refused, BadReply}
-use Rattle.rtsp_client.specs.declared.watch_request.WatchFault.TheVariants.{BadFrame, Framing}
 use Rattle.rtsp_client.specs.declared.watch_request.WatchFault.TheVariants.{EndedEarly, TurnsSpent}
 
 -- the server ended before its last reply came, or the client received as many events as it may
 abbrev pub IsUnfinished : WatchFault → Type 0
-IsUnfinished (Refused code) = ⊥
-IsUnfinished (BadReply number) = ⊥
-IsUnfinished (BadFrame number) = ⊥
-IsUnfinished Framing = ⊥
 IsUnfinished (EndedEarly units) = ⊤
 IsUnfinished TurnsSpent = ⊤
+IsUnfinished _ = ⊥
 
 -- nothing that came was refused: the film was watched; or it wasn't finished; or I/O failed, or
 -- memory ran out
 abbrev pub RefusesNothing : WatchEnd → Type 0
-RefusesNothing (Done watched) = ⊤
 RefusesNothing (Fault fault) = IsUnfinished fault
-RefusesNothing LinkFault = ⊤
-RefusesNothing SinkFault = ⊤
-RefusesNothing NoMemory = ⊤
+RefusesNothing _ = ⊤
 
 -- replies to TEARDOWN, of 200
 abbrev pub AreAnswers : List (List ℕ) → Type 0
