@@ -72,8 +72,7 @@ pub place_in : {bytes rest : List ℕ} {elements all : List (List ℕ)} → Fram
     → AreInputElements bytes elements rest → IsPlaceIn all elements rest
 place_in {bytes} {rest} {elements} {all} front cut =
     let tail = drop count (framed_bytes all) in
-    let whole : bytes ++ tail ≡ framed_bytes all =
-    ap (λ b. b ++ tail) front_is ∙ take-append-drop count (framed_bytes all) in
+    let whole : bytes ++ tail ≡ framed_bytes all = rw (front_is, take-append-drop count (framed_bytes all)) in
     let grown : AreInputElements (framed_bytes all) elements (rest ++ tail) =
     subst (λ w. AreInputElements w elements (rest ++ tail)) whole (cut_grows bytes tail elements rest cut) in
     let cuts : TwoCuts (framed_bytes all) elements all (rest ++ tail) [] =
@@ -132,8 +131,7 @@ next_in {all} {elements} {rest} {moment} place (n, (whole, moment_is)) =
         let same : cut.0 ≡ n =
         element_once (rest ++ place.tail) cut.0 n cut.1.0 (element_stays rest place.tail n whole) in
         let front : element ≡ take n rest =
-        cut.1.1 ∙ (ap (λ k. take k (rest ++ place.tail)) same
-        ∙ take-append-le n rest place.tail (element_within rest n whole)) in
+        rw (cut.1.1, same, take-append-le n rest place.tail (element_within rest n whole)) in
         record { element = element; more = more; all_is = all_is; moment_is = ap element_events front ∙ moment_is }
 
 -- ---- replies
@@ -225,9 +223,7 @@ stream_frames s =
 -- after the two first replies
 two_frames : (x : Stream) (qs : List (List ℕ))
     → frames_of (events_of_elements (x.first ∷ x.second ∷ qs)) ≡ frames_of (events_of_elements qs)
-two_frames x qs =
-    ap (λ l. frames_of (l ++ (element_events x.second ++ events_of_elements qs))) x.first_is.moment
-    ∙ ap (λ l. frames_of (l ++ events_of_elements qs)) x.second_is.moment
+two_frames x qs = rw (x.first_is.moment, x.second_is.moment)
 
 record IsInFilm (film : Film) (h : History) : Type 0 where
   awaits : AwaitsFilm film h
@@ -391,8 +387,7 @@ module _ (w : FilmWatch) where
       let first : a ≡ s.stream.x.first = cc in
       let second : next.element ≡ s.stream.x.second = cc in
       let single : steps no_sum (events_of_elements (a ∷ [])) ≡ steps no_sum (Reply s.stream.x.first ∷ []) =
-      ap (λ t. steps no_sum (events_of_elements (t ∷ []))) first
-      ∙ ap (λ l. steps no_sum (l ++ [])) s.stream.x.first_is.moment in
+      rw (first, s.stream.x.first_is.moment) in
       let one : replies h ≡ 1 = ap (λ (s : Sum). s.replies) (accepted.sum ∙ single) in
       reply_moment next.element next.moment_is (ap element_events second ∙ s.stream.x.second_is.moment)
       (inl (good_reply (omega (arith, one)) (rw one s.readable.played_is)

@@ -35,8 +35,7 @@ pub blocks_append : (run : FramedRun) (f o : ℕ) (xs ys : List Part)
     → blocks_from run f o (xs ++ ys) ≡ blocks_from run f o xs ++ blocks_from run (frames_after f xs)
     (octets_after o xs) ys
 blocks_append run f o [] ys = refl
-blocks_append run f o (x ∷ xs) ys =
-    ap (λ bs. piece_bytes run f o x ∷ bs) (blocks_append run (f + count_of x) (o + octets_of x) xs ys)
+blocks_append run f o (x ∷ xs) ys = rw (blocks_append run (f + count_of x) (o + octets_of x) xs ys)
 
 -- ---- a unit
 

@@ -84,9 +84,7 @@ turn_told old new asked outcome (Stays same after still) = λ askings made keeps
 turn_told old new asked outcome (Starts after begins) = λ askings made keeps.
     let p = begins.prepared in
     let told : told_by outcome made ≡ truncated_play begins.start p.plan (kept_among made (total_bytes p.plan)) ∷ [] =
-    ap (λ o. told_by o made) begins.outcome_is
-    ∙ ap (λ c. booked_by (play_admitted c begins.placed.entry.answer) made) begins.command
-    ∙ ap (λ a. booked_by (play_admitted (play_of old.heard p.plan) a) made) begins.answer in
+    rw (begins.outcome_is, begins.command, begins.answer) in
     ap (map booking_of) (begun_is begins askings)
     ∙ ap (λ k. truncated_play begins.start p.plan k ∷ []) (keeps (total_bytes p.plan)) ∙ sym told
 turn_told old new asked outcome (Ends after halts) = λ askings made keeps.

@@ -222,8 +222,7 @@ torn_reply {b} {old} request is valid named =
     let told = teardown_replied b request is named in
     let its = own_reply (answers_as heard.ask outcome heard.answered) own in
     let whole = its.whole complete in
-    let text : replied.answered.text ≡ session_text 3 old.session.id =
-    its.text ∙ told.text in
+    let text : replied.answered.text ≡ session_text 3 old.session.id = rw (its.text, told.text) in
     let same : IsSameSetup heard.asking replied.answered = record {
       names = answered_names heard.asking heard.ask outcome replied.answered heard.answered;
       setup = its.setup;

@@ -180,8 +180,7 @@ made_by_turns turns = entries_in (map outcome_of turns)
 
 keeps_as : (turns : List StationCall) → KeepsAs turns (made_by_turns turns)
 keeps_as [] all = refl
-keeps_as (turn ∷ turns) all =
-    ap (kept_with turn.outcome) (keeps_as turns all) ∙ kept_more turn.outcome (made_by_turns turns) all
+keeps_as (turn ∷ turns) all = rw (keeps_as turns all, kept_more turn.outcome (made_by_turns turns) all)
 
 placed_more : (outcome : Outcome) (made : List PlacedEntry)
     → placed_by outcome made ++ placed_plays made ≡ placed_plays (entry_in outcome ++ made)
@@ -203,17 +202,14 @@ turns_noted (turn ∷ turns) are =
 -- an entry that a session makes without asking for a play, and that admits none
 other_noted : (asking : SessionState) (placed : PlacedEntry) → asks_play asking.awaited ≡ false
     → play_admitted placed.entry.command placed.entry.answer ≡ None → IsNoted asking (Entered placed)
-other_noted asking placed other none later =
-    ap (map noted_play) (no_note asking.state asking.awaited placed later.turns other)
-    ∙ sym (ap (λ p. map (placed_play placed.place) (booked_by p later.made)) none)
+other_noted asking placed other none later = rw (no_note asking.state asking.awaited placed later.turns other, none)
 
 -- the note of a play is what its entry records, and what is kept by what comes later
 note_is : (setup : Setup) (run : Run) (place : ℕ) (admitted : Option Booked) (later : Sequel)
     → map noted_play (noted_for setup run place admitted later.turns)
     ≡ map (placed_play place) (booked_by admitted later.made)
 note_is setup run place None later = refl
-note_is setup run place (Some booked) later =
-    ap (λ k. placed_play place (truncated_play booked.start booked.segments k) ∷ []) (later.keeps booked.keep)
+note_is setup run place (Some booked) later = rw (later.keeps booked.keep)
 
 play_noted : (play : PlayRequest) (placed : PlacedEntry) → IsNoted (at_play play) (Entered placed)
 play_noted play placed later =
@@ -258,6 +254,4 @@ noted_kept = record {
 pub entries_noted : {films : List Stored} {settings : Settings} {words : List ℕ} {doings : Activity}
     {report : ConnReport} → HasDone films settings words doings report
     → map noted_play report.plays.items ≡ placed_plays (entries_in (doings_outcomes doings))
-entries_noted done =
-    ap (map noted_play) (plays_noted done) ∙ turns_noted (all_calls done) (doings_kept done noted_kept)
-    ∙ ap (λ os. placed_plays (entries_in os)) (turns_told done)
+entries_noted done = rw (plays_noted done, turns_noted (all_calls done) (doings_kept done noted_kept), turns_told done)

@@ -208,9 +208,7 @@ slot_asks {old} {slot = slot} (SlotSent sending later) rest =
 slot_asks _ rest = inl rest
 
 halted_idle : {s : SessionState} (done : DonePlay s) → sends_in (halted_in s.state s.awaited) ≡ Idle
-halted_idle {s} done =
-    ap (λ (t : State). sends_in (halted_in t s.awaited)) done.state_is
-    ∙ ap (λ (a : Awaited). sends_in (halted_in (Playing done.setup done.play) a)) done.asks
+halted_idle {s} done = rw (done.state_is, done.asks)
 
 -- no reply is held up where a play is done
 done_unheld : {p : PacerState} (heard : ℕ) (pending : Option ℕ) (waits : Bool) → IsPacerState p → p.sent ≡ p.keep

@@ -144,8 +144,7 @@ takes_outcomes old new (Answered message outcome parts ∷ takings) takes =
 
 round_outcomes_are : (old new : Stage) (round : Round) (runs : Runs old round new)
     → map outcome_of (round_calls old round new runs) ≡ round_outcomes round
-round_outcomes_are old new round runs =
-    ap (λ os. round.halt ∷ os) (takes_outcomes runs.opened new round.takings runs.takes)
+round_outcomes_are old new round runs = rw (takes_outcomes runs.opened new round.takings runs.takes)
 
 rounds_outcomes_are : (old new : Stage) (rounds : List Round) (runs : RunsAll old rounds new)
     → map outcome_of (rounds_calls old rounds new runs) ≡ rounds_outcomes rounds

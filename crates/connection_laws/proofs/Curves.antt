@@ -44,8 +44,7 @@ module _ {wish : Wish} {timing : Timing} where
       let front = used_snoc wish time slot 0 (take n sizes) (get_or sizes n 0) in
       let place : 0 + length (take n sizes) ≡ n = omega (arith, length-take-le n sizes (omega (arith, few))) in
       let used : use_slot wish time (0 + length (take n sizes)) ≡ due_slot timing n =
-      ap (use_slot wish time) place ∙ (ap (λ u. n * time / u + wish.startup) (sym timed.units) ∙ ap
-      (λ d. n * time / timing.slot_units + d) (sym timed.delay)) in
+      rw (place, timed.units, timed.delay) in
       let last = ap (λ u. cond (nat_lt u slot) (get_or sizes n 0) 0) used in
       let sums = sum_by-range_more f n in
       let range = ap (λ m. sum_by f (range_with_len 0 m)) next in

@@ -160,8 +160,7 @@ pub join_exchange : (xs ys : List Element) → exchange_of (xs ++ ys) ≡ joined
 join_exchange [] ys = refl
 join_exchange (Over n ∷ xs) ys = join_exchange xs ys
 join_exchange (RequestElement turn ∷ xs) ys =
-    ap (joined (turn_exchange turn)) (join_exchange xs ys)
-    ∙ sym (joined_assoc (turn_exchange turn) (exchange_of xs) (exchange_of ys))
+    rw (join_exchange xs ys, joined_assoc (turn_exchange turn) (exchange_of xs) (exchange_of ys))
 
 abbrev pub longer : Stage → List ℕ → Stage
 longer old more = stage old.session (old.input ++ more)
@@ -190,8 +189,7 @@ element_grows old new (RequestElement turn) more goes = record {
   next = next_grows old turn.message more goes.next;
   hears = goes.hears;
   answered = goes.answered;
-  new_is = ap (λ s. longer s more) goes.new_is
-      ∙ shorter old (after_reply turn.answered) more (length turn.message) goes.next.first.2;
+  new_is = rw (goes.new_is, shorter old (after_reply turn.answered) more (length turn.message) goes.next.first.2);
 }
 
 pub goes_grow : (old new : Stage) (elements : List Element) (more : List ℕ) → GoesAll old elements new
@@ -328,8 +326,7 @@ taken_films old new turn taken =
 pub goes_films : (old new : Stage) (elements : List Element) → GoesAll old elements new
     → new.session.films ≡ old.session.films
 goes_films old new [] goes = ap (λ (s : Stage). s.session.films) goes
-goes_films old new (Over n ∷ elements) goes =
-    goes_films goes.0 new elements goes.1.1 ∙ ap (λ (s : Stage). s.session.films) goes.1.0.new_is
+goes_films old new (Over n ∷ elements) goes = rw (goes_films goes.0 new elements goes.1.1, goes.1.0.new_is)
 goes_films old new (RequestElement turn ∷ elements) goes =
     goes_films goes.0 new elements goes.1.1 ∙ taken_films old goes.0 turn goes.1.0
 
@@ -445,8 +442,7 @@ ends_same {old} {xs = RequestElement turn ∷ xs} {ys = RequestElement again ∷
     }) (record { answers = both.2; memory = alike.memory.1 }) in
     record {
       last = rest.last;
-      bytes = ap (λ bs. bs ++ elements_bytes ys) both.1
-          ∙ ap (λ bs. parts_bytes (reply_parts turn.answered) ++ bs) rest.bytes;
+      bytes = rw (both.1, rest.bytes);
       answers = rest.answers;
       memory = rest.memory;
     }

@@ -62,10 +62,8 @@ cut_at [] c alone = let P : List ℕ → Type 0 = λ xs. IsStream xs [] [] in su
 cut_at (p ∷ ps) c alone =
     elim (cases_lt c (length p)) [
       | inl less ↦
-          let count : count_ended c (p ∷ ps) ≡ 0 =
-          ap (λ b. cond b (count_ended (c - length p) ps + 1) 0) (lt-leb (length p) c less) in
-          let rest : rest_at c (p ∷ ps) ≡ take c p =
-          ap (λ b. cond b (rest_at (c - length p) ps) (take c p)) (lt-leb (length p) c less) in
+          let count : count_ended c (p ∷ ps) ≡ 0 = rw (lt-leb (length p) c less) in
+          let rest : rest_at c (p ∷ ps) ≡ take c p = rw (lt-leb (length p) c less) in
           let P : ℕ → Type 0 = λ k. IsStream (take c (p ++ framed_bytes ps)) (take k (p ∷ ps)) (rest_at c (p ∷ ps)) in
           let Q : List ℕ → Type 0 = λ r. IsStream (take c (p ++ framed_bytes ps)) [] r in
           subst P (sym count) (subst Q (sym rest) (stream_short p (framed_bytes ps) c alone.0 less))
@@ -74,8 +72,7 @@ cut_at (p ∷ ps) c alone =
           let sum : c ≡ length p + d = omega (arith, more) in
           let count : count_ended c (p ∷ ps) ≡ suc (count_ended d ps) =
           ap (λ b. cond b (count_ended d ps + 1) 0) (le-leb (length p) c more) ∙ omega arith in
-          let rest : rest_at c (p ∷ ps) ≡ rest_at d ps = ap (λ b. cond b (rest_at d ps) (take c p))
-          (le-leb (length p) c more) in
+          let rest : rest_at c (p ∷ ps) ≡ rest_at d ps = rw (le-leb (length p) c more) in
           let bytes : take c (p ++ framed_bytes ps) ≡ p ++ take d (framed_bytes ps) =
           ap (λ n. take n (p ++ framed_bytes ps)) sum ∙ take-append-add p (framed_bytes ps) d in
           let P : ℕ → Type 0 = λ k. IsStream (take c (p ++ framed_bytes ps)) (take k (p ∷ ps)) (rest_at c (p ∷ ps)) in

@@ -155,8 +155,7 @@ one_written slot play = ap (λ n. take n (film_of play)) (omega arith)
 
 film_blocks_are : (wish : Wish) (stored : Stored) (identity : Identity) (play : FilmPlay)
     → IsWholePlay wish stored identity play → film_of play ≡ framed_bytes (film_blocks stored identity)
-film_blocks_are wish stored identity play whole =
-    ap (λ n. drop n (framed_bytes play.pieces)) whole.before ∙ ap framed_bytes whole.pieces
+film_blocks_are wish stored identity play whole = rw (whole.before, whole.pieces)
 
 -- all units of a film are those of its run
 pub rest_all : (stored : Stored) → rest_sizes (stored_sizes stored) (whole_run stored) ≡ film_sizes stored.film
@@ -324,9 +323,7 @@ all_sent {wish} {stored} {course} played =
     let parts = rounds_parts course.rounds in
     let film = film_written g (plays_of (askings_of begin course.rounds course.last course.follows)) in
     let is : film ≡ take (due_of g play) blocks =
-    ap (film_written g) played.plays
-    ∙ (one_written g play
-    ∙ ap (take (due_of g play)) (film_blocks_are wish stored played.identity play played.whole)) in
+    rw (played.plays, one_written g play, film_blocks_are wish stored played.identity play played.whole) in
     let woven_is = bytes_woven course in
     let size : length (film_bytes parts) ≡ length film =
     ap (λ (l : List ℕ). length l) (film_sent begin course.last course.rounds course.follows ∙ film_written_is course) in
@@ -380,8 +377,7 @@ all_sent_whole {wish} {stored} {course} played third =
     let after = subst (AreAfter (length blocks)) third.are played.after in
     let events = events_are begin course.last course.rounds course.follows in
     let size : length sent ≡ film + texts_length (placed_texts 0 parts) =
-    ap (λ (l : List ℕ). length l) (rounds_sent_are course.rounds events ∙ rounds_sent course.rounds)
-    ∙ parts_length 0 parts in
+    rw (rounds_sent_are course.rounds events, rounds_sent course.rounds, parts_length 0 parts) in
     let texts : texts_length (placed_texts 0 parts)
     ≡ length played.setup + (length played.played + texts_length played.later) = ap texts_length played.texts in
     let all : length (framed_bytes (all_of x))
@@ -402,8 +398,7 @@ all_sent_whole {wish} {stored} {course} played third =
 -- a prefix of a prefix
 pub front_again : (bytes mid all : List ℕ) (n : ℕ) → bytes ≡ take n mid → IsFrontOf mid all → IsFrontOf bytes all
 front_again bytes mid all n is front =
-    let size : length mid ≡ min front.count (length all) = ap (λ (l : List ℕ). length l) front.is
-    ∙ length-take front.count all in
+    let size : length mid ≡ min front.count (length all) = rw (front.is, length-take front.count all) in
     elim (cases_lt front.count n) [
       | inl less ↦ record { count = front.count; is = is ∙ (take_all n mid (omega (arith, size, less)) ∙ front.is) }
       | inr more ↦ record { count = n; is = is ∙ (ap (take n) front.is ∙ take-take n front.count all more) }

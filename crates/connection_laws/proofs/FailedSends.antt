@@ -87,8 +87,7 @@ can_finish {s} (inr done) =
 between_bytes : (old : SessionState) (slot : ℕ) (between : Bool)
     → parts_bytes (if between then Text old.text ∷ Film (step_bytes false slot (stepped_in true slot old.state))
     ∷ [] else []) ≡ (if between then old.text ++ step_bytes false slot (stepped_in true slot old.state) else [])
-between_bytes old slot true =
-    ap (λ bs. old.text ++ bs) (append-nil (step_bytes false slot (stepped_in true slot old.state)))
+between_bytes old slot true = rw (append-nil (step_bytes false slot (stepped_in true slot old.state)))
 between_bytes old slot false = refl
 
 due_as : (old : SessionState) (slot : ℕ) (waits : Bool)

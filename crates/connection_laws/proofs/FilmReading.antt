@@ -170,8 +170,7 @@ units_all film = take_all (length film.units.items - 0) film.units.items (omega 
 
 pub run_blocks : (film : Film) (identity : Identity) → run_pieces (film_run film identity)
     ≡ blocks_from (film_run film identity) 0 0 (pieces_of film.slice_starts.items film.units.items)
-run_blocks film identity =
-    ap (λ us. blocks_from (film_run film identity) 0 0 (pieces_of film.slice_starts.items us)) (units_all film)
+run_blocks film identity = rw (units_all film)
 
 -- ---- sizes
 
@@ -260,8 +259,7 @@ module _ (s : WholeStream) where
       let its = come s d in
       let all = film_sizes film in
       let are : sizes at.history ≡ take its.count all = ap (λ (s : Sum). s.sizes) reading.sum ∙ its.sizes_are in
-      let many : length (sizes at.history) ≡ its.count =
-      ap (λ (l : List ℕ). length l) are ∙ length-take-le its.count all its.among in
+      let many : length (sizes at.history) ≡ its.count = rw (are, length-take-le its.count all its.among) in
       let bytes = ap (λ (s : Sum). s.received) reading.sum
       ∙ blocks_received (take k x.blocks) (begun_sum x) (each_take IsOneBlock k x.blocks x.blocks_are) refl in
       let came : bytes_received at.history + cut_bytes at.rest ≡ min d (length (framed_bytes x.blocks)) =
@@ -311,8 +309,7 @@ module _ (s : WholeStream) where
       let front : take k x.blocks ≡ x.blocks =
       take_all k x.blocks (omega (arith, count_whole x.blocks total (omega arith))) in
       let its = come s total in
-      let sum_here : sum_of h ≡ steps (begun_sum x) (events_of_elements (take k x.blocks)) =
-      sum_is ∙ ap (λ l. steps (begun_sum x) (events_of_elements l)) (sym front) in
+      let sum_here : sum_of h ≡ steps (begun_sum x) (events_of_elements (take k x.blocks)) = rw (sum_is, front) in
       let every : its.count ≡ length all = elim (cases_lt its.count (length all)) [
         | inl fewer ↦ absurd (omega (arith, its.next fewer, blocks_sum s, sum_most all (its.count + 1)))
         | inr more ↦ omega (arith, more, its.among)

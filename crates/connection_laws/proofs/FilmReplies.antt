@@ -78,8 +78,7 @@ pub record IsPlayBegun (b : Beginning) (start : ℕ) (old new : SessionState) : 
 -- where a URL is read, its authority is printable
 authority_prints : {url authority : List ℕ} {name : Option (List ℕ)} → IsRead url authority name → IsPrinted authority
 authority_prints {url} is =
-    ap (list_all is_url_byte) is.authority_is
-    ∙ all-take is_url_byte (is.path - 7) (drop 7 url) (all-drop is_url_byte 7 url is.is_url.bytes)
+    rw (is.authority_is, all-take is_url_byte (is.path - 7) (drop 7 url) (all-drop is_url_byte 7 url is.is_url.bytes))
 
 -- the reply to a play that was admitted is its first part and its start
 started_reply : {front : List ℕ} (fields : List Field) (slots : ℕ) → front ≡ reply_front 200 (Some 2) fields

@@ -162,6 +162,5 @@ module _ {starts : List ℕ} {unit : PictureUnit} where
       let P : List Packet → Type 0 = λ ps. DoCover unit.from ps unit.to in
       let cover = subst P led.are (packets-cover starts unit laid) in
       let byte : get_or its 7 0 ≡ get_or run.film (unit.from + 7) 0 =
-      get_or-take (p.to - p.from) (drop p.from run.film) 7 0 many
-      ∙ (get_or-drop p.from run.film 7 0 ∙ ap (λ n. get_or run.film (n + 7) 0) cover.0) in
+      rw (get_or-take (p.to - p.from) (drop p.from run.film) 7 0 many, get_or-drop p.from run.film 7 0, cover.0) in
       ap time_in led.first_is ∙ ap picture_time (ap (λ n. n % 16) byte ∙ begins.rate_is)

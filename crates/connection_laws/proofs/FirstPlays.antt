@@ -47,11 +47,7 @@ use Rattle.session.specs.declared.plans.Planned.{Planned}
 
 pub playback_same : (a b : Playback) → a.picture_units ≡ b.picture_units → a.slot_units ≡ b.slot_units
     → a.buffer ≡ b.buffer → a.delay ≡ b.delay → a ≡ b
-playback_same a b pictures slots buffer delay =
-    ap (λ x. record a { picture_units = x }) pictures
-    ∙ (ap (λ x. record a { picture_units = b.picture_units; slot_units = x }) slots
-    ∙ (ap (λ x. record a { picture_units = b.picture_units; slot_units = b.slot_units; buffer = x }) buffer
-    ∙ ap (λ x. record b { delay = x }) delay))
+playback_same a b pictures slots buffer delay = rw (pictures, slots, buffer, delay)
 
 pub asked_plan : {wish : Wish} {stored : Stored} {source : StreamSource} {settings : Settings} {setup : Setup}
     {counts : Counts} {plan : List Segment} → IsWish wish → IsSetUpFor wish settings setup →
@@ -170,8 +166,7 @@ wished_play {b} {old} {prepared = prepared} {play} waits is heard plan before pi
       media = its.settled.media;
       control = its.settled.control;
       ssrc = ap (λ (s : StreamSource). s.ssrc) waits.source_is;
-      pieces = pieces ∙ (ap (λ (p : Prepared). run_pieces p.frames) heard.prepared_is
-          ∙ ap (λ (r : Run). run_pieces (run_of stored.film r.first_unit r.end_unit identity)) its.run_is);
+      pieces = rw (pieces, heard.prepared_is, its.run_is);
       before = before ∙ (ap (λ (p : Prepared). p.run.sent) heard.prepared_is ∙ ap (λ (r : Run). r.sent) its.run_is);
       sending = subst (IsSending (stored_sizes stored) (playback_of b.wish stored) (whole_run stored)) (sym plan_is)
           (sending_for its);

@@ -396,8 +396,7 @@ splits_same {base} {other = other} {a} {b} films x y alike =
     (record { heard = cut.1; answers = ends.answers; memory = ends.memory }) in
     record {
       last = rest.last;
-      bytes = ap (λ (e : Exchange). e.bytes) y.all_is ∙ ap (λ bs. bs ++ legs_bytes y.legs) ends.bytes
-          ∙ ap (λ bs. elements_bytes x.elements ++ bs) rest.bytes ∙ sym (ap (λ (e : Exchange). e.bytes) x.all_is);
+      bytes = rw (y.all_is, ends.bytes, rest.bytes, x.all_is);
     }
 
 abbrev first_of : Beginning → Stage

@@ -76,8 +76,7 @@ taken_keeps replied =
 pub takes_keep : (old new : Stage) (takings : List ElementStep) → TakesAll old takings new
     → lasting_part new.session ≡ lasting_part old.session
 takes_keep old new [] takes = ap (λ (s : Stage). lasting_part s.session) takes
-takes_keep old new (Passed n ∷ takings) takes =
-    takes_keep takes.0 new takings takes.1.1 ∙ ap (λ (s : Stage). lasting_part s.session) takes.1.0.2
+takes_keep old new (Passed n ∷ takings) takes = rw (takes_keep takes.0 new takings takes.1.1, takes.1.0.2)
 takes_keep old new (Answered message outcome parts ∷ takings) takes =
     takes_keep takes.0 new takings takes.1.1 ∙ taken_keeps takes.1.0
 

@@ -148,8 +148,7 @@ always_round {event = HeardBytes more} {old = old} moments s brings history fron
     subst (IsMet s) (sym (history ∙ ap (history_after old.history) brings.1.1))
     (always_elements s.wish (film_sizes s.stream.film) (picture_time s.stream.film.rate) old.history brings.0 met)
 always_round {event = HeardSlot slot} {old = old} {new} moments s brings history front two fed met =
-    let grown : new.history ≡ Slot slot (cut_bytes old.rest) ∷ old.history =
-    history ∙ ap (history_after old.history) brings.0 in
+    let grown : new.history ≡ Slot slot (cut_bytes old.rest) ∷ old.history = rw (history, brings.0) in
     let same : replies new.history ≡ replies old.history = ap replies grown in
     let begins_here : 1 < replies old.history → first_slot old.history ≡ s.begin = λ playing.
     sym (ap first_slot grown) ∙ two.begins (omega (arith, playing, same)) in

@@ -123,9 +123,7 @@ texts_count (m ∷ ms) (suc k) s are few =
 
 pub two_moments : (x : Stream) (rest : List (List ℕ))
     → steps no_sum (events_of_elements (x.first ∷ x.second ∷ rest)) ≡ steps (begun_sum x) (events_of_elements rest)
-two_moments x rest =
-    ap (λ l. steps no_sum (l ++ (element_events x.second ++ events_of_elements rest))) x.first_is.moment
-    ∙ ap (λ l. steps no_sum (Reply x.first ∷ (l ++ events_of_elements rest))) x.second_is.moment
+two_moments x rest = rw (x.first_is.moment, x.second_is.moment)
 
 -- what was received at a reading, once the reply to PLAY was received and before a third one
 pub record IsReadingOf (x : Stream) (c : ℕ) (at : WatchStage) : Type 0 where
@@ -160,8 +158,7 @@ module _ {at : WatchStage} where
             ∙ ap (λ l. steps s (events_of_elements l)) (take-append-le k bs x.later (omega (arith, within.1))));
         cut =
             let bytes = count_bytes bs d (omega (arith, inside)) in
-            let cut : cut_bytes at.rest ≡ length (rest_at d bs) = ap cut_bytes (two.rest ∙ its)
-            ∙ blocks_cut bs d x.blocks_are in
+            let cut : cut_bytes at.rest ≡ length (rest_at d bs) = rw (two.rest, its, blocks_cut bs d x.blocks_are) in
             omega (arith, bytes, cut, inside);
       }
 
@@ -255,8 +252,7 @@ module _ {x : Stream} {at : WatchStage} (received : StreamHeard x at) where
                   ap (λ n. take n all) (one ∙ ap suc (count_more x.second (x.blocks ++ x.later) c1 more)) in
                   reading_film {x = x} {c = c} (record {
                     past = omega (arith, long, more);
-                    sum = whole.0 ∙ (ap (λ l. steps no_sum (events_of_elements l)) two
-                        ∙ two_moments x (take k (x.blocks ++ x.later)));
+                    sum = rw (whole.0, two, two_moments x (take k (x.blocks ++ x.later)));
                     rest = whole.1 ∙ (rest_one ∙ rest_more x.second (x.blocks ++ x.later) c1 more);
                     few = few;
                   })

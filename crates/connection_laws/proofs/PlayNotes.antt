@@ -68,16 +68,13 @@ pub record HaveSameNotes (a b : NotePart) : Type 0 where
 
 pub same_notes : {old new : NotePart} → HaveSameNotes new old → Carries old [] new
 same_notes {old} {new} same = record {
-  on = λ later. append-nil (old.plays ++ open_note old.state later)
-      ∙ ap (λ ns. old.plays ++ ns) (sym (same.under_way later))
-      ∙ ap (λ ns. ns ++ open_note new.state later) (sym same.plays);
+  on = λ later. rw (append-nil (old.plays ++ open_note old.state later), same.under_way later, same.plays);
 }
 
 -- a turn that neither begins nor halts a play
 open_kept : (state : State) (turn : StationCall) (later : List StationCall) → ((k : ℕ) → kept_with turn.outcome k ≡ k)
     → open_note state (turn ∷ later) ≡ open_note state later
-open_kept (Playing setup play) turn later kept =
-    ap (λ k. note_of setup play k ∷ []) (kept (kept_later later (total_bytes play.plan)))
+open_kept (Playing setup play) turn later kept = rw (kept (kept_later later (total_bytes play.plan)))
 open_kept _ turn later kept = refl
 
 still_turn : (part : NotePart) (asking : SessionState) (outcome : Outcome)
@@ -122,8 +119,7 @@ IsKept _ awaited keep = Unit {0}
 halted_as : {keep : ℕ} (state : State) (awaited : Awaited) (turn : StationCall) (later : List StationCall)
     → IsKept state awaited keep → ((k : ℕ) → kept_with turn.outcome k ≡ keep)
     → open_note state (turn ∷ later) ≡ halted_notes state awaited
-halted_as (Playing setup play) awaited turn later is kept =
-    ap (λ k. note_of setup play k ∷ []) (kept (kept_later later (total_bytes play.plan)) ∙ sym is)
+halted_as (Playing setup play) awaited turn later is kept = rw (kept (kept_later later (total_bytes play.plan)), is)
 halted_as _ awaited turn later is kept = refl
 
 pub halt_turn : {keep : ℕ} {placed : PlacedEntry} (s : SessionState) → IsHaltEntry keep placed
@@ -149,10 +145,7 @@ pub begun_note : {placed : PlacedEntry} {answer : Answer} (play : PlayRequest) (
     → notes_of_calls (at_play play) (Entered placed) later
     ≡ noted_for play.setup play.prepared.run placed.place
     (play_admitted (play_of play.base.heard play.prepared.plan) answer) later
-begun_note {placed} play later entry =
-    ap (λ c. noted_for setup prepared.run placed.place (play_admitted c placed.entry.answer) later) entry.command
-    ∙ ap (λ a. noted_for setup prepared.run placed.place (play_admitted (play_of base.heard prepared.plan) a) later)
-    entry.answer_is
+begun_note {placed} play later entry = rw (entry.command, entry.answer_is)
   where
     open play use {base, setup, prepared}
 
@@ -163,8 +156,7 @@ answered_on {old} {asking} OwnReply = unasked_turn (note_part old) asking
 answered_on {asking = asking} (SetupReply old) =
     record { on = (unasked_turn (record { plays = old.plays; state = Init }) asking).on }
 answered_on {new = new} (Admission play entry answered) = record {
-  on = λ later. ap (λ ns. (play.base.plays ++ []) ++ (ns ++ [])) (begun_note play later entry)
-      ∙ ap (λ ns. ns ++ open_note new.state later) (append-nil play.base.plays);
+  on = λ later. rw (begun_note play later entry, append-nil play.base.plays);
 }
 answered_on {old} {asking} {outcome = outcome} (Refusal play entry) =
     still_turn (note_part old) asking outcome (λ later. begun_note play later entry)

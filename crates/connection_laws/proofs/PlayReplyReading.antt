@@ -110,8 +110,7 @@ point_there {n} {digits} point =
     let dot : get_or text (length text - 4) 0 ≡ 46 =
     ap (λ k. get_or text k 0) at ∙ (get_or-append_right s tail (length s) (length s) 0 refl (omega arith)
     ∙ ap (λ k. get_or tail k 0) (let z : length s - length s ≡ 0 = omega arith in z)) in
-    let front : get_or text 0 0 ≡ get_or (decimal n) 0 0 =
-    get_or_append_left s tail 0 0 some ∙ ap (λ l. get_or l 0 0) point.seconds_are in
+    let front : get_or text 0 0 ≡ get_or (decimal n) 0 0 = rw (get_or_append_left s tail 0 0 some, point.seconds_are) in
     let bare : not (nat_lt 5 (length text) && (get_or text 0 0 == 48)) ≡ true =
     no_zero (nat_lt 5 (length text)) (get_or text 0 0 == 48) (λ long zero_.
     let more : 1 < length (decimal n) = omega (
@@ -233,8 +232,7 @@ named_read info numbers size plain is =
       answer = read.answer;
       session = ap (λ v. option_map session_id v) (read.values (codes "Session"));
       range = ap (λ v. option_and_then range_end v) (read.values (codes "Range")) ∙ range_read end_ms short;
-      start = ap (λ v. option_and_then start_within (option_and_then number_of v))
-          (read.values (codes "x-Start")) ∙ start_read slots some few;
+      start = rw (read.values (codes "x-Start"), start_read slots some few);
     }
   where
     open numbers use {id, sequence, end_ms, slots, small, short, some, few}
@@ -245,9 +243,7 @@ zero_text = seconds_is 0 ∙ ap (λ d. d ++ 46 ∷ 48 ∷ 48 ∷ 48 ∷ []) (dec
 
 range_text : (end_ms : ℕ) → joined_parts (codes "npt=" ∷ seconds_text 0 ∷ codes "-" ∷ seconds_text end_ms ∷ [])
     ≡ codes "npt=0.000-" ++ seconds_text end_ms
-range_text end_ms =
-    ap (λ z. codes "npt=" ++ (z ++ (codes "-" ++ (seconds_text end_ms ++ [])))) zero_text
-    ∙ ap (λ l. codes "npt=0.000-" ++ l) (append-nil (seconds_text end_ms))
+range_text end_ms = rw (zero_text, append-nil (seconds_text end_ms))
 
 -- what a reply states of its stream: where it is asked for, and its first packet
 pub record StreamInfo : Type 0 where

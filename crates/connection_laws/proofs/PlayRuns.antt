@@ -123,8 +123,7 @@ none_asked n awaited rest = sym (minus_none n) ∙ ap (λ a. n - look_in a) (sym
 looks_append : (made more : List StationRequest) → looks_in (made ++ more) ≡ looks_in made + looks_in more
 looks_append [] more = omega arith
 looks_append (Asks asked outcome ∷ made) more =
-    ap (λ n. look_in asked + n) (looks_append made more) ∙ sym (add_assoc (look_in asked) (looks_in made)
-    (looks_in more))
+    rw (looks_append made more, add_assoc (look_in asked) (looks_in made) (looks_in more))
 
 -- a new connection's first number
 sequence_begins : (word : ℕ) → (word % 65536 + 0) % 65536 ≡ word % 65536
@@ -172,8 +171,7 @@ module _ (words : List ℕ) where
   leads_then {a} {made} {more} one two = record {
     on = λ later follows. subst (Follows a) (sym (append_assoc made more later))
         (one.on (more ++ later) (two.on later follows));
-    looks = two.looks ∙ ap (λ n. n - looks_in more) one.looks ∙ minus_both a.looks_left (looks_in made) (looks_in more)
-        ∙ ap (λ n. a.looks_left - n) (sym (looks_append made more));
+    looks = rw (two.looks, one.looks, minus_both a.looks_left (looks_in made) (looks_in more), looks_append made more);
   }
 
   moves : {old new : SessionState} → new.looks_left ≡ old.looks_left → Moves old new → Leads old new []
@@ -280,12 +278,7 @@ module _ (words : List ℕ) where
     inr (record {
       stored = way.stored;
       at = way.at;
-      place = way.place
-          ∙ ap (λ first. Some (run_place (run_of way.stored.film first play.run.end_unit
-          (identity_of s.source setup s.counts)) (play.run.sent + keep))) (sym left.first)
-          ∙ ap (λ end. Some (run_place (run_of way.stored.film run.first_unit end
-          (identity_of s.source setup s.counts)) (play.run.sent + keep))) (sym left.end)
-          ∙ ap (λ sent. Some (run_place (sending_of way.stored.film s.source setup s.counts run) sent)) (sym left.sent);
+      place = rw (way.place, left.first, left.end, left.sent);
     }),
   )
     where

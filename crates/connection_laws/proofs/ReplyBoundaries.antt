@@ -94,8 +94,7 @@ turn_goes {old} {outcome = outcome} (Ends after halts) = record {
       let there : Fits (point (Ending (record p { keep = next_boundary p })) old.heard (Some old.heard)) askings come =
       subst (λ s. Fits (point s old.heard (Some old.heard)) askings come) halts.sends fits in
       let kept : kept_with outcome (kept_in askings (total_bytes p.plan)) ≡ next_boundary p =
-      ap (λ o. kept_with o (kept_in askings (total_bytes p.plan))) halts.outcome_is
-      ∙ ap (λ c. kept_by c (kept_in askings (total_bytes p.plan))) halts.command in
+      rw (halts.outcome_is, halts.command) in
       rw halts.going (record {
         from = (omega arith, there.from);
         later = subst (λ ps. AreLater old.heard (ps ++ plays_of askings)) (sym (halts.none askings)) there.later;

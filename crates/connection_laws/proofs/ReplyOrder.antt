@@ -130,8 +130,7 @@ answered_replies {old} request stands =
 -- a play that is done is halted without a reply
 finished_waiting : {s new : SessionState} {halt : Outcome} → Finished s halt new → waiting_reply new ≡ waiting_reply s
 finished_waiting (Quiet rest) = refl
-finished_waiting {s} (Ended done entry) =
-    ap (λ n. if (if is_answered n then true else s.waits) then s.text ∷ [] else []) (ap next_of done.asks)
+finished_waiting {s} (Ended done entry) = rw done.asks
 
 reply_waiting : (goes : Bool) (s : SessionState)
     → waiting_reply (if goes then sent_reply s else s) ≡ (if (if goes then false else s.waits) then s.text ∷ [] else [])
@@ -186,9 +185,7 @@ replies_kept = record {
 -- in a connection's course
 pub replies_in_order : (course : Course)
     → map text_of (course_texts course) ++ waiting_reply course.last.session ≡ course_replies course
-replies_in_order course =
-    ap (λ ts. ts ++ waiting_reply course.last.session) (texts_placed 0 (rounds_parts course.rounds))
-    ∙ all_kept replies_kept course
+replies_in_order course = rw (texts_placed 0 (rounds_parts course.rounds), all_kept replies_kept course)
 
 pub bytes_woven : (course : Course)
     → rounds_bytes course.rounds ≡ insert_texts 0 (course_film course) (course_texts course)

@@ -47,8 +47,7 @@ no_leading (c ∷ text) prints =
 
 pub bare_printed : (text : List ℕ) → IsPrinted text → without_blanks text ≡ text
 bare_printed text prints =
-    ap (λ l. reverse (without_leading_blanks (reverse l))) (no_leading text prints)
-    ∙ (ap reverse (no_leading (reverse text) (all-reverse is_url_byte text prints)) ∙ reverse-reverse text)
+    rw (no_leading text prints, no_leading (reverse text) (all-reverse is_url_byte text prints), reverse-reverse text)
 
 pub plain_field : {value : List ℕ} (name : List ℕ) → is_token name ≡ true → IsPrinted value → IsPlain (field name value)
 plain_field {value} name token prints =
@@ -154,9 +153,7 @@ id_usable id prints =
 session_named : {id : List ℕ} (message : List ℕ) → header_value message (codes "Session") ≡ Some id → IsPrinted id
     → is_some (setup_session message) ≡ true
 session_named {id} message value prints =
-    ap (λ v. is_some (option_and_then usable_id (option_map session_id v))) value
-    ∙ ap (λ (o : Option (List ℕ)). is_some o)
-    (cond-true (list_all is_value_byte (session_id id)) (Some (session_id id)) None (id_usable id prints))
+    rw (value, cond-true (list_all is_value_byte (session_id id)) (Some (session_id id)) None (id_usable id prints))
 
 -- ---- SETUP
 

@@ -257,8 +257,7 @@ pub refused_still : {old : SessionState} {prepared : Prepared} {placed : PlacedE
 refused_still {old} {prepared} {placed} entry = record {
   none = λ later. ap (λ a. plays_admitted (Play prepared) a later) entry.answer_is;
   kept = λ later. ap (λ c. kept_by c later) entry.command;
-  untold = λ made. ap (λ c. booked_by (play_admitted c placed.entry.answer) made) entry.command
-      ∙ ap (λ a. booked_by (play_admitted (play_of old.heard prepared.plan) a) made) entry.answer_is;
+  untold = λ made. rw (entry.command, entry.answer_is);
 }
 
 pub looked_still : {sequence : ℕ} {placed : PlacedEntry} (slot : ℕ) → placed.entry.command ≡ look_at slot

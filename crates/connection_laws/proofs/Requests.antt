@@ -242,9 +242,7 @@ text_request text first =
 
 texts_requests : (texts : List (List ℕ)) → AreFound texts → requests_in texts ≡ texts
 texts_requests [] found = refl
-texts_requests (text ∷ texts) found =
-    ap (λ b. if b then requests_in texts else text ∷ requests_in texts) (text_request text (found.0 []))
-    ∙ ap (λ l. text ∷ l) (texts_requests texts found.1)
+texts_requests (text ∷ texts) found = rw (text_request text (found.0 []), texts_requests texts found.1)
 
 -- no element is of no bytes
 nothing_cut : (more : List (List ℕ)) (end : List ℕ) → AreInputElements [] more end → more ≡ []

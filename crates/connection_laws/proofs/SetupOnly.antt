@@ -66,11 +66,9 @@ NonePlayed s later = Stands s → AreNoPlays later.requests → plays_of later.a
 pub none_back : GoesBack NonePlayed
 none_back = record {
   request = λ old new request later none stands are.
-      ap (λ l. l ++ plays_of later.askings) (no_play_begins request stands are.0 later.askings)
-      ∙ none (request_stands request stands) are.1;
+      rw (no_play_begins request stands are.0 later.askings, none (request_stands request stands) are.1);
   event = λ old opened round comes later none stands are.
-      ap (λ l. l ++ plays_of later.askings) (comes_none comes later.askings)
-      ∙ none (stands_by (event_step stands comes)) are;
+      rw (comes_none comes later.askings, none (stands_by (event_step stands comes)) are);
 }
 
 pub none_played : (course : Course) → AreNoPlays (rounds_requests course.rounds) → course_plays course ≡ []

@@ -321,16 +321,13 @@ module _ {s : Sum} where
       let come = later t (record { on = still; none = done.pending; outside = done.inside }) in
       let u = steps t (events_of_elements (take k ys)) in
       let all : steps s (events_of_elements (xs ++ take k ys)) ≡ u =
-      ap (steps s) (moments_parts xs (take k ys))
-      ∙ steps_on s (events_of_elements xs) (events_of_elements (take k ys)) in
+      rw (moments_parts xs (take k ys), steps_on s (events_of_elements xs) (events_of_elements (take k ys))) in
       let R : ℕ → Type 0 = λ n. HasCome (w ∷ sizes) c s (steps s (events_of_elements (take n (xs ++ ys)))) in
       let S : List (List ℕ) → Type 0 = λ bs. HasCome (w ∷ sizes) c s (steps s (events_of_elements bs)) in
       let T : Sum → Type 0 = λ v. HasCome (w ∷ sizes) c s v in
       subst R (sym past) (subst S (sym (take-append-add xs ys k)) (subst T (sym all) (record {
         count = suc come.count;
-        sizes_are = come.sizes_are
-            ∙ (ap (λ l. l ++ take come.count sizes) (done.sizes ∙ ap (λ n. s.sizes ++ n ∷ []) size)
-            ∙ append_assoc s.sizes (w ∷ []) (take come.count sizes));
+        sizes_are = rw (come.sizes_are, done.sizes, size, append_assoc s.sizes (w ∷ []) (take come.count sizes));
         among = omega (arith, come.among);
         next = λ l.
             let further : d < sum (take (come.count + 1) sizes) = come.next (omega (arith, l)) in
@@ -384,17 +381,14 @@ frames_told : (run : FramedRun) (f : ℕ) (unit : PictureUnit) (packets : List P
     → frames_of (events_of_elements (frame_blocks run unit f packets)) ≡ frame_blocks run unit f packets
 frames_told run f unit [] media = refl
 frames_told run f unit (p ∷ packets) media =
-    ap (λ l. frames_of (l ++ events_of_elements (frame_blocks run unit (f + 1) packets))) (frame_moment run f unit p
-    media) ∙ ap (λ l. frame_block run unit p f ∷ l) (frames_told run (f + 1) unit packets media)
+    rw (frame_moment run f unit p media, frames_told run (f + 1) unit packets media)
 
 unit_told : (starts : Bool) (from : RunFrom) (unit : PictureUnit) (packets : List Packet) →
     frames_of (events_of_elements
     (report_if starts from.run unit from.frames from.octets ++ frame_blocks from.run unit from.frames packets))
     ≡ frame_blocks from.run unit from.frames packets
 unit_told false from unit packets = frames_told from.run from.frames unit packets from.media
-unit_told true from unit packets =
-    ap (λ l. frames_of (l ++ events_of_elements (frame_blocks run unit f packets))) (report_moment run f o unit control)
-    ∙ frames_told run f unit packets media
+unit_told true from unit packets = rw (report_moment run f o unit control, frames_told run f unit packets media)
   where
     open from use {run, frames as f, octets as o, media, control}
 

@@ -143,8 +143,7 @@ pub due_far : (p : PacerState) (heard end : ℕ) → IsOnTime p heard → heard 
 due_far p heard end on later =
     let rise : first_slots p.plan (heard + 1 - p.start) ≤ first_slots p.plan (end + 1 - p.start) =
     first-slots-rise p.plan (heard + 1 - p.start) (end + 1 - p.start) (omega (arith, later)) in
-    let now : p.sent ≡ min (first_slots p.plan (heard + 1 - p.start)) p.keep =
-    on.even ∙ on.pacing.due ∙ ap (λ n. min (first_slots p.plan n) p.keep) on.passed in
+    let now : p.sent ≡ min (first_slots p.plan (heard + 1 - p.start)) p.keep = rw (on.even, on.pacing.due, on.passed) in
     omega (arith, rise, now)
 
 pub due_here : (p : PacerState) (heard : ℕ) → IsOnTime p heard
