@@ -248,9 +248,7 @@ frames_front : (qs : List (List ℕ)) (b : List ℕ) (rest : List (List ℕ)) �
     → frames_of (events_of_elements (qs ++ b ∷ rest))
     ≡ frames_of (events_of_elements qs) ++ b ∷ frames_of (events_of_elements rest)
 frames_front qs b rest frame =
-    ap frames_of (moments_parts qs (b ∷ rest))
-    ∙ (frames_parts (events_of_elements qs) (events_of_elements (b ∷ rest))
-    ∙ ap (λ l. frames_of (events_of_elements qs) ++ frames_of (l ++ events_of_elements rest)) frame)
+    rw (moments_parts qs (b ∷ rest), frames_parts (events_of_elements qs) (events_of_elements (b ∷ rest)), frame)
 
 -- no third reply was accepted
 pub no_third : {h : History} (x : Stream) (y : List ℕ) (ys : List (List ℕ))

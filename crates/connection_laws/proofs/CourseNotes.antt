@@ -138,9 +138,7 @@ carries_kept = record {
 
 until_none : (turns : List StationCall) → notes_until turns [] ≡ notes_of turns
 until_none [] = refl
-until_none (turn ∷ turns) =
-    ap (λ ts. notes_of_calls turn.asking turn.outcome ts ++ notes_until turns []) (append-nil turns)
-    ∙ ap (λ ns. notes_of_calls turn.asking turn.outcome turns ++ ns) (until_none turns)
+until_none (turn ∷ turns) = rw (append-nil turns, until_none turns)
 
 pub plays_noted : {films : List Stored} {settings : Settings} {words : List ℕ} {doings : Activity} {report : ConnReport}
     (done : HasDone films settings words doings report) → report.plays.items ≡ notes_of (all_calls done)

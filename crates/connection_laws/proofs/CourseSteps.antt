@@ -251,10 +251,8 @@ done_move {s} {placed} paced done entry =
     (asked_piece (Asks s.awaited (Entered placed))) = record {
       later = omega arith;
       rest = λ askings come ends fits.
-          let kept : kept_with (Entered placed) (kept_in askings (total_bytes p.plan)) ≡ keep =
-          ap (λ c. kept_by c (kept_in askings (total_bytes p.plan))) entry.command in
-          let begun : plays_begun s.awaited (Entered placed) askings ≡ [] =
-          ap (λ a. plays_admitted a placed.entry.answer askings) asks in
+          let kept : kept_with (Entered placed) (kept_in askings (total_bytes p.plan)) ≡ keep = rw entry.command in
+          let begun : plays_begun s.awaited (Entered placed) askings ≡ [] = rw asks in
           record {
             from = fits.from;
             later = subst (λ ps. AreLater s.heard (ps ++ plays_of askings)) (sym begun) fits.later;

@@ -271,8 +271,7 @@ module _ {wish : Wish} {stored : Stored} {course : Course} (played : HasPlayedWh
       let film = length (rounds_film first) in
       let size : length (film_bytes one) ≡ film = ap (λ (l : List ℕ). length l) sent.parts in
       let bytes : length (rounds_bytes first) ≡ film + texts_length (placed_texts 0 one) =
-      ap (λ (l : List ℕ). length l) (rounds_sent first)
-      ∙ (parts_length 0 one ∙ ap (λ n. n + texts_length (placed_texts 0 one)) size) in
+      rw (rounds_sent first, parts_length 0 one, size) in
       let texts = split_texts course first later split played.texts in
       let F : ℕ → Type 0 = λ n. IsFromTo 0 n (placed_texts 0 one) in
       let same : 0 + length (film_bytes one) ≡ film = omega (arith, size) in

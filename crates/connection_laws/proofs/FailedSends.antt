@@ -95,9 +95,7 @@ due_as : (old : SessionState) (slot : ℕ) (waits : Bool)
     ∷ (if is_between (stepped_in true slot old.state) then Text old.text
     ∷ Film (step_bytes false slot (stepped_in true slot old.state)) ∷ [] else [])
     else Film (step_bytes false slot old.state) ∷ []) ≡ due_bytes waits old.state old.text slot
-due_as old slot true =
-    ap (λ bs. step_bytes true slot old.state ++ bs)
-    (between_bytes old slot (is_between (stepped_in true slot old.state)))
+due_as old slot true = rw (between_bytes old slot (is_between (stepped_in true slot old.state)))
 due_as old slot false = append-nil (step_bytes false slot old.state)
 
 pub failed_slot : (course : Course) (slot : ℕ) (front : List ℕ) (new : Stage)

@@ -340,8 +340,7 @@ legs_same {one} {other} {xs = x ∷ xs} {ys = y ∷ ys} old films legs too alike
     }) (record { due = x.due; new = x.opened.session; stepped = leg.stepped })
     (record { due = y.due; new = y.opened.session; stepped = subst L slots again.stepped }) in
     let opened : y.opened ≡ x.opened = opened_same x.opened y.opened step.1 (again.input ∙ sym leg.input) in
-    let place : longer y.opened y.bytes ≡ longer x.opened x.bytes =
-    ap (λ s. longer s y.bytes) opened ∙ ap (λ bs. longer x.opened bs) (sym cut.0) in
+    let place : longer y.opened y.bytes ≡ longer x.opened x.bytes = rw (opened, cut.0) in
     let kept : AreFilms x.opened.session.films =
     subst AreFilms (sym (ap (λ (n : List Stored × List ℕ). n.0)
     (stepped_names old.session x.slot x.due x.halt x.opened.session leg.stepped))) films in
@@ -358,9 +357,7 @@ legs_same {one} {other} {xs = x ∷ xs} {ys = y ∷ ys} old films legs too alike
     (record { heard = cut.1; answers = ends.answers; memory = ends.memory }) in
     record {
       last = rest.last;
-      bytes = ap (λ ps. parts_bytes ps ++ (elements_bytes y.elements ++ legs_bytes ys)) step.0
-          ∙ ap (λ bs. parts_bytes x.due ++ (bs ++ legs_bytes ys)) ends.bytes
-          ∙ ap (λ bs. parts_bytes x.due ++ (elements_bytes x.elements ++ bs)) rest.bytes;
+      bytes = rw (step.0, ends.bytes, rest.bytes);
     }
   where
     open alike use {heard, answers, memory}

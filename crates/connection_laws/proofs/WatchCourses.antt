@@ -81,8 +81,7 @@ all_watched {wish} {watched} {out = out} client (bytes, (sent, (stops, doings_ar
     let heard : Heard (rounds_heard rounds) mid = heard_all [] (stage [] []) mid rounds heard_none runs in
     let h : Heard (rounds_heard rounds ++ bytes) at = heard_more bytes stops.elements heard stops.cut stops.good in
     let told : at.history ≡ history_after [] (moments ++ events_of_elements stops.elements) =
-    ap (λ x. history_after x (events_of_elements stops.elements)) (history-later (stage [] []) mid rounds runs)
-    ∙ sym (after-on [] moments (events_of_elements stops.elements)) in
+    rw (history-later (stage [] []) mid rounds runs, after-on [] moments (events_of_elements stops.elements)) in
     let given = stop_of wish watched at stops.more_sent stops.more_out stops.stops in
     let all_out : out ≡ payloads_of (moments ++ events_of_elements stops.elements) =
     out_is ∙ (ap (λ o. payloads_of moments ++ o) (stops.out_is

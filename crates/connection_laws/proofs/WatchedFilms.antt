@@ -210,8 +210,7 @@ not_waiting s w received all =
     let cut : AreInputElements (framed_bytes (all_of x)) heard.elements mid.rest =
     subst (λ b. AreInputElements b heard.elements mid.rest) (all ∙ received.whole) heard.cut in
     let elements = whole_stream (all_of x) x.alone cut idle in
-    let are : heard.elements ≡ x.first ∷ x.second ∷ (x.blocks ++ last ∷ others) =
-    elements ∙ ap (λ l. x.first ∷ x.second ∷ (x.blocks ++ l)) later in
+    let are : heard.elements ≡ x.first ∷ x.second ∷ (x.blocks ++ last ∷ others) = rw (elements, later) in
     let accepted = subst (λ l. HasAccepted l mid.history) are (accepted_of heard) in
     let texts : AreTexts (last ∷ others) = subst AreTexts later x.later_are in
     no_third x last others accepted texts.0.moment
