@@ -7,7 +7,6 @@ use Rattle.slot_calendar.specs.Plays.{truncated_play}
 use Rattle.admission.specs.Histories.{play_admitted}
 use Rattle.admission.specs.Makers.{PlacedEntry}
 use Rattle.admission.specs.declared.entries.Answer.TheVariants.{Admitted, Halted}
-use Rattle.station.specs.Ledgers.{play_of}
 use Rattle.session.specs.declared.states.Awaited.{Awaited}
 use Rattle.session.specs.declared.states.Awaited.TheVariants.{Play}
 use Rattle.session.specs.SessionStates.{SessionState, AwaitedAnswer}

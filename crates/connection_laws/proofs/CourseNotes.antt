@@ -24,12 +24,12 @@ use Rattle.connection_laws.proofs.StationAnswers.{closing, closes_as, halt_of}
 use Rattle.connection_laws.proofs.CourseTurns.{IsKeptByDoings, doings_kept, all_calls, turns_told}
 use Rattle.connection_laws.proofs.KeptParts.{slot_keeps, state_keeps}
 use Rattle.film_run.specs.declared.runs.Run.{Run}
-use Rattle.slot_calendar.specs.Plays.{Play as Booked, truncated_play}
+use Rattle.slot_calendar.specs.Plays.{Play as Booked}
 use Rattle.admission.specs.Histories.{play_admitted}
 use Rattle.admission.specs.Makers.{PlacedEntry}
 use Rattle.film_streams.specs.declared.setups.Setup.{Setup}
 use Rattle.conn.specs.EventSteps.{entries_in}
-use Rattle.connection_laws.specs.Plays.{booked_by, kept_among, kept_with}
+use Rattle.connection_laws.specs.Plays.{booked_by, kept_among}
 use Rattle.connection_laws.proofs.RequestEffects.{RequestAnswer, Admission, Refusal, HaltMade, LookAnswer, at_play}
 use Rattle.connection_laws.proofs.RequestEffects.{PlayRequest, request_answer}
 use Rattle.connection_laws.proofs.BookedPlays.{kept_more}
@@ -54,8 +54,10 @@ slotted_same old slot = record {
     done = λ s. refl;
     idle = λ s n. refl;
   }) old slot;
-  under_way = λ later. state_keeps (λ state. open_note state later) (λ stop n state. stepped_open stop n state later)
-      (λ state. settled_open state later) old slot;
+  under_way = λ later. state_keeps {part = λ state. open_note state later} (record {
+    step = λ stop n state. stepped_open stop n state later;
+    stop = λ state. settled_open state later;
+  }) old slot;
 }
 
 -- what is halted as a slot or a connection ends is kept as it was asked for, and is no play that was asked for
@@ -89,14 +91,14 @@ finished_turn {s} (DoneHalted {keep = keep} entry) kept =
     halt_turn s entry (kept keep refl).0 (kept keep refl).1
 
 -- no play is under way once a connection has ended
-none_open : (state : State) (later : List StationCall) → closing (open_in state) ≡ NoAnswer → open_note state later ≡ []
-none_open (Playing setup play) later none = absurd (let no : ⊥ = cc in no)
-none_open _ later none = refl
+none_open : (state : State) → closing (open_in state) ≡ NoAnswer → open_note state [] ≡ []
+none_open (Playing setup play) none = absurd (let no : ⊥ = cc in no)
+none_open _ none = refl
 
-closed_none : {s new : SessionState} {asks : AwaitedAnswer} {halt : Outcome} (later : List StationCall)
-    → FinishesAs s asks halt new → closing (open_of s) ≡ asks → open_note new.state later ≡ []
-closed_none {s} later NothingLeft opens = none_open s.state later opens
-closed_none {s} later (DoneHalted entry) opens = halted_open s.state s.awaited later
+closed_none : {s new : SessionState} {asks : AwaitedAnswer} {halt : Outcome} → FinishesAs s asks halt new
+    → closing (open_of s) ≡ asks → open_note new.state [] ≡ []
+closed_none {s} NothingLeft opens = none_open s.state opens
+closed_none {s} (DoneHalted entry) opens = halted_open s.state s.awaited []
 
 -- a play that a failed send leaves as it was
 carried_open : (old new : State) → IsCarried old new → (later : List StationCall) → open_note new later ≡ open_note old
@@ -144,7 +146,7 @@ pub plays_noted : {films : List Stored} {settings : Settings} {words : List ℕ}
     (done : HasDone films settings words doings report) → report.plays.items ≡ notes_of (all_calls done)
 plays_noted {doings = doings} done =
     let all = doings_kept done carries_kept in
-    let closed = closed_none [] (closes_as (open_of done.last.session) doings.halt done.closes) refl in
+    let closed = closed_none (closes_as (open_of done.last.session) doings.halt done.closes) refl in
     done.report_is.plays ∙ sym (append-nil done.closed.plays)
     ∙ ap (λ ns. done.closed.plays ++ ns) (sym closed) ∙ sym (all.on []) ∙ until_none (all_calls done)
 

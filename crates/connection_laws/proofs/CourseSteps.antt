@@ -24,7 +24,7 @@ use Rattle.conn.specs.InputSteps.{Outcome, Unasked, Entered, SentPart, Stage, af
 use Rattle.conn.specs.InputSteps.{reply_parts, slot_parts}
 use Rattle.connection_laws.specs.Courses.{IsCourseBetween, askings_of, first_stage, greatest_slot, Course, course_plays}
 use Rattle.connection_laws.specs.Courses.{course_film}
-use Rattle.connection_laws.specs.Plays.{StationRequest, Asks, plays_admitted, plays_begun, kept_by, kept_in, kept_with}
+use Rattle.connection_laws.specs.Plays.{StationRequest, Asks, plays_begun, kept_in, kept_with}
 use Rattle.connection_laws.specs.Plays.{plays_of, AreOver, FilmPlay}
 use Rattle.connection_laws.proofs.RequestEffects.{Ends, Going, Idle, IsAfter, Starts, Stays, TurnsAs, sends_in}
 use Rattle.connection_laws.proofs.RequestEffects.{turns_as, Sends, Ending, no_entry}
@@ -36,7 +36,7 @@ use Rattle.session.specs.RequestSteps.{is_answered, after_halt}
 use Rattle.connection_laws.specs.ReplyPlaces.{AreSentAt, slots_from}
 use Rattle.connection_laws.specs.Replies.{course_texts}
 use Rattle.connection_laws.proofs.Slots.{sound_waits, turn_sound, state_after, waits_after}
-use Rattle.connection_laws.proofs.ReplyBoundaries.{Replying, replying, turn_goes, turn_piece, slot_moves, still_fits}
+use Rattle.connection_laws.proofs.ReplyBoundaries.{Replying, replying, turn_goes, turn_piece, slot_moves, still_goes}
 use Rattle.connection_laws.proofs.WaitingReplies.{GoesTo, IsHeld, Point, Stand, goes_same, goes_then, point, over_at}
 use Rattle.connection_laws.proofs.WaitingReplies.{due_here}
 use Rattle.connection_laws.proofs.JoinedFilms.{IsSound, IsOnTime, play_with, film_is, film_now, film_over_all}
@@ -274,13 +274,7 @@ done_move {s} {placed} paced done entry =
 quiet_move : {s new : SessionState} (paced : IsPaced s) (asked : Awaited) → new ≡ s
     → Move paced new (asked_piece (Asks asked Unasked))
 quiet_move paced asked same =
-    rw same (record {
-      after = paced;
-      goes_on = record {
-        later = omega arith;
-        rest = λ askings come on fits. still_fits (no_entry Unasked refl) fits;
-      };
-    })
+    rw same (record { after = paced; goes_on = still_goes (no_entry Unasked refl) (point_of paced) })
 
 finish_move : {s new : SessionState} {halt : Outcome} (paced : IsPaced s) → Finished s halt new
     → Move paced new (asked_piece (Asks s.awaited halt))

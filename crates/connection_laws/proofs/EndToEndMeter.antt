@@ -1,5 +1,5 @@
 -- The promise from a server to its client's meter.
-use Rattle.std.proofs.Common.{◌≡◌, ℕ, suc, ◌+◌, ◌-◌, ◌<◌, ◌≤◌, min, List, ◌∷◌, ◌++◌, length, take, drop, map, sum, refl}
+use Rattle.std.proofs.Common.{◌≡◌, ℕ, suc, ◌+◌, ◌-◌, ◌<◌, ◌≤◌, min, List, ◌∷◌, ◌++◌, length, take, map, sum, refl}
 use Rattle.std.proofs.Common.{sym, ap, subst, ◌∙◌, arith, inl, inr, []}
 use Rattle.conn.proofs.ReplyContents.{parts-more}
 use Rattle.std.proofs.lemmas.Bool.{cases_lt}

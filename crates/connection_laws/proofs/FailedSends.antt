@@ -47,7 +47,7 @@ cut_short course round new sent runs front =
       follows = follows_more (begin_of course) course.rounds course.follows runs;
     } in
     let all : rounds_bytes longer.rounds ≡ rounds_bytes course.rounds ++ round_bytes round =
-    joins_parts rounds_bytes round_bytes refl (λ x xs. refl) course.rounds (round ∷ [])
+    joins_parts rounds_bytes (record { one = round_bytes; none = refl; more = λ x xs. refl }) course.rounds (round ∷ [])
     ∙ ap (λ bs. rounds_bytes course.rounds ++ bs) (append-nil (round_bytes round)) in
     let F : List ℕ → Type 0 = λ bs. IsPrefixOf (rounds_bytes course.rounds ++ sent) bs in
     record {

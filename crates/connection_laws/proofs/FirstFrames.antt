@@ -80,7 +80,7 @@ lead : (starts : Bool) (from : RunFrom) (k : ℕ) (first : FirstFrame) (sum : Fr
     first.packet from.frames
 lead false from (suc k) first sum some =
     let b = frame_block run unit p f in
-    block_sizes b (take k rest) s (λ t. t.first ≡ b) (frame_moment run f unit p media)
+    block_sizes b (take k rest) (λ l. (steps s l).first ≡ b) (frame_moment run f unit p media)
     (blocks_first (take k rest) (step (Frame b) s) (each_take IsOneBlock k rest are) (omega arith)
     ∙ cond-true (s.frames == 0) b s.first (eq-eqb s.frames 0 none))
   where
@@ -91,7 +91,7 @@ lead true from (suc k) first sum some =
     let r = report_block run unit f o in
     let b = frame_block run unit p f in
     let is = report_moment run f o unit control in
-    block_sizes r (take k (b ∷ rest)) sum.sum (λ t. 0 < t.frames → t.first ≡ b) is
+    block_sizes r (take k (b ∷ rest)) (λ l. 0 < (steps sum.sum l).frames → (steps sum.sum l).first ≡ b) is
     (λ more. lead false from k first (record { sum = step (Report r) sum.sum; none = sum.none }) more) some
   where
     open from use {run, frames as f, octets as o, control}

@@ -17,7 +17,7 @@ use Rattle.connection_laws.specs.InputSplits.{answer_in, answers_in, heard_in, h
 use Rattle.connection_laws.proofs.KeptParts.{stepped_names}
 use Rattle.connection_laws.proofs.UniqueResults.{steps_same}
 use Rattle.connection_laws.proofs.ElementPaths.{GoesAll, Path, Element, ends_same, goes_films, goes_grow, join_goes}
-use Rattle.connection_laws.proofs.ElementPaths.{longer, path_of, elements_answers, elements_bytes, Exchange}
+use Rattle.connection_laws.proofs.ElementPaths.{longer, path_of, elements_answers, Exchange}
 use Rattle.connection_laws.proofs.ElementPaths.{no_exchange, joined, joined_assoc, exchange_of, join_exchange}
 use Rattle.connection_laws.proofs.ElementPaths.{takings_exchange}
 use Rattle.connection_laws.proofs.Lists.{joins_parts}
@@ -220,7 +220,7 @@ round_exchange {cur} new round rounds takes path =
     (joined (record e { heard = [] }) rest)) path.is
     ∙ rw (
       append_assoc (parts_bytes round.due) (takings_bytes round.takings) rest.bytes,
-      joins_parts answers_in answer_in refl (λ x xs. refl) (takings_outcomes round.takings) (rounds_outcomes rounds),
+      joins_parts answers_in (record { one = answer_in; none = refl; more = λ x xs. refl }) (takings_outcomes round.takings) (rounds_outcomes rounds),
     )
 
 rounds_split : (cur new : Stage) (rounds : List Round) (takes : TakesUp cur rounds new) → IsDrained cur

@@ -6,7 +6,7 @@ use Rattle.film_streams.specs.declared.settings.Settings.{Settings}
 use Rattle.film_streams.specs.declared.stream_numbers.StreamSource.{StreamSource}
 use Rattle.session.specs.declared.commands.Ask.{Ask}
 use Rattle.session.specs.declared.states.Awaited.{Awaited}
-use Rattle.session.specs.SlotSteps.{after_play, after_slot, can_reply, is_between, is_sending, is_taken, sent_due}
+use Rattle.session.specs.SlotSteps.{due_state, after_play, after_slot, can_reply, is_between, is_sending, is_taken, sent_due}
 use Rattle.session.specs.SlotSteps.{sent_reply, sent_slot, stepped_in, halted_in, next_of, state_once_halted}
 use Rattle.session.specs.SessionStates.{SessionState, awaited_answer, AwaitedAnswer}
 use Rattle.conn.proofs.HaltAnswers.{finished_as_before}
@@ -165,22 +165,27 @@ pub halted_setup : (state : State) (awaited : Awaited) → setup_in (halted_in s
 halted_setup (Playing setup play) awaited = once_halted setup play (next_of awaited)
 halted_setup _ awaited = refl
 
--- a part of a state that the steps of a slot leave as it was
-module _ {A : Type 0} (part : State → A)
-    (same : (stop : Bool) (slot : ℕ) (state : State) → part (stepped_in stop slot state) ≡ part state) where
-  due_keeps : (waits between : Bool) (state : State) (slot : ℕ)
-      → part (if waits then (if between then stepped_in false slot (stepped_in true slot state)
-      else stepped_in true slot state) else stepped_in false slot state) ≡ part state
-  due_keeps true true state slot = same false slot (stepped_in true slot state) ∙ same true slot state
-  due_keeps true false state slot = same true slot state
-  due_keeps false between state slot = same false slot state
+-- a part of a state that the steps of a slot and the end of a stop leave as it was
+pub record IsKeptInSteps {A : Type 0} (part : State → A) : Type 0 where
+  pub step : (stop : Bool) (slot : ℕ) (state : State) → part (stepped_in stop slot state) ≡ part state
+  pub stop : (state : State) → part (after_stop state) ≡ part state
 
-  pub state_keeps : ((state : State) → part (after_stop state) ≡ part state) → (old : SessionState) (slot : ℕ)
-      → part (after_slot old slot).state ≡ part old.state
-  state_keeps stops =
+module _ {A : Type 0} {part : State → A} (kept : IsKeptInSteps part) where
+  between_keeps : (between : Bool) (slot : ℕ) (state : State)
+      → part (if between then stepped_in false slot (stepped_in true slot state) else stepped_in true slot state)
+      ≡ part state
+  between_keeps true slot state = kept.step false slot (stepped_in true slot state) ∙ kept.step true slot state
+  between_keeps false slot state = kept.step true slot state
+
+  due_keeps : (waits : Bool) (slot : ℕ) (state : State) → part (due_state waits state slot) ≡ part state
+  due_keeps true slot state = between_keeps (is_between (stepped_in true slot state)) slot state
+  due_keeps false slot state = kept.step false slot state
+
+  pub state_keeps : (old : SessionState) (slot : ℕ) → part (after_slot old slot).state ≡ part old.state
+  state_keeps =
       slot_keeps {part = λ (s : SessionState). part s.state} (record {
-        reply = λ s. stops s.state;
-        due = λ s n. due_keeps s.waits (is_between (stepped_in true n s.state)) s.state n;
+        reply = λ s. kept.stop s.state;
+        due = λ s n. due_keeps s.waits n s.state;
         done = λ s. refl;
         idle = λ s n. refl;
       })
@@ -202,7 +207,7 @@ pub comes_setup : {old opened : Stage} {round : Round} → ComesAs old round ope
 comes_setup BytesCame = record { names = refl; setup = refl }
 comes_setup {old} (SlotCame {slot = slot} {new = new} finish) = record {
   names = same_names (after_slot old.session slot) new (finish_keeps finish) ∙ slot_names old.session slot;
-  setup = finish_setup finish ∙ state_keeps setup_in stepped_setup stop_setup old.session slot;
+  setup = finish_setup finish ∙ state_keeps {part = setup_in} (record { step = stepped_setup; stop = stop_setup }) old.session slot;
 }
 
 pub replied_setup : (s : SessionState) → IsSameSetup s (after_reply s)

@@ -28,10 +28,14 @@ module _ {A : Type 0} (P : A → Type 0) where
   each_weaker Q weaker (x ∷ xs) are = (weaker x are.0, each_weaker Q weaker xs are.1)
 
 -- a function that joins what it makes of each element
-module _ {A : Type 0} {B : Type 0} (all : List A → List B) (one : A → List B) where
-  pub joins_parts : ([] ≡ all []) → ((x : A) (xs : List A) → all (x ∷ xs) ≡ one x ++ all xs) → (xs ys : List A)
-      → all (xs ++ ys) ≡ all xs ++ all ys
-  joins_parts none more [] ys = ap (λ l. l ++ all ys) none
-  joins_parts none more (x ∷ xs) ys =
-      more x (xs ++ ys) ∙ ap (λ l. one x ++ l) (joins_parts none more xs ys)
-      ∙ sym (append_assoc (one x) (all xs) (all ys)) ∙ ap (λ l. l ++ all ys) (sym (more x xs))
+pub record Joins {A : Type 0} {B : Type 0} (all : List A → List B) : Type 0 where
+  pub one : A → List B
+  pub none : [] ≡ all []
+  pub more : (x : A) (xs : List A) → all (x ∷ xs) ≡ one x ++ all xs
+
+pub joins_parts : {A : Type 0} {B : Type 0} (all : List A → List B) → Joins all → (xs ys : List A)
+    → all (xs ++ ys) ≡ all xs ++ all ys
+joins_parts all joins [] ys = ap (λ l. l ++ all ys) joins.none
+joins_parts all joins (x ∷ xs) ys =
+    joins.more x (xs ++ ys) ∙ ap (λ l. joins.one x ++ l) (joins_parts all joins xs ys)
+    ∙ sym (append_assoc (joins.one x) (all xs) (all ys)) ∙ ap (λ l. l ++ all ys) (sym (joins.more x xs))

@@ -8,7 +8,7 @@ use Rattle.std.proofs.lemmas.Bool.{true≢false}
 use Rattle.std.proofs.lemmas.List.{append_assoc, append-nil}
 use Rattle.plan_cert.specs.PlanSlots.{total_bytes}
 use Rattle.film_frames.specs.declared.stored_films.Stored.{Stored}
-use Rattle.film_frames.specs.FramedRuns.{FramedRun, frames_before, octets_before, run_of}
+use Rattle.film_frames.specs.FramedRuns.{FramedRun, frames_before, octets_before}
 use Rattle.plan_cert.specs.declared.Segment.{Segment}
 use Rattle.early_start.specs.StartSearch.{Offers}
 use Rattle.film_run.specs.declared.runs.Run.{Run}
@@ -139,6 +139,15 @@ record Standing : Type 0 where
 abbrev standing : SessionState → (ℕ → ℕ) → Option RunPlace → Standing
 standing s kept last = record { stream = stream_of s; flags = flags_of s; kept = kept; last = last }
 
+-- a request that neither begins nor halts a play
+record StillRequest : Type 0 where
+  asked : Awaited
+  outcome : Outcome
+  still : IsStill asked outcome
+
+abbrev still_by : {asked : Awaited} {outcome : Outcome} → IsStill asked outcome → StillRequest
+still_by {asked} {outcome} still = record { asked = asked; outcome = outcome; still = still }
+
 -- a play of a session that is halted, and what the halt leaves of its run
 record Stopped (next : AfterHalt) : Type 0 where
   s : SessionState
@@ -195,13 +204,13 @@ module _ (words : List ℕ) where
       subst (λ k. IsUnderWay at.stream setup play.run (play.run.sent + k) at.last) (same (total_bytes play.plan)) is
   same_kept at g _ same is = is
 
-  still : {old new : SessionState} {asked : Awaited} {outcome : Outcome} → IsStill asked outcome
-      → new.looks_left ≡ old.looks_left - look_in asked → Moves old new → Leads old new (Asks asked outcome ∷ [])
-  still {old} {asked = asked} {outcome} same looks move = record {
-    on = λ later follows last is. rw (same.none later) (follows last (move (kept_in later) last
-        (same_kept (standing old (λ k. kept_with outcome (kept_in later k)) last) (kept_in later) old.state
-        (λ k. same.kept (kept_in later k)) is)));
-    looks = looks ∙ ap (λ n. old.looks_left - n) (sym (plus_none (look_in asked)));
+  still : {old new : SessionState} (request : StillRequest) → new.looks_left ≡ old.looks_left - look_in request.asked
+      → Moves old new → Leads old new (Asks request.asked request.outcome ∷ [])
+  still {old} request looks move = record {
+    on = λ later follows last is. rw (request.still.none later) (follows last (move (kept_in later) last
+        (same_kept (standing old (λ k. kept_with request.outcome (kept_in later k)) last) (kept_in later) old.state
+        (λ k. request.still.kept (kept_in later k)) is)));
+    looks = looks ∙ ap (λ n. old.looks_left - n) (sym (plus_none (look_in request.asked)));
   }
 
   -- ---- slots and replies
@@ -297,7 +306,7 @@ module _ (words : List ℕ) where
       open stop use {s, setup, play}
 
   finishes : {s new : SessionState} {halt : Outcome} → Finished s halt new → Leads s new (Asks s.awaited halt ∷ [])
-  finishes {s} (Quiet rest) = still (no_entry Unasked refl) (none_asked s.looks_left s.awaited rest) (moves_none s)
+  finishes {s} (Quiet rest) = still (still_by (no_entry Unasked refl)) (none_asked s.looks_left s.awaited rest) (moves_none s)
   finishes {s} (Ended {placed = placed} done entry) =
       let stop : Stopped Done = record { s = s; setup = done.setup; play = done.play; keep = done.keep; left = tt } in
       let L : State → Awaited → Type 0 = λ st a. Leads (record s { state = st; awaited = a })
@@ -308,7 +317,7 @@ module _ (words : List ℕ) where
   comes_leads : {old opened : Stage} {round : Round} → Stands old.session → ComesAs old round opened
       → Leads old.session opened.session (Asks (asked_by old.session round.event) round.halt ∷ [])
   comes_leads {old} stands BytesCame =
-      still (no_entry Unasked refl) (sym (minus_none old.session.looks_left)) (moves_none old.session)
+      still (still_by (no_entry Unasked refl)) (sym (minus_none old.session.looks_left)) (moves_none old.session)
   comes_leads {old} stands (SlotCame {slot = slot} finish) =
       let to = slot_to old.session slot in
       leads_then (moves (slot_looks old.session slot) (slot_moves to))
@@ -355,17 +364,17 @@ module _ (h : Hearing) where
   replies : (asking : SessionState) (outcome : Outcome) (new : SessionState) → asking.awaited ≡ Nothing
       → asking.looks_left ≡ old.looks_left → Moves words old asking → Answers outcome new AskReply asking
   replies asking outcome new rest looks move is NoneAsked =
-      still words (no_entry Unasked refl) (looks ∙ none_asked old.looks_left asking.awaited rest) move
+      still words (still_by (no_entry Unasked refl)) (looks ∙ none_asked old.looks_left asking.awaited rest) move
 
   looks_at : (sequence : ℕ) (outcome : Outcome) (new : SessionState)
       → Answers outcome new (AskLook old.heard) (record old { looks_left = old.looks_left - 1; awaited = Look sequence })
-  looks_at sequence outcome new is (LookMade looked) = still words (looked_still old.heard is.0) refl (waiting old.tearing old.state)
-  looks_at sequence outcome new is LookFull = still words (no_entry _ refl) refl (waiting old.tearing old.state)
+  looks_at sequence outcome new is (LookMade looked) = still words (still_by (looked_still old.heard is.0)) refl (waiting old.tearing old.state)
+  looks_at sequence outcome new is LookFull = still words (still_by (no_entry _ refl)) refl (waiting old.tearing old.state)
 
   offers_of : {plan : List Segment} {offers : Offers} (sequence : ℕ) (outcome : Outcome) (new : SessionState)
       → Answers outcome new (AskOffer plan offers) (record old { awaited = Offer sequence })
   offers_of sequence outcome new is OfferMade =
-      still words (no_entry _ refl) (sym (minus_none old.looks_left)) (waiting old.tearing old.state)
+      still words (still_by (no_entry _ refl)) (sym (minus_none old.looks_left)) (waiting old.tearing old.state)
 
   -- ---- a play
 
@@ -491,9 +500,9 @@ module _ (h : Hearing) where
       → Answers outcome new (AskPlay asked.prepared.plan) (asking_for asked)
   plays asked outcome new is (PlayAdmitted entry answered) = admitted asked entry
   plays asked outcome new is (PlayOverflowed entry) =
-      still words (refused_still entry) (sym (minus_none old.looks_left)) (waiting old.tearing old.state)
+      still words (still_by (refused_still entry refl)) (sym (minus_none old.looks_left)) (waiting old.tearing old.state)
   plays asked outcome new is (PlayFull more) =
-      still words (no_entry _ refl) (sym (minus_none old.looks_left)) (waiting old.tearing old.state)
+      still words (still_by (no_entry _ refl)) (sym (minus_none old.looks_left)) (waiting old.tearing old.state)
 
   -- ---- by what a message comes to
 

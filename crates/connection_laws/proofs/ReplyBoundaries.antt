@@ -22,7 +22,7 @@ use Rattle.conn.specs.InputSteps.{Outcome, Text}
 use Rattle.conn.proofs.FilmBytes.{sent_through, slot_is, stopped_is}
 use Rattle.connection_laws.specs.ReplyPlaces.{IsSentAt}
 use Rattle.connection_laws.specs.Plays.{StationRequest, Asks, due_by as all_due}
-use Rattle.connection_laws.specs.Plays.{due_of, kept_by, kept_in, kept_with, play_by, plays_of}
+use Rattle.connection_laws.specs.Plays.{due_of, kept_in, kept_with, play_by, plays_of}
 use Rattle.connection_laws.specs.Replies.{placed_text}
 use Rattle.connection_laws.proofs.JoinedFilms.{IsOnTime, IsSound, play_with, through_time, IsAtLast}
 use Rattle.connection_laws.proofs.TextPlaces.{AreLater, StandAt, from_lower, later_lower, none_due, text_at, AreSent}
@@ -30,26 +30,29 @@ use Rattle.connection_laws.proofs.TextPlaces.{ToCome, part_then}
 use Rattle.connection_laws.proofs.Slots.{ended_at, ending_cases, going_cases, parts_of, state_after, waits_after}
 use Rattle.connection_laws.proofs.RequestEffects.{Ends, Ending, Going, Idle, IsStill, Sends, Starts, Stays}
 use Rattle.connection_laws.proofs.RequestEffects.{TurnsAs, begun_is, pacing_for, sends_in}
-use Rattle.connection_laws.proofs.CourseInduction.{Piece, parts_piece, no_piece}
+use Rattle.connection_laws.proofs.CourseInduction.{asked_piece, Piece, parts_piece, no_piece}
 use Rattle.film_streams.specs.declared.setups.Setup.{Setup}
 use Rattle.session.specs.declared.states.Stop.{Stop}
 
 -- ---- a request is answered
 
-still_stand : {asked : Awaited} {outcome : Outcome} (still : IsStill asked outcome) (sends : Sends)
-    (askings : List StationRequest) (come : ToCome) → Stand sends askings come
-    → Stand sends (Asks asked outcome ∷ askings) come
-still_stand still (Going p) askings come stand =
-    rw (still.none askings, still.kept (kept_in askings (total_bytes p.plan))) stand
-still_stand still _ askings come stand = rw (still.none askings) stand
-
-pub still_fits : {at : Point} {askings : List StationRequest} {come : ToCome} {asked : Awaited} {outcome : Outcome}
-    → IsStill asked outcome → Fits at askings come → Fits at (Asks asked outcome ∷ askings) come
-still_fits {at} {askings} {come} still fits = record {
-  from = fits.from;
-  later = rw (still.none askings) fits.later;
-  stand = still_stand still at.sends askings (pending_then at.pending come) fits.stand;
+-- it neither begins nor halts a play
+pub still_goes : {asked : Awaited} {outcome : Outcome} → IsStill asked outcome → (at : Point)
+    → GoesTo at at (asked_piece (Asks asked outcome))
+still_goes {asked} {outcome} still at = record {
+  later = omega arith;
+  rest = λ askings come on fits. record {
+    from = fits.from;
+    later = rw (still.none askings) fits.later;
+    stand = by-sends at.sends askings (pending_then at.pending come) fits.stand;
+  };
 }
+  where
+    by-sends : (sends : Sends) (askings : List StationRequest) (come : ToCome) → Stand sends askings come
+        → Stand sends (Asks asked outcome ∷ askings) come
+    by-sends (Going p) askings come stand =
+        rw (still.none askings, still.kept (kept_in askings (total_bytes p.plan))) stand
+    by-sends _ askings come stand = rw (still.none askings) stand
 
 -- a request was processed, and its reply is in hand
 abbrev pub turn_piece : Awaited → Outcome → ℕ → Piece
@@ -66,7 +69,9 @@ pub turn_goes : {old new : SessionState} {asked : Awaited} {outcome : Outcome} �
 turn_goes {old} (Stays same after still) = record {
   later = omega arith;
   rest = λ askings come on fits.
-      still_fits still (taken_fits (subst (λ s. Fits (point s old.heard (Some old.heard)) askings come) same fits));
+      (still_goes still (point (sends_in old.state) old.heard None)).rest askings
+      (record come { slots = old.heard ∷ come.slots }) on
+      (taken_fits (subst (λ s. Fits (point s old.heard (Some old.heard)) askings come) same fits));
 }
 turn_goes {old} (Starts after begins) = record {
   later = omega arith;

@@ -12,8 +12,7 @@ use Rattle.conn.specs.InputSteps.{Answered, Film, SentPart, Passed, Stage, Eleme
 use Rattle.conn.specs.InputSteps.{parts_bytes, Outcome, due_parts, slot_parts}
 use Rattle.connection_laws.specs.Replies.{PlacedText, placed_texts, insert_texts, text_of, waiting_reply, course_texts}
 use Rattle.connection_laws.specs.Replies.{course_replies}
-use Rattle.session.specs.RequestSteps.{is_answered}
-use Rattle.session.specs.SlotSteps.{can_reply, is_between, sent_due, sent_reply, step_bytes, stepped_in, next_of}
+use Rattle.session.specs.SlotSteps.{can_reply, is_between, sent_due, sent_reply, step_bytes, stepped_in}
 use Rattle.session.specs.SessionStates.{SessionState}
 use Rattle.connection_laws.proofs.CourseSteps.{Stands, turn_after, IsKeptStanding, film_written_is, request_turns}
 use Rattle.connection_laws.proofs.CourseSteps.{all_kept, slot_asks, film_sent, Finished, Quiet, Ended, finish_by}
@@ -66,7 +65,7 @@ parts_woven place (Text text ∷ parts) =
 
 -- all bytes of the parts are those of the rounds
 parts_bytes_append : (xs ys : List SentPart) → parts_bytes (xs ++ ys) ≡ parts_bytes xs ++ parts_bytes ys
-parts_bytes_append = joins_parts parts_bytes part_bytes refl (λ x xs. refl)
+parts_bytes_append = joins_parts parts_bytes (record { one = part_bytes; none = refl; more = λ x xs. refl })
 
 takings_sent : (takings : List ElementStep) → takings_bytes takings ≡ parts_bytes (takings_parts takings)
 takings_sent [] = refl

@@ -1,6 +1,6 @@
 -- What a client reads in the replies to its requests, as a server writes them: values of printable bytes are read as
 -- they were written.
-use Rattle.std.specs.Prelude.{⊤, option_map, option_and_then}
+use Rattle.std.specs.Prelude.{⊤}
 use Rattle.std.proofs.Common.{◌≡◌, ℕ, ◌/◌, ◌%◌, ◌^◌, ◌<◌, true, false, List, [], ◌∷◌, ◌++◌, codes, decimal, get_or}
 use Rattle.std.proofs.Common.{reverse, refl, sym, ap, ◌∙◌, arith, inl, inr, ◌+◌, ◌≤◌, ◌==◌, All, Option, Some, None}
 use Rattle.std.proofs.Common.{is_some, subst}
@@ -26,7 +26,7 @@ use Rattle.rtsp_replies.specs.Replies.{transport_value}
 use Rattle.std.proofs.lemmas.List.Elements.{All-cons, All-nil}
 use Rattle.rtsp_text.specs.Fields.{header_value}
 use Rattle.rtsp_replies.specs.Messages.{IsMessage}
-use Rattle.rtsp_client.specs.Replies.{IsAnswer, play_range, play_start, session_id, setup_session, usable_id}
+use Rattle.rtsp_client.specs.Replies.{IsAnswer, play_range, play_start, session_id, setup_session}
 use Rattle.connection_laws.specs.PlayReplies.{IsPlayRead}
 use Rattle.connection_laws.proofs.PlayReplyReading.{IsReplyRead, PlayNumbers, StreamInfo, play_read, read_reply}
 

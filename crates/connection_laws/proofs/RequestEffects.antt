@@ -1,7 +1,7 @@
 -- What a request asks and how it is answered, case by case, and what that makes of a session: what is sent of a film,
 -- and the play that begins or ends.
 use Rattle.std.proofs.Common.{◌≡◌, ℕ, Bool, true, List, Option, None, refl, subst, ◌<◌, ◌^◌, if◌then◌else◌, [], ◌∷◌}
-use Rattle.std.proofs.Common.{sym, ap, ◌∙◌}
+use Rattle.std.proofs.Common.{false, true≢false, sym, ap, ◌∙◌}
 use Rattle.admission.specs.Makers.{PlacedEntry}
 use Rattle.early_start.specs.StartSearch.{Offers}
 use Rattle.film_run.specs.declared.runs.Run.{Run}
@@ -26,6 +26,7 @@ use Rattle.conn.specs.InputSteps.{HasHeard, IsAskAnswered, IsPlayAnswered, Outco
 use Rattle.conn.proofs.StationAnswers.{AnswersAs, NoneAsked, PlayAdmitted, PlayOverflowed, PlayFull, PlayHalted}
 use Rattle.conn.proofs.StationAnswers.{LookMade, LookFull, OfferMade, IsPlayEntry, IsHaltEntry, answers_as}
 use Rattle.film_frames.specs.FramedRuns.{run_pieces}
+use Rattle.admission.specs.declared.entries.Answer.{Answer}
 use Rattle.admission.specs.declared.entries.Answer.TheVariants.{Admitted, Halted, Looked, Overflow}
 use Rattle.admission.specs.declared.entries.Command.TheVariants.{Halt as HaltCommand}
 use Rattle.admission.specs.Histories.{play_admitted}
@@ -252,13 +253,19 @@ no_entry (Entered placed) none = absurd (let no : ⊥ = cc in no)
 no_entry _ none = record { none = λ later. refl; kept = λ later. refl; untold = λ made. refl }
 
 -- a play that isn't admitted
-pub refused_still : {old : SessionState} {prepared : Prepared} {placed : PlacedEntry} {slot booked asked : ℕ}
-    → IsPlayEntry old prepared.plan placed (Overflow slot booked asked) → IsStill (Play prepared) (Entered placed)
-refused_still {old} {prepared} {placed} entry = record {
+abbrev pub is_refused : Answer → Bool
+is_refused (Overflow slot booked asked) = true
+is_refused _ = false
+
+pub refused_still : {old : SessionState} {prepared : Prepared} {placed : PlacedEntry} {answer : Answer}
+    → IsPlayEntry old prepared.plan placed answer → is_refused answer ≡ true → IsStill (Play prepared) (Entered placed)
+refused_still {old} {prepared} {placed} {answer = Overflow slot booked asked} entry refused = record {
   none = λ later. ap (λ a. plays_admitted (Play prepared) a later) entry.answer_is;
   kept = λ later. ap (λ c. kept_by c later) entry.command;
-  untold = λ made. rw (entry.command, entry.answer_is);
+  untold = λ made. ap (λ c. booked_by (play_admitted c placed.entry.answer) made) entry.command
+      ∙ ap (λ a. booked_by (play_admitted (play_of old.heard prepared.plan) a) made) entry.answer_is;
 }
+refused_still entry refused = absurd (true≢false (sym refused))
 
 pub looked_still : {sequence : ℕ} {placed : PlacedEntry} (slot : ℕ) → placed.entry.command ≡ look_at slot
     → IsStill (Look sequence) (Entered placed)
@@ -328,7 +335,7 @@ turn_of (Admission {placed = placed} {start = start} play entry answered) rest =
       pacing = answered.2.pacing;
     })
 turn_of (Refusal play entry) rest =
-    Stays refl (record { heard = refl; awaited = refl; waits = refl }) (refused_still entry)
+    Stays refl (record { heard = refl; awaited = refl; waits = refl }) (refused_still entry refl)
 turn_of (HaltMade halt entry) rest = ends_turn halt entry
 turn_of (LookAnswer command looked) rest =
     Stays refl (record { heard = refl; awaited = refl; waits = refl }) (looked_still _ command)

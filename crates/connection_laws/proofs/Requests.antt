@@ -55,12 +55,12 @@ pub record CutsAll (heard : List ℕ) (new : Stage) (messages : List (List ℕ))
   pub requests : requests_in elements ≡ messages
 
 -- one element first
-first_cut : {input after : List ℕ} {new : Stage} {messages : List (List ℕ)} (n : ℕ) → IsElementLength input n
-    → after ≡ drop n input → CutsAll after new messages
+first_cut : {input : List ℕ} {new : Stage} {messages : List (List ℕ)} (n : ℕ) → IsElementLength input n
+    → CutsAll (drop n input) new messages
     → CutsAll input new (if is_no_request (take n input) then messages else take n input ∷ messages)
-first_cut {input} {new = new} n element is rest = record {
+first_cut {input} n element rest = record {
   elements = take n input ∷ rest.elements;
-  cut = (n, (element, refl, subst (λ w. AreInputElements w rest.elements new.input) is rest.cut));
+  cut = (n, (element, refl, rest.cut));
   requests = ap (λ rs. if is_no_request (take n input) then rs else take n input ∷ rs) rest.requests;
 }
 
@@ -72,8 +72,8 @@ goes_cut old new (Over n ∷ elements) goes =
     let passing = goes.1.0 in
     let ms = map message_of (elements_hearings elements) in
     subst (λ b. CutsAll old.input new (if b then ms else take n old.input ∷ ms)) (over_other old.input n passing.over)
-    (first_cut n (over_element old.input n passing.over) (ap (λ (s : Stage). s.input) passing.new_is)
-    (goes_cut goes.0 new elements goes.1.1))
+    (first_cut n (over_element old.input n passing.over)
+    (subst (λ (s : Stage). CutsAll s.input new ms) passing.new_is (goes_cut goes.0 new elements goes.1.1)))
 goes_cut old new (RequestElement turn ∷ elements) goes =
     let next = goes.1.0.next in
     let n : ℕ = length turn.message in
@@ -83,7 +83,7 @@ goes_cut old new (RequestElement turn ∷ elements) goes =
     (subst (λ b. CutsAll old.input new (if b then ms else take n old.input ∷ ms))
     (starts_request old.input n next.first.0 some)
     (first_cut n (WholeMessage next.first.0 next.first.1 next.first.2)
-    (ap (λ (s : Stage). s.input) goes.1.0.new_is) (goes_cut goes.0 new elements goes.1.1)))
+    (subst (λ (s : Stage). CutsAll s.input new ms) goes.1.0.new_is (goes_cut goes.0 new elements goes.1.1))))
 
 -- bytes that wait are split further
 record LaterCut : Type 0 where

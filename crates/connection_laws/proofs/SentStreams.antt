@@ -117,7 +117,7 @@ counted_by {later} {rest} {total} texts_first (a ∷ b ∷ c ∷ texts) all with
 -- ---- all of it, as a prefix of the stream
 
 pub framed_append : (xs ys : List (List ℕ)) → framed_bytes (xs ++ ys) ≡ framed_bytes xs ++ framed_bytes ys
-framed_append = joins_parts framed_bytes (λ x. x) refl (λ x xs. refl)
+framed_append = joins_parts framed_bytes (record { one = λ x. x; none = refl; more = λ x xs. refl })
 
 woven_texts : (from : ℕ) (film : List ℕ) (texts : List PlacedText) → film ≡ []
     → insert_texts from film texts ≡ framed_bytes (map text_of texts)

@@ -35,16 +35,14 @@ use Rattle.connection_laws.proofs.Lists.{each_append, joins_parts}
 -- the moments of blocks, in two parts
 pub moments_parts : (xs ys : List (List ℕ)) → events_of_elements (xs ++ ys) ≡ events_of_elements xs ++
     events_of_elements ys
-moments_parts = joins_parts events_of_elements element_events refl (λ x xs. refl)
+moments_parts = joins_parts events_of_elements (record { one = element_events; none = refl; more = λ x xs. refl })
 
 -- ---- the frames of a unit
 
--- the sizes after a block of one event
-pub block_sizes : {event : ClientEvent} (b : List ℕ) (bs : List (List ℕ)) (s : Sum) (P : Sum → Type 0)
-    → element_events b ≡ event ∷ [] → P (steps (step event s) (events_of_elements bs))
-    → P (steps s (events_of_elements (b ∷ bs)))
-block_sizes b bs s P is met =
-    let Q : List ClientEvent → Type 0 = λ l. P (steps s (l ++ events_of_elements bs)) in subst Q (sym is) met
+-- what holds of the events after a block of one event
+pub block_sizes : {event : ClientEvent} (b : List ℕ) (bs : List (List ℕ)) (P : List ClientEvent → Type 0)
+    → element_events b ≡ event ∷ [] → P (event ∷ events_of_elements bs) → P (events_of_elements (b ∷ bs))
+block_sizes b bs P is met = subst (λ l. P (l ++ events_of_elements bs)) (sym is) met
 
 -- a unit of a run on channel 0, with the frames that the run sent before
 record UnitOfRun : Type 0 where
@@ -60,7 +58,7 @@ part_frames : (of_run : UnitOfRun) (k : ℕ) (packets : List Packet) (s : Sum) �
 part_frames of_run zero packets s marked few = refl
 part_frames of_run (suc k) (p ∷ (q ∷ packets)) s marked few =
     let b = frame_block run unit p f in
-    block_sizes b (take k (frame_blocks run unit (f + 1) (q ∷ packets))) s (λ t. t.sizes ≡ s.sizes)
+    block_sizes b (take k (frame_blocks run unit (f + 1) (q ∷ packets))) (λ l. (steps s l).sizes ≡ s.sizes)
     (frame_moment run f unit p media)
     (part_frames (record { run = run; frames = f + 1; unit = unit; media = media }) k (q ∷ packets)
     (step (Frame b) s) marked.1 (omega (arith, few))
@@ -84,7 +82,7 @@ whole_frames {s} of_run (p ∷ []) marked some =
     let last : is_last b ≡ true = last_is run f unit p ∙ marked in
     let size : s.pending + length b ≡ s.pending + length (b ++ []) =
     ap (λ (l : List ℕ). s.pending + length l) (sym (append-nil b)) in
-    block_sizes b [] s (λ t. IsUnitDone s (s.pending + length (b ++ [])) t) (frame_moment run f unit p media)
+    block_sizes b [] (λ l. IsUnitDone s (s.pending + length (b ++ [])) (steps s l)) (frame_moment run f unit p media)
     (record {
       sizes = cond-true (is_last b) (s.sizes ++ (s.pending + length b) ∷ []) s.sizes last
           ∙ ap (λ n. s.sizes ++ n ∷ []) size;
@@ -104,7 +102,7 @@ whole_frames {s} of_run (p ∷ (q ∷ packets)) marked some =
     let pending_is = cond-false (is_last b) 0 (s.pending + length b) last in
     let size : t.pending + length (framed_bytes blocks) ≡ s.pending + length (b ++ framed_bytes blocks) =
     omega (arith, pending_is, length-append b (framed_bytes blocks)) in
-    block_sizes b blocks s (λ u. IsUnitDone s (s.pending + length (b ++ framed_bytes blocks)) u)
+    block_sizes b blocks (λ l. IsUnitDone s (s.pending + length (b ++ framed_bytes blocks)) (steps s l))
     (frame_moment run f unit p media)
     (record {
       sizes = rest.sizes
@@ -141,7 +139,7 @@ part_unit false from k marked_unit s few =
 part_unit true from zero marked_unit s few = refl
 part_unit true from (suc k) marked_unit s few =
     let b = report_block run unit f o in
-    block_sizes b (take k (frame_blocks run unit f packets)) s (λ t. t.sizes ≡ s.sizes)
+    block_sizes b (take k (frame_blocks run unit f packets)) (λ l. (steps s l).sizes ≡ s.sizes)
     (report_moment run f o unit control)
     (part_frames (record { run = run; frames = f; unit = unit; media = media }) k packets (step (Report b) s)
     marked (omega (arith, few)))
@@ -183,7 +181,7 @@ whole_unit {s} true from marked_unit some between =
       between.none,
       length-append b (framed_bytes blocks),
     ) in
-    block_sizes b blocks s (λ u. IsUnitDone s (length (b ++ framed_bytes blocks)) u)
+    block_sizes b blocks (λ l. IsUnitDone s (length (b ++ framed_bytes blocks)) (steps s l))
     (report_moment run f o unit control)
     (record {
       sizes = done.sizes ∙ ap (λ n. s.sizes ++ n ∷ []) size;
