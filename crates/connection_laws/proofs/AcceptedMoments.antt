@@ -195,6 +195,9 @@ pub record FilmClauses : Type 0 where
   pub accepts : AcceptsFrames
   pub done : EndsInDone
 
+abbrev pub film_clauses : AcceptsFrames → EndsInDone → FilmClauses
+film_clauses accepts done = record { accepts = accepts; done = done }
+
 -- a film's stream, and what a client makes of its frames
 pub record FilmStream : Type 0 where
   pub stream : WholeStream

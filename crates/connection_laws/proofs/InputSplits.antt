@@ -16,7 +16,7 @@ use Rattle.connection_laws.specs.InputSplits.{Beginning, InputSplit, HeardReques
 use Rattle.connection_laws.specs.InputSplits.{answer_in, answers_in, heard_in, heard_requests_in}
 use Rattle.connection_laws.proofs.KeptParts.{stepped_names}
 use Rattle.connection_laws.proofs.UniqueResults.{steps_same}
-use Rattle.connection_laws.proofs.ElementPaths.{GoesAll, Path, Element, ends_same, goes_films, goes_grow, join_goes}
+use Rattle.connection_laws.proofs.ElementPaths.{elements_bytes, GoesAll, Path, Element, ends_same, goes_films, goes_grow, join_goes}
 use Rattle.connection_laws.proofs.ElementPaths.{longer, path_of, elements_answers, Exchange}
 use Rattle.connection_laws.proofs.ElementPaths.{no_exchange, joined, joined_assoc, exchange_of, join_exchange}
 use Rattle.connection_laws.proofs.ElementPaths.{takings_exchange}
@@ -314,65 +314,21 @@ record SameLegs (one other : Stage) (sent again : List ℕ) : Type 0 where
 opened_same : (a b : Stage) → b.session ≡ a.session → b.input ≡ a.input → b ≡ a
 opened_same a b session input = ap (λ s. stage s b.input) session ∙ ap (λ i. stage a.session i) input
 
--- two courses of legs that received the same, with the same answers, and that run out of memory alike
-record LegsAlike (xs ys : List Leg) : Type 0 where
-  heard : legs_heard xs ≡ legs_heard ys
-  answers : AreSameAnswers (legs_answers xs) (legs_answers ys)
-  memory : AllLackMemoryAlike (legs_hearings xs) (legs_hearings ys)
-
-legs_same : {one other : Stage} {xs ys : List Leg} (old : Stage) → AreFilms old.session.films → LegsAll old xs one →
-    LegsAll old ys other → LegsAlike xs ys → SameLegs one other (legs_bytes xs) (legs_bytes ys)
-legs_same {one} {other} {xs = []} {ys = []} old films legs too alike = record { last = too ∙ sym legs; bytes = refl }
-legs_same {one} {other} {xs = []} {ys = y ∷ ys} old films legs too alike =
-    absurd (true≢false (sym (ap is_some alike.heard)))
-legs_same {one} {other} {xs = x ∷ xs} {ys = []} old films legs too alike = absurd (true≢false (ap is_some alike.heard))
-legs_same {one} {other} {xs = x ∷ xs} {ys = y ∷ ys} old films legs too alike =
-    let leg : IsLeg old x = legs.0 in
-    let again : IsLeg old y = too.0 in
-    let slots : y.slot ≡ x.slot = sym (ap slot_of heard) in
-    let cut = heard_split x.bytes y.bytes xs ys (ap tail_of heard) in
-    let L : ℕ → Type 0 = λ t. HasStepped old.session t y.due y.halt y.opened.session in
-    let step = steps_same {old = old.session} {slot = x.slot} {one = x.halt} {other = y.halt}
-    (record {
-      ones = elements_answers x.elements ++ legs_answers xs;
-      others = elements_answers y.elements ++ legs_answers ys;
-      same = answers;
-    }) (record { due = x.due; new = x.opened.session; stepped = leg.stepped })
-    (record { due = y.due; new = y.opened.session; stepped = subst L slots again.stepped }) in
-    let opened : y.opened ≡ x.opened = opened_same x.opened y.opened step.1 (again.input ∙ sym leg.input) in
-    let place : longer y.opened y.bytes ≡ longer x.opened x.bytes = rw (opened, cut.0) in
-    let kept : AreFilms x.opened.session.films =
-    subst AreFilms (sym (ap (λ (n : List Stored × List ℕ). n.0)
-    (stepped_names old.session x.slot x.due x.halt x.opened.session leg.stepped))) films in
-    let ends = ends_same (legs_exchange xs) (legs_exchange ys) kept
-    (record { last = x.until; goes = leg.goes; done = leg.done })
-    (record {
-      last = y.until;
-      goes = subst (λ s. GoesAll s y.elements y.until) place again.goes;
-      done = again.done;
-    }) (record { answers = step.2; memory = memory }) in
-    let there : AreFilms x.until.session.films =
-    subst AreFilms (sym (goes_films (longer x.opened x.bytes) x.until x.elements leg.goes)) kept in
-    let rest = legs_same {xs = xs} x.until there legs.1 (subst (λ s. LegsAll s ys other) ends.last too.1)
-    (record { heard = cut.1; answers = ends.answers; memory = ends.memory }) in
-    record {
-      last = rest.last;
-      bytes = rw (step.0, ends.bytes, rest.bytes);
-    }
-  where
-    open alike use {heard, answers, memory}
-
--- ---- from a connection's beginning on
-
 -- what two connections received is the same, so are the answers, and memory ran out alike
 record ExchangesAlike (a b : Exchange) : Type 0 where
   heard : a.heard ≡ b.heard
   answers : AreSameAnswers a.answers b.answers
   memory : AllLackMemoryAlike a.hearings b.hearings
 
-splits_same : {base one other : Stage} {a b : Exchange} → AreFilms base.session.films → Split base one a
-    → Split base other b → ExchangesAlike a b → SameLegs one other a.bytes b.bytes
-splits_same {base} {other = other} {a} {b} films x y alike =
+-- from one stage on, these legs come to the same where what they exchange is alike
+abbrev ComeToSame : List Leg → List Leg → Stage → Stage → Type 0
+ComeToSame xs ys one other = (at : Stage) → AreFilms at.session.films → LegsAll at xs one → LegsAll at ys other
+    → ExchangesAlike (legs_exchange xs) (legs_exchange ys) → SameLegs one other (legs_bytes xs) (legs_bytes ys)
+
+splits_same : {base one other : Stage} {a b : Exchange} → AreFilms base.session.films → (x : Split base one a)
+    (y : Split base other b) → ExchangesAlike a b → ComeToSame x.legs y.legs one other
+    → SameLegs one other a.bytes b.bytes
+splits_same {base} {other = other} {a} {b} films x y alike legs =
     let cut = heard_split x.first y.first x.legs y.legs
     (sym (ap (λ (e : Exchange). e.heard) x.all_is) ∙ alike.heard ∙ ap (λ (e : Exchange). e.heard) y.all_is) in
     let both : ExchangesAlike (joined (elements_exchange x.first x.elements) (legs_exchange x.legs))
@@ -388,13 +344,55 @@ splits_same {base} {other = other} {a} {b} films x y alike =
     }) (record { answers = both.answers; memory = both.memory }) in
     let there : AreFilms x.until.session.films =
     subst AreFilms (sym (goes_films (longer base x.first) x.until x.elements x.goes)) films in
-    let rest = legs_same {xs = x.legs} x.until there x.legs_are
-    (subst (λ s. LegsAll s y.legs other) ends.last y.legs_are)
+    let rest = legs x.until there x.legs_are (subst (λ s. LegsAll s y.legs other) ends.last y.legs_are)
     (record { heard = cut.1; answers = ends.answers; memory = ends.memory }) in
+    record { last = rest.last; bytes = rw (y.all_is, ends.bytes, rest.bytes, x.all_is) }
+
+-- the split after a leg's slot
+abbrev split_after : {base new : Stage} (leg : Leg) (legs : List Leg) → GoesAll (longer base leg.bytes) leg.elements
+    leg.until → IsDrained leg.until → LegsAll leg.until legs new
+    → Split base new (joined (elements_exchange leg.bytes leg.elements) (legs_exchange legs))
+split_after leg legs goes done are = record {
+  first = leg.bytes;
+  elements = leg.elements;
+  until = leg.until;
+  legs = legs;
+  goes = goes;
+  done = done;
+  legs_are = are;
+  all_is = refl;
+}
+
+legs_same : {one other : Stage} (xs ys : List Leg) → ComeToSame xs ys one other
+legs_same [] [] old films legs too alike = record { last = too ∙ sym legs; bytes = refl }
+legs_same [] (y ∷ ys) old films legs too alike = absurd (true≢false (sym (ap is_some alike.heard)))
+legs_same (x ∷ xs) [] old films legs too alike = absurd (true≢false (ap is_some alike.heard))
+legs_same {one} {other} (x ∷ xs) (y ∷ ys) old films legs too alike =
+    let leg : IsLeg old x = legs.0 in
+    let again : IsLeg old y = too.0 in
+    let slots : y.slot ≡ x.slot = sym (ap slot_of alike.heard) in
+    let L : ℕ → Type 0 = λ t. HasStepped old.session t y.due y.halt y.opened.session in
+    let step = steps_same {old = old.session} {slot = x.slot} {one = x.halt} {other = y.halt}
+    (record {
+      ones = elements_answers x.elements ++ legs_answers xs;
+      others = elements_answers y.elements ++ legs_answers ys;
+      same = alike.answers;
+    }) (record { due = x.due; new = x.opened.session; stepped = leg.stepped })
+    (record { due = y.due; new = y.opened.session; stepped = subst L slots again.stepped }) in
+    let opened : y.opened ≡ x.opened = opened_same x.opened y.opened step.1 (again.input ∙ sym leg.input) in
+    let kept : AreFilms x.opened.session.films =
+    subst AreFilms (sym (ap (λ (n : List Stored × List ℕ). n.0)
+    (stepped_names old.session x.slot x.due x.halt x.opened.session leg.stepped))) films in
+    let rest = splits_same kept (split_after x xs leg.goes leg.done legs.1)
+    (split_after y ys (subst (λ s. GoesAll (longer s y.bytes) y.elements y.until) opened again.goes) again.done too.1)
+    (record { heard = ap tail_of alike.heard; answers = step.2; memory = alike.memory }) (legs_same xs ys) in
     record {
       last = rest.last;
-      bytes = rw (y.all_is, ends.bytes, rest.bytes, x.all_is);
+      bytes = ap (λ ps. parts_bytes ps ++ (elements_bytes y.elements ++ legs_bytes ys)) step.0
+          ∙ ap (λ bs. parts_bytes x.due ++ bs) rest.bytes;
     }
+
+-- ---- from a connection's beginning on
 
 abbrev first_of : Beginning → Stage
 first_of beginning = first_stage beginning.films beginning.settings beginning.words
@@ -408,8 +406,10 @@ whole_split beginning cutting =
 pub two_cuttings : (beginning : Beginning) (one other : InputSplit beginning) → AreFilms beginning.films
     → HaveSameInput beginning one other → HaveSameOutput beginning one other
 two_cuttings beginning one other films cuts =
-    let same = splits_same films (whole_split beginning one) (whole_split beginning other)
-    (record { heard = cuts.heard; answers = cuts.answers; memory = cuts.memory }) in
+    let x = whole_split beginning one in
+    let y = whole_split beginning other in
+    let same = splits_same films x y (record { heard = cuts.heard; answers = cuts.answers; memory = cuts.memory })
+    (legs_same x.legs y.legs) in
     record { bytes = sym same.bytes; last = sym same.last }
 
 -- ---- a connection's course is such a split, and so is each prefix of it

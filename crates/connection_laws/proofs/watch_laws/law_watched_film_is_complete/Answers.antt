@@ -7,7 +7,7 @@ use Rattle.connection_laws.specs.Plays.{FilmPlay}
 use Rattle.connection_laws.proofs.AdmittedStarts.{asked_start}
 use Rattle.connection_laws.proofs.RequestedPlays.{asked_played, asked_play, asked_served}
 use Rattle.connection_laws.proofs.WatchedFilms.{watched_whole, watched_done, watched_unrefused}
-use Rattle.connection_laws.proofs.AcceptedMoments.{FilmClauses}
+use Rattle.connection_laws.proofs.AcceptedMoments.{film_clauses}
 use Rattle.connection_laws.proofs.watch_laws.law_watched_film_is_complete.Goals as goal
 
 pub returns-clause-played : goal.returns-clause-played
@@ -37,43 +37,28 @@ returns-clause-asked c = λ wish stored course watched heard out asked client ca
 
 pub returns-clause-unrefused : goal.returns-clause-unrefused
 returns-clause-unrefused c = λ wish stored course end heard out played small replies client front.
-    watched_unrefused (record {
-      played = played;
-      small = small;
-      replies = replies;
-      clauses = record {
-        accepts = c.law_whole_film_ends_in_done.ensures.frame;
-        done = c.law_whole_film_ends_in_done.ensures.done;
-      };
-    }) (record { end = end; heard = heard; out = out; client = client }) front
+    let its = c.law_whole_film_ends_in_done.ensures in
+    watched_unrefused
+    (record { played = played; small = small; replies = replies; clauses = film_clauses its.frame its.done })
+    (record { end = end; heard = heard; out = out; client = client }) front
 
 pub returns-clause-done : goal.returns-clause-done
 returns-clause-done c = λ wish stored course end heard out wished played small replies client carried delivered decided.
-    watched_done (record {
-      played = played;
-      small = small;
-      replies = replies;
-      clauses = record {
-        accepts = c.law_whole_film_ends_in_done.ensures.frame;
-        done = c.law_whole_film_ends_in_done.ensures.done;
-      };
-    }) (record { end = end; heard = heard; out = out; client = client }) wished delivered decided carried
+    let its = c.law_whole_film_ends_in_done.ensures in
+    watched_done
+    (record { played = played; small = small; replies = replies; clauses = film_clauses its.frame its.done })
+    (record { end = end; heard = heard; out = out; client = client }) wished delivered decided carried
 
 pub returns-clause-asked_unrefused : goal.returns-clause-asked_unrefused
 returns-clause-asked_unrefused c = λ wish stored course end heard out asked range client front.
-    watched_unrefused
-    (asked_served asked range (record {
-      accepts = c.law_whole_film_ends_in_done.ensures.frame;
-      done = c.law_whole_film_ends_in_done.ensures.done;
-    }))
+    let its = c.law_whole_film_ends_in_done.ensures in
+    watched_unrefused (asked_served asked range (film_clauses its.frame its.done))
     (record { end = end; heard = heard; out = out; client = client }) front
 
 pub returns-clause-asked_done : goal.returns-clause-asked_done
 returns-clause-asked_done c = λ wish stored course end heard out asked range client carried delivered decided.
-    let clauses : FilmClauses = record {
-      accepts = c.law_whole_film_ends_in_done.ensures.frame;
-      done = c.law_whole_film_ends_in_done.ensures.done;
-    } in
+    let its = c.law_whole_film_ends_in_done.ensures in
+    let clauses = film_clauses its.frame its.done in
     let served = asked_served asked range clauses in
     let C : FilmPlay → Type 0 = λ play.
     IsCarried (rounds_doings course.rounds) heard play.start (first_slot client.mid.history) in
