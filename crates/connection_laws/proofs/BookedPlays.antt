@@ -78,15 +78,15 @@ outcomes_append (Asks asked outcome ∷ xs) ys = ap (λ os. outcome ∷ os) (out
 -- by what was asked
 turn_told : (old new : SessionState) (asked : Awaited) (outcome : Outcome) → TurnsAs old asked outcome new
     → IsToldBy asked outcome
-turn_told old new asked outcome (Stays same after still) = λ askings made keeps.
+turn_told old new asked outcome (Stays same still) = λ askings made keeps.
     ap (map booking_of) (still.none askings) ∙ sym (still.untold made)
-turn_told old new asked outcome (Starts after begins) = λ askings made keeps.
+turn_told old new asked outcome (Starts begins) = λ askings made keeps.
     let p = begins.prepared in
     let told : told_by outcome made ≡ truncated_play begins.start p.plan (kept_among made (total_bytes p.plan)) ∷ [] =
     rw (begins.outcome_is, begins.command, begins.answer) in
     ap (map booking_of) (begun_is begins askings)
     ∙ ap (λ k. truncated_play begins.start p.plan k ∷ []) (keeps (total_bytes p.plan)) ∙ sym told
-turn_told old new asked outcome (Ends after halts) = λ askings made keeps.
+turn_told old new asked outcome (Ends halts) = λ askings made keeps.
     ap (map booking_of) (halts.none askings)
     ∙ sym (ap (λ o. told_by o made) halts.outcome_is
     ∙ ap (λ c. booked_by (play_admitted c halts.placed.entry.answer) made) halts.command)
@@ -138,7 +138,7 @@ told_kept = record {
   joins = λ a b c one two first rest. each_append IsTold one.askings two.askings first rest;
   request = λ old new request stands. (
     turn_told old.session request.replied.answered request.replied.heard.asking.awaited request.outcome
-        (request_turns request stands),
+        (request_turns request),
     tt,
   );
   event = λ old opened round comes stands. (comes_told comes, tt);
@@ -320,9 +320,9 @@ begins_late old new asked outcome begins = λ askings play rest is.
 
 turn_late : (old new : SessionState) (asked : Awaited) (outcome : Outcome) → TurnsAs old asked outcome new
     → IsLate old.heard asked outcome
-turn_late old new asked outcome (Stays same after still) = none_late old.heard asked outcome still.none
-turn_late old new asked outcome (Starts after begins) = begins_late old new asked outcome begins
-turn_late old new asked outcome (Ends after halts) = none_late old.heard asked outcome halts.none
+turn_late old new asked outcome (Stays same still) = none_late old.heard asked outcome still.none
+turn_late old new asked outcome (Starts begins) = begins_late old new asked outcome begins
+turn_late old new asked outcome (Ends halts) = none_late old.heard asked outcome halts.none
 
 -- the slot that was received last stays or rises, and plays begin after it
 record LateAskings (old : SessionState) (made : List StationRequest) (new : SessionState) : Type 0 where
@@ -345,7 +345,7 @@ late_kept = record {
     later = let same = ap (λ (part : LastingPart). part.heard) (taken_keeps request.replied) in omega (arith, same);
     late = (
       turn_late old.session request.replied.answered request.replied.heard.asking.awaited request.outcome
-          (request_turns request stands),
+          (request_turns request),
       tt,
     );
   };

@@ -133,13 +133,7 @@ joined a b = record {
 
 joined_assoc : (a b c : Piece) → joined (joined a b) c ≡ joined a (joined b c)
 joined_assoc a b c =
-    rw (
-      append_assoc a.requests b.requests c.requests,
-      append_assoc a.askings b.askings c.askings,
-      append_assoc a.slots b.slots c.slots,
-      append_assoc a.parts b.parts c.parts,
-      append_assoc a.replies b.replies c.replies,
-    )
+    rw (append_assoc, append_assoc, append_assoc, append_assoc, append_assoc)
 
 joined_none : (a : Piece) → joined a no_piece ≡ a
 joined_none a =

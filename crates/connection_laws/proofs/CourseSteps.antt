@@ -26,8 +26,8 @@ use Rattle.connection_laws.specs.Courses.{IsCourseBetween, askings_of, first_sta
 use Rattle.connection_laws.specs.Courses.{course_film}
 use Rattle.connection_laws.specs.Plays.{StationRequest, Asks, plays_begun, kept_in, kept_with}
 use Rattle.connection_laws.specs.Plays.{plays_of, AreOver, FilmPlay}
-use Rattle.connection_laws.proofs.RequestEffects.{Ends, Going, Idle, IsAfter, Starts, Stays, TurnsAs, sends_in}
-use Rattle.connection_laws.proofs.RequestEffects.{turns_as, Sends, Ending, no_entry}
+use Rattle.connection_laws.proofs.RequestEffects.{Going, Idle, TurnsAs, sends_in}
+use Rattle.connection_laws.proofs.RequestEffects.{answered_after, turns_as, Sends, Ending, no_entry}
 use Rattle.connection_laws.proofs.StationAnswers.{SlotTo, SlotSent, SlotIdle, SlotPast, slot_to}
 use Rattle.connection_laws.proofs.CourseInduction.{IsKeptByCourse, Piece, course_kept, course_piece, event_piece}
 use Rattle.connection_laws.proofs.CourseInduction.{joined, no_piece, request_piece, course_heard, AnsweredRequest}
@@ -81,16 +81,9 @@ stands_by step = record { rest = step.rest; paced = step.move.after }
 
 -- ---- a request
 
-pub turn_after : (old new : SessionState) (asked : Awaited) (outcome : Outcome) → TurnsAs old asked outcome new
-    → IsAfter old new
-turn_after old new asked outcome (Stays same after still) = after
-turn_after old new asked outcome (Starts after begins) = after
-turn_after old new asked outcome (Ends after halts) = after
-
-pub request_turns : {old new : Stage} (request : AnsweredRequest old new) → Stands old.session
+pub request_turns : {old new : Stage} (request : AnsweredRequest old new)
     → TurnsAs old.session request.replied.heard.asking.awaited request.outcome request.replied.answered
-request_turns {old} request stands =
-    turns_as old.session request.message request.outcome request.replied.answered request.replied.heard stands.rest
+request_turns request = turns_as request.replied.heard
 
 unheld : (pending : Option ℕ) (sends : Sends) (waits : Bool) (heard : ℕ) → IsHeld pending sends waits heard
     → waits ≡ false → pending ≡ None
@@ -138,8 +131,8 @@ request_step : {old new : Stage} (request : AnsweredRequest old new) (stands : S
 request_step {old} {new} request stands =
     let asked : Awaited = replied.heard.asking.awaited in
     let s : SessionState = replied.answered in
-    let turns = request_turns request stands in
-    let after = turn_after old.session s asked outcome turns in
+    let turns = request_turns request in
+    let after = answered_after replied.heard stands.rest in
     let waited = sound_waits (sends_in old.session.state) old.session.waits true old.session.heard stands.paced.sound
     refl in
     let sound : IsSound (sends_in s.state) true s.heard = rw after.heard (turn_sound waited turns) in

@@ -19,8 +19,8 @@ use Rattle.connection_laws.specs.Courses.{first_stage}
 use Rattle.connection_laws.specs.Notes.{StationCall, asking_at, ending_calls, outcome_of, round_calls, rounds_calls}
 use Rattle.connection_laws.specs.Notes.{taken_calls, station_call, station_calls, ending_missed, missed_by, missed_in}
 use Rattle.connection_laws.specs.Notes.{rounds_missed}
-use Rattle.connection_laws.proofs.CourseSteps.{Stands, turn_after, course_stands, round_stands, first_stands}
-use Rattle.connection_laws.proofs.RequestEffects.{turns_as}
+use Rattle.connection_laws.proofs.CourseSteps.{Stands, course_stands, round_stands, first_stands}
+use Rattle.connection_laws.proofs.RequestEffects.{answered_after}
 use Rattle.connection_laws.proofs.CourseInduction.{follows_all}
 use Rattle.session.proofs.StepInvariantLemmas.{nothing_of}
 use Rattle.conn.proofs.ReplyContents.{CourseEnd}
@@ -127,11 +127,8 @@ ending_rest {old} (AtElement round) ended stands = (round_stands old ended.new r
 ending_rest (InSlot slot front) ended stands = nothing_of ended.new.session.awaited ended.ends.1.rest
 ending_rest {old} (InReply round message outcome front) ended stands =
     let e = ended.ends.1 in
-    let failed = e.fails in
-    let turns = turns_as e.mid.session message outcome failed.answered failed.heard
-    (round_stands old e.mid round e.runs stands).rest in
-    ap (λ (s : Stage). s.session.awaited) failed.new_is
-    ∙ (turn_after e.mid.session failed.answered failed.heard.asking.awaited outcome turns).awaited
+    ap (λ (s : Stage). s.session.awaited) e.fails.new_is
+    ∙ (answered_after e.fails.heard (round_stands old e.mid round e.runs stands).rest).awaited
 ending_rest _ ended stands = ap (λ (s : Stage). s.session.awaited) ended.ends.1 ∙ stands.rest
 
 -- ---- the answers of turns are those of the doings

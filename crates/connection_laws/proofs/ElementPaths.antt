@@ -112,12 +112,7 @@ joined a b = record {
 
 pub joined_assoc : (a b c : Exchange) → joined (joined a b) c ≡ joined a (joined b c)
 joined_assoc a b c =
-    rw (
-      append_assoc a.heard b.heard c.heard,
-      append_assoc a.bytes b.bytes c.bytes,
-      append_assoc a.answers b.answers c.answers,
-      append_assoc a.hearings b.hearings c.hearings,
-    )
+    rw (append_assoc, append_assoc, append_assoc, append_assoc)
 
 -- what is sent as elements are processed, what the station answers, and the requests that are received
 abbrev turn_exchange : StationCall → Exchange

@@ -193,9 +193,9 @@ not_begun {out = out} turn begun =
 
 turn_begins : {b : Beginning} {out : Outlook} (turn : PlayTurn b out) → Turns turn
     → Begins turn.old turn.heard.asking.awaited turn.outcome turn.new
-turn_begins turn (Stays same after still) = absurd (not_begun turn (still.none turn.later))
-turn_begins turn (Ends after halts) = absurd (not_begun turn (halts.none turn.later))
-turn_begins turn (Starts after begins) = begins
+turn_begins turn (Stays same still) = absurd (not_begun turn (still.none turn.later))
+turn_begins turn (Ends halts) = absurd (not_begun turn (halts.none turn.later))
+turn_begins turn (Starts begins) = begins
 
 -- a request that is processed, and what comes after it
 record Taken (b : Beginning) (out : Outlook) : Type 0 where
@@ -238,7 +238,7 @@ play_walk {b} {out} taken is =
       heard = heard;
       taken = play.0;
     } in
-    let begins = turn_begins turn (turns_as old.session message outcome replied.answered heard rest) in
+    let begins = turn_begins turn (turns_as heard) in
     let hears = play_heard old.session message heard.ask heard.asking begins.prepared rest begins.asked_is heard.hears in
     let admitted = admitted_from begins.answer (answers_as heard.ask (Entered begins.placed)
     (subst (λ o. IsAskAnswered heard.asking heard.ask o replied.answered) begins.outcome_is heard.answered)) in

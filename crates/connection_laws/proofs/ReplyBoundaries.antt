@@ -66,14 +66,14 @@ taken_fits fits = record { from = (omega arith, fits.from); later = fits.later; 
 pub turn_goes : {old new : SessionState} {asked : Awaited} {outcome : Outcome} → TurnsAs old asked outcome new
     → GoesTo (point (sends_in old.state) old.heard None) (point (sends_in new.state) old.heard (Some old.heard))
     (turn_piece asked outcome old.heard)
-turn_goes {old} (Stays same after still) = record {
+turn_goes {old} (Stays same still) = record {
   later = omega arith;
   rest = λ askings come on fits.
       (still_goes still (point (sends_in old.state) old.heard None)).rest askings
       (record come { slots = old.heard ∷ come.slots }) on
       (taken_fits (subst (λ s. Fits (point s old.heard (Some old.heard)) askings come) same fits));
 }
-turn_goes {old} (Starts after begins) = record {
+turn_goes {old} (Starts begins) = record {
   later = omega arith;
   rest = λ askings come on fits.
       let p : PacerState = pacing_for begins.prepared begins.start in
@@ -92,7 +92,7 @@ turn_goes {old} (Starts after begins) = record {
             begins.paced (record { texts = there.stand.texts; film = there.stand.film }));
       });
 }
-turn_goes {old} {outcome = outcome} (Ends after halts) = record {
+turn_goes {old} {outcome = outcome} (Ends halts) = record {
   later = omega arith;
   rest = λ askings come on fits.
       let p : PacerState = halts.pacing in

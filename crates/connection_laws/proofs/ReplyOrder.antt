@@ -14,7 +14,8 @@ use Rattle.connection_laws.specs.Replies.{PlacedText, placed_texts, insert_texts
 use Rattle.connection_laws.specs.Replies.{course_replies}
 use Rattle.session.specs.SlotSteps.{can_reply, is_between, sent_due, sent_reply, step_bytes, stepped_in}
 use Rattle.session.specs.SessionStates.{SessionState}
-use Rattle.connection_laws.proofs.CourseSteps.{Stands, turn_after, IsKeptStanding, film_written_is, request_turns}
+use Rattle.connection_laws.proofs.RequestEffects.{answered_after}
+use Rattle.connection_laws.proofs.CourseSteps.{Stands, IsKeptStanding, film_written_is}
 use Rattle.connection_laws.proofs.CourseSteps.{all_kept, slot_asks, film_sent, Finished, Quiet, Ended, finish_by}
 use Rattle.connection_laws.proofs.StationAnswers.{SlotTo, SlotSent, slot_to}
 use Rattle.connection_laws.proofs.CourseInduction.{Piece, AnsweredRequest, begin_of}
@@ -116,8 +117,7 @@ reply_cases false s waits = ap (λ w. if w then s.text ∷ [] else []) waits
 answered_replies : {old new : Stage} (request : AnsweredRequest old new) → Stands old.session
     → Replies old.session (texts_in request.parts) (request.replied.answered.text ∷ []) new.session
 answered_replies {old} request stands =
-    let after = turn_after old.session replied.answered replied.heard.asking.awaited outcome
-    (request_turns request stands) in
+    let after = answered_after replied.heard stands.rest in
     ap (λ (s : Stage). texts_in parts ++ waiting_reply s.session) replied.new_is
     ∙ ap (λ ps. texts_in ps
     ++ waiting_reply (if can_reply replied.answered then sent_reply replied.answered else replied.answered))

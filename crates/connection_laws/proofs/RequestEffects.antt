@@ -242,10 +242,9 @@ pub record Halts (old : SessionState) (asked : Awaited) (outcome : Outcome) (new
   pub sends : sends_in new.state ≡ Ending (record pacing { keep = next_boundary pacing })
 
 pub data TurnsAs (old : SessionState) (asked : Awaited) (outcome : Outcome) (new : SessionState) : Type 0 where
-  Stays : sends_in new.state ≡ sends_in old.state → IsAfter old new → IsStill asked outcome
-      → TurnsAs old asked outcome new
-  Starts : IsAfter old new → Begins old asked outcome new → TurnsAs old asked outcome new
-  Ends : IsAfter old new → Halts old asked outcome new → TurnsAs old asked outcome new
+  Stays : sends_in new.state ≡ sends_in old.state → IsStill asked outcome → TurnsAs old asked outcome new
+  Starts : Begins old asked outcome new → TurnsAs old asked outcome new
+  Ends : Halts old asked outcome new → TurnsAs old asked outcome new
 
 -- an answer that is no entry
 pub no_entry : {asked : Awaited} (outcome : Outcome) → entry_in outcome ≡ [] → IsStill asked outcome
@@ -295,10 +294,6 @@ ends_turn : {placed : PlacedEntry} (halt : HaltRequest) → IsHaltEntry halt.kee
     → TurnsAs (before_halt halt) (Halt halt.keep halt.next) (Entered placed) (after_halt (at_halt halt) placed.place)
 ends_turn {placed} halt entry =
     Ends (record {
-      heard = refl;
-      awaited = refl;
-      waits = ap (λ b. if b then true else base.waits) told;
-    }) (record {
       pacing = play.pacer;
       placed = placed;
       number = entry.number;
@@ -311,15 +306,13 @@ ends_turn {placed} halt entry =
           ∙ ap (λ k. Ending (record play.pacer { keep = k })) keep_is;
     })
   where
-    open halt use {base, setup, play, keep, next, told, keep_is}
+    open halt use {setup, play, keep, next, told, keep_is}
 
 -- by what was asked and answered
 turn_of : {old asking new : SessionState} {outcome : Outcome} → RequestAnswer old asking outcome new
-    → old.awaited ≡ Nothing → TurnsAs old asking.awaited outcome new
-turn_of OwnReply rest = Stays refl (record { heard = refl; awaited = rest; waits = refl }) (no_entry Unasked refl)
-turn_of (SetupReply old) rest = Stays refl (record { heard = refl; awaited = rest; waits = refl }) (no_entry Unasked refl)
-turn_of (Admission {placed = placed} {start = start} play entry answered) rest =
-    Starts (record { heard = refl; awaited = refl; waits = refl }) (record {
+    → TurnsAs old asking.awaited outcome new
+turn_of (Admission {placed = placed} {start = start} play entry answered) =
+    Starts (record {
       prepared = play.prepared;
       placed = placed;
       start = start;
@@ -334,14 +327,27 @@ turn_of (Admission {placed = placed} {start = start} play entry answered) rest =
       sends = refl;
       pacing = answered.2.pacing;
     })
-turn_of (Refusal play entry) rest =
-    Stays refl (record { heard = refl; awaited = refl; waits = refl }) (refused_still entry refl)
-turn_of (HaltMade halt entry) rest = ends_turn halt entry
-turn_of (LookAnswer command looked) rest =
-    Stays refl (record { heard = refl; awaited = refl; waits = refl }) (looked_still _ command)
-turn_of _ rest = Stays refl (record { heard = refl; awaited = refl; waits = refl }) (no_entry _ refl)
+turn_of (Refusal play entry) = Stays refl (refused_still entry refl)
+turn_of (HaltMade halt entry) = ends_turn halt entry
+turn_of (LookAnswer command looked) = Stays refl (looked_still _ command)
+turn_of _ = Stays refl (no_entry _ refl)
 
 -- a request was received and answered
-pub turns_as : (old : SessionState) (message : List ℕ) (outcome : Outcome) (new : SessionState)
-    (heard : HasHeard old message outcome new) → old.awaited ≡ Nothing → TurnsAs old heard.asking.awaited outcome new
-turns_as old message outcome new heard rest = turn_of (request_answer heard) rest
+pub turns_as : {old new : SessionState} {message : List ℕ} {outcome : Outcome}
+    (heard : HasHeard old message outcome new) → TurnsAs old heard.asking.awaited outcome new
+turns_as heard = turn_of (request_answer heard)
+
+pub answered_after : {old new : SessionState} {message : List ℕ} {outcome : Outcome}
+    (heard : HasHeard old message outcome new) → old.awaited ≡ Nothing → IsAfter old new
+answered_after heard rest = by-answer (request_answer heard) rest
+  where
+    by-answer : {old asking new : SessionState} {outcome : Outcome} → RequestAnswer old asking outcome new
+        → old.awaited ≡ Nothing → IsAfter old new
+    by-answer OwnReply rest = record { heard = refl; awaited = rest; waits = refl }
+    by-answer (SetupReply old) rest = record { heard = refl; awaited = rest; waits = refl }
+    by-answer (HaltMade halt entry) rest = record {
+      heard = refl;
+      awaited = refl;
+      waits = ap (λ b. if b then true else halt.base.waits) halt.told;
+    }
+    by-answer _ rest = record { heard = refl; awaited = refl; waits = refl }

@@ -49,14 +49,14 @@ pub no_play_begins : {old new : Stage} (request : AnsweredRequest old new) → S
     → IsNoPlay request.message → (askings : List StationRequest)
     → plays_begun request.replied.heard.asking.awaited request.outcome askings ≡ []
 no_play_begins {old} request stands none askings =
-    elim (request_turns request stands) [
-      | Stays same after still ↦ still.none askings
-      | Starts after begins ↦
+    elim (request_turns request) [
+      | Stays same still ↦ still.none askings
+      | Starts begins ↦
           let heard = request.replied.heard in
           let its = play_heard old.session request.message heard.ask heard.asking begins.prepared stands.rest
           begins.asked_is heard.hears in
           absurd (none its.request its.is_request its.method)
-      | Ends after halts ↦ halts.none askings
+      | Ends halts ↦ halts.none askings
     ]
 
 -- where no request that comes asks for a play, no play begins

@@ -71,11 +71,11 @@ halted_pacing p slot is =
 pub turn_sound : {old new : SessionState} {asked : Awaited} {outcome : Outcome}
     → IsSound (sends_in old.state) true old.heard → TurnsAs old asked outcome new
     → IsSound (sends_in new.state) true old.heard
-turn_sound sound (Stays same after still) = rw same sound
-turn_sound {old} sound (Starts after begins) =
+turn_sound sound (Stays same still) = rw same sound
+turn_sound {old} sound (Starts begins) =
     let later = begins.later in
     rw begins.sends (record { pacing = begins.pacing; passed = omega (arith, later); even = refl }, refl)
-turn_sound {old} sound (Ends after halts) =
+turn_sound {old} sound (Ends halts) =
     rw halts.sends (halted_pacing halts.pacing old.heard (subst (λ s. IsSound s true old.heard) halts.going sound))
 
 -- ---- a slot

@@ -66,11 +66,7 @@ goes_then {a} {b} {c} {one} {two} first next = record {
   rest = λ askings come on fits.
       let there = first.rest (two.askings ++ askings) (piece_then two come) (omega (arith, next.later, on))
       (next.rest askings come on fits) in
-      rw (
-        append_assoc one.askings two.askings askings,
-        append_assoc one.slots two.slots come.slots,
-        append_assoc one.parts two.parts come.parts,
-      ) there;
+      rw (append_assoc, append_assoc, append_assoc) there;
 }
 
 pub goes_same : (at : Point) → GoesTo at at no_piece
