@@ -46,13 +46,12 @@ use Rattle.connection_laws.proofs.Lists.{each_front, each_rest}
 pub all_cut : (ps : List (List ℕ)) → AreAlone ps → AreInputElements (framed_bytes ps) ps []
 all_cut [] alone = refl
 all_cut (p ∷ ps) alone =
-    let t = framed_bytes ps in
-    let P : List ℕ → Type 0 = λ w. AreInputElements w ps [] in (
+    let t = framed_bytes ps in (
       length p,
       (
         element_stays p t (length p) alone.0.whole,
         sym (take_at p t (length p) refl),
-        subst P (sym (drop_at p t (length p) refl)) (all_cut ps alone.1),
+        rw (drop_at p t (length p) refl) (all_cut ps alone.1),
       ),
     )
 
@@ -125,8 +124,7 @@ next_in {all} {elements} {rest} {moment} place (n, (whole, moment_is)) =
     in_more : (more : List (List ℕ)) → all ≡ elements ++ more → AreInputElements (rest ++ place.tail) more []
         → IsNextIn all elements moment
     in_more [] all_is cut =
-        let W : List ℕ → Type 0 = λ w. IsElementLength w n in
-        absurd (no_element n (subst W cut (element_stays rest place.tail n whole)))
+        absurd (no_element n (rw (← cut) (element_stays rest place.tail n whole)))
     in_more (element ∷ more) all_is cut =
         let same : cut.0 ≡ n =
         element_once (rest ++ place.tail) cut.0 n cut.1.0 (element_stays rest place.tail n whole) in

@@ -250,8 +250,7 @@ course_starts visit terms journal course is =
     let mine = course_entries P doings.rounds doings.ending (each_front (InEntry P) rounds ending part)
     (each_rest (InEntry P) rounds ending part) in
     let first = begin_of course in
-    let R : List Round → Type 0 = λ rs. InEntries P (rounds_outcomes rs) in
-    let these : InEntries P (rounds_outcomes course.rounds) = subst R (sym is.course_is.rounds_are) mine in
+    let these : InEntries P (rounds_outcomes course.rounds) = rw is.course_is.rounds_are mine in
     plays_start journal (askings_of first course.rounds course.last course.follows)
     (subst (InEntries P) (sym (course_outcomes first course.last course.rounds course.follows)) these)
 

@@ -250,9 +250,7 @@ pub one_so_far : (a b : List StationRequest) (play : FilmPlay) → plays_of (a +
 one_so_far [] b play one whole = inr (refl, one)
 one_so_far (Asks asked outcome ∷ a) b play one whole = elim (either asked outcome) [
   | BeginsNone is ↦
-      let P : List FilmPlay → Type 0 = λ l. (l ++ plays_of a ≡ play ∷ [])
-      ⊎ ((l ++ plays_of a ≡ []) × (plays_of b ≡ play ∷ [])) in
-      subst P (sym (is a))
+      rw (is a)
       (one_so_far a b play (sym (ap (λ l. l ++ plays_of (a ++ b)) (is (a ++ b))) ∙ one) whole)
   | BeginsOne prepared start is ↦
       let there : play_by prepared start (a ++ b) ∷ plays_of (a ++ b) ≡ play ∷ [] =
@@ -315,8 +313,7 @@ begins_late : (old new : SessionState) (asked : Awaited) (outcome : Outcome) →
 begins_late old new asked outcome begins = λ askings play rest is.
     let all : play_by begins.prepared begins.start askings ∷ [] ≡ play ∷ rest = sym (begun_is begins askings) ∙ is in
     let same : play_by begins.prepared begins.start askings ≡ play = cc in
-    let L : FilmPlay → Type 0 = λ p. IsLatePlay old.heard p in
-    subst L same (record { late = begins.later; plan = subst IsPlan begins.paced begins.pacing.plan })
+    rw (← same) (record { late = begins.later; plan = subst IsPlan begins.paced begins.pacing.plan })
 
 turn_late : (old new : SessionState) (asked : Awaited) (outcome : Outcome) → TurnsAs old asked outcome new
     → IsLate old.heard asked outcome

@@ -109,8 +109,7 @@ pub heard_all : (bytes : List ℕ) (old new : WatchStage) (rounds : List Round) 
 heard_all bytes old new [] heard all =
     let P : List ℕ → Type 0 = λ b. Heard b new in subst P (sym (append-nil bytes)) (subst (Heard bytes) (sym all) heard)
 heard_all bytes old new (round ∷ rounds) heard all =
-    let P : List ℕ → Type 0 = λ b. Heard b new in
-    subst P (append_assoc bytes (bytes_in round.event) (rounds_heard rounds))
+    rw (← (append_assoc bytes (bytes_in round.event) (rounds_heard rounds)))
     (heard_all (bytes ++ bytes_in round.event) all.0 new rounds
     (heard_round bytes old all.0 round heard all.1.0) all.1.2)
 

@@ -42,8 +42,7 @@ use Rattle.film_streams.specs.declared.stream_numbers.StreamSource.{StreamSource
 
 literal_byte : (k : ℕ) → k < 10 → get_or (codes "127.0.0.1:") k 0 ≢ 47
 literal_byte k inside = λ slash.
-    let P : ℕ → Type 0 = λ n. not (n == 47) ≡ false in
-    let other : not (get_or (codes "127.0.0.1:") k 0 == 47) ≡ false = subst P (sym slash) refl in
+    let other : not (get_or (codes "127.0.0.1:") k 0 == 47) ≡ false = rw slash refl in
     let wrong : true ≡ false = list_all_at (λ byte. not (byte == 47)) (codes "127.0.0.1:") k 0 inside other in
     let no : ⊥ = cc in no
 

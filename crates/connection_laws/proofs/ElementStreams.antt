@@ -36,16 +36,14 @@ stream_cons p t ps r alone stream =
     let front : p ≡ take (length p) (p ++ t) =
     sym (take-append-le (length p) p t (omega arith) ∙ take_all (length p) p (omega arith)) in
     let after : t ≡ drop (length p) (p ++ t) = sym (ap (λ n. drop n (p ++ t)) zero_ ∙ drop-append-add p t 0) in
-    let P : List ℕ → Type 0 = λ xs. AreInputElements xs ps r in
-    ((length p, (element_stays p t (length p) alone.whole, front, subst P after stream.0)), stream.1)
+    ((length p, (element_stays p t (length p) alone.whole, front, rw (← after) stream.0)), stream.1)
 
 stream_short : (p t : List ℕ) (c : ℕ) → IsAlone p → c < length p → IsStream (take c (p ++ t)) [] (take c p)
 stream_short p t c alone less =
     let same : take c (p ++ t) ≡ take c p = take-append-le c p t (omega (arith, less)) in
     let none : (n : ℕ) → IsElementLength (take c p) n → ⊥ = λ n is.
     let stays : IsElementLength (take c p ++ drop c p) n = element_stays (take c p) (drop c p) n is in
-    let P : List ℕ → Type 0 = λ xs. IsElementLength xs n in
-    let there : IsElementLength p n = subst P (take-append-drop c p) stays in
+    let there : IsElementLength p n = rw (← (take-append-drop c p)) stays in
     omega (
       arith,
       element_once p n (length p) there alone.whole,
@@ -75,10 +73,7 @@ cut_at (p ∷ ps) c alone =
           let rest : rest_at c (p ∷ ps) ≡ rest_at d ps = rw (le-leb (length p) c more) in
           let bytes : take c (p ++ framed_bytes ps) ≡ p ++ take d (framed_bytes ps) =
           ap (λ n. take n (p ++ framed_bytes ps)) sum ∙ take-append-add p (framed_bytes ps) d in
-          let P : ℕ → Type 0 = λ k. IsStream (take c (p ++ framed_bytes ps)) (take k (p ∷ ps)) (rest_at c (p ∷ ps)) in
-          let Q : List ℕ → Type 0 = λ r. IsStream (take c (p ++ framed_bytes ps)) (p ∷ take (count_ended d ps) ps) r in
-          let R : List ℕ → Type 0 = λ xs. IsStream xs (p ∷ take (count_ended d ps) ps) (rest_at d ps) in
-          subst P (sym count) (subst Q (sym rest) (subst R (sym bytes)
+          rw count (rw rest (rw bytes
           (stream_cons p (take d (framed_bytes ps)) (take (count_ended d ps) ps) (rest_at d ps) alone.0
           (cut_at ps d alone.1))))
     ]
@@ -101,8 +96,7 @@ pub cut_front : {bytes rest : List ℕ} {n : ℕ} {ps : List (List ℕ)} (front 
     ((more : List (List ℕ)) × (take (count_ended front.count ps) ps ≡ (cut ++ take n rest ∷ []) ++ more))
 cut_front {bytes} {rest} {n} {ps} front cut are next =
     let all = take (count_ended c ps) ps in
-    let P : List ℕ → Type 0 = λ xs. IsStream xs all (rest_at c ps) in
-    let stream : IsStream bytes all (rest_at c ps) = subst P (sym is) (cut_at ps c alone) in
+    let stream : IsStream bytes all (rest_at c ps) = rw is (cut_at ps c alone) in
     let longer : AreInputElements bytes (cut ++ take n rest ∷ []) (drop n rest) = cut_more bytes cut rest n are next in
     let cuts : TwoCuts bytes (cut ++ take n rest ∷ []) all (drop n rest) (rest_at c ps) =
     record { one = longer; other = stream.0 } in

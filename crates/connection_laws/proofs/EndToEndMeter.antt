@@ -234,11 +234,9 @@ module _ {wish : Wish} {stored : Stored} {course : Course} (played : HasPlayedWh
       let playback = playback_of wish stored in
       let curves = planned_between sent.plan whole.sending refl in
       let came : 0 + n ≡ length (rounds_film rounds) = omega (arith, size) in
-      let P : List ℕ → Type 0 = λ sizes. IsBetween wish sizes (picture_time stored.film.rate) j (0 + n) in
-      let Q : ℕ → Type 0 = λ m. IsBetween wish (film_sizes stored.film) (picture_time stored.film.rate) j m in
       record {
         few = omega (arith, size, most, bytes);
-        between = subst Q came (subst P (rest_all stored)
+        between = rw (← came) (rw (← (rest_all stored))
             (curves_same (record { units = refl; delay = refl }) refl refl curves.above curves.below));
       }
 
@@ -297,16 +295,14 @@ module _ {wish : Wish} {stored : Stored} {course : Course} (played : HasPlayedWh
   fed {bytes} {j} written =
       let begin = begin_of course in
       let whole = whole_rounds course.rounds written.front written.rest written.parts written.whole in
-      let E : List Round → Type 0 = λ rs. AreEvents rs in
       let events =
       each_front HasEvent whole.first whole.later
-      (subst E whole.parts (events_are begin course.last course.rounds course.follows)) in
+      (rw (← whole.parts) (events_are begin course.last course.rounds course.follows)) in
       let slot : greatest_slot whole.first ≡ played.play.start + j =
       sym (rounds_latest whole.first) ∙ (ap latest_slot (sym whole.front_is) ∙ written.slot_is) in
       let are : rounds_bytes whole.first ≡ bytes =
       sym (written.bytes_are ∙ (ap sent_bytes whole.front_is ∙ rounds_sent_are whole.first events)) in
-      let F : List ℕ → Type 0 = λ b. IsFed wish stored.film (stream_of played) b j in
-      subst F are (fed_by whole.first whole.later j whole.parts slot)
+      rw (← are) (fed_by whole.first whole.later j whole.parts slot)
 
 -- ---- all that was sent is a prefix of the stream
 

@@ -49,7 +49,6 @@ cut_short course round new sent runs front =
     let all : rounds_bytes longer.rounds ≡ rounds_bytes course.rounds ++ round_bytes round =
     joins_parts rounds_bytes (record { one = round_bytes; none = refl; more = λ x xs. refl }) course.rounds (round ∷ [])
     ∙ ap (λ bs. rounds_bytes course.rounds ++ bs) (append-nil (round_bytes round)) in
-    let F : List ℕ → Type 0 = λ bs. IsPrefixOf (rounds_bytes course.rounds ++ sent) bs in
     record {
       longer = longer;
       films = refl;
@@ -60,7 +59,7 @@ cut_short course round new sent runs front =
       takings_are = refl;
       rounds = refl;
       begun = front_of (rounds_bytes course.rounds) sent;
-      front = subst F (sym all) (front_after (rounds_bytes course.rounds) sent (round_bytes round) front);
+      front = rw all (front_after (rounds_bytes course.rounds) sent (round_bytes round) front);
     }
 
 -- ---- a slot
@@ -77,11 +76,10 @@ can_finish {s} (inl rest) =
 can_finish {s} (inr done) =
     let placed : PlacedEntry =
     record { place = 0; entry = record { maker = 0; command = HaltCommand 0 done.keep; answer = Halted } } in
-    let F : Awaited → Type 0 = λ a. IsFinished (awaited_answer_of a) s (Entered placed) (after_halt s 0) in
     record {
       halt = Entered placed;
       new = after_halt s 0;
-      finished = subst F (sym done.asks) (record { number = 0; command = refl; answer = refl; halts = refl });
+      finished = rw done.asks (record { number = 0; command = refl; answer = refl; halts = refl });
     }
 
 between_bytes : (old : SessionState) (slot : ℕ) (between : Bool)
@@ -125,15 +123,13 @@ failed_slot course slot front new failed =
     append-nil (parts_bytes (slot_parts old.session slot))
     ∙ ap parts_bytes (cond-true (is_taken old.session slot && is_sending old.session.state)
     (due_parts old.session slot) [] both) ∙ due_as old.session slot old.session.waits in
-    let F : List ℕ → Type 0 = λ bs. IsPrefixOf front bs in
-    cut_short course round opened front runs (subst F (sym bytes) failed.front_is)
+    cut_short course round opened front runs (rw bytes failed.front_is)
 
 -- ---- a reply
 takes_more : {new : Stage} (old mid : Stage) (takings : List ElementStep) (taking : ElementStep)
     → TakesAll old takings mid → TakesAll mid (taking ∷ []) new → TakesAll old (takings ++ taking ∷ []) new
 takes_more {new} old mid [] taking takes more =
-    let T : Stage → Type 0 = λ s. TakesAll s (taking ∷ []) new in
-    subst T takes more
+    rw (← takes) more
 takes_more {new} old mid (first ∷ takings) taking takes more =
     (takes.0, (takes.1.0, takes_more {new = new} takes.0 mid takings taking takes.1.1 more))
 
@@ -178,6 +174,5 @@ failed_reply {round} {message} {outcome} {front} course ends =
     ap (λ bs. parts_bytes round.due ++ bs)
     (takings_bytes-append round.takings (taking ∷ []) ∙ ap (λ bs. takings_bytes round.takings ++ bs) text)
     ∙ sym (append_assoc (parts_bytes round.due) (takings_bytes round.takings) answered.text) in
-    let F : List ℕ → Type 0 = λ bs. IsPrefixOf (round_bytes round ++ front) bs in
     cut_short course longer last (round_bytes round ++ front) runs
-    (subst F (sym bytes) (front_after (round_bytes round) front answered.text failed.front_is))
+    (rw bytes (front_after (round_bytes round) front answered.text failed.front_is))

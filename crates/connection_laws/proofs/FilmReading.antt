@@ -49,8 +49,7 @@ no_reply b x m (inr report) reply same =
 pub more_reply : (y : List ℕ) (ys : List (List ℕ)) (s : Sum) → element_events y ≡ Reply y ∷ []
     → s.replies + 1 ≤ (steps s (events_of_elements (y ∷ ys))).replies
 more_reply y ys s is =
-    let P : List ClientEvent → Type 0 = λ l. s.replies + 1 ≤ (steps s (l ++ events_of_elements ys)).replies in
-    subst P (sym is) (replies_grow (step (Reply y) s) (events_of_elements ys))
+    rw is (replies_grow (step (Reply y) s) (events_of_elements ys))
 
 block_reply : (b : List ℕ) (ys : List (List ℕ)) (s : Sum) → (element_events b ≡ Frame b ∷ [])
     ⊎ (element_events b ≡ Report b ∷ [])
@@ -88,8 +87,7 @@ all_blocks {bs = b ∷ bs} {ps = []} {m} later reply_then silent are texts all =
 all_blocks {bs = b ∷ bs} {ps = y ∷ ys} {m} later reply_then silent are texts all =
     let first : y ≡ b = cc in
     let rest : ys ++ reply_then.block ∷ reply_then.rest ≡ bs ++ later = cc in
-    let P : List ℕ → Type 0 = λ q. (steps s (events_of_elements (q ∷ ys))).replies ≡ s.replies in
-    let next = block_reply b ys s are.0.moment (subst P first same) in
+    let next = block_reply b ys s are.0.moment (rw (← first) same) in
     ap (λ q. q ∷ ys) first
     ∙ ap (λ l. b ∷ l) (all_blocks later reply_then (record { sum = next.0; same = next.1 }) are.1 texts rest)
   where
@@ -232,10 +230,9 @@ module _ (s : WholeStream) where
       let end : end_ms h ≡ (begun_sum x).end_ms =
       ap (λ (s : Sum). s.end_ms) sum_is
       ∙ (blocks_same (take k x.blocks) (begun_sum x) (each_take IsOneBlock k x.blocks x.blocks_are)).end_ms in
-      let B : List ℕ → Type 0 = λ f. begins_film (drop 20 f) ≡ true in
       let frame_time : 0 < frames h → time_in (first_frame h) ≡ picture_time film.rate = λ some.
       ap time_in first ∙ time_by s k film.units.items refl (omega (arith, count, some))
-      (subst B first (first_good h gone some)) in
+      (rw (← first) (first_good h gone some)) in
       record {
         time_is = λ some. cond-false (frames h == 0) 0 (time_in (first_frame h))
             (ne_eqb (frames h) 0 (λ none. omega (arith, some, none))) ∙ frame_time some;

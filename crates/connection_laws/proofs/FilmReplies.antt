@@ -109,7 +109,6 @@ module _ {b : Beginning} {old new : SessionState} where
       let begun = subst (IsUnbegun b.wish b.films) asked.ready waits.unbegun in
       let at = subst (λ films. IsFilmAt films asked.setup.film stored) waits.films_are asked.at in
       let named : string_bytes stored.name ≡ string_bytes b.wish.name = begun.1.film stored at in
-      let G : List ℕ → Type 0 = λ name. IsPrinted name in
       record {
         number = asked.setup.film;
         stored = stored;
@@ -126,7 +125,7 @@ module _ {b : Beginning} {old new : SessionState} where
           id_prints = id_printed play.valid;
           end_fits = end_fits stored.film;
           authority_prints = authority_prints asked.names.read;
-          name_prints = subst G (sym named) (name_prints (string_bytes b.wish.name) b.wished.name);
+          name_prints = rw named (name_prints (string_bytes b.wish.name) b.wished.name);
           number_fits = omega (arith, asked.number_fits);
           time_fits = omega (arith, asked.time_fits);
           some = omega (arith, play.later);

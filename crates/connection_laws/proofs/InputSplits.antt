@@ -371,14 +371,13 @@ legs_same {one} {other} (x ∷ xs) (y ∷ ys) old films legs too alike =
     let leg : IsLeg old x = legs.0 in
     let again : IsLeg old y = too.0 in
     let slots : y.slot ≡ x.slot = sym (ap slot_of alike.heard) in
-    let L : ℕ → Type 0 = λ t. HasStepped old.session t y.due y.halt y.opened.session in
     let step = steps_same {old = old.session} {slot = x.slot} {one = x.halt} {other = y.halt}
     (record {
       ones = elements_answers x.elements ++ legs_answers xs;
       others = elements_answers y.elements ++ legs_answers ys;
       same = alike.answers;
     }) (record { due = x.due; new = x.opened.session; stepped = leg.stepped })
-    (record { due = y.due; new = y.opened.session; stepped = subst L slots again.stepped }) in
+    (record { due = y.due; new = y.opened.session; stepped = rw (← slots) again.stepped }) in
     let opened : y.opened ≡ x.opened = opened_same x.opened y.opened step.1 (again.input ∙ sym leg.input) in
     let kept : AreFilms x.opened.session.films =
     subst AreFilms (sym (ap (λ (n : List Stored × List ℕ). n.0)

@@ -196,8 +196,7 @@ always_all {bytes} {old} {rounds = round ∷ rounds} {new} s through all known f
     append_assoc bytes (bytes_in round.event) (rounds_heard rounds) ∙ front in
     let fed_next : AreFed wish film x begin (bytes ++ bytes_in round.event) rounds =
     λ before after_ r slot split event after_begin.
-    let F : List ℕ → Type 0 = λ b. IsFed wish film x b (slot - begin) in
-    subst F (sym (append_assoc bytes (bytes_in round.event) (rounds_heard before)))
+    rw (append_assoc bytes (bytes_in round.event) (rounds_heard before))
     (fed (round ∷ before) after_ r slot (ap (λ l. round ∷ l) split) event after_begin) in
     always_all {bytes = bytes ++ bytes_in round.event} {old = mid} {rounds = rounds} s (record {
       heard = heard_round bytes old mid round heard all.1.0;

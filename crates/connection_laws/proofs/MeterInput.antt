@@ -117,9 +117,7 @@ texts_count : (ms : List (List ℕ)) (k : ℕ) (s : Sum) → AreTexts ms → k �
 texts_count ms zero s are few = omega arith
 texts_count [] (suc k) s are few = absurd (omega (arith, few))
 texts_count (m ∷ ms) (suc k) s are few =
-    let P : List ClientEvent → Type 0 = λ l. (steps s (l ++ events_of_elements (take k ms))).replies ≡ s.replies + suc k
-    in
-    subst P (sym are.0.moment) (omega (arith, texts_count ms k (step (Reply m) s) are.1 (omega (arith, few))))
+    rw are.0.moment (omega (arith, texts_count ms k (step (Reply m) s) are.1 (omega (arith, few))))
 
 pub two_moments : (x : Stream) (rest : List (List ℕ))
     → steps no_sum (events_of_elements (x.first ∷ x.second ∷ rest)) ≡ steps (begun_sum x) (events_of_elements rest)
@@ -214,9 +212,8 @@ module _ {x : Stream} {at : WatchStage} (received : StreamHeard x at) where
       × (at.rest ≡ rest_at c (all_of x))
   reading_sum =
       let all = all_of x in
-      let P : List ℕ → Type 0 = λ b. IsStream b (take (count_ended c all) all) (rest_at c all) in
       let streams : TwoStreams bytes heard.elements (take (count_ended c all) all) at.rest (rest_at c all) =
-      record { one = (heard.cut, none); other = subst P (sym is) (cut_at all c x.alone) } in
+      record { one = (heard.cut, none); other = rw is (cut_at all c x.alone) } in
       let once = stream_once streams in
       (heard.sum ∙ ap (λ l. steps no_sum (events_of_elements l)) once.0, once.1)
 

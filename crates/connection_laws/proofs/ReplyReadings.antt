@@ -147,8 +147,7 @@ id_usable id prints =
     let front = before_first (λ byte. byte == 59) id in
     let printed : IsPrinted front =
     all-take is_url_byte (position_or_len (λ byte. byte == 59) id) id prints in
-    let P : List ℕ → Type 0 = λ text. list_all is_value_byte text ≡ true in
-    subst P (sym (bare_printed front printed)) (all_of is_url_byte is_value_byte value_byte front printed)
+    rw (bare_printed front printed) (all_of is_url_byte is_value_byte value_byte front printed)
 
 session_named : {id : List ℕ} (message : List ℕ) → header_value message (codes "Session") ≡ Some id → IsPrinted id
     → is_some (setup_session message) ≡ true

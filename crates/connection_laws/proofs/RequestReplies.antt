@@ -58,13 +58,12 @@ pub named_still : {b : Beginning} {old new : SessionState} → IsSameSetup old n
 named_still {b} {old} {new} same named =
     let films = ap (λ (n : List Stored × List ℕ). n.0) same.names in
     let id = ap (λ (n : List Stored × List ℕ). n.1) same.names in
-    let N : List Stored → Type 0 = λ films. Names films (film_url b.wish) named.authority named.setup.film in
     record {
       setup = named.setup;
       setup_is = same.setup ∙ named.setup_is;
       own = subst (IsSession b.session) (sym id) named.own;
       authority = named.authority;
-      names = subst N (sym films) named.names;
+      names = rw films named.names;
     }
 
 -- the station is asked for a play of the entire film, with the first part of its reply
@@ -145,11 +144,9 @@ setup_replied b {old} request is =
     let asked = setup-asked b.wish b.wished b.port in
     let url = film_url b.wish ++ codes "/video" in
     let head = request_head (setup_parts b.wish) in
-    let R : List ℕ → Type 0 = λ m. IsRequest m (codes "SETUP") url 1 head [] in
     let call : IsCall request.message (codes "SETUP") url 1 head = record {
       body = [];
-      read = subst R
-          (sym is) asked.read;
+      read = rw is asked.read;
     } in
     elim (setup_answered old.session request.message url 1 head heard.ask heard.asking call heard.hears) [
       | inl same ↦ inl same
@@ -208,14 +205,12 @@ teardown_replied b {old} request is named =
     let asked = teardown-asked b.wish b.session b.wished b.port b.session_is in
     let head = request_head (teardown_parts b.wish b.session) in
     let its = teardown_head b in
-    let R : List ℕ → Type 0 = λ m. IsRequest m (codes "TEARDOWN") (film_url b.wish) 3 head [] in
     let call : IsCall request.message (codes "TEARDOWN") (film_url b.wish) 3 head =
-    record { body = []; read = subst R (sym is) asked.read } in
-    let S : Option (List ℕ) → Type 0 = λ v. IsOwnSession (has_session_in old.session.state) old.session.id v ⊥ in
+    record { body = []; read = rw is asked.read } in
     let told = teardown_answered old.session request.message (film_url b.wish) 3 head heard.ask heard.asking call
     (record {
       free = ap (λ v. first_of v (header_value head (codes "Proxy-Require"))) its.require ∙ its.proxy;
-      session = subst S (sym its.session) (has_one old.session.state named.setup_is, named.own);
+      session = rw its.session (has_one old.session.state named.setup_is, named.own);
       authority = named.authority;
       setup = named.setup;
       setup_is = named.setup_is;

@@ -283,9 +283,7 @@ module _ {s : Sum} where
       let w = first_size first in
       let within = count_within xs ys c (omega (arith, less, first_sized first)) in
       let k = count_ended c xs in
-      let R : ℕ → Type 0 = λ n. HasCome (w ∷ sizes) c s (steps s (events_of_elements (take n (xs ++ ys)))) in
-      let S : List (List ℕ) → Type 0 = λ bs. HasCome (w ∷ sizes) c s (steps s (events_of_elements bs)) in
-      subst R (sym within.0) (subst S (sym (take-append-le k xs ys (omega (arith, within.1))))
+      rw within.0 (rw (take-append-le k xs ys (omega (arith, within.1)))
       (record {
         count = 0;
         sizes_are = part_unit first.unit.starts_group first.from k (first_marked first) s within.1
@@ -320,10 +318,7 @@ module _ {s : Sum} where
       let u = steps t (events_of_elements (take k ys)) in
       let all : steps s (events_of_elements (xs ++ take k ys)) ≡ u =
       rw (moments_parts xs (take k ys), steps_on s (events_of_elements xs) (events_of_elements (take k ys))) in
-      let R : ℕ → Type 0 = λ n. HasCome (w ∷ sizes) c s (steps s (events_of_elements (take n (xs ++ ys)))) in
-      let S : List (List ℕ) → Type 0 = λ bs. HasCome (w ∷ sizes) c s (steps s (events_of_elements bs)) in
-      let T : Sum → Type 0 = λ v. HasCome (w ∷ sizes) c s v in
-      subst R (sym past) (subst S (sym (take-append-add xs ys k)) (subst T (sym all) (record {
+      rw past (rw (take-append-add xs ys k) (rw all (record {
         count = suc come.count;
         sizes_are = rw (come.sizes_are, done.sizes, size, append_assoc s.sizes (w ∷ []) (take come.count sizes));
         among = omega (arith, come.among);
@@ -358,8 +353,7 @@ units_come {c} {s} from starts (unit ∷ units) laid between =
       short = laid.0.0;
       between = between;
     } in
-    let C : List (List ℕ) → Type 0 = λ bs. HaveCome (first_size first ∷ sizes) c s bs in
-    subst C (sym (more_blocks run f o starts unit units)) (elim (cases_lt c (first_size first)) [
+    rw (more_blocks run f o starts unit units) (elim (cases_lt c (first_size first)) [
       | inl less ↦ come_within first ys sizes less
       | inr more ↦ come_past first ys sizes more
           (λ t at. units_come {c = c - length (framed_bytes (first_blocks first))} {s = t}
