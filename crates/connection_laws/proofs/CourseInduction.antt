@@ -229,9 +229,7 @@ module _ {R : SessionState → Piece → SessionState → Type 0} (kept : IsKept
       let comes = comes_as round runs.comes in
       let first = event_piece old.session round in
       let rest = takings_piece runs.opened round.takings new runs.takes in
-      subst (λ h. R old.session (joined first (record rest { slots = takings_slots h round.takings })) new.session)
-      (comes_heard comes)
-      (kept.joins old.session runs.opened.session new.session first rest
+      rw (← (comes_heard comes)) (kept.joins old.session runs.opened.session new.session first rest
       (kept.event old runs.opened round comes)
       (takings_kept runs.opened new round.takings runs.takes))
 

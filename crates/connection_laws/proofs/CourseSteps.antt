@@ -460,9 +460,7 @@ end_stand : (sends : Sends) (waits : Bool) (heard : ℕ) (pending : Option ℕ) 
 end_stand Idle waits heard None sound held = record { texts = tt; film = refl }
 end_stand Idle waits heard (Some slot) sound held = absurd held
 end_stand (Going p) waits heard pending sound held =
-    subst (λ k. StandAt (play_with p k) p.sent []
-    (record { end = heard; slots = with_pending pending []; parts = [] })) sound.1
-    (end_at p waits heard pending sound.0 held)
+    rw (← sound.1) (end_at p waits heard pending sound.0 held)
 end_stand (Ending p) waits heard None sound held = end_at p waits heard None sound.0 held
 end_stand (Ending p) waits heard (Some slot) sound held = end_at p waits heard (Some slot) sound.0 held
 

@@ -175,9 +175,7 @@ run_blocks film identity = rw (units_all film)
 come : (s : WholeStream) (d : ℕ) → HasCome (film_sizes s.film) d (begun_sum s.x)
     (steps (begun_sum s.x) (events_of_elements (take (count_ended d s.x.blocks) s.x.blocks)))
 come s d =
-    subst (λ bs. HasCome (film_sizes film) d (begun_sum x)
-    (steps (begun_sum x) (events_of_elements (take (count_ended d bs) bs)))) (sym blocks)
-    (units_come (run_from s) film.slice_starts.items film.units.items (laid-film film)
+    rw blocks (units_come (run_from s) film.slice_starts.items film.units.items (laid-film film)
     (record { on = refl; none = refl; outside = refl }))
   where
     open s use {film, x, blocks}

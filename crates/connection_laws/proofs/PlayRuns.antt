@@ -311,8 +311,7 @@ module _ (words : List ℕ) where
       let stop : Stopped Done = record { s = s; setup = done.setup; play = done.play; keep = done.keep; left = tt } in
       let L : State → Awaited → Type 0 = λ st a. Leads (record s { state = st; awaited = a })
       (after_halt (record s { state = st; awaited = a }) placed.place) (Asks a (Entered placed) ∷ []) in
-      subst (λ st. L st s.awaited) (sym done.state_is)
-      (subst (L (Playing done.setup done.play)) (sym done.asks) (halts stop entry))
+      rw done.state_is (subst (L (Playing done.setup done.play)) (sym done.asks) (halts stop entry))
 
   comes_leads : {old opened : Stage} {round : Round} → Stands old.session → ComesAs old round opened
       → Leads old.session opened.session (Asks (asked_by old.session round.event) round.halt ∷ [])
@@ -469,17 +468,12 @@ module _ (h : Hearing) where
         let play : FilmPlay = play_by prepared start later in
         let under : IsLast words (after_admission (asking_for asked) placed.place start) (kept_in later)
         (Some (run_place prepared.frames (play.before + play.keep))) =
-        subst (λ st. IsLastIn words (admitted_in st (Play prepared) placed.place start)
-        (record { films = old.films; source = old.source; counts = prepared.counts })
-        (record { waits = true; tearing = old.tearing; torn = old.torn }) (kept_in later)
-        (Some (run_place prepared.frames (play.before + play.keep)))) (sym ready)
-        (record {
+        rw ready (record {
           stored = stored;
           at = at;
           place = ap (λ run. Some (run_place run (play.before + play.keep))) frames;
         }) in
-        subst (λ a. AreRunsInOrder words last (plays_admitted (Play prepared) a later ++ plays_of later))
-        (sym entry.answer_is) (
+        rw entry.answer_is (
           prepared.frames,
           (
             refl,

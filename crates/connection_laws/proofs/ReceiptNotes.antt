@@ -98,8 +98,7 @@ module _ {films : List Stored} {settings : Settings} {words : List ℕ} {doings 
     (done : HasDone films settings words doings report) where
   logs_all : Logs (first_stage films settings words).session (doings_outcomes doings) done.closed
   logs_all =
-      subst (λ outcomes. Logs (first_stage films settings words).session outcomes done.closed) (turns_told done)
-      (doings_kept done logs_kept)
+      rw (← (turns_told done)) (doings_kept done logs_kept)
 
   pub receipts_told : report.receipts.items ≡ receipts_in (doings_outcomes doings)
   receipts_told = done.report_is.receipts ∙ logs_all.0
