@@ -5,7 +5,7 @@ use Rattle.std.proofs.Common.{take, drop, Some, is_some, unwrap_or, Err, refl, s
 use Rattle.std.proofs.lemmas.Bool.{cond-true, cond-false, eq-eqb, lt-ltb, ne_eqb, or_left}
 use Rattle.std.proofs.lemmas.List.{append-nil, drop_at, take-append-drop, take-append-le, take_at}
 use Rattle.interleave.specs.Elements.{IsFirst}
-use Rattle.interleave.specs.Streams.{AreInputElements, IsElementLength}
+use Rattle.interleave.specs.Streams.{AreInputElements}
 use Rattle.interleave.specs.declared.elements.DemuxFault.{DemuxFault}
 use Rattle.interleave.specs.declared.elements.DemuxFault.TheVariants.{HeadTooLong, BodyTooLong}
 use Rattle.interleave.proofs.ElementStability.{whole_stays}

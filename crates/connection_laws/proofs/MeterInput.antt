@@ -1,20 +1,20 @@
 -- What a client reads its meter by, where what came is a prefix of two replies, a film's blocks and
 -- later replies.
 use Rattle.std.proofs.Common.{◌≡◌, ℕ, zero, suc, ◌+◌, ◌-◌, ◌<◌, ◌≤◌, ◌==◌, ◌&&◌, ◌||◌, Bool, true, false, nat_lt, cond}
-use Rattle.std.proofs.Common.{min, List, [], ◌∷◌, ◌++◌, length, take, get_or, refl, sym, ap, subst, ◌∙◌, arith, inl}
+use Rattle.std.proofs.Common.{min, List, [], ◌∷◌, ◌++◌, length, take, get_or, refl, sym, ap, ◌∙◌, arith, inl}
 use Rattle.std.proofs.Common.{inr}
 use Rattle.std.proofs.lemmas.Bool.{cases_lt, cond-true, cond-false, eq-eqb, lt-ltb, or_left, or_right}
 use Rattle.std.proofs.lemmas.List.{get_or-take, length-take-le, take-append-le, take_all}
 use Rattle.std.proofs.Math.Seq.{take-append-add}
 use Rattle.interleave.specs.Heads.{is_line_end}
 use Rattle.interleave.specs.Elements.{IsMessageLength, StartsMessage}
-use Rattle.interleave.specs.Streams.{IsElementLength, IsStream, WholeMessage}
+use Rattle.interleave.specs.Streams.{IsElementLength, WholeMessage}
 use Rattle.interleave.proofs.StreamElements.{TwoStreams, stream_once}
 use Rattle.film_frames.specs.FramedRuns.{count_ended}
 use Rattle.film_frames.specs.Tracks.{framed_bytes}
 use Rattle.rtsp_client.specs.Answers.{block_events, cut_bytes, events_of_elements, element_events}
 use Rattle.rtsp_client.specs.WatchCourses.{WatchStage}
-use Rattle.rtsp_client.specs.ClientHistory.{ClientEvent, Reply, replies}
+use Rattle.rtsp_client.specs.ClientHistory.{Reply, replies}
 use Rattle.connection_laws.proofs.PieceCounts.{count_bytes, count_less, count_more, count_most, count_past, count_whole}
 use Rattle.connection_laws.proofs.PieceCounts.{count_within, rest_less, rest_more, rest_past, rest_within}
 use Rattle.connection_laws.proofs.ClientInput.{Heard, no_sum}

@@ -34,14 +34,14 @@ use Rattle.film_streams.specs.StreamNumbers.{counts_after, identity_of, source_o
 use Rattle.session.specs.Laws.{GoesOn}
 use Rattle.session.specs.RequestSteps.{after_admission, after_halt, counts_done}
 use Rattle.session.specs.SessionStates.{SessionState}
-use Rattle.session.specs.SlotSteps.{admitted_in, after_slot, can_reply, due_state, is_between, sent_due, sent_reply}
+use Rattle.session.specs.SlotSteps.{after_slot, can_reply, due_state, is_between, sent_due, sent_reply}
 use Rattle.session.specs.SlotSteps.{sent_slot, stepped_in}
 use Rattle.session.specs.SlotTransitions.{after_stop}
 use Rattle.session_laws.proofs.RunLemmas.{IsLeftBy, IsNextRun, RunsAs, Replies, SetsUp, AsksPlay, Stops, AsksLook}
 use Rattle.session_laws.proofs.RunLemmas.{AsksOffer, one_film, run_goes_on, runs_as}
 use Rattle.conn.specs.InputSteps.{Outcome, Entered, SentPart, Stage, Unasked, IsAskAnswered}
 use Rattle.connection_laws.specs.Courses.{Course, asked_by, askings_of, course_plays}
-use Rattle.connection_laws.specs.Plays.{FilmPlay, StationRequest, Asks, kept_by, kept_in, kept_with, play_by, plays_admitted}
+use Rattle.connection_laws.specs.Plays.{FilmPlay, StationRequest, Asks, kept_by, kept_in, kept_with, play_by}
 use Rattle.connection_laws.specs.Plays.{plays_of}
 use Rattle.connection_laws.specs.LookLimits.{course_looks, look_in, looks_in}
 use Rattle.connection_laws.specs.PlayRuns.{AreRunsInOrder, IsFirstRun, IsLaterRun, RunPlace, SendsNext, run_place}

@@ -3,7 +3,7 @@
 use Rattle.std.specs.Prelude.{⊤}
 use Rattle.std.proofs.Common.{◌≡◌, ℕ, ◌/◌, ◌%◌, ◌^◌, ◌<◌, true, false, List, [], ◌∷◌, ◌++◌, codes, decimal, get_or}
 use Rattle.std.proofs.Common.{reverse, refl, sym, ap, ◌∙◌, arith, inl, inr, ◌+◌, ◌≤◌, ◌==◌, All, Option, Some, None}
-use Rattle.std.proofs.Common.{is_some, subst}
+use Rattle.std.proofs.Common.{is_some}
 use Rattle.std.specs.List.{list_all, before_first, position_or_len}
 use Rattle.std.specs.Char.{is_ascii_digit}
 use Rattle.std.specs.Int.{w32, w64, to_be_bytes}

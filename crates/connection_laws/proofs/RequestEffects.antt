@@ -284,10 +284,7 @@ stopped_sends setup play _ told = refl
 pub begun_is : {old new : SessionState} {asked : Awaited} {outcome : Outcome} (begins : Begins old asked outcome new)
     (askings : List StationRequest) → plays_begun asked outcome askings
     ≡ play_by begins.prepared begins.start askings ∷ []
-begun_is {asked = asked} begins askings =
-    ap (λ o. plays_begun asked o askings) begins.outcome_is
-    ∙ ap (λ a. plays_admitted a begins.placed.entry.answer askings) begins.asked_is
-    ∙ ap (λ a. plays_admitted (Play begins.prepared) a askings) begins.answer
+begun_is begins askings = rw (begins.outcome_is, begins.asked_is, begins.answer)
 
 -- a halt that is answered leaves the rest of the play
 ends_turn : {placed : PlacedEntry} (halt : HaltRequest) → IsHaltEntry halt.keep placed

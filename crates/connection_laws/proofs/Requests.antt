@@ -6,7 +6,7 @@ use Rattle.std.proofs.lemmas.List.{append-nil, append_assoc, get_or-take, drop_a
 use Rattle.vod_base.specs.Links.{IoEvent, HeardBytes, HeardSlot}
 use Rattle.interleave.specs.Heads.{is_line_end}
 use Rattle.interleave.specs.Elements.{IsFirst, StartsMessage}
-use Rattle.interleave.specs.Streams.{AreInputElements, IsElementLength, WholeMessage, LineEnd, WholeBlock}
+use Rattle.interleave.specs.Streams.{AreInputElements, IsElementLength, WholeMessage}
 use Rattle.interleave.specs.declared.elements.Step.TheVariants.{More, Request}
 use Rattle.interleave.specs.declared.elements.DemuxFault.TheVariants.{HeadTooLong as LongHead, BodyTooLong as LongBody}
 use Rattle.interleave.proofs.StreamElements.{cut_grows, tells_none, cuts_agree}
@@ -23,6 +23,7 @@ use Rattle.connection_laws.proofs.ElementPaths.{GoesAll, IsOver, AnEnd, ABlock, 
 use Rattle.connection_laws.proofs.ElementPaths.{over_element, path_of, elements_hearings, Exchange}
 use Rattle.std.specs.Prelude.{⊤}
 use Rattle.connection_laws.proofs.CourseInduction.{begin_of, takings_requests, rounds_requests}
+use Rattle.connection_laws.proofs.ElementStreams.{no_element}
 
 append_by : (other : Bool) (x : List ℕ) (all xs ys : List (List ℕ)) → all ≡ xs ++ ys
     → (if other then all else x ∷ all) ≡ (if other then xs else x ∷ xs) ++ ys
@@ -247,12 +248,7 @@ texts_requests (text ∷ texts) found = rw (text_request text (found.0 []), text
 -- no element is of no bytes
 nothing_cut : (more : List (List ℕ)) (end : List ℕ) → AreInputElements [] more end → more ≡ []
 nothing_cut [] end cut = refl
-nothing_cut (element ∷ more) end cut = absurd (none cut.0 cut.1.0)
-  where
-    none : (n : ℕ) → IsElementLength [] n → ⊥
-    none n (LineEnd one some is) = omega (arith, some)
-    none n (WholeBlock starts four size inside) = omega (arith, starts.0)
-    none n (WholeMessage starts size inside) = omega (arith, starts.0)
+nothing_cut (element ∷ more) end cut = absurd (no_element cut.0 cut.1.0)
 
 -- the elements of a prefix of them are the first of them
 front_cut : {input : List ℕ} (texts elements : List (List ℕ)) (rest : List ℕ) → AreFound texts
