@@ -24,126 +24,104 @@ pub record Raise : Type 0 where
   pub inside : place < ring_slots
   pub rises : get_or places place 0 ≤ value
 
-abbrev pub raised : Raise → List ℕ
-raised raise = set raise.places raise.place raise.value
+-- the places with it, and the greatest totals of the blocks
+module _ (raise : Raise) where
+  open raise use {places, tops, place as p, value as v, maxima, inside}
 
-abbrev pub raised_top : Raise → ℕ
-raised_top raise = max (get_or raise.tops (raise.place / 1024) 0) raise.value
+  abbrev block : ℕ
+  block = p / 1024
 
-abbrev pub raised_tops : Raise → List ℕ
-raised_tops raise = set raise.tops (raise.place / 1024) (raised_top raise)
+  abbrev top : ℕ
+  top = max (get_or tops block 0) v
 
-raise_here : (raise : Raise)
-    → get_or (raised raise) raise.place 0 ≡ raise.value
-raise_here raise =
-    get_or-set_same raise.places raise.place raise.value 0 (omega (arith, raise.maxima.places_are, raise.inside))
+  abbrev pub raised : List ℕ
+  raised = set places p v
 
-raise_top : (raise : Raise)
-    → get_or (raised_tops raise) (raise.place / 1024) 0 ≡ raised_top raise
-raise_top raise = get_or-set_same raise.tops (raise.place / 1024) (raised_top raise) 0
-    (omega (arith, raise.maxima.tops_are, block-in raise.place raise.inside))
+  abbrev pub raised_tops : List ℕ
+  raised_tops = set tops block top
 
--- the new greatest number bounds each number of the block, and the other blocks are as before
-raise_bounded : (raise : Raise) (i : ℕ) → i < ring_slots
-    → get_or (raised raise) i 0 ≤ get_or (raised_tops raise) (i / 1024) 0
-raise_bounded raise i less = elim (cases_eq i p) [
-  | inl is ↦ (
-      let value : get_or (set places p v) i 0 ≡ v = ap (λ k. get_or (set places p v) k 0) is ∙ raise_here raise in
-      let bound : get_or (set tops block top) (i / 1024) 0 ≡ top =
-      ap (λ k. get_or (set tops block top) (k / 1024) 0) is ∙ raise_top raise in
-      omega (arith, value, bound)
-      )
-  | inr other ↦ (
-      let value : get_or (set places p v) i 0 ≡ get_or places i 0 = get_or-set_other places p i v 0 other in
-      let before : get_or places i 0 ≤ get_or tops (i / 1024) 0 = raise.maxima.bounded i less in
-      elim (cases_eq (i / 1024) block) [
-        | inl same ↦ (
-            let bound : get_or (set tops block top) (i / 1024) 0 ≡ top =
-            ap (λ k. get_or (set tops block top) k 0) same ∙ raise_top raise in
-            let old : get_or tops (i / 1024) 0 ≡ get_or tops block 0 = ap (λ k. get_or tops k 0) same in
-            omega (arith, value, bound, before, old)
+  raise_here : get_or raised p 0 ≡ v
+  raise_here = get_or-set_same places p v 0 (omega (arith, maxima.places_are, inside))
+
+  raise_top : get_or raised_tops block 0 ≡ top
+  raise_top = get_or-set_same tops block top 0 (omega (arith, maxima.tops_are, block-in p inside))
+
+  -- the new greatest number bounds each number of the block, and the other blocks are as before
+  raise_bounded : (i : ℕ) → i < ring_slots → get_or raised i 0 ≤ get_or raised_tops (i / 1024) 0
+  raise_bounded i less = elim (cases_eq i p) [
+    | inl is ↦ (
+        let value : get_or raised i 0 ≡ v = ap (λ k. get_or raised k 0) is ∙ raise_here in
+        let bound : get_or raised_tops (i / 1024) 0 ≡ top = ap (λ k. get_or raised_tops (k / 1024) 0) is ∙ raise_top in
+        omega (arith, value, bound)
+        )
+    | inr other ↦ (
+        let value : get_or raised i 0 ≡ get_or places i 0 = get_or-set_other places p i v 0 other in
+        let before : get_or places i 0 ≤ get_or tops (i / 1024) 0 = maxima.bounded i less in
+        elim (cases_eq (i / 1024) block) [
+          | inl same ↦ (
+              let bound : get_or raised_tops (i / 1024) 0 ≡ top = ap (λ k. get_or raised_tops k 0) same ∙ raise_top in
+              let old : get_or tops (i / 1024) 0 ≡ get_or tops block 0 = ap (λ k. get_or tops k 0) same in
+              omega (arith, value, bound, before, old)
+              )
+          | inr apart ↦ (
+              let bound = get_or-set_other tops block (i / 1024) top 0 apart in
+              omega (arith, value, bound, before)
+              )
+        ]
+        )
+  ]
+
+  -- some place of its block holds the new greatest number
+  raise_in_block : (b : ℕ) → b ≡ block → IsReached places b (get_or tops b 0)
+      → IsReached raised b (get_or raised_tops b 0)
+  raise_in_block b is old =
+      let bound : get_or raised_tops b 0 ≡ top = ap (λ k. get_or raised_tops k 0) is ∙ raise_top in
+      elim (cases_lt v (get_or tops block 0)) [
+        | inl under ↦ (
+            let same : get_or tops b 0 ≡ get_or tops block 0 = ap (λ k. get_or tops k 0) is in
+            let apart : old.place ≢ p = λ e. (
+            let at : get_or places old.place 0 ≡ get_or places p 0 = ap (λ k. get_or places k 0) e in
+            omega (arith, at, old.holds, same, under, raise.rises)
+            ) in
+            record {
+              place = old.place;
+              inside = old.inside;
+              of_block = old.of_block;
+              holds = get_or-set_other places p old.place v 0 apart ∙ old.holds ∙ omega (arith, same, bound, under);
+            }
             )
-        | inr apart ↦ (
-            let bound : get_or (set tops block top) (i / 1024) 0 ≡ get_or tops (i / 1024) 0 =
-            get_or-set_other tops block (i / 1024) top 0 apart in
-            omega (arith, value, bound, before)
-            )
+        | inr over ↦ record {
+          place = p;
+          inside = inside;
+          of_block = sym is;
+          holds = raise_here ∙ omega (arith, bound, over);
+        }
       ]
-      )
-]
-  where
-    open raise use {places, tops, place as p, value as v}
 
-    block : ℕ
-    block = p / 1024
-
-    top : ℕ
-    top = max (get_or tops (p / 1024) 0) v
-
--- some place of its block holds the new greatest number
-raise_in_block : (raise : Raise) (b : ℕ)
-    → b ≡ raise.place / 1024 → IsReached raise.places b (get_or raise.tops b 0)
-    → IsReached (raised raise) b (get_or (raised_tops raise) b 0)
-raise_in_block raise b is old =
-    let bound : get_or (set tops block top) b 0 ≡ top =
-    ap (λ k. get_or (set tops block top) k 0) is ∙ raise_top raise in
-    elim (cases_lt v (get_or tops block 0)) [
-      | inl under ↦ (
-          let same : get_or tops b 0 ≡ get_or tops block 0 = ap (λ k. get_or tops k 0) is in
-          let apart : old.place ≢ p = λ e. (
-          let at : get_or places old.place 0 ≡ get_or places p 0 = ap (λ k. get_or places k 0) e in
-          omega (arith, at, old.holds, same, under, raise.rises)
-          ) in
-          record {
-            place = old.place;
-            inside = old.inside;
-            of_block = old.of_block;
-            holds = get_or-set_other places p old.place v 0 apart ∙ old.holds ∙ omega (arith, same, bound, under);
-          }
-          )
-      | inr over ↦ record {
-        place = p;
-        inside = raise.inside;
-        of_block = sym is;
-        holds = raise_here raise ∙ omega (arith, bound, over);
+  -- in another block some place still holds the greatest number
+  raise_elsewhere : (b : ℕ) → b ≢ block → IsReached places b (get_or tops b 0)
+      → IsReached raised b (get_or raised_tops b 0)
+  raise_elsewhere b apart old =
+      let other : old.place ≢ p = λ e. apart (sym old.of_block ∙ ap (λ k. k / 1024) e) in record {
+        place = old.place;
+        inside = old.inside;
+        of_block = old.of_block;
+        holds = get_or-set_other places p old.place v 0 other ∙ old.holds
+            ∙ sym (get_or-set_other tops block b top 0 apart);
       }
-    ]
-  where
-    open raise use {places, tops, place as p, value as v}
 
-    block : ℕ
-    block = p / 1024
-
-    top : ℕ
-    top = max (get_or tops (p / 1024) 0) v
-
--- in another block some place still holds the greatest number
-raise_elsewhere : (raise : Raise) (b : ℕ)
-    → b ≢ raise.place / 1024 → IsReached raise.places b (get_or raise.tops b 0)
-    → IsReached (raised raise) b (get_or (raised_tops raise) b 0)
-raise_elsewhere raise b apart old =
-    let other : old.place ≢ raise.place = λ e. apart (sym old.of_block ∙ ap (λ k. k / 1024) e) in record {
-      place = old.place;
-      inside = old.inside;
-      of_block = old.of_block;
-      holds = get_or-set_other raise.places raise.place old.place raise.value 0 other ∙ old.holds
-          ∙ sym (get_or-set_other raise.tops (raise.place / 1024) b (raised_top raise) 0 apart);
-    }
-
--- a place whose number rises
-pub topped-raise : (raise : Raise) → AreBlockMaxima (raised raise) (raised_tops raise) raise.stale
-topped-raise raise = record {
-  places_are = length-set places p value ∙ maxima.places_are;
-  tops_are = length-set tops (p / 1024) (raised_top raise) ∙ maxima.tops_are;
-  bounded = raise_bounded raise;
-  reached = λ b less exact. elim (cases_eq b (p / 1024)) [
-    | inl is ↦ raise_in_block raise b is (maxima.reached b less exact)
-    | inr apart ↦ raise_elsewhere raise b apart (maxima.reached b less exact)
-  ];
-  stale_in = maxima.stale_in;
-}
-  where
-    open raise use {places, tops, place as p, value, maxima}
+  -- a place whose number rises
+  pub topped-raise : AreBlockMaxima raised raised_tops raise.stale
+  topped-raise = record {
+    places_are = length-set places p v ∙ maxima.places_are;
+    tops_are = length-set tops block top ∙ maxima.tops_are;
+    bounded = raise_bounded;
+    reached = λ b less exact. elim (cases_eq b block) [
+      | inl is ↦ raise_in_block b is (maxima.reached b less exact)
+      | inr apart ↦ raise_elsewhere b apart (maxima.reached b less exact)
+    ];
+    stale_in = maxima.stale_in;
+  }
 
 -- a place of the stale block whose number falls
 pub topped-lower : {places tops : List ℕ} (p v : ℕ) → AreBlockMaxima places tops (Some (p / 1024)) → p < ring_slots →
@@ -177,9 +155,6 @@ topped-lower {places} {tops} p v topped inside falls = record {
       );
   stale_in = topped.stale_in;
 }
-  where
-    some_in : (x y : ℕ) → x < 1024 → Some x ≡ Some y → y < 1024
-    some_in x y less is = let same : x ≡ y = cc in omega (arith, same, less)
 
 -- the stale block, and its greatest number as it is read again
 pub record Settle : Type 0 where

@@ -195,6 +195,11 @@ asked-front segments i start t =
     ap (λ l. asked_at l start t) (sym (take-append-drop i segments))
     ∙ asked-append (take i segments) (drop i segments) start t
 
+-- so do the first i segments with segment i
+pub asked-through : (t : ℕ) (at : SegmentFrom)
+    → asked_at (take at.i at.segments) at.start t + asked_at (at.s ∷ []) at.from t ≤ asked_at at.segments at.start t
+asked-through t at = omega (arith, asked-next t at, asked-front at.segments (at.i + 1) at.start t)
+
 -- a slot of segment i
 pub asked-in : (t : ℕ) (at : SegmentFrom) → at.from ≤ t → t < at.from + at.s.slots
     → asked_at at.segments at.start t ≡ asked_at (at.s ∷ []) at.from t
@@ -257,12 +262,16 @@ cut-next at keep t some rest =
     ∙ ap (λ (x : ℕ × ℕ). released_at front at.start keep t + released_at (at.s ∷ []) x.0 x.1 t)
     (λ k. (sym at.from_is k, sym rest k))
 
-pub cut-front : (segments : List Segment) (i start keep t : ℕ) → All (λ x. 1 ≤ x.slots) segments
-    → released_at (take i segments) start keep t ≤ released_at segments start keep t
-cut-front segments i start keep t some =
-    let whole = ap (λ l. released_at l start keep t) (sym (take-append-drop i segments))
-    ∙ cut-append (take i segments) (drop i segments) start keep t (all-front segments i some) in
-    omega (arith, whole)
+-- the first i segments with segment i release no more than all of the plan
+pub cut-through : (at : SegmentFrom) {left : ℕ} (keep t : ℕ) → All (λ x. 1 ≤ x.slots) at.segments
+    → left ≡ keep - total_bytes (take at.i at.segments)
+    → released_at (take at.i at.segments) at.start keep t + released_at (at.s ∷ []) at.from left t
+    ≤ released_at at.segments at.start keep t
+cut-through at keep t some rest =
+    let front = take (at.i + 1) at.segments in
+    let whole = ap (λ l. released_at l at.start keep t) (sym (take-append-drop (at.i + 1) at.segments))
+    ∙ cut-append front (drop (at.i + 1) at.segments) at.start keep t (all-front at.segments (at.i + 1) some) in
+    omega (arith, whole, cut-next at keep t some rest)
 
 pub cut-before : (segments : List Segment) (start keep t : ℕ) → t < start → released_at segments start keep t ≡ 0
 cut-before segments start keep t before = omega (arith, sent-none segments start (t + 1) (omega arith))

@@ -13,6 +13,7 @@ use crate::profiles::Profile;
 use crate::ring::{RING_SLOTS, Ring};
 use plan_cert::Plan;
 use std::alloc::Global;
+use std::fmt;
 use std::marker::Model;
 use vod_base::{LATEST_SLOT, NoMemory};
 
@@ -46,6 +47,15 @@ impl Model for Calendar {
     ghost view = { calendar_state };
 
     ghost invariant = { IsCalendarInside };
+}
+
+/// Its first slot alone: a ring of 1,048,576 slots is no text for a reader.
+impl fmt::Debug for Calendar {
+    fn fmt<W: fmt::Write>(&self, f: &mut fmt::Formatter<W>) -> fmt::Result {
+        f.debug_struct("Calendar")
+            .field("now", &self.ring.now())
+            .finish_non_exhaustive()
+    }
 }
 
 impl Calendar {

@@ -29,7 +29,7 @@ pub const MAX_CAPACITY: u64 = 1 << 42;
 /// each of at most 2^42 bytes a slot.
 ///
 /// Contracts see the list of the steps.
-#[derive(Drop)]
+#[derive(Debug, Drop)]
 pub struct Profile {
     steps: Vec<CapStep>,
 }

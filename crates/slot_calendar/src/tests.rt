@@ -177,7 +177,10 @@ fn tells_capacities(rt: HostRuntime) -> Result<(), Fail> {
     for (slot, want) in [(0, 5), (2, 5), (3, 3), (9, 3), (10, 7), (u64::MAX, 0)] {
         assert_eq!(rt; profile.at(slot), want, "slot {slot}");
     }
-    assert_eq!(rt; Profile::flat(rt.alloc(), 8)?.at(u64::MAX), 8);
+    let flat = Profile::flat(rt.alloc(), 8)?;
+    assert_eq!(rt; flat.at(u64::MAX), 8);
+    let want = "Profile { steps: [CapStep { from: 0, bytes: 8 }] }";
+    assert_eq!(rt; format!(in rt.alloc(); "{flat:?}")?.as_str(), want);
     Ok(())
 }
 
@@ -256,5 +259,9 @@ fn passes_blocks(rt: HostRuntime) -> Result<(), Fail> {
     }
     cut(&rt, &mut calendar, 1, &plan, 4_999_999);
     assert_eq!(rt; play(&rt, &mut calendar, 1, &asked), None);
+    assert_eq!(rt;
+        format!(in alloc; "{calendar:?}")?.as_str(),
+        "Calendar { now: 0, .. }"
+    );
     Ok(())
 }

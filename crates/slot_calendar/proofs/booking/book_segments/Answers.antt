@@ -1,38 +1,32 @@
 use Rattle.std.proofs.lemmas.Grind.{common_steps}
-use Rattle.std.proofs.Common.{◌≤◌, ◌+◌, arith, ◌∙◌}
-use Rattle.slot_calendar.proofs.PlanSlots.{asked-front, asked-next, from-next, segment-at}
+use Rattle.std.proofs.Common.{◌≤◌, arith, ◌∙◌}
+use Rattle.slot_calendar.proofs.PlanSlots.{SegmentFrom, asked-next, asked-through, from-next, segment-at}
 use Rattle.slot_calendar.proofs.booking.book_segments.Goals as goal
+use Rattle.slot_calendar.proofs.booking.book_segments.Goals.{In-loop-segment}
+
+-- the segment in hand
+abbrev at : (c : In-loop-segment) → SegmentFrom
+at c =
+    segment-at c.args.start c.args.segments.now c.loop-segment.segment-index (omega arith) c.loop-segment.invariant.from_is
 
 pub book_segment-requires-clause-fits : goal.book_segment-requires-clause-fits
 book_segment-requires-clause-fits c = λ t from. (
-    let i = c.loop-segment in
-    let segments = c.args.segments.now in
-    let since : c.args.ring.now.first ≤ t = omega (arith, from, i.invariant.first_is) in
-    let at = segment-at c.args.start segments i.segment-index (omega arith) i.invariant.from_is in
-    let next = asked-next t at in
-    omega (
-      arith,
-      next,
-      asked-front segments (i.segment-index + 1) c.args.start t,
-      i.invariant.totals t since,
-      c.requires.fits t since,
-    )
+    let i = c.loop-segment.invariant in
+    let since : c.args.ring.now.first ≤ t = omega (arith, from, i.first_is) in
+    omega (arith, asked-through t (at (goal.at.book_segment-requires-clause-fits c).In-loop-segment), i.totals t since, c.requires.fits t since)
     )
 
 pub loop-segment-preserved : goal.loop-segment-preserved
 loop-segment-preserved c =
-    let i = c.loop-segment in
-    let segments = c.args.segments.now in
-    let at = segment-at c.args.start segments i.segment-index (omega arith) i.invariant.from_is in
+    let i = c.loop-segment.invariant in
+    let here = at (goal.at.loop-segment-preserved c).In-loop-segment in
     record {
-      from_is = from-next at;
-      first_is = c.book_segment.ensures.now ∙ i.invariant.first_is;
-      stale_is = c.book_segment.ensures.stale ∙ i.invariant.stale_is;
-      totals = λ t since. (
-          let next = asked-next t at in
-          let added = c.book_segment.ensures.totals t (omega (arith, since, i.invariant.first_is)) in
-          omega (arith, next, added, i.invariant.totals t since)
-          );
+      from_is = from-next here;
+      first_is = c.book_segment.ensures.now ∙ i.first_is;
+      stale_is = c.book_segment.ensures.stale ∙ i.stale_is;
+      totals = λ t since.
+          let added = c.book_segment.ensures.totals t (omega (arith, since, i.first_is)) in
+          omega (arith, asked-next t here, added, i.totals t since);
     }
 
 pub loop-segment-init : goal.loop-segment-init
