@@ -8,7 +8,7 @@ use crate::table::Place;
 use crate::view::View;
 use atomic_table::Badge;
 use std::marker::Model;
-use std::mem;
+use std::{fmt, mem};
 
 /// The right of one caller to take the lock, as often as it needs it. Its number is the maker of
 /// the entries that it makes.
@@ -33,6 +33,15 @@ impl Model for Pass {
     ghost view = { pass_state };
 
     ghost invariant = { IsPass };
+}
+
+/// Its number alone: what it has seen exists for contracts only.
+impl fmt::Debug for Pass {
+    fn fmt<W: fmt::Write>(&self, f: &mut fmt::Formatter<W>) -> fmt::Result {
+        f.debug_struct("Pass")
+            .field("number", &self.number)
+            .finish_non_exhaustive()
+    }
 }
 
 impl Pass {

@@ -69,6 +69,23 @@ fn take_turn<R: Wait + Abort>(rt: &R, turnstile: &Turnstile<Log>, pass: &mut Pas
     turnstile.leave(pass, turn);
 }
 
+/// Takes the lock once, adds nothing, and returns how the guard is printed.
+fn turn_text<R: Wait + Abort>(
+    rt: &R,
+    alloc: Global,
+    turnstile: &Turnstile<Log>,
+    pass: &mut Pass,
+) -> String
+    requires own { pass.old.id ≡ turnstile.now.id }
+    requires free { pass.old.has_turn ≡ false }
+    ensures { pass.new ≡ record pass.old { seen = pass.new.seen; mine = pass.new.mine } }
+{
+    let turn = turnstile.enter(rt, pass);
+    let text = format!(in alloc; "{turn:?}").expect(rt, "memory");
+    turnstile.leave(pass, turn);
+    text
+}
+
 /// Takes the lock 50 times.
 fn take_turns<R: Wait + Abort>(rt: &R, turnstile: &Turnstile<Log>, mut pass: Pass) -> Pass
     requires own { pass.id ≡ turnstile.now.id }
@@ -92,12 +109,15 @@ fn count_of(log: &Log, maker: u32) -> usize {
 /// Two passes side by side take the lock 50 times each, after the first pass took it once.
 fn run_two_passes<R: Threads + Wait + Abort + Sync>(
     rt: &R,
+    alloc: Global,
     turnstile: Turnstile<Log>,
     mut first: Pass,
 )
     requires { first ≡ first_pass turnstile }
 {
     take_turn(rt, &turnstile, &mut first);
+    let text = turn_text(rt, alloc, &turnstile, &mut first);
+    assert_eq!(rt; text.as_str(), "Turn { .. }");
     let one = turnstile.split(&mut first);
     let two = turnstile.split(&mut first);
     assert_eq!(rt; (first.number(), one.number(), two.number()), (0, 1, 2));
@@ -135,6 +155,8 @@ fn threads_take_turns(rt: HostRuntime) -> Result<(), Fail> {
         entries: Vec::new(alloc),
     };
     let (turnstile, first) = Turnstile::new(alloc, log)?;
-    run_two_passes(&rt, turnstile, first);
+    let text = format!(in alloc; "{turnstile:?} {first:?}")?;
+    assert_eq!(rt; text.as_str(), "Turnstile { .. } Pass { number: 0, .. }");
+    run_two_passes(&rt, alloc, turnstile, first);
     Ok(())
 }

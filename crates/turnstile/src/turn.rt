@@ -13,6 +13,7 @@ use crate::kept_value::Kept;
 use crate::steps::{count_if_grown, give_back};
 use crate::table::{Place, SharedTable, VALUE};
 use crate::wakers::Wakers;
+use std::fmt;
 use std::marker::Model;
 
 /// The guard of a pass that holds the lock, with the value. It must be handed to
@@ -36,6 +37,13 @@ impl<B: Kept> Model for Turn<B> {
     ghost view = { λ t. record { pass = state_of_view t.seat.table_id t.seat.me.0; value = t.value } };
 
     ghost invariant = { λ t. IsTurnTaken t.seat t.before };
+}
+
+/// No field: the value may have no text.
+impl<B: Kept> fmt::Debug for Turn<B> {
+    fn fmt<W: fmt::Write>(&self, f: &mut fmt::Formatter<W>) -> fmt::Result {
+        f.write_str("Turn { .. }")
+    }
 }
 
 impl<B: Kept> Turn<B> {

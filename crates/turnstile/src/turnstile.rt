@@ -16,6 +16,7 @@ use crate::turn::Turn;
 use crate::wakers::Wakers;
 use atomic_table::Table;
 use std::alloc::Global;
+use std::fmt;
 use std::marker::Model;
 use std::snapshot::Snapshot;
 use std::sync::Wait;
@@ -44,6 +45,13 @@ impl<B: Kept> Model for Turnstile<B> {
     } };
 
     ghost invariant = { λ t. IsSized t.table.shared.table_id };
+}
+
+/// No field: the value belongs to the pass that holds the lock.
+impl<B: Kept> fmt::Debug for Turnstile<B> {
+    fn fmt<W: fmt::Write>(&self, f: &mut fmt::Formatter<W>) -> fmt::Result {
+        f.write_str("Turnstile { .. }")
+    }
 }
 
 impl<B: Kept> Turnstile<B> {
