@@ -12,6 +12,7 @@ use crate::operations::{admit, note, opened_count, release_play};
 use plan_cert::Plan;
 use slot_calendar::{Calendar, Profile};
 use std::alloc::Global;
+use std::fmt;
 use std::marker::Model;
 use vod_base::NoMemory;
 
@@ -40,6 +41,16 @@ impl Model for Book {
     ghost view = { journal_of };
 
     ghost invariant = { IsBook };
+}
+
+/// How many entries it has and may have; its calendar and its journal are too long for a text.
+impl fmt::Debug for Book {
+    fn fmt<W: fmt::Write>(&self, f: &mut fmt::Formatter<W>) -> fmt::Result {
+        f.debug_struct("Book")
+            .field("entries", &self.entries.len())
+            .field("limit", &self.limit)
+            .finish_non_exhaustive()
+    }
 }
 
 /// The most entries of a journal. A book takes memory for its limit of them when it is made.

@@ -224,6 +224,8 @@ fn admits_and_halts(rt: HostRuntime) -> Result<(), Fail> {
     let booked = [2, 5, 0, 0, 0];
     run(&rt, rt.alloc(), &mut book, rows.as_slice(), &booked)?;
     assert_eq!(rt; book.calendar().now(), 2);
+    let text = format!(in rt.alloc(); "{book:?}")?;
+    assert_eq!(rt; text.as_str(), "Book { entries: 5, limit: 64, .. }");
     let entries = book.into_entries();
     assert_eq!(rt; entries.len(), 5);
     assert_eq!(rt; (entries[4].maker, entries[4].answer), (1, Answer::Halted));
