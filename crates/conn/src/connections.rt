@@ -7,11 +7,10 @@ ghost use Rattle.interleave.specs.Elements.{IsFirst, IsMessageLength};
 ghost use Rattle.interleave.specs.declared.elements.Step.TheVariants.{Request};
 ghost use Rattle.session.specs.SessionStates.{AreFilms, AreSettings, CanKeep, AwaitsNoAnswer};
 ghost use Rattle.session.specs.SessionStates.{IsHalt};
-ghost use Rattle.session.specs.SessionStates.{IsAnswerRecorded, IsPlay, PlayAnswer, LookAnswer};
+ghost use Rattle.session.specs.SessionStates.{PlayAnswer, LookAnswer};
 ghost use Rattle.session.specs.SessionStates.{OfferAnswer};
 ghost use Rattle.session.specs.SessionStates.{awaited_answer, open_of};
 ghost use Rattle.conn.specs.ReservationInvariant.{IsHeld, IsQuiet, KeepsReservations};
-ghost use Rattle.conn.specs.Refusals.{after_refusal, refusal_receipt};
 ghost use Rattle.conn.specs.Observations.{HasAnswered, HasAsked, HasFailedSend, HasHandledEvent};
 ghost use Rattle.conn.specs.Observations.{HasTakenSlot, HasProcessedInput, TakesNext, observed};
 ghost use Rattle.session.specs.declared.commands.Ask.{Ask};
@@ -22,6 +21,7 @@ ghost use Rattle.conn.specs.Events.{IsProcessed};
 ghost use Rattle.conn.specs.Events.{IsWaiting, end_in, with_heard};
 ghost use Rattle.vod_base.specs.IoState.{HasRisen};
 
+use crate::play_answers::{drop_none, hear_refusal, hold};
 use crate::reports::ConnEnd;
 use early_start::Offers;
 use film_frames::Stored;
@@ -29,7 +29,7 @@ use interleave::laws::law_waiting_bytes_are_bounded;
 use interleave::{Demux, DemuxFault, Step};
 use plan_cert::Plan;
 use session::{Ask, Notes, Session, Settings, Slotted};
-use station::{Booking, PlayRefused, Seat, Station};
+use station::{Booking, Seat, Station};
 use std::alloc::Global;
 use std::mem;
 use std::sync::Wait;
@@ -486,43 +486,5 @@ fn end_of(fault: DemuxFault) -> ConnEnd
     match fault {
         DemuxFault::HeadTooLong => ConnEnd::HeadTooLong,
         DemuxFault::BodyTooLong => ConnEnd::BodyTooLong,
-    }
-}
-
-/// Hands the session the reason why the play that it asked for was refused.
-fn hear_refusal(session: &mut Session<'_>, refused: PlayRefused)
-    requires asked { IsPlay (awaited_answer session.old) }
-    requires closed { open_of session.old ≡ None }
-    ensures exact { session.new ≡ after_refusal session.old refused }
-    ensures handed { IsAnswerRecorded session.old (refusal_receipt refused) session.new }
-    ensures open { open_of session.new ≡ None }
-{
-    match refused {
-        PlayRefused::JournalFull { entries, live, .. } => session.full(entries, live),
-        PlayRefused::Overflow {
-            place,
-            slot,
-            booked,
-            asked,
-        } => session.overflowed(place, slot, booked, asked),
-    }
-}
-
-/// Holds a booking, where none is held. An assignment would drop what was held before.
-fn hold(held: &mut Option<Booking>, booking: Booking)
-    requires { held.old ≡ None }
-    ensures { held.new ≡ Some booking }
-{
-    drop_none(mem::replace(held, Some(booking)));
-}
-
-/// Drops the place of a booking, where none is held. A booking itself can't be dropped: it is to be
-/// spent by its halt.
-fn drop_none(held: Option<Booking>)
-    requires { held ≡ None }
-{
-    match held {
-        None => {}
-        Some(_) => unreachable!(),
     }
 }

@@ -7,6 +7,7 @@ mod connections;
 mod film_laws;
 pub mod laws;
 mod parts;
+mod play_answers;
 mod reports;
 mod service;
 #[cfg(test)]
