@@ -24,7 +24,7 @@ use Rattle.session.specs.SessionStates.{SessionState}
 use Rattle.conn.specs.declared.connections.Connection.{Connection}
 use Rattle.conn.specs.Events.{HasTakenEvent, IsEndOf, IsProcessed, IsWaiting}
 use Rattle.conn.specs.Journals.{AgreeWith, terms_of}
-use Rattle.conn.proofs.Journals.{agree_then, terms_same}
+use Rattle.conn.proofs.Journals.{agree_longer, agree_then, same_journal, terms_same}
 use Rattle.conn.specs.InputSteps.{Outcome, Unasked, SentPart, Film, Text, Stage, ElementStep, Passed, Answered}
 use Rattle.conn.specs.InputSteps.{IsNext, IsPassed, Takes, TakesAll, after_reply, due_parts, entry_in, parts_bytes}
 use Rattle.conn.specs.InputSteps.{reply_parts, slot_parts, stage}
@@ -73,6 +73,13 @@ noted_on {a} {b} {c} {xs} {ys} first second = record {
       }) xs ys
       first.agree (subst (λ terms. AgreeWith terms c.seen (length b.seen) ys) (terms_same a b first.seat) second.agree);
 }
+
+-- what is noted of a connection agrees with its seat's journal from the beginning
+pub seen_agrees : {old new : SeatState} {outcomes : List Outcome} → AreNoted old new outcomes
+    → AgreeWith (terms_of new) new.seen 0 outcomes
+seen_agrees {old} {new} {outcomes} noted =
+    subst (λ terms. AgreeWith terms new.seen 0 outcomes) (sym (terms_same old new noted.seat))
+    (agree_longer (same_journal (terms_of old) new.seen 0 (length old.seen) (omega arith)) outcomes noted.agree)
 
 -- elements that are processed from a stage on
 pub record TakenLater : Type 0 where

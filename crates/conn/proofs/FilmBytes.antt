@@ -67,6 +67,14 @@ slot_is false between slot p is between_is = refl
 slot_is true true slot p is between_is = both_steps slot p
 slot_is true false slot p is between_is = let all = stop_inside slot p is between_is in cc
 
+-- what was sent of a pacing is within its pieces, whose next boundary is there
+pub sent_within : (p : PacerState) → IsPacerState p → p.before + p.sent ≤ length (framed_bytes p.pieces)
+sent_within p is = omega (arith, is.whole, is.most, is.due, is.sent)
+
+pub next_of_sent : (p : PacerState) → IsPacerState p
+    → IsBoundaryAfter p.pieces (p.before + p.sent) (boundary_from p.pieces (p.before + p.sent))
+next_of_sent p is = boundary-from p.pieces (p.before + p.sent) (sent_within p is)
+
 -- and these are its bytes
 pub slot_bytes : (waits between : Bool) (slot : ℕ) (p : PacerState) → IsPacerState p →
     stands_at_boundary (after_step true slot p) ≡ between →
@@ -83,9 +91,7 @@ slot_bytes true true slot p is between_is =
     let mid : ℕ = step_end true (at_slot slot p) in
     let end : step_end false (at_slot slot (after_step true slot p)) ≡ due =
     ap (λ (q : PacerState). q.sent) (both_steps slot p) in
-    let inside : p.before + p.sent ≤ length (framed_bytes p.pieces) =
-    omega (arith, is.whole, is.most, is.due, is.sent) in
-    let next = boundary-from p.pieces (p.before + p.sent) inside in
+    let next = next_of_sent p is in
     let least : p.sent ≤ mid = omega (arith, next.after, is.sent) in
     let most : mid ≤ due = omega arith in
     ap (λ n. plan_bytes p p.sent mid ++ plan_bytes p mid n) end
@@ -113,27 +119,31 @@ pub stopped_is : (slot : ℕ) (p : PacerState) → IsPacerState p → IsPacerSta
 stopped_is slot p is = sent_upto slot (step_end true (at_slot slot p)) p is (omega arith)
 
 -- the film bytes up to a slot, with those of the slot
+film_joined : {film : List ℕ} (waits : Bool) (slot : ℕ) (p : PacerState) → IsPacerState p
+    → film ≡ bytes_between p.pieces p.before (p.before + p.sent)
+    → film ++ slot_film waits slot p ≡ bytes_between p.pieces p.before (p.before + due_by p slot)
+film_joined waits slot p is film_is =
+    let bytes : slot_film waits slot p ≡ plan_bytes p p.sent (due_by p slot) =
+    slot_bytes waits (stands_at_boundary (after_step true slot p)) slot p is refl in
+    let before : p.sent ≤ due_by p slot = omega (arith, is.sent) in
+    ap (λ bs. bs ++ slot_film waits slot p) film_is
+    ∙ ap (λ bs. bytes_between p.pieces p.before (p.before + p.sent) ++ bs) bytes
+    ∙ between-join p.pieces p.before (p.before + p.sent) (p.before + due_by p slot) (omega arith)
+    (omega (arith, before))
+
+-- of a play that goes on they are what its plan has
 film_through : {session : SessionState} (going : PlayGoing session) (slot : ℕ)
     → due_by going.play.pacer slot ≡ first_slots going.play.pacer.plan (slot + 1 - going.play.pacer.start)
     → going.film ++ slot_film session.waits slot going.play.pacer ≡ planned_bytes going.play.pacer slot
 film_through {session} going slot all_sent =
     let p = going.play.pacer in
     let has = going.sent in
-    let film = going.film in
-    let waits = session.waits in
-    let bytes : slot_film waits slot p ≡ plan_bytes p p.sent (due_by p slot) =
-    slot_bytes waits (stands_at_boundary (after_step true slot p)) slot p has.pacing refl in
-    let before : p.sent ≤ due_by p slot = omega (arith, has.pacing.sent) in
     let old_sent : p.sent ≡ first_slots p.plan (session.heard + 1 - p.start) =
     has.sent ∙ ap (first_slots p.plan) (omega (arith, has.passed, has.start)) in
-    let first : film ≡ bytes_between p.pieces p.before (p.before + p.sent) =
+    let first : going.film ≡ bytes_between p.pieces p.before (p.before + p.sent) =
     has.film_is ∙ ap (λ n. take n (drop p.before (framed_bytes p.pieces))) (omega (arith, old_sent)) in
-    let joined : film ++ slot_film waits slot p ≡ bytes_between p.pieces p.before (p.before + due_by p slot) =
-    ap (λ bs. bs ++ slot_film waits slot p) first
-    ∙ ap (λ bs. bytes_between p.pieces p.before (p.before + p.sent) ++ bs) bytes
-    ∙ between-join p.pieces p.before (p.before + p.sent) (p.before + due_by p slot) (omega arith)
-    (omega (arith, before)) in
-    joined ∙ ap (λ n. take n (drop p.before (framed_bytes p.pieces))) (omega (arith, all_sent))
+    film_joined session.waits slot p has.pacing first
+    ∙ ap (λ n. take n (drop p.before (framed_bytes p.pieces))) (omega (arith, all_sent))
 
 -- a play goes on by a slot, in which a reply waits or none
 pub sent_slot : {session : SessionState} (going : PlayGoing session) (slot : ℕ) → session.heard < slot →
@@ -183,9 +193,7 @@ pub halted_here : {play : Played} {heard : ℕ} {film : List ℕ} {keep : ℕ} �
 halted_here {play} {heard} {film} {keep} has keep_is =
     let p = play.pacer in
     let is = has.pacing in
-    let inside : p.before + p.sent ≤ length (framed_bytes p.pieces) =
-    omega (arith, is.whole, is.most, is.due, is.sent) in
-    let next = boundary-from p.pieces (p.before + p.sent) inside in
+    let next = next_of_sent p is in
     let place : boundary_from p.pieces (p.before + p.sent) ≡ p.before + keep = omega (arith, keep_is, next.after) in
     let after : IsBoundaryAfter p.pieces (p.before + p.sent) (p.before + keep) =
     subst (IsBoundaryAfter p.pieces (p.before + p.sent)) place next in
@@ -216,8 +224,6 @@ halted_here {play} {heard} {film} {keep} has keep_is =
 pub halted_on : {p : PacerState} {heard slot : ℕ} {film : List ℕ} (waits : Bool) → IsHaltedPacing p heard film →
     heard < slot → IsHaltedPacing (sent_through slot p) slot (film ++ slot_film waits slot p)
 halted_on {p} {heard} {slot} {film} waits has later =
-    let bytes : slot_film waits slot p ≡ plan_bytes p p.sent (due_by p slot) =
-    slot_bytes waits (stands_at_boundary (after_step true slot p)) slot p has.pacing refl in
     let due : due_by p slot ≡ min (first_slots p.plan (max p.passed (slots_by p slot))) p.keep =
     due-of-both p.plan p.passed (slots_by p slot) p.keep p.due has.pacing.due in
     let before : p.sent ≤ due_by p slot = omega (arith, has.pacing.sent) in
@@ -226,10 +232,7 @@ halted_on {p} {heard} {slot} {film} waits has later =
       pacing = through_is slot p has.pacing;
       passed = omega (arith, has.passed, later);
       sent = due;
-      film_is = ap (λ bs. bs ++ slot_film waits slot p) has.film_is
-          ∙ ap (λ bs. bytes_between p.pieces p.before (p.before + p.sent) ++ bs) bytes
-          ∙ between-join p.pieces p.before (p.before + p.sent) (p.before + due_by p slot) (omega arith)
-          (omega (arith, before));
+      film_is = film_joined waits slot p has.pacing has.film_is;
       ends = record {
         boundary = has.ends.boundary;
         after = omega (arith, most);
@@ -241,6 +244,4 @@ halted_on {p} {heard} {slot} {film} waits has later =
 pub halted_count : {p : PacerState} {heard : ℕ} {film : List ℕ} → IsHaltedPacing p heard film → length film ≡ p.sent
 halted_count {p} has =
     let is = has.pacing in
-    let inside : p.before + p.sent ≤ length (framed_bytes p.pieces) =
-    omega (arith, is.whole, is.most, is.due, is.sent) in
-    ap length has.film_is ∙ between-length p.pieces p.before (p.before + p.sent) (omega arith) inside ∙ omega arith
+    ap length has.film_is ∙ between-length p.pieces p.before (p.before + p.sent) (omega arith) (sent_within p is) ∙ omega arith

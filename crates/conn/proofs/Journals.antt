@@ -143,11 +143,15 @@ terms_same a b same =
 take_whole : (entries : List Entry) (n : ℕ) → n ≡ length entries → take n entries ≡ entries
 take_whole entries n is = take_all n entries (omega (arith, is))
 
--- a seat made this entry, and is else as it was
-pub record OwnEntry (seat next : SeatState) (placed : PlacedEntry) : Type 0 where
+-- a seat before a call of the station, and after it
+pub record SeatCall (seat next : SeatState) : Type 0 where
   pub kept : IsSeat seat
   pub also : IsSeat next
   pub same : IsSameSeat seat next
+
+-- a seat made this entry, and is else as it was
+pub record OwnEntry (seat next : SeatState) (placed : PlacedEntry) : Type 0 where
+  pub call : SeatCall seat next
   pub maker : placed.entry.maker ≡ seat.number
   pub made : HasMadeEntry seat next (entries_needed placed.entry.command) placed.entry.command placed.place
       placed.entry.answer
@@ -167,8 +171,8 @@ entry_after : {seat next : SeatState} {placed : PlacedEntry} → OwnEntry seat n
 entry_after {seat} {next} {placed} own [] longer =
     let seen : next.seen ≡ seat.seen = sym longer ∙ append-nil seat.seen in
     let mine : next.mine ≡ seat.mine =
-    own.also.own ∙ ap (λ n. entries_by n next.seen) own.same.number ∙ ap (entries_by seat.number) seen
-    ∙ sym own.kept.own in
+    own.call.also.own ∙ ap (λ n. entries_by n next.seen) own.call.same.number ∙ ap (entries_by seat.number) seen
+    ∙ sym own.call.kept.own in
     let long : length seat.mine ≡ length seat.mine + 1 =
     ap (λ (ps : List PlacedEntry). length ps) (sym mine ∙ own_last own) ∙ length-append seat.mine (placed ∷ []) in
     absurd (omega (arith, long))
@@ -191,7 +195,7 @@ entry_agrees {seat} {next} {placed} own =
     ap (λ (xs : List Entry). open_count xs) front in
     let last = last_place made in (
       record {
-        after = entry_after own own.same.longer.0 own.same.longer.1;
+        after = entry_after own own.call.same.longer.0 own.call.same.longer.1;
         within = omega (arith, last);
         entry = λ none. last_entry made none
             ∙ ap (λ m. record { maker = m; command = placed.entry.command; answer = placed.entry.answer })

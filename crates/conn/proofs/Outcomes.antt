@@ -1,7 +1,7 @@
 -- What the station's answers leave of the connection that asked for them.
 use Rattle.std.proofs.Common.{[], ◌∷◌, ◌≡◌, ℕ, List, refl, sym, ◌∙◌, subst, ◌^◌, ◌<◌, ◌≤◌, Option, Some, None, ap}
 use Rattle.std.proofs.lemmas.List.{append-nil}
-use Rattle.station.specs.Seats.{SeatState, IsSameSeat, IsSeat}
+use Rattle.station.specs.Seats.{SeatState}
 use Rattle.admission.specs.Makers.{PlacedEntry, IsOpenAmong}
 use Rattle.session.specs.RequestSteps.{after_admission}
 use Rattle.session.specs.declared.commands.Ask.TheVariants.{Reply as AskReply, Play as AskPlay}
@@ -10,7 +10,7 @@ use Rattle.session.specs.SessionStates.{booking_of, open_of}
 use Rattle.conn.specs.InputSteps.{Unasked, Entered, WasFull, Offered}
 use Rattle.conn.specs.Observations.{AreNoted, HasAnswered}
 use Rattle.conn.proofs.CourseSteps.{noted_unasked}
-use Rattle.conn.proofs.Journals.{FoundFull, MadeOffer, OwnEntry, entry_agrees, full_agrees, note_of_offer}
+use Rattle.conn.proofs.Journals.{FoundFull, MadeOffer, OwnEntry, SeatCall, entry_agrees, full_agrees, note_of_offer}
 use Rattle.conn.proofs.Journals.{offer_agrees, own_last}
 use Rattle.admission.specs.declared.entries.Answer.TheVariants.{Admitted}
 use Rattle.plan_cert.specs.declared.Segment.{Segment}
@@ -31,7 +31,7 @@ use Rattle.conn.proofs.ReservationSteps.{gone_entry, gone_none, held_none}
 -- what is noted of the station's answers: an entry, a full journal, an offer
 pub noted_entry : {seat next : SeatState} {placed : PlacedEntry} → OwnEntry seat next placed
     → AreNoted seat next (Entered placed ∷ [])
-noted_entry own = record { mine = own_last own; seat = own.same; agree = entry_agrees own }
+noted_entry own = record { mine = own_last own; seat = own.call.same; agree = entry_agrees own }
 
 pub noted_full : {seat next : SeatState} (found : FoundFull seat next)
     → AreNoted seat next (WasFull found.more found.entries found.live ∷ [])
@@ -61,9 +61,7 @@ held_closed {booking} {play} mine none closed =
 
 -- the station answers to a play that a connection asks for
 pub record IsAsking (seat next : SeatState) (before : Connection) : Type 0 where
-  pub kept : IsSeat seat
-  pub also : IsSeat next
-  pub same : IsSameSeat seat next
+  pub call : SeatCall seat next
   pub held : IsHeld seat.mine before.booking (open_of before.session)
   pub closed : open_of before.session ≡ None
 
@@ -105,7 +103,7 @@ gone_refused (Overflow place slot booked bytes) play none =
 pub kept_refused : {refused : PlayRefused} (call : StationCall) → IsAsking call.seat call.next call.before
     → HasRefused refused call → KeepsReservations call.seat call.next call.before call.after
 kept_refused {refused} call asking play = record {
-  seat = asking.same;
+  seat = asking.call.same;
   quiet = record {
     rest = play.handed.at_rest;
     held = held_closed call.next.mine (play.booking ∙ none_held asking) play.closed;
@@ -121,18 +119,12 @@ pub answered_refused : {plan : List Segment} (call : StationCall) (refused : Pla
 answered_refused call (JournalFull asked entries live) asking is told = record {
   outcome = WasFull 2 entries live;
   answered = (told, refl);
-  noted = noted_full (record { more = 2; entries = entries; live = live; same = asking.same; full = is.1 });
+  noted = noted_full (record { more = 2; entries = entries; live = live; same = asking.call.same; full = is.1 });
 }
 answered_refused call (Overflow place slot booked bytes) asking is told = record {
   outcome = Entered _;
   answered = (refl, told);
-  noted = noted_entry (record {
-    kept = asking.kept;
-    also = asking.also;
-    same = asking.same;
-    maker = refl;
-    made = is;
-  });
+  noted = noted_entry (record { call = asking.call; maker = refl; made = is });
 }
 
 -- a play of a plan was admitted: its booking is held
@@ -153,7 +145,7 @@ kept_admitted {plan} {booking} call asking admitted =
     let opened : open_of call.after.session ≡ Some (record { plan = plan; start = booking.start; due = 0 }) =
     admitted.opens ∙ ap (λ awaits. booking_of awaits booking.start) admitted.asked in
     record {
-      seat = asking.same;
+      seat = asking.call.same;
       quiet = record {
         rest = admitted.handed.at_rest;
         held = subst (λ b. IsHeld call.next.mine b (open_of call.after.session)) (sym admitted.booking_is)
@@ -182,11 +174,5 @@ pub answered_admitted : {plan : List Segment} {booking : Booking} (call : Statio
 answered_admitted call asking made heard = record {
   outcome = Entered _;
   answered = (refl, (heard.later, heard.exact, heard.play, heard.small));
-  noted = noted_entry (record {
-    kept = asking.kept;
-    also = asking.also;
-    same = asking.same;
-    maker = refl;
-    made = made;
-  });
+  noted = noted_entry (record { call = asking.call; maker = refl; made = made });
 }

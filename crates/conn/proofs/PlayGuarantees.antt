@@ -18,9 +18,10 @@ use Rattle.film_streams.specs.SettingRanges.{AreSettings}
 use Rattle.session.specs.SlotSteps.{is_between, is_sending, is_taken, sent_due, after_slot, stepped_in}
 use Rattle.session.specs.SessionStates.{SessionState, last_heard_slot}
 use Rattle.conn.specs.InputSteps.{Outcome, SentPart, Stage, due_parts, film_bytes, slot_parts, stage}
-use Rattle.conn.specs.EventSteps.{Round, ending_outcomes, entries_in, rounds_outcomes}
+use Rattle.conn.specs.EventSteps.{Round, ending_outcomes, rounds_outcomes}
 use Rattle.conn.specs.Films.{HasSentOn, rounds_parts}
 use Rattle.conn.specs.Plays.{ArePlaysKept, IsKeptIn, IsSentBy, client_of, heard_by, play_pieces, ending_rounds}
+use Rattle.conn.proofs.CourseSteps.{noted_on, seen_agrees}
 use Rattle.conn.proofs.CurveBounds.{planned_between}
 use Rattle.conn.proofs.RequestInvariants.{AreShown, HasPlay, IsStateOf, IsWell, ground_of}
 use Rattle.conn.proofs.PlayProgress.{as_it_was, reply_heard, slot_play, standings}
@@ -161,7 +162,6 @@ keeps_promise {session} {old_seat} {new_seat} {report} well none is served =
     let course = served.course in
     let made : List Outcome = rounds_outcomes course.rounds ++ ending_outcomes course.ending in
     let parts : List SentPart = rounds_parts (course.rounds ++ ending_rounds course.ending) in
-    let after = entries_in (served.closes.halt ∷ []) in
     let told = course_tells {old = stage session []} (record {
       none = none;
       mid = course.mid;
@@ -175,14 +175,16 @@ keeps_promise {session} {old_seat} {new_seat} {report} well none is served =
         ends = course.ends;
       };
     }) in
-    let mine : new_seat.mine ≡ (old_seat.mine ++ entries_in made) ++ after =
-    served.closes.noted.mine ∙ ap (λ ps. ps ++ after) course.noted.mine in
     inl (record {
       served = served;
       booked = record { legal = is.legal; within = never_overbooked new_seat is };
       keeps = record {
         plays = plays_kept session (course.rounds ++ ending_rounds course.ending) well;
-        refusals = refusals_told {made = made} parts
-            (record { before = old_seat.mine; after = after; seat_is = is; mine_is = mine }) told;
+        refusals = refusals_told {made = made} parts (record {
+          legal = is.legal;
+          after = served.closes.halt ∷ [];
+          from = 0;
+          agree = seen_agrees (noted_on course.noted served.closes.noted);
+        }) told;
       };
     })

@@ -176,23 +176,24 @@ full_turn {asking = asking} {new} play f replied =
     open f use {j, entries, full}
     open j use {terms, journal}
 
+entry_completed : {old asking new : SessionState} (play : AsksPlay old asking) (placed : PlacedEntry)
+    → placed.entry.command ≡ play_of asking.heard (plan_of play) → IsPlayReplied old (Entered placed) new
+    → IsPlayCompleted old (Entered placed) new
+entry_completed play placed command replied = λ terms journal from legal agree.
+    inl (entry_turn play (record {
+      j = record { terms = terms; journal = journal; from = from; legal = legal };
+      placed = placed;
+      stands = agree.0;
+      command = command;
+    }) replied)
+
 asked_completed : {old asking new : SessionState} {outcome : Outcome} (play : AsksPlay old asking)
     → AnswersAs asking (AskPlay (plan_of play)) outcome new → IsPlayReplied old outcome new
     → IsPlayCompleted old outcome new
-asked_completed play (PlayAdmitted {placed = placed} entry answered) replied = λ terms journal from legal agree.
-    inl (entry_turn play (record {
-      j = record { terms = terms; journal = journal; from = from; legal = legal };
-      placed = placed;
-      stands = agree.0;
-      command = entry.command;
-    }) replied)
-asked_completed play (PlayOverflowed {placed = placed} entry) replied = λ terms journal from legal agree.
-    inl (entry_turn play (record {
-      j = record { terms = terms; journal = journal; from = from; legal = legal };
-      placed = placed;
-      stands = agree.0;
-      command = entry.command;
-    }) replied)
+asked_completed play (PlayAdmitted {placed = placed} entry answered) replied =
+    entry_completed play placed entry.command replied
+asked_completed play (PlayOverflowed {placed = placed} entry) replied =
+    entry_completed play placed entry.command replied
 asked_completed play (PlayFull {entries = entries} {live} two) replied = λ terms journal from legal agree.
     inl (full_turn play (record {
       j = record { terms = terms; journal = journal; from = from; legal = legal };
@@ -229,23 +230,18 @@ play_heard {old} {new} {message} {outcome} can heard =
           (subst (λ a. AnswersAs asking a outcome new) lacks.refused.0 answers)
     ]
 
-replied_to : {old new : SessionState} {outcome : Outcome} → PlayHeard old outcome new → IsPlayReplied old outcome new
-replied_to (Asked play answers) = asked_replied play answers
-replied_to {old} (Lacked code answers) = lacks_replied old code answers
-
-completed_by : {old new : SessionState} {outcome : Outcome} → PlayHeard old outcome new
-    → IsPlayReplied old outcome new → IsPlayCompleted old outcome new
-completed_by (Asked play answers) replied = asked_completed play answers replied
-completed_by (Lacked code answers) replied = lacks_completed answers replied
+heard_both : {old new : SessionState} {outcome : Outcome} → PlayHeard old outcome new
+    → IsPlayReplied old outcome new × IsPlayCompleted old outcome new
+heard_both (Asked play answers) = let replied = asked_replied play answers in (replied, asked_completed play answers replied)
+heard_both {old} (Lacked code answers) = let replied = lacks_replied old code answers in (replied, lacks_completed answers replied)
 
 pub play_answered : (old new : SessionState) (message : List ℕ) (outcome : Outcome) → CanBePlayed old message →
     HasHeard old message outcome new → IsPlayReplied old outcome new
-play_answered old new message outcome can heard = replied_to (play_heard can heard)
+play_answered old new message outcome can heard = (heard_both (play_heard can heard)).0
 
 pub play_completed : (old new : SessionState) (message : List ℕ) (outcome : Outcome) → CanBePlayed old message →
     HasHeard old message outcome new → IsPlayCompleted old outcome new
-play_completed old new message outcome can heard =
-    let its = play_heard can heard in completed_by its (replied_to its)
+play_completed old new message outcome can heard = (heard_both (play_heard can heard)).1
 
 pub overflow_told : {old new : SessionState} {plan : List Segment} {placed : PlacedEntry} {over : Over} →
     IsAskAnswered old (AskPlay plan) (Entered placed) new →

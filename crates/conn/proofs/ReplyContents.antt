@@ -44,9 +44,8 @@ unfolding reply_text reply_front status_line digits
 full_not_overflow sequence entries live is = other (λ p. absurd (omega (arith, p))) is
 
 -- what a reply says about the station's answers
-pub record TellsOver (made : List Outcome) (text : List ℕ) : Type 0 where
+pub record TellsOver (text : List ℕ) : Type 0 where
   pub placed : PlacedEntry
-  pub among : Contains made (Entered placed)
   pub over : Over
   pub answer : placed.entry.answer ≡ Overflow over.slot over.booked over.asked
   pub sequence : ℕ
@@ -54,7 +53,7 @@ pub record TellsOver (made : List Outcome) (text : List ℕ) : Type 0 where
 
 -- by what the station has answered up to now
 pub record IsTold (made : List Outcome) (text : List ℕ) : Type 0 where
-  pub overflow : HasCode 453 text → TellsOver made text
+  pub overflow : HasCode 453 text → (told : TellsOver text) × Contains made (Entered told.placed)
   pub full : HasCode 503 text → ReportsFullOf made text
 
 abbrev pub AreReported : List Outcome → List SentPart → Type 0
@@ -72,15 +71,7 @@ told_plain made text plain = record {
 told_with_more : (made more : List Outcome) (text : List ℕ) → IsTold made text → IsTold (made ++ more) text
 told_with_more made more text told = record {
   overflow = λ is.
-      let its = told.overflow is in
-      record {
-        placed = its.placed;
-        among = Contains-append_left made more (Entered its.placed) its.among;
-        over = its.over;
-        answer = its.answer;
-        sequence = its.sequence;
-        text_is = its.text_is;
-      };
+      let its = told.overflow is in (its.0, Contains-append_left made more (Entered its.0.placed) its.1);
   full = λ is.
       let its = told.full is in
       record {
@@ -110,14 +101,10 @@ told_overflow : (made : List Outcome) (placed : PlacedEntry) (over : Over) (sequ
     placed.entry.answer ≡ Overflow over.slot over.booked over.asked →
     IsTold (made ++ Entered placed ∷ []) (overflow_text sequence over.slot over.booked over.asked)
 told_overflow made placed over sequence answer = record {
-  overflow = λ is. record {
-    placed = placed;
-    among = Contains-push made (Entered placed);
-    over = over;
-    answer = answer;
-    sequence = sequence;
-    text_is = refl;
-  };
+  overflow = λ is. (
+    record { placed = placed; over = over; answer = answer; sequence = sequence; text_is = refl },
+    Contains-push made (Entered placed),
+  );
   full = λ is. absurd (overflow_not_full sequence over.slot over.booked over.asked is);
 }
 

@@ -6,7 +6,6 @@ use Rattle.std.proofs.lemmas.List.{append-nil, append_assoc, length-append}
 use Rattle.film_frames.specs.Tracks.{IsBoundary, framed_bytes}
 use Rattle.pacer.specs.PacerStates.{IsPacerState, PacerState, first_slots, next_boundary, plan_bytes, at_slot}
 use Rattle.pacer.specs.PacerStates.{stands_at_boundary, step_end, after_step}
-use Rattle.pacer.proofs.PacerStateLemmas.{boundary-from}
 use Rattle.pacer.proofs.SendLemmas.{between-length}
 use Rattle.session.specs.declared.states.Play.{Play as Played}
 use Rattle.film_streams.specs.declared.setups.Setup.{Setup}
@@ -20,7 +19,7 @@ use Rattle.conn.specs.EventSteps.{Round, Runs, RunsAll, round_outcomes, rounds_o
 use Rattle.conn.specs.Films.{HaveNoHalt, GoesOn, HasSent, HasSentOn, StandBetween, PlaySpan, round_parts}
 use Rattle.conn.specs.Films.{rounds_parts, takings_parts}
 use Rattle.pacer.proofs.SlotStepLemmas.{most-slots}
-use Rattle.conn.proofs.FilmBytes.{stopped_is}
+use Rattle.conn.proofs.FilmBytes.{next_of_sent, sent_within, stopped_is}
 use Rattle.conn.proofs.PlayProgress.{comes_on, going_left, going_on, heard_left, round_on, span_going, taking_left}
 use Rattle.conn.proofs.PlayProgress.{takes_left, unhalted_front, unhalted_rest}
 use Rattle.conn.proofs.EventPremises.{PlayGoing}
@@ -51,9 +50,7 @@ sent_place play heard film has =
 pub boundary_here : (p : PacerState) → IsPacerState p → stands_at_boundary p ≡ true → IsBoundary p.pieces (p.before +
     p.sent)
 boundary_here p is stands =
-    let inside : p.before + p.sent ≤ length (framed_bytes p.pieces) =
-    omega (arith, is.whole, is.most, is.due, is.sent) in
-    let next = boundary-from p.pieces (p.before + p.sent) inside in
+    let next = next_of_sent p is in
     let same : next_boundary p ≡ p.sent = eqb-true (next_boundary p) p.sent stands in
     subst (IsBoundary p.pieces) (omega (arith, same, next.after)) next.boundary
 
@@ -63,13 +60,10 @@ stopped_place : (slot : ℕ) (p : PacerState) → IsPacerState p
     ≡ p.before + (after_step true slot p).sent
 stopped_place slot p is =
     let mid : ℕ = step_end true (at_slot slot p) in
-    let inside : p.before + p.sent ≤ length (framed_bytes p.pieces) =
-    omega (arith, is.whole, is.most, is.due, is.sent) in
-    let next = boundary-from p.pieces (p.before + p.sent) inside in
+    let next = next_of_sent p is in
     let least : p.sent ≤ mid = omega (arith, next.after, is.sent) in
     let now = stopped_is slot p is in
-    let most : p.before + mid ≤ length (framed_bytes p.pieces) =
-    omega (arith, now.whole, now.most, now.due, now.sent) in
+    let most : p.before + mid ≤ length (framed_bytes p.pieces) = sent_within (after_step true slot p) now in
     omega (arith, least, between-length p.pieces (p.before + p.sent) (p.before + mid) (omega (arith, least)) most)
 
 stand-append : (pieces : List (List ℕ)) (place : ℕ) (xs ys : List SentPart) → StandBetween pieces place xs →

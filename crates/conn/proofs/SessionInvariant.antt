@@ -22,7 +22,7 @@ use Rattle.session.specs.declared.states.Play.{Play as Played}
 use Rattle.film_streams.specs.declared.setups.Setup.{Setup}
 use Rattle.session.specs.declared.states.State.{State}
 use Rattle.session.specs.declared.states.State.TheVariants.{Init, Playing, Ready, Stopping}
-use Rattle.session.specs.RequestEffects.{AwaitsNoStop, IsSameContext}
+use Rattle.session.specs.RequestEffects.{AwaitsNoStop}
 use Rattle.session.specs.RunRequests.{sending_of, playback_of}
 use Rattle.session.specs.RequestSteps.{after_admission, after_halt, counts_done, counts_next, counts_of}
 use Rattle.session.specs.RequestSteps.{halted_counts}
@@ -40,7 +40,7 @@ use Rattle.conn.specs.Plays.{film_in, film_since, film_taken}
 use Rattle.conn.proofs.PlayStart.{play_begins}
 use Rattle.conn.proofs.RequestInvariants.{AreShown, Ground, HasPlay, HasPrepared, HasStopped, IsAskedWell, IsHaltAwaited}
 use Rattle.conn.proofs.RequestInvariants.{IsHaltedTo, IsHalting, IsHaltingIn, IsStateOf, IsWell, ground_of, ground_by}
-use Rattle.conn.proofs.RequestInvariants.{ground_same, hears_well}
+use Rattle.conn.proofs.RequestInvariants.{hears_well}
 use Rattle.conn.proofs.PlayProgress.{slot_any, slot_play}
 use Rattle.conn.proofs.ReplyPlacement.{no_film}
 use Rattle.conn.proofs.EventPremises.{PlayGoing, RequestHeard}
@@ -229,11 +229,7 @@ takes_well old new (Answered message outcome parts ∷ takings) film takes well 
 
 -- a slot leaves all of a session but what was sent
 record IsSameSession (old new : SessionState) : Type 0 where
-  films : new.films ≡ old.films
-  source : new.source ≡ old.source
-  settings : new.settings ≡ old.settings
-  counts : new.counts ≡ old.counts
-  plays : new.plays ≡ old.plays
+  ground : ground_of new [] ≡ ground_by (ground_of old []) new.heard []
   unstopped : AwaitsNoStop old → AwaitsNoStop new
 
 -- a play that is done is halted, and leaves nothing
@@ -245,26 +241,11 @@ done_next false keep awaited none = none
 -- what is due leaves it, and so does a slot in which nothing is
 sent_ground : (goes : Bool) (old : SessionState) (slot : ℕ)
     → IsSameSession old (after_play (if goes then sent_reply (sent_due old slot) else sent_due old slot))
-sent_ground true old slot = record {
-  films = refl;
-  source = refl;
-  settings = refl;
-  counts = refl;
-  plays = refl;
-  unstopped = λ none. done_next _ _ old.awaited none;
-}
-sent_ground false old slot = record {
-  films = refl;
-  source = refl;
-  settings = refl;
-  counts = refl;
-  plays = refl;
-  unstopped = λ none. done_next _ _ old.awaited none;
-}
+sent_ground true old slot = record { ground = refl; unstopped = done_next _ _ old.awaited }
+sent_ground false old slot = record { ground = refl; unstopped = done_next _ _ old.awaited }
 
 still_ground : (old : SessionState) (heard : ℕ) → IsSameSession old (record old { heard = heard })
-still_ground old heard =
-    record { films = refl; source = refl; settings = refl; counts = refl; plays = refl; unstopped = λ none. none }
+still_ground old heard = record { ground = refl; unstopped = λ none. none }
 
 slot_ground : (old : SessionState) (slot : ℕ) → IsSameSession old (after_slot old slot)
 slot_ground old slot =
@@ -291,20 +272,12 @@ slot_well : {film more : List ℕ} (old : SessionState) (slot : ℕ) → IsWell 
 slot_well {more = more} old slot well state =
     let new : SessionState = after_slot old slot in
     let same : IsSameSession old new = slot_ground old slot in
-    let context : IsSameContext (record old { heard = new.heard }) new = record {
-      films = same.films;
-      settings = same.settings;
-      source = same.source;
-      counts = same.counts;
-      heard = refl;
-      plays = same.plays;
-    } in
     record {
-      films = subst AreShown (sym same.films) well.films;
-      settings = subst AreSettings (sym same.settings) well.settings;
+      films = subst AreShown (sym (ap (λ (g : Ground). g.films) same.ground)) well.films;
+      settings = subst AreSettings (sym (ap (λ (g : Ground). g.settings) same.ground)) well.settings;
       unstopped = same.unstopped well.unstopped;
-      state = subst (λ g. IsStateOf g new.state) (ground_same (record old { heard = new.heard }) new more context)
-          state;
+      state = subst (λ g. IsStateOf g new.state)
+          (sym (ap (λ (g : Ground). ground_by g new.heard more) same.ground)) state;
     }
 
 -- a play goes on by a slot

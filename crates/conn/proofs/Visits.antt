@@ -19,7 +19,7 @@ use Rattle.station.specs.Seats.{IsSameSeat, SeatState}
 use Rattle.station.proofs.LongerJournals.{prefix_at, prefix_take}
 use Rattle.station.proofs.SameSeats.{seat_none, seat_on}
 use Rattle.conn.specs.Agreement.{Agrees, AgreesIfObserved, Activity, Visit, doings_outcomes, visit}
-use Rattle.conn.specs.Journals.{AgreeWith, Terms, terms_of}
+use Rattle.conn.specs.Journals.{Terms, terms_of}
 use Rattle.conn.specs.Parts.{AreServed, HasServedOne, fresh_history}
 use Rattle.conn.specs.Guarantees.{AreRefusalsJustified, MeetsGuarantee, ReportsOverflowOf}
 use Rattle.conn.specs.InputSteps.{Outcome, SentPart, Film, Text}
@@ -29,15 +29,8 @@ use Rattle.conn.specs.Plays.{ending_rounds}
 use Rattle.conn.specs.ReservationInvariant.{Closed, open_play_from}
 use Rattle.conn.specs.Observations.{AreNoted}
 use Rattle.conn.specs.declared.reports.ConnReport.{ConnReport}
-use Rattle.conn.proofs.Journals.{LongerJournal, agree_longer, same_journal, terms_same}
-use Rattle.conn.proofs.CourseSteps.{noted_on}
-
--- what is noted of a connection agrees with its seat's journal from the beginning
-seen_agrees : (old new : SeatState) (outcomes : List Outcome) → AreNoted old new outcomes
-    → AgreeWith (terms_of new) new.seen 0 outcomes
-seen_agrees old new outcomes noted =
-    subst (λ terms. AgreeWith terms new.seen 0 outcomes) (sym (terms_same old new noted.seat))
-    (agree_longer (same_journal (terms_of old) new.seen 0 (length old.seen) (omega arith)) outcomes noted.agree)
+use Rattle.conn.proofs.Journals.{LongerJournal, agree_longer, terms_same}
+use Rattle.conn.proofs.CourseSteps.{noted_on, seen_agrees}
 
 -- what was served agrees with the seat's journal
 pub one_agrees : {old new : SeatState} (visit : Visit) →
@@ -69,7 +62,7 @@ one_agrees {old} {new} visit one = λ told tells found.
               closes = served.closes.closes;
               report_is = served.report_is;
             };
-            agree = seen_agrees old new (doings_outcomes doings) noted;
+            agree = seen_agrees noted;
             plays = meets.keeps.plays;
             refusals = meets.keeps.refusals;
             halts = subst (λ made. open_play_from Closed made ≡ Closed)

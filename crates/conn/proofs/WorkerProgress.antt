@@ -20,6 +20,7 @@ use Rattle.station.proofs.SameSeats.{seat_none, seat_on}
 use Rattle.conn.specs.declared.reports.ConnReport.{ConnReport}
 use Rattle.conn.specs.declared.reports.PartReport.{PartReport}
 use Rattle.conn.specs.declared.reports.ConnEnd.TheVariants.{LinkFault}
+use Rattle.conn.specs.declared.reports.PartEnd.{PartEnd}
 use Rattle.conn.specs.declared.reports.PartEnd.TheVariants.{AllTaken, GateFault, NoMemory}
 use Rattle.conn.specs.EventSteps.{ending_doings, rounds_doings}
 use Rattle.conn.specs.Guarantees.{MeetsGuarantee}
@@ -323,10 +324,10 @@ part_so_far {input} {old} {seat} {gate} result so_far =
     record { input = input; old = old; seat = seat; gate = gate; result = result; so_far = so_far }
 
 -- what is known of the gate by the cause of a part's end
-record EndsBy (p : PartSoFar) : Type 0 where
-  all : p.result.end ≡ AllTaken → IfSome p.gate.told (λ c. c.own.last ≡ NoMore)
-  fault : p.result.end ≡ GateFault → HasRisen p.old.gate.faults p.gate.faults
-  failed : p.result.end ≡ GateFault → IfSome p.gate.told (λ c. c.own.last ≡ Failed)
+abbrev EndsBy : PartSoFar → PartEnd → Type 0
+EndsBy p AllTaken = IfSome p.gate.told (λ c. c.own.last ≡ NoMore)
+EndsBy p GateFault = HasRisen p.old.gate.faults p.gate.faults × IfSome p.gate.told (λ c. c.own.last ≡ Failed)
+EndsBy p NoMemory = Unit {0}
 
 -- the last take gave none
 pub record TookNone (last : LastTake) (mid new : WorkerGate) : Type 0 where
@@ -357,42 +358,34 @@ took_none {gate} last p took = record p {
 }
 
 -- a part that ends
-ended : (p : PartSoFar) → EndsBy p → WorkerSpec p.input p.old.seat p.seat p.old.gate p.gate p.result
-ended p ends = record {
+ended : {end : PartEnd} (p : PartSoFar) → p.result.end ≡ end → EndsBy p end
+    → WorkerSpec p.input p.old.seat p.seat p.old.gate p.gate p.result
+ended p is ends = record {
   seat = p.so_far.seat;
   entries = p.so_far.entries;
   reports = p.so_far.each;
   served = p.so_far.served;
   connections = p.so_far.connections;
   count = p.so_far.count;
-  all = ends.all;
-  fault = ends.fault;
-  failed = ends.failed;
+  all = λ same. subst (EndsBy p) (sym is ∙ same) ends;
+  fault = λ same. (subst (EndsBy p) (sym is ∙ same) ends).0;
+  failed = λ same. (subst (EndsBy p) (sym is ∙ same) ends).1;
 }
 
 -- there was no memory for one more report
 pub ends_early : (p : PartSoFar) → p.result.end ≡ NoMemory
     → WorkerSpec p.input p.old.seat p.seat p.old.gate p.gate p.result
-ends_early p is = ended p (record {
-  all = λ other. absurd (let no : ⊥ = cc (is, other) in no);
-  fault = λ other. absurd (let no : ⊥ = cc (is, other) in no);
-  failed = λ other. absurd (let no : ⊥ = cc (is, other) in no);
-})
+ends_early p is = ended p is tt
 
 -- there are no more
 pub ends_taken : {new : WorkerGate} (p : PartSoFar) → p.result.end ≡ AllTaken → TookNone NoMore p.gate new
     → WorkerSpec p.input p.old.seat p.seat p.old.gate new p.result
-ends_taken {new} p is took = ended (took_none NoMore p took) (record {
-  all = λ same. told_last p.gate.told new.told NoMore took.told;
-  fault = λ other. absurd (let no : ⊥ = cc (is, other) in no);
-  failed = λ other. absurd (let no : ⊥ = cc (is, other) in no);
-})
+ends_taken {new} p is took = ended (took_none NoMore p took) is (told_last p.gate.told new.told NoMore took.told)
 
 -- or it failed
 pub ends_failed : {new : WorkerGate} (p : PartSoFar) → p.result.end ≡ GateFault → TookNone Failed p.gate new
     → HasRisen p.gate.faults new.faults → WorkerSpec p.input p.old.seat p.seat p.old.gate new p.result
-ends_failed {new} p is took risen = ended (took_none Failed p took) (record {
-  all = λ other. absurd (let no : ⊥ = cc (is, other) in no);
-  fault = λ same. risen_on p.old.gate.faults p.gate.faults new.faults p.so_far.count risen;
-  failed = λ same. told_last p.gate.told new.told Failed took.told;
-})
+ends_failed {new} p is took risen = ended (took_none Failed p took) is (
+  risen_on p.old.gate.faults p.gate.faults new.faults p.so_far.count risen,
+  told_last p.gate.told new.told Failed took.told,
+)

@@ -27,9 +27,7 @@ returns-in-Some-clause-answered g c = record {
     halts = c.halted.ensures.halts;
   };
   noted = noted_entry (record {
-    kept = c.holds.ensures.kept;
-    also = c.halt-place.ensures.kept;
-    same = c.halt-place.ensures.same;
+    call = record { kept = c.holds.ensures.kept; also = c.halt-place.ensures.kept; same = c.halt-place.ensures.same };
     maker = refl;
     made = c.halt-place.ensures.made;
   });

@@ -37,9 +37,7 @@ returns-in-Ok-clause-answered g c = record {
   outcome = Entered _;
   answered = (refl, c.looked.ensures.exact);
   noted = noted_entry (record {
-    kept = c.holds.ensures.kept;
-    also = c.look.ensures.kept;
-    same = c.look.ensures.same;
+    call = record { kept = c.holds.ensures.kept; also = c.look.ensures.kept; same = c.look.ensures.same };
     maker = refl;
     made = c.in-Ok.ensures.made;
   });

@@ -12,9 +12,7 @@ use Rattle.conn.proofs.connections.Connection.play.Goals.{After-play}
 -- what is known once the station answered
 asking : (g : _) (c : After-play g) → IsAsking c.args.seat.now c.play.new.seat c.args.self.now
 asking g c = record {
-  kept = c.holds.ensures.kept;
-  also = c.play.ensures.kept;
-  same = c.play.ensures.same;
+  call = record { kept = c.holds.ensures.kept; also = c.play.ensures.kept; same = c.play.ensures.same };
   held = c.requires.held;
   closed = c.requires.closed;
 }

@@ -1,12 +1,37 @@
-use Rattle.std.proofs.Common.{inl, inr, refl, rules, ◌∙◌}
+use Rattle.std.proofs.Common.{inl, inr, refl, rules, sym, ◌∙◌}
 use Rattle.interleave.specs.declared.elements.Step.TheVariants.{Request}
 use Rattle.conn.specs.Observations.{observed}
+use Rattle.conn.specs.ReservationInvariant.{KeepsReservations}
 use Rattle.conn.proofs.FaultCounts.{counted_fault, counted_none}
 use Rattle.rtsp_text.proofs.WholeRequests.{fewer, some_request}
 use Rattle.conn.proofs.ElementPrefixes.{cuts_drop, cuts_none}
 use Rattle.conn.proofs.ReservationSteps.{kept_none, kept_then, still_open}
-use Rattle.conn.proofs.CourseSteps.{lost_reply, stage_is, taken_reply}
+use Rattle.conn.proofs.CourseSteps.{RequestAnswered, lost_reply, stage_is, taken_reply}
 use Rattle.conn.proofs.connections.Connection.process_request.Goals as goal
+use Rattle.conn.proofs.connections.Connection.process_request.Goals.{After-reply}
+
+-- the request was answered, and its reply was to be sent
+abbrev answered : (g : _) (c : After-reply g)
+    → RequestAnswered (observed c.args.self.now (g.K.Link.told c.args.link.now) c.args.seat.now)
+    (observed (record c.answer_request.new.self { session = c.reply.new.self })
+    (g.K.Link.told c.reply.new.link) c.answer_request.new.seat)
+answered g c = record {
+  asked = c.answer_request.new.self.session;
+  n = c.args.length;
+  in_front = record { first = c.requires.first; replied = sym c.waits.ensures ∙ c.if-waits.false; torn = c.requires.torn };
+  heard = c.answer_request.ensures.heard;
+}
+
+-- what the answer keeps is kept, whether the reply was sent or not
+kept : (g : _) (c : After-reply g)
+    → KeepsReservations c.args.seat.now c.answer_request.new.seat c.args.self.now
+    (record c.answer_request.new.self { session = c.reply.new.self })
+kept g c =
+    kept_then c.answer_request.ensures.kept (record {
+      rest = c.reply.ensures.rest;
+      same = record { booking = refl; receipts = c.reply.ensures.receipts };
+      opens = still_open _ _ c.reply.ensures.open;
+    })
 
 pub returns-in-Ok-clause-cut : goal.returns-in-Ok-clause-cut
 returns-in-Ok-clause-cut g c =
@@ -34,47 +59,25 @@ returns-in-Ok-clause-taken g c = (
 
 pub returns-in-Ok-clause-takes : goal.returns-in-Ok-clause-takes
 returns-in-Ok-clause-takes g c =
-    taken_reply {a = observed c.args.self.now (g.K.Link.told c.args.link.now) c.args.seat.now}
-    {b = observed (record c.answer_request.new.self { session = c.reply.new.self })
-    (g.K.Link.told c.reply.new.link) c.answer_request.new.seat} (record {
-      asked = c.answer_request.new.self.session;
-      n = c.args.length;
-      in_front = record { first = c.requires.first; replied = search rules; torn = c.requires.torn };
-      heard = c.answer_request.ensures.heard;
-    }) (stage_is c.in-Ok.ensures.exact c.answer_request.ensures.input) c.in-Ok.ensures.told
+    taken_reply (answered g (goal.at.returns-in-Ok-clause-takes g c).After-reply)
+    (stage_is c.in-Ok.ensures.exact c.answer_request.ensures.input) c.in-Ok.ensures.told
 
 pub returns-in-Err-clause-takes : goal.returns-in-Err-clause-takes
 returns-in-Err-clause-takes g c =
     inl (
       refl,
-      lost_reply {a = observed c.args.self.now (g.K.Link.told c.args.link.now) c.args.seat.now}
-          {b = observed (record c.answer_request.new.self { session = c.reply.new.self })
-          (g.K.Link.told c.reply.new.link) c.answer_request.new.seat} (record {
-            asked = c.answer_request.new.self.session;
-            n = c.args.length;
-            in_front = record { first = c.requires.first; replied = search rules; torn = c.requires.torn };
-            heard = c.answer_request.ensures.heard;
-          }) c.in-Err.ensures.can (stage_is c.in-Err.ensures.failed c.answer_request.ensures.input) c.in-Err.ensures.front,
+      lost_reply (answered g (goal.at.returns-in-Err-clause-takes g c).After-reply) c.in-Err.ensures.can
+          (stage_is c.in-Err.ensures.failed c.answer_request.ensures.input) c.in-Err.ensures.front,
     )
 
 pub returns-then-waits-clause-kept : goal.returns-then-waits-clause-kept
 returns-then-waits-clause-kept g c = kept_none c.args.seat.now c.args.self.now c.requires.quiet
 
 pub returns-in-Ok-clause-kept : goal.returns-in-Ok-clause-kept
-returns-in-Ok-clause-kept g c =
-    kept_then c.answer_request.ensures.kept (record {
-      rest = c.reply.ensures.rest;
-      same = record { booking = refl; receipts = c.reply.ensures.receipts };
-      opens = still_open _ _ c.reply.ensures.open;
-    })
+returns-in-Ok-clause-kept g c = kept g (goal.at.returns-in-Ok-clause-kept g c).After-reply
 
 pub returns-in-Err-clause-kept : goal.returns-in-Err-clause-kept
-returns-in-Err-clause-kept g c =
-    kept_then c.answer_request.ensures.kept (record {
-      rest = c.reply.ensures.rest;
-      same = record { booking = refl; receipts = c.reply.ensures.receipts };
-      opens = still_open _ _ c.reply.ensures.open;
-    })
+returns-in-Err-clause-kept g c = kept g (goal.at.returns-in-Err-clause-kept g c).After-reply
 
 pub returns-then-waits-clause-cut : goal.returns-then-waits-clause-cut
 returns-then-waits-clause-cut g c = cuts_none c.args.self.now.input
