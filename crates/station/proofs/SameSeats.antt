@@ -1,19 +1,27 @@
 -- What calls leave of a seat.
-use Rattle.std.proofs.Common.{refl, ◌∙◌}
+use Rattle.std.proofs.Common.{List, refl, ◌∙◌}
+use mathlib.Core.List.{IsPrefix}
+use Rattle.admission.specs.declared.entries.Entry.{Entry}
+use Rattle.admission.specs.Makers.{PlacedEntry}
 use Rattle.turnstile.proofs.Prefixes.{prefix_self, prefix_trans}
 use Rattle.station.specs.Seats.{IsSameSeat, SeatState}
 
--- no call
-pub seat_none : (seat : SeatState) → IsSameSeat seat seat
-seat_none seat = record {
+-- the seat has seen more of the journal, and its own entries in it
+pub seat_seen : (seat : SeatState) (seen : List Entry) (mine : List PlacedEntry) → IsPrefix seat.seen seen
+    → IsSameSeat seat (record seat { seen = seen; mine = mine })
+seat_seen seat seen mine longer = record {
   id = refl;
   steps = refl;
   limit = refl;
   number = refl;
   splits = refl;
   joined = refl;
-  longer = prefix_self seat.seen;
+  longer = longer;
 }
+
+-- no call
+pub seat_none : (seat : SeatState) → IsSameSeat seat seat
+seat_none seat = seat_seen seat seat.seen seat.mine (prefix_self seat.seen)
 
 -- one call after another
 pub seat_on : (a b c : SeatState) → IsSameSeat a b → IsSameSeat b c → IsSameSeat a c

@@ -25,6 +25,7 @@ use Rattle.station.specs.Answers.{IsFull, IsSeatRefused, HasMadeEntry}
 use Rattle.station.specs.Inside.{seat_of}
 use Rattle.station.specs.Seats.{IsSameSeat, SeatState}
 use Rattle.station.proofs.EntryLemmas.{IsAt, seat_after}
+use Rattle.station.proofs.SameSeats.{seat_seen}
 
 -- a pass took the lock, and `old` is the book as it was then
 pub record HasTakenTurn (p taken : PassState) (old : Journal) : Type 0 where
@@ -72,15 +73,9 @@ visit {p} {back} {seat} {lent} {last} {new} {maker} turn given maker_is is = rec
 }
 
 pub visit_same : (v : Visit) → IsPrefix v.lent.entries v.new.entries → IsSameSeat v.seat (seat_of v.back)
-visit_same v longer = subst (IsSameSeat v.seat) (sym v.back_is) record {
-  id = refl;
-  steps = refl;
-  limit = refl;
-  number = refl;
-  splits = refl;
-  joined = refl;
-  longer = prefix_trans v.seat.seen v.lent.entries v.new.entries v.at.longer longer;
-}
+visit_same v longer = subst (IsSameSeat v.seat) (sym v.back_is)
+    (seat_seen v.seat v.new.entries (entries_by v.seat.number v.new.entries)
+    (prefix_trans v.seat.seen v.lent.entries v.new.entries v.at.longer longer))
 
 pub visit_made : (v : Visit) {more : ℕ} {command : Command} {place : ℕ} {answer : Answer}
     → IsEntered v.lent v.new v.maker more command place answer

@@ -3,6 +3,7 @@
 ghost use Rattle.std.specs.Prelude.{◌≡◌};
 ghost use Rattle.station.specs.Seats.{IsSeat};
 
+use std::fmt;
 use std::marker::Model;
 use turnstile::Pass;
 
@@ -26,6 +27,15 @@ impl Model for Seat {
     ghost view = { seat_state };
 
     ghost invariant = { IsSeatInvariant };
+}
+
+/// Its number alone: what it has seen exists for contracts only.
+impl fmt::Debug for Seat {
+    fn fmt<W: fmt::Write>(&self, f: &mut fmt::Formatter<W>) -> fmt::Result {
+        f.debug_struct("Seat")
+            .field("number", &self.pass.number())
+            .finish_non_exhaustive()
+    }
 }
 
 impl Seat {

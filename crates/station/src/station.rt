@@ -20,6 +20,7 @@ use early_start::Offers;
 use plan_cert::Plan;
 use slot_calendar::Profile;
 use std::alloc::Global;
+use std::fmt;
 use std::marker::Model;
 use std::sync::Wait;
 use turnstile::Turnstile;
@@ -43,6 +44,13 @@ impl Model for Station {
       steps = s.turns.terms.steps;
       limit = s.turns.terms.limit;
     } };
+}
+
+/// No field: the book belongs to the seat that holds the lock.
+impl fmt::Debug for Station {
+    fn fmt<W: fmt::Write>(&self, f: &mut fmt::Formatter<W>) -> fmt::Result {
+        f.write_str("Station { .. }")
+    }
 }
 
 impl Station {

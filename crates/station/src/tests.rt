@@ -200,6 +200,8 @@ fn threads_share_one_book(rt: HostRuntime) -> Result<(), Fail> {
     let alloc = rt.alloc();
     let (station, seat) = Station::new(alloc, Profile::flat(alloc, 36)?, 1024)?;
     assert_eq!(rt; seat.number(), 0);
+    let text = format!(in alloc; "{station:?} {seat:?}")?;
+    assert_eq!(rt; text.as_str(), "Station { .. } Seat { number: 0, .. }");
     run_two_seats(&rt, alloc, station, seat);
     let (station, seat) = Station::new(alloc, Profile::flat(alloc, 36)?, 2048)?;
     run_four_seats(&rt, alloc, station, seat);
