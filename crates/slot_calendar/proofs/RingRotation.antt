@@ -7,7 +7,8 @@ use Rattle.std.proofs.lemmas.Bool.{cases_lt, cases_eq}
 use Rattle.std.proofs.lemmas.List.{length-set, get_or-set_same, get_or-set_other, length-drop, length-take-le}
 use Rattle.std.proofs.lemmas.List.{length-append, get_or_append_left}
 use Rattle.std.proofs.lemmas.List.{get_or-append_right, get_or-drop, get_or-take, get_or_past}
-use Rattle.slot_calendar.specs.Rings.{AreBlockMaxima, rotation}
+use Rattle.slot_calendar.specs.Rings.{AreBlockMaxima, IsEmptyFrom, rotation, slots_of_ring}
+use Rattle.slot_calendar.specs.declared.ring.Ring.TheInside.{Inside}
 use Rattle.slot_calendar.specs.Totals.{ring_slots, total_at}
 
 -- a remainder, from a quotient
@@ -209,3 +210,9 @@ total-zeros {xs} first t places zeros =
           )
       | inr from ↦ total-zero first t places zeros from
     ]
+
+-- a ring that is empty from its first slot on is empty from each other one on
+pub jumped-zeros : (d : Inside) → HasPlaces d.places.items → IsEmptyFrom (slots_of_ring d) d.first → (first t : ℕ)
+    → total_at first (in_order first d.places.items) t ≡ 0
+jumped-zeros d places empty first t =
+    total-zeros first t places (empty-places d.first places (λ u from. empty u from from))
