@@ -176,24 +176,28 @@ full_turn {asking = asking} {new} play f replied =
     open f use {j, entries, full}
     open j use {terms, journal}
 
-entry_completed : {old asking new : SessionState} (play : AsksPlay old asking) (placed : PlacedEntry)
-    → placed.entry.command ≡ play_of asking.heard (plan_of play) → IsPlayReplied old (Entered placed) new
-    → IsPlayCompleted old (Entered placed) new
-entry_completed play placed command replied = λ terms journal from legal agree.
+-- the entry of a play that was asked for
+record AskedEntry {old asking : SessionState} (play : AsksPlay old asking) : Type 0 where
+  placed : PlacedEntry
+  command : placed.entry.command ≡ play_of asking.heard (plan_of play)
+
+entry_completed : {old asking new : SessionState} (play : AsksPlay old asking) (e : AskedEntry play)
+    → IsPlayReplied old (Entered e.placed) new → IsPlayCompleted old (Entered e.placed) new
+entry_completed play e replied = λ terms journal from legal agree.
     inl (entry_turn play (record {
       j = record { terms = terms; journal = journal; from = from; legal = legal };
-      placed = placed;
+      placed = e.placed;
       stands = agree.0;
-      command = command;
+      command = e.command;
     }) replied)
 
 asked_completed : {old asking new : SessionState} {outcome : Outcome} (play : AsksPlay old asking)
     → AnswersAs asking (AskPlay (plan_of play)) outcome new → IsPlayReplied old outcome new
     → IsPlayCompleted old outcome new
 asked_completed play (PlayAdmitted {placed = placed} entry answered) replied =
-    entry_completed play placed entry.command replied
+    entry_completed play (record { placed = placed; command = entry.command }) replied
 asked_completed play (PlayOverflowed {placed = placed} entry) replied =
-    entry_completed play placed entry.command replied
+    entry_completed play (record { placed = placed; command = entry.command }) replied
 asked_completed play (PlayFull {entries = entries} {live} two) replied = λ terms journal from legal agree.
     inl (full_turn play (record {
       j = record { terms = terms; journal = journal; from = from; legal = legal };
