@@ -24,7 +24,7 @@ run-grown : (ls : List Line) (ts : List (List ℕ)) (taken : LineRun ls ts) → 
 run-grown ls ts taken =
     run-keeps ls ts taken (λ (m : DayState). HasGrown taken.old.entries m.entries) (λ line mid next text may is grown.
     let step : LineStep = record { link = taken.link; old = mid; new = next; text = text } in
-    grown-on taken.old.entries mid.entries next.entries grown (outcome-grown step (line-outcome step line may is)))
+    grown-on taken.old.entries mid.entries next.entries grown (outcome-grown step (line-outcome step line is)))
     (kept-grown taken.old taken.old refl)
 
 -- the moment after so many lines of a run

@@ -16,7 +16,7 @@ use Rattle.day_run.specs.BookingBalance.{IsReady}
 use Rattle.day_run.specs.Days.{SharedLink, DayState, at_slot, halts_at, last_halts, last_journal}
 use Rattle.day_run.specs.FairDays.{AreTurns, FairTurn, after_turn, most_up_to, turn_booked, turn_peak, turn_sent}
 use Rattle.day_run.proofs.LineOutcomes.{outcome-ready, ready-sent, slot-ready, HasGrown, grown-on, kept-grown}
-use Rattle.day_run.proofs.LineOutcomes.{TakenTurn, outcome-grown, outcome-heard, turn-outcome, turn_step}
+use Rattle.day_run.proofs.LineOutcomes.{TakenTurn, outcome-grown, outcome-heard, turn-order, turn-outcome, turn_step}
 
 -- ---- what is sent is what is booked
 pub turn-mid : (taken : TakenTurn) (P : DayState → Type 0) → P taken.turn.old
@@ -39,7 +39,7 @@ pub mid-heard : (taken : TakenTurn) → taken.turn.old.heard ≤ taken.turn.mid.
 mid-heard taken = turn-mid taken (λ (m : DayState). taken.turn.old.heard ≤ m.heard) (omega arith) (omega arith)
 
 pub turn-ready : (taken : TakenTurn) → IsReady taken.turn.old → IsReady taken.turn.new
-turn-ready taken ready = outcome-ready (turn_step taken) (turn-outcome taken) (mid-ready taken ready)
+turn-ready taken ready = outcome-ready (turn_step taken) (turn-outcome taken) (turn-order taken) (mid-ready taken ready)
 
 -- turns that were taken one after the other
 pub record TurnRun (turns : List FairTurn) : Type 0 where

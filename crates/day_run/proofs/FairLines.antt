@@ -20,11 +20,11 @@ use Rattle.day_run.specs.BookingBalance.{IsReady}
 use Rattle.day_run.specs.DayLaws.{AreEntryCounts, is_play, IsDrawnLine, IsDrawnTurn, IsFairLine, IsTurnWithinCapacity}
 use Rattle.day_run.specs.DayLaws.{SentIsBookedEachTurn}
 use Rattle.day_run.specs.Days.{SharedLink, DayState, IsLine, IsTold, first_moment}
-use Rattle.day_run.specs.FairDays.{FairTurn, client_of, entry_counts_of, is_halted, is_overflow, is_refused, IsDone}
+use Rattle.day_run.specs.FairDays.{FairTurn, entry_counts_of, is_halted, is_overflow, is_refused, IsDone}
 use Rattle.day_run.specs.FairDays.{IsTurn, line_drawn, state_in, IsFair, after_traces, counts_of, fair_link}
 use Rattle.day_run.proofs.FairLaws.{turn-ready, TurnRun, evening-grown, first_turn, rest_turns, turns-balanced}
 use Rattle.day_run.proofs.FairLaws.{turns-heard, turns-ready, turns-within}
-use Rattle.day_run.proofs.FullLineTexts.{done-text}
+use Rattle.day_run.proofs.FullLineTexts.{outcome-text}
 use Rattle.day_run.proofs.JournalRoom.{turn-places}
 use Rattle.std.proofs.lemmas.Nat.{mod_below}
 use Rattle.day_script.specs.declared.scripts.Line.{Line}
@@ -33,7 +33,7 @@ use Rattle.day_run.specs.declared.fairs.TheConstants.{BUFFER_SIZES, LEAST_BUFFER
 use Rattle.day_run.specs.ClientStates.{Idle, Paused, Pausing, Playing, ClientState}
 use Rattle.slot_calendar.specs.Profiles.{capacity_at}
 use Rattle.admission.proofs.CapacityBounds.{sound-after}
-use Rattle.day_run.proofs.LineOutcomes.{morning-ready, turn_step}
+use Rattle.day_run.proofs.LineOutcomes.{morning-ready, turn-outcome, turn_step}
 use Rattle.day_run.proofs.PastSlots.{AreBooked, IsTurnBooked, turns-past}
 use Rattle.day_run.proofs.ScriptLines.{LineStep}
 use Rattle.day_run.proofs.SlotBalance.{last-halted, last-open}
@@ -116,8 +116,7 @@ never-full (turn ∷ turns) come ready room small =
     ap (λ (m : DayState). places_taken m.entries) come.run.0 in
     let places = turn-places taken begun in
     let here : is_refused turn ≡ false =
-    elim (done-text (client_of come.words) (turn_step taken) (words_after 2 come.words) _
-    (omega (arith, at, places.mid, room, small)) taken.is.done) [
+    elim (outcome-text (turn_step taken) (omega (arith, at, places.mid, room, small)) (turn-outcome taken)) [
       | inl other ↦ other
       | inr full ↦ absurd (omega (arith, full.full, at, places.mid, room))
     ] in

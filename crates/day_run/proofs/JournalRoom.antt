@@ -1,5 +1,5 @@
 -- A day's journal keeps places for the halts of its open plays, and no line takes one of them.
-use Rattle.std.proofs.Common.{◌≡◌, ◌≤◌, ◌+◌, ℕ, List, [], ◌∷◌, ◌++◌, length, arith, refl, ap, ◌∙◌}
+use Rattle.std.proofs.Common.{◌≡◌, ◌≤◌, ◌+◌, ℕ, List, [], ◌∷◌, ◌++◌, length, Option, arith, refl, ap, ◌∙◌}
 use Rattle.std.proofs.lemmas.List.{length-append}
 use Rattle.std.proofs.lemmas.List.Sums.{sum_by_push}
 use Rattle.plan_cert.specs.declared.Segment.{Segment}
@@ -12,11 +12,13 @@ use Rattle.admission.specs.Histories.{open_count, state_after}
 use Rattle.admission.specs.Machine.{State, admitted_play, live, next_state}
 use Rattle.admission.proofs.HistoryPrefixes.{state-push}
 use Rattle.day_run.specs.BookingBalance.{IsReady}
+use Rattle.day_run.specs.ClientStates.{Rest}
 use Rattle.day_run.specs.Days.{SharedLink, DayState, entry_by, last_journal}
 use Rattle.day_run.specs.FairDays.{FairTurn}
 use Rattle.day_run.proofs.FairLaws.{mid-ready, turn-mid}
 use Rattle.day_run.proofs.LineOutcomes.{halted_client, morning-ready, outcome-ready, LineOutcome, Kept, Asked, Stopped}
-use Rattle.day_run.proofs.LineOutcomes.{Looks, Reached, TakenTurn, line-outcome, taken-keeps, turn-outcome, turn_step}
+use Rattle.day_run.proofs.LineOutcomes.{Looks, Reached, IsInOrder, TakenTurn, line-order, line-outcome, taken-keeps}
+use Rattle.day_run.proofs.LineOutcomes.{turn-order, turn-outcome, turn_step}
 use Rattle.day_run.proofs.ScriptLines.{LineStep, LinesTaken}
 use Rattle.day_run.proofs.SentBookedLemmas.{its-held, open_one}
 use Rattle.day_run.proofs.SlotBalance.{last-halted, places-halt, slot-halted}
@@ -70,25 +72,26 @@ looked-places xs slot answer =
     let is : open_count (xs ++ e ∷ []) ≡ open_count xs = ap (λ (s : State). live s) (state-push xs e) in
     omega (arith, is, length-append xs (e ∷ []))
 
-outcome-places : {slot : ℕ} (step : LineStep) → LineOutcome step slot → IsReady step.old
+outcome-places : {Plays : Rest → Type 0} {maker : Option ℕ} {places slot : ℕ} (step : LineStep)
+    → LineOutcome step Plays maker places slot → IsInOrder step maker slot → IsReady step.old
     → TakesPlaces step.link.limit step.old.entries step.new.entries
-outcome-places step (Kept kept at) ready = kept-places step.old step.new kept
-outcome-places step (Asked own at) ready =
+outcome-places step (Kept own at) order ready = kept-places step.old step.new own.kept
+outcome-places step (Asked own at) order ready =
     let is = ap (λ (m : DayState). places_taken m.entries) own.made.noted.new_is in
     let most = played-places step.old.entries own.client step.old.heard own.plan own.made.answer in
     room-places step 2 (omega arith) own.made.room (omega (arith, is, most))
-outcome-places step (Stopped own at) ready =
+outcome-places step (Stopped own at) order ready =
     same-places step.old.entries step.new.entries
     (ap (λ (m : DayState). places_taken m.entries) own.is.noted.new_is
-    ∙ places-halt step.old.entries (its-held (halted_client own ready)) own.is.keep)
-outcome-places step (Looks own at) ready =
+    ∙ places-halt step.old.entries (its-held (halted_client own order ready)) own.is.keep)
+outcome-places step (Looks own at) order ready =
     let is = ap (λ (m : DayState). places_taken m.entries) own.made.noted.new_is in
     let most = looked-places step.old.entries own.slot own.made.answer in
     room-places step 1 (omega arith) own.made.room (omega (arith, is, most))
-outcome-places {slot} step (Reached own) ready =
+outcome-places {slot} step (Reached own) order ready =
     same-places step.old.entries step.new.entries
     (ap (λ (m : DayState). places_taken m.entries) own.is
-    ∙ (slot-halted step.old slot own.later ready.balanced).places)
+    ∙ (slot-halted step.old slot order.later ready.balanced).places)
 
 -- ---- the lines of a script
 pub taken-places : {link : SharedLink} {n : ℕ} (taken : LinesTaken link n)
@@ -97,8 +100,9 @@ taken-places {link} {n} taken =
     (taken-keeps taken (λ (m : DayState). IsReady m × (places_taken m.entries ≤ link.limit))
     (λ line old new text standing is ready.
     let step : LineStep = record { link = link; old = old; new = new; text = text } in
-    let outcome = line-outcome step line standing is in
-    (outcome-ready step outcome ready.0, (outcome-places step outcome ready.0).within ready.1))
+    let outcome = line-outcome step line is in
+    let order = line-order step line standing in
+    (outcome-ready step outcome order ready.0, (outcome-places step outcome order ready.0).within ready.1))
     (morning-ready, omega arith)).1
 
 pub last-places : (m : DayState) → IsReady m → places_taken (last_journal m) ≡ places_taken m.entries
@@ -114,5 +118,5 @@ pub turn-places : (taken : TakenTurn) → IsReady taken.turn.old → TurnPlaces 
 turn-places taken ready = record {
   mid = turn-mid taken (λ (m : DayState). places_taken m.entries ≡ places_taken taken.turn.old.entries) refl
       (slot-halted taken.turn.old _ (omega arith) ready.balanced).places;
-  done = outcome-places (turn_step taken) (turn-outcome taken) (mid-ready taken ready);
+  done = outcome-places (turn_step taken) (turn-outcome taken) (turn-order taken) (mid-ready taken ready);
 }

@@ -1,6 +1,6 @@
 -- What a line of a script, or a turn's client, does to a day, in five cases, and that it keeps the balance.
 use Rattle.std.proofs.Common.{◌≡◌, ◌<◌, ◌≤◌, ◌%◌, ◌+◌, ◌++◌, ℕ, List, [], ◌∷◌, get_or, subst, refl, sym, ap, ◌∙◌, inl}
-use Rattle.std.proofs.Common.{inr, arith, zero, suc, length, map, replicate}
+use Rattle.std.proofs.Common.{inr, arith, zero, suc, length, map, replicate, Option, Some, min, None, false}
 use Rattle.std.proofs.lemmas.List.{append-nil, append_assoc, get_or-replicate, length-map, length-set, length-replicate}
 use Rattle.admission.specs.declared.entries.Entry.{Entry}
 use Rattle.plan_cert.specs.declared.Segment.{Segment}
@@ -12,10 +12,10 @@ use Rattle.day_run.specs.declared.fairs.TheConstants.{BUFFER_SIZES, LEAST_BUFFER
 use Rattle.day_run.specs.ClientStates.{ClientPlay, ClientState, Idle, Playing, Pausing, Paused, Rest, after_play}
 use Rattle.day_run.specs.ClientStates.{after_sending}
 use Rattle.day_run.specs.Days.{first_moment, DayState, IsAnsweredLook, IsAnsweredPlay, IsAsked, IsHaltedPlay, IsLine}
-use Rattle.day_run.specs.Days.{IsLookLine, IsOfferLine, IsPauseLine, IsResumeLine, SharedLink, at_slot, halts_at}
+use Rattle.day_run.specs.Days.{IsOfferLine, IsPauseLine, IsResumeLine, SharedLink, at_slot, halts_at}
 use Rattle.day_run.specs.Days.{rest_at, AskedPlay, booked_up_to, entry_by, sent_up_to, with_play}
-use Rattle.day_run.specs.FairDays.{FairTurn, IsDone, IsTurn, line_drawn}
-use Rattle.day_run.proofs.ScriptLines.{ClientOf, IsPlayTaken, LineRun, LineStep, LinesTaken, StandingLine}
+use Rattle.day_run.specs.FairDays.{FairTurn, IsDone, IsTurn, line_drawn, client_of, is_full_line}
+use Rattle.day_run.proofs.ScriptLines.{IsPlayTaken, LineRun, LineStep, LinesTaken, StandingLine}
 use Rattle.day_run.proofs.ScriptLines.{first-standing, head_step, rest-standing, run_of}
 use Rattle.day_run.proofs.SentBookedLemmas.{BalancedClient, IsFree, idle-free, paused-free, IsShut, balanced-halt}
 use Rattle.day_run.proofs.SentBookedLemmas.{balanced-play, balanced-same, balanced-sent, playing_one}
@@ -32,47 +32,71 @@ use Rattle.day_run.specs.BookingBalance.{AreHeldOf, IsReady, share_of}
 use Rattle.day_run.proofs.JournalHalts.{none-halted}
 use Rattle.day_run.proofs.SlotBalance.{pausing-share, slot-halted}
 use Rattle.day_run.proofs.PauseLemmas.{pausing-cases}
+use Rattle.day_run.specs.JournalLaws.{places_needed}
+use Rattle.early_start.specs.declared.Tried.{Tried}
+use Rattle.wire_curve.specs.declared.film.CurveFault.{CurveFault}
+use Rattle.wire_curve.specs.declared.film.CurveFault.TheVariants.{NoPictures}
+use Rattle.vod_base.specs.declared.links.TheConstants.{LATEST_SLOT}
+use Rattle.std.specs.Prelude.{◌⊎◌}
+use Rattle.film_run.specs.Plans.{IsPlanOf}
+use Rattle.day_run.specs.Days.{IsFull, IsTold, slot_lines}
+use Rattle.day_script.specs.LineTexts.{fault_text, offer_text}
 
 -- ---- what a line of a script, or a turn's client, does to a day, in five cases
--- a client that played nothing was answered a play
-pub record PlayAnswered (step : LineStep) : Type 0 where
+-- the text says something else than that the journal is full, or it is full
+abbrev pub OtherOrFull : LineStep → ℕ → Type 0
+OtherOrFull step places = (is_full_line step.text ≡ false) ⊎ IsFull step.link places step.old step.new step.text
+
+-- the day stays as it was
+pub record DayKept (step : LineStep) (places : ℕ) : Type 0 where
+  pub kept : step.new ≡ step.old
+  pub says : OtherOrFull step places
+
+-- a client that played nothing was answered a play of such a rest
+pub record PlayAnswered (step : LineStep) (Plays : Rest → Type 0) (maker : Option ℕ) : Type 0 where
   pub client : ℕ
-  pub inside : client < 256
+  pub by : maker ≡ Some client
   pub free : IsFree (get_or step.old.states client Idle)
   pub rest : Rest
+  pub plays : Plays rest
   pub plan : List Segment
+  pub plan_is : IsPlanOf rest.sizes rest.playback rest.run plan
   pub made : IsAnsweredPlay step.link (record { client = client; rest = rest; plan = plan }) step.old step.new
       step.text
 
 -- a client's play was halted
-pub record PlayHalted (step : LineStep) : Type 0 where
+pub record PlayHalted (step : LineStep) (maker : Option ℕ) : Type 0 where
   pub client : ℕ
-  pub inside : client < 256
+  pub by : maker ≡ Some client
   pub play : ClientPlay
   pub at : get_or step.old.states client Idle ≡ Playing play
   pub is : IsHaltedPlay step.link client play step.old step.new step.text
 
 -- a look was answered
-pub record LookAnswered (step : LineStep) : Type 0 where
+pub record LookAnswered (step : LineStep) (maker : Option ℕ) : Type 0 where
+  pub by : maker ≡ Some 0
   pub slot : ℕ
   pub made : IsAnsweredLook step.link slot step.old step.new step.text
 
 -- the link came to a slot
-pub record SlotReached (step : LineStep) (slot : ℕ) : Type 0 where
-  pub later : step.old.heard ≤ slot
+pub record SlotReached (step : LineStep) (maker : Option ℕ) (slot : ℕ) : Type 0 where
+  pub by : maker ≡ None
   pub is : step.new ≡ at_slot step.old slot
+  pub text_is : step.text ≡ slot_lines step.old slot
 
--- what became of a day whose last slot is then this one
-pub data LineOutcome (step : LineStep) (slot : ℕ) : Type 0 where
-  Kept : step.new ≡ step.old → slot ≡ step.old.heard → LineOutcome step slot
-  Asked : PlayAnswered step → slot ≡ step.old.heard → LineOutcome step slot
-  Stopped : PlayHalted step → slot ≡ step.old.heard → LineOutcome step slot
-  Looks : LookAnswered step → slot ≡ step.old.heard → LineOutcome step slot
-  Reached : SlotReached step slot → LineOutcome step slot
+-- What became of a day: who may have made an entry, what a play that was asked for may send, how many places a line
+-- needs, and the last slot after it.
+pub data LineOutcome (step : LineStep) (Plays : Rest → Type 0) (maker : Option ℕ) (places slot : ℕ) : Type 0 where
+  Kept : DayKept step places → slot ≡ step.old.heard → LineOutcome step Plays maker places slot
+  Asked : PlayAnswered step Plays maker → slot ≡ step.old.heard → LineOutcome step Plays maker places slot
+  Stopped : PlayHalted step maker → slot ≡ step.old.heard → LineOutcome step Plays maker places slot
+  Looks : LookAnswered step maker → slot ≡ step.old.heard → LineOutcome step Plays maker places slot
+  Reached : SlotReached step maker slot → LineOutcome step Plays maker places slot
 
 -- the last slot is then this one
-pub outcome-heard : {slot : ℕ} (step : LineStep) → LineOutcome step slot → step.new.heard ≡ slot
-outcome-heard step (Kept kept at) = ap (λ (m : DayState). m.heard) kept ∙ sym at
+pub outcome-heard : {Plays : Rest → Type 0} {maker : Option ℕ} {places slot : ℕ} (step : LineStep)
+    → LineOutcome step Plays maker places slot → step.new.heard ≡ slot
+outcome-heard step (Kept own at) = ap (λ (m : DayState). m.heard) own.kept ∙ sym at
 outcome-heard step (Asked own at) = ap (λ (m : DayState). m.heard) own.made.noted.new_is ∙ sym at
 outcome-heard step (Stopped own at) = ap (λ (m : DayState). m.heard) own.is.noted.new_is ∙ sym at
 outcome-heard step (Looks own at) = ap (λ (m : DayState). m.heard) own.made.noted.new_is ∙ sym at
@@ -94,8 +118,9 @@ grown-on a b c one two =
       new_is = two.new_is ∙ ap (λ l. l ++ two.made) one.new_is ∙ append_assoc a one.made two.made;
     }
 
-pub outcome-grown : {slot : ℕ} (step : LineStep) → LineOutcome step slot → HasGrown step.old.entries step.new.entries
-outcome-grown step (Kept kept at) = kept-grown step.old step.new kept
+pub outcome-grown : {Plays : Rest → Type 0} {maker : Option ℕ} {places slot : ℕ} (step : LineStep)
+    → LineOutcome step Plays maker places slot → HasGrown step.old.entries step.new.entries
+outcome-grown step (Kept own at) = kept-grown step.old step.new own.kept
 outcome-grown step (Asked own at) =
     record { made = _; new_is = ap (λ (m : DayState). m.entries) own.made.noted.new_is }
 outcome-grown step (Stopped own at) =
@@ -106,71 +131,130 @@ outcome-grown {slot} step (Reached own) =
     record { made = halts_at step.old slot; new_is = ap (λ (m : DayState). m.entries) own.is }
 
 -- ---- the lines
-asked-outcome : {c : ℕ} {rest : Rest} (step : LineStep) → c < 256 → IsFree (get_or step.old.states c Idle)
-    → IsAsked step.link c rest step.old step.new step.text → LineOutcome step step.old.heard
-asked-outcome step inside free (inl faulty) = Kept faulty.told.kept refl
-asked-outcome {c} {rest} step inside free (inr planned) = elim planned.done [
-  | inl full ↦ Kept full.told.kept refl
+fault-other : (fault : CurveFault) → is_full_line (fault_text fault) ≡ false
+fault-other NoPictures = refl
+fault-other _ = refl
+
+offer-other : (tried : List Tried) (start : Option ℕ) (wait : ℕ)
+    → is_full_line (offer_text (record { wait = wait; start = start; tried = tried })) ≡ false
+offer-other [] None wait = refl
+offer-other _ _ wait = refl
+
+told-kept : {Plays : Rest → Type 0} {maker : Option ℕ} {places : ℕ} {told : List ℕ} (step : LineStep)
+    → IsTold told step.old step.new step.text → is_full_line told ≡ false
+    → LineOutcome step Plays maker places step.old.heard
+told-kept step is other = Kept (record { kept = is.kept; says = inl (ap is_full_line is.text_is ∙ other) }) refl
+
+full-kept : {Plays : Rest → Type 0} {maker : Option ℕ} {places : ℕ} (step : LineStep)
+    → IsFull step.link places step.old step.new step.text → LineOutcome step Plays maker places step.old.heard
+full-kept step full = Kept (record { kept = full.told.kept; says = inr full }) refl
+
+asked-outcome : {Plays : Rest → Type 0} {c : ℕ} {rest : Rest} (step : LineStep) → Plays rest
+    → IsFree (get_or step.old.states c Idle) → IsAsked step.link c rest step.old step.new step.text
+    → LineOutcome step Plays (Some c) 2 step.old.heard
+asked-outcome step plays free (inl faulty) = told-kept step faulty.told (fault-other faulty.fault)
+asked-outcome {c} {rest} step plays free (inr planned) = elim planned.done [
+  | inl full ↦ full-kept step full
   | inr made ↦
-      Asked
-      (record { client = c; inside = inside; free = free; rest = rest; plan = planned.plan; made = made }) refl
+      Asked (record {
+        client = c;
+        by = refl;
+        free = free;
+        rest = rest;
+        plays = plays;
+        plan = planned.plan;
+        plan_is = planned.plan_is;
+        made = made;
+      }) refl
 ]
 
-play-outcome : {c : ℕ} {state : ClientState} (step : LineStep) (rest : Rest) → ClientOf step.old c state
-    → IsPlayTaken step c rest state → LineOutcome step step.old.heard
-play-outcome {state = Idle} step rest own is = asked-outcome step own.client (idle-free own.at) is
-play-outcome {state = Paused left} step rest own is = asked-outcome step own.client (paused-free own.at) is
-play-outcome {state = Playing play} step rest own is = Kept is.kept refl
-play-outcome {state = Pausing stop left} step rest own is = Kept is.kept refl
+play-outcome : {Plays : Rest → Type 0} {c : ℕ} {state : ClientState} (step : LineStep) (rest : Rest) → Plays rest
+    → get_or step.old.states c Idle ≡ state → IsPlayTaken step c rest state
+    → LineOutcome step Plays (Some c) 2 step.old.heard
+play-outcome {state = Idle} step rest plays at is = asked-outcome step plays (idle-free at) is
+play-outcome {state = Paused left} step rest plays at is = asked-outcome step plays (paused-free at) is
+play-outcome {state = _} step rest plays at is = told-kept step is refl
 
-resume-outcome : {c : ℕ} {state : ClientState} (step : LineStep) → ClientOf step.old c state
-    → IsResumeLine step.link c state step.old step.new step.text → LineOutcome step step.old.heard
-resume-outcome {state = Paused rest} step own is = asked-outcome step own.client (paused-free own.at) is
-resume-outcome {state = _} step own is = Kept is.kept refl
+resume-outcome : {Plays : Rest → Type 0} {c : ℕ} {state : ClientState} (step : LineStep)
+    → ((rest : Rest) → state ≡ Paused rest → Plays rest) → get_or step.old.states c Idle ≡ state
+    → IsResumeLine step.link c state step.old step.new step.text → LineOutcome step Plays (Some c) 2 step.old.heard
+resume-outcome {state = Paused rest} step plays at is = asked-outcome step (plays rest refl) (paused-free at) is
+resume-outcome {state = _} step plays at is = told-kept step is refl
 
-pause-outcome : {c : ℕ} {state : ClientState} (step : LineStep) → ClientOf step.old c state
-    → IsPauseLine step.link c state step.old step.new step.text → LineOutcome step step.old.heard
-pause-outcome {c} {state = Playing play} step own is =
-    Stopped (record { client = c; inside = own.client; play = play; at = own.at; is = is }) refl
-pause-outcome {state = _} step own is = Kept is.kept refl
-
-look-outcome : {slot : ℕ} (step : LineStep) → IsLookLine step.link slot step.old step.new step.text
-    → LineOutcome step step.old.heard
-look-outcome step (inl full) = Kept full.told.kept refl
-look-outcome {slot} step (inr made) = Looks (record { slot = slot; made = made }) refl
+pause-outcome : {Plays : Rest → Type 0} {c : ℕ} {state : ClientState} (step : LineStep)
+    → get_or step.old.states c Idle ≡ state → IsPauseLine step.link c state step.old step.new step.text
+    → LineOutcome step Plays (Some c) 2 step.old.heard
+pause-outcome {c} {state = Playing play} step at is =
+    Stopped (record { client = c; by = refl; play = play; at = at; is = is }) refl
+pause-outcome {state = _} step at is = told-kept step is refl
 
 pub offer-kept : {rest : Rest} {wait : ℕ} (step : LineStep)
     → IsOfferLine step.link rest wait step.old step.new step.text → step.new ≡ step.old
 offer-kept step (inl faulty) = faulty.told.kept
 offer-kept step (inr offered) = offered.told.kept
 
-pub line-outcome : {n : ℕ} (step : LineStep) (line : Line) → StandingLine step.old.heard n line
-    → IsLine step.link line step.old step.new step.text → LineOutcome step (slot_after step.old.heard line)
-line-outcome step (lines.Play c source buffer delay) standing is =
-    play-outcome step (rest_at step.link source buffer delay) (record { client = standing.client; at = refl }) is
-line-outcome step (lines.Pause c) standing is =
-    pause-outcome step (record { client = standing.client; at = refl }) is
-line-outcome step (lines.Resume c) standing is =
-    resume-outcome step (record { client = standing.client; at = refl }) is
-line-outcome step (lines.Look slot) standing is = look-outcome step is
-line-outcome step (lines.Slot slot) standing is =
-    Reached (record { later = omega (arith, standing.stands.0); is = is.0 })
-line-outcome step (lines.Offer c source buffer delay wait) standing is = Kept (offer-kept step is) refl
+-- what a line plays: all of the reel that it names, or what is left for its client
+abbrev pub PlaysBy : LineStep → Line → Rest → Type 0
+PlaysBy step (lines.Play c source buffer delay) rest = rest ≡ rest_at step.link source buffer delay
+PlaysBy step (lines.Resume c) rest = get_or step.old.states c Idle ≡ Paused rest
+PlaysBy step _ rest = ⊥
 
--- the first of lines that are taken, and the others
-abbrev pub head_outcome : {line : Line} {lines : List Line} {text : List ℕ} {texts : List (List ℕ)}
-    (taken : LineRun (line ∷ lines) (text ∷ texts))
-    → LineOutcome (head_step taken) (slot_after taken.old.heard line)
-head_outcome {line} taken = line-outcome (head_step taken) line (first-standing taken.standing) taken.run.1.0
+-- who makes the entry of a line; nobody makes those of a slot
+abbrev pub maker_of : Line → Option ℕ
+maker_of (lines.Play c source buffer delay) = Some c
+maker_of (lines.Pause c) = Some c
+maker_of (lines.Resume c) = Some c
+maker_of (lines.Slot slot) = None
+maker_of _ = Some 0
 
+abbrev pub OutcomeOf : LineStep → Line → Type 0
+OutcomeOf step line =
+    LineOutcome step (PlaysBy step line) (maker_of line) (places_needed line) (slot_after step.old.heard line)
+
+pub line-outcome : (step : LineStep) (line : Line) → IsLine step.link line step.old step.new step.text
+    → OutcomeOf step line
+line-outcome step (lines.Play c source buffer delay) is =
+    play-outcome step (rest_at step.link source buffer delay) refl refl is
+line-outcome step (lines.Pause c) is = pause-outcome step refl is
+line-outcome step (lines.Resume c) is = resume-outcome step (λ rest at. at) refl is
+line-outcome step (lines.Look slot) (inl full) = full-kept step full
+line-outcome step (lines.Look slot) (inr made) = Looks (record { by = refl; slot = min slot LATEST_SLOT; made = made }) refl
+line-outcome step (lines.Slot slot) is = Reached (record { by = refl; is = is.0; text_is = is.1 })
+line-outcome step (lines.Offer c source buffer delay wait) (inl faulty) =
+    told-kept step faulty.told (fault-other faulty.fault)
+line-outcome step (lines.Offer c source buffer delay wait) (inr offered) =
+    told-kept step offered.told (offer-other offered.found.tried offered.found.start offered.found.wait)
+
+-- an outcome of one of the 256 clients, or of none, at a slot that isn't earlier
+abbrev IsInside : Option ℕ → Type 0
+IsInside (Some client) = client < 256
+IsInside None = Unit {0}
+
+pub record IsInOrder (step : LineStep) (maker : Option ℕ) (slot : ℕ) : Type 0 where
+  pub inside : IsInside maker
+  pub later : step.old.heard ≤ slot
+
+pub maker-inside : {maker : Option ℕ} {slot : ℕ} {step : LineStep} (client : ℕ) → IsInOrder step maker slot
+    → maker ≡ Some client → client < 256
+maker-inside client order by = subst IsInside by order.inside
+
+pub line-order : {n : ℕ} (step : LineStep) (line : Line) → StandingLine step.old.heard n line
+    → IsInOrder step (maker_of line) (slot_after step.old.heard line)
+line-order step (lines.Look slot) standing = record { inside = omega arith; later = omega arith }
+line-order step (lines.Slot slot) standing = record { inside = tt; later = omega (arith, standing.stands.0) }
+line-order step (lines.Offer c source buffer delay wait) standing =
+    record { inside = omega arith; later = omega arith }
+line-order step line standing = record { inside = standing.client; later = omega arith }
+
+-- the lines after the first of those that are taken
 abbrev pub rest_run : {line : Line} {lines : List Line} {text : List ℕ} {texts : List (List ℕ)}
     → LineRun (line ∷ lines) (text ∷ texts) → LineRun lines texts
-rest_run taken = record {
+rest_run {line} taken = record {
   link = taken.link;
   n = taken.n;
   old = taken.run.0;
   new = taken.new;
-  standing = rest-standing taken (outcome-heard (head_step taken) (head_outcome taken));
+  standing = rest-standing taken (outcome-heard (head_step taken) (line-outcome (head_step taken) line taken.run.1.0));
   run = taken.run.1.1;
 }
 
@@ -192,16 +276,17 @@ pub taken-keeps : {link : SharedLink} {n : ℕ} (taken : LinesTaken link n) (P :
 taken-keeps taken P kept is = run-keeps taken.lines taken.texts (run_of taken) P kept is
 
 -- ---- the turns of a large day
-pub done-outcome : {c : ℕ} {state : ClientState} (step : LineStep) (words : ℕ → ℕ) → ClientOf step.old c state
-    → IsDone step.link (line_drawn words c state) step.old step.new step.text → LineOutcome step step.old.heard
-done-outcome {c} {state = Idle} step words own is =
-    play-outcome step (rest_at step.link (words 0 % 16) (LEAST_BUFFER + words 1 % BUFFER_SIZES) (words 2 % 26))
-    (record { client = own.client; at = refl }) is
-done-outcome {c} {state = Playing play} step words own is =
-    pause-outcome step (record { client = own.client; at = refl }) is
-done-outcome {c} {state = Pausing stop rest} step words own is = Kept is.kept refl
-done-outcome {c} {state = Paused rest} step words own is =
-    resume-outcome step (record { client = own.client; at = refl }) is
+abbrev pub ClientOutcome : LineStep → ℕ → Type 0
+ClientOutcome step client = LineOutcome step (λ (rest : Rest). Unit {0}) (Some client) 2 step.old.heard
+
+pub done-outcome : {c : ℕ} {state : ClientState} (step : LineStep) (words : ℕ → ℕ)
+    → get_or step.old.states c Idle ≡ state
+    → IsDone step.link (line_drawn words c state) step.old step.new step.text → ClientOutcome step c
+done-outcome {state = Idle} step words at is =
+    play-outcome step (rest_at step.link (words 0 % 16) (LEAST_BUFFER + words 1 % BUFFER_SIZES) (words 2 % 26)) tt refl is
+done-outcome {state = Playing play} step words at is = pause-outcome step refl is
+done-outcome {state = Pausing stop rest} step words at is = told-kept step is refl
+done-outcome {state = Paused rest} step words at is = resume-outcome step (λ left is. tt) refl is
 
 -- a turn that was taken
 pub record TakenTurn : Type 0 where
@@ -214,10 +299,14 @@ pub record TakenTurn : Type 0 where
 abbrev pub turn_step : TakenTurn → LineStep
 turn_step taken = record { link = taken.link; old = taken.turn.mid; new = taken.turn.new; text = taken.turn.text }
 
-pub turn-outcome : (taken : TakenTurn) → LineOutcome (turn_step taken) taken.turn.mid.heard
-turn-outcome taken =
-    done-outcome (turn_step taken) (words_after 2 taken.words) (record { client = omega arith; at = refl })
-    taken.is.done
+pub turn-outcome : (taken : TakenTurn) → ClientOutcome (turn_step taken) (client_of taken.words)
+turn-outcome taken = done-outcome (turn_step taken) (words_after 2 taken.words) refl taken.is.done
+
+pub client-order : {client : ℕ} (step : LineStep) → client < 256 → IsInOrder step (Some client) step.old.heard
+client-order step inside = record { inside = inside; later = omega arith }
+
+pub turn-order : (taken : TakenTurn) → IsInOrder (turn_step taken) (Some (client_of taken.words)) taken.turn.mid.heard
+turn-order taken = client-order (turn_step taken) (omega arith)
 
 -- ---- what the lines of a script leave of the balance between what is sent and what is booked
 pub ready-kept : (old new : DayState) → new ≡ old → IsReady old → IsReady new
@@ -261,23 +350,24 @@ answered old answer ask free ready =
     }
 
 -- its client, whose play the machine holds
-abbrev pub halted_client : {step : LineStep} (own : PlayHalted step) → IsReady step.old
-    → BalancedClient step.old (Playing own.play)
-halted_client own ready = record {
+abbrev pub halted_client : {step : LineStep} {maker : Option ℕ} {slot : ℕ} (own : PlayHalted step maker)
+    → IsInOrder step maker slot → IsReady step.old → BalancedClient step.old (Playing own.play)
+halted_client own order ready = record {
   c = own.client;
-  inside = subst (λ n. own.client < n) (sym ready.count) own.inside;
+  inside = subst (λ n. own.client < n) (sym ready.count) (maker-inside own.client order own.by);
   at = own.at;
   balanced = ready.balanced;
 }
 
-paused : (step : LineStep) (own : PlayHalted step) → IsReady step.old → IsReady step.new
-paused step own ready =
+paused : {maker : Option ℕ} {slot : ℕ} (step : LineStep) (own : PlayHalted step maker) → IsInOrder step maker slot
+    → IsReady step.old → IsReady step.new
+paused step own order ready =
     let old = step.old in
     let stop = truncated_play play.start play.plan is.keep in
     let rest = record play.rest { run = is.pause.left } in
     subst IsReady (sym is.noted.new_is) (record {
       count = length-set old.states client is.state ∙ ready.count;
-      balanced = balanced-halt (halted_client own ready) (record {
+      balanced = balanced-halt (halted_client own order ready) (record {
         keep = is.keep;
         next = is.state;
         shut = subst IsShut (sym is.pause.state_is) (pausing-cases IsShut old.heard stop rest tt tt);
@@ -288,7 +378,7 @@ paused step own ready =
   where
     open own use {client, play, is}
 
-looked : (step : LineStep) → LookAnswered step → IsReady step.old → IsReady step.new
+looked : {maker : Option ℕ} (step : LineStep) → LookAnswered step maker → IsReady step.old → IsReady step.new
 looked step own ready =
     let old = step.old in
     let e = entry_by 0 (commands.Look own.slot) own.made.answer in
@@ -305,15 +395,16 @@ slot-ready old new slot le is ready =
       balanced = (slot-halted old slot le ready.balanced).balanced;
     })
 
-pub outcome-ready : {slot : ℕ} (step : LineStep) → LineOutcome step slot → IsReady step.old → IsReady step.new
-outcome-ready step (Kept kept at) ready = ready-kept step.old step.new kept ready
-outcome-ready step (Asked own at) ready =
+pub outcome-ready : {Plays : Rest → Type 0} {maker : Option ℕ} {places slot : ℕ} (step : LineStep)
+    → LineOutcome step Plays maker places slot → IsInOrder step maker slot → IsReady step.old → IsReady step.new
+outcome-ready step (Kept own at) order ready = ready-kept step.old step.new own.kept ready
+outcome-ready step (Asked own at) order ready =
     subst IsReady (sym own.made.noted.new_is)
     (answered step.old own.made.answer (record { client = own.client; rest = own.rest; plan = own.plan })
-    (record { inside = own.inside; free = own.free }) ready)
-outcome-ready step (Stopped own at) ready = paused step own ready
-outcome-ready step (Looks own at) ready = looked step own ready
-outcome-ready {slot} step (Reached own) ready = slot-ready step.old step.new slot own.later own.is ready
+    (record { inside = maker-inside own.client order own.by; free = own.free }) ready)
+outcome-ready step (Stopped own at) order ready = paused step own order ready
+outcome-ready step (Looks own at) order ready = looked step own ready
+outcome-ready {slot} step (Reached own) order ready = slot-ready step.old step.new slot order.later own.is ready
 
 idle-shares : (t n : ℕ) → sum_by (share_of t) (replicate n Idle) ≡ 0
 idle-shares t zero = refl
@@ -346,7 +437,7 @@ ready-sent m slot le ready = balanced-sent m slot le ready.balanced
 pub ready-by-lines : (link : SharedLink) (n : ℕ) → IsKeptByLines link n IsReady
 ready-by-lines link n line old new text standing is ready =
     let step : LineStep = record { link = link; old = old; new = new; text = text } in
-    outcome-ready step (line-outcome step line standing is) ready
+    outcome-ready step (line-outcome step line is) (line-order step line standing) ready
 
 pub taken-ready : {link : SharedLink} {n : ℕ} (taken : LinesTaken link n) → IsReady taken.moment
 taken-ready {link} {n} taken = taken-keeps taken IsReady (ready-by-lines link n) morning-ready

@@ -1,5 +1,5 @@
 -- What is booked in the slots that were received stays.
-use Rattle.std.proofs.Common.{◌≡◌, ◌<◌, ◌≤◌, ◌+◌, ◌-◌, ℕ, max, All, List, [], ◌∷◌, ◌++◌, length, map, arith, refl}
+use Rattle.std.proofs.Common.{◌≡◌, ◌<◌, ◌≤◌, ◌+◌, ◌-◌, ℕ, max, All, List, [], ◌∷◌, ◌++◌, length, map, Option, arith, refl}
 use Rattle.std.proofs.Common.{sym, ap, subst, ◌∙◌, inl, inr}
 use Rattle.std.specs.Prelude.{sum_by}
 use Rattle.std.specs.List.{fold, range_with_len}
@@ -18,12 +18,12 @@ use Rattle.day_run.specs.BookingBalance.{IsReady, share_of}
 use Rattle.day_run.specs.Clients.{after_open}
 use Rattle.day_run.specs.Days.{AskedPlay, IsLine, SharedLink, DayState, entry_by, last_journal, sent_up_to}
 use Rattle.day_run.specs.FairDays.{FairTurn, turn_booked, turn_peak}
-use Rattle.day_run.specs.ClientStates.{ClientState, booking_of, sent_by}
+use Rattle.day_run.specs.ClientStates.{ClientState, Rest, booking_of, sent_by}
 use Rattle.day_run.proofs.SentBookedLemmas.{its-held}
 use Rattle.day_run.proofs.SlotBalance.{last-halted, play-stays, slot-halted, stays-halt}
 use Rattle.day_run.proofs.LineOutcomes.{TakenTurn, after_answer, halted_client, ready-sent, taken-ready, PlayHalted}
-use Rattle.day_run.proofs.LineOutcomes.{LineOutcome, Kept, Asked, Stopped, Looks, Reached, line-outcome}
-use Rattle.day_run.proofs.LineOutcomes.{outcome-heard, turn-outcome, turn_step}
+use Rattle.day_run.proofs.LineOutcomes.{LineOutcome, Kept, Asked, Stopped, Looks, Reached, IsInOrder, line-order}
+use Rattle.day_run.proofs.LineOutcomes.{line-outcome, outcome-heard, turn-order, turn-outcome, turn_step}
 use Rattle.day_run.proofs.ScriptLines.{LineStep, LinesTaken, NextTaken}
 use Rattle.day_run.proofs.FairLaws.{TurnRun, first_turn, fold-top, mid-heard, mid-ready, rest_turns, turn-mid}
 use Rattle.day_run.proofs.FairLaws.{turn-ready}
@@ -58,35 +58,38 @@ answered-past answer link ask old answered =
     let e = entry_by ask.client (commands.Play old.heard ask.plan) answer in
     same-past old e old.states (ap (λ (s : State). s.held) (state-push old.entries e))
 
-halted-past : (step : LineStep) (own : PlayHalted step) → IsReady step.old → Past step.old step.new
-halted-past step own ready t past =
-    let held = its-held (halted_client own ready) in
+halted-past : {maker : Option ℕ} {slot : ℕ} (step : LineStep) (own : PlayHalted step maker)
+    → IsInOrder step maker slot → IsReady step.old → Past step.old step.new
+halted-past step own order ready t past =
+    let held = its-held (halted_client own order ready) in
     let most = kept-most step.old.entries held own.is.keep own.is.noted.answered in
     let sent : sent_by (booking_of own.play) step.old.heard ≤ own.is.keep =
     omega (arith, own.is.pause.boundary.after) in
     ap (λ (m : DayState). booked_after m.entries t) own.is.noted.new_is
     ∙ stays-halt step.old.entries held own.is.keep (record { sent = sent; most = most }) t past
 
-outcome-past : {slot : ℕ} (step : LineStep) → LineOutcome step slot → IsReady step.old → Past step.old step.new
-outcome-past step (Kept kept at) ready = kept-past step.old step.new kept
-outcome-past step (Asked own at) ready =
+outcome-past : {Plays : Rest → Type 0} {maker : Option ℕ} {places slot : ℕ} (step : LineStep)
+    → LineOutcome step Plays maker places slot → IsInOrder step maker slot → IsReady step.old → Past step.old step.new
+outcome-past step (Kept own at) order ready = kept-past step.old step.new own.kept
+outcome-past step (Asked own at) order ready =
     subst (Past step.old) (sym own.made.noted.new_is)
     (answered-past own.made.answer step.link (record { client = own.client; rest = own.rest; plan = own.plan }) step.old
     own.made.noted.answered)
-outcome-past step (Stopped own at) ready = halted-past step own ready
-outcome-past step (Looks own at) ready =
+outcome-past step (Stopped own at) order ready = halted-past step own order ready
+outcome-past step (Looks own at) order ready =
     let e = entry_by 0 (commands.Look own.slot) own.made.answer in
     subst (Past step.old) (sym own.made.noted.new_is)
     (same-past step.old e step.old.states (ap (λ (s : State). s.held) (state-push step.old.entries e)))
-outcome-past {slot} step (Reached own) ready = λ t past.
+outcome-past {slot} step (Reached own) order ready = λ t past.
     ap (λ (m : DayState). booked_after m.entries t) own.is
-    ∙ (slot-halted step.old slot own.later ready.balanced).stays t (omega (arith, past, own.later))
+    ∙ (slot-halted step.old slot order.later ready.balanced).stays t (omega (arith, past, order.later))
 
 pub day-past : {link : SharedLink} {n : ℕ} (taken : LinesTaken link n) (next : NextTaken link n taken) (t : ℕ)
     → t ≤ taken.moment.heard → booked_after next.new.entries t ≡ booked_after taken.moment.entries t
 day-past {link} taken next t past =
     let step : LineStep = record { link = link; old = taken.moment; new = next.new; text = next.text } in
-    outcome-past step (line-outcome step next.line next.standing next.is) (taken-ready taken) t past
+    outcome-past step (line-outcome step next.line next.is) (line-order step next.line next.standing) (taken-ready taken)
+    t past
 
 pub end-past : {link : SharedLink} {n : ℕ} (taken : LinesTaken link n) (t : ℕ) → t ≤ taken.moment.heard
     → booked_after (last_journal taken.moment) t ≡ booked_after taken.moment.entries t
@@ -97,7 +100,7 @@ turn-past : (t : ℕ) (taken : TakenTurn) → IsReady taken.turn.old → t ≤ t
     → booked_after taken.turn.new.entries t ≡ booked_after taken.turn.old.entries t
 turn-past t taken ready past =
     let old = taken.turn.old in
-    outcome-past (turn_step taken) (turn-outcome taken) (mid-ready taken ready) t past
+    outcome-past (turn_step taken) (turn-outcome taken) (turn-order taken) (mid-ready taken ready) t past
     ∙ turn-mid taken (λ (m : DayState). t ≤ m.heard → booked_after m.entries t ≡ booked_after old.entries t)
     (λ _. refl) ((slot-halted old _ (omega arith) ready.balanced).stays t) past
 

@@ -3,7 +3,7 @@ use Rattle.std.proofs.Common.{◌≡◌, ℕ, zero, suc, ◌<◌, List, ◌∷�
 use Rattle.std.proofs.Common.{◌++◌, refl, ap, ◌∙◌}
 use Rattle.std.specs.List.{fold}
 use Rattle.admission.specs.declared.entries.Entry.{Entry}
-use Rattle.day_run.specs.ClientStates.{ClientState, Idle, IfBusy, Rest}
+use Rattle.day_run.specs.ClientStates.{ClientState, IfBusy, Rest}
 use Rattle.day_script.specs.Scripts.{AreClients, IsClient, AreLines, StandsAfter, slot_after}
 use Rattle.day_run.specs.Days.{AreLineSteps, IsAsked, IsLine, IsTold, SharedLink, DayState, first_moment}
 use Rattle.day_script.specs.LineTexts.{state_text}
@@ -34,11 +34,6 @@ pub record ClientAsks : Type 0 where
   pub old : DayState
   pub new : DayState
   pub entries : List Entry
-
--- a client of a day, and its state
-pub record ClientOf (moment : DayState) (c : ℕ) (state : ClientState) : Type 0 where
-  pub client : c < 256
-  pub at : get_or moment.states c Idle ≡ state
 
 -- a line that may stand after a slot, where so many sources are named
 pub record StandingLine (heard n : ℕ) (line : Line) : Type 0 where

@@ -28,17 +28,19 @@ use Rattle.day_script.specs.declared.scripts.Line.{Line}
 use Rattle.day_script.specs.declared.scripts.Line.TheVariants as lines
 use Rattle.day_run.specs.BookingBalance.{IsReady}
 use Rattle.day_run.specs.DayLaws.{IsLink, IsSoundPlay, IsSoundRest, IsSoundClient}
-use Rattle.day_run.specs.Days.{AskedPlay, IsAsked, IsLine, IsLookLine, IsPauseLine, IsResumeLine, SharedLink, DayState}
+use Rattle.day_run.specs.Days.{AskedPlay, IsLine, SharedLink, DayState}
 use Rattle.day_run.specs.Days.{at_slot, entry_by, first_moment, rest_at, state_at}
 use Rattle.day_script.specs.Scripts.{IsWish}
 use Rattle.day_run.specs.ClientStates.{Idle, Playing, Pausing, Paused, IsPause, ClientPlay, Rest, ClientState}
 use Rattle.day_run.specs.ClientStates.{after_play, after_sending, booking_of, is_done, no_medium, sent_by, slot_sent}
 use Rattle.day_run.proofs.SentBookedLemmas.{HeldClient, its-held}
 use Rattle.day_run.proofs.LineOutcomes.{after_answer, halted_client, morning-ready, outcome-ready, slot-ready}
-use Rattle.day_run.proofs.LineOutcomes.{PlayHalted, line-outcome, offer-kept, taken-keeps}
+use Rattle.day_run.proofs.LineOutcomes.{PlayHalted, line-outcome, taken-keeps, IsInOrder, LineOutcome}
+use Rattle.day_run.proofs.LineOutcomes.{PlaysBy, line-order, maker-inside}
+use Rattle.day_run.proofs.LineOutcomes.{Kept, Asked, Stopped, Looks, Reached}
 use Rattle.day_run.proofs.ListUpdates.{set-at, set_place}
 use Rattle.day_run.proofs.PauseLemmas.{pausing-cases}
-use Rattle.day_run.proofs.ScriptLines.{ClientOf, IsPlayTaken, LineStep, LinesTaken, StandingLine}
+use Rattle.day_run.proofs.ScriptLines.{LineStep, LinesTaken, StandingLine}
 
 -- ---- what is true of the clients
 pub record IsSound (m : DayState) : Type 0 where
@@ -72,7 +74,6 @@ record SoundAsking (ask : AskedPlay) : Type 0 where
   plan_is : IsPlanOf ask.rest.sizes ask.rest.playback ask.rest.run ask.plan
 
 -- ---- a play that begins
--- ---- a play that begins
 answered-states : (step : LineStep) (ask : AskedPlay) → SoundAsking ask → IsSound step.old → (answer : Answer)
     → IsAnswered step.link.steps (state_after step.old.entries)
     (entry_by ask.client (commands.Play step.old.heard ask.plan) answer)
@@ -90,27 +91,6 @@ answered-states step ask own sound _ answer = sound.each
 -- what is to be sent is sound, if there is a picture
 abbrev pub IsSoundIfAny : Rest → Type 0
 IsSoundIfAny rest = 0 < length (rest_sizes rest.sizes rest.run) → IsSoundRest rest
-
--- a client may ask for a rest
-record MayAsk : Type 0 where
-  c : ℕ
-  rest : Rest
-  client : c < 256
-  own : IsSoundIfAny rest
-
-asked-states : (step : LineStep) (may : MayAsk) → IsSound step.old
-    → IsAsked step.link may.c may.rest step.old step.new step.text → HasSoundClients step.new
-asked-states step may sound (inl faulty) = subst HasSoundClients (sym faulty.told.kept) sound.each
-asked-states step may sound (inr planned) = elim planned.done [
-  | inl full ↦ subst HasSoundClients (sym full.told.kept) sound.each
-  | inr made ↦
-      subst HasSoundClients (sym made.noted.new_is)
-      (answered-states step (record { client = may.c; rest = may.rest; plan = planned.plan }) (record {
-        client_is = may.client;
-        rest_is = may.own planned.plan_is.accepted.some_picture;
-        plan_is = planned.plan_is;
-      }) sound made.answer made.noted.answered)
-]
 
 -- ---- a play that is halted
 none-sent : (play : ClientPlay) (heard : ℕ) → heard < play.start → sent_by (booking_of play) heard ≡ 0
@@ -214,15 +194,17 @@ left-sound {heard} {play} halt =
       boundary = subst (IsBoundary play.rest.pieces) (sym left.sent_is) halt.pause.boundary.boundary;
     }
 
-halted-states : (step : LineStep) (own : PlayHalted step) → IsSound step.old → HasSoundClients step.new
-halted-states step own sound =
+halted-states : {maker : Option ℕ} {slot : ℕ} (step : LineStep) (own : PlayHalted step maker)
+    → IsInOrder step maker slot → IsSound step.old → HasSoundClients step.new
+halted-states step own order sound =
     let old = step.old in
+    let inside = maker-inside client order by in
     let rest = left-sound (record {
       keep = is.keep;
       state = is.state;
       sound = subst (IsSoundClient old.heard) at (sound.each client inside);
       pause = is.pause;
-      most = kept-most old.entries (its-held (halted_client own sound.ready)) is.keep is.noted.answered;
+      most = kept-most old.entries (its-held (halted_client own order sound.ready)) is.keep is.noted.answered;
     }) in
     let state : IsSoundClient old.heard is.state =
     subst (IsSoundClient old.heard) (sym is.pause.state_is) (pausing-cases (IsSoundClient old.heard) old.heard
@@ -230,7 +212,7 @@ halted-states step own sound =
     subst HasSoundClients (sym is.noted.new_is)
     (set-sound old sound (record { c = client; state = is.state; client = inside; sound = state }))
   where
-    open own use {client, inside, play, at, is}
+    open own use {client, by, play, at, is}
 
 -- ---- a slot comes
 done-if : (slot : ℕ) (play : ClientPlay) (b : Bool) → is_done slot play ≡ b → IsSoundRest play.rest
@@ -296,60 +278,44 @@ whole-sound {link} {source} {buffer} {delay} link-is wish some =
       boundary = record { number = 0; among = omega arith; place_is = refl };
     }
 
--- ---- each kind of line leaves the clients sound
--- ---- each kind of line leaves the clients sound
-play-states : (step : LineStep) (state : ClientState) (may : MayAsk) → IsSound step.old
-    → IsPlayTaken step may.c may.rest state → HasSoundClients step.new
-play-states step (Playing play) may sound is = subst HasSoundClients (sym is.kept) sound.each
-play-states step (Pausing stop left) may sound is = subst HasSoundClients (sym is.kept) sound.each
-play-states step _ may sound is = asked-states step may sound is
-
-resume-states : {c : ℕ} {state : ClientState} (step : LineStep) → ClientOf step.old c state → IsSound step.old
-    → IsResumeLine step.link c state step.old step.new step.text → HasSoundClients step.new
-resume-states {c} {state = Paused rest} step own sound is =
-    let sending : IsSoundRest rest = subst (IsSoundClient step.old.heard) own.at (sound.each c own.client) in
-    asked-states step (record { c = c; rest = rest; client = own.client; own = λ some. sending }) sound is
-resume-states {state = _} step own sound is = subst HasSoundClients (sym is.kept) sound.each
-
-pause-states : {c : ℕ} {state : ClientState} (step : LineStep) → ClientOf step.old c state → IsSound step.old
-    → IsPauseLine step.link c state step.old step.new step.text → HasSoundClients step.new
-pause-states {c} {state = Playing play} step own sound is =
-    halted-states step (record { client = c; inside = own.client; play = play; at = own.at; is = is }) sound
-pause-states {state = _} step own sound is = subst HasSoundClients (sym is.kept) sound.each
-
-look-states : {slot : ℕ} (step : LineStep) → IsSound step.old → IsLookLine step.link slot step.old step.new step.text
-    → HasSoundClients step.new
-look-states step sound (inl full) = subst HasSoundClients (sym full.told.kept) sound.each
-look-states step sound (inr made) = subst HasSoundClients (sym made.noted.new_is) sound.each
-
 -- ---- lines leave the clients sound
-line-states : (step : LineStep) (line : Line) → IsLink step.link
-    → StandingLine step.old.heard (length step.link.media) line → IsSound step.old
-    → IsLine step.link line step.old step.new step.text → HasSoundClients step.new
-line-states step (lines.Play c source buffer delay) link-is standing sound is =
-    play-states step (state_at step.old c) (record {
-      c = c;
-      rest = rest_at step.link source buffer delay;
-      client = standing.client;
-      own = whole-sound link-is standing.stands;
-    }) sound is
-line-states step (lines.Pause c) link-is standing sound is =
-    pause-states step (record { client = standing.client; at = refl }) sound is
-line-states step (lines.Resume c) link-is standing sound is =
-    resume-states step (record { client = standing.client; at = refl }) sound is
-line-states step (lines.Look slot) link-is standing sound is = look-states step sound is
-line-states step (lines.Slot slot) link-is standing sound is =
-    subst HasSoundClients (sym is.0) (slot-states step.old slot sound)
-line-states step (lines.Offer c source buffer delay wait) link-is standing sound is =
-    subst HasSoundClients (sym (offer-kept step is)) sound.each
+-- what a line plays is sound
+plays-sound : (step : LineStep) (line : Line) → IsLink step.link
+    → StandingLine step.old.heard (length step.link.media) line → IsSound step.old → (rest : Rest)
+    → PlaysBy step line rest → IsSoundIfAny rest
+plays-sound step (lines.Play c source buffer delay) link-is standing sound rest plays =
+    subst IsSoundIfAny (sym plays) (whole-sound link-is standing.stands)
+plays-sound step (lines.Resume c) link-is standing sound rest plays =
+    λ some. subst (IsSoundClient step.old.heard) plays (sound.each c standing.client)
+plays-sound step _ link-is standing sound rest plays = absurd plays
+
+outcome-states : {Plays : Rest → Type 0} {maker : Option ℕ} {places slot : ℕ} (step : LineStep)
+    → LineOutcome step Plays maker places slot → IsInOrder step maker slot
+    → ((rest : Rest) → Plays rest → IsSoundIfAny rest) → IsSound step.old → HasSoundClients step.new
+outcome-states step (Kept own at) order plays sound = subst HasSoundClients (sym own.kept) sound.each
+outcome-states step (Asked own at) order plays sound =
+    subst HasSoundClients (sym own.made.noted.new_is)
+    (answered-states step (record { client = own.client; rest = own.rest; plan = own.plan }) (record {
+      client_is = maker-inside own.client order own.by;
+      rest_is = plays own.rest own.plays own.plan_is.accepted.some_picture;
+      plan_is = own.plan_is;
+    }) sound own.made.answer own.made.noted.answered)
+outcome-states step (Stopped own at) order plays sound = halted-states step own order sound
+outcome-states step (Looks own at) order plays sound =
+    subst HasSoundClients (sym own.made.noted.new_is) sound.each
+outcome-states {slot} step (Reached own) order plays sound =
+    subst HasSoundClients (sym own.is) (slot-states step.old slot sound)
 
 pub line-sound : (step : LineStep) (line : Line) → IsLink step.link
     → StandingLine step.old.heard (length step.link.media) line → IsSound step.old
     → IsLine step.link line step.old step.new step.text → IsSound step.new
-line-sound step line link-is standing sound is = record {
-  ready = outcome-ready step (line-outcome step line standing is) sound.ready;
-  each = line-states step line link-is standing sound is;
-}
+line-sound step line link-is standing sound is =
+    let outcome = line-outcome step line is in
+    let order = line-order step line standing in
+    record {
+      ready = outcome-ready step outcome order sound.ready;
+      each = outcome-states step outcome order (plays-sound step line link-is standing sound) sound;
+    }
 
 pub idle-sound : AreStates 0 (replicate 256 Idle)
 idle-sound c client =

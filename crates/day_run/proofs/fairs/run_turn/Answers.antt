@@ -4,7 +4,7 @@ use Rattle.day_run.specs.FairDays.{FairTurn, at_later}
 use Rattle.day_run.specs.FairProgress.{said_text}
 use Rattle.day_run.specs.MachineState.{link_on, day_state_of}
 use Rattle.day_run.proofs.FairTurns.{turn-of}
-use Rattle.day_run.proofs.LineOutcomes.{done-outcome, outcome-ready}
+use Rattle.day_run.proofs.LineOutcomes.{client-order, done-outcome, outcome-ready}
 use Rattle.day_run.proofs.ScriptLines.{LineStep}
 use Rattle.day_run.proofs.fairs.run_turn.Goals as goal
 
@@ -18,9 +18,8 @@ returns-clause-ready c =
       new = day_state_of c.turn_client.new.machine;
       text = said_text c.turn_client.new.machine.book.entries c.in_ok-told.told;
     } in
-    outcome-ready step
-    (done-outcome step (words_left c.draw-client.new.self) (record { client = client; at = refl })
-    c.in_ok-told.ensures.done) c.advance.ensures.ready
+    outcome-ready step (done-outcome step (words_left c.draw-client.new.self) refl c.in_ok-told.ensures.done)
+    (client-order step client) c.advance.ensures.ready
 
 pub returns-clause-turned : goal.returns-clause-turned
 returns-clause-turned c =
