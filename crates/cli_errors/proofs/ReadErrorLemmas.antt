@@ -18,6 +18,11 @@ pub record Causes : Type 1 where
   pub before : ℕ
   pub after : ℕ
 
+abbrev pub causes_of : (List ℕ → Type 0) → (List File → List ℕ → InputError → Type 0) → Option (List File) → ℕ → ℕ
+    → Causes
+causes_of Reads Refuses told before after =
+    record { Reads = Reads; Refuses = Refuses; told = told; before = before; after = after }
+
 abbrev pub IsTroubleOf : Causes → CliError → Type 0
 IsTroubleOf causes t = IsReadError causes.Reads causes.Refuses causes.told causes.before causes.after t
 
