@@ -1,8 +1,8 @@
 -- The first start code of bytes, looked for from the beginning on.
-use Rattle.std.proofs.Common.{◌≡◌, ℕ, ◌+◌, ◌-◌, ◌<◌, true, false, cond, eqb, List, [], ◌∷◌, ◌++◌}
+use Rattle.std.proofs.Common.{◌≡◌, ℕ, ◌+◌, ◌-◌, ◌<◌, ◌≤◌, true, false, cond, eqb, List, [], ◌∷◌, ◌++◌}
 use Rattle.std.proofs.Common.{append_assoc, length, take, drop, Option, Some, None, inl, inr, refl, sym, ap}
 use Rattle.std.proofs.Common.{subst, ◌∙◌, arith, get_or, length-append}
-use Rattle.std.specs.Prelude.{option_map}
+use Rattle.std.specs.Prelude.{IfSome, option_map}
 use Rattle.std.proofs.lemmas.Bool.{cases_Bool}
 use Rattle.std.proofs.lemmas.List.{length-take-le, take_more, take-append-drop}
 use Rattle.mpeg_scan.specs.declared.codes.Code.{Code}
@@ -13,7 +13,8 @@ use Rattle.mpeg_scan.proofs.ByteReadLemmas.{read-append}
 use Rattle.mpeg_scan.proofs.ScanStepLemmas.{codes-none, codes-plain, codes-code}
 use Rattle.vod_base.specs.IoState.{File, file_named}
 use Rattle.inputs.specs.FileReads.{IsFilePrefix}
-use Rattle.inputs.proofs.ReadLemmas.{first_front}
+use Rattle.inputs.proofs.ReadLemmas.{FileFront, first_front, front_rest}
+use Rattle.inputs.specs.ChunkScans.{IsOpened}
 use Rattle.inputs.specs.PackSearch.{HasNoCode}
 use Rattle.inputs.specs.Videos.{pack_in, pack_of}
 use Rattle.mpeg_scan.specs.declared.codes.Prefix.{Prefix}
@@ -124,6 +125,20 @@ pub none_looked : (held : List File) (name : List ℕ) (size : ℕ)
     → Some size ≡ option_map length (file_named held name) → HasLooked held name size 0 Nothing
 none_looked held name size found =
     record { bytes = []; front = first_front held name size found; long = refl; unfound = open_none }
+
+-- the first start code of a file stands in a prefix of it
+pub opened_by : (prefix : FileFront) (pack : Option ℕ)
+    → ((rest : List ℕ) → pack_in (prefix.bytes ++ rest) ≡ pack) → IfSome pack (λ place. place ≤ prefix.size)
+    → IsOpened prefix.held prefix.name prefix.size pack
+opened_by prefix pack is within = record {
+  file = front.whole;
+  found = front.found;
+  sized = front.sized;
+  pack = ap pack_in (sym (front_rest held name size bytes front)) ∙ is (drop (length bytes) front.whole);
+  within = within;
+}
+  where
+    open prefix use {held, name, size, bytes, front}
 
 -- the bytes before one of a chunk, which stands at `at`, have no start code
 pub record OpenBefore : Type 0 where

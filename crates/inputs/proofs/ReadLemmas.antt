@@ -1,11 +1,11 @@
 -- What was read of a file so far.
 use Rattle.std.proofs.Common.{◌≡◌, ℕ, ◌+◌, ◌≤◌, List, [], ◌++◌, length, take, drop, Some, None, Option}
-use Rattle.std.proofs.Common.{refl, sym, ap, subst, ◌∙◌, arith, unwrap_or, length-append}
-use Rattle.std.specs.Prelude.{option_map, IfSome}
+use Rattle.std.proofs.Common.{refl, sym, ap, ◌∙◌, arith, unwrap_or, length-append}
+use Rattle.std.specs.Prelude.{option_map}
 use Rattle.std.proofs.Math.Seq.{take-add}
 use Rattle.std.proofs.lemmas.List.{length-take-le, take-append-drop, take-take}
 use Rattle.vod_base.specs.IoState.{File, file_named, bytes_named, IsRead}
-use Rattle.inputs.specs.FileReads.{IsFilePrefix}
+use Rattle.inputs.specs.FileReads.{IsChunk, IsFilePrefix}
 
 -- a size that was found is that of a file
 found_size : (o : Option (List ℕ)) (n : ℕ) → Some n ≡ option_map length o →
@@ -56,13 +56,23 @@ more_front on k fits =
   where
     open on use {held, name, bytes, n, chunk, so_far, read}
 
--- a read that answers a count
-pub some_chunk : {o : Option ℕ} {count : ℕ} (P : ℕ → Type 0) → o ≡ Some count → IfSome o P → P count
-some_chunk P is h = subst (λ (p : Option ℕ). IfSome p P) is h
+-- bytes, and what a read gave after them
+pub chunk_long : {size at count : ℕ} (seen into : List ℕ) → IsChunk size at (length into) count
+    → length (seen ++ take count into) ≡ length seen + count
+chunk_long {count} seen into chunk =
+    omega (arith, length-append seen (take count into), length-take-le count into chunk.fits)
 
 pub one_file : (held : List File) (name a b : List ℕ) → file_named held name ≡ Some a →
     file_named held name ≡ Some b → a ≡ b
 one_file held name a b p q = let e : Some a ≡ Some b = sym p ∙ q in cc
+
+-- a prefix of a file of a library
+pub record FileFront : Type 0 where
+  pub held : List File
+  pub name : List ℕ
+  pub size : ℕ
+  pub bytes : List ℕ
+  pub front : IsFilePrefix held name size bytes
 
 -- a prefix of a file, and the rest of it
 pub front_rest : (held : List File) (name : List ℕ) (size : ℕ) (bytes : List ℕ)

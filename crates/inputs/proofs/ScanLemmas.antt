@@ -18,7 +18,7 @@ use Rattle.cli_errors.specs.declared.errors.InputError.{InputError}
 use Rattle.cli_errors.specs.declared.errors.InputError.TheVariants.{Film, System}
 use Rattle.cli_errors.specs.declared.errors.CliError.{CliError}
 use Rattle.cli_errors.specs.ReadErrors.{IsReadError, IsLibraryUnchanged}
-use Rattle.cli_errors.proofs.ReadErrorLemmas.{trouble_map}
+use Rattle.cli_errors.proofs.ReadErrorLemmas.{causes_of, trouble_map}
 use Rattle.inputs.specs.LoadErrors.{IsFilmFault, IsFilmError, IsRefusal, IsSystemFault, IsSystemError}
 use Rattle.inputs.specs.FileReads.{IsFilePrefix, IsThatName, IsNever}
 use Rattle.inputs.specs.ChunkScans.{HasScannedFilm, HasRefused, HasReportedParts, HoldsVideo}
@@ -178,6 +178,13 @@ pub film_trouble : {Refuses : FilmFault → Type 0} (call : LibraryCall) (t : Cl
 film_trouble {Refuses} call t refuses h = scan_trouble {Reason = IsFilmFault Refuses} call t (λ held fault is r.
     each_film_fault (IsFilmRefused held call.name) fault (λ own its. refuses held own is its) r) h
 
+pub film_troubles : {T : Type 0} {Refuses : FilmFault → Type 0} (call : LibraryCall) (r : Result T CliError)
+    → ((held : List File) (fault : FilmFault) → call.told ≡ Some held → Refuses fault
+    → IsFilmRefused held call.name (Film fault)) → IfErr r (IsFilmError call.name Refuses)
+    → IfErr r (IsScanError call.name call.told call.before call.after)
+film_troubles call (Ok x) refuses h = tt
+film_troubles call (Err t) refuses h = film_trouble call t refuses h
+
 pub system_trouble : {Refuses : SystemFault → Type 0} (call : LibraryCall) (t : CliError)
     → ((held : List File) (fault : SystemFault) → call.told ≡ Some held → Refuses fault
     → IsFilmRefused held call.name (System fault)) → IsSystemError call.name Refuses t
@@ -192,29 +199,13 @@ pub read_trouble_map : {Reads Reads' : List ℕ → Type 0} {Refuses Refuses' : 
     Refuses' held name fault) →
     IsReadError Reads Refuses told before after t → IsReadError Reads' Refuses' told before after t
 read_trouble_map {Reads} {Reads'} {Refuses} {Refuses'} {told} before after t reads refuses h =
-    trouble_map (record {
-      Reads = Reads;
-      Refuses = Refuses;
-      told = told;
-      before = before;
-      after = after;
-    })
-    (record {
-      Reads = Reads';
-      Refuses = Refuses';
-      told = told;
-      before = before;
-      after = after;
-    })
-    t
-    (record {
+    trouble_map (causes_of Reads Refuses told before after) (causes_of Reads' Refuses' told before after) t (record {
       reads = reads;
       refuses = refuses;
       keeps = λ held is. is;
       low = omega arith;
       high = omega arith;
-    })
-    h
+    }) h
 
 -- a library that is read on, which exposes as much as before
 pub record LaterRead : Type 0 where
@@ -234,29 +225,14 @@ pub trouble_on : (later : LaterRead) (name : List ℕ) (Refuses : List File → 
     (t : CliError) → IsReadError (IsThatName name) Refuses later.next later.after c t
     → IsReadError (IsThatName name) Refuses later.told later.before c t
 trouble_on later name Refuses c t h =
-    trouble_map (record {
-      Reads = IsThatName name;
-      Refuses = Refuses;
-      told = later.next;
-      before = later.after;
-      after = c;
-    })
-    (record {
-      Reads = IsThatName name;
-      Refuses = Refuses;
-      told = later.told;
-      before = later.before;
-      after = c;
-    })
-    t
-    (record {
+    trouble_map (causes_of (IsThatName name) Refuses later.next later.after c)
+    (causes_of (IsThatName name) Refuses later.told later.before c) t (record {
       reads = λ n is. is;
       refuses = λ held n fault is named refused. refused;
       keeps = λ held is. later.on.kept ∙ is;
       low = omega (arith, later.on.count);
       high = omega arith;
-    })
-    h
+    }) h
 
 -- the same of a read that is never refused
 pub never_refused : (later : LaterRead) (name : List ℕ) (Refuses : List File → List ℕ → InputError → Type 0) (c : ℕ)

@@ -1,10 +1,9 @@
-use Rattle.std.proofs.Common.{◌∙◌, ◌++◌, [], List, ℕ, arith, length, length-append, subst, take}
+use Rattle.std.proofs.Common.{◌∙◌, ◌++◌, [], List, ℕ, arith, take}
 use Rattle.std.proofs.lemmas.List.{length-take-le}
 use Rattle.mpeg_scan.specs.StartCodes.{read_after}
 use Rattle.mpeg_scan.proofs.FilmLemmas.{length-read}
-use Rattle.inputs.specs.FileReads.{IsChunk, IsNextRead}
 use Rattle.inputs.proofs.LibraryLemmas.{then_read}
-use Rattle.inputs.proofs.ReadLemmas.{some_chunk}
+use Rattle.inputs.proofs.ReadLemmas.{chunk_long}
 use Rattle.inputs.proofs.ScanLemmas.{chunk_refused, film_file, film_trouble, library_call, more_told}
 use Rattle.inputs.proofs.scans.feed_film.Goals as goal
 
@@ -12,8 +11,7 @@ pub feed-requires-clause-short : goal.feed-requires-clause-short
 feed-requires-clause-short g c =
     let so_far = c.loop-count.invariant.scanned in
     let into : List ℕ = c.read_at.new.into in
-    let chunk = some_chunk (IsChunk c.args.file.size c.loop-count.at (length into)) c.in-Some.is
-    ((c.in_ok-count.ensures {u = tt}).chunk) in
+    let chunk = rw c.in-Some.is at ((c.in_ok-count.ensures {u = tt}).chunk) in
     omega (
       arith,
       so_far.scanned.fed.progress.fed,
@@ -32,9 +30,8 @@ returns-in-Err-clause-error g c =
     (λ held fault is refused.
     chunk_refused (film_file (c.requires.opened held is) c.requires.short) so_far.bytes
     (take c.in-Some.count c.read_at.new.into)
-    (subst (IsNextRead held c.args.file.name.now c.args.file.size so_far.bytes c.read_at.new.into) c.in-Some.is
-    ((c.in_ok-count.ensures {u = tt}).told held so_far.bytes
-    (c.loop-count.invariant.library.kept ∙ is)
+    (rw c.in-Some.is at
+    ((c.in_ok-count.ensures {u = tt}).told held so_far.bytes (c.loop-count.invariant.library.kept ∙ is)
     (so_far.front held is) so_far.long))
     (c.feed.ensures.fault fault (cc) (read_after [] so_far.bytes) so_far.scanned.fed))
     c.scan_error.ensures
@@ -44,20 +41,14 @@ loop-count-preserved g c =
     let so_far = c.loop-count.invariant.scanned in
     let into : List ℕ = c.read_at.new.into in
     let count = c.in-Some.count in
-    let chunk = some_chunk (IsChunk c.args.file.size c.loop-count.at (length into)) c.in-Some.is
-    ((c.in_ok-count.ensures {u = tt}).chunk) in
+    let chunk = rw c.in-Some.is at ((c.in_ok-count.ensures {u = tt}).chunk) in
     record {
       library = then_read c.loop-count.invariant.library c.read_at.ensures.library;
       within = chunk.within;
       ready = c.feed.ensures.ready;
       scanned = record {
         bytes = so_far.bytes ++ take count into;
-        long = omega (
-          arith,
-          length-append so_far.bytes (take count into),
-          so_far.long,
-          length-take-le count into chunk.fits,
-        );
+        long = omega (arith, chunk_long so_far.bytes into chunk, so_far.long);
         scanned = more_told (record {
           Heard = _;
           Next = _;
@@ -68,7 +59,7 @@ loop-count-preserved g c =
           tells = (c.in_default-feed.ensures {u = tt}).heard;
         }) so_far.scanned;
         front = λ held is.
-            subst (IsNextRead held c.args.file.name.now c.args.file.size so_far.bytes into) c.in-Some.is
+            rw c.in-Some.is at
             ((c.in_ok-count.ensures {u = tt}).told held so_far.bytes (c.loop-count.invariant.library.kept ∙ is)
             (so_far.front held is) so_far.long);
       };
@@ -82,7 +73,7 @@ returns-clause-scanned g c =
       few = omega (arith, so_far.long, c.loop-count.invariant.within);
       scanned = so_far.scanned;
       whole = λ held is.
-          subst (IsNextRead held c.args.file.name.now c.args.file.size so_far.bytes c.read_at.new.into) c.in_default.is
+          rw c.in_default.is at
           ((c.in_ok-count.ensures {u = tt}).told held so_far.bytes (c.loop-count.invariant.library.kept ∙ is)
           (so_far.front held is) so_far.long);
     }

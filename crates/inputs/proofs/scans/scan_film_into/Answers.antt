@@ -1,7 +1,7 @@
-use Rattle.std.proofs.Common.{◌∙◌, ◌^◌, inl, refl, sym, subst, arith}
+use Rattle.std.proofs.Common.{◌∙◌, ◌^◌, inl, refl, sym, arith}
 use Rattle.mpeg_scan.specs.declared.faults.FilmFault.TheVariants.{TooLong}
 use Rattle.cli_errors.specs.declared.errors.InputError.TheVariants.{Film}
-use Rattle.inputs.specs.ChunkScans.{IsFilmRefused, IsOpened}
+use Rattle.inputs.specs.ChunkScans.{IsFilmRefused}
 use Rattle.inputs.proofs.ScanLemmas.{handed_on, heard_on, later_read, never_refused, read_trouble_map}
 use Rattle.inputs.proofs.LoadLemmas.{size_above}
 use Rattle.inputs.proofs.ReadLemmas.{first_front}
@@ -37,14 +37,14 @@ returns-then-size-gt-MAX_FILM_BYTES-clause-error g c = (
 
 pub scan_plain-requires-clause-opened : goal.scan_plain-requires-clause-opened
 scan_plain-requires-clause-opened g c = λ held is.
-    subst (IsOpened held c.args.name.now c.in_ok-size.size) c.in-None.is
+    rw c.in-None.is at
     ((c.in_ok-stream.ensures {u = tt}).opened held (sym c.find_pack.ensures.library.kept ∙ is)
     ((c.in_ok-size.ensures {u = tt}).found held
     (sym c.find_file.ensures.library.kept ∙ sym c.find_pack.ensures.library.kept ∙ is)))
 
 pub scan_stream-requires-clause-opened : goal.scan_stream-requires-clause-opened
 scan_stream-requires-clause-opened g c = λ held is.
-    subst (IsOpened held c.args.name.now c.in_ok-size.size) c.in-Some.is
+    rw c.in-Some.is at
     ((c.in_ok-stream.ensures {u = tt}).opened held (sym c.find_pack.ensures.library.kept ∙ is)
     ((c.in_ok-size.ensures {u = tt}).found held
     (sym c.find_file.ensures.library.kept ∙ sym c.find_pack.ensures.library.kept ∙ is)))

@@ -1,10 +1,6 @@
 use Rattle.std.proofs.Common.{◌≤◌, ◌^◌, [], inl, length, refl, arith}
-use Rattle.std.proofs.lemmas.Result.{IfErr-weaker}
-use Rattle.cli_errors.specs.ReadErrors.{IsReadError}
-use Rattle.inputs.specs.FileReads.{IsThatName}
-use Rattle.inputs.specs.LoadErrors.{IsFilmError}
-use Rattle.inputs.specs.ChunkScans.{HasEnded, HasScannedFilm, HasScannedAll, IsFilmRefused, IsRefusedAtEnd}
-use Rattle.inputs.proofs.ScanLemmas.{film_file, film_trouble, handed_on, library_call, none_told, ok_map, plain_holds}
+use Rattle.inputs.specs.ChunkScans.{HasEnded, HasScannedFilm, IsRefusedAtEnd}
+use Rattle.inputs.proofs.ScanLemmas.{film_file, film_troubles, handed_on, library_call, none_told, ok_map, plain_holds}
 use Rattle.inputs.proofs.ScanLemmas.{plain_refused}
 use Rattle.inputs.proofs.scans.scan_plain.Goals as goal
 
@@ -21,9 +17,7 @@ feed_film-requires-clause-scanned g c = record {
 
 pub returns-clause-film : goal.returns-clause-film
 returns-clause-film g c =
-    let all : HasScannedAll (g.F.Found.heard c.feed_film.new.found) (g.L.Library.files c.args.library.now)
-    c.args.file.name.now c.args.file.size c.feed_film.new.scanner =
-    (c.in_ok-feed_film.ensures {u = tt}).scanned in
+    let all = (c.in_ok-feed_film.ensures {u = tt}).scanned in
     let short : length all.bytes ≤ 2 ^ 40 = omega (arith, all.few, c.requires.short) in
     ok_map (λ e. HasEnded (g.F.Found.heard c.finish_scan.new.found) all.bytes e.bytes e.rate)
     (λ e. HasScannedFilm (g.F.Found.heard c.finish_scan.new.found) (g.L.Library.files c.args.library.now)
@@ -39,21 +33,14 @@ returns-clause-film g c =
 
 pub returns-clause-error : goal.returns-clause-error
 returns-clause-error g c =
-    let all : HasScannedAll (g.F.Found.heard c.feed_film.new.found) (g.L.Library.files c.args.library.now)
-    c.args.file.name.now c.args.file.size c.feed_film.new.scanner =
-    (c.in_ok-feed_film.ensures {u = tt}).scanned in
+    let all = (c.in_ok-feed_film.ensures {u = tt}).scanned in
     let short : length all.bytes ≤ 2 ^ 40 = omega (arith, all.few, c.requires.short) in
-    IfErr-weaker c.finish_scan.result (IsFilmError c.args.file.name.now
-    (IsRefusedAtEnd (g.F.Found.heard c.feed_film.new.found) c.feed_film.new.scanner))
-    (IsReadError (IsThatName c.args.file.name.now) IsFilmRefused (g.L.Library.files c.args.library.now)
-    (g.L.Library.faults c.args.library.now) (g.L.Library.faults c.feed_film.new.library))
-    (λ t h. film_trouble
+    film_troubles
     {Refuses = IsRefusedAtEnd (g.F.Found.heard c.feed_film.new.found) c.feed_film.new.scanner}
     (library_call (g.L.Library.files c.args.library.now) c.args.file.name.now
-    (g.L.Library.faults c.args.library.now) (g.L.Library.faults c.feed_film.new.library)) t
+    (g.L.Library.faults c.args.library.now) (g.L.Library.faults c.feed_film.new.library)) c.finish_scan.result
     (λ held fault is refuses. plain_refused (film_file (c.requires.opened held is) c.requires.short)
-    (all.whole held is) (refuses all.bytes short (inl all.scanned))) h)
-    c.finish_scan.ensures.error
+    (all.whole held is) (refuses all.bytes short (inl all.scanned))) c.finish_scan.ensures.error
 
 pub returns-in_err-feed_film-clause-error : goal.returns-in_err-feed_film-clause-error
 returns-in_err-feed_film-clause-error g c =

@@ -1,8 +1,7 @@
-use Rattle.std.proofs.Common.{◌≡◌, ◌∙◌, ◌++◌, List, ℕ, arith, length, length-append, refl, subst, take}
+use Rattle.std.proofs.Common.{◌≡◌, ◌∙◌, ◌++◌, List, ℕ, arith, length, length-append, refl, take}
 use Rattle.std.proofs.lemmas.List.{length-take-le}
-use Rattle.inputs.specs.FileReads.{IsChunk, IsNextRead}
 use Rattle.inputs.proofs.LibraryLemmas.{then_read}
-use Rattle.inputs.proofs.ReadLemmas.{some_chunk}
+use Rattle.inputs.proofs.ReadLemmas.{chunk_long}
 use Rattle.inputs.proofs.ScanLemmas.{film_file, library_call, system_trouble}
 use Rattle.inputs.proofs.StreamLemmas.{chunk_told, front_more, stream_rest}
 use Rattle.inputs.proofs.streams.feed_stream.Goals as goal
@@ -11,8 +10,7 @@ pub unwrap_chunk-requires-clause-room : goal.unwrap_chunk-requires-clause-room
 unwrap_chunk-requires-clause-room g c =
     let so_far = c.loop-count.invariant.streamed in
     let into : List ℕ = c.read_at.new.into in
-    let chunk = some_chunk (IsChunk c.args.file.size c.loop-count.at (length into)) c.in-Some.is
-    ((c.in_ok-count.ensures {u = tt}).chunk) in
+    let chunk = rw c.in-Some.is at ((c.in_ok-count.ensures {u = tt}).chunk) in
     omega (
       arith,
       so_far.unwrapped.fed.count,
@@ -40,7 +38,7 @@ returns-in-Err-clause-error g c =
         seen = so_far.seen;
         front = so_far.front held is;
       }) chunk (λ bytes front long.
-          subst (IsNextRead held c.args.file.name.now c.args.file.size bytes c.read_at.new.into) c.in-Some.is
+          rw c.in-Some.is at
           ((c.in_ok-count.ensures {u = tt}).told held bytes (c.loop-count.invariant.library.kept ∙ is) front
           (long ∙ so_far.long)));
     }) ((c.in-Err.ensures {u = tt}).refused so_far.seen so_far.unwrapped) moves)
@@ -51,8 +49,7 @@ loop-count-preserved g c =
     let so_far = c.loop-count.invariant.streamed in
     let into : List ℕ = c.read_at.new.into in
     let count = c.in-Some.count in
-    let chunk = some_chunk (IsChunk c.args.file.size c.loop-count.at (length into)) c.in-Some.is
-    ((c.in_ok-count.ensures {u = tt}).chunk) in
+    let chunk = rw c.in-Some.is at ((c.in_ok-count.ensures {u = tt}).chunk) in
     record {
       library = then_read c.loop-count.invariant.library c.read_at.ensures.library;
       within = chunk.within;
@@ -60,12 +57,7 @@ loop-count-preserved g c =
       ready = c.unwrap_chunk.ensures.ready;
       streamed = record {
         seen = so_far.seen ++ take count into;
-        long = omega (
-          arith,
-          length-append so_far.seen (take count into),
-          so_far.long,
-          length-take-le count into chunk.fits,
-        );
+        long = omega (arith, chunk_long so_far.seen into chunk, so_far.long);
         unwrapped = (c.in_default-unwrap_chunk.ensures {u = tt}).next so_far.seen so_far.unwrapped;
         front = λ held is. front_more (record {
           held = held;
@@ -75,7 +67,7 @@ loop-count-preserved g c =
           seen = so_far.seen;
           front = so_far.front held is;
         }) (take count into) (λ bytes front long.
-            subst (IsNextRead held c.args.file.name.now c.args.file.size bytes into) c.in-Some.is
+            rw c.in-Some.is at
             ((c.in_ok-count.ensures {u = tt}).told held bytes (c.loop-count.invariant.library.kept ∙ is) front
             (long ∙ so_far.long)));
       };
@@ -95,7 +87,7 @@ returns-clause-streamed g c =
           omega (arith, length-append front.0 so_far.seen, front.1.0, so_far.long) in (
             whole,
             (
-              subst (IsNextRead held c.args.file.name.now c.args.file.size whole c.read_at.new.into) c.in_default.is
+              rw c.in_default.is at
                   ((c.in_ok-count.ensures {u = tt}).told held whole (c.loop-count.invariant.library.kept ∙ is)
                   front.1.1 long),
               stream_rest front.0 so_far.seen whole c.args.from refl front.1.0,

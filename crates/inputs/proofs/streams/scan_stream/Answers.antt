@@ -1,11 +1,7 @@
 use Rattle.std.proofs.Common.{◌≤◌, ◌^◌, ℕ, List, [], inl, length, subst, sym, arith}
-use Rattle.std.proofs.lemmas.Result.{IfErr-weaker}
 use Rattle.sys_demux.specs.SystemStreams.{IsBadStream, IsSystem}
-use Rattle.cli_errors.specs.ReadErrors.{IsReadError}
-use Rattle.inputs.specs.FileReads.{IsThatName}
-use Rattle.inputs.specs.LoadErrors.{IsFilmError}
-use Rattle.inputs.specs.ChunkScans.{HasEnded, HasScannedFilm, HasStreamedAll, IsFilmRefused, IsRefusedAtEnd}
-use Rattle.inputs.proofs.ScanLemmas.{film_file, film_trouble, handed_on, library_call, none_told, ok_map}
+use Rattle.inputs.specs.ChunkScans.{HasEnded, HasScannedFilm, IsRefusedAtEnd}
+use Rattle.inputs.proofs.ScanLemmas.{film_file, film_troubles, handed_on, library_call, none_told, ok_map}
 use Rattle.inputs.proofs.ScanLemmas.{system_trouble}
 use Rattle.inputs.proofs.StreamLemmas.{first_stream, stream_fault, stream_holds, stream_refused, stream_seen}
 use Rattle.inputs.proofs.streams.scan_stream.Goals as goal
@@ -29,9 +25,7 @@ feed_stream-requires-clause-few g c = omega (arith, c.new-scanner.ensures.fed.pr
 
 pub returns-in-Ok-clause-film : goal.returns-in-Ok-clause-film
 returns-in-Ok-clause-film g c =
-    let all : HasStreamedAll (g.F.Found.heard c.feed_stream.new.found) (g.L.Library.files c.args.library.now)
-    c.args.file.name.now c.args.file.size c.args.from c.feed_stream.new.unwrapper c.feed_stream.new.scanner =
-    (c.in_ok-feed_stream.ensures {u = tt}).streamed in
+    let all = (c.in_ok-feed_stream.ensures {u = tt}).streamed in
     let video = all.unwrapped.video in
     let system : IsSystem all.seen video = (c.in-Ok.ensures {u = tt}).end all.seen video all.unwrapped.fed in
     let short : length video ≤ 2 ^ 40 = omega (arith, c.requires.short, all.unwrapped.few, all.few) in
@@ -50,35 +44,26 @@ returns-in-Ok-clause-film g c =
 
 pub returns-in-Ok-clause-error : goal.returns-in-Ok-clause-error
 returns-in-Ok-clause-error g c =
-    let all : HasStreamedAll (g.F.Found.heard c.feed_stream.new.found) (g.L.Library.files c.args.library.now)
-    c.args.file.name.now c.args.file.size c.args.from c.feed_stream.new.unwrapper c.feed_stream.new.scanner =
-    (c.in_ok-feed_stream.ensures {u = tt}).streamed in
+    let all = (c.in_ok-feed_stream.ensures {u = tt}).streamed in
     let video = all.unwrapped.video in
     let system : IsSystem all.seen video = (c.in-Ok.ensures {u = tt}).end all.seen video all.unwrapped.fed in
     let short : length video ≤ 2 ^ 40 = omega (arith, c.requires.short, all.unwrapped.few, all.few) in
-    IfErr-weaker c.finish_scan.result (IsFilmError c.args.file.name.now
-    (IsRefusedAtEnd (g.F.Found.heard c.feed_stream.new.found) c.feed_stream.new.scanner))
-    (IsReadError (IsThatName c.args.file.name.now) IsFilmRefused (g.L.Library.files c.args.library.now)
-    (g.L.Library.faults c.args.library.now) (g.L.Library.faults c.feed_stream.new.library))
-    (λ t h. film_trouble
+    film_troubles
     {Refuses = IsRefusedAtEnd (g.F.Found.heard c.feed_stream.new.found) c.feed_stream.new.scanner}
     (library_call (g.L.Library.files c.args.library.now) c.args.file.name.now
-    (g.L.Library.faults c.args.library.now) (g.L.Library.faults c.feed_stream.new.library)) t
+    (g.L.Library.faults c.args.library.now) (g.L.Library.faults c.feed_stream.new.library)) c.finish_scan.result
     (λ held fault is refuses.
     let file = film_file (c.requires.opened held is) c.requires.short in
     stream_refused file
     (subst (λ (l : List ℕ). IsSystem l video) (sym (stream_seen file (all.whole held is))) system)
-    (refuses video short all.unwrapped.taken)) h)
-    c.finish_scan.ensures.error
+    (refuses video short all.unwrapped.taken)) c.finish_scan.ensures.error
 
 pub returns-in-Err-clause-error : goal.returns-in-Err-clause-error
 returns-in-Err-clause-error g c =
     system_trouble (library_call (g.L.Library.files c.args.library.now) c.args.file.name.now
     (g.L.Library.faults c.args.library.now) (g.L.Library.faults c.feed_stream.new.library)) c.stream_error.result
     (λ held fault is moves.
-    let all : HasStreamedAll (g.F.Found.heard c.feed_stream.new.found) (g.L.Library.files c.args.library.now)
-    c.args.file.name.now c.args.file.size c.args.from c.feed_stream.new.unwrapper c.feed_stream.new.scanner =
-    (c.in_ok-feed_stream.ensures {u = tt}).streamed in
+    let all = (c.in_ok-feed_stream.ensures {u = tt}).streamed in
     let file = film_file (c.requires.opened held is) c.requires.short in
     stream_fault file
     (subst (λ (l : List ℕ). IsBadStream l c.in-Err.fault) (sym (stream_seen file (all.whole held is)))
