@@ -13,6 +13,7 @@ use film_frames::{Frames, Part, Stored, TraceTrack, Track};
 use film_run::{Trace, Units};
 use rtp_pack::Identity;
 use std::alloc::Global;
+use std::fmt;
 use vod_base::NoMemory;
 
 /// A film or a trace that a script names.
@@ -22,6 +23,15 @@ pub enum Source {
     Film(Stored),
     /// The sizes of a trace's pictures in bytes, one picture a slot.
     Trace(Vec<u64>),
+}
+
+impl fmt::Debug for Source {
+    fn fmt<W: fmt::Write>(&self, f: &mut fmt::Formatter<W>) -> fmt::Result {
+        f.write_str(match self {
+            Source::Film(_) => "Film(..)",
+            Source::Trace(_) => "Trace(..)",
+        })
+    }
 }
 
 /// The identity of what is sent: nobody receives it.

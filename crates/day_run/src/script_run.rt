@@ -23,6 +23,7 @@ use report::laws::{law_answers_match_commands, law_calendar_text_matches_state};
 use report::{calendar_text, journal_text};
 use slot_calendar::Profile;
 use std::alloc::Global;
+use std::fmt;
 use vod_base::{LATEST_SLOT, NoMemory};
 use wire_curve::CurveRefused;
 
@@ -33,6 +34,12 @@ pub struct Day {
     pub text: Vec<u8>,
     /// Its journal.
     pub journal: Vec<Entry>,
+}
+
+impl fmt::Debug for Day {
+    fn fmt<W: fmt::Write>(&self, f: &mut fmt::Formatter<W>) -> fmt::Result {
+        f.debug_struct("Day").finish_non_exhaustive()
+    }
 }
 
 /// Runs a script on a link of this capacity, whose journal has room for `limit` entries, 2 to

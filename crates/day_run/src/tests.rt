@@ -100,6 +100,8 @@ fn prints_each_line(rt: HostRuntime) -> Result<(), Fail> {
             row.capacity,
             row.limit,
         )?;
+        let printed = format!(in alloc; "{:?} {day:?}", sources[0])?;
+        assert_eq!(rt; printed.as_str(), "Trace(..) Day { .. }");
         let text = day.text.as_slice();
         assert!(rt;
             text == row.text.as_bytes(),
