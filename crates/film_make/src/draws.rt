@@ -7,6 +7,7 @@ ghost use Rattle.film_make.specs.Generator.{words_left, words_of, words_after};
 use rand_chacha::ChaCha8Rng;
 use rand_core::SeedableRng;
 use rand_core::utils::NextWord;
+use std::fmt;
 use std::marker::Model;
 
 /// The draws of a number: ChaCha with eight rounds (D. J. Bernstein, 2008), seeded with the
@@ -16,6 +17,12 @@ use std::marker::Model;
 #[derive(Drop)]
 pub struct Draws {
     rng: ChaCha8Rng,
+}
+
+impl fmt::Debug for Draws {
+    fn fmt<W: fmt::Write>(&self, f: &mut fmt::Formatter<W>) -> fmt::Result {
+        f.debug_struct("Draws").finish_non_exhaustive()
+    }
 }
 
 impl Model for Draws {

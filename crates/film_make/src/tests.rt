@@ -29,11 +29,14 @@ fn draws_the_words_of_chacha8(rt: HostRuntime) {
 }
 
 #[test]
-fn draws_modulo_a_number(rt: HostRuntime) {
+fn draws_modulo_a_number(rt: HostRuntime) -> Result<(), Fail> {
     let mut draws = Draws::new(1);
     assert_eq!(rt; draws.draw(1800), 1519);
     assert_eq!(rt; draws.draw(1), 0);
     assert_eq!(rt; draws.draw(10), 2);
+    let printed = format!(in rt.alloc(); "{draws:?}")?;
+    assert_eq!(rt; printed.as_str(), "Draws { .. }");
+    Ok(())
 }
 
 #[test]
