@@ -1,7 +1,7 @@
 //! What a large day counts.
 
 /// What a large day reports at its end.
-#[derive(Clone, Copy)]
+#[derive(Clone, Copy, Debug)]
 pub struct FairTotals {
     /// The turns that clients took.
     pub turns: u64,
@@ -18,7 +18,7 @@ pub struct FairTotals {
 }
 
 /// How many entries of a journal have each answer.
-#[derive(Clone, Copy)]
+#[derive(Clone, Copy, Debug)]
 pub struct EntryCounts {
     /// The plays that were admitted.
     pub admitted: u64,

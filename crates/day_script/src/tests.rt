@@ -88,6 +88,10 @@ fn writes_each_line(rt: HostRuntime) -> Result<(), Fail> {
         halted: 9,
     };
     push_fair(&mut out, &counts, &entries)?;
+    let printed = format!(in alloc; "{counts:?} {entries:?}")?;
+    let debug = "FairTotals { turns: 1, full: 2, last: 3, sent: 4, booked: 5, peak: 6 } \
+        EntryCounts { admitted: 7, overflows: 8, halted: 9 }";
+    assert_eq!(rt; printed.as_str(), debug);
     let text = "refused state\nrefused TooManySlots 7\nrefused journal entries=2 open=1\n\
         slot 1 sent=2 booked=3\noffer none tried=0\n\
         fair turns=1 admitted=7 overflow=8 halted=9 full=2 last=3 sent=4 booked=5 peak=6\n";
