@@ -63,8 +63,8 @@ fn write_after<O: Sink>(out: &mut O, is_written: bool, part: &[u8]) -> bool
     is_written && out.write_all(part).is_ok()
 }
 
-/// Writes the lines of units, of which the first has that number, at the end of `piece`, and returns
-/// where they start.
+/// Writes the lines of units, of which the first has that number, at the end of `piece`, and
+/// returns where they start.
 fn write_lines(first: u64, units: &[Unit], piece: &mut [u8]) -> usize
     requires numbers { first + length units.now < 2 ^ 64 }
     requires room { LINE_BYTES * length units.now ≤ length piece.old }
