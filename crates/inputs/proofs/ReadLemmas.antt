@@ -74,6 +74,11 @@ pub record FileFront : Type 0 where
   pub bytes : List ℕ
   pub front : IsFilePrefix held name size bytes
 
+abbrev pub file_front : {held : List File} {name : List ℕ} {size : ℕ} {bytes : List ℕ}
+    → IsFilePrefix held name size bytes → FileFront
+file_front {held} {name} {size} {bytes} front =
+    record { held = held; name = name; size = size; bytes = bytes; front = front }
+
 -- a prefix of a file, and the rest of it
 pub front_rest : (held : List File) (name : List ℕ) (size : ℕ) (bytes : List ℕ)
     → (front : IsFilePrefix held name size bytes) → bytes ++ drop (length bytes) front.whole ≡ front.whole

@@ -2,7 +2,7 @@ use Rattle.std.proofs.Common.{◌≡◌, ◌∙◌, ◌≤◌, ◌++◌, List, �
 use Rattle.std.proofs.Common.{sym, take}
 use Rattle.std.proofs.lemmas.List.{length-take-le}
 use Rattle.inputs.proofs.PackSearchLemmas.{none_looked, open_plain, opened_by}
-use Rattle.inputs.proofs.ReadLemmas.{chunk_long, one_file}
+use Rattle.inputs.proofs.ReadLemmas.{chunk_long, file_front, one_file}
 use Rattle.inputs.proofs.LibraryLemmas.{then_read}
 use Rattle.inputs.proofs.pack_search.find_pack.Goals as goal
 
@@ -58,26 +58,14 @@ returns-in-Pack-clause-opened g c = λ held is found.
       length-take-le c.in-Some.count c.read_at.new.into chunk.fits,
       chunk.within,
     ) in
-    opened_by (record {
-      held = held;
-      name = c.args.file.name.now;
-      size = c.args.file.size;
-      bytes = so_far.bytes ++ take c.in-Some.count c.read_at.new.into;
-      front = rw c.in-Some.is at
-          ((c.in_ok-count.ensures {u = tt}).told held so_far.bytes (c.loop-count.invariant.library.kept ∙ is)
-          so_far.front so_far.long);
-    }) (Some c.in-Pack.place)
+    opened_by (file_front (rw c.in-Some.is at
+    ((c.in_ok-count.ensures {u = tt}).told held so_far.bytes (c.loop-count.invariant.library.kept ∙ is) so_far.front
+    so_far.long))) (Some c.in-Pack.place)
     ((c.in-Pack.ensures {u = tt}).opening so_far.bytes so_far.long so_far.unfound) place
 
 pub returns-in-Other-clause-opened : goal.returns-in-Other-clause-opened
 returns-in-Other-clause-opened g c = λ held is found.
     let so_far = c.loop-count.invariant.told held is found in
-    opened_by (record {
-      held = held;
-      name = c.args.file.name.now;
-      size = c.args.file.size;
-      bytes = so_far.bytes ++ take c.in-Some.count c.read_at.new.into;
-      front = rw c.in-Some.is at
-          ((c.in_ok-count.ensures {u = tt}).told held so_far.bytes (c.loop-count.invariant.library.kept ∙ is)
-          so_far.front so_far.long);
-    }) None ((c.in-Other.ensures {u = tt}).opening so_far.bytes so_far.long so_far.unfound) tt
+    opened_by (file_front (rw c.in-Some.is at
+    ((c.in_ok-count.ensures {u = tt}).told held so_far.bytes (c.loop-count.invariant.library.kept ∙ is) so_far.front
+    so_far.long))) None ((c.in-Other.ensures {u = tt}).opening so_far.bytes so_far.long so_far.unfound) tt

@@ -1,4 +1,4 @@
-use Rattle.std.proofs.Common.{◌∙◌, ◌++◌, [], List, ℕ, arith, take}
+use Rattle.std.proofs.Common.{◌∙◌, ◌++◌, [], arith, take}
 use Rattle.std.proofs.lemmas.List.{length-take-le}
 use Rattle.mpeg_scan.specs.StartCodes.{read_after}
 use Rattle.mpeg_scan.proofs.FilmLemmas.{length-read}
@@ -10,14 +10,13 @@ use Rattle.inputs.proofs.scans.feed_film.Goals as goal
 pub feed-requires-clause-short : goal.feed-requires-clause-short
 feed-requires-clause-short g c =
     let so_far = c.loop-count.invariant.scanned in
-    let into : List ℕ = c.read_at.new.into in
     let chunk = rw c.in-Some.is at ((c.in_ok-count.ensures {u = tt}).chunk) in
     omega (
       arith,
       so_far.scanned.fed.progress.fed,
       length-read so_far.bytes [],
       so_far.long,
-      length-take-le c.in-Some.count into chunk.fits,
+      length-take-le c.in-Some.count c.read_at.new.into chunk.fits,
       chunk.within,
       c.requires.short,
     )
@@ -39,22 +38,20 @@ returns-in-Err-clause-error g c =
 pub loop-count-preserved : goal.loop-count-preserved
 loop-count-preserved g c =
     let so_far = c.loop-count.invariant.scanned in
-    let into : List ℕ = c.read_at.new.into in
-    let count = c.in-Some.count in
     let chunk = rw c.in-Some.is at ((c.in_ok-count.ensures {u = tt}).chunk) in
     record {
       library = then_read c.loop-count.invariant.library c.read_at.ensures.library;
       within = chunk.within;
       ready = c.feed.ensures.ready;
       scanned = record {
-        bytes = so_far.bytes ++ take count into;
-        long = omega (arith, chunk_long so_far.bytes into chunk, so_far.long);
+        bytes = so_far.bytes ++ take c.in-Some.count c.read_at.new.into;
+        long = omega (arith, chunk_long so_far.bytes c.read_at.new.into chunk, so_far.long);
         scanned = more_told (record {
           Heard = _;
           Next = _;
           scanner = _;
           next = _;
-          chunk = take count into;
+          chunk = take c.in-Some.count c.read_at.new.into;
           kept = (c.in_default-feed.ensures {u = tt}).kept;
           tells = (c.in_default-feed.ensures {u = tt}).heard;
         }) so_far.scanned;

@@ -9,13 +9,12 @@ use Rattle.inputs.proofs.streams.feed_stream.Goals as goal
 pub unwrap_chunk-requires-clause-room : goal.unwrap_chunk-requires-clause-room
 unwrap_chunk-requires-clause-room g c =
     let so_far = c.loop-count.invariant.streamed in
-    let into : List ℕ = c.read_at.new.into in
     let chunk = rw c.in-Some.is at ((c.in_ok-count.ensures {u = tt}).chunk) in
     omega (
       arith,
       so_far.unwrapped.fed.count,
       so_far.long,
-      length-take-le c.in-Some.count into chunk.fits,
+      length-take-le c.in-Some.count c.read_at.new.into chunk.fits,
       chunk.within,
       c.requires.short,
     )
@@ -47,8 +46,6 @@ returns-in-Err-clause-error g c =
 pub loop-count-preserved : goal.loop-count-preserved
 loop-count-preserved g c =
     let so_far = c.loop-count.invariant.streamed in
-    let into : List ℕ = c.read_at.new.into in
-    let count = c.in-Some.count in
     let chunk = rw c.in-Some.is at ((c.in_ok-count.ensures {u = tt}).chunk) in
     record {
       library = then_read c.loop-count.invariant.library c.read_at.ensures.library;
@@ -56,8 +53,8 @@ loop-count-preserved g c =
       few = (c.in_default-unwrap_chunk.ensures {u = tt}).few;
       ready = c.unwrap_chunk.ensures.ready;
       streamed = record {
-        seen = so_far.seen ++ take count into;
-        long = omega (arith, chunk_long so_far.seen into chunk, so_far.long);
+        seen = so_far.seen ++ take c.in-Some.count c.read_at.new.into;
+        long = omega (arith, chunk_long so_far.seen c.read_at.new.into chunk, so_far.long);
         unwrapped = (c.in_default-unwrap_chunk.ensures {u = tt}).next so_far.seen so_far.unwrapped;
         front = λ held is. front_more (record {
           held = held;
@@ -66,7 +63,7 @@ loop-count-preserved g c =
           from = c.args.from;
           seen = so_far.seen;
           front = so_far.front held is;
-        }) (take count into) (λ bytes front long.
+        }) (take c.in-Some.count c.read_at.new.into) (λ bytes front long.
             rw c.in-Some.is at
             ((c.in_ok-count.ensures {u = tt}).told held bytes (c.loop-count.invariant.library.kept ∙ is) front
             (long ∙ so_far.long)));
