@@ -78,7 +78,7 @@ outcome-places : {Plays : Rest → Type 0} {maker : Option ℕ} {places slot : �
 outcome-places step (Kept own at) order ready = kept-places step.old step.new own.kept
 outcome-places step (Asked own at) order ready =
     let is = ap (λ (m : DayState). places_taken m.entries) own.made.noted.new_is in
-    let most = played-places step.old.entries own.client step.old.heard own.plan own.made.answer in
+    let most = played-places step.old.entries own.ask.client step.old.heard own.ask.plan own.made.answer in
     room-places step 2 (omega arith) own.made.room (omega (arith, is, most))
 outcome-places step (Stopped own at) order ready =
     same-places step.old.entries step.new.entries

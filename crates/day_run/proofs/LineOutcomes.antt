@@ -3,7 +3,6 @@ use Rattle.std.proofs.Common.{◌≡◌, ◌<◌, ◌≤◌, ◌%◌, ◌+◌, �
 use Rattle.std.proofs.Common.{inr, arith, zero, suc, length, map, replicate, Option, Some, min, None, false}
 use Rattle.std.proofs.lemmas.List.{append-nil, append_assoc, get_or-replicate, length-map, length-set, length-replicate}
 use Rattle.admission.specs.declared.entries.Entry.{Entry}
-use Rattle.plan_cert.specs.declared.Segment.{Segment}
 use Rattle.film_make.specs.Generator.{words_after}
 use Rattle.day_script.specs.declared.scripts.Line.{Line}
 use Rattle.day_script.specs.declared.scripts.Line.TheVariants as lines
@@ -54,15 +53,12 @@ pub record DayKept (step : LineStep) (places : ℕ) : Type 0 where
 
 -- a client that played nothing was answered a play of such a rest
 pub record PlayAnswered (step : LineStep) (Plays : Rest → Type 0) (maker : Option ℕ) : Type 0 where
-  pub client : ℕ
-  pub by : maker ≡ Some client
-  pub free : IsFree (get_or step.old.states client Idle)
-  pub rest : Rest
-  pub plays : Plays rest
-  pub plan : List Segment
-  pub plan_is : IsPlanOf rest.sizes rest.playback rest.run plan
-  pub made : IsAnsweredPlay step.link (record { client = client; rest = rest; plan = plan }) step.old step.new
-      step.text
+  pub ask : AskedPlay
+  pub by : maker ≡ Some ask.client
+  pub free : IsFree (get_or step.old.states ask.client Idle)
+  pub plays : Plays ask.rest
+  pub plan_is : IsPlanOf ask.rest.sizes ask.rest.playback ask.rest.run ask.plan
+  pub made : IsAnsweredPlay step.link ask step.old step.new step.text
 
 -- a client's play was halted
 pub record PlayHalted (step : LineStep) (maker : Option ℕ) : Type 0 where
@@ -157,12 +153,10 @@ asked-outcome {c} {rest} step plays free (inr planned) = elim planned.done [
   | inl full ↦ full-kept step full
   | inr made ↦
       Asked (record {
-        client = c;
+        ask = record { client = c; rest = rest; plan = planned.plan };
         by = refl;
         free = free;
-        rest = rest;
         plays = plays;
-        plan = planned.plan;
         plan_is = planned.plan_is;
         made = made;
       }) refl
@@ -400,8 +394,8 @@ pub outcome-ready : {Plays : Rest → Type 0} {maker : Option ℕ} {places slot 
 outcome-ready step (Kept own at) order ready = ready-kept step.old step.new own.kept ready
 outcome-ready step (Asked own at) order ready =
     subst IsReady (sym own.made.noted.new_is)
-    (answered step.old own.made.answer (record { client = own.client; rest = own.rest; plan = own.plan })
-    (record { inside = maker-inside own.client order own.by; free = own.free }) ready)
+    (answered step.old own.made.answer own.ask
+    (record { inside = maker-inside own.ask.client order own.by; free = own.free }) ready)
 outcome-ready step (Stopped own at) order ready = paused step own order ready
 outcome-ready step (Looks own at) order ready = looked step own ready
 outcome-ready {slot} step (Reached own) order ready = slot-ready step.old step.new slot order.later own.is ready

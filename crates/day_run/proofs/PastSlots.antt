@@ -73,8 +73,7 @@ outcome-past : {Plays : Rest → Type 0} {maker : Option ℕ} {places slot : ℕ
 outcome-past step (Kept own at) order ready = kept-past step.old step.new own.kept
 outcome-past step (Asked own at) order ready =
     subst (Past step.old) (sym own.made.noted.new_is)
-    (answered-past own.made.answer step.link (record { client = own.client; rest = own.rest; plan = own.plan }) step.old
-    own.made.noted.answered)
+    (answered-past own.made.answer step.link own.ask step.old own.made.noted.answered)
 outcome-past step (Stopped own at) order ready = halted-past step own order ready
 outcome-past step (Looks own at) order ready =
     let e = entry_by 0 (commands.Look own.slot) own.made.answer in

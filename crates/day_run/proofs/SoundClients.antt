@@ -295,9 +295,9 @@ outcome-states : {Plays : Rest → Type 0} {maker : Option ℕ} {places slot : �
 outcome-states step (Kept own at) order plays sound = subst HasSoundClients (sym own.kept) sound.each
 outcome-states step (Asked own at) order plays sound =
     subst HasSoundClients (sym own.made.noted.new_is)
-    (answered-states step (record { client = own.client; rest = own.rest; plan = own.plan }) (record {
-      client_is = maker-inside own.client order own.by;
-      rest_is = plays own.rest own.plays own.plan_is.accepted.some_picture;
+    (answered-states step own.ask (record {
+      client_is = maker-inside own.ask.client order own.by;
+      rest_is = plays own.ask.rest own.plays own.plan_is.accepted.some_picture;
       plan_is = own.plan_is;
     }) sound own.made.answer own.made.noted.answered)
 outcome-states step (Stopped own at) order plays sound = halted-states step own order sound
