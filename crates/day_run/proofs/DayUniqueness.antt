@@ -386,7 +386,6 @@ done-sound step None begun stands is =
     subst IsSound (sym is.kept) begun.sound
 
 -- ---- a turn has one outcome
--- ---- a turn has one outcome
 mid-begun : (taken : TakenTurn) → IsBegun taken.link taken.turn.old → IsBegun taken.link taken.turn.mid
 mid-begun taken begun = record {
   fair = begun.fair;

@@ -1,6 +1,6 @@
 -- Which lines of a day say that the journal is full, and what they then say.
 use Rattle.std.proofs.Common.{◌≡◌, ◌<◌, ◌+◌, ◌^◌, ℕ, false, ◌&&◌, ◌==◌, List, [], ◌∷◌, ◌++◌, take, length, arith}
-use Rattle.std.proofs.Common.{refl, ap, ◌∙◌, inl, inr, append_assoc, true, true≢false, Option, sym}
+use Rattle.std.proofs.Common.{refl, ap, ◌∙◌, inl, inr, append_assoc, true, true≢false, sym}
 use Rattle.std.specs.Prelude.{codes, decimal}
 use Rattle.std.specs.Str.{bytes_eq}
 use Rattle.std.proofs.lemmas.Bool.{cases_Bool, eqb-true}
@@ -16,10 +16,11 @@ use Rattle.std.proofs.lemmas.List.{append-nil}
 use Rattle.admission.specs.Histories.{open_count}
 use Rattle.day_script.specs.declared.scripts.Line.{Line}
 use Rattle.day_run.specs.BookingBalance.{IsReady}
-use Rattle.day_run.specs.ClientStates.{ClientState, Rest}
+use Rattle.day_run.specs.ClientStates.{ClientState}
 use Rattle.day_run.specs.Days.{IsLine, IsNoted}
 use Rattle.day_run.specs.JournalLaws.{IsFullJournal, SaysFull, places_needed}
 use Rattle.day_script.specs.LineTexts.{full_text}
+use Rattle.day_run.proofs.LineOutcomes.{LineCase}
 use Rattle.day_run.proofs.LineOutcomes.{OtherOrFull, LineOutcome, Kept, Asked, Stopped, Looks, Reached, line-outcome}
 use Rattle.day_run.proofs.ScriptLines.{LineStep}
 
@@ -62,8 +63,8 @@ noted-other {entry} step small is =
     let line = entry_line (length step.old.entries) entry in
     ap is_full_line (is.text_is ∙ sym (append-nil line)) ∙ entry-other (length step.old.entries) entry [] small
 
-pub outcome-text : {Plays : Rest → Type 0} {maker : Option ℕ} {places slot : ℕ} (step : LineStep)
-    → length step.old.entries < 2 ^ 64 → LineOutcome step Plays maker places slot → OtherOrFull step places
+pub outcome-text : {case : LineCase} (step : LineStep)
+    → length step.old.entries < 2 ^ 64 → LineOutcome step case → OtherOrFull step case.places
 outcome-text step small (Kept own at) = own.says
 outcome-text step small (Asked own at) = inl (noted-other step small own.made.noted)
 outcome-text step small (Stopped own at) = inl (noted-other step small own.is.noted)

@@ -7,10 +7,11 @@ use Rattle.admission.specs.declared.entries.Entry.{Entry}
 use Rattle.admission.specs.Histories.{is_halt}
 use Rattle.day_script.specs.declared.scripts.Line.{Line}
 use Rattle.day_script.specs.declared.scripts.Line.TheVariants as lines
-use Rattle.day_run.specs.ClientStates.{ClientState, Playing, Rest, is_done}
+use Rattle.day_run.specs.ClientStates.{ClientState, Playing, is_done}
 use Rattle.day_run.specs.Days.{IsLine, IsNoted, DayState}
 use Rattle.day_run.specs.Days.{done_halt, halt_by, halt_entries, halts_at}
 use Rattle.day_run.specs.JournalLaws.{HasItsMaker, IsMadeBy}
+use Rattle.day_run.proofs.LineOutcomes.{LineCase}
 use Rattle.day_run.proofs.LineOutcomes.{offer-kept, LineOutcome, line-outcome}
 use Rattle.day_run.proofs.LineOutcomes.{LineOutcome, Kept, Asked, Stopped, Looks, Reached, line-outcome}
 use Rattle.day_run.proofs.ScriptLines.{LineStep}
@@ -35,13 +36,13 @@ one-made {entry} {maker} step by is =
       makers = All-cons M entry [] (cc by) (All-nil M);
     }
 
-outcome-made : {Plays : Rest → Type 0} {maker places slot : ℕ} (step : LineStep)
-    → LineOutcome step Plays (Some maker) places slot → IsMadeBy maker step.old step.new
-outcome-made step (Kept own at) = none-made step own.kept
-outcome-made step (Asked own at) = one-made step own.by own.made.noted
-outcome-made step (Stopped own at) = one-made step own.by own.is.noted
-outcome-made step (Looks own at) = one-made step own.by own.made.noted
-outcome-made step (Reached own) = cc own.by
+outcome-made : {case : LineCase} {maker : ℕ} (step : LineStep) → case.maker ≡ Some maker → LineOutcome step case
+    → IsMadeBy maker step.old step.new
+outcome-made step is (Kept own at) = none-made step own.kept
+outcome-made step is (Asked own at) = one-made step (sym is ∙ own.by) own.made.noted
+outcome-made step is (Stopped own at) = one-made step (sym is ∙ own.by) own.is.noted
+outcome-made step is (Looks own at) = one-made step (sym is ∙ own.by) own.made.noted
+outcome-made step is (Reached own) = cc (is, own.by)
 
 -- ---- the halts of a slot and of a day's end
 abbrev pub IsHaltEntry : Entry → Type 0
@@ -76,4 +77,4 @@ line-made step (lines.Slot slot) is = record {
   halts = slot-halts step.old slot;
 }
 line-made step (lines.Offer c source buffer delay wait) is = offer-kept step is
-line-made step line is = outcome-made step (line-outcome step line is)
+line-made step line is = outcome-made step refl (line-outcome step line is)

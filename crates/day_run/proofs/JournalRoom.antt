@@ -1,5 +1,5 @@
 -- A day's journal keeps places for the halts of its open plays, and no line takes one of them.
-use Rattle.std.proofs.Common.{◌≡◌, ◌≤◌, ◌+◌, ℕ, List, [], ◌∷◌, ◌++◌, length, Option, arith, refl, ap, ◌∙◌}
+use Rattle.std.proofs.Common.{◌≡◌, ◌≤◌, ◌+◌, ℕ, List, [], ◌∷◌, ◌++◌, length, arith, refl, ap, ◌∙◌}
 use Rattle.std.proofs.lemmas.List.{length-append}
 use Rattle.std.proofs.lemmas.List.Sums.{sum_by_push}
 use Rattle.plan_cert.specs.declared.Segment.{Segment}
@@ -12,10 +12,10 @@ use Rattle.admission.specs.Histories.{open_count, state_after}
 use Rattle.admission.specs.Machine.{State, admitted_play, live, next_state}
 use Rattle.admission.proofs.HistoryPrefixes.{state-push}
 use Rattle.day_run.specs.BookingBalance.{IsReady}
-use Rattle.day_run.specs.ClientStates.{Rest}
 use Rattle.day_run.specs.Days.{SharedLink, DayState, entry_by, last_journal}
 use Rattle.day_run.specs.FairDays.{FairTurn}
 use Rattle.day_run.proofs.FairLaws.{mid-ready, turn-mid}
+use Rattle.day_run.proofs.LineOutcomes.{LineCase}
 use Rattle.day_run.proofs.LineOutcomes.{halted_client, morning-ready, outcome-ready, LineOutcome, Kept, Asked, Stopped}
 use Rattle.day_run.proofs.LineOutcomes.{Looks, Reached, IsInOrder, TakenTurn, line-order, line-outcome, taken-keeps}
 use Rattle.day_run.proofs.LineOutcomes.{turn-order, turn-outcome, turn_step}
@@ -72,8 +72,8 @@ looked-places xs slot answer =
     let is : open_count (xs ++ e ∷ []) ≡ open_count xs = ap (λ (s : State). live s) (state-push xs e) in
     omega (arith, is, length-append xs (e ∷ []))
 
-outcome-places : {Plays : Rest → Type 0} {maker : Option ℕ} {places slot : ℕ} (step : LineStep)
-    → LineOutcome step Plays maker places slot → IsInOrder step maker slot → IsReady step.old
+outcome-places : {case : LineCase} (step : LineStep)
+    → LineOutcome step case → IsInOrder step case.maker case.slot → IsReady step.old
     → TakesPlaces step.link.limit step.old.entries step.new.entries
 outcome-places step (Kept own at) order ready = kept-places step.old step.new own.kept
 outcome-places step (Asked own at) order ready =
@@ -88,10 +88,10 @@ outcome-places step (Looks own at) order ready =
     let is = ap (λ (m : DayState). places_taken m.entries) own.made.noted.new_is in
     let most = looked-places step.old.entries own.slot own.made.answer in
     room-places step 1 (omega arith) own.made.room (omega (arith, is, most))
-outcome-places {slot} step (Reached own) order ready =
+outcome-places {case} step (Reached own) order ready =
     same-places step.old.entries step.new.entries
     (ap (λ (m : DayState). places_taken m.entries) own.is
-    ∙ (slot-halted step.old slot order.later ready.balanced).places)
+    ∙ (slot-halted step.old case.slot order.later ready.balanced).places)
 
 -- ---- the lines of a script
 pub taken-places : {link : SharedLink} {n : ℕ} (taken : LinesTaken link n)

@@ -80,18 +80,25 @@ pub record SlotReached (step : LineStep) (maker : Option ℕ) (slot : ℕ) : Typ
   pub is : step.new ≡ at_slot step.old slot
   pub text_is : step.text ≡ slot_lines step.old slot
 
--- What became of a day: who may have made an entry, what a play that was asked for may send, how many places a line
--- needs, and the last slot after it.
-pub data LineOutcome (step : LineStep) (Plays : Rest → Type 0) (maker : Option ℕ) (places slot : ℕ) : Type 0 where
-  Kept : DayKept step places → slot ≡ step.old.heard → LineOutcome step Plays maker places slot
-  Asked : PlayAnswered step Plays maker → slot ≡ step.old.heard → LineOutcome step Plays maker places slot
-  Stopped : PlayHalted step maker → slot ≡ step.old.heard → LineOutcome step Plays maker places slot
-  Looks : LookAnswered step maker → slot ≡ step.old.heard → LineOutcome step Plays maker places slot
-  Reached : SlotReached step maker slot → LineOutcome step Plays maker places slot
+-- what a play that was asked for may send, who may have made an entry, how many places a line needs, and the last slot
+-- after it
+pub record LineCase : Type 1 where
+  pub Plays : Rest → Type 0
+  pub maker : Option ℕ
+  pub places : ℕ
+  pub slot : ℕ
+
+-- what became of a day
+pub data LineOutcome (step : LineStep) (case : LineCase) : Type 0 where
+  Kept : DayKept step case.places → case.slot ≡ step.old.heard → LineOutcome step case
+  Asked : PlayAnswered step case.Plays case.maker → case.slot ≡ step.old.heard → LineOutcome step case
+  Stopped : PlayHalted step case.maker → case.slot ≡ step.old.heard → LineOutcome step case
+  Looks : LookAnswered step case.maker → case.slot ≡ step.old.heard → LineOutcome step case
+  Reached : SlotReached step case.maker case.slot → LineOutcome step case
 
 -- the last slot is then this one
-pub outcome-heard : {Plays : Rest → Type 0} {maker : Option ℕ} {places slot : ℕ} (step : LineStep)
-    → LineOutcome step Plays maker places slot → step.new.heard ≡ slot
+pub outcome-heard : {case : LineCase} (step : LineStep)
+    → LineOutcome step case → step.new.heard ≡ case.slot
 outcome-heard step (Kept own at) = ap (λ (m : DayState). m.heard) own.kept ∙ sym at
 outcome-heard step (Asked own at) = ap (λ (m : DayState). m.heard) own.made.noted.new_is ∙ sym at
 outcome-heard step (Stopped own at) = ap (λ (m : DayState). m.heard) own.is.noted.new_is ∙ sym at
@@ -114,8 +121,8 @@ grown-on a b c one two =
       new_is = two.new_is ∙ ap (λ l. l ++ two.made) one.new_is ∙ append_assoc a one.made two.made;
     }
 
-pub outcome-grown : {Plays : Rest → Type 0} {maker : Option ℕ} {places slot : ℕ} (step : LineStep)
-    → LineOutcome step Plays maker places slot → HasGrown step.old.entries step.new.entries
+pub outcome-grown : {case : LineCase} (step : LineStep)
+    → LineOutcome step case → HasGrown step.old.entries step.new.entries
 outcome-grown step (Kept own at) = kept-grown step.old step.new own.kept
 outcome-grown step (Asked own at) =
     record { made = _; new_is = ap (λ (m : DayState). m.entries) own.made.noted.new_is }
@@ -123,8 +130,8 @@ outcome-grown step (Stopped own at) =
     record { made = _; new_is = ap (λ (m : DayState). m.entries) own.is.noted.new_is }
 outcome-grown step (Looks own at) =
     record { made = _; new_is = ap (λ (m : DayState). m.entries) own.made.noted.new_is }
-outcome-grown {slot} step (Reached own) =
-    record { made = halts_at step.old slot; new_is = ap (λ (m : DayState). m.entries) own.is }
+outcome-grown {case} step (Reached own) =
+    record { made = halts_at step.old case.slot; new_is = ap (λ (m : DayState). m.entries) own.is }
 
 -- ---- the lines
 fault-other : (fault : CurveFault) → is_full_line (fault_text fault) ≡ false
@@ -136,51 +143,67 @@ offer-other : (tried : List Tried) (start : Option ℕ) (wait : ℕ)
 offer-other [] None wait = refl
 offer-other _ _ wait = refl
 
-told-kept : {Plays : Rest → Type 0} {maker : Option ℕ} {places : ℕ} {told : List ℕ} (step : LineStep)
-    → IsTold told step.old step.new step.text → is_full_line told ≡ false
-    → LineOutcome step Plays maker places step.old.heard
-told-kept step is other = Kept (record { kept = is.kept; says = inl (ap is_full_line is.text_is ∙ other) }) refl
+told-kept : {case : LineCase} {told : List ℕ} (step : LineStep) → IsTold told step.old step.new step.text
+    → is_full_line told ≡ false → case.slot ≡ step.old.heard → LineOutcome step case
+told-kept step is other at = Kept (record { kept = is.kept; says = inl (ap is_full_line is.text_is ∙ other) }) at
 
-full-kept : {Plays : Rest → Type 0} {maker : Option ℕ} {places : ℕ} (step : LineStep)
-    → IsFull step.link places step.old step.new step.text → LineOutcome step Plays maker places step.old.heard
-full-kept step full = Kept (record { kept = full.told.kept; says = inr full }) refl
+full-kept : {case : LineCase} (step : LineStep) → IsFull step.link case.places step.old step.new step.text
+    → case.slot ≡ step.old.heard → LineOutcome step case
+full-kept step full at = Kept (record { kept = full.told.kept; says = inr full }) at
 
-asked-outcome : {Plays : Rest → Type 0} {c : ℕ} {rest : Rest} (step : LineStep) → Plays rest
-    → IsFree (get_or step.old.states c Idle) → IsAsked step.link c rest step.old step.new step.text
-    → LineOutcome step Plays (Some c) 2 step.old.heard
-asked-outcome step plays free (inl faulty) = told-kept step faulty.told (fault-other faulty.fault)
-asked-outcome {c} {rest} step plays free (inr planned) = elim planned.done [
-  | inl full ↦ full-kept step full
+-- a client's line, which needs two places
+abbrev pub client_case : LineStep → (Rest → Type 0) → ℕ → LineCase
+client_case step Plays c = record { Plays = Plays; maker = Some c; places = 2; slot = step.old.heard }
+
+-- a client asks for a play of such a rest
+record PlayAsk : Type 1 where
+  Plays : Rest → Type 0
+  c : ℕ
+  rest : Rest
+  plays : Plays rest
+
+asked-outcome : (step : LineStep) (ask : PlayAsk) → IsFree (get_or step.old.states ask.c Idle)
+    → IsAsked step.link ask.c ask.rest step.old step.new step.text
+    → LineOutcome step (client_case step ask.Plays ask.c)
+asked-outcome step ask free (inl faulty) = told-kept step faulty.told (fault-other faulty.fault) refl
+asked-outcome step ask free (inr planned) = elim planned.done [
+  | inl full ↦ full-kept step full refl
   | inr made ↦
       Asked (record {
-        ask = record { client = c; rest = rest; plan = planned.plan };
+        ask = record { client = ask.c; rest = ask.rest; plan = planned.plan };
         by = refl;
         free = free;
-        plays = plays;
+        plays = ask.plays;
         plan_is = planned.plan_is;
         made = made;
       }) refl
 ]
 
-play-outcome : {Plays : Rest → Type 0} {c : ℕ} {state : ClientState} (step : LineStep) (rest : Rest) → Plays rest
-    → get_or step.old.states c Idle ≡ state → IsPlayTaken step c rest state
-    → LineOutcome step Plays (Some c) 2 step.old.heard
-play-outcome {state = Idle} step rest plays at is = asked-outcome step plays (idle-free at) is
-play-outcome {state = Paused left} step rest plays at is = asked-outcome step plays (paused-free at) is
-play-outcome {state = _} step rest plays at is = told-kept step is refl
+play-outcome : {state : ClientState} (step : LineStep) (ask : PlayAsk) → get_or step.old.states ask.c Idle ≡ state
+    → IsPlayTaken step ask.c ask.rest state → LineOutcome step (client_case step ask.Plays ask.c)
+play-outcome {state = Idle} step ask at is = asked-outcome step ask (idle-free at) is
+play-outcome {state = Paused left} step ask at is = asked-outcome step ask (paused-free at) is
+play-outcome {state = _} step ask at is = told-kept step is refl refl
+
+-- a client's state, and that its rest may be sent where it is paused
+record ClientRests (step : LineStep) (Plays : Rest → Type 0) (c : ℕ) (state : ClientState) : Type 0 where
+  at : get_or step.old.states c Idle ≡ state
+  plays : (rest : Rest) → state ≡ Paused rest → Plays rest
 
 resume-outcome : {Plays : Rest → Type 0} {c : ℕ} {state : ClientState} (step : LineStep)
-    → ((rest : Rest) → state ≡ Paused rest → Plays rest) → get_or step.old.states c Idle ≡ state
-    → IsResumeLine step.link c state step.old step.new step.text → LineOutcome step Plays (Some c) 2 step.old.heard
-resume-outcome {state = Paused rest} step plays at is = asked-outcome step (plays rest refl) (paused-free at) is
-resume-outcome {state = _} step plays at is = told-kept step is refl
+    → ClientRests step Plays c state → IsResumeLine step.link c state step.old step.new step.text
+    → LineOutcome step (client_case step Plays c)
+resume-outcome {Plays} {c} {state = Paused rest} step own is =
+    asked-outcome step (record { Plays = Plays; c = c; rest = rest; plays = own.plays rest refl }) (paused-free own.at)
+    is
+resume-outcome {state = _} step own is = told-kept step is refl refl
 
 pause-outcome : {Plays : Rest → Type 0} {c : ℕ} {state : ClientState} (step : LineStep)
     → get_or step.old.states c Idle ≡ state → IsPauseLine step.link c state step.old step.new step.text
-    → LineOutcome step Plays (Some c) 2 step.old.heard
+    → LineOutcome step (client_case step Plays c)
 pause-outcome {c} {state = Playing play} step at is =
     Stopped (record { client = c; by = refl; play = play; at = at; is = is }) refl
-pause-outcome {state = _} step at is = told-kept step is refl
+pause-outcome {state = _} step at is = told-kept step is refl refl
 
 pub offer-kept : {rest : Rest} {wait : ℕ} (step : LineStep)
     → IsOfferLine step.link rest wait step.old step.new step.text → step.new ≡ step.old
@@ -201,23 +224,30 @@ maker_of (lines.Resume c) = Some c
 maker_of (lines.Slot slot) = None
 maker_of _ = Some 0
 
-abbrev pub OutcomeOf : LineStep → Line → Type 0
-OutcomeOf step line =
-    LineOutcome step (PlaysBy step line) (maker_of line) (places_needed line) (slot_after step.old.heard line)
+abbrev pub case_of : LineStep → Line → LineCase
+case_of step line = record {
+  Plays = PlaysBy step line;
+  maker = maker_of line;
+  places = places_needed line;
+  slot = slot_after step.old.heard line;
+}
 
 pub line-outcome : (step : LineStep) (line : Line) → IsLine step.link line step.old step.new step.text
-    → OutcomeOf step line
+    → LineOutcome step (case_of step line)
 line-outcome step (lines.Play c source buffer delay) is =
-    play-outcome step (rest_at step.link source buffer delay) refl refl is
+    let line = lines.Play c source buffer delay in
+    play-outcome step
+    (record { Plays = PlaysBy step line; c = c; rest = rest_at step.link source buffer delay; plays = refl }) refl is
 line-outcome step (lines.Pause c) is = pause-outcome step refl is
-line-outcome step (lines.Resume c) is = resume-outcome step (λ rest at. at) refl is
-line-outcome step (lines.Look slot) (inl full) = full-kept step full
-line-outcome step (lines.Look slot) (inr made) = Looks (record { by = refl; slot = min slot LATEST_SLOT; made = made }) refl
+line-outcome step (lines.Resume c) is = resume-outcome step (record { at = refl; plays = λ rest at. at }) is
+line-outcome step (lines.Look slot) (inl full) = full-kept step full refl
+line-outcome step (lines.Look slot) (inr made) =
+    Looks (record { by = refl; slot = min slot LATEST_SLOT; made = made }) refl
 line-outcome step (lines.Slot slot) is = Reached (record { by = refl; is = is.0; text_is = is.1 })
 line-outcome step (lines.Offer c source buffer delay wait) (inl faulty) =
-    told-kept step faulty.told (fault-other faulty.fault)
+    told-kept step faulty.told (fault-other faulty.fault) refl
 line-outcome step (lines.Offer c source buffer delay wait) (inr offered) =
-    told-kept step offered.told (offer-other offered.found.tried offered.found.start offered.found.wait)
+    told-kept step offered.told (offer-other offered.found.tried offered.found.start offered.found.wait) refl
 
 -- an outcome of one of the 256 clients, or of none, at a slot that isn't earlier
 abbrev IsInside : Option ℕ → Type 0
@@ -271,16 +301,22 @@ taken-keeps taken P kept is = run-keeps taken.lines taken.texts (run_of taken) P
 
 -- ---- the turns of a large day
 abbrev pub ClientOutcome : LineStep → ℕ → Type 0
-ClientOutcome step client = LineOutcome step (λ (rest : Rest). Unit {0}) (Some client) 2 step.old.heard
+ClientOutcome step client = LineOutcome step (client_case step (λ (rest : Rest). Unit {0}) client)
 
 pub done-outcome : {c : ℕ} {state : ClientState} (step : LineStep) (words : ℕ → ℕ)
     → get_or step.old.states c Idle ≡ state
     → IsDone step.link (line_drawn words c state) step.old step.new step.text → ClientOutcome step c
-done-outcome {state = Idle} step words at is =
-    play-outcome step (rest_at step.link (words 0 % 16) (LEAST_BUFFER + words 1 % BUFFER_SIZES) (words 2 % 26)) tt refl is
+done-outcome {c} {state = Idle} step words at is =
+    play-outcome step (record {
+      Plays = λ rest. Unit {0};
+      c = c;
+      rest = rest_at step.link (words 0 % 16) (LEAST_BUFFER + words 1 % BUFFER_SIZES) (words 2 % 26);
+      plays = tt;
+    }) refl is
 done-outcome {state = Playing play} step words at is = pause-outcome step refl is
-done-outcome {state = Pausing stop rest} step words at is = told-kept step is refl
-done-outcome {state = Paused rest} step words at is = resume-outcome step (λ left is. tt) refl is
+done-outcome {state = Pausing stop rest} step words at is = told-kept step is refl refl
+done-outcome {state = Paused rest} step words at is =
+    resume-outcome step (record { at = refl; plays = λ left is. tt }) is
 
 -- a turn that was taken
 pub record TakenTurn : Type 0 where
@@ -389,8 +425,8 @@ slot-ready old new slot le is ready =
       balanced = (slot-halted old slot le ready.balanced).balanced;
     })
 
-pub outcome-ready : {Plays : Rest → Type 0} {maker : Option ℕ} {places slot : ℕ} (step : LineStep)
-    → LineOutcome step Plays maker places slot → IsInOrder step maker slot → IsReady step.old → IsReady step.new
+pub outcome-ready : {case : LineCase} (step : LineStep)
+    → LineOutcome step case → IsInOrder step case.maker case.slot → IsReady step.old → IsReady step.new
 outcome-ready step (Kept own at) order ready = ready-kept step.old step.new own.kept ready
 outcome-ready step (Asked own at) order ready =
     subst IsReady (sym own.made.noted.new_is)
@@ -398,7 +434,7 @@ outcome-ready step (Asked own at) order ready =
     (record { inside = maker-inside own.ask.client order own.by; free = own.free }) ready)
 outcome-ready step (Stopped own at) order ready = paused step own order ready
 outcome-ready step (Looks own at) order ready = looked step own ready
-outcome-ready {slot} step (Reached own) order ready = slot-ready step.old step.new slot order.later own.is ready
+outcome-ready {case} step (Reached own) order ready = slot-ready step.old step.new case.slot order.later own.is ready
 
 idle-shares : (t n : ℕ) → sum_by (share_of t) (replicate n Idle) ≡ 0
 idle-shares t zero = refl

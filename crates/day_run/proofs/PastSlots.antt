@@ -18,9 +18,10 @@ use Rattle.day_run.specs.BookingBalance.{IsReady, share_of}
 use Rattle.day_run.specs.Clients.{after_open}
 use Rattle.day_run.specs.Days.{AskedPlay, IsLine, SharedLink, DayState, entry_by, last_journal, sent_up_to}
 use Rattle.day_run.specs.FairDays.{FairTurn, turn_booked, turn_peak}
-use Rattle.day_run.specs.ClientStates.{ClientState, Rest, booking_of, sent_by}
+use Rattle.day_run.specs.ClientStates.{ClientState, booking_of, sent_by}
 use Rattle.day_run.proofs.SentBookedLemmas.{its-held}
 use Rattle.day_run.proofs.SlotBalance.{last-halted, play-stays, slot-halted, stays-halt}
+use Rattle.day_run.proofs.LineOutcomes.{LineCase}
 use Rattle.day_run.proofs.LineOutcomes.{TakenTurn, after_answer, halted_client, ready-sent, taken-ready, PlayHalted}
 use Rattle.day_run.proofs.LineOutcomes.{LineOutcome, Kept, Asked, Stopped, Looks, Reached, IsInOrder, line-order}
 use Rattle.day_run.proofs.LineOutcomes.{line-outcome, outcome-heard, turn-order, turn-outcome, turn_step}
@@ -68,8 +69,8 @@ halted-past step own order ready t past =
     ap (λ (m : DayState). booked_after m.entries t) own.is.noted.new_is
     ∙ stays-halt step.old.entries held own.is.keep (record { sent = sent; most = most }) t past
 
-outcome-past : {Plays : Rest → Type 0} {maker : Option ℕ} {places slot : ℕ} (step : LineStep)
-    → LineOutcome step Plays maker places slot → IsInOrder step maker slot → IsReady step.old → Past step.old step.new
+outcome-past : {case : LineCase} (step : LineStep)
+    → LineOutcome step case → IsInOrder step case.maker case.slot → IsReady step.old → Past step.old step.new
 outcome-past step (Kept own at) order ready = kept-past step.old step.new own.kept
 outcome-past step (Asked own at) order ready =
     subst (Past step.old) (sym own.made.noted.new_is)
@@ -79,9 +80,9 @@ outcome-past step (Looks own at) order ready =
     let e = entry_by 0 (commands.Look own.slot) own.made.answer in
     subst (Past step.old) (sym own.made.noted.new_is)
     (same-past step.old e step.old.states (ap (λ (s : State). s.held) (state-push step.old.entries e)))
-outcome-past {slot} step (Reached own) order ready = λ t past.
+outcome-past {case} step (Reached own) order ready = λ t past.
     ap (λ (m : DayState). booked_after m.entries t) own.is
-    ∙ (slot-halted step.old slot order.later ready.balanced).stays t (omega (arith, past, order.later))
+    ∙ (slot-halted step.old case.slot order.later ready.balanced).stays t (omega (arith, past, order.later))
 
 pub day-past : {link : SharedLink} {n : ℕ} (taken : LinesTaken link n) (next : NextTaken link n taken) (t : ℕ)
     → t ≤ taken.moment.heard → booked_after next.new.entries t ≡ booked_after taken.moment.entries t

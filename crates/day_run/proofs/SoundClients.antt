@@ -34,6 +34,7 @@ use Rattle.day_script.specs.Scripts.{IsWish}
 use Rattle.day_run.specs.ClientStates.{Idle, Playing, Pausing, Paused, IsPause, ClientPlay, Rest, ClientState}
 use Rattle.day_run.specs.ClientStates.{after_play, after_sending, booking_of, is_done, no_medium, sent_by, slot_sent}
 use Rattle.day_run.proofs.SentBookedLemmas.{HeldClient, its-held}
+use Rattle.day_run.proofs.LineOutcomes.{LineCase}
 use Rattle.day_run.proofs.LineOutcomes.{after_answer, halted_client, morning-ready, outcome-ready, slot-ready}
 use Rattle.day_run.proofs.LineOutcomes.{PlayHalted, line-outcome, taken-keeps, IsInOrder, LineOutcome}
 use Rattle.day_run.proofs.LineOutcomes.{PlaysBy, line-order, maker-inside}
@@ -91,6 +92,9 @@ answered-states step ask own sound _ answer = sound.each
 -- what is to be sent is sound, if there is a picture
 abbrev pub IsSoundIfAny : Rest → Type 0
 IsSoundIfAny rest = 0 < length (rest_sizes rest.sizes rest.run) → IsSoundRest rest
+
+abbrev AreSoundPlays : (Rest → Type 0) → Type 0
+AreSoundPlays Plays = (rest : Rest) → Plays rest → IsSoundIfAny rest
 
 -- ---- a play that is halted
 none-sent : (play : ClientPlay) (heard : ℕ) → heard < play.start → sent_by (booking_of play) heard ≡ 0
@@ -281,17 +285,16 @@ whole-sound {link} {source} {buffer} {delay} link-is wish some =
 -- ---- lines leave the clients sound
 -- what a line plays is sound
 plays-sound : (step : LineStep) (line : Line) → IsLink step.link
-    → StandingLine step.old.heard (length step.link.media) line → IsSound step.old → (rest : Rest)
-    → PlaysBy step line rest → IsSoundIfAny rest
-plays-sound step (lines.Play c source buffer delay) link-is standing sound rest plays =
+    → StandingLine step.old.heard (length step.link.media) line → IsSound step.old
+    → AreSoundPlays (PlaysBy step line)
+plays-sound step (lines.Play c source buffer delay) link-is standing sound = λ rest plays.
     subst IsSoundIfAny (sym plays) (whole-sound link-is standing.stands)
-plays-sound step (lines.Resume c) link-is standing sound rest plays =
-    λ some. subst (IsSoundClient step.old.heard) plays (sound.each c standing.client)
-plays-sound step _ link-is standing sound rest plays = absurd plays
+plays-sound step (lines.Resume c) link-is standing sound = λ rest plays some.
+    subst (IsSoundClient step.old.heard) plays (sound.each c standing.client)
+plays-sound step _ link-is standing sound = λ rest plays. absurd plays
 
-outcome-states : {Plays : Rest → Type 0} {maker : Option ℕ} {places slot : ℕ} (step : LineStep)
-    → LineOutcome step Plays maker places slot → IsInOrder step maker slot
-    → ((rest : Rest) → Plays rest → IsSoundIfAny rest) → IsSound step.old → HasSoundClients step.new
+outcome-states : {case : LineCase} (step : LineStep)
+    → LineOutcome step case → IsInOrder step case.maker case.slot → AreSoundPlays case.Plays → IsSound step.old → HasSoundClients step.new
 outcome-states step (Kept own at) order plays sound = subst HasSoundClients (sym own.kept) sound.each
 outcome-states step (Asked own at) order plays sound =
     subst HasSoundClients (sym own.made.noted.new_is)
@@ -303,8 +306,8 @@ outcome-states step (Asked own at) order plays sound =
 outcome-states step (Stopped own at) order plays sound = halted-states step own order sound
 outcome-states step (Looks own at) order plays sound =
     subst HasSoundClients (sym own.made.noted.new_is) sound.each
-outcome-states {slot} step (Reached own) order plays sound =
-    subst HasSoundClients (sym own.is) (slot-states step.old slot sound)
+outcome-states {case} step (Reached own) order plays sound =
+    subst HasSoundClients (sym own.is) (slot-states step.old case.slot sound)
 
 pub line-sound : (step : LineStep) (line : Line) → IsLink step.link
     → StandingLine step.old.heard (length step.link.media) line → IsSound step.old

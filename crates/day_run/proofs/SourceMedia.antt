@@ -32,7 +32,6 @@ trace-length medium trace e =
     subst P (sym e) (length-zeros trace.sizes)
 
 -- ---- films and traces as they are played
--- ---- films and traces as they are played
 pub trace-medium : {items : List ℕ} (source : Source) (r : Result Media NoMemory)
     → ((u : ℕ) → trace_content u items ≡ source_content u source)
     → IfOk r (λ medium. (u : ℕ) → media_content u medium ≡ trace_content u items)
