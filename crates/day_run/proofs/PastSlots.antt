@@ -88,8 +88,8 @@ pub day-past : {link : SharedLink} {n : ℕ} (taken : LinesTaken link n) (next :
     → t ≤ taken.moment.heard → booked_after next.new.entries t ≡ booked_after taken.moment.entries t
 day-past {link} taken next t past =
     let step : LineStep = record { link = link; old = taken.moment; new = next.new; text = next.text } in
-    outcome-past step (line-outcome step next.line next.is) (line-order step next.line next.standing) (taken-ready taken)
-    t past
+    outcome-past step (line-outcome step next.line next.is) (line-order step next.line next.standing)
+    (taken-ready taken) t past
 
 pub end-past : {link : SharedLink} {n : ℕ} (taken : LinesTaken link n) (t : ℕ) → t ≤ taken.moment.heard
     → booked_after (last_journal taken.moment) t ≡ booked_after taken.moment.entries t

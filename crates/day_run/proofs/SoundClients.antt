@@ -294,7 +294,8 @@ plays-sound step (lines.Resume c) link-is standing sound = λ rest plays some.
 plays-sound step _ link-is standing sound = λ rest plays. absurd plays
 
 outcome-states : {case : LineCase} (step : LineStep)
-    → LineOutcome step case → IsInOrder step case.maker case.slot → AreSoundPlays case.Plays → IsSound step.old → HasSoundClients step.new
+    → LineOutcome step case → IsInOrder step case.maker case.slot → AreSoundPlays case.Plays
+    → IsSound step.old → HasSoundClients step.new
 outcome-states step (Kept own at) order plays sound = subst HasSoundClients (sym own.kept) sound.each
 outcome-states step (Asked own at) order plays sound =
     subst HasSoundClients (sym own.made.noted.new_is)
