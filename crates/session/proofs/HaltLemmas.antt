@@ -45,8 +45,7 @@ halted_kept ground lost waits done Torn kept left =
 pub halted_torn : {tearing waits torn : Bool} (next : AfterHalt) → (tearing ≡ true → waits ≡ false → torn ≡ true)
     → (if is_torn next then true else tearing) ≡ true → (if is_answered next then true else waits) ≡ false → torn ≡ true
 halted_torn {waits} Done was ends still = was ends still
-halted_torn {waits} (Paused rest) was ends still = cc
-halted_torn {waits} Torn was ends still = cc
+halted_torn {waits} _ was ends still = cc
 
 pub or_if : (a b : Bool) → (a || b) ≡ (if b then true else a)
 or_if true true = refl

@@ -1,6 +1,5 @@
 -- What a play, a halt and an admission leave of how a session is kept.
-use Rattle.std.proofs.Common.{◌≡◌, ℕ, ◌+◌, ◌-◌, ◌≤◌, Bool, true, List, Option, length, refl, sym, ap, subst, ◌∙◌}
-use Rattle.std.proofs.Common.{arith}
+use Rattle.std.proofs.Common.{◌≡◌, ℕ, ◌+◌, ◌-◌, ◌≤◌, Bool, true, List, Option, length, refl, sym, ap, subst, ◌∙◌, arith}
 use Rattle.plan_cert.specs.PlanSlots.{total_bytes}
 use Rattle.film_frames.specs.declared.stored_films.Stored.{Stored}
 use Rattle.film_frames.specs.FramedRuns.{run_pieces}
@@ -22,13 +21,13 @@ use Rattle.session.specs.SessionStates.{CanHandleRequest, IsReadyIn}
 use Rattle.session_records.specs.RecordLists.{SessionRecords}
 use Rattle.session.specs.declared.plans.Planned.{Planned}
 use Rattle.session.specs.declared.states.Awaited.{Awaited}
-use Rattle.session.specs.declared.states.Awaited.TheVariants.{Nothing, Play, Halt, Look, Offer}
+use Rattle.session.specs.declared.states.Awaited.TheVariants.{Nothing, Play, Halt}
 use Rattle.session.specs.declared.states.AfterHalt.{AfterHalt}
 use Rattle.session.specs.declared.states.Play.{Play as Played}
 use Rattle.session.specs.declared.states.Prepared.{Prepared}
 use Rattle.film_streams.specs.declared.setups.Setup.{Setup}
 use Rattle.session.specs.declared.states.State.{State}
-use Rattle.session.specs.declared.states.State.TheVariants.{Init, Ready, Playing, Stopping}
+use Rattle.session.specs.declared.states.State.TheVariants.{Ready, Playing}
 use Rattle.session.specs.declared.sessions.Session.TheInside.{Inside}
 use Rattle.session.proofs.StepInvariantLemmas.{nothing_of, step_kept}
 use Rattle.session.proofs.HaltedRunLemmas.{keeps_within}
@@ -38,19 +37,15 @@ ready_in : {setup : Setup} {prepared : Prepared} (ground : SessionContext) (stat
     → IsReadyIn state setup → IsPrepared prepared
     × OfFilm ground.films setup.film (λ stored. IsPreparedAs stored ground.source ground.settings setup prepared)
     → IsPreparedIn ground.films ground.source ground.settings state prepared
-ready_in ground Init ready is = absurd ready
 ready_in {prepared} ground (Ready own paused) ready is =
     subst (λ (x : Setup). IsPreparedIn ground.films ground.source ground.settings (Ready x paused) prepared)
     (sym ready) is
-ready_in ground (Playing own play) ready is = absurd ready
-ready_in ground (Stopping own stop) ready is = absurd ready
+ready_in ground _ ready is = absurd ready
 
 -- no booking is open in Ready
 ready_closed : (state : State) (setup : Setup) → IsReadyIn state setup → open_receipts state ≡ 0
-ready_closed Init setup ready = absurd ready
 ready_closed (Ready own paused) setup ready = refl
-ready_closed (Playing own play) setup ready = absurd ready
-ready_closed (Stopping own stop) setup ready = absurd ready
+ready_closed _ setup ready = absurd ready
 
 -- a play that the station is asked for, in Ready: its run can be played, and there is room for what
 -- it leaves for the report
@@ -155,11 +150,8 @@ play_admitted {inside} admission =
 pub next_in : (ground : SessionContext) (lost : Bool) (state : State) (awaited : Awaited)
     → IsAwaitedInvariant ground lost state awaited
     → IsNextIn ground.films ground.source ground.counts state (next_of awaited)
-next_in ground lost state Nothing kept = tt
-next_in ground lost state (Play prepared) kept = tt
 next_in ground lost state (Halt keep next) kept = kept.1
-next_in ground lost state (Look sequence) kept = tt
-next_in ground lost state (Offer sequence) kept = tt
+next_in ground lost state _ kept = tt
 
 -- a play in hand, as a request is received that halts it
 pub record HeardInPlay (inside : Inside) : Type 0 where

@@ -5,12 +5,9 @@ use Rattle.std.proofs.lemmas.Fmt.{decimal_injective}
 use Rattle.std.specs.Fmt.{digits}
 use Rattle.rtsp_text.specs.Replies.{Field, reply_front, reply_text, status_line}
 use Rattle.session.specs.declared.commands.Ask.{Ask}
-use Rattle.session.specs.declared.commands.Ask.TheVariants.{Reply, Play as AskPlay, Halt as AskHalt, Look as AskLook}
-use Rattle.session.specs.declared.commands.Ask.TheVariants.{Offer as AskOffer}
+use Rattle.session.specs.declared.commands.Ask.TheVariants.{Reply, Halt as AskHalt}
 use Rattle.rtsp_methods.specs.declared.refusals.Refusal.{Refusal}
-use Rattle.rtsp_methods.specs.declared.refusals.Refusal.TheVariants.{BadRequest, Version, Method, Option as Required}
-use Rattle.rtsp_methods.specs.declared.refusals.Refusal.TheVariants.{Session, Film, State as NotNow, Transport}
-use Rattle.rtsp_methods.specs.declared.refusals.Refusal.TheVariants.{Parameter, Buffer, Range, Memory}
+use Rattle.rtsp_methods.specs.declared.refusals.Refusal.TheVariants.{BadRequest, Memory}
 use Rattle.session.specs.RequestEffects.{HasCode, IsNoRefusal, RefusesNone}
 use Rattle.session.specs.RequestSteps.{Hears}
 use Rattle.session.specs.Laws.{Is500, IsOutOfMemory, MayRunOutOfMemory, NeverLacks}
@@ -25,8 +22,7 @@ use Rattle.session.proofs.InitialStateLemmas.{HeardMessage, heard_by}
 use Rattle.session.proofs.RequestUniqueness.{first_sequence_is}
 use Rattle.session.proofs.RequestCaseAnalysis.{Answer, Replies, SetsUp, StartsPlay, HaltsPlay, StopsPlay, EndsSession}
 use Rattle.session.proofs.RequestCaseAnalysis.{TakesLook, SeeksOffer, OwnReply, ToFault, ToRefused, ToDeclined}
-use Rattle.session.proofs.RequestCaseAnalysis.{ToAsked, ToDescribed, ToConfirmed, ToEmpty, answer_to, fault_refuses}
-use Rattle.session.proofs.RequestCaseAnalysis.{may_lack, reply_of}
+use Rattle.session.proofs.RequestCaseAnalysis.{answer_to, fault_refuses, may_lack, reply_of}
 
 -- a reply has one code
 pub one_code : {c d : ℕ} (text : List ℕ) → c < 1000 → d < 1000 → HasCode c text → HasCode d text → c ≡ d
@@ -47,17 +43,7 @@ pub refusal_code : (sequence : Option ℕ) (refusal : Refusal) (option : List �
     → HasCode (code_of refusal) (refusal_text sequence refusal option)
 unfolding reply_text reply_front status_line digits
 refusal_code sequence BadRequest option = refl
-refusal_code sequence Version option = refl
-refusal_code sequence Method option = refl
-refusal_code sequence Required option = refl
-refusal_code sequence Session option = refl
-refusal_code sequence Film option = refl
-refusal_code sequence NotNow option = refl
-refusal_code sequence Transport option = refl
-refusal_code sequence Parameter option = refl
-refusal_code sequence (Buffer least) option = refl
-refusal_code sequence Range option = refl
-refusal_code sequence Memory option = refl
+refusal_code sequence _ option = refl
 
 -- the code of a refusal
 pub record IsOwnCode (refusal : Refusal) : Type 0 where
@@ -79,23 +65,13 @@ ordinary refusal small is = record {
 }
 
 pub own_code : (refusal : Refusal) → IsOwnCode refusal
-own_code BadRequest = ordinary BadRequest (omega arith) refl
-own_code Version = ordinary Version (omega arith) refl
-own_code Method = ordinary Method (omega arith) refl
-own_code Required = ordinary Required (omega arith) refl
-own_code Session = ordinary Session (omega arith) refl
-own_code Film = ordinary Film (omega arith) refl
-own_code NotNow = ordinary NotNow (omega arith) refl
-own_code Transport = ordinary Transport (omega arith) refl
-own_code Parameter = ordinary Parameter (omega arith) refl
-own_code (Buffer least) = ordinary (Buffer least) (omega arith) refl
-own_code Range = ordinary Range (omega arith) refl
 own_code Memory = record {
   small = omega arith;
   no_overflow = λ is. omega (arith, is);
   not_full = λ is. omega (arith, is);
   memory = λ is. refl;
 }
+own_code refusal = ordinary refusal (omega arith) refl
 
 plain : (text : List ℕ) → HasCode 200 text → IsNoRefusal text
 plain text ok = record {
@@ -126,21 +102,9 @@ refusal_plain sequence refusal option =
 record IsFound (text : List ℕ) : Type 0 where
   found : ¬ HasCode 500 text
 
-found_text : (sequence : Option ℕ) (fields : List Field) (body : List ℕ) → IsFound (reply_text 200 sequence fields body)
-found_text sequence fields body = record {
-  found = λ is.
-      let text = reply_text 200 sequence fields body in
-      let same = one_code text (omega arith) (omega arith) (ok_text_code sequence fields body) is in
-      omega (arith, same);
-}
-
-found_front : (sequence : Option ℕ) (fields : List Field) (rest : List ℕ) → IsFound
-    (reply_front 200 sequence fields ++ rest)
-found_front sequence fields rest = record {
-  found = λ is.
-      let text = reply_front 200 sequence fields ++ rest in
-      let same = one_code text (omega arith) (omega arith) (ok_code sequence fields rest) is in
-      omega (arith, same);
+found : (text : List ℕ) → HasCode 200 text → IsFound text
+found text ok = record {
+  found = λ is. let same = one_code text (omega arith) (omega arith) ok is in omega (arith, same);
 }
 
 -- what the session replies by itself is neither, and 500 is out of memory
@@ -149,10 +113,7 @@ own_plain h (ToFault fault is) = refusal_plain (first_sequence h.message) (fault
 own_plain h (ToRefused request refusal read judged) =
     refusal_plain (Some request.sequence) refusal (option_of request.head.now)
 own_plain h (ToDeclined request refusal read cause) = refusal_plain (Some request.sequence) refusal []
-own_plain h (ToAsked taken) = ok_plain (Some taken.request.sequence) _ []
-own_plain h (ToDescribed asked taken stored at) = ok_plain (Some taken.request.sequence) _ _
-own_plain h (ToConfirmed asked taken) = ok_plain (Some taken.request.sequence) _ []
-own_plain h (ToEmpty taken) = ok_plain (Some taken.request.sequence) [] []
+own_plain h _ = ok_plain _ _ _
 
 -- what is shown of a reply's text
 of_text : {text : List ℕ} (h : HeardMessage) → h.ask ≡ Reply → h.new.text ≡ text → IsNoRefusal text
@@ -194,7 +155,7 @@ RunsOut h = MayRunOutOfMemory h.old h.message × IsOutOfMemory h.old h.message h
 ok_found : (h : HeardMessage) (sequence : Option ℕ) (fields : List Field) (body : List ℕ)
     → h.new.text ≡ reply_text 200 sequence fields body → HasCode 500 h.new.text → RunsOut h
 ok_found h sequence fields body is code =
-    absurd ((subst IsFound (sym is) (found_text sequence fields body)).found code)
+    absurd ((subst IsFound (sym is) (found _ (ok_text_code sequence fields body))).found code)
 
 -- a refusal of the code 500 is out of memory
 refused_memory : (h : HeardMessage) (sequence : Option ℕ) (refusal : Refusal) (option : List ℕ)
@@ -220,14 +181,7 @@ own_500 h (ToDeclined request refusal read cause) is code =
           (sym (first_sequence_is h.message request.sequence read.sequence_is))
           (subst (λ r. IsRefused h.old (Some request.sequence) r [] h.ask h.new) memory is),
     )
-own_500 h (ToAsked taken) is code =
-    ok_found h (Some taken.request.sequence) _ [] (ap (λ (s : SessionState). s.text) is.1) code
-own_500 h (ToDescribed asked taken stored at) is code =
-    ok_found h (Some taken.request.sequence) _ _ (ap (λ (s : SessionState). s.text) is.1) code
-own_500 h (ToConfirmed asked taken) is code =
-    ok_found h (Some taken.request.sequence) _ [] (ap (λ (s : SessionState). s.text) is.1) code
-own_500 h (ToEmpty taken) is code =
-    ok_found h (Some taken.request.sequence) [] [] (ap (λ (s : SessionState). s.text) is.1) code
+own_500 h _ is code = ok_found h _ _ _ (ap (λ (s : SessionState). s.text) is.1) code
 
 -- a reply of 500 is that to a message for which memory is wanting, as it may be for it
 answer_500 : (h : HeardMessage) → h.ask ≡ Reply → HasCode 500 h.new.text → Answer h → RunsOut h
@@ -247,10 +201,7 @@ hears_wanting : (old new : SessionState) (message : List ℕ) (ask : Ask) → He
     → MayRunOutOfMemory old message × IsOutOfMemory old message ask new
 hears_wanting old new message Reply hears code =
     answer_500 (heard_by hears) refl code (answer_to (heard_by hears))
-hears_wanting old new message (AskPlay plan) hears code = absurd code
-hears_wanting old new message (AskHalt keep) hears code = absurd code
-hears_wanting old new message (AskLook slot) hears code = absurd code
-hears_wanting old new message (AskOffer plan offers) hears code = absurd code
+hears_wanting old new message _ hears code = absurd code
 
 pub hears_500 : (old new : SessionState) (message : List ℕ) (ask : Ask) → Hears old message ask new → Is500 ask new
     → IsOutOfMemory old message ask new
@@ -267,14 +218,15 @@ answer_never h (SetsUp film taken setup asks is) = subst (λ a. NeverLacks a h.n
 answer_never h (StartsPlay play planned asks planned_is) =
     subst (λ a. NeverLacks a h.new) (sym asks.command)
     (λ rest. (subst (λ (t : List ℕ). IsFound (t ++ rest)) (sym (ap (λ (s : SessionState). s.text) asks.state))
-    (found_front (Some play.taken.request.sequence) _ rest)).found)
+    (found _ (ok_code (Some play.taken.request.sequence) _ rest))).found)
 answer_never h (HaltsPlay taken hand is) =
     subst (λ a. NeverLacks a h.new) (sym is.asks.command)
     (subst IsFound (sym (ap (λ (s : SessionState). s.text) is.asks.state))
-    (found_text (Some taken.request.sequence) _ [])).found
+    (found _ (ok_text_code (Some taken.request.sequence) _ []))).found
 answer_never h (StopsPlay taken hand is) =
     subst (λ a. NeverLacks a h.new) (sym is.command)
-    (subst IsFound (sym (ap (λ (s : SessionState). s.text) is.state)) (found_text (Some taken.request.sequence) _ [])).found
+    (subst IsFound (sym (ap (λ (s : SessionState). s.text) is.state))
+    (found _ (ok_text_code (Some taken.request.sequence) _ []))).found
 answer_never h (EndsSession taken is) = subst (λ a. NeverLacks a h.new) (sym is.0) tt
 answer_never h (TakesLook taken look) = subst (λ a. NeverLacks a h.new) (sym look.command) tt
 answer_never h (SeeksOffer offer planned is asks) = subst (λ a. NeverLacks a h.new) (sym asks.command) tt

@@ -1,6 +1,6 @@
 -- What a session answers to a message: the one analysis of it by cases, above which the laws stand.
-use Rattle.std.proofs.Common.{◌≡◌, ◌≢◌, ℕ, ◌<◌, ◌≤◌, ◌⊎◌, false, List, [], length, Option, Some, None, Result, Ok}
-use Rattle.std.proofs.Common.{Err, codes, string_bytes, refl, sym, subst, inl, inr, arith}
+use Rattle.std.proofs.Common.{◌≡◌, ◌≢◌, ℕ, ◌<◌, ◌≤◌, ◌⊎◌, false, List, [], length, Option, Some, None, Result, Ok, Err}
+use Rattle.std.proofs.Common.{codes, string_bytes, refl, sym, subst, inl, inr, arith}
 use Rattle.std.proofs.lemmas.Option.{slice_get_within}
 use Rattle.film_frames.specs.declared.stored_films.Stored.{Stored}
 use Rattle.film_run.specs.declared.runs.Run.{Run}
@@ -8,8 +8,7 @@ use Rattle.rtsp_text.specs.Fields.{first_sequence, header_value}
 use Rattle.rtsp_text.specs.Requests.{IsFault}
 use Rattle.rtsp_text.specs.declared.requests.Request.{Request}
 use Rattle.rtsp_text.specs.declared.requests.RequestFault.{RequestFault}
-use Rattle.rtsp_text.specs.declared.requests.RequestFault.TheVariants.{BadLine, BadVersion, BadHeader}
-use Rattle.rtsp_text.specs.declared.requests.RequestFault.TheVariants.{NoSequenceNumber, BadLength}
+use Rattle.rtsp_text.specs.declared.requests.RequestFault.TheVariants.{BadLine}
 use Rattle.rtsp_methods.specs.Methods.{IsTopic, IsWord}
 use Rattle.rtsp_methods.specs.Refusals.{fault_refusal}
 use Rattle.rtsp_methods.specs.RequiredOptions.{option_of}
@@ -17,9 +16,7 @@ use Rattle.rtsp_methods.specs.declared.topics.Topic.{Topic}
 use Rattle.rtsp_methods.specs.declared.topics.Topic.TheVariants.{Nothing as NoTopic, Booked, Offer as OfferTopic}
 use Rattle.rtsp_methods.specs.declared.topics.Topic.TheVariants.{Unknown}
 use Rattle.rtsp_methods.specs.declared.refusals.Refusal.{Refusal}
-use Rattle.rtsp_methods.specs.declared.refusals.Refusal.TheVariants.{BadRequest, Version, Method, Option as Required}
-use Rattle.rtsp_methods.specs.declared.refusals.Refusal.TheVariants.{Session, Film, State as NotNow, Transport}
-use Rattle.rtsp_methods.specs.declared.refusals.Refusal.TheVariants.{Parameter, Buffer, Range, Memory}
+use Rattle.rtsp_methods.specs.declared.refusals.Refusal.TheVariants.{Session, State as NotNow, Parameter, Memory}
 use Rattle.rtsp_replies.specs.Replies.{describe_text, plain_text, public_text, refusal_text, session_text}
 use Rattle.film_streams.specs.Films.{IsFilmAt, length_ms}
 use Rattle.film_streams.specs.SettingRanges.{AreSettings, IsSetup}
@@ -33,7 +30,7 @@ use Rattle.session.specs.declared.refusals.Task.TheVariants.{Setup as ToSetup, P
 use Rattle.session.specs.declared.refusals.Task.TheVariants.{Teardown as ToTeardown, GetParameter as ToGetParameter}
 use Rattle.session.specs.declared.states.AfterHalt.TheVariants.{Torn}
 use Rattle.session.specs.declared.states.State.{State}
-use Rattle.session.specs.declared.states.State.TheVariants.{Init, Ready, Playing, Stopping}
+use Rattle.session.specs.declared.states.State.TheVariants.{Init, Ready, Playing}
 use Rattle.session.specs.Laws.{IsTeardown, MayRunOutOfMemory}
 use Rattle.session.specs.Methods.{AsksHalt, AsksLook, AsksOffer, AsksOfferOr, AsksPlay, AsksPlayOr, Ends, Gets}
 use Rattle.session.specs.Methods.{GetsOffer, HasWait, IsReplied, IsSetUp, Looks, Pauses, PausesPlay, Plays, Takes}
@@ -171,24 +168,19 @@ plays h asked taken Init same is = absurd is
 plays h asked taken (Ready setup paused) same is =
     starts_play h (record { asked = asked; taken = taken; setup = setup; paused = paused; ready = same }) is.planned
     is.is_planned is.asks
-plays h asked taken (Playing setup play) same is = Replies (ToConfirmed asked taken) is
-plays h asked taken (Stopping setup stop) same is = Replies (ToConfirmed asked taken) is
+plays h asked taken _ same is = Replies (ToConfirmed asked taken) is
 
 pauses : (h : HeardMessage) (taken : TakenTask h ToPause) (state : State) → h.old.state ≡ state
     → Pauses state h.old taken.request.sequence h.ask h.new → Answer h
-pauses h taken Init same is = absurd is
-pauses h taken (Ready setup paused) same is = absurd is
 pauses h taken (Playing setup play) same is =
     HaltsPlay taken (record { setup = setup; play = play; playing = same }) is
-pauses h taken (Stopping setup stop) same is = absurd is
+pauses h taken _ same is = absurd is
 
 tears : (h : HeardMessage) (taken : TakenTask h ToTeardown) (state : State) → h.old.state ≡ state
     → TearsDown state h.old taken.request.sequence h.ask h.new → Answer h
-tears h taken Init same is = EndsSession taken is
-tears h taken (Ready setup paused) same is = EndsSession taken is
 tears h taken (Playing setup play) same is =
     StopsPlay taken (record { setup = setup; play = play; playing = same }) is
-tears h taken (Stopping setup stop) same is = EndsSession taken is
+tears h taken _ same is = EndsSession taken is
 
 seeks_offer : (h : HeardMessage) (offer : ReadyOffer h) (planned : Result Planned Refusal)
     → IsPlanned h.old offer.setup offer.paused None planned
@@ -216,9 +208,7 @@ gets_offer h taken body (Ready setup paused) same (inr offers) =
       wait = offers.wait;
       has_wait = offers.has_wait;
     }) offers.offers.planned offers.offers.is_planned offers.offers.asks
-gets_offer h taken body (Playing setup play) same is =
-    Replies (ToDeclined taken.request NotNow taken.is_request (NotInPlaying refl)) is
-gets_offer h taken body (Stopping setup stop) same is =
+gets_offer h taken body _ same is =
     Replies (ToDeclined taken.request NotNow taken.is_request (NotInPlaying refl)) is
 
 looks : (h : HeardMessage) (taken : TakenTask h ToGetParameter) → IsWord (codes "x-Booked") taken.request.body.now
@@ -271,24 +261,11 @@ answer_to h = elim h.hears [
 
 pub is_memory : (refusal : Refusal) → (refusal ≡ Memory) ⊎ (refusal ≢ Memory)
 is_memory Memory = inl refl
-is_memory BadRequest = inr (λ same. cc)
-is_memory Version = inr (λ same. cc)
-is_memory Method = inr (λ same. cc)
-is_memory Required = inr (λ same. cc)
-is_memory Session = inr (λ same. cc)
-is_memory Film = inr (λ same. cc)
-is_memory NotNow = inr (λ same. cc)
-is_memory Transport = inr (λ same. cc)
-is_memory Parameter = inr (λ same. cc)
-is_memory (Buffer least) = inr (λ same. cc)
-is_memory Range = inr (λ same. cc)
+is_memory _ = inr (λ same. cc)
 
 pub fault_refuses : (fault : RequestFault) → fault_refusal fault ≢ Memory
 fault_refuses BadLine = λ same. cc
-fault_refuses BadVersion = λ same. cc
-fault_refuses (BadHeader line) = λ same. cc
-fault_refuses NoSequenceNumber = λ same. cc
-fault_refuses BadLength = λ same. cc
+fault_refuses _ = λ same. cc
 
 -- what a SETUP settles is in its ranges
 record IsIn (least most n : ℕ) : Type 0 where
@@ -302,9 +279,7 @@ chosen (Some value) is low high = record { above = is.above; below = is.below }
 
 init_of : (state : State) → has_session_in state ≡ false → state ≡ Init
 init_of Init none = refl
-init_of (Ready setup paused) none = absurd (let no : ⊥ = cc in no)
-init_of (Playing setup play) none = absurd (let no : ⊥ = cc in no)
-init_of (Stopping setup stop) none = absurd (let no : ⊥ = cc in no)
+init_of _ none = absurd (let no : ⊥ = cc in no)
 
 pub is_teardown : {h : HeardMessage} → TakenTask h ToTeardown → IsTeardown h.message
 is_teardown taken = record {

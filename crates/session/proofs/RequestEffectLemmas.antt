@@ -8,9 +8,7 @@ use Rattle.session.specs.declared.commands.Ask.TheVariants.{Play as AskPlay}
 use Rattle.session.specs.declared.plans.Planned.{Planned}
 use Rattle.rtsp_methods.specs.declared.refusals.Refusal.{Refusal}
 use Rattle.session.specs.declared.refusals.Task.{Task}
-use Rattle.session.specs.declared.refusals.Task.TheVariants.{Options as ToOptions, Describe as ToDescribe}
-use Rattle.session.specs.declared.refusals.Task.TheVariants.{Setup as ToSetup, Play as ToPlay, Pause as ToPause}
-use Rattle.session.specs.declared.refusals.Task.TheVariants.{Teardown as ToTeardown, GetParameter as ToGetParameter}
+use Rattle.session.specs.declared.refusals.Task.TheVariants.{Play as ToPlay}
 use Rattle.session.specs.declared.states.AfterHalt.{AfterHalt}
 use Rattle.film_streams.specs.declared.setups.Setup.{Setup}
 use Rattle.session.specs.declared.states.State.{State}
@@ -173,17 +171,7 @@ good_does h (ToPlay asked) taken play takes =
       paused = play.paused;
       ready = play.ready;
     }) play.good is.planned is.is_planned is.asks
-good_does h ToOptions taken play takes =
-    absurd (let no : ⊥ = cc (taken.judged.talk.spoken.named, play.good.method) in no)
-good_does h (ToDescribe asked) taken play takes =
-    absurd (let no : ⊥ = cc (taken.judged.talk.spoken.named, play.good.method) in no)
-good_does h (ToSetup film) taken play takes =
-    absurd (let no : ⊥ = cc (taken.judged.talk.spoken.named, play.good.method) in no)
-good_does h ToPause taken play takes =
-    absurd (let no : ⊥ = cc (taken.judged.talk.spoken.named, play.good.method) in no)
-good_does h ToTeardown taken play takes =
-    absurd (let no : ⊥ = cc (taken.judged.talk.spoken.named, play.good.method) in no)
-good_does h ToGetParameter taken play takes =
+good_does h _ taken play takes =
     absurd (let no : ⊥ = cc (taken.judged.talk.spoken.named, play.good.method) in no)
 
 pub hears_good : (old new : SessionState) (message : List ℕ) (ask : Ask) → Hears old message ask new

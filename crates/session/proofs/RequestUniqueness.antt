@@ -13,10 +13,7 @@ use Rattle.rtsp_methods.specs.declared.topics.Topic.{Topic}
 use Rattle.rtsp_methods.specs.declared.topics.Topic.TheVariants.{Nothing as NoTopic, Booked, Offer as OfferTopic}
 use Rattle.rtsp_methods.specs.declared.topics.Topic.TheVariants.{Unknown}
 use Rattle.rtsp_methods.specs.declared.refusals.Refusal.{Refusal}
-use Rattle.rtsp_methods.specs.declared.refusals.Refusal.TheVariants.{BadRequest, Version, Method as UnknownMethod}
-use Rattle.rtsp_methods.specs.declared.refusals.Refusal.TheVariants.{Option as Required, Session, Film}
-use Rattle.rtsp_methods.specs.declared.refusals.Refusal.TheVariants.{State as NotNow, Transport, Parameter, Buffer}
-use Rattle.rtsp_methods.specs.declared.refusals.Refusal.TheVariants.{Range, Memory}
+use Rattle.rtsp_methods.specs.declared.refusals.Refusal.TheVariants.{Transport, Parameter}
 use Rattle.film_streams.specs.declared.setups.Setup.{Setup}
 use Rattle.film_streams.specs.declared.settings.Settings.{Settings}
 use Rattle.film_streams.specs.Films.{Names}
@@ -64,18 +61,9 @@ pub data Unread (settings : Settings) (head : List ℕ) (refusal : Refusal) : Ty
 pub unread : (settings : Settings) (head : List ℕ) (film : ℕ) (refusal : Refusal) → IsSetupRead settings head film
     (Err refusal)
     → Unread settings head refusal
-unread settings head film BadRequest is = absurd is
-unread settings head film Version is = absurd is
-unread settings head film UnknownMethod is = absurd is
-unread settings head film Required is = absurd is
-unread settings head film Session is = absurd is
-unread settings head film Film is = absurd is
-unread settings head film NotNow is = absurd is
 unread settings head film Transport is = NoChannels refl is
 unread settings head film Parameter is = NoMeaning refl is
-unread settings head film (Buffer least) is = absurd is
-unread settings head film Range is = absurd is
-unread settings head film Memory is = absurd is
+unread settings head film _ is = absurd is
 
 unread_once : (settings : Settings) (head : List ℕ) (one other : Refusal) → Unread settings head one
     → Unread settings head other → other ≡ one
@@ -123,7 +111,6 @@ differ : (body : List ℕ) (n m : ℕ) → third body ≡ n → third body ≡ m
 differ body n m is its other = other (sym is ∙ its)
 
 pub topic_once : (body : List ℕ) (one other : Topic) → IsTopic body one → IsTopic body other → other ≡ one
-topic_once body NoTopic NoTopic is its = refl
 topic_once body NoTopic Booked is its =
     absurd (differ body 0 66 (ap third is) (booked_third body its) (λ same. omega (arith, same)))
 topic_once body NoTopic OfferTopic is its =
@@ -131,7 +118,6 @@ topic_once body NoTopic OfferTopic is its =
 topic_once body NoTopic Unknown is its = absurd (its.0 is)
 topic_once body Booked NoTopic is its =
     absurd (differ body 0 66 (ap third its) (booked_third body is) (λ same. omega (arith, same)))
-topic_once body Booked Booked is its = refl
 topic_once body Booked OfferTopic is its =
     absurd (differ body 66 79 (booked_third body is) (offer_third body its) (λ same. omega (arith, same)))
 topic_once body Booked Unknown is its = absurd (its.1 is)
@@ -139,12 +125,11 @@ topic_once body OfferTopic NoTopic is its =
     absurd (differ body 0 79 (ap third its) (offer_third body is) (λ same. omega (arith, same)))
 topic_once body OfferTopic Booked is its =
     absurd (differ body 66 79 (booked_third body its) (offer_third body is) (λ same. omega (arith, same)))
-topic_once body OfferTopic OfferTopic is its = refl
 topic_once body OfferTopic Unknown is its = absurd (its.2 is)
 topic_once body Unknown NoTopic is its = absurd (is.0 its)
 topic_once body Unknown Booked is its = absurd (is.1 its)
 topic_once body Unknown OfferTopic is its = absurd (is.2 its)
-topic_once body Unknown Unknown is its = refl
+topic_once body _ _ is its = refl
 
 -- which film a URL names, and under which authority
 pub record AreSameNames (one other : List ℕ) (film number : ℕ) : Type 0 where

@@ -48,18 +48,13 @@ wanted_goes_on : (paused : Option Run) (before : SentBefore paused) (from : Orig
     (wanted : PlayRequest) → IsRequestFor before.stored.film paused from to wanted
     → IsRunOf before.stored before.source before.setup
     (counts_for before.stored.film before.source before.setup before.counts paused wanted) (run_of wanted)
-wanted_goes_on None before Now to (Resumed run) is = absurd is
-wanted_goes_on None before Now to (New run) is =
-    new_goes_on is
 wanted_goes_on (Some paused) before Now to (Resumed run) is =
     subst (λ (r : Run). IsRunOf before.stored before.source before.setup before.counts r) (sym is) before.kept
 wanted_goes_on (Some paused) before Now to (New run) is = absurd is
-wanted_goes_on None before (At time) to (Resumed run) is = absurd is
-wanted_goes_on None before (At time) to (New run) is =
-    new_goes_on is
-wanted_goes_on (Some paused) before (At time) to (Resumed run) is = absurd is
-wanted_goes_on (Some paused) before (At time) to (New run) is =
-    new_goes_on is
+wanted_goes_on None before Now to (Resumed run) is = absurd is
+wanted_goes_on paused before (At time) to (Resumed run) is = absurd is
+wanted_goes_on None before Now to (New run) is = new_goes_on is
+wanted_goes_on paused before (At time) to (New run) is = new_goes_on is
 
 pub goes_on : {paused : Option Run} {range : Option (List ℕ)} {wanted : PlayRequest} (before : SentBefore paused)
     → IsAskedRun before.stored.film paused range wanted

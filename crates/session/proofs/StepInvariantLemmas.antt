@@ -19,7 +19,7 @@ use Rattle.session.specs.SlotTransitions.{IsCarried, IsEven, IsSamePacing, after
 use Rattle.session.specs.Teardowns.{is_tearing, is_torn_down}
 use Rattle.session.specs.declared.sessions.Session.TheInside.{Inside}
 use Rattle.session.specs.declared.states.Awaited.{Awaited}
-use Rattle.session.specs.declared.states.Awaited.TheVariants.{Nothing, Play, Halt, Look, Offer}
+use Rattle.session.specs.declared.states.Awaited.TheVariants.{Nothing, Play, Halt}
 use Rattle.session.specs.declared.states.AfterHalt.{AfterHalt}
 use Rattle.session.specs.declared.states.Play.{Play as Played}
 use Rattle.session.specs.declared.states.Stop.{Stop}
@@ -113,20 +113,12 @@ carried_kept : (ground : SessionContext) (old new : State) → IsStateInvariant 
     → CarriedState ground old new
 carried_kept ground Init Init kept carried =
     record { state = tt; stop = λ waits is. tt; open_is = refl; going = λ lost is even undone. tt }
-carried_kept ground Init (Ready s p) kept carried = absurd carried
-carried_kept ground Init (Playing s p) kept carried = absurd carried
-carried_kept ground Init (Stopping s p) kept carried = absurd carried
-carried_kept ground (Ready setup paused) Init kept carried = absurd carried
 carried_kept ground (Ready setup paused) (Ready s p) kept carried = record {
   state = subst (λ (x : State). IsStateInvariant ground x) (let same : Ready setup paused ≡ Ready s p = cc in same) kept;
   stop = λ waits is. tt;
   open_is = refl;
   going = λ lost is even undone. tt;
 }
-carried_kept ground (Ready setup paused) (Playing s p) kept carried = absurd carried
-carried_kept ground (Ready setup paused) (Stopping s p) kept carried = absurd carried
-carried_kept ground (Playing setup play) Init kept carried = absurd carried
-carried_kept ground (Playing setup play) (Ready s p) kept carried = absurd carried
 carried_kept ground (Playing setup play) (Playing s p) kept carried = record {
   state = subst (λ (x : Setup). IsStateInvariant ground (Playing x p)) (sym carried.0) (
     kept.0,
@@ -141,10 +133,6 @@ carried_kept ground (Playing setup play) (Playing s p) kept carried = record {
     going = undone;
   };
 }
-carried_kept ground (Playing setup play) (Stopping s p) kept carried = absurd carried
-carried_kept ground (Stopping setup stop) Init kept carried = absurd carried
-carried_kept ground (Stopping setup stop) (Ready s p) kept carried = absurd carried
-carried_kept ground (Stopping setup stop) (Playing s p) kept carried = absurd carried
 carried_kept ground (Stopping setup stop) (Stopping s p) kept carried = record {
   state = subst (λ (x : Setup). IsStateInvariant ground (Stopping x p)) (sym carried.0) (
     kept.0,
@@ -157,6 +145,7 @@ carried_kept ground (Stopping setup stop) (Stopping s p) kept carried = record {
 }
   where
     open ground use {films, source, counts}
+carried_kept ground _ _ kept carried = absurd carried
 
 -- what a session awaits once the halt of a play that is done is asked for: nothing for the report
 pub record FinishedAwaited (ground : SessionContext) (lost : Bool) (state : State) (awaited : Awaited) : Type 0 where
@@ -169,23 +158,18 @@ finished_kept : {lost : Bool} {state : State} (ground : SessionContext) (awaited
     → (is_done_in state ≡ false → IsGoing lost state) → HaltsIfDone state awaited
     → FinishedAwaited ground lost state awaited
 finished_kept ground Nothing going is = record { kept = going is; receipts = refl; plays = refl; offers = refl }
-finished_kept ground (Play prepared) going is = absurd is
 finished_kept {lost} {state} ground (Halt keep next) going is = record {
   kept = subst (λ (n : AfterHalt). IsAwaitedInvariant ground lost state (Halt keep n)) (sym is.1) (is.0, tt);
   receipts = refl;
   plays = refl;
   offers = refl;
 }
-finished_kept ground (Look sequence) going is = absurd is
-finished_kept ground (Offer sequence) going is = absurd is
+finished_kept ground _ going is = absurd is
 
 -- nothing is awaited
 pub nothing_of : (awaited : Awaited) → awaited_answer_of awaited ≡ NoAnswer → awaited ≡ Nothing
 nothing_of Nothing is = refl
-nothing_of (Play prepared) is = cc
-nothing_of (Halt keep next) is = cc
-nothing_of (Look sequence) is = cc
-nothing_of (Offer sequence) is = cc
+nothing_of _ is = cc
 
 -- a slot that a session receives while it awaits nothing, and the state as the slot carries it on
 pub record ReceivedSlot (inside : Inside) : Type 0 where
@@ -223,10 +207,8 @@ slot_kept {inside} slot awaited even is =
     open slot use {kept}
 
 lost_going : (state : State) → IsGoing true state
-lost_going Init = tt
-lost_going (Ready setup paused) = tt
 lost_going (Playing setup play) = λ linked. cc
-lost_going (Stopping setup stop) = tt
+lost_going _ = tt
 
 -- and by one in which the link failed
 pub slot_lost : {inside : Inside} (slot : ReceivedSlot inside)
@@ -251,11 +233,9 @@ slot_lost {inside} slot =
 stopped_awaited : (ground : SessionContext) (lost : Bool) (setup : Setup) (stop : Stop) (awaited : Awaited)
     → IsAwaitedInvariant ground lost (Stopping setup stop) awaited
     → IsAwaitedInvariant ground lost (Ready setup stop.paused) awaited
-stopped_awaited ground lost setup stop Nothing kept = tt
 stopped_awaited ground lost setup stop (Play prepared) kept = absurd kept
 stopped_awaited ground lost setup stop (Halt keep next) kept = absurd kept.0
-stopped_awaited ground lost setup stop (Look sequence) kept = tt
-stopped_awaited ground lost setup stop (Offer sequence) kept = tt
+stopped_awaited ground lost setup stop _ kept = tt
 
 -- what is kept of a state once the reply of a PAUSE or a TEARDOWN was sent
 record SettledState (ground : SessionContext) (lost : Bool) (old : State) (awaited : Awaited) : Type 0 where
@@ -267,11 +247,9 @@ record SettledState (ground : SessionContext) (lost : Bool) (old : State) (await
 settled_kept : (ground : SessionContext) (lost : Bool) (old : State) (awaited : Awaited)
     → IsStateInvariant ground old → IsAwaitedInvariant ground lost old awaited
     → SettledState ground lost old awaited
-settled_kept ground lost Init awaited is kept = record { state = is; kept = kept; stop = tt; open_is = refl }
-settled_kept ground lost (Ready s p) awaited is kept = record { state = is; kept = kept; stop = tt; open_is = refl }
-settled_kept ground lost (Playing s p) awaited is kept = record { state = is; kept = kept; stop = tt; open_is = refl }
 settled_kept ground lost (Stopping setup stop) awaited is kept =
     record { state = (is.0, is.2); kept = stopped_awaited ground lost setup stop awaited kept; stop = tt; open_is = refl }
+settled_kept ground lost _ awaited is kept = record { state = is; kept = kept; stop = tt; open_is = refl }
 
 -- a session is kept by a reply that was sent
 pub reply_kept : {inside : Inside} (teardown : Teardown) → IsSessionInvariant inside
@@ -295,6 +273,4 @@ reply_kept {inside} teardown kept tearing torn =
 pub done_before : (state : State) (awaited : Awaited) → HaltsIfDone (after_stop state) awaited
     → HaltsIfDone state awaited
 done_before Init awaited is = is
-done_before (Ready setup paused) awaited is = is
-done_before (Playing setup play) awaited is = is
-done_before (Stopping setup stop) awaited is = is
+done_before _ awaited is = is

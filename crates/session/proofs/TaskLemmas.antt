@@ -7,7 +7,6 @@ use Rattle.session.specs.Tasks.{IsAsked, IsTask, IsValid, NeedsSession}
 use Rattle.session.specs.RefusalOrder.{IsOnFilm, IsOwnTalk, IsTaken, IsTimely, task_for}
 use Rattle.rtsp_methods.specs.declared.methods.Method.{Method}
 use Rattle.rtsp_methods.specs.declared.methods.Method.TheVariants.{Options, Describe, Setup, Play, Pause, Teardown}
-use Rattle.rtsp_methods.specs.declared.methods.Method.TheVariants.{GetParameter}
 use Rattle.film_streams.specs.declared.films.Asked.{Asked}
 use Rattle.session.specs.declared.states.State.{State as StateKind}
 
@@ -22,20 +21,15 @@ taken {id} {stage} {method = Describe} asked talk film timely = record { talk = 
 taken {id} {stage} {method = Setup} asked talk film timely =
     record { talk = talk; film = (asked.authority.now, film); state = timely }
 taken {id} {stage} {method = Play} asked talk film timely = record { talk = talk; film = film; state = timely }
-taken {id} {stage} {method = Pause} asked talk film timely =
-    record { talk = talk; film = (asked.authority.now, (asked.film, film)); state = timely }
-taken {id} {stage} {method = Teardown} asked talk film timely =
-    record { talk = talk; film = (asked.authority.now, (asked.film, film)); state = timely }
-taken {id} {stage} {method = GetParameter} asked talk film timely =
+taken asked talk film timely =
     record { talk = talk; film = (asked.authority.now, (asked.film, film)); state = timely }
 
 -- what is known of it then
 pub task_known : {films : ℕ} (stage : StateKind) (method : Method) (asked : Asked) → IsAsked films asked
     → NeedsSession method (has_session_in stage) → IsValid method stage → IsTask films stage (task_for method asked)
-task_known stage Options asked is_asked needs valid = tt
 task_known stage Describe asked is_asked needs valid = is_asked
 task_known stage Setup asked is_asked needs valid = (is_asked.film, valid)
 task_known stage Play asked is_asked needs valid = (is_asked, needs)
 task_known stage Pause asked is_asked needs valid = valid
 task_known stage Teardown asked is_asked needs valid = needs
-task_known stage GetParameter asked is_asked needs valid = tt
+task_known stage _ asked is_asked needs valid = tt

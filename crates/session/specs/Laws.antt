@@ -1,6 +1,6 @@
 -- Laws of a session, in the terms of RFC 2326.
-use Rattle.std.specs.Prelude.{ℕ, ◌≡◌, ◌+◌, ◌%◌, ◌^◌, ◌++◌, ◌⊎◌, ⊤, List, [], ◌∷◌, Option}
-use Rattle.std.specs.Prelude.{Some, codes}
+use Rattle.std.specs.Prelude.{ℕ, ◌≡◌, ◌+◌, ◌%◌, ◌^◌, ◌++◌, ◌⊎◌, ⊤, List, [], ◌∷◌, Option, Some}
+use Rattle.std.specs.Prelude.{codes}
 use Rattle.rtp_pack.specs.declared.reports.Identity.{Identity}
 use Rattle.film_frames.specs.declared.stored_films.Stored.{Stored}
 use Rattle.film_run.specs.declared.runs.Run.{Run}
@@ -8,14 +8,13 @@ use Rattle.rtsp_text.specs.Replies.{Field, reply_text}
 use Rattle.rtsp_text.specs.declared.requests.Request.{Request}
 use Rattle.session.specs.declared.commands.Ask.{Ask}
 use Rattle.session.specs.declared.commands.Ask.TheVariants.{Reply, Play as AskPlay, Halt as AskHalt}
-use Rattle.session.specs.declared.commands.Ask.TheVariants.{Look as AskLook, Offer as AskOffer}
 use Rattle.session_records.specs.declared.notes.Receipt.{Receipt}
 use Rattle.session.specs.declared.plans.Planned.{Planned}
 use Rattle.session.specs.declared.states.Awaited.TheVariants.{Nothing}
 use Rattle.film_streams.specs.declared.setups.Setup.{Setup}
 use Rattle.session.specs.declared.play_requests.PlayRequest.TheVariants.{New}
 use Rattle.session.specs.declared.states.State.{State}
-use Rattle.session.specs.declared.states.State.TheVariants.{Init, Ready, Playing, Stopping}
+use Rattle.session.specs.declared.states.State.TheVariants.{Init, Playing}
 use Rattle.rtsp_text.specs.Fields.{first_sequence}
 use Rattle.rtsp_methods.specs.declared.refusals.Refusal.TheVariants.{Memory}
 use Rattle.session.specs.RequestEffects.{HasCode}
@@ -35,9 +34,8 @@ pub data StateKind : Type 0 where
 
 abbrev pub stage_of : State → StateKind
 stage_of Init = InitStage
-stage_of (Ready setup paused) = ReadyStage
 stage_of (Playing setup play) = PlayingStage
-stage_of (Stopping setup stop) = ReadyStage
+stage_of _ = ReadyStage
 
 -- the state stays, or goes from one to another
 pub record Goes (from to : StateKind) (old new : SessionState) : Type 0 where
@@ -68,11 +66,8 @@ LeavesNoted old receipt new = new ≡ record (with_reply old new.text) {
 
 -- no halt is asked for
 abbrev pub AsksNoHalt : Ask → Type 0
-AsksNoHalt Reply = ⊤
-AsksNoHalt (AskPlay plan) = ⊤
 AsksNoHalt (AskHalt keep) = ⊥
-AsksNoHalt (AskLook slot) = ⊤
-AsksNoHalt (AskOffer plan offers) = ⊤
+AsksNoHalt _ = ⊤
 
 -- the play and the slots are as they were
 pub record PlaysOn (old new : SessionState) : Type 0 where
@@ -116,18 +111,13 @@ IsOneAnswer old message ask one again other = IsSameAnswer ask again one other
 -- a message for which memory ran out, by its reply
 abbrev pub Is500 : Ask → SessionState → Type 0
 Is500 Reply new = HasCode 500 new.text
-Is500 (AskPlay plan) new = ⊥
-Is500 (AskHalt keep) new = ⊥
-Is500 (AskLook slot) new = ⊥
-Is500 (AskOffer plan offers) new = ⊥
+Is500 _ new = ⊥
 
 -- once a play or a halt is asked of the station, no reply to its request is 500
 abbrev pub NeverLacks : Ask → SessionState → Type 0
-NeverLacks Reply new = ⊤
 NeverLacks (AskPlay plan) new = (rest : List ℕ) → ¬ HasCode 500 (new.text ++ rest)
 NeverLacks (AskHalt keep) new = ¬ HasCode 500 new.text
-NeverLacks (AskLook slot) new = ⊤
-NeverLacks (AskOffer plan offers) new = ⊤
+NeverLacks _ new = ⊤
 
 -- a message is a request of this method
 pub record IsOfMethod (method message : List ℕ) : Type 0 where

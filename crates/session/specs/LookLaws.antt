@@ -3,13 +3,11 @@ use Rattle.std.specs.Prelude.{ℕ, ◌≡◌, ◌<◌, List, [], ◌∷◌, code
 use Rattle.film_frames.specs.declared.stored_films.Stored.{Stored}
 use Rattle.rtsp_text.specs.declared.requests.Request.{Request}
 use Rattle.session.specs.declared.commands.Ask.{Ask}
-use Rattle.session.specs.declared.commands.Ask.TheVariants.{Reply, Play as AskPlay, Halt as AskHalt}
-use Rattle.session.specs.declared.commands.Ask.TheVariants.{Look as AskLook, Offer as AskOffer}
+use Rattle.session.specs.declared.commands.Ask.TheVariants.{Look as AskLook}
 use Rattle.session_records.specs.declared.notes.OfferNote.{OfferNote}
 use Rattle.session_records.specs.declared.records.TheConstants.{RESERVED_LOOKS}
 use Rattle.film_streams.specs.declared.settings.Settings.{Settings}
-use Rattle.session.specs.RequestSteps.{Hears, after_admission, after_full, after_halt}
-use Rattle.session.specs.RequestSteps.{after_look}
+use Rattle.session.specs.RequestSteps.{Hears, after_admission, after_full, after_halt, after_look}
 use Rattle.session.specs.RequestSteps.{after_offer, after_overflow, new_session_state}
 use Rattle.session.specs.RefusalOrder.{IsReadAs}
 use Rattle.rtsp_methods.specs.Methods.{IsWord}
@@ -50,11 +48,8 @@ AreAfter old (happening ∷ rest) new = (next : SessionState)
 
 -- how many looks the station was asked for
 abbrev pub looks_in : Ask → ℕ
-looks_in Reply = 0
-looks_in (AskPlay plan) = 0
-looks_in (AskHalt keep) = 0
 looks_in (AskLook slot) = 1
-looks_in (AskOffer plan offers) = 0
+looks_in _ = 0
 
 abbrev pub looks_of : SessionEvent → ℕ
 looks_of (Message message ask) = looks_in ask

@@ -15,14 +15,13 @@ use Rattle.film_run.specs.Units.{stored_sizes}
 use Rattle.session.specs.declared.plans.Planned.{Planned}
 use Rattle.session.specs.declared.states.Prepared.{Prepared}
 use Rattle.session.specs.RequestedPlans.{IsPlanned}
-use Rattle.session.specs.RunRequests.{playback_of}
+use Rattle.session.specs.RunRequests.{playback_of, sending_of}
 use Rattle.session.specs.declared.commands.Ask.{Ask}
 use Rattle.session.specs.declared.commands.Ask.TheVariants.{Reply, Play as AskPlay, Halt as AskHalt}
 use Rattle.session.specs.declared.commands.Ask.TheVariants.{Look as AskLook, Offer as AskOffer}
 use Rattle.rtsp_methods.specs.declared.topics.Topic.{Topic}
 use Rattle.rtsp_methods.specs.declared.topics.Topic.TheVariants.{Nothing, Booked}
-use Rattle.rtsp_methods.specs.declared.topics.Topic.TheVariants.{Offer as OfferTopic}
-use Rattle.rtsp_methods.specs.declared.topics.Topic.TheVariants.{Unknown}
+use Rattle.rtsp_methods.specs.declared.topics.Topic.TheVariants.{Offer as OfferTopic, Unknown}
 use Rattle.rtsp_methods.specs.declared.refusals.Refusal.{Refusal}
 use Rattle.rtsp_methods.specs.declared.refusals.Refusal.TheVariants.{Session as NoSession}
 use Rattle.rtsp_methods.specs.declared.refusals.Refusal.TheVariants.{State as NotNow, Parameter}
@@ -40,16 +39,14 @@ use Rattle.session.specs.declared.states.AfterHalt.TheVariants.{Torn, Paused}
 use Rattle.session.specs.declared.states.Play.{Play as Played}
 use Rattle.film_streams.specs.declared.setups.Setup.{Setup}
 use Rattle.session.specs.declared.states.State.{State}
-use Rattle.session.specs.declared.states.State.TheVariants.{Init, Ready, Playing, Stopping}
+use Rattle.session.specs.declared.states.State.TheVariants.{Init, Ready, Playing}
 use Rattle.film_streams.specs.Films.{IsFilmAt, length_ms, milliseconds_at}
 use Rattle.film_streams.specs.StreamNumbers.{counts_after, identity_of, timestamp_at}
-use Rattle.session.specs.RunRequests.{sending_of}
 use Rattle.session.specs.RefusalOrder.{IsJudged}
 use Rattle.rtsp_methods.specs.RequiredOptions.{option_of}
 use Rattle.rtsp_methods.specs.Methods.{IsTopic}
 use Rattle.rtsp_replies.specs.Replies.{describe_text, plain_text, play_fields, public_text}
-use Rattle.rtsp_replies.specs.Replies.{refusal_text}
-use Rattle.rtsp_replies.specs.Replies.{session_text, setup_text}
+use Rattle.rtsp_replies.specs.Replies.{refusal_text, session_text, setup_text}
 use Rattle.film_streams.specs.Setups.{IsSetupRead}
 use Rattle.session.specs.SessionStates.{SessionState, with_reply}
 
@@ -105,10 +102,8 @@ Ends old sequence ask new = (ask ≡ Reply)
     × (new ≡ record (with_reply old (session_text sequence old.id)) { tearing = true })
 
 abbrev pub TearsDown : State → SessionState → ℕ → Ask → SessionState → Type 0
-TearsDown Init old sequence ask new = Ends old sequence ask new
-TearsDown (Ready setup paused) old sequence ask new = Ends old sequence ask new
 TearsDown (Playing setup play) old sequence ask new = AsksHalt old sequence setup play Torn ask new
-TearsDown (Stopping setup stop) old sequence ask new = Ends old sequence ask new
+TearsDown _ old sequence ask new = Ends old sequence ask new
 
 -- GET_PARAMETER for what is booked: a look at the last slot received, or out of memory for its
 -- receipt
@@ -196,9 +191,7 @@ abbrev pub Plays : State → SessionState → Request → List ℕ → Ask → S
 Plays Init old request authority ask new = ⊥
 Plays (Ready setup paused) old request authority ask new =
     PlaysReady old request authority setup paused ask new
-Plays (Playing setup play) old request authority ask new =
-    IsReplied old (session_text request.sequence old.id) ask new
-Plays (Stopping setup stop) old request authority ask new =
+Plays _ old request authority ask new =
     IsReplied old (session_text request.sequence old.id) ask new
 
 -- PAUSE: what is kept of the play, and what that leaves of its run
@@ -216,10 +209,8 @@ pub record PausesPlay (old : SessionState) (sequence : ℕ) (setup : Setup) (pla
   pub asks : AsksHalt old sequence setup play (Paused left) ask new
 
 abbrev pub Pauses : State → SessionState → ℕ → Ask → SessionState → Type 0
-Pauses Init old sequence ask new = ⊥
-Pauses (Ready setup paused) old sequence ask new = ⊥
 Pauses (Playing setup play) old sequence ask new = PausesPlay old sequence setup play ask new
-Pauses (Stopping setup stop) old sequence ask new = ⊥
+Pauses _ old sequence ask new = ⊥
 
 -- GET_PARAMETER for an offer: the plan of a PLAY without Range, and the slots that may be waited
 -- for its start
@@ -267,9 +258,7 @@ abbrev pub GetsOffer : State → SessionState → Request → Ask → SessionSta
 GetsOffer Init old request ask new = IsRefused old (Some request.sequence) NoSession [] ask new
 GetsOffer (Ready setup paused) old request ask new = LacksWait old request ask new
     ⊎ OffersIn old request setup paused ask new
-GetsOffer (Playing setup play) old request ask new =
-    IsRefused old (Some request.sequence) NotNow [] ask new
-GetsOffer (Stopping setup stop) old request ask new =
+GetsOffer _ old request ask new =
     IsRefused old (Some request.sequence) NotNow [] ask new
 
 -- GET_PARAMETER by its body

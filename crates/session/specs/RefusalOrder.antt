@@ -1,6 +1,6 @@
 -- The refusals that all methods share, in their order (RFC 2326 sections 7.1.1, 10 and 12).
-use Rattle.std.specs.Prelude.{ℕ, ◌≡◌, ◌≢◌, ⊤, true, false, Bool, List, Option, Some}
-use Rattle.std.specs.Prelude.{None, is_some, codes, Result, Ok, Err}
+use Rattle.std.specs.Prelude.{ℕ, ◌≡◌, ◌≢◌, ⊤, true, false, Bool, List, Option, Some, None, is_some}
+use Rattle.std.specs.Prelude.{codes, Result, Ok, Err}
 use Rattle.rtsp_text.specs.Fields.{header_value}
 use Rattle.rtsp_text.specs.Requests.{IsRequest}
 use Rattle.rtsp_text.specs.declared.requests.Request.{Request}
@@ -14,17 +14,12 @@ use Rattle.session.specs.declared.states.State.{State as StateKind}
 use Rattle.session.specs.declared.states.State.TheVariants.{Init, Ready, Playing, Stopping}
 use Rattle.rtsp_methods.specs.declared.methods.Method.{Method}
 use Rattle.rtsp_methods.specs.declared.methods.Method.TheVariants.{Options, Describe, Setup, Play}
-use Rattle.rtsp_methods.specs.declared.methods.Method.TheVariants.{Pause}
-use Rattle.rtsp_methods.specs.declared.methods.Method.TheVariants.{Teardown, GetParameter}
+use Rattle.rtsp_methods.specs.declared.methods.Method.TheVariants.{Pause, Teardown, GetParameter}
 use Rattle.film_streams.specs.declared.films.Asked.{Asked}
 use Rattle.rtsp_methods.specs.declared.refusals.Refusal.{Refusal}
-use Rattle.rtsp_methods.specs.declared.refusals.Refusal.TheVariants.{BadRequest, Version}
 use Rattle.rtsp_methods.specs.declared.refusals.Refusal.TheVariants.{Method as Unknown}
 use Rattle.rtsp_methods.specs.declared.refusals.Refusal.TheVariants.{Option as Required, Session}
-use Rattle.rtsp_methods.specs.declared.refusals.Refusal.TheVariants.{Film}
-use Rattle.rtsp_methods.specs.declared.refusals.Refusal.TheVariants.{State, Transport, Parameter}
-use Rattle.rtsp_methods.specs.declared.refusals.Refusal.TheVariants.{Buffer}
-use Rattle.rtsp_methods.specs.declared.refusals.Refusal.TheVariants.{Range, Memory}
+use Rattle.rtsp_methods.specs.declared.refusals.Refusal.TheVariants.{Film, State}
 use Rattle.session.specs.declared.refusals.Task.{Task}
 use Rattle.session.specs.declared.refusals.Task.TheVariants.{Options as ToOptions}
 use Rattle.session.specs.declared.refusals.Task.TheVariants.{Describe as ToDescribe}
@@ -49,20 +44,15 @@ abbrev pub FitsSession : Method → Bool → List ℕ → Option (List ℕ) → 
 FitsSession Options exists id named = ⊤
 FitsSession Describe exists id named = ⊤
 FitsSession Setup exists id named = IsOwnSession exists id named ⊤
-FitsSession Play exists id named = IsOwnSession exists id named ⊥
-FitsSession Pause exists id named = IsOwnSession exists id named ⊥
-FitsSession Teardown exists id named = IsOwnSession exists id named ⊥
 FitsSession GetParameter exists id named = IsOwnSession exists id named ⊤
+FitsSession _ exists id named = IsOwnSession exists id named ⊥
 
 -- a SETUP needs Init, a PLAY with a Range another state than Playing, a PAUSE Playing
 abbrev pub FitsState : Method → StateKind → Bool → Type 0
-FitsState Options stage has_range = ⊤
-FitsState Describe stage has_range = ⊤
 FitsState Setup stage has_range = has_session_in stage ≡ false
 FitsState Play stage has_range = is_playing_in stage ≡ true → has_range ≡ false
 FitsState Pause stage has_range = is_playing_in stage ≡ true
-FitsState Teardown stage has_range = ⊤
-FitsState GetParameter stage has_range = ⊤
+FitsState _ stage has_range = ⊤
 
 abbrev pub method_of : Task → Method
 method_of ToOptions = Options
@@ -94,11 +84,7 @@ IsOwnFilm (Stopping setup stop) film = film ≡ setup.film
 abbrev pub FitsFilm : Method → StateKind → ℕ → Type 0
 FitsFilm Options stage film = ⊤
 FitsFilm Describe stage film = ⊤
-FitsFilm Setup stage film = IsOwnFilm stage film
-FitsFilm Play stage film = IsOwnFilm stage film
-FitsFilm Pause stage film = IsOwnFilm stage film
-FitsFilm Teardown stage film = IsOwnFilm stage film
-FitsFilm GetParameter stage film = IsOwnFilm stage film
+FitsFilm _ stage film = IsOwnFilm stage film
 
 -- a request has one of the seven methods and requires no option: it is judged by its session
 pub record IsSpoken (request : Request) (method : Method) : Type 0 where
@@ -179,15 +165,9 @@ pub record IsUntimely (films : List Stored) (id : List ℕ) (stage : StateKind) 
 -- the judgement of a well formed request
 abbrev pub IsJudged : List Stored → List ℕ → StateKind → Request → Result Task Refusal → Type 0
 IsJudged films id stage request (Ok task) = IsTaken films id stage request task
-IsJudged films id stage request (Err BadRequest) = ⊥
-IsJudged films id stage request (Err Version) = ⊥
 IsJudged films id stage request (Err Unknown) = IsUnknownMethod request
 IsJudged films id stage request (Err Required) = RequiresOption request
 IsJudged films id stage request (Err Session) = IsOtherSession id stage request
 IsJudged films id stage request (Err Film) = IsOtherFilm films id stage request
 IsJudged films id stage request (Err State) = IsUntimely films id stage request
-IsJudged films id stage request (Err Transport) = ⊥
-IsJudged films id stage request (Err Parameter) = ⊥
-IsJudged films id stage request (Err (Buffer least)) = ⊥
-IsJudged films id stage request (Err Range) = ⊥
-IsJudged films id stage request (Err Memory) = ⊥
+IsJudged films id stage request (Err _) = ⊥

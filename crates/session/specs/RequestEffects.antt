@@ -85,8 +85,7 @@ ChangesState Reply old new = (new.state ≡ old.state) ⊎ IsSetUpBy old new
 ChangesState (AskPlay plan) old new = (new.state ≡ old.state)
     × IsPlayAskedFor old (AskPlay plan) new
 ChangesState (AskHalt keep) old new = IsHaltAsked old new
-ChangesState (AskLook slot) old new = new.state ≡ old.state
-ChangesState (AskOffer plan offers) old new = new.state ≡ old.state
+ChangesState _ old new = new.state ≡ old.state
 
 -- the code of a reply: the three digits after the version and a blank (RFC 2326 section 7.1)
 abbrev pub HasCode : ℕ → List ℕ → Type 0
@@ -100,11 +99,10 @@ pub record IsNoRefusal (text : List ℕ) : Type 0 where
 -- so it is of a reply of the session's own, of one to a halt, and of the first part of one to a
 -- play
 abbrev pub RefusesNone : Ask → SessionState → Type 0
-RefusesNone Reply new = IsNoRefusal new.text
 RefusesNone (AskPlay plan) new = (rest : List ℕ) → IsNoRefusal (new.text ++ rest)
-RefusesNone (AskHalt keep) new = IsNoRefusal new.text
 RefusesNone (AskLook slot) new = ⊤
 RefusesNone (AskOffer plan offers) new = ⊤
+RefusesNone _ new = IsNoRefusal new.text
 
 -- a PLAY that no judgement refuses, and what its Range asks for has a plan, memory found
 pub record IsGoodPlay (old : SessionState) (setup : Setup) (paused : Option Run) (request : Request)

@@ -3,9 +3,8 @@ use Rattle.std.specs.Int.{w64, to_be_bytes}
 use Rattle.hex.specs.Hex.{encode_lower}
 use Rattle.film_streams.specs.declared.settings.Settings.{Settings}
 use Rattle.film_streams.specs.declared.stream_numbers.StreamSource.{StreamSource}
-use Rattle.std.specs.Prelude.{ℕ, ◌≡◌, ◌+◌, ◌-◌, ◌*◌, ◌^◌, slice_index, ◌++◌, ◌⊎◌}
-use Rattle.std.specs.Prelude.{if◌then◌else◌, Bool, true, false, List, [], ◌∷◌, Option, Some, None}
-use Rattle.std.specs.Prelude.{slice_get}
+use Rattle.std.specs.Prelude.{ℕ, ◌≡◌, ◌+◌, ◌-◌, ◌*◌, ◌^◌, slice_index, ◌++◌, ◌⊎◌, if◌then◌else◌}
+use Rattle.std.specs.Prelude.{Bool, true, false, List, [], ◌∷◌, Option, Some, None, slice_get}
 use Rattle.rtsp_text.specs.Fields.{first_sequence}
 use Rattle.rtsp_text.specs.Requests.{IsFault}
 use Rattle.rtsp_text.specs.declared.requests.Request.{Request}
@@ -16,7 +15,7 @@ use Rattle.session_records.specs.declared.notes.OfferNote.{OfferNote}
 use Rattle.session_records.specs.declared.records.TheConstants.{RESERVED_LOOKS}
 use Rattle.session_records.specs.declared.notes.Receipt.TheVariants.{Entry, Full}
 use Rattle.session.specs.declared.states.Awaited.{Awaited}
-use Rattle.session.specs.declared.states.Awaited.TheVariants.{Nothing, Play, Halt, Look, Offer}
+use Rattle.session.specs.declared.states.Awaited.TheVariants.{Nothing, Play}
 use Rattle.film_streams.specs.declared.stream_numbers.Counts.{Counts}
 use Rattle.session.specs.RefusalOrder.{IsReadAs}
 use Rattle.rtsp_methods.specs.Refusals.{fault_refusal}
@@ -24,11 +23,11 @@ use Rattle.session.specs.Methods.{HearsRequest, IsRefused}
 use Rattle.rtsp_replies.specs.Replies.{full_text, look_body, offer_body, overflow_text}
 use Rattle.rtsp_replies.specs.Replies.{parameters_text, started_text}
 use Rattle.session.specs.declared.states.AfterHalt.{AfterHalt}
-use Rattle.session.specs.declared.states.AfterHalt.TheVariants.{Done, Paused, Torn}
+use Rattle.session.specs.declared.states.AfterHalt.TheVariants.{Done, Torn}
 use Rattle.film_run.specs.declared.runs.Run.{Run}
 use Rattle.film_streams.specs.declared.setups.Setup.{Setup}
 use Rattle.session.specs.declared.states.State.{State}
-use Rattle.session.specs.declared.states.State.TheVariants.{Init, Ready, Playing, Stopping}
+use Rattle.session.specs.declared.states.State.TheVariants.{Init, Playing}
 use Rattle.session.specs.RunRequests.{sending_of}
 use Rattle.film_streams.specs.StreamNumbers.{counts_after, source_of}
 use Rattle.film_frames.specs.declared.stored_films.Stored.{Stored}
@@ -80,11 +79,8 @@ Hears old message ask new = AnswersBadRequest old message ask new
 
 -- what was sent before the run that is asked for
 abbrev pub counts_of : Awaited → Counts → Counts
-counts_of Nothing counts = counts
 counts_of (Play prepared) counts = prepared.counts
-counts_of (Halt keep next) counts = counts
-counts_of (Look sequence) counts = counts
-counts_of (Offer sequence) counts = counts
+counts_of _ counts = counts
 
 -- the session once the play was admitted that it asked for
 abbrev pub after_admission : SessionState → ℕ → ℕ → SessionState
@@ -116,28 +112,23 @@ counts_done source counts setup run keep (Some stored) =
 -- only a play that is done is counted
 abbrev pub counts_next : Counts → Counts → AfterHalt → Counts
 counts_next counts done Done = done
-counts_next counts done (Paused rest) = counts
-counts_next counts done Torn = counts
+counts_next counts done _ = counts
 
 abbrev pub halted_counts : SessionState → State → Counts
-halted_counts old Init = old.counts
-halted_counts old (Ready setup paused) = old.counts
 halted_counts old (Playing setup play) =
     counts_next old.counts (counts_done old.source old.counts setup play.run
     (kept_of old.awaited play.pacer.due) (slice_get old.films setup.film)) (next_of old.awaited)
-halted_counts old (Stopping setup stop) = old.counts
+halted_counts old _ = old.counts
 
 -- a PAUSE and a TEARDOWN are answered once the rest up to a boundary was sent; a play that is done
 -- has no reply
 abbrev pub is_answered : AfterHalt → Bool
 is_answered Done = false
-is_answered (Paused run) = true
-is_answered Torn = true
+is_answered _ = true
 
 abbrev pub is_torn : AfterHalt → Bool
-is_torn Done = false
-is_torn (Paused run) = false
 is_torn Torn = true
+is_torn _ = false
 
 -- once the booking was halted
 abbrev pub after_halt : SessionState → ℕ → SessionState

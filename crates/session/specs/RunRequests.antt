@@ -49,14 +49,12 @@ IsResumed paused (New run) = ⊥
 abbrev pub IsRequestFor : Film → Option Run → Origin → Option ℕ → PlayRequest → Type 0
 IsRequestFor film None Now to wanted = RequestsNewRun film 0 to wanted
 IsRequestFor film (Some paused) Now to wanted = IsResumed paused wanted
-IsRequestFor film None (At time) to wanted = RequestsNewRun film time to wanted
-IsRequestFor film (Some paused) (At time) to wanted = RequestsNewRun film time to wanted
+IsRequestFor film paused (At time) to wanted = RequestsNewRun film time to wanted
 
 abbrev pub RequestsNothing : Film → Option Run → Origin → Option ℕ → Type 0
 RequestsNothing film None Now to = HasNothing film 0 to
 RequestsNothing film (Some paused) Now to = ⊥
-RequestsNothing film None (At time) to = HasNothing film time to
-RequestsNothing film (Some paused) (At time) to = HasNothing film time to
+RequestsNothing film paused (At time) to = HasNothing film time to
 
 -- what a Range asks for, and a Range that has no meaning for the film
 pub record IsAskedRun (film : Film) (paused : Option Run) (range : Option (List ℕ))

@@ -6,11 +6,10 @@ use Rattle.film_frames.specs.FramedRuns.{run_pieces}
 use Rattle.film_run.specs.declared.runs.Run.{Run}
 use Rattle.pacer.specs.PacerStates.{IsPacerState, is_done}
 use Rattle.rtsp_text.specs.Lines.{is_one_line}
-use Rattle.session.specs.RunRequests.{sending_of}
+use Rattle.session.specs.RunRequests.{sending_of, IsPlayable, IsRunOf}
 use Rattle.film_streams.specs.Films.{OfFilm}
 use Rattle.session.specs.ResumedPlays.{IsPacedPlay, IsPrepared}
 use Rattle.session.specs.RequestedPlans.{IsPausedIn}
-use Rattle.session.specs.RunRequests.{IsPlayable, IsRunOf}
 use Rattle.film_streams.specs.SettingRanges.{AreFilms, AreSettings, IsSetup}
 use Rattle.session.specs.SessionStates.{SessionState}
 use Rattle.session.specs.Teardowns.{is_tearing, is_torn_down}
@@ -24,9 +23,9 @@ use Rattle.film_streams.specs.declared.stream_numbers.StreamSource.{StreamSource
 use Rattle.session.specs.declared.states.Play.{Play as Played}
 use Rattle.session.specs.declared.states.Prepared.{Prepared}
 use Rattle.session.specs.declared.states.Awaited.{Awaited}
-use Rattle.session.specs.declared.states.Awaited.TheVariants.{Nothing, Play, Halt, Look, Offer}
+use Rattle.session.specs.declared.states.Awaited.TheVariants.{Play, Halt, Look, Offer}
 use Rattle.session.specs.declared.states.AfterHalt.{AfterHalt}
-use Rattle.session.specs.declared.states.AfterHalt.TheVariants.{Done, Paused, Torn}
+use Rattle.session.specs.declared.states.AfterHalt.TheVariants.{Paused}
 use Rattle.session.specs.declared.states.State.{State}
 use Rattle.session.specs.declared.states.State.TheVariants.{Init, Ready, Playing, Stopping}
 use Rattle.session.specs.declared.sessions.Session.TheInside.{Inside}
@@ -56,10 +55,8 @@ session_state_of session = record {
 -- the receipts and the notes that the open booking, and the answer that is awaited, will still
 -- bring
 abbrev pub open_receipts : State → ℕ
-open_receipts Init = 0
-open_receipts (Ready setup paused) = 0
 open_receipts (Playing setup play) = 1
-open_receipts (Stopping setup stop) = 0
+open_receipts _ = 0
 
 pub record Coming : Type 0 where
   pub receipts : ℕ
@@ -67,11 +64,10 @@ pub record Coming : Type 0 where
   pub offers : ℕ
 
 abbrev pub coming_of : Awaited → Coming
-coming_of Nothing = record { receipts = 0; plays = 0; offers = 0 }
 coming_of (Play prepared) = record { receipts = 2; plays = 1; offers = 0 }
-coming_of (Halt keep next) = record { receipts = 0; plays = 0; offers = 0 }
 coming_of (Look sequence) = record { receipts = 1; plays = 0; offers = 0 }
 coming_of (Offer sequence) = record { receipts = 0; plays = 0; offers = 1 }
+coming_of _ = record { receipts = 0; plays = 0; offers = 0 }
 
 abbrev pub awaited_receipts : Awaited → ℕ
 awaited_receipts awaited = (coming_of awaited).receipts
@@ -131,12 +127,10 @@ pub record IsPreparedAs (stored : Stored) (source : StreamSource) (settings : Se
       sending_of stored.film source setup prepared.counts prepared.run
 
 abbrev pub IsPreparedIn : List Stored → StreamSource → Settings → State → Prepared → Type 0
-IsPreparedIn films source settings Init prepared = ⊥
 IsPreparedIn films source settings (Ready setup paused) prepared =
     IsPrepared prepared
     × OfFilm films setup.film (λ stored. IsPreparedAs stored source settings setup prepared)
-IsPreparedIn films source settings (Playing setup play) prepared = ⊥
-IsPreparedIn films source settings (Stopping setup stop) prepared = ⊥
+IsPreparedIn films source settings _ prepared = ⊥
 
 -- in a play in which no halt was asked all that is due was sent, and some of it isn't due yet,
 -- unless the link failed
@@ -146,39 +140,30 @@ pub record IsPlayUnfinished (play : Played) : Type 0 where
   pub going : is_done play.pacer ≡ false
 
 abbrev pub IsGoing : Bool → State → Type 0
-IsGoing lost Init = ⊤
-IsGoing lost (Ready setup paused) = ⊤
 IsGoing lost (Playing setup play) = lost ≡ false → IsPlayUnfinished play
-IsGoing lost (Stopping setup stop) = ⊤
+IsGoing lost _ = ⊤
 
 -- what a halt leaves can be sent on
 abbrev pub IsLeftIn : List Stored → StreamSource → Counts → State → Run → Type 0
-IsLeftIn films source counts Init run = ⊥
-IsLeftIn films source counts (Ready setup paused) run = ⊥
 IsLeftIn films source counts (Playing setup play) run =
     OfFilm films setup.film (λ stored. IsRunOf stored source setup counts run)
-IsLeftIn films source counts (Stopping setup stop) run = ⊥
+IsLeftIn films source counts _ run = ⊥
 
 abbrev pub IsNextIn : List Stored → StreamSource → Counts → State → AfterHalt → Type 0
-IsNextIn films source counts state Done = ⊤
 IsNextIn films source counts state (Paused run) = IsLeftIn films source counts state run
-IsNextIn films source counts state Torn = ⊤
+IsNextIn films source counts state _ = ⊤
 
 abbrev pub IsAwaitedInvariant : SessionContext → Bool → State → Awaited → Type 0
-IsAwaitedInvariant own lost state Nothing = IsGoing lost state
 IsAwaitedInvariant own lost state (Play prepared) =
     IsPreparedIn own.films own.source own.settings state prepared
 IsAwaitedInvariant own lost state (Halt keep next) = IsHaltIn state keep
     × IsNextIn own.films own.source own.counts state next
-IsAwaitedInvariant own lost state (Look sequence) = IsGoing lost state
-IsAwaitedInvariant own lost state (Offer sequence) = IsGoing lost state
+IsAwaitedInvariant own lost state _ = IsGoing lost state
 
 -- the reply to a request that stopped a play waits until it is sent
 abbrev pub IsStopAnswered : State → Bool → Type 0
-IsStopAnswered Init waits = ⊤
-IsStopAnswered (Ready setup paused) waits = ⊤
-IsStopAnswered (Playing setup play) waits = ⊤
 IsStopAnswered (Stopping setup stop) waits = waits ≡ true
+IsStopAnswered _ waits = ⊤
 
 pub record IsSessionInvariant (session : Inside) : Type 0 where
   pub films : AreFilms session.films.now

@@ -18,7 +18,7 @@ use Rattle.session.specs.declared.commands.Slotted.TheVariants.{Going, Finished}
 use Rattle.session.specs.declared.states.Awaited.{Awaited}
 use Rattle.session.specs.declared.states.Awaited.TheVariants.{Nothing, Play, Halt, Look, Offer}
 use Rattle.session.specs.declared.states.State.{State}
-use Rattle.session.specs.declared.states.State.TheVariants.{Init, Ready, Playing, Stopping}
+use Rattle.session.specs.declared.states.State.TheVariants.{Init, Ready, Playing}
 use Rattle.film_streams.specs.declared.stream_numbers.Counts.{Counts}
 use Rattle.film_streams.specs.declared.setups.Setup.{Setup}
 use Rattle.film_streams.specs.declared.stream_numbers.StreamSource.{StreamSource}
@@ -76,11 +76,9 @@ pub record OpenBooking : Type 0 where
   pub due : ℕ
 
 abbrev pub open_in : State → Option OpenBooking
-open_in Init = None
-open_in (Ready setup paused) = None
 open_in (Playing setup play) =
     Some (record { plan = play.plan; start = play.start; due = play.pacer.due })
-open_in (Stopping setup stop) = None
+open_in _ = None
 
 abbrev pub open_of : SessionState → Option OpenBooking
 open_of standing = open_in standing.state
@@ -206,15 +204,11 @@ pub record CanHandleRequest (standing : SessionState) : Type 0 where
 -- the session exists, or it is Playing
 abbrev pub has_session_in : State → Bool
 has_session_in Init = false
-has_session_in (Ready setup paused) = true
-has_session_in (Playing setup play) = true
-has_session_in (Stopping setup stop) = true
+has_session_in _ = true
 
 abbrev pub is_playing_in : State → Bool
-is_playing_in Init = false
-is_playing_in (Ready setup paused) = false
 is_playing_in (Playing setup play) = true
-is_playing_in (Stopping setup stop) = false
+is_playing_in _ = false
 
 -- the session is Ready, with this of SETUP
 abbrev pub IsReadyIn : State → Setup → Type 0
@@ -223,11 +217,10 @@ IsReadyIn _ setup = ⊥
 
 -- the request that waits for the station's answer
 abbrev pub sequence_of : Awaited → ℕ
-sequence_of Nothing = 0
 sequence_of (Play prepared) = prepared.sequence
-sequence_of (Halt keep next) = 0
 sequence_of (Look sequence) = sequence
 sequence_of (Offer sequence) = sequence
+sequence_of _ = 0
 
 -- the session after the station's answer to a request: a receipt is noted, and the reply waits
 abbrev pub after_answer : SessionState → Receipt → List ℕ → SessionState

@@ -1,6 +1,6 @@
 -- What a session sends: in a slot, and as a reply, and what stands after it.
-use Rattle.std.specs.Prelude.{ℕ, ◌≡◌, ◌+◌, ◌-◌, ◌++◌, ◌&&◌, nat_lt, nat_le, max, true, false}
-use Rattle.std.specs.Prelude.{Bool, if◌then◌else◌, List, [], ◌∷◌, Option, Some, None}
+use Rattle.std.specs.Prelude.{ℕ, ◌≡◌, ◌+◌, ◌-◌, ◌++◌, ◌&&◌, nat_lt, nat_le, max, true, false, Bool}
+use Rattle.std.specs.Prelude.{if◌then◌else◌, List, [], ◌∷◌, Option, Some, None}
 use Rattle.vod_base.specs.Links.{IoEvent, IsSentPrefix, sends, told_more}
 use Rattle.vod_base.specs.declared.links.TheConstants.{LATEST_SLOT}
 use Rattle.film_frames.specs.FramedRuns.{run_pieces}
@@ -11,20 +11,19 @@ use Rattle.film_streams.specs.declared.setups.Setup.{Setup}
 use Rattle.session.specs.declared.states.AfterHalt.{AfterHalt}
 use Rattle.session.specs.declared.states.AfterHalt.TheVariants.{Done, Paused, Torn}
 use Rattle.session.specs.declared.states.Awaited.{Awaited}
-use Rattle.session.specs.declared.states.Awaited.TheVariants.{Nothing, Play, Halt, Look, Offer}
+use Rattle.session.specs.declared.states.Awaited.TheVariants.{Nothing, Play, Halt}
 use Rattle.session.specs.declared.states.Prepared.{Prepared}
 use Rattle.session.specs.declared.states.State.{State}
-use Rattle.session.specs.declared.states.State.TheVariants.{Init, Ready, Playing, Stopping}
+use Rattle.session.specs.declared.states.State.TheVariants.{Ready, Playing, Stopping}
 use Rattle.session_records.specs.declared.notes.PlayNote.{PlayNote}
 use Rattle.session.specs.SlotTransitions.{IsCarried, IsHaltIn, after_stop}
 use Rattle.session.specs.SessionStates.{SessionState, open_in, open_of}
 
 -- no frame and no report is split
 abbrev pub is_between : State → Bool
-is_between Init = true
-is_between (Ready setup paused) = true
 is_between (Playing setup play) = stands_at_boundary play.pacer
 is_between (Stopping setup stop) = stands_at_boundary stop.pacer
+is_between _ = true
 
 -- the waiting reply can go out
 abbrev pub can_reply : SessionState → Bool
@@ -41,26 +40,23 @@ IsTold false old text new = new ≡ old
 
 -- the state after a step, and what the step sends
 abbrev pub stepped_in : Bool → ℕ → State → State
-stepped_in stop slot Init = Init
-stepped_in stop slot (Ready setup paused) = Ready setup paused
 stepped_in stop slot (Playing setup play) =
     Playing setup (record play { pacer = after_step stop slot play.pacer })
 stepped_in stop slot (Stopping setup halted) =
     Stopping setup (record halted { pacer = after_step stop slot halted.pacer })
+stepped_in stop slot state = state
 
 abbrev pub is_sending : State → Bool
-is_sending Init = false
-is_sending (Ready setup paused) = false
 is_sending (Playing setup play) = true
 is_sending (Stopping setup stop) = true
+is_sending _ = false
 
 abbrev pub step_bytes : Bool → ℕ → State → List ℕ
-step_bytes stop slot Init = []
-step_bytes stop slot (Ready setup paused) = []
 step_bytes stop slot (Playing setup play) =
     plan_bytes play.pacer play.pacer.sent (step_end stop (at_slot slot play.pacer))
 step_bytes stop slot (Stopping setup halted) =
     plan_bytes halted.pacer halted.pacer.sent (step_end stop (at_slot slot halted.pacer))
+step_bytes stop slot _ = []
 
 -- the play once it is admitted: its pacer has sent nothing
 abbrev pub play_of : Prepared → ℕ → ℕ → Played
@@ -74,15 +70,9 @@ play_of prepared place start = record {
 
 -- the state once a play is admitted
 abbrev pub admitted_in : State → Awaited → ℕ → ℕ → State
-admitted_in Init awaited place start = Init
-admitted_in (Ready setup paused) Nothing place start = Ready setup paused
 admitted_in (Ready setup paused) (Play prepared) place start =
     Playing setup (play_of prepared place start)
-admitted_in (Ready setup paused) (Halt keep next) place start = Ready setup paused
-admitted_in (Ready setup paused) (Look sequence) place start = Ready setup paused
-admitted_in (Ready setup paused) (Offer sequence) place start = Ready setup paused
-admitted_in (Playing setup play) awaited place start = Playing setup play
-admitted_in (Stopping setup stop) awaited place start = Stopping setup stop
+admitted_in state awaited place start = state
 
 -- the note of a play whose booking keeps so many bytes
 abbrev pub note_of : Setup → Played → ℕ → PlayNote
@@ -103,19 +93,13 @@ note_of setup play keep = record {
 
 -- what a halt keeps: what was asked for, or what is due as the connection ends
 abbrev pub kept_of : Awaited → ℕ → ℕ
-kept_of Nothing due = due
-kept_of (Play prepared) due = due
 kept_of (Halt keep next) due = keep
-kept_of (Look sequence) due = due
-kept_of (Offer sequence) due = due
+kept_of _ due = due
 
 -- what it leads to
 abbrev pub next_of : Awaited → AfterHalt
-next_of Nothing = Done
-next_of (Play prepared) = Done
 next_of (Halt keep next) = next
-next_of (Look sequence) = Done
-next_of (Offer sequence) = Done
+next_of _ = Done
 
 -- the state after a halt
 abbrev pub state_once_halted : Setup → Played → AfterHalt → State
@@ -126,16 +110,12 @@ state_once_halted setup play Torn =
     Stopping setup (record { paused = None; start = play.start; pacer = play.pacer })
 
 abbrev pub halted_in : State → Awaited → State
-halted_in Init awaited = Init
-halted_in (Ready setup paused) awaited = Ready setup paused
 halted_in (Playing setup play) awaited = state_once_halted setup play (next_of awaited)
-halted_in (Stopping setup stop) awaited = Stopping setup stop
+halted_in state awaited = state
 
 abbrev pub halted_notes : State → Awaited → List PlayNote
-halted_notes Init awaited = []
-halted_notes (Ready setup paused) awaited = []
 halted_notes (Playing setup play) awaited = note_of setup play (kept_of awaited play.pacer.due) ∷ []
-halted_notes (Stopping setup stop) awaited = []
+halted_notes _ awaited = []
 
 -- what a slot brings to a play or its rest: first up to a boundary, if a reply waits, and once that
 -- was sent the rest
@@ -154,23 +134,19 @@ due_bytes waits state text slot =
 
 -- the slot in which the play begins that is being sent
 abbrev pub start_in : State → ℕ
-start_in Init = 0
-start_in (Ready setup paused) = 0
 start_in (Playing setup play) = play.start
 start_in (Stopping setup stop) = stop.start
+start_in _ = 0
 
 -- all that is kept of a play was sent, in which no halt was asked; and how much that is
 abbrev pub is_done_in : State → Bool
-is_done_in Init = false
-is_done_in (Ready setup paused) = false
 is_done_in (Playing setup play) = is_done play.pacer
-is_done_in (Stopping setup stop) = false
+is_done_in _ = false
 
 abbrev pub sent_in : State → ℕ
-sent_in Init = 0
-sent_in (Ready setup paused) = 0
 sent_in (Playing setup play) = play.pacer.sent
 sent_in (Stopping setup stop) = stop.pacer.sent
+sent_in _ = 0
 
 -- a play that is done is to be halted
 abbrev pub finished_in : State → Awaited → Awaited
@@ -179,10 +155,8 @@ finished_in state awaited = if is_done_in state then Halt (sent_in state) Done e
 -- a halt is asked of a play that is done, and of no other
 abbrev pub HaltsIfDone : State → Awaited → Type 0
 HaltsIfDone state Nothing = is_done_in state ≡ false
-HaltsIfDone state (Play prepared) = ⊥
 HaltsIfDone state (Halt keep next) = IsHaltIn state keep × (next ≡ Done)
-HaltsIfDone state (Look sequence) = ⊥
-HaltsIfDone state (Offer sequence) = ⊥
+HaltsIfDone state _ = ⊥
 
 abbrev pub after_play : SessionState → SessionState
 after_play old = record old { awaited = finished_in old.state old.awaited }

@@ -31,23 +31,20 @@ IsCarried _ _ = ⊥
 
 -- all that is due was sent
 abbrev pub IsEven : State → Type 0
-IsEven Init = ⊤
-IsEven (Ready setup paused) = ⊤
 IsEven (Playing setup play) = play.pacer.due ≡ play.pacer.sent
 IsEven (Stopping setup stop) = stop.pacer.due ≡ stop.pacer.sent
+IsEven _ = ⊤
 
 abbrev pub IsPacingIn : State → Type 0
-IsPacingIn Init = ⊤
-IsPacingIn (Ready setup paused) = ⊤
 IsPacingIn (Playing setup play) = IsPacerState play.pacer
 IsPacingIn (Stopping setup stop) = IsPacerState stop.pacer
+IsPacingIn _ = ⊤
 
 -- so many bytes are due and weren't sent
 abbrev pub IsLeft : State → ℕ → Type 0
-IsLeft Init left = ⊤
-IsLeft (Ready setup paused) left = ⊤
 IsLeft (Playing setup play) left = left ≡ 0 → play.pacer.due ≡ play.pacer.sent
 IsLeft (Stopping setup stop) left = left ≡ 0 → stop.pacer.due ≡ stop.pacer.sent
+IsLeft _ left = ⊤
 
 -- a halt is asked for in Playing, within the plan
 abbrev pub IsHaltIn : State → ℕ → Type 0
@@ -56,14 +53,10 @@ IsHaltIn _ keep = ⊥
 
 -- a play's pacing, with the play's plan
 abbrev pub IsPlayIn : State → Type 0
-IsPlayIn Init = ⊤
-IsPlayIn (Ready setup paused) = ⊤
 IsPlayIn (Playing setup play) = IsPacedPlay play
-IsPlayIn (Stopping setup stop) = ⊤
+IsPlayIn _ = ⊤
 
 -- the state as soon as the reply of a PAUSE or a TEARDOWN was sent
 abbrev pub after_stop : State → State
-after_stop Init = Init
-after_stop (Ready setup paused) = Ready setup paused
-after_stop (Playing setup play) = Playing setup play
 after_stop (Stopping setup stop) = Ready setup stop.paused
+after_stop state = state

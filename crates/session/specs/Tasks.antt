@@ -5,17 +5,13 @@ use Rattle.rtsp_text.specs.Lines.{is_one_line}
 use Rattle.film_streams.specs.declared.films.Asked.{Asked}
 use Rattle.session.specs.SessionStates.{has_session_in, is_playing_in}
 use Rattle.session.specs.declared.refusals.Task.{Task}
-use Rattle.session.specs.declared.refusals.Task.TheVariants.{Options as ToOptions}
 use Rattle.session.specs.declared.refusals.Task.TheVariants.{Describe as ToDescribe}
 use Rattle.session.specs.declared.refusals.Task.TheVariants.{Setup as ToSetup, Play as ToPlay}
 use Rattle.session.specs.declared.refusals.Task.TheVariants.{Pause as ToPause}
 use Rattle.session.specs.declared.refusals.Task.TheVariants.{Teardown as ToTeardown}
-use Rattle.session.specs.declared.refusals.Task.TheVariants.{GetParameter as ToGetParameter}
 use Rattle.session.specs.declared.states.State.{State}
 use Rattle.rtsp_methods.specs.declared.methods.Method.{Method}
-use Rattle.rtsp_methods.specs.declared.methods.Method.TheVariants.{Options, Describe, Setup, Play}
-use Rattle.rtsp_methods.specs.declared.methods.Method.TheVariants.{Pause}
-use Rattle.rtsp_methods.specs.declared.methods.Method.TheVariants.{Teardown, GetParameter}
+use Rattle.rtsp_methods.specs.declared.methods.Method.TheVariants.{Setup, Play, Pause, Teardown}
 
 -- an authority that a reply can repeat
 pub record IsAuthority (authority : List ℕ) : Type 0 where
@@ -30,30 +26,22 @@ pub record IsAsked (films : ℕ) (asked : Asked) : Type 0 where
 
 -- a PLAY, a PAUSE and a TEARDOWN need a session
 abbrev pub NeedsSession : Method → Bool → Type 0
-NeedsSession Options exists = ⊤
-NeedsSession Describe exists = ⊤
-NeedsSession Setup exists = ⊤
 NeedsSession Play exists = exists ≡ true
 NeedsSession Pause exists = exists ≡ true
 NeedsSession Teardown exists = exists ≡ true
-NeedsSession GetParameter exists = ⊤
+NeedsSession _ exists = ⊤
 
 -- a SETUP has none, and a PAUSE is Playing
 abbrev pub IsValid : Method → State → Type 0
-IsValid Options state = ⊤
-IsValid Describe state = ⊤
 IsValid Setup state = has_session_in state ≡ false
-IsValid Play state = ⊤
 IsValid Pause state = is_playing_in state ≡ true
-IsValid Teardown state = ⊤
-IsValid GetParameter state = ⊤
+IsValid _ state = ⊤
 
 -- a SETUP makes the first session; a PLAY, a PAUSE and a TEARDOWN have one; a PAUSE is Playing
 abbrev pub IsTask : ℕ → State → Task → Type 0
-IsTask films state ToOptions = ⊤
 IsTask films state (ToDescribe asked) = IsAsked films asked
 IsTask films state (ToSetup film) = (film < films) × (has_session_in state ≡ false)
 IsTask films state (ToPlay asked) = IsAsked films asked × has_session_in state ≡ true
 IsTask films state ToPause = is_playing_in state ≡ true
 IsTask films state ToTeardown = has_session_in state ≡ true
-IsTask films state ToGetParameter = ⊤
+IsTask films state _ = ⊤

@@ -3,8 +3,7 @@ use Rattle.session.specs.SlotSteps.{HaltsIfDone}
 use Rattle.session.specs.SessionStates.{AwaitsNoAnswer}
 use Rattle.session.specs.declared.sessions.Session.TheInside.{Inside}
 use Rattle.session.specs.declared.states.State.{State}
-use Rattle.session.proofs.StepInvariantLemmas.{ReceivedSlot, done_before, nothing_of, reply_kept, slot_kept}
-use Rattle.session.proofs.StepInvariantLemmas.{slot_lost}
+use Rattle.session.proofs.StepInvariantLemmas.{ReceivedSlot, done_before, nothing_of, reply_kept, slot_kept, slot_lost}
 use Rattle.session.proofs.sessions.Session.slot.Goals.{then-replied, else-replied}
 use Rattle.session.proofs.sessions.Session.slot.Goals as goal
 
