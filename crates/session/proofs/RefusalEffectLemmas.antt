@@ -1,17 +1,15 @@
 -- What a reply other than 200 leaves, and what plays on.
-use Rattle.std.proofs.Common.{◌≡◌, ℕ, List, Some, refl, sym, ap, subst, ◌∙◌, inl, inr}
-use Rattle.session.specs.declared.commands.Ask.{Ask}
+use Rattle.std.proofs.Common.{◌≡◌, ℕ, List, refl, sym, ap, subst, ◌∙◌, inl, inr}
 use Rattle.session.specs.declared.commands.Ask.TheVariants.{Reply}
 use Rattle.session.specs.declared.states.Play.{Play as Played}
 use Rattle.film_streams.specs.declared.setups.Setup.{Setup}
 use Rattle.session.specs.declared.states.State.TheVariants.{Playing}
 use Rattle.session.specs.RequestSteps.{Hears}
 use Rattle.session.specs.Laws.{AsksNoHalt, LeavesOr, PlaysOn}
-use Rattle.session.specs.Methods.{IsReplied}
 use Rattle.session.specs.SessionStates.{SessionState, with_reply}
 use Rattle.session.proofs.InitialStateLemmas.{HeardMessage, PlayInHand, heard_by}
 use Rattle.session.proofs.RequestCaseAnalysis.{Answer, Replies, SetsUp, StartsPlay, HaltsPlay, StopsPlay, EndsSession}
-use Rattle.session.proofs.RequestCaseAnalysis.{TakesLook, SeeksOffer, answer_to, settled_init}
+use Rattle.session.proofs.RequestCaseAnalysis.{TakesLook, SeeksOffer, answer_to, asks_as, settled_init}
 
 plays_on : (old new : SessionState) → new.state ≡ old.state → new.heard ≡ old.heard → PlaysOn old new
 plays_on old new state heard = record { state = state; heard = heard }
@@ -38,31 +36,14 @@ pub hears_plays : (heard : HeardMessage) (setup : Setup) (play : Played) → hea
 hears_plays heard setup play is free =
     answer_plays heard (record { setup = setup; play = play; playing = is }) free (answer_to heard)
 
-leaves : (old : SessionState) (text : List ℕ) (ask : Ask) (new : SessionState) → IsReplied old text ask new → LeavesOr
-    old new
-leaves old text ask new is =
-    inr (is.1 ∙ ap (λ (t : List ℕ). with_reply old t) (sym (ap (λ (s : SessionState). s.text) is.1)))
-
 answer_leaves : (h : HeardMessage) → h.ask ≡ Reply → Answer h → LeavesOr h.old h.new
-answer_leaves h reply (Replies own is) = leaves h.old _ h.ask h.new is
-answer_leaves h reply (SetsUp film taken setup asks is) = inl (record {
-  sequence = Some taken.request.sequence;
-  fields = _;
-  body = _;
-  text_is = ap (λ (s : SessionState). s.text) is.1;
-})
-answer_leaves h reply (StartsPlay play planned asks planned_is) =
-    absurd (let no : ⊥ = cc (asks.command, reply) in no)
-answer_leaves h reply (HaltsPlay taken hand is) = absurd (let no : ⊥ = cc (is.asks.command, reply) in no)
-answer_leaves h reply (StopsPlay taken hand is) = absurd (let no : ⊥ = cc (is.command, reply) in no)
-answer_leaves h reply (EndsSession taken is) = inl (record {
-  sequence = Some taken.request.sequence;
-  fields = _;
-  body = _;
-  text_is = ap (λ (s : SessionState). s.text) is.1;
-})
-answer_leaves h reply (TakesLook taken look) = absurd (let no : ⊥ = cc (look.command, reply) in no)
-answer_leaves h reply (SeeksOffer offer planned is asks) = absurd (let no : ⊥ = cc (asks.command, reply) in no)
+answer_leaves h reply (Replies own is) =
+    inr (is.1 ∙ ap (λ (t : List ℕ). with_reply h.old t) (sym (ap (λ (s : SessionState). s.text) is.1)))
+answer_leaves h reply (SetsUp film taken setup asks is) =
+    inl (record { sequence = _; fields = _; body = _; text_is = ap (λ (s : SessionState). s.text) is.1 })
+answer_leaves h reply (EndsSession taken is) =
+    inl (record { sequence = _; fields = _; body = _; text_is = ap (λ (s : SessionState). s.text) is.1 })
+answer_leaves h reply answer = absurd (let no : ⊥ = cc (asks_as answer, reply) in no)
 
 pub hears_leaves : (old new : SessionState) (message : List ℕ) → Hears old message Reply new → LeavesOr old new
 hears_leaves old new message hears =

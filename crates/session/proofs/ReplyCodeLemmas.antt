@@ -20,9 +20,9 @@ use Rattle.session.specs.RefusalOrder.{IsJudged}
 use Rattle.session.specs.SessionStates.{SessionState}
 use Rattle.session.proofs.InitialStateLemmas.{HeardMessage, heard_by}
 use Rattle.session.proofs.RequestUniqueness.{first_sequence_is}
-use Rattle.session.proofs.RequestCaseAnalysis.{Answer, Replies, SetsUp, StartsPlay, HaltsPlay, StopsPlay, EndsSession}
-use Rattle.session.proofs.RequestCaseAnalysis.{TakesLook, SeeksOffer, OwnReply, ToFault, ToRefused, ToDeclined}
-use Rattle.session.proofs.RequestCaseAnalysis.{answer_to, fault_refuses, may_lack, reply_of}
+use Rattle.session.proofs.RequestCaseAnalysis.{asks_as, Answer, Replies, SetsUp, StartsPlay, HaltsPlay, StopsPlay}
+use Rattle.session.proofs.RequestCaseAnalysis.{EndsSession, TakesLook, SeeksOffer, OwnReply, ToFault, ToRefused}
+use Rattle.session.proofs.RequestCaseAnalysis.{ToDeclined, answer_to, fault_refuses, may_lack, reply_of}
 
 -- a reply has one code
 pub one_code : {c d : ℕ} (text : List ℕ) → c < 1000 → d < 1000 → HasCode c text → HasCode d text → c ≡ d
@@ -188,14 +188,9 @@ answer_500 : (h : HeardMessage) → h.ask ≡ Reply → HasCode 500 h.new.text �
 answer_500 h reply code (Replies own is) = own_500 h own is code
 answer_500 h reply code (SetsUp film taken setup asks is) =
     ok_found h (Some taken.request.sequence) _ [] (ap (λ (s : SessionState). s.text) is.1) code
-answer_500 h reply code (StartsPlay play planned asks planned_is) =
-    absurd (let no : ⊥ = cc (asks.command, reply) in no)
-answer_500 h reply code (HaltsPlay taken hand is) = absurd (let no : ⊥ = cc (is.asks.command, reply) in no)
-answer_500 h reply code (StopsPlay taken hand is) = absurd (let no : ⊥ = cc (is.command, reply) in no)
 answer_500 h reply code (EndsSession taken is) =
     ok_found h (Some taken.request.sequence) _ [] (ap (λ (s : SessionState). s.text) is.1) code
-answer_500 h reply code (TakesLook taken look) = absurd (let no : ⊥ = cc (look.command, reply) in no)
-answer_500 h reply code (SeeksOffer offer planned is asks) = absurd (let no : ⊥ = cc (asks.command, reply) in no)
+answer_500 h reply code answer = absurd (let no : ⊥ = cc (asks_as answer, reply) in no)
 
 hears_wanting : (old new : SessionState) (message : List ℕ) (ask : Ask) → Hears old message ask new → Is500 ask new
     → MayRunOutOfMemory old message × IsOutOfMemory old message ask new

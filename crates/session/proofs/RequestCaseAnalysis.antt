@@ -23,6 +23,9 @@ use Rattle.film_streams.specs.SettingRanges.{AreSettings, IsSetup}
 use Rattle.film_streams.specs.Setups.{AsksForSetup, IsChosen, IsSetupRead}
 use Rattle.film_streams.specs.declared.films.Asked.{Asked}
 use Rattle.film_streams.specs.declared.setups.Setup.{Setup}
+use Rattle.session.specs.declared.commands.Ask.{Ask}
+use Rattle.session.specs.declared.commands.Ask.TheVariants.{Reply, Play as AskPlay, Halt as AskHalt, Look as AskLook}
+use Rattle.session.specs.declared.commands.Ask.TheVariants.{Offer as AskOffer}
 use Rattle.session.specs.declared.plans.Planned.{Planned}
 use Rattle.session.specs.declared.refusals.Task.{Task}
 use Rattle.session.specs.declared.refusals.Task.TheVariants.{Options as ToOptions, Describe as ToDescribe}
@@ -258,6 +261,25 @@ answer_to h = elim h.hears [
 ]
 
 -- ---- what an answer says
+
+-- what it asks of the station
+abbrev asked_by : {h : HeardMessage} → Answer h → Ask
+asked_by (StartsPlay play planned asks planned_is) = AskPlay planned.plan
+asked_by (HaltsPlay taken hand is) = AskHalt is.asks.keep
+asked_by (StopsPlay taken hand is) = AskHalt is.keep
+asked_by {h} (TakesLook taken look) = AskLook h.old.heard
+asked_by (SeeksOffer offer planned is asks) = AskOffer planned.plan asks.offers
+asked_by _ = Reply
+
+pub asks_as : {h : HeardMessage} (answer : Answer h) → h.ask ≡ asked_by answer
+asks_as (Replies reply is) = is.0
+asks_as (SetsUp film taken setup asks is) = is.0
+asks_as (StartsPlay play planned asks planned_is) = asks.command
+asks_as (HaltsPlay taken hand is) = is.asks.command
+asks_as (StopsPlay taken hand is) = is.command
+asks_as (EndsSession taken is) = is.0
+asks_as (TakesLook taken look) = look.command
+asks_as (SeeksOffer offer planned is asks) = asks.command
 
 pub is_memory : (refusal : Refusal) → (refusal ≡ Memory) ⊎ (refusal ≢ Memory)
 is_memory Memory = inl refl
