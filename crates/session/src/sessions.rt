@@ -13,6 +13,7 @@ use rtsp_replies::Text;
 use rtsp_text::Reply;
 use session_records::{Notes, RESERVED_LOOKS, Records};
 use std::alloc::Global;
+use std::fmt;
 use std::marker::Model;
 use vod_base::{LATEST_SLOT, NoMemory};
 
@@ -68,6 +69,17 @@ impl<'a> Model for Session<'a> {
     ghost view = { session_state_of };
 
     ghost invariant = { IsSessionInvariant };
+}
+
+impl fmt::Debug for Session<'_> {
+    fn fmt<W: fmt::Write>(&self, f: &mut fmt::Formatter<W>) -> fmt::Result {
+        f.debug_struct("Session")
+            .field("waits", &self.waits)
+            .field("lost", &self.lost)
+            .field("heard", &self.heard)
+            .field("late", &self.late)
+            .finish_non_exhaustive()
+    }
 }
 
 impl<'a> Session<'a> {

@@ -307,12 +307,15 @@ fn prints_each_type(rt: HostRuntime) -> Result<(), Fail> {
         plan: Plan::new(Vec::new(rt.alloc())),
     };
     let (request, task) = (PlayRequest::Resumed(run), Task::Setup(1));
-    let text = format!(in rt.alloc(); "{task:?} {request:?} {planned:?}")?;
+    let films = films_of(&rt, rt.alloc())?;
+    let session = Session::new(rt.alloc(), &films, SETTINGS, WORDS)?;
+    let text = format!(in rt.alloc(); "{task:?} {request:?} {planned:?} {session:?}")?;
     let want =
         "Setup(1) Resumed(Run { first_unit: 0, end_unit: 9, from_unit: 4, sent: 30, played: 20 }) \
         Planned { run: Run { first_unit: 0, end_unit: 9, from_unit: 4, sent: 30, played: 20 }, \
         counts: Counts { frames: 0, octets: 0 }, \
-        plan: Plan { segments: [], slots: 0, bytes: 0 } }";
+        plan: Plan { segments: [], slots: 0, bytes: 0 } } \
+        Session { waits: false, lost: false, heard: 0, late: 0, .. }";
     assert!(rt; text.as_str() == want);
     Ok(())
 }
