@@ -1,6 +1,6 @@
 -- A message has one answer, if memory is found for it.
-use Rattle.std.proofs.Common.{◌≡◌, ℕ, string_bytes, List, [], Option, Some, None, Result, Ok, Err, codes, refl, sym}
-use Rattle.std.proofs.Common.{ap, subst, ◌∙◌, inl, inr, arith}
+use Rattle.std.proofs.Common.{◌≡◌, ℕ, string_bytes, List, [], Option, Some, None, Result, Ok, Err, codes, refl, sym, ap}
+use Rattle.std.proofs.Common.{subst, ◌∙◌, inl, inr, arith}
 use Rattle.film_frames.specs.declared.stored_films.Stored.{Stored}
 use Rattle.film_run.specs.declared.runs.Run.{Run}
 use Rattle.film_run.proofs.RemainingRunLemmas.{left-one}
@@ -29,7 +29,7 @@ use Rattle.session.specs.declared.states.AfterHalt.TheVariants.{Paused, Torn}
 use Rattle.session.specs.declared.states.Play.{Play as Played}
 use Rattle.film_streams.specs.declared.setups.Setup.{Setup}
 use Rattle.session.specs.declared.states.State.{State}
-use Rattle.session.specs.declared.states.State.TheVariants.{Init, Ready, Playing, Stopping}
+use Rattle.session.specs.declared.states.State.TheVariants.{Init, Ready, Playing}
 use Rattle.film_streams.specs.Films.{Names, length_ms}
 use Rattle.session.specs.RequestSteps.{Hears}
 use Rattle.session.specs.RefusalOrder.{IsJudged, method_of, IsReadAs}
@@ -38,16 +38,15 @@ use Rattle.rtsp_methods.specs.Methods.{IsTopic}
 use Rattle.rtsp_methods.specs.Refusals.{fault_refusal}
 use Rattle.session.specs.Laws.{IsOneAnswer}
 use Rattle.session.specs.Methods.{AsksHalt, AsksOfferOr, AsksPlayOr, Describes, play_call, Gets, GetsOffer, HasWait}
-use Rattle.session.specs.Methods.{IsRefused, IsReplied, IsSetUp, Looks, OffersReady, Pauses, PausesPlay, Plays}
-use Rattle.session.specs.Methods.{SetsUp, Takes, TearsDown, prepared_of, play_front}
+use Rattle.session.specs.Methods.{IsRefused, IsReplied, IsSetUp, Looks, OffersReady, Pauses, PausesPlay, Plays, SetsUp}
+use Rattle.session.specs.Methods.{Takes, TearsDown, prepared_of, play_front}
 use Rattle.session.specs.RequestedPlans.{IsPlanned}
 use Rattle.session.specs.RunRequests.{playback_of}
 use Rattle.rtsp_replies.specs.Replies.{describe_text, plain_text, public_text, refusal_text, session_text}
 use Rattle.film_streams.specs.Setups.{IsSetupRead}
 use Rattle.session.specs.SessionStates.{with_reply}
 use Rattle.session.proofs.InitialStateLemmas.{HeardMessage, TwoHearings}
-use Rattle.session_laws.proofs.RequestReadings.{Does, does_task, reading_of, refused_in, taken_up, AreAlike}
-use Rattle.session_laws.proofs.RequestReadings.{passes_of}
+use Rattle.session_laws.proofs.RequestReadings.{Does, does_task, reading_of, refused_in, taken_up, AreAlike, passes_of}
 use Rattle.session.proofs.RequestUniqueness.{AreSameNames, first_sequence_is, names_once, read_once, topic_once}
 use Rattle.session.proofs.RequestUniqueness.{wait_once}
 use Rattle.session_laws.proofs.PlanUniqueness.{film_at_once, planned_once}
@@ -113,11 +112,9 @@ halts_once w c is its =
 
 tears_once : (w : TwoHearings) (state : State) (sequence : ℕ) → TearsDown state w.old sequence w.ask w.one
     → TearsDown state w.old sequence w.again w.other → Agree w
-tears_once w Init sequence is its = same w (its.0 ∙ sym is.0) (its.1 ∙ sym is.1)
-tears_once w (Ready setup paused) sequence is its = same w (its.0 ∙ sym is.0) (its.1 ∙ sym is.1)
 tears_once w (Playing setup play) sequence is its =
     halts_once w (record { sequence = sequence; setup = setup; play = play; next = Torn }) is its
-tears_once w (Stopping setup stop) sequence is its = same w (its.0 ∙ sym is.0) (its.1 ∙ sym is.1)
+tears_once w _ sequence is its = same w (its.0 ∙ sym is.0) (its.1 ∙ sym is.1)
 
 pauses_play_once : (w : TwoHearings) (sequence : ℕ) (setup : Setup) (play : Played)
     → PausesPlay w.old sequence setup play w.ask w.one → PausesPlay w.old sequence setup play w.again w.other → Agree w
@@ -132,10 +129,8 @@ pauses_play_once w sequence setup play is its =
 
 pauses_once : (w : TwoHearings) (state : State) (sequence : ℕ) → Pauses state w.old sequence w.ask w.one
     → Pauses state w.old sequence w.again w.other → Agree w
-pauses_once w Init sequence is its = absurd is
-pauses_once w (Ready setup paused) sequence is its = absurd is
 pauses_once w (Playing setup play) sequence is its = pauses_play_once w sequence setup play is its
-pauses_once w (Stopping setup stop) sequence is its = absurd is
+pauses_once w _ sequence is its = absurd is
 
 -- the request that it was, as it was read each time
 record TwoRequests : Type 0 where
@@ -229,9 +224,7 @@ plays_once r (Ready setup paused) authority is its =
         | inr second ↦ second_wants r (subst (λ p. AsksPlayOr r.w.old call p r.w.again r.w.other) second asks)
       ]
     ]
-plays_once r (Playing setup play) authority is its =
-    replied_once r.w _ _ (ap (λ s. session_text s r.w.old.id) r.alike.sequence) is its
-plays_once r (Stopping setup stop) authority is its =
+plays_once r _ authority is its =
     replied_once r.w _ _ (ap (λ s. session_text s r.w.old.id) r.alike.sequence) is its
 
 refused_alike : (r : TwoRequests) (refusal : Refusal)
@@ -254,8 +247,7 @@ gets_offer_once r (Ready setup paused) (inr is) (inr its) =
     offers_in_once r is.offers
     (subst (λ w. OffersReady r.w.old r.request.sequence w setup paused r.w.again r.w.other) wait
     (subst (λ s. OffersReady r.w.old s its.wait setup paused r.w.again r.w.other) r.alike.sequence its.offers))
-gets_offer_once r (Playing setup play) is its = refused_alike r NotNow is its
-gets_offer_once r (Stopping setup stop) is its = refused_alike r NotNow is its
+gets_offer_once r _ is its = refused_alike r NotNow is its
 
 gets_once : (r : TwoRequests) (topic : Topic) → Gets r.w.old r.request topic r.w.ask r.w.one
     → Gets r.w.old r.other topic r.w.again r.w.other → Agree r.w

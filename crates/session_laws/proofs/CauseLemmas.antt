@@ -1,23 +1,20 @@
 -- A refusal that all methods share comes for its cause alone.
 use Rattle.std.specs.Prelude.{⊤}
-use Rattle.std.proofs.Common.{◌≡◌, ◌≢◌, ℕ, ◌<◌, ◌⊎◌, true, List, [], codes, Option, Some, None, is_some, Err, refl}
-use Rattle.std.proofs.Common.{sym, ap, subst, ◌∙◌, inl, inr, arith, Bool, false, ◌==◌}
+use Rattle.std.proofs.Common.{◌≡◌, ◌≢◌, ℕ, ◌<◌, ◌⊎◌, true, List, [], codes, Option, Some, None, is_some, Err, refl, sym}
+use Rattle.std.proofs.Common.{ap, subst, ◌∙◌, inl, inr, arith, Bool, false, ◌==◌}
 use Rattle.rtsp_text.specs.Fields.{header_value}
 use Rattle.rtsp_text.specs.Replies.{Field, reply_text}
 use Rattle.rtsp_text.specs.declared.requests.Request.{Request}
 use Rattle.rtsp_text.proofs.MessageUniqueness.{no_fault}
 use Rattle.session.specs.declared.commands.Ask.TheVariants.{Reply}
 use Rattle.rtsp_methods.specs.declared.methods.Method.{Method}
-use Rattle.rtsp_methods.specs.declared.methods.Method.TheVariants.{Options, Describe, Play as PlayMethod, Pause}
-use Rattle.rtsp_methods.specs.declared.methods.Method.TheVariants.{Teardown, Setup as SetupMethod, GetParameter}
+use Rattle.rtsp_methods.specs.declared.methods.Method.TheVariants.{Options, Describe}
 use Rattle.rtsp_methods.specs.declared.refusals.Refusal.{Refusal}
-use Rattle.rtsp_methods.specs.declared.refusals.Refusal.TheVariants.{BadRequest, Version, Method as Unknown}
-use Rattle.rtsp_methods.specs.declared.refusals.Refusal.TheVariants.{Option as Required, Session, Film}
-use Rattle.rtsp_methods.specs.declared.refusals.Refusal.TheVariants.{State as NotNow, Transport, Parameter, Buffer}
-use Rattle.rtsp_methods.specs.declared.refusals.Refusal.TheVariants.{Range, Memory}
+use Rattle.rtsp_methods.specs.declared.refusals.Refusal.TheVariants.{Method as Unknown, Option as Required, Session}
+use Rattle.rtsp_methods.specs.declared.refusals.Refusal.TheVariants.{Film, State as NotNow}
 use Rattle.film_streams.specs.declared.setups.Setup.{Setup}
 use Rattle.session.specs.declared.states.State.{State}
-use Rattle.session.specs.declared.states.State.TheVariants.{Init, Ready, Playing, Stopping}
+use Rattle.session.specs.declared.states.State.TheVariants.{Init}
 use Rattle.film_streams.specs.Films.{Names}
 use Rattle.session_laws.specs.MethodLaws.{NamesNoOwnFilm, NamesNoSession, NamesSession, setup_in}
 use Rattle.session_laws.specs.RefusalLaws.{IsKnownMethod, RequiresSomeOption}
@@ -25,26 +22,24 @@ use Rattle.session.specs.RefusalOrder.{FitsFilm, IsJudged, IsOwnFilm, IsReadAs}
 use Rattle.rtsp_methods.specs.RequiredOptions.{first_of, option_of}
 use Rattle.rtsp_replies.specs.Replies.{code_of, refusal_text}
 use Rattle.session.specs.RequestEffects.{HasCode}
-use Rattle.session.specs.RequestSteps.{Hears}
 use Rattle.session.specs.SessionStates.{SessionState, has_session_in}
-use Rattle.session_laws.proofs.MethodLemmas.{CurveCause, IsRange, IsBuffer, IsMemory, cause_as, curve_cause}
-use Rattle.session_laws.proofs.MethodLemmas.{exists_in, fits_session}
+use Rattle.session_laws.proofs.MethodLemmas.{CurveCause, IsRange, IsBuffer, IsMemory, cause_as, curve_cause, exists_in}
+use Rattle.session_laws.proofs.MethodLemmas.{fits_session}
 use Rattle.session.proofs.ReplyCodeLemmas.{ok_text_code, one_code, own_code, refusal_code}
 use Rattle.session.proofs.RequestUniqueness.{NoChannels, NoMeaning, unread}
 use Rattle.session_laws.proofs.RequestReadings.{AreAlike, same_request}
-use Rattle.session.proofs.InitialStateLemmas.{HeardMessage, heard_by}
-use Rattle.session.proofs.RequestCaseAnalysis.{Answer, Replies, SetsUp, StartsPlay, HaltsPlay, StopsPlay, EndsSession}
-use Rattle.session.proofs.RequestCaseAnalysis.{TakesLook, SeeksOffer, OwnReply, ToFault, ToRefused, ToDeclined}
-use Rattle.session.proofs.RequestCaseAnalysis.{ToAsked, ToDescribed, ToConfirmed, ToEmpty, OwnCause, NoSetup, NoPlan}
-use Rattle.session.proofs.RequestCaseAnalysis.{NoMemory, NoSession, NotInPlaying, NoParameter, answer_to, reply_of}
+use Rattle.session.proofs.InitialStateLemmas.{HeardMessage}
+use Rattle.session.proofs.RequestCaseAnalysis.{Answer, Replies, SetsUp, EndsSession, asks_as, OwnReply, ToFault}
+use Rattle.session.proofs.RequestCaseAnalysis.{ToRefused, ToDeclined, OwnCause, NoSetup, NoPlan, NoMemory, NoSession}
+use Rattle.session.proofs.RequestCaseAnalysis.{NotInPlaying, NoParameter, answer_to, reply_of}
 use Rattle.std.specs.Bool.{⊤}
 
 -- what a reply's code says of its request
-abbrev IfIt : Bool → Type 0 → Type 0 → Type 0
+abbrev pub IfIt : Bool → Type 0 → Type 0 → Type 0
 IfIt true p q = p
 IfIt false p q = q
 
-abbrev Causes : SessionState → Request → ℕ → Type 0
+abbrev pub Causes : SessionState → Request → ℕ → Type 0
 Causes old request code = IfIt (code == 501) (¬ IsKnownMethod request)
     (IfIt (code == 551) (RequiresSomeOption request)
     (IfIt (code == 454) (NamesNoSession old request.head.now)
@@ -91,24 +86,16 @@ some_option request None None is its some = absurd (let no : ⊥ = cc (some) in 
 fits_film : (m : Method) (state : State) (film : ℕ) → IsOwnFilm state film → FitsFilm m state film
 fits_film Options state film own = tt
 fits_film Describe state film own = tt
-fits_film SetupMethod state film own = own
-fits_film PlayMethod state film own = own
-fits_film Pause state film own = own
-fits_film Teardown state film own = own
-fits_film GetParameter state film own = own
+fits_film _ state film own = own
 
 not_own : (state : State) (film : ℕ) → ¬ IsOwnFilm state film
     → (setup : Setup) × ((setup_in state ≡ Some setup) × (film ≢ setup.film))
 not_own Init film other = absurd (other tt)
-not_own (Ready setup paused) film other = (setup, (refl, other))
-not_own (Playing setup play) film other = (setup, (refl, other))
-not_own (Stopping setup stop) film other = (setup, (refl, other))
+not_own _ film other = (_, (refl, other))
 
 -- of a request, by another that is alike
 judged_causes : {request other : Request} (old : SessionState) → AreAlike request other → (refusal : Refusal)
     → IsJudged old.films old.id old.state other (Err refusal) → Causes old request (code_of refusal)
-judged_causes old alike BadRequest is = absurd is
-judged_causes old alike Version is = absurd is
 judged_causes old alike Unknown is = λ known. is.none known.0 (alike.method ∙ known.1)
 judged_causes {other} old alike Required is =
     let own = some_option other (header_value other.head.now (codes "Require"))
@@ -131,16 +118,12 @@ judged_causes old alike Film is = λ authority film named. not_own old.state fil
   ),
 ))
 judged_causes old alike NotNow is = tt
-judged_causes old alike Transport is = absurd is
-judged_causes old alike Parameter is = absurd is
-judged_causes old alike (Buffer least) is = absurd is
-judged_causes old alike Range is = absurd is
-judged_causes old alike Memory is = absurd is
+judged_causes old alike _ is = absurd is
 
 -- ---- the code of a reply
 
 -- a request that was read from a message, and its reply
-record CodedRequest (h : HeardMessage) (request : Request) (code : ℕ) : Type 0 where
+pub record CodedRequest (h : HeardMessage) (request : Request) (code : ℕ) : Type 0 where
   pub read : IsReadAs h.message request
   pub small : code < 1000
   pub has : HasCode code h.new.text
@@ -176,48 +159,17 @@ own_coded {h} {request} reply (ToRefused other refusal read judged) is =
 own_coded {h} {request} reply (ToDeclined other refusal read cause) is =
     coded (code_of refusal) reply (own_code refusal).small (has_code refusal (Some other.sequence) [] is)
     (own_causes request cause)
-own_coded {h} reply (ToAsked taken) is = says reply (has_200 (Some taken.request.sequence) _ [] is)
-own_coded {h} reply (ToDescribed asked taken stored at) is = says reply (has_200 (Some taken.request.sequence) _ _ is)
-own_coded {h} reply (ToConfirmed asked taken) is = says reply (has_200 (Some taken.request.sequence) _ [] is)
-own_coded {h} reply (ToEmpty taken) is = says reply (has_200 (Some taken.request.sequence) _ [] is)
+own_coded reply _ is = says reply (has_200 _ _ _ is)
 
 answer_causes : {request : Request} {code : ℕ} (h : HeardMessage) → CodedRequest h request code → h.ask ≡ Reply
     → Answer h → Causes h.old request code
 answer_causes h reply alone (Replies own is) = own_coded reply own (ap (λ (s : SessionState). s.text) is.1)
 answer_causes h reply alone (SetsUp film taken setup asks is) =
     says reply (has_200 (Some taken.request.sequence) _ [] (ap (λ (s : SessionState). s.text) is.1))
-answer_causes h reply alone (StartsPlay play planned asks planned_is) =
-    absurd (let no : ⊥ = cc (asks.command, alone) in no)
-answer_causes h reply alone (HaltsPlay taken hand is) = absurd (let no : ⊥ = cc (is.asks.command, alone) in no)
-answer_causes h reply alone (StopsPlay taken hand is) = absurd (let no : ⊥ = cc (is.command, alone) in no)
 answer_causes h reply alone (EndsSession taken is) =
     says reply (has_200 (Some taken.request.sequence) _ [] (ap (λ (s : SessionState). s.text) is.1))
-answer_causes h reply alone (TakesLook taken look) = absurd (let no : ⊥ = cc (look.command, alone) in no)
-answer_causes h reply alone (SeeksOffer offer planned is asks) =
-    absurd (let no : ⊥ = cc (asks.command, alone) in no)
+answer_causes h reply alone answer = absurd (let no : ⊥ = cc (asks_as answer, alone) in no)
 
-causes_of : {old new : SessionState} {message : List ℕ} {request : Request} (code : ℕ) (hears : Hears old message Reply
-    new)
-    → CodedRequest (heard_by hears) request code → Causes old request code
-causes_of {old} {new} {message} code hears reply =
-    answer_causes (heard_by hears) reply refl (answer_to (heard_by hears))
-
-pub method_cause : (old new : SessionState) (message : List ℕ) (request : Request) → Hears old message Reply new
-    → IsReadAs message request → HasCode 501 new.text → ¬ IsKnownMethod request
-method_cause old new message request hears is has =
-    causes_of {request = request} 501 hears (record { read = is; small = omega arith; has = has })
-
-pub option_cause : (old new : SessionState) (message : List ℕ) (request : Request) → Hears old message Reply new
-    → IsReadAs message request → HasCode 551 new.text → RequiresSomeOption request
-option_cause old new message request hears is has =
-    causes_of {request = request} 551 hears (record { read = is; small = omega arith; has = has })
-
-pub session_cause : (old new : SessionState) (message : List ℕ) (request : Request) → Hears old message Reply new
-    → IsReadAs message request → HasCode 454 new.text → NamesNoSession old request.head.now
-session_cause old new message request hears is has =
-    causes_of {request = request} 454 hears (record { read = is; small = omega arith; has = has })
-
-pub film_cause : (old new : SessionState) (message : List ℕ) (request : Request) → Hears old message Reply new
-    → IsReadAs message request → HasCode 404 new.text → NamesNoOwnFilm old request.url.now
-film_cause old new message request hears is has =
-    causes_of {request = request} 404 hears (record { read = is; small = omega arith; has = has })
+pub causes_of : {h : HeardMessage} (request : Request) (code : ℕ) → h.ask ≡ Reply → CodedRequest h request code
+    → Causes h.old request code
+causes_of {h} request code alone reply = answer_causes h reply alone (answer_to h)

@@ -11,7 +11,7 @@ use Rattle.session.specs.declared.states.Awaited.TheVariants.{Nothing, Play}
 use Rattle.session.specs.declared.states.Prepared.{Prepared}
 use Rattle.film_streams.specs.declared.setups.Setup.{Setup}
 use Rattle.session.specs.declared.states.State.{State}
-use Rattle.session.specs.declared.states.State.TheVariants.{Init, Ready, Playing, Stopping}
+use Rattle.session.specs.declared.states.State.TheVariants.{Ready, Playing}
 use Rattle.film_streams.specs.Films.{IsFilmAt, Names}
 use Rattle.session.specs.Methods.{IsSetUp, Ends, TearsDown, play_front}
 use Rattle.session_laws.specs.MethodLaws.{setup_in}
@@ -158,12 +158,10 @@ ends_alone h sequence ends =
 
 tears_in : (h : HeardMessage) (sequence : ℕ) (state : State) → h.old.state ≡ state
     → TearsDown state h.old sequence h.ask h.new → IsTornAnswered h.old sequence h.new
-tears_in h sequence Init same tears = ends_alone h sequence tears
-tears_in h sequence (Ready setup paused) same tears = ends_alone h sequence tears
 tears_in h sequence (Playing setup play) same tears =
     subst (IsTornAnswered h.old sequence) (sym tears.state)
     (record { text = refl; films = refl; id = refl; setup = sym (ap setup_in same) })
-tears_in h sequence (Stopping setup stop) same tears = ends_alone h sequence tears
+tears_in h sequence _ same tears = ends_alone h sequence tears
 
 torn_call : (c : HeardCall (codes "TEARDOWN")) → IsOwnTeardown c.h.old c.url c.head
     → IsTornAnswered c.h.old c.sequence c.h.new

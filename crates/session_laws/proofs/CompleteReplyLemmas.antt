@@ -1,7 +1,7 @@
 -- Each reply of a session is a complete message.
 use Rattle.std.proofs.Common.{◌≡◌, ℕ, ◌+◌, ◌-◌, ◌*◌, ◌^◌, ◌<◌, ◌≤◌, ◌&&◌, Bool, true, suc, zero, nat_lt, nat_le, List}
-use Rattle.std.proofs.Common.{[], ◌∷◌, codes, cond, eqb, get_or, le_refl, length, slice_index, string_bytes, sum}
-use Rattle.std.proofs.Common.{drop, Option, Some, None, Ok, Err, refl, sym, ap, subst, ◌∙◌, arith, inl, inr}
+use Rattle.std.proofs.Common.{[], ◌∷◌, codes, cond, eqb, get_or, le_refl, length, slice_index, string_bytes, sum, drop}
+use Rattle.std.proofs.Common.{Option, Some, None, Ok, Err, refl, sym, ap, subst, ◌∙◌, arith, inl, inr}
 use Rattle.std.specs.Prelude.{IfSome}
 use Rattle.std.specs.List.{list_all}
 use Rattle.std.specs.Str.Parse.{digits_value}
@@ -22,8 +22,8 @@ use Rattle.mpeg_scan.specs.declared.units.Unit.{Unit as PictureUnit}
 use Rattle.mpeg_scan.proofs.FilmBoundLemmas.{film-pictures, film-units}
 use Rattle.wire_curve.specs.FilmCurves.{bytes_used_in, due_slot}
 use Rattle.wire_curve.specs.declared.film.CurveRefused.{CurveRefused}
-use Rattle.wire_curve.specs.declared.film.CurveRefused.TheVariants.{Fault, NoMemory}
-use Rattle.wire_curve.specs.declared.film.CurveFault.TheVariants.{NoPictures, TooManySlots, BufferTooSmall}
+use Rattle.wire_curve.specs.declared.film.CurveRefused.TheVariants.{Fault}
+use Rattle.wire_curve.specs.declared.film.CurveFault.TheVariants.{BufferTooSmall}
 use Rattle.wire_curve.specs.declared.film.Timing.{Timing}
 use Rattle.wire_curve.specs.CurveFaults.{IsRefused as HaveNoCurves}
 use Rattle.wire_curve.proofs.PictureSums.{sum_by-range-all, sum_by-range-le}
@@ -37,8 +37,7 @@ use Rattle.rtsp_text.specs.Fields.{first_sequence, header_value}
 use Rattle.rtsp_text.specs.Lines.{header_lines}
 use Rattle.rtsp_text.specs.declared.requests.Request.{Request}
 use Rattle.rtsp_text.specs.declared.requests.RequestFault.{RequestFault}
-use Rattle.rtsp_text.specs.declared.requests.RequestFault.TheVariants.{BadLine, BadVersion, BadHeader}
-use Rattle.rtsp_text.specs.declared.requests.RequestFault.TheVariants.{NoSequenceNumber, BadLength}
+use Rattle.rtsp_text.specs.declared.requests.RequestFault.TheVariants.{BadLine}
 use Rattle.rtsp_text.proofs.RequestBounds.{read_url}
 use Rattle.rtsp_text.proofs.FirstField.{first_tells, number_tells}
 use Rattle.rtsp_text.proofs.LineBounds.{value_inside}
@@ -182,8 +181,6 @@ rest_fits stored run =
 
 curves_fit : (stored : Stored) (run : Run) (timing : Timing) (refused : CurveRefused)
     → HaveNoCurves (rest_sizes (stored_sizes stored) run) timing refused → HasFitLeast (curve_refusal refused)
-curves_fit stored run timing (Fault NoPictures) none least same = absurd (let no : ⊥ = cc in no)
-curves_fit stored run timing (Fault (TooManySlots slots)) none least same = absurd (let no : ⊥ = cc in no)
 curves_fit stored run timing (Fault (BufferTooSmall slot used own)) none least same =
     let is : own ≡ least = cc in
     let reached = none.2.reached in
@@ -195,7 +192,7 @@ curves_fit stored run timing (Fault (BufferTooSmall slot used own)) none least s
           (stored_sizes stored) run) timing reached.0,
       rest_fits stored run,
     )
-curves_fit stored run timing NoMemory none least same = absurd (let no : ⊥ = cc in no)
+curves_fit stored run timing _ none least same = absurd (let no : ⊥ = cc in no)
 
 planned_fits : (old : SessionState) (setup : Setup) (paused : Option Run) (range : Option (List ℕ)) (refusal : Refusal)
     → IsPlanned old setup paused range (Err refusal) → HasFitLeast refusal
@@ -208,10 +205,7 @@ planned_fits old setup paused range refusal (inr no_plan) least same =
 
 fault_fits : (fault : RequestFault) → HasFitLeast (fault_refusal fault)
 fault_fits BadLine least same = absurd (let no : ⊥ = cc in no)
-fault_fits BadVersion least same = absurd (let no : ⊥ = cc in no)
-fault_fits (BadHeader line) least same = absurd (let no : ⊥ = cc in no)
-fault_fits NoSequenceNumber least same = absurd (let no : ⊥ = cc in no)
-fault_fits BadLength least same = absurd (let no : ⊥ = cc in no)
+fault_fits _ least same = absurd (let no : ⊥ = cc in no)
 
 -- the channels of a SETUP are small
 channels_small : {text : List ℕ} (channels : Channels) → AreNamedChannels text channels → AreSmall channels

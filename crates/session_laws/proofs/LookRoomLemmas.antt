@@ -7,8 +7,8 @@ use Rattle.rtsp_methods.specs.declared.topics.Topic.TheVariants.{Booked, Offer a
 use Rattle.session.specs.RequestSteps.{new_session_state}
 use Rattle.rtsp_methods.specs.Methods.{IsWord}
 use Rattle.session.specs.Laws.{Is500, MayRunOutOfMemory}
-use Rattle.session.specs.LookLaws.{SessionEvent, Message, Admission, Overflow, Full, Halt, Look, Offer, Slot, Sending}
-use Rattle.session.specs.LookLaws.{AreAfter, AsksBooked, HasLooksLeft, IsAfter, looks_asked, looks_in, looks_of}
+use Rattle.session.specs.LookLaws.{SessionEvent, Message, Slot, AreAfter, AsksBooked, HasLooksLeft, IsAfter}
+use Rattle.session.specs.LookLaws.{looks_asked, looks_in, looks_of}
 use Rattle.session.specs.SlotSteps.{after_play, is_between, is_sending, is_taken, sent_due, sent_reply, sent_slot}
 use Rattle.session.specs.SlotSteps.{stepped_in}
 use Rattle.session.specs.SessionStates.{SessionState}
@@ -65,17 +65,10 @@ happening_room : (old : SessionState) (happening : SessionEvent) (new : SessionS
     → Keeps (looks_of happening) old new
 happening_room old (Message message ask) new is =
     answer_room (heard_by is) (answer_to (heard_by is))
-happening_room old (Admission place start) new is = same_room old new (ap (λ (s : SessionState). s.looks_left) is)
-happening_room old (Overflow place slot booked asked) new is =
-    same_room old new (ap (λ (s : SessionState). s.looks_left) is)
-happening_room old (Full entries live) new is = same_room old new (ap (λ (s : SessionState). s.looks_left) is)
-happening_room old (Halt place) new is = same_room old new (ap (λ (s : SessionState). s.looks_left) is)
-happening_room old (Look place now at booked) new is = same_room old new (ap (λ (s : SessionState). s.looks_left) is)
-happening_room old (Offer note) new is = same_room old new (ap (λ (s : SessionState). s.looks_left) is)
 happening_room old (Slot slot) new is =
     same_room old new (ap (λ (s : SessionState). s.looks_left) is ∙ slot_room (is_taken old slot)
     (is_sending old.state) old slot)
-happening_room old Sending new is = same_room old new (ap (λ (s : SessionState). s.looks_left) is)
+happening_room old _ new is = same_room old new (ap (λ (s : SessionState). s.looks_left) is)
 
 all_room : (happenings : List SessionEvent) (old new : SessionState) → AreAfter old happenings new
     → Keeps (looks_asked happenings) old new

@@ -1,12 +1,12 @@
 -- What each method does for a request that nothing refuses.
 use Rattle.std.specs.Prelude.{⊤}
-use Rattle.std.proofs.Common.{◌≡◌, ◌≢◌, ℕ, ◌⊎◌, Bool, true, List, [], codes, string_bytes, Option, Some, None}
-use Rattle.std.proofs.Common.{is_some, Result, Ok, Err, refl, sym, ap, subst, ◌∙◌, inl, inr, arith}
+use Rattle.std.proofs.Common.{◌≡◌, ◌≢◌, ℕ, ◌⊎◌, Bool, true, List, [], codes, string_bytes, Option, Some, None, is_some}
+use Rattle.std.proofs.Common.{Result, Ok, Err, refl, sym, ap, subst, ◌∙◌, inl, inr, arith}
 use Rattle.vod_base.specs.declared.limits.TheConstants.{MAX_BYTES, MAX_DELAY}
 use Rattle.vod_base.specs.Names.{good_name}
 use Rattle.wire_curve.specs.declared.film.CurveRefused.{CurveRefused}
 use Rattle.wire_curve.specs.declared.film.CurveRefused.TheVariants.{Fault, NoMemory as CurveMemory}
-use Rattle.wire_curve.specs.declared.film.CurveFault.TheVariants.{NoPictures, TooManySlots, BufferTooSmall}
+use Rattle.wire_curve.specs.declared.film.CurveFault.TheVariants.{BufferTooSmall}
 use Rattle.film_frames.specs.declared.stored_films.Stored.{Stored}
 use Rattle.film_run.specs.declared.runs.Run.{Run}
 use Rattle.rtsp_text.specs.Fields.{header_value}
@@ -27,20 +27,19 @@ use Rattle.rtsp_methods.specs.declared.refusals.Refusal.TheVariants.{Parameter, 
 use Rattle.session.specs.declared.states.Awaited.TheVariants.{Play as ToAwaitPlay}
 use Rattle.film_streams.specs.declared.setups.Setup.{Setup}
 use Rattle.session.specs.declared.states.State.{State}
-use Rattle.session.specs.declared.states.State.TheVariants.{Init, Ready, Playing, Stopping}
+use Rattle.session.specs.declared.states.State.TheVariants.{Init, Ready}
 use Rattle.session_laws.specs.EndLaws.{HasSessionInReply}
 use Rattle.film_streams.specs.Films.{Names}
 use Rattle.film_streams.specs.StreamNumbers.{identity_of}
 use Rattle.session_laws.specs.MethodLaws.{AnswersAlone, GivesChannels, GivesNumber, HasBadNumber, IsDescribeRequest}
-use Rattle.session_laws.specs.MethodLaws.{IsFilmDescribed, IsFilmMethod, IsLookAsked, IsOfferAskedOf}
-use Rattle.session_laws.specs.MethodLaws.{IsOptionsAnswered, IsParameterRequest, IsPlainMessage, IsPlayAskedOf}
-use Rattle.session_laws.specs.MethodLaws.{IsPlayConfirmed, IsPlayRequest, IsRefusedFor, IsSetupAnswered}
-use Rattle.session_laws.specs.MethodLaws.{IsSetupRequest, IsUnknownBody, MayNameSession, NamesOtherFilm, NamesSession}
-use Rattle.session_laws.specs.MethodLaws.{PlanRefusal, NoMeaning, NoCurves, SmallBuffer, NoMemory, SettlesSetup}
-use Rattle.session_laws.specs.MethodLaws.{setup_in}
-use Rattle.session.specs.Methods.{AsksOfferOr, AsksPlay, AsksPlayOr, Describes, GetsOffer, GetsParameter, Gets}
-use Rattle.session.specs.Methods.{HasWait, IsRefused, IsReplied, IsSetUp, IsWaitOf, Looks, Plays, PlaysReady, SetsUp}
-use Rattle.session.specs.Methods.{play_call, play_front, prepared_of, OffersReady}
+use Rattle.session_laws.specs.MethodLaws.{IsFilmDescribed, IsFilmMethod, IsLookAsked, IsOfferAskedOf, IsOptionsAnswered}
+use Rattle.session_laws.specs.MethodLaws.{IsParameterRequest, IsPlainMessage, IsPlayAskedOf, IsPlayConfirmed}
+use Rattle.session_laws.specs.MethodLaws.{IsPlayRequest, IsRefusedFor, IsSetupAnswered, IsSetupRequest, IsUnknownBody}
+use Rattle.session_laws.specs.MethodLaws.{MayNameSession, NamesOtherFilm, NamesSession, PlanRefusal, NoMeaning}
+use Rattle.session_laws.specs.MethodLaws.{NoCurves, SmallBuffer, NoMemory, SettlesSetup, setup_in}
+use Rattle.session.specs.Methods.{AsksOfferOr, AsksPlay, AsksPlayOr, Describes, GetsOffer, GetsParameter, Gets, HasWait}
+use Rattle.session.specs.Methods.{IsRefused, IsReplied, IsSetUp, IsWaitOf, Looks, Plays, PlaysReady, SetsUp, play_call}
+use Rattle.session.specs.Methods.{play_front, prepared_of, OffersReady}
 use Rattle.session.specs.OfferLaws.{IsLeastBufferReply, IsWaitIn}
 use Rattle.rtsp_replies.specs.PublicLaws.{IsPublicTold}
 use Rattle.session_laws.specs.RefusalLaws.{IsRefusedBy}
@@ -76,15 +75,11 @@ spoken_of {request} m plain = record {
 
 pub exists_in : (s : State) (setup : Setup) → setup_in s ≡ Some setup → has_session_in s ≡ true
 exists_in Init setup is = absurd (let no : ⊥ = cc in no)
-exists_in (Ready own paused) setup is = refl
-exists_in (Playing own play) setup is = refl
-exists_in (Stopping own stop) setup is = refl
+exists_in _ setup is = refl
 
 pub own_film : (s : State) (film : ℕ) → ((setup : Setup) → setup_in s ≡ Some setup → film ≡ setup.film) → IsOwnFilm s film
 own_film Init film own = tt
-own_film (Ready setup paused) film own = own setup refl
-own_film (Playing setup play) film own = own setup refl
-own_film (Stopping setup stop) film own = own setup refl
+own_film _ film own = own _ refl
 
 setup_once : (one other : Setup) → Some one ≡ Some other → one ≡ other
 setup_once one other is = cc
@@ -96,9 +91,7 @@ its_film {setup} s set =
 
 film_of : (s : State) (setup : Setup) (film : ℕ) → setup_in s ≡ Some setup → IsOwnFilm s film → film ≡ setup.film
 film_of Init setup film is own = absurd (let no : ⊥ = cc in no)
-film_of (Ready other paused) setup film is own = own ∙ ap (λ (t : Setup). t.film) (setup_once other setup is)
-film_of (Playing other play) setup film is own = own ∙ ap (λ (t : Setup). t.film) (setup_once other setup is)
-film_of (Stopping other stop) setup film is own = own ∙ ap (λ (t : Setup). t.film) (setup_once other setup is)
+film_of _ setup film is own = own ∙ ap (λ (t : Setup). t.film) (setup_once _ setup is)
 
 pub own_session : {id head : List ℕ} (exists : Bool) (otherwise : Type 0) → exists ≡ true → NamesSession id head
     → IsOwnSession exists id (header_value head (codes "Session")) otherwise
@@ -322,9 +315,8 @@ pub data CurveCause (refusal : Refusal) : Type 0 where
   IsMemory : refusal ≡ Memory → CurveCause refusal
 
 pub curve_cause : (refused : CurveRefused) → CurveCause (curve_refusal refused)
-curve_cause (Fault NoPictures) = IsRange refl
-curve_cause (Fault (TooManySlots slots)) = IsRange refl
 curve_cause (Fault (BufferTooSmall slot used least)) = IsBuffer least refl
+curve_cause (Fault _) = IsRange refl
 curve_cause CurveMemory = IsMemory refl
 
 pub cause_as : {one other : Refusal} → other ≡ one → CurveCause one → CurveCause other
@@ -639,10 +631,8 @@ pub fits_session : {id head : List ℕ} (m : Method) (exists : Bool) → exists 
 fits_session Options exists is names = tt
 fits_session Describe exists is names = tt
 fits_session SetupMethod exists is names = own_session exists ⊤ is names
-fits_session PlayMethod exists is names = own_session exists ⊥ is names
-fits_session Pause exists is names = own_session exists ⊥ is names
-fits_session Teardown exists is names = own_session exists ⊥ is names
 fits_session GetParameter exists is names = own_session exists ⊤ is names
+fits_session _ exists is names = own_session exists ⊥ is names
 
 -- a request of the session that names another film than that of the session
 pub record NamesOther (h : HeardMessage) (request : Request) : Type 0 where

@@ -1,12 +1,12 @@
 -- What an offer asks for and reports, and the least buffer.
-use Rattle.std.proofs.Common.{◌≡◌, ℕ, List, [], ◌∷◌, ◌++◌, map, flat_map, length, codes, decimal, Option, Some, None}
+use Rattle.std.proofs.Common.{◌≡◌, ℕ, List, [], ◌∷◌, ◌++◌, map, flat_map, codes, decimal, Option, Some, None}
 use Rattle.std.proofs.Common.{append_assoc, refl, sym, ap, subst, ◌∙◌, arith}
 use Rattle.std.proofs.lemmas.List.Concat.{flat_map-cons}
 use Rattle.plan_cert.specs.declared.Segment.{Segment}
 use Rattle.wire_curve.specs.declared.film.Timing.{Timing}
-use Rattle.wire_curve.specs.declared.film.CurveFault.TheVariants.{BufferTooSmall, NoPictures, TooManySlots}
+use Rattle.wire_curve.specs.declared.film.CurveFault.TheVariants.{BufferTooSmall}
 use Rattle.wire_curve.specs.declared.film.CurveRefused.{CurveRefused}
-use Rattle.wire_curve.specs.declared.film.CurveRefused.TheVariants.{Fault, NoMemory}
+use Rattle.wire_curve.specs.declared.film.CurveRefused.TheVariants.{Fault}
 use Rattle.wire_curve.specs.CurveFaults.{IsBufferTooSmall, IsRefused as HaveNoCurves}
 use Rattle.early_start.specs.StartSearch.{Offers}
 use Rattle.early_start.specs.declared.Tried.{Tried}
@@ -21,16 +21,15 @@ use Rattle.rtsp_methods.specs.declared.refusals.Refusal.TheVariants.{Buffer}
 use Rattle.film_streams.specs.declared.setups.Setup.{Setup}
 use Rattle.session.specs.RequestSteps.{after_offer}
 use Rattle.session.specs.Methods.{IsWaitOf}
-use Rattle.session.specs.OfferLaws.{IsLeastBuffer, IsLeastBufferReply, IsOfferAsked, IsOfferReply, IsWaitIn}
-use Rattle.session.specs.OfferLaws.{found_line, tried_line}
+use Rattle.session.specs.OfferLaws.{IsLeastBuffer, IsLeastBufferReply, IsOfferAsked, IsOfferReply, IsWaitIn, found_line}
+use Rattle.session.specs.OfferLaws.{tried_line}
 use Rattle.session.specs.RequestedPlans.{HasNoPlan}
 use Rattle.session.specs.RunRequests.{playback_of, run_of}
 use Rattle.rtsp_methods.specs.Refusals.{curve_refusal}
 use Rattle.rtsp_replies.specs.Replies.{field, joined_parts, offer_body, over_line, refusal_text, start_line}
 use Rattle.session.specs.SessionStates.{SessionState, sequence_of}
 use Rattle.session.proofs.InitialStateLemmas.{HeardMessage}
-use Rattle.session.proofs.RequestCaseAnalysis.{Answer, Replies, SetsUp, StartsPlay, HaltsPlay, StopsPlay, EndsSession}
-use Rattle.session.proofs.RequestCaseAnalysis.{TakesLook, SeeksOffer, answer_to}
+use Rattle.session.proofs.RequestCaseAnalysis.{Answer, SeeksOffer, answer_to, asks_as}
 
 -- ---- what is asked
 
@@ -42,14 +41,6 @@ wait_in head (Some text) wait same is =
 
 answer_asks : {plan : List Segment} {offers : Offers} (h : HeardMessage) → h.ask ≡ AskOffer plan offers → Answer h
     → IsOfferAsked h.old h.message plan offers h.new
-answer_asks h offers_ask (Replies reply is) = absurd (let no : ⊥ = cc (is.0, offers_ask) in no)
-answer_asks h offers_ask (SetsUp film taken setup asks is) = absurd (let no : ⊥ = cc (is.0, offers_ask) in no)
-answer_asks h offers_ask (StartsPlay play planned asks planned_is) =
-    absurd (let no : ⊥ = cc (asks.command, offers_ask) in no)
-answer_asks h offers_ask (HaltsPlay taken hand is) = absurd (let no : ⊥ = cc (is.asks.command, offers_ask) in no)
-answer_asks h offers_ask (StopsPlay taken hand is) = absurd (let no : ⊥ = cc (is.command, offers_ask) in no)
-answer_asks h offers_ask (EndsSession taken is) = absurd (let no : ⊥ = cc (is.0, offers_ask) in no)
-answer_asks h offers_ask (TakesLook taken look) = absurd (let no : ⊥ = cc (look.command, offers_ask) in no)
 answer_asks {plan} {offers} h offers_ask (SeeksOffer offer planned is asks) =
     let request = offer.taken.request in
     let same : offers ≡ asks.offers = cc (asks.command, offers_ask) in
@@ -73,6 +64,7 @@ answer_asks {plan} {offers} h offers_ask (SeeksOffer offer planned is asks) =
       not_tried = ap (λ (o : Offers). o.tried) same ∙ asks.tried_is;
       leaves = asks.state;
     }
+answer_asks h offers_ask answer = absurd (let no : ⊥ = cc (asks_as answer, offers_ask) in no)
 
 pub offer_asked : {plan : List Segment} {offers : Offers} (h : HeardMessage) → h.ask ≡ AskOffer plan offers
     → IsOfferAsked h.old h.message plan offers h.new
@@ -82,7 +74,7 @@ offer_asked h offers_ask = answer_asks h offers_ask (answer_to h)
 
 start_is : (start : Option ℕ) → start_line start ≡ found_line start ++ codes "\r\n"
 start_is None = refl
-start_is (Some start) = refl
+start_is _ = refl
 
 over_lines : (s a b c : List ℕ)
     → joined_parts (codes "x-Over: " ∷ s ∷ codes " " ∷ a ∷ codes " " ∷ b ∷ codes " " ∷ c ∷ codes "\r\n" ∷ [])
@@ -113,8 +105,7 @@ pub offer_told : (old : SessionState) (note : OfferNote)
     → IsOfferReply (sequence_of old.awaited) note.offers (after_offer old note).text
 unfolding value_named
 offer_told old note = record {
-  fields = field (codes "Content-Type") (codes "text/parameters")
-      ∷ field (codes "Content-Length") (decimal (length (offer_body note.offers.start note.offers.tried))) ∷ [];
+  fields = _;
   body = offer_body note.offers.start note.offers.tried;
   text_is = refl;
   kind = refl;
@@ -126,9 +117,6 @@ offer_told old note = record {
 
 least_of : (sizes : List ℕ) (timing : Timing) (refused : CurveRefused) (least : ℕ) → HaveNoCurves sizes timing refused
     → Buffer least ≡ curve_refusal refused → IsLeastBuffer sizes timing least
-least_of sizes timing (Fault NoPictures) least has is = absurd (let no : ⊥ = cc (is) in no)
-least_of sizes timing (Fault (TooManySlots slots)) least has is = absurd (let no : ⊥ = cc (is) in no)
-least_of sizes timing NoMemory least has is = absurd (let no : ⊥ = cc (is) in no)
 least_of sizes timing (Fault (BufferTooSmall slot used most)) least has is =
     let over : IsBufferTooSmall sizes timing slot used most = has.2 in
     let same : most ≡ least = cc (is) in
@@ -140,6 +128,7 @@ least_of sizes timing (Fault (BufferTooSmall slot used most)) least has is =
           omega (arith, holds, reached.2);
     } in
     subst (λ n. IsLeastBuffer sizes timing n) same its
+least_of sizes timing _ least has is = absurd (let no : ⊥ = cc (is) in no)
 
 pub least_buffer : (old : SessionState) (setup : Setup) (paused : Option Run) (range : Option (List ℕ)) (least : ℕ)
     → (is : HasNoPlan old setup paused range (Buffer least))

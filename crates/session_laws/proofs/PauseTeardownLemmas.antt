@@ -12,7 +12,7 @@ use Rattle.session.specs.declared.states.AfterHalt.TheVariants.{Done, Torn}
 use Rattle.session.specs.declared.states.Play.{Play as Played}
 use Rattle.film_streams.specs.declared.setups.Setup.{Setup}
 use Rattle.session.specs.declared.states.State.{State}
-use Rattle.session.specs.declared.states.State.TheVariants.{Init, Ready, Playing, Stopping}
+use Rattle.session.specs.declared.states.State.TheVariants.{Playing}
 use Rattle.session_laws.specs.EndLaws.{CanBePaused, CanBeTornDown, EndsSession, HaltsPlay, HasTeardown, IsPausedPlay}
 use Rattle.session_laws.specs.EndLaws.{IsPause, HasSessionInReply, IsTeardownHeard, IsTornDown}
 use Rattle.session.specs.Laws.{IsTeardown, stage_of}
@@ -20,8 +20,7 @@ use Rattle.session.specs.RequestSteps.{Hears, after_halt, is_torn, new_session_s
 use Rattle.rtsp_methods.specs.declared.methods.Method.{Method}
 use Rattle.rtsp_methods.specs.declared.methods.Method.TheVariants.{Pause, Teardown}
 use Rattle.rtsp_methods.specs.RequiredOptions.{option_of}
-use Rattle.session.specs.LookLaws.{SessionEvent, Message, Admission, Overflow, Full, Halt, Look, Offer, Slot, Sending}
-use Rattle.session.specs.LookLaws.{AreAfter, IsAfter}
+use Rattle.session.specs.LookLaws.{SessionEvent, Message, Halt, Slot, Sending, AreAfter, IsAfter}
 use Rattle.session.specs.Methods.{AsksHalt, Ends, Pauses, TearsDown}
 use Rattle.session_laws.specs.PlayLaws.{IsDeclined}
 use Rattle.rtsp_replies.specs.Replies.{field, session_text}
@@ -67,15 +66,11 @@ torn_reply h sequence is halts ends = record {
 
 tears_in : (h : HeardMessage) (sequence : ℕ) (state : State) → h.old.state ≡ state
     → TearsDown state h.old sequence h.ask h.new → IsTornDown h.old h.ask h.new
-tears_in h sequence Init is tears = torn_reply h sequence is refl tears
-tears_in h sequence (Ready setup paused) is tears = torn_reply h sequence is refl tears
 tears_in h sequence (Playing setup play) is tears = torn_halt h is tears
-tears_in h sequence (Stopping setup stop) is tears = torn_reply h sequence is refl tears
+tears_in h sequence _ is tears = torn_reply h sequence is refl tears
 
 pauses_in : (h : HeardMessage) (sequence : ℕ) (state : State) → h.old.state ≡ state
     → Pauses state h.old sequence h.ask h.new → IsPausedPlay h.old h.ask h.new
-pauses_in h sequence Init is pauses = absurd pauses
-pauses_in h sequence (Ready setup paused) is pauses = absurd pauses
 pauses_in h sequence (Playing setup play) is pauses = record {
   setup = setup;
   play = play;
@@ -93,7 +88,7 @@ pauses_in h sequence (Playing setup play) is pauses = record {
   left_is = pauses.left_is;
   state = λ place. ap (λ (s : SessionState). (sent_reply (after_halt s place)).state) pauses.asks.state;
 }
-pauses_in h sequence (Stopping setup stop) is pauses = absurd pauses
+pauses_in h sequence _ is pauses = absurd pauses
 
 -- a message of a method is declined, or comes to what its request does
 declined_or : {h : HeardMessage} {request : Request} {m : Method} {P : Type 0} → HeardMethod h request m
@@ -204,15 +199,11 @@ happening_calm : (old : SessionState) (happening : SessionEvent) (new : SessionS
     → IsTeardownHeard happening ⊎ IsCalm new
 happening_calm old (Message message ask) new is calm =
     answer_calm (heard_by is) calm (answer_to (heard_by is))
-happening_calm old (Admission place start) new is calm = inr (same_calm calm is refl refl refl)
-happening_calm old (Overflow place slot booked asked) new is calm = inr (same_calm calm is refl refl refl)
-happening_calm old (Full entries live) new is calm = inr (same_calm calm is refl refl refl)
 happening_calm old (Halt place) new is calm = inr (subst IsCalm (sym is) (halt_calm old place calm))
-happening_calm old (Look place now at booked) new is calm = inr (same_calm calm is refl refl refl)
-happening_calm old (Offer note) new is calm = inr (same_calm calm is refl refl refl)
 happening_calm old (Slot slot) new is calm =
     inr (subst IsCalm (sym is) (slot_calm (is_taken old slot) (is_sending old.state) old slot calm))
 happening_calm old Sending new is calm = inr (subst IsCalm (sym is) (reply_calm old calm))
+happening_calm old _ new is calm = inr (same_calm calm is refl refl refl)
 
 all_calm : (happenings : List SessionEvent) (old new : SessionState) → AreAfter old happenings new → IsCalm old
     → HasTeardown happenings ⊎ IsCalm new

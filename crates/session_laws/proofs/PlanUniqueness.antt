@@ -104,13 +104,9 @@ wanted_once {one = Resumed run} {other = Resumed other} film (Some paused) Now t
     ap (λ r. Resumed r) (its ∙ sym is)
 wanted_once {one = Resumed run} {other = New other} film (Some paused) Now to is its = absurd its
 wanted_once {one = New run} {other} film (Some paused) Now to is its = absurd is
-wanted_once {one = Resumed run} {other} film None (At time) to is its = absurd is
-wanted_once {one = New run} {other = Resumed other} film None (At time) to is its = absurd its
-wanted_once {one = New run} {other = New other} film None (At time) to is its = ap (λ r. New r) (asked_once is its)
-wanted_once {one = Resumed run} {other} film (Some paused) (At time) to is its = absurd is
-wanted_once {one = New run} {other = Resumed other} film (Some paused) (At time) to is its = absurd its
-wanted_once {one = New run} {other = New other} film (Some paused) (At time) to is its =
-    ap (λ r. New r) (asked_once is its)
+wanted_once {one = Resumed run} {other} film paused (At time) to is its = absurd is
+wanted_once {one = New run} {other = Resumed other} film paused (At time) to is its = absurd its
+wanted_once {one = New run} {other = New other} film paused (At time) to is its = ap (λ r. New r) (asked_once is its)
 
 asked_run_once : {film : Film} {paused : Option Run} {range : Option (List ℕ)} {one other : PlayRequest}
     → IsAskedRun film paused range one
@@ -126,10 +122,8 @@ wants_some : (film : Film) (paused : Option Run) (from : Origin) (to : Option �
 wants_some film None Now to (Resumed run) is none = is
 wants_some film None Now to (New run) is none = is.some none
 wants_some film (Some paused) Now to wanted is none = none
-wants_some film None (At time) to (Resumed run) is none = is
-wants_some film None (At time) to (New run) is none = is.some none
-wants_some film (Some paused) (At time) to (Resumed run) is none = is
-wants_some film (Some paused) (At time) to (New run) is none = is.some none
+wants_some film paused (At time) to (Resumed run) is none = is
+wants_some film paused (At time) to (New run) is none = is.some none
 
 asks_some : (film : Film) (paused : Option Run) (range : Option (List ℕ)) (wanted : PlayRequest)
     → IsAskedRun film paused range wanted
@@ -155,12 +149,8 @@ curves_once : (sizes : List ℕ) (timing : Timing) (one other : CurveRefused) �
     → Refuses one other
 curves_once sizes timing NoMemory other is its = inr (inl refl)
 curves_once sizes timing (Fault fault) NoMemory is its = inr (inr refl)
-curves_once sizes timing (Fault NoPictures) (Fault NoPictures) is its = inl refl
-curves_once sizes timing (Fault NoPictures) (Fault (TooManySlots slots)) is its = inl refl
 curves_once sizes timing (Fault NoPictures) (Fault (BufferTooSmall slot used least)) is its =
     absurd (let some = its.0 in omega (arith, is, some))
-curves_once sizes timing (Fault (TooManySlots slots)) (Fault NoPictures) is its = inl refl
-curves_once sizes timing (Fault (TooManySlots slots)) (Fault (TooManySlots n)) is its = inl refl
 curves_once sizes timing (Fault (TooManySlots slots)) (Fault (BufferTooSmall slot used least)) is its =
     absurd (let many = is.2 in let same = is.1 in let few = its.1 in omega (arith, many, same, few))
 curves_once sizes timing (Fault (BufferTooSmall slot used least)) (Fault NoPictures) is its =
@@ -172,6 +162,7 @@ curves_once sizes timing (Fault (BufferTooSmall slot used least)) (Fault (Buffer
     let above = least_once its.2 is.2 in
     inl (ap (λ n. curve_refusal (Fault (BufferTooSmall 0 0 n)))
     (let same : least' ≡ least = omega (arith, below, above) in same))
+curves_once sizes timing (Fault _) (Fault _) is its = inl refl
 
 accepted_once : (sizes : List ℕ) (timing : Timing) (refused : CurveRefused) → IsAccepted sizes timing
     → IsRefused sizes timing refused

@@ -16,19 +16,19 @@ use Rattle.pacer.specs.PacerStates.{IsPacerState, next_boundary, new_pacer_state
 use Rattle.pacer.proofs.PacerStateLemmas.{boundary-from}
 use Rattle.session.specs.declared.commands.Ask.TheVariants.{Halt as AskHalt}
 use Rattle.session.specs.declared.states.Awaited.{Awaited}
-use Rattle.session.specs.declared.states.Awaited.TheVariants.{Nothing, Play, Halt, Look, Offer}
+use Rattle.session.specs.declared.states.Awaited.TheVariants.{Nothing, Play, Halt}
 use Rattle.film_streams.specs.declared.stream_numbers.Counts.{Counts}
 use Rattle.session.specs.declared.states.AfterHalt.{AfterHalt}
-use Rattle.session.specs.declared.states.AfterHalt.TheVariants.{Done, Paused, Torn}
+use Rattle.session.specs.declared.states.AfterHalt.TheVariants.{Done}
 use Rattle.session.specs.declared.states.Play.{Play as Played}
 use Rattle.session.specs.declared.states.State.{State}
-use Rattle.session.specs.declared.states.State.TheVariants.{Init, Ready, Playing, Stopping}
+use Rattle.session.specs.declared.states.State.TheVariants.{Ready, Playing}
 use Rattle.session.specs.RunRequests.{sending_of, IsPlayable}
 use Rattle.film_streams.specs.Films.{IsFilmAt}
 use Rattle.film_streams.specs.StreamNumbers.{counts_after, identity_of}
 use Rattle.session.specs.RequestEffects.{IsPlayAsked}
-use Rattle.session.specs.RequestSteps.{after_admission, after_halt, counts_of, counts_done, counts_next}
-use Rattle.session.specs.RequestSteps.{halted_counts, is_answered}
+use Rattle.session.specs.RequestSteps.{after_admission, after_halt, counts_of, counts_done, counts_next, halted_counts}
+use Rattle.session.specs.RequestSteps.{is_answered}
 use Rattle.session.specs.Laws.{GoesOn}
 use Rattle.session.specs.Methods.{prepared_of}
 use Rattle.session_laws.specs.PlayLaws.{HasCountedAll, IsNoted, IsSentAsAsked, KeepsToBoundary}
@@ -37,8 +37,7 @@ use Rattle.session.specs.SessionStates.{HaltAnswer, SessionState, awaited_answer
 use Rattle.session.proofs.StepInvariantLemmas.{nothing_of}
 use Rattle.session.proofs.InitialStateLemmas.{HeardMessage, PlayInHand}
 use Rattle.session_laws.proofs.RtpNumberLemmas.{identity_goes_on}
-use Rattle.session.proofs.RequestCaseAnalysis.{Answer, Replies, SetsUp, StartsPlay, HaltsPlay, StopsPlay, EndsSession}
-use Rattle.session.proofs.RequestCaseAnalysis.{TakesLook, SeeksOffer, answer_to}
+use Rattle.session.proofs.RequestCaseAnalysis.{Answer, HaltsPlay, StopsPlay, answer_to, asks_as}
 use Rattle.film_streams.specs.declared.setups.Setup.{Setup}
 use Rattle.session.specs.ResumedPlays.{IsPacedPlay}
 use Rattle.session.specs.SessionInvariant.{IsAwaitedInvariant, IsSoundState, IsStateInvariant, SessionContext}
@@ -65,11 +64,9 @@ due_within play paced =
 kept_within : (own : SessionContext) (lost : Bool) (setup : Setup) (play : Played) (awaited : Awaited)
     → IsAwaitedInvariant own lost (Playing setup play) awaited → play.pacer.due ≤ total_bytes play.plan
     → kept_of awaited play.pacer.due ≤ total_bytes play.plan
-kept_within own lost setup play Nothing is due = due
 kept_within own lost setup play (Play prepared) is due = absurd is
 kept_within own lost setup play (Halt keep next) is due = is.0
-kept_within own lost setup play (Look sequence) is due = due
-kept_within own lost setup play (Offer sequence) is due = due
+kept_within own lost setup play _ is due = due
 
 -- a halt keeps no more than the play's plan has
 pub sound_kept : {old : SessionState} (hand : PlayInHand old) → IsSoundState old
@@ -117,10 +114,8 @@ kept_at play is =
 
 -- the play of a state in Playing
 abbrev play_in : State → Played → Played
-play_in Init other = other
-play_in (Ready setup paused) other = other
 play_in (Playing setup play) other = play
-play_in (Stopping setup stop) other = other
+play_in _ other = other
 
 -- a halt that is asked for keeps a play up to its next boundary
 halt_kept : {old : SessionState} {keep : ℕ} (hand own : PlayInHand old) → keep ≡ next_boundary own.play.pacer
@@ -132,18 +127,11 @@ halt_kept hand own keeps pacing =
 
 answer_halts : {keep : ℕ} (h : HeardMessage) → h.ask ≡ AskHalt keep → (hand : PlayInHand h.old)
     → IsPacerState hand.play.pacer → Answer h → KeepsToBoundary hand.play keep
-answer_halts h halt hand pacing (Replies reply is) = absurd (let no : ⊥ = cc (is.0, halt) in no)
-answer_halts h halt hand pacing (SetsUp film taken setup asks is) = absurd (let no : ⊥ = cc (is.0, halt) in no)
-answer_halts h halt hand pacing (StartsPlay play planned asks planned_is) =
-    absurd (let no : ⊥ = cc (asks.command, halt) in no)
 answer_halts {keep} h halt hand pacing (HaltsPlay taken own is) =
     halt_kept hand own (let asked : keep ≡ is.asks.keep = cc (is.asks.command, halt) in asked ∙ is.asks.keep_is) pacing
 answer_halts {keep} h halt hand pacing (StopsPlay taken own is) =
     halt_kept hand own (let asked : keep ≡ is.keep = cc (is.command, halt) in asked ∙ is.keep_is) pacing
-answer_halts h halt hand pacing (EndsSession taken is) = absurd (let no : ⊥ = cc (is.0, halt) in no)
-answer_halts h halt hand pacing (TakesLook taken look) = absurd (let no : ⊥ = cc (look.command, halt) in no)
-answer_halts h halt hand pacing (SeeksOffer offer planned is asks) =
-    absurd (let no : ⊥ = cc (asks.command, halt) in no)
+answer_halts h halt hand pacing answer = absurd (let no : ⊥ = cc (asks_as answer, halt) in no)
 
 pub halts_at_boundary : (heard : HeardMessage) (keep : ℕ) → heard.ask ≡ AskHalt keep → (hand : PlayInHand heard.old)
     → IsPacerState hand.play.pacer → KeepsToBoundary hand.play keep
@@ -167,8 +155,7 @@ all_sent sending =
 counts_of_done : (counts done : Counts) (next : AfterHalt) → is_answered next ≡ false → counts_next counts done next ≡
     done
 counts_of_done counts done Done none = refl
-counts_of_done counts done (Paused run) none = absurd (let no : ⊥ = cc in no)
-counts_of_done counts done Torn none = absurd (let no : ⊥ = cc in no)
+counts_of_done counts done _ none = absurd (let no : ⊥ = cc in no)
 
 pub run_counted : {stored : Stored} (old : SessionState) (place : ℕ) (hand : PlayInHand old)
     → is_answered (next_of old.awaited) ≡ false → IsFilmAt old.films hand.setup.film stored
@@ -202,11 +189,8 @@ run_counted {stored} old place hand none at all =
 
 kept_asked : (awaited : Awaited) (due keep : ℕ) → awaited_answer_of awaited ≡ HaltAnswer keep
     → kept_of awaited due ≡ keep
-kept_asked Nothing due keep is = absurd (let no : ⊥ = cc in no)
-kept_asked (Play prepared) due keep is = absurd (let no : ⊥ = cc in no)
 kept_asked (Halt other next) due keep is = cc
-kept_asked (Look sequence) due keep is = absurd (let no : ⊥ = cc in no)
-kept_asked (Offer sequence) due keep is = absurd (let no : ⊥ = cc in no)
+kept_asked _ due keep is = absurd (let no : ⊥ = cc in no)
 
 pub play_noted : (old : SessionState) (place : ℕ) (stored : Stored) (hand : PlayInHand old)
     → IsPlayable stored old.source old.settings hand.setup old.counts hand.play.run hand.play.plan

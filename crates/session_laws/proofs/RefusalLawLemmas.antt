@@ -1,7 +1,7 @@
 -- The refusals that all methods share, by their codes; a PLAY with a Range in Playing, and what one
 -- without a Range, or from now on, plays.
-use Rattle.std.proofs.Common.{◌≡◌, ℕ, length, ◌*◌, ◌≤◌, Bool, true, List, Option, Some, None, is_some, codes, Err}
-use Rattle.std.proofs.Common.{refl, sym, ap, subst, ◌∙◌, inl, inr, arith}
+use Rattle.std.proofs.Common.{◌≡◌, ℕ, length, ◌*◌, ◌≤◌, Bool, true, List, Option, Some, None, is_some, codes, Err, refl}
+use Rattle.std.proofs.Common.{sym, ap, subst, ◌∙◌, inl, inr, arith}
 use Rattle.std.specs.Bool.{⊤}
 use Rattle.mpeg_scan.specs.declared.films.Film.{Film}
 use Rattle.mpeg_scan.specs.PictureRates.{picture_time}
@@ -16,16 +16,13 @@ use Rattle.rtsp_text.specs.Fields.{header_value}
 use Rattle.rtsp_text.specs.declared.requests.Request.{Request}
 use Rattle.session.specs.declared.commands.Ask.{Ask}
 use Rattle.rtsp_methods.specs.declared.methods.Method.{Method}
-use Rattle.rtsp_methods.specs.declared.methods.Method.TheVariants.{Options, Describe, Setup, Play, Pause, Teardown}
-use Rattle.rtsp_methods.specs.declared.methods.Method.TheVariants.{GetParameter}
+use Rattle.rtsp_methods.specs.declared.methods.Method.TheVariants.{Options, Describe, Setup, Play, Pause, GetParameter}
 use Rattle.session.specs.declared.plans.Planned.{Planned}
 use Rattle.session.specs.declared.play_requests.PlayRequest.{PlayRequest}
 use Rattle.session.specs.declared.play_requests.PlayRequest.TheVariants.{Resumed, New}
 use Rattle.rtsp_methods.specs.declared.refusals.Refusal.{Refusal}
 use Rattle.rtsp_methods.specs.declared.refusals.Refusal.TheVariants.{Method as Unknown, Option as Required, Session}
 use Rattle.rtsp_methods.specs.declared.refusals.Refusal.TheVariants.{Film as NoFilm, State as NotNow, BadRequest}
-use Rattle.rtsp_methods.specs.declared.refusals.Refusal.TheVariants.{Version, Transport, Parameter, Buffer, Range}
-use Rattle.rtsp_methods.specs.declared.refusals.Refusal.TheVariants.{Memory}
 use Rattle.film_streams.specs.declared.setups.Setup.{Setup as SetupIs}
 use Rattle.session.specs.Laws.{Resumes}
 use Rattle.session.specs.Methods.{IsRefused}
@@ -111,10 +108,9 @@ option_refused r known some =
 
 -- ---- sessions
 
-foreign : (exists : Bool) (id value : List ℕ) (otherwise : Type 0) → IsForeign exists id value
-    → ¬ IsOwnSession exists id (Some value) otherwise
-foreign exists id value otherwise (inl none) = λ own. let none : ⊥ = cc (none, own.0) in none
-foreign exists id value otherwise (inr other) = λ own. other own.1
+foreign : (exists : Bool) (id value : List ℕ) → IsForeign exists id value → ¬ IsOwnSession exists id (Some value) ⊤
+foreign exists id value (inl none) = λ own. let none : ⊥ = cc (none, own.0) in none
+foreign exists id value (inr other) = λ own. other own.1
 
 lacking : (method : Method) (exists : Bool) (id : List ℕ) (named : Option (List ℕ)) → LacksSession method exists id
     named
@@ -122,15 +118,9 @@ lacking : (method : Method) (exists : Bool) (id : List ℕ) (named : Option (Lis
 lacking Options exists id named lacks = absurd lacks
 lacking Describe exists id named lacks = absurd lacks
 lacking Setup exists id None lacks = absurd lacks
-lacking Setup exists id (Some value) lacks = foreign exists id value ⊤ lacks
-lacking Play exists id None lacks = λ own. own
-lacking Play exists id (Some value) lacks = foreign exists id value ⊥ lacks
-lacking Pause exists id None lacks = λ own. own
-lacking Pause exists id (Some value) lacks = foreign exists id value ⊥ lacks
-lacking Teardown exists id None lacks = λ own. own
-lacking Teardown exists id (Some value) lacks = foreign exists id value ⊥ lacks
 lacking GetParameter exists id None lacks = absurd lacks
-lacking GetParameter exists id (Some value) lacks = foreign exists id value ⊤ lacks
+lacking _ exists id None lacks = λ own. own
+lacking _ exists id (Some value) lacks = foreign exists id value lacks
 
 pub session_refused : (r : HeardRequest) → IsOfNoSession r.heard.old r.request
     → IsRefusedBy r.heard.old 454 r.request.sequence r.heard.ask r.heard.new
@@ -159,13 +149,9 @@ film_refused r wrong =
 
 untimely : (method : Method) (old : SessionState) (request : Request) → IsInvalidMethod method old
     → ¬ IsTimely old.state request method
-untimely Options old request wrong = absurd wrong
-untimely Describe old request wrong = absurd wrong
 untimely Setup old request wrong = λ timely. let none : ⊥ = cc (wrong, timely) in none
-untimely Play old request wrong = absurd wrong
 untimely Pause old request wrong = λ timely. let none : ⊥ = cc (wrong, timely) in none
-untimely Teardown old request wrong = absurd wrong
-untimely GetParameter old request wrong = absurd wrong
+untimely _ old request wrong = absurd wrong
 
 pub state_refused : (r : HeardRequest) (method : Method) → PassesEarlierChecks method r.heard.old r.request
     → IsInvalidMethod method r.heard.old → IsRefusedBy r.heard.old 455 r.request.sequence r.heard.ask r.heard.new
@@ -241,17 +227,7 @@ now_resumes old stored setup paused value span planned is now planned_is =
 -- no refusal has the code 200
 not_ok : (refusal : Refusal) → code_of refusal ≡ 200 → ⊥
 not_ok BadRequest is = omega (arith, is)
-not_ok Version is = omega (arith, is)
-not_ok Unknown is = omega (arith, is)
-not_ok Required is = omega (arith, is)
-not_ok Session is = omega (arith, is)
-not_ok NoFilm is = omega (arith, is)
-not_ok NotNow is = omega (arith, is)
-not_ok Transport is = omega (arith, is)
-not_ok Parameter is = omega (arith, is)
-not_ok (Buffer least) is = omega (arith, is)
-not_ok Range is = omega (arith, is)
-not_ok Memory is = omega (arith, is)
+not_ok _ is = omega (arith, is)
 
 pub refused : (h : HeardMessage) (sequence : Option ℕ) (refusal : Refusal) (option : List ℕ)
     → IsRefused h.old sequence refusal option h.ask h.new → IsDeclined h.old h.ask h.new

@@ -1,8 +1,8 @@
 -- What replies tell is read in their fields.
 use Rattle.std.proofs.Common.{◌≡◌, ◌≢◌, ℕ, ◌+◌, ◌-◌, ◌*◌, ◌/◌, ◌%◌, ◌^◌, ◌<◌, ◌≤◌, ◌&&◌, ◌==◌, not, nat_lt, nat_le}
 use Rattle.std.proofs.Common.{true, false, List, [], ◌∷◌, ◌++◌, length, take, drop, get_or, slice_range, slice_index}
-use Rattle.std.proofs.Common.{codes, decimal, string_bytes, Option, Some, None, Ok, add_comm, refl, sym, ap, subst}
-use Rattle.std.proofs.Common.{◌∙◌, inl, inr, arith, Bool}
+use Rattle.std.proofs.Common.{codes, decimal, string_bytes, Option, Some, None, Ok, add_comm, refl, sym, ap, subst, ◌∙◌}
+use Rattle.std.proofs.Common.{inl, inr, arith, Bool}
 use Rattle.std.proofs.Math.Nat.{div-mul-le_self, mul-le-mul}
 use Rattle.std.specs.List.{list_all}
 use Rattle.std.specs.Char.{is_ascii_digit}
@@ -41,7 +41,7 @@ use Rattle.film_streams.specs.StreamNumbers.{identity_of, timestamp_at}
 use Rattle.session.specs.RequestSteps.{after_admission, after_full, after_look, after_overflow}
 use Rattle.session.specs.Methods.{Describes, IsSetUp, first_number, play_front}
 use Rattle.session.specs.declared.states.State.TheVariants.{Ready}
-use Rattle.rtsp_replies.specs.Replies.{field, joined_parts, look_body, play_fields, transport_value, started_text}
+use Rattle.rtsp_replies.specs.Replies.{field, joined_parts, look_body, transport_value, started_text}
 use Rattle.session.specs.SessionStates.{SessionState, sequence_of}
 use Rattle.std.specs.Int.{w32, to_be_bytes}
 use Rattle.hex.specs.Hex.{encode_lower}
@@ -96,10 +96,7 @@ range_read {s} {e} {from} {to} free first last =
     omega (arith, length-append (codes "npt=") (s ++ 45 ∷ e), length-append s (45 ∷ e)) in
     let at : ℕ = 4 + length s in
     let front : slice_range text 4 (4 + length s) ≡ s = take_at s (45 ∷ e) (4 + length s - 4) (omega arith) in
-    let whole : text ≡ (codes "npt=" ++ s ++ codes "-") ++ e =
-    ap (λ l. codes "npt=" ++ l) (sym (append_assoc s (codes "-") e)) ∙ sym
-    (append_assoc (codes "npt=") (s ++ codes "-") e)
-    ∙ ap (λ l. l ++ e) (sym (append_assoc (codes "npt=") s (codes "-"))) in
+    let whole : text ≡ (codes "npt=" ++ s ++ codes "-") ++ e = simp append_assoc in
     let long : length (codes "npt=" ++ s ++ codes "-") ≡ 4 + length s + 1 =
     omega (arith, length-append (codes "npt=" ++ s) (codes "-"), length-append (codes "npt=") s) in
     let dropped : drop (4 + length s + 1) text ≡ e =
@@ -311,16 +308,11 @@ play_told old stored setup planned sequence {authority} is =
     let brief = can.playback_is.picture_units_fit in
     let few = can.sizes_are.few in
     record {
-      fields = play_fields old.id (milliseconds_at stored.film planned.run.from_unit)
-          (milliseconds_at stored.film planned.run.end_unit) authority
-          (string_bytes stored.name) (first_number old stored setup planned)
-          (timestamp_at stored.film old.source planned.run.from_unit);
+      fields = _;
       text_is = refl;
       told = record {
         session = refl;
-        range = joined_parts (codes "npt=" ∷ seconds_text
-            (milliseconds_at stored.film planned.run.from_unit) ∷ codes "-"
-            ∷ seconds_text (milliseconds_at stored.film planned.run.end_unit) ∷ []);
+        range = _;
         range_is = refl;
         span = span_told stored.film planned.run.from_unit planned.run.end_unit
             (few_ms 4194304 planned.run.from_unit (picture_time stored.film.rate)
@@ -328,10 +320,7 @@ play_told old stored setup planned sequence {authority} is =
             (omega arith) brief)
             (few_ms 4194304 planned.run.end_unit (picture_time stored.film.rate)
             (let within = run_is.within in omega (arith, within, few)) (omega arith) brief);
-        info = joined_parts
-            (codes "url=rtsp://" ∷ authority ∷ codes "/" ∷ string_bytes stored.name ∷ codes "/video;seq="
-            ∷ decimal (first_number old stored setup planned) ∷ codes ";rtptime="
-            ∷ decimal (timestamp_at stored.film old.source planned.run.from_unit) ∷ []);
+        info = _;
         info_is = refl;
         told = info_told old setup planned (authority_of is.url authority is.name is.read) is.good;
       };
@@ -391,8 +380,7 @@ pub setup_told : {ask : Ask} (old new : SessionState) (sequence : ℕ) (setup : 
     → IsSetupReply sequence (identity_of old.source setup counts) old.id new.text
 unfolding value_named
 setup_told old new sequence setup counts is = record {
-  fields = field (codes "Transport") (transport_value setup.media setup.control old.source.ssrc)
-      ∷ field (codes "Session") old.id ∷ [];
+  fields = _;
   transport = transport_value setup.media setup.control old.source.ssrc;
   text_is = ap (λ (s : SessionState). s.text) is.1;
   session = refl;
@@ -407,8 +395,7 @@ pub overflow_told : (old : SessionState) (place slot booked asked : ℕ)
     → IsOverflowReply (sequence_of old.awaited) slot booked asked (after_overflow old place slot booked asked).text
 unfolding value_named
 overflow_told old place slot booked asked = record {
-  fields = field (codes "x-Slot") (decimal slot) ∷ field (codes "x-Booked") (decimal booked)
-      ∷ field (codes "x-Asked") (decimal asked) ∷ [];
+  fields = _;
   text_is = refl;
   slot_is = refl;
   booked_is = refl;
@@ -419,7 +406,7 @@ pub full_told : (old : SessionState) (entries live : ℕ)
     → IsFullReply (sequence_of old.awaited) entries live (after_full old entries live).text
 unfolding value_named
 full_told old entries live = record {
-  fields = field (codes "x-Entries") (decimal entries) ∷ field (codes "x-Open") (decimal live) ∷ [];
+  fields = _;
   text_is = refl;
   entries_are = refl;
   open_is = refl;
@@ -435,8 +422,7 @@ pub look_told : (old : SessionState) (place now at booked : ℕ)
     → IsLookReply (sequence_of old.awaited) now at booked (after_look old place now at booked).text
 unfolding value_named
 look_told old place now at booked = record {
-  fields = field (codes "Content-Type") (codes "text/parameters")
-      ∷ field (codes "Content-Length") (decimal (length (look_body now at booked))) ∷ [];
+  fields = _;
   body = look_body now at booked;
   text_is = refl;
   kind = refl;

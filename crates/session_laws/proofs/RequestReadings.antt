@@ -1,7 +1,7 @@
 -- A request is judged in one way; how a session reads and judges it, and what it does for one that it
 -- processes.
-use Rattle.std.proofs.Common.{zero, suc, ◌≡◌, ℕ, List, Some, Result, Ok, Err, subst, ◌∙◌, inl, inr, ◌+◌, ◌*◌, ◌<◌}
-use Rattle.std.proofs.Common.{◌==◌, ◌⊎◌, if◌then◌else◌, get_or, length, None, codes, refl, sym, ap, arith, below_more}
+use Rattle.std.proofs.Common.{zero, suc, ◌≡◌, ℕ, List, Some, Result, Ok, Err, subst, ◌∙◌, inl, inr, ◌+◌, ◌*◌, ◌<◌, ◌==◌}
+use Rattle.std.proofs.Common.{◌⊎◌, if◌then◌else◌, get_or, length, None, codes, refl, sym, ap, arith, below_more}
 use Rattle.rtsp_text.specs.declared.requests.Request.{Request}
 use Rattle.rtsp_text.proofs.MessageUniqueness.{no_fault, request_once}
 use Rattle.rtsp_methods.specs.Methods.{name_of}
@@ -13,8 +13,7 @@ use Rattle.rtsp_methods.specs.declared.refusals.Refusal.{Refusal}
 use Rattle.rtsp_replies.specs.Replies.{public_text}
 use Rattle.session.specs.declared.refusals.Task.{Task}
 use Rattle.session.specs.declared.refusals.Task.TheVariants.{Options as ToOptions, Describe as ToDescribe}
-use Rattle.session.specs.declared.refusals.Task.TheVariants.{Setup as ToSetup, Play as ToPlay, Pause as ToPause}
-use Rattle.session.specs.declared.refusals.Task.TheVariants.{Teardown as ToTeardown, GetParameter as ToGetParameter}
+use Rattle.session.specs.declared.refusals.Task.TheVariants.{Setup as ToSetup, Play as ToPlay}
 use Rattle.session.specs.Methods.{Describes, GetsParameter, IsRefused, IsReplied, Pauses, Plays, SetsUp, Takes}
 use Rattle.session.specs.Methods.{TearsDown}
 use Rattle.session.specs.RefusalOrder.{IsJudged, IsOnFilm, IsReadAs, IsTaskOf, IsTimely, method_of, FitsSession}
@@ -25,9 +24,8 @@ use Rattle.std.proofs.lemmas.Bool.{cases_order}
 use Rattle.film_frames.specs.declared.stored_films.Stored.{Stored}
 use Rattle.rtsp_text.specs.Fields.{header_value}
 use Rattle.session.specs.declared.states.State.{State as StateKind}
-use Rattle.rtsp_methods.specs.declared.refusals.Refusal.TheVariants.{BadRequest, Version, Method as Unknown}
-use Rattle.rtsp_methods.specs.declared.refusals.Refusal.TheVariants.{Option as Required, Session, Film, State}
-use Rattle.rtsp_methods.specs.declared.refusals.Refusal.TheVariants.{Transport, Parameter, Buffer, Range, Memory}
+use Rattle.rtsp_methods.specs.declared.refusals.Refusal.TheVariants.{Method as Unknown, Option as Required, Session}
+use Rattle.rtsp_methods.specs.declared.refusals.Refusal.TheVariants.{Film, State}
 use Rattle.session.specs.SessionStates.{SessionState, has_session_in}
 
 -- a name is that of one method
@@ -41,12 +39,7 @@ method_by n =
 
 named : (m : Method) → method_by (key (name_of m)) ≡ m
 named Options = refl
-named Describe = refl
-named Setup = refl
-named Play = refl
-named Pause = refl
-named Teardown = refl
-named GetParameter = refl
+named _ = refl
 
 pub method_once : (name : List ℕ) (m other : Method) → name ≡ name_of m → name ≡ name_of other → m ≡ other
 method_once name m other is its = sym (named m) ∙ ap (λ n. method_by (key n)) (sym is ∙ its) ∙ named other
@@ -57,19 +50,12 @@ refusal_at n =
     if n == 0 then Unknown else if n == 1 then Required else if n == 2 then Session else if n == 3 then Film else State
 
 abbrev rank : Result Task Refusal → ℕ
-rank (Ok task) = 5
-rank (Err BadRequest) = 5
-rank (Err Version) = 5
 rank (Err Unknown) = 0
 rank (Err Required) = 1
 rank (Err Session) = 2
 rank (Err Film) = 3
 rank (Err State) = 4
-rank (Err Transport) = 5
-rank (Err Parameter) = 5
-rank (Err (Buffer least)) = 5
-rank (Err Range) = 5
-rank (Err Memory) = 5
+rank _ = 5
 
 -- what a request is judged by: the session's films, id and state, and its own parts
 record Judging : Type 0 where
@@ -164,9 +150,7 @@ film_of films stage url ToOptions is = inl refl
 film_of films stage url (ToDescribe asked) is = inr (asked.authority.now, (asked.film, is))
 film_of films stage url (ToSetup film) is = inr (is.0, (film, is.1))
 film_of films stage url (ToPlay asked) is = inr (asked.authority.now, (asked.film, is))
-film_of films stage url ToPause is = inr is
-film_of films stage url ToTeardown is = inr is
-film_of films stage url ToGetParameter is = inr is
+film_of films stage url _ is = inr is
 
 pub passes_of : {request : Request} {task : Task} (old : SessionState)
     → IsTaken old.films old.id old.state request task → Passes old request (method_of task)
@@ -180,8 +164,6 @@ passes_of {request} {task} old is = record {
 stops : (old : SessionState) (request : Request) (judgement : Result Task Refusal)
     → IsJudged old.films old.id old.state request judgement → StopsAt (judging old request) (rank judgement)
 stops old request (Ok task) is = stops_last old request (passes_of old is)
-stops old request (Err BadRequest) is = absurd is
-stops old request (Err Version) is = absurd is
 stops old request (Err Unknown) is = record { before = none_below _; at = λ has. is.none has.0 has.1 }
 stops old request (Err Required) is = record {
   before = one_more (judging old request) 0 (none_below _) (is.method, is.named);
@@ -206,11 +188,7 @@ stops old request (Err State) is = record {
   at = λ timely. is.state (subst (HasTime (judging old request))
       (method_once request.method.now timely.0 is.method timely.1.0 is.talk.spoken.named) timely.1.1);
 }
-stops old request (Err Transport) is = absurd is
-stops old request (Err Parameter) is = absurd is
-stops old request (Err (Buffer least)) is = absurd is
-stops old request (Err Range) is = absurd is
-stops old request (Err Memory) is = absurd is
+stops old request (Err _) is = absurd is
 
 -- a refusal is that of its judgement
 record IsRanked (refusal : Refusal) : Type 0 where
@@ -219,18 +197,12 @@ record IsRanked (refusal : Refusal) : Type 0 where
 
 ranked : (old : SessionState) (request : Request) (refusal : Refusal)
     → IsJudged old.films old.id old.state request (Err refusal) → IsRanked refusal
-ranked old request BadRequest is = absurd is
-ranked old request Version is = absurd is
 ranked old request Unknown is = record { below = omega arith; is = refl }
 ranked old request Required is = record { below = omega arith; is = refl }
 ranked old request Session is = record { below = omega arith; is = refl }
 ranked old request Film is = record { below = omega arith; is = refl }
 ranked old request State is = record { below = omega arith; is = refl }
-ranked old request Transport is = absurd is
-ranked old request Parameter is = absurd is
-ranked old request (Buffer least) is = absurd is
-ranked old request Range is = absurd is
-ranked old request Memory is = absurd is
+ranked old request _ is = absurd is
 
 -- the parts of two requests are the same
 pub record AreAlike (request other : Request) : Type 0 where
@@ -340,13 +312,10 @@ Does t GetParameter = GetsParameter t.old t.request t.ask t.new
 
 pub does_task : (t : TakenRequest) (task : Task) → IsTaskOf t.old.films t.old.state t.request.url.now task
     → Takes t.old t.request (Ok task) t.ask t.new → Does t (method_of task)
-does_task t ToOptions film takes = takes
 does_task t (ToDescribe asked) film takes = (asked.authority.now, (asked.film, (film, takes)))
 does_task t (ToSetup number) film takes = (film.0, (number, (film.1, takes)))
 does_task t (ToPlay asked) film takes = (asked.authority.now, (asked.film, (film, takes)))
-does_task t ToPause film takes = takes
-does_task t ToTeardown film takes = takes
-does_task t ToGetParameter film takes = takes
+does_task t _ film takes = takes
 
 abbrev pub taken_as : HeardMessage → Request → TakenRequest
 taken_as h request = record { old = h.old; new = h.new; request = request; ask = h.ask }

@@ -15,7 +15,7 @@ use Rattle.session.specs.declared.commands.Ask.TheVariants.{Look as AskLook, Off
 use Rattle.session.specs.declared.play_requests.PlayRequest.{PlayRequest}
 use Rattle.session.specs.declared.play_requests.PlayRequest.TheVariants.{Resumed, New}
 use Rattle.session.specs.declared.states.AfterHalt.{AfterHalt}
-use Rattle.session.specs.declared.states.AfterHalt.TheVariants.{Done, Paused, Torn}
+use Rattle.session.specs.declared.states.AfterHalt.TheVariants.{Paused, Torn}
 use Rattle.session.specs.declared.states.Awaited.TheVariants.{Nothing, Play, Halt, Look, Offer}
 use Rattle.film_streams.specs.declared.stream_numbers.Counts.{Counts}
 use Rattle.session.specs.declared.states.Play.{Play as Played}
@@ -43,9 +43,8 @@ pub record IsLeft (run : Run) (keep : ℕ) (left : Run) : Type 0 where
   pub sent : left.sent ≡ run.sent + keep
 
 abbrev pub IsLeftBy : Run → ℕ → AfterHalt → Type 0
-IsLeftBy run keep Done = Unit {0}
 IsLeftBy run keep (Paused left) = IsLeft run keep left
-IsLeftBy run keep Torn = Unit {0}
+IsLeftBy run keep _ = Unit {0}
 
 -- ---- the run that a PLAY asks for
 
@@ -72,11 +71,8 @@ wanted_run old stored setup (Some paused) Now to (Resumed run) is =
     inl (record { paused_is = ap (λ r. Some r) (sym is); counts_are = refl })
 wanted_run old stored setup None Now to (New run) is = inr (record { none_sent = is.new.sent_is; counts_are = refl })
 wanted_run old stored setup (Some paused) Now to (New run) is = absurd is
-wanted_run old stored setup None (At time) to (Resumed run) is = absurd is
-wanted_run old stored setup (Some paused) (At time) to (Resumed run) is = absurd is
-wanted_run old stored setup None (At time) to (New run) is =
-    inr (record { none_sent = is.new.sent_is; counts_are = refl })
-wanted_run old stored setup (Some paused) (At time) to (New run) is =
+wanted_run old stored setup paused (At time) to (Resumed run) is = absurd is
+wanted_run old stored setup paused (At time) to (New run) is =
     inr (record { none_sent = is.new.sent_is; counts_are = refl })
 
 -- ---- a message, as far as runs go by it

@@ -2,13 +2,13 @@
 use Rattle.std.proofs.Common.{◌≡◌, ℕ, ◌⊎◌, List, refl, sym, ap, ◌∙◌, inl, inr}
 use Rattle.session.specs.declared.commands.Ask.{Ask}
 use Rattle.session.specs.declared.states.Awaited.{Awaited}
-use Rattle.session.specs.declared.states.Awaited.TheVariants.{Nothing, Play, Halt, Look, Offer}
+use Rattle.session.specs.declared.states.Awaited.TheVariants.{Play}
 use Rattle.session.specs.declared.states.AfterHalt.{AfterHalt}
-use Rattle.session.specs.declared.states.AfterHalt.TheVariants.{Done, Paused, Torn}
+use Rattle.session.specs.declared.states.AfterHalt.TheVariants.{Done}
 use Rattle.session.specs.declared.states.Play.{Play as Played}
 use Rattle.film_streams.specs.declared.setups.Setup.{Setup}
 use Rattle.session.specs.declared.states.State.{State}
-use Rattle.session.specs.declared.states.State.TheVariants.{Init, Ready, Playing, Stopping}
+use Rattle.session.specs.declared.states.State.TheVariants.{Ready, Playing}
 use Rattle.session.specs.RequestSteps.{Hears, after_admission, after_halt}
 use Rattle.session.specs.Laws.{InitStage, PlayingStage, ReadyStage, StaysOr, stage_of}
 use Rattle.session.specs.SlotSteps.{admitted_in, halted_in, next_of, state_once_halted}
@@ -42,14 +42,8 @@ hears_moves old new message ask hears =
 admitted_moves : (state : State) (awaited : Awaited) (place start : ℕ)
     → (stage_of (admitted_in state awaited place start) ≡ stage_of state)
     ⊎ ((stage_of state ≡ ReadyStage) × (stage_of (admitted_in state awaited place start) ≡ PlayingStage))
-admitted_moves Init awaited place start = inl refl
-admitted_moves (Ready setup paused) Nothing place start = inl refl
 admitted_moves (Ready setup paused) (Play prepared) place start = inr (refl, refl)
-admitted_moves (Ready setup paused) (Halt keep next) place start = inl refl
-admitted_moves (Ready setup paused) (Look sequence) place start = inl refl
-admitted_moves (Ready setup paused) (Offer sequence) place start = inl refl
-admitted_moves (Playing setup play) awaited place start = inl refl
-admitted_moves (Stopping setup stop) awaited place start = inl refl
+admitted_moves _ _ place start = inl refl
 
 -- an admission moves Ready to Playing
 pub admission_moves : (old : SessionState) (place start : ℕ) → StaysOr ReadyStage PlayingStage old
@@ -63,16 +57,13 @@ admission_moves old place start =
 after_moves : (setup : Setup) (play : Played) (next : AfterHalt) → stage_of (state_once_halted setup play next) ≡
     ReadyStage
 after_moves setup play Done = refl
-after_moves setup play (Paused run) = refl
-after_moves setup play Torn = refl
+after_moves setup play _ = refl
 
 halted_moves : (state : State) (awaited : Awaited)
     → (stage_of (halted_in state awaited) ≡ stage_of state)
     ⊎ ((stage_of state ≡ PlayingStage) × (stage_of (halted_in state awaited) ≡ ReadyStage))
-halted_moves Init awaited = inl refl
-halted_moves (Ready setup paused) awaited = inl refl
 halted_moves (Playing setup play) awaited = inr (refl, after_moves setup play (next_of awaited))
-halted_moves (Stopping setup stop) awaited = inl refl
+halted_moves _ awaited = inl refl
 
 -- a halt moves Playing to Ready
 pub halt_moves : (old : SessionState) (place : ℕ) → StaysOr PlayingStage ReadyStage old (after_halt old place)

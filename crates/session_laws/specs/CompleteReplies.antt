@@ -5,8 +5,8 @@ use Rattle.hex.specs.Hex.{encode_lower}
 use Rattle.interleave.specs.Heads.{IsHead}
 use Rattle.rtsp_replies.specs.Messages.{AreOffersInWords, IsMessage}
 use Rattle.session.specs.declared.commands.Ask.{Ask}
-use Rattle.session.specs.declared.commands.Ask.TheVariants.{Reply, Play as AskPlay, Halt as AskHalt}
-use Rattle.session.specs.declared.commands.Ask.TheVariants.{Look as AskLook, Offer as AskOffer}
+use Rattle.session.specs.declared.commands.Ask.TheVariants.{Play as AskPlay, Look as AskLook}
+use Rattle.session.specs.declared.commands.Ask.TheVariants.{Offer as AskOffer}
 use Rattle.session_records.specs.declared.notes.OfferNote.{OfferNote}
 use Rattle.session.specs.RequestSteps.{after_admission, after_full, after_look, after_offer}
 use Rattle.session.specs.RequestSteps.{after_overflow}
@@ -45,9 +45,8 @@ pub record AnswersLook (asking : SessionState) : Type 0 where
 -- the reply to a request is a complete message: the session's own, the one that waits for a halt,
 -- or the one that the station's answer makes, in numbers of 64 bits
 abbrev pub RepliesAreComplete : Ask → SessionState → Type 0
-RepliesAreComplete Reply new = IsMessage new.text
 RepliesAreComplete (AskPlay plan) new = AnswersPlay new
-RepliesAreComplete (AskHalt keep) new = IsMessage new.text
 RepliesAreComplete (AskLook slot) new = AnswersLook new
 RepliesAreComplete (AskOffer plan offers) new = (note : OfferNote) → AreOffersInWords note.offers
     → IsMessage (after_offer new note).text
+RepliesAreComplete _ new = IsMessage new.text

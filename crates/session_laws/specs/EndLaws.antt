@@ -9,8 +9,7 @@ use Rattle.pacer.specs.PacerStates.{slots_through}
 use Rattle.rtsp_text.specs.Replies.{Field, reply_text, value_named}
 use Rattle.rtsp_text.specs.declared.requests.Request.{Request}
 use Rattle.session.specs.declared.commands.Ask.{Ask}
-use Rattle.session.specs.declared.commands.Ask.TheVariants.{Reply, Play as AskPlay, Halt as AskHalt}
-use Rattle.session.specs.declared.commands.Ask.TheVariants.{Look as AskLook, Offer as AskOffer}
+use Rattle.session.specs.declared.commands.Ask.TheVariants.{Reply, Halt as AskHalt}
 use Rattle.rtsp_methods.specs.declared.methods.Method.TheVariants.{Pause, Teardown}
 use Rattle.session.specs.declared.states.Play.{Play as Played}
 use Rattle.film_streams.specs.declared.setups.Setup.{Setup}
@@ -18,8 +17,7 @@ use Rattle.session.specs.declared.states.State.TheVariants.{Ready, Playing}
 use Rattle.film_streams.specs.Films.{IsFilmAt}
 use Rattle.session.specs.RequestSteps.{after_halt}
 use Rattle.session.specs.RefusalOrder.{IsReadAs}
-use Rattle.session.specs.Laws.{IsTeardown}
-use Rattle.session.specs.Laws.{InitStage, IsOfMethod, PlayingStage, ReadyStage, StateKind, stage_of}
+use Rattle.session.specs.Laws.{IsTeardown, IsOfMethod, PlayingStage, StateKind, stage_of}
 use Rattle.session.specs.LookLaws.{SessionEvent, Message}
 use Rattle.session.specs.RunRequests.{playback_of}
 use Rattle.session_laws.specs.PlayLaws.{PassesEarlierChecks}
@@ -61,17 +59,14 @@ pub record HasSessionInReply (sequence : ℕ) (id text : List ℕ) : Type 0 wher
 
 -- a play that is sent is halted, and no other halt is asked for
 abbrev pub HaltsPlay : StateKind → Ask → Type 0
-HaltsPlay InitStage ask = ask ≡ Reply
-HaltsPlay ReadyStage ask = ask ≡ Reply
 HaltsPlay PlayingStage ask = (keep : ℕ) × (ask ≡ AskHalt keep)
+HaltsPlay _ ask = ask ≡ Reply
 
 -- the session is over once its reply was sent, after the halt
 abbrev pub EndsSession : Ask → SessionState → Type 0
 EndsSession Reply new = (sent_reply new).torn ≡ true
-EndsSession (AskPlay plan) new = ⊥
 EndsSession (AskHalt keep) new = (place : ℕ) → (sent_reply (after_halt new place)).torn ≡ true
-EndsSession (AskLook slot) new = ⊥
-EndsSession (AskOffer plan offers) new = ⊥
+EndsSession _ new = ⊥
 
 pub record IsTornDown (old : SessionState) (ask : Ask) (new : SessionState) : Type 0 where
   pub sequence : ℕ

@@ -1,8 +1,7 @@
 -- The refusals that all methods share, in the terms of RFC 2326 and in their order, and what a PLAY
 -- without a Range plays.
 use Rattle.std.specs.Prelude.{ℕ, ◌≡◌, ◌≢◌, ◌*◌, ◌⊎◌, ⊤, true, false, Bool, List, [], Option, Some}
-use Rattle.std.specs.Prelude.{None}
-use Rattle.std.specs.Prelude.{codes, length}
+use Rattle.std.specs.Prelude.{None, codes, length}
 use Rattle.mpeg_scan.specs.declared.films.Film.{Film}
 use Rattle.mpeg_scan.specs.PictureRates.{picture_time}
 use Rattle.film_run.specs.declared.runs.Run.{Run}
@@ -13,9 +12,8 @@ use Rattle.rtsp_fields.specs.SessionIds.{IsSession}
 use Rattle.session.specs.declared.commands.Ask.{Ask}
 use Rattle.session.specs.declared.commands.Ask.TheVariants.{Reply}
 use Rattle.rtsp_methods.specs.declared.methods.Method.{Method}
-use Rattle.rtsp_methods.specs.declared.methods.Method.TheVariants.{Options, Describe, Setup, Play}
-use Rattle.rtsp_methods.specs.declared.methods.Method.TheVariants.{Pause}
-use Rattle.rtsp_methods.specs.declared.methods.Method.TheVariants.{Teardown, GetParameter}
+use Rattle.rtsp_methods.specs.declared.methods.Method.TheVariants.{Options, Describe, Setup, Pause}
+use Rattle.rtsp_methods.specs.declared.methods.Method.TheVariants.{GetParameter}
 use Rattle.film_streams.specs.Films.{Names}
 use Rattle.session.specs.RefusalOrder.{IsOwnTalk}
 use Rattle.rtsp_methods.specs.Methods.{name_of}
@@ -56,15 +54,9 @@ abbrev pub LacksSession : Method → Bool → List ℕ → Option (List ℕ) →
 LacksSession Options exists id named = ⊥
 LacksSession Describe exists id named = ⊥
 LacksSession Setup exists id None = ⊥
-LacksSession Setup exists id (Some value) = IsForeign exists id value
-LacksSession Play exists id None = ⊤
-LacksSession Play exists id (Some value) = IsForeign exists id value
-LacksSession Pause exists id None = ⊤
-LacksSession Pause exists id (Some value) = IsForeign exists id value
-LacksSession Teardown exists id None = ⊤
-LacksSession Teardown exists id (Some value) = IsForeign exists id value
 LacksSession GetParameter exists id None = ⊥
-LacksSession GetParameter exists id (Some value) = IsForeign exists id value
+LacksSession _ exists id None = ⊤
+LacksSession _ exists id (Some value) = IsForeign exists id value
 
 pub record IsOfNoSession (old : SessionState) (request : Request) : Type 0 where
   pub method : Method
@@ -83,13 +75,9 @@ pub record IsOfNoFilm (old : SessionState) (request : Request) : Type 0 where
 -- a method isn't valid in the state: a SETUP once there is a session, a PAUSE where nothing plays
 -- (appendix A.2)
 abbrev pub IsInvalidMethod : Method → SessionState → Type 0
-IsInvalidMethod Options old = ⊥
-IsInvalidMethod Describe old = ⊥
 IsInvalidMethod Setup old = has_session_in old.state ≡ true
-IsInvalidMethod Play old = ⊥
 IsInvalidMethod Pause old = is_playing_in old.state ≡ false
-IsInvalidMethod Teardown old = ⊥
-IsInvalidMethod GetParameter old = ⊥
+IsInvalidMethod _ old = ⊥
 
 -- a run of an entire film: from the time 0 to the film's end
 pub record IsWholeFilm (film : Film) (run : Run) : Type 0 where

@@ -2,8 +2,8 @@
 use Rattle.std.specs.Prelude.{ℕ, ◌≡◌, List, Some}
 use Rattle.rtsp_text.specs.Replies.{Field, reply_text}
 use Rattle.session.specs.declared.commands.Ask.{Ask}
-use Rattle.session.specs.declared.commands.Ask.TheVariants.{Reply, Play as AskPlay, Halt as AskHalt}
-use Rattle.session.specs.declared.commands.Ask.TheVariants.{Look as AskLook, Offer as AskOffer}
+use Rattle.session.specs.declared.commands.Ask.TheVariants.{Play as AskPlay, Look as AskLook}
+use Rattle.session.specs.declared.commands.Ask.TheVariants.{Offer as AskOffer}
 use Rattle.session_records.specs.declared.notes.OfferNote.{OfferNote}
 use Rattle.session.specs.RequestSteps.{after_admission, after_full, after_look, after_offer}
 use Rattle.session.specs.RequestSteps.{after_overflow}
@@ -33,9 +33,8 @@ pub record NumbersLook (sequence : ℕ) (asking : SessionState) : Type 0 where
 -- the reply to a request has this CSeq: the session's own, the one that waits for a halt, or the
 -- one that the station's answer makes
 abbrev pub RepliesHaveNumber : ℕ → Ask → SessionState → Type 0
-RepliesHaveNumber sequence Reply new = HasNumber sequence new.text
 RepliesHaveNumber sequence (AskPlay plan) new = NumbersPlay sequence new
-RepliesHaveNumber sequence (AskHalt keep) new = HasNumber sequence new.text
 RepliesHaveNumber sequence (AskLook slot) new = NumbersLook sequence new
 RepliesHaveNumber sequence (AskOffer plan offers) new =
     (note : OfferNote) → HasNumber sequence (after_offer new note).text
+RepliesHaveNumber sequence _ new = HasNumber sequence new.text

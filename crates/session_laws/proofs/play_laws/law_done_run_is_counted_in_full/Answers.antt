@@ -1,5 +1,4 @@
-use Rattle.session_laws.proofs.PlayNoteLemmas.{run_counted}
-use Rattle.session_laws.proofs.PlayNoteLemmas.{sound_whole}
+use Rattle.session_laws.proofs.PlayNoteLemmas.{run_counted, sound_whole}
 use Rattle.session.proofs.InitialStateLemmas.{PlayInHand}
 use Rattle.session_laws.proofs.play_laws.law_done_run_is_counted_in_full.Goals as goal
 

@@ -1,8 +1,7 @@
 use Rattle.std.proofs.Common.{refl}
 use Rattle.session.specs.declared.commands.Ask.TheVariants.{Halt as AskHalt}
 use Rattle.session.proofs.InitialStateLemmas.{PlayInHand}
-use Rattle.session_laws.proofs.PlayNoteLemmas.{halts_at_boundary}
-use Rattle.session_laws.proofs.PlayNoteLemmas.{sound_pacing}
+use Rattle.session_laws.proofs.PlayNoteLemmas.{halts_at_boundary, sound_pacing}
 use Rattle.session_laws.proofs.play_laws.law_halt_is_at_next_boundary.Goals as goal
 
 pub returns : goal.returns

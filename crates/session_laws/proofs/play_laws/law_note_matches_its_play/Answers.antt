@@ -1,6 +1,5 @@
 use Rattle.session.proofs.InitialStateLemmas.{PlayInHand}
-use Rattle.session_laws.proofs.PlayNoteLemmas.{play_noted}
-use Rattle.session_laws.proofs.PlayNoteLemmas.{sound_kept, sound_playable}
+use Rattle.session_laws.proofs.PlayNoteLemmas.{play_noted, sound_kept, sound_playable}
 use Rattle.session_laws.proofs.play_laws.law_note_matches_its_play.Goals as goal
 
 pub returns : goal.returns
