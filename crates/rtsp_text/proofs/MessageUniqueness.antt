@@ -1,6 +1,6 @@
 -- A message has one answer.
-use Rattle.std.proofs.Common.{◌≡◌, ℕ, ◌+◌, ◌<◌, List, [], ◌∷◌, All, codes, Result, Ok, Err, length, get_or, take}
-use Rattle.std.proofs.Common.{drop, refl, sym, ap, ◌∙◌, arith, inl, inr}
+use Rattle.std.proofs.Common.{◌≡◌, ℕ, ◌+◌, ◌<◌, List, [], ◌∷◌, All, codes, Result, Ok, Err, length, get_or, take, drop}
+use Rattle.std.proofs.Common.{refl, sym, ap, ◌∙◌, arith, inl, inr}
 use Rattle.std.specs.Prelude.{IfOk, IfErr, IsOkAnd}
 use Rattle.std.proofs.lemmas.Bool.{cases_order}
 use Rattle.std.proofs.lemmas.List.{take_at, drop_at, length-drop, get_or-drop, drop-drop}
@@ -12,8 +12,8 @@ use Rattle.rtsp_text.specs.Lines.{header_lines, IsSplit}
 use Rattle.rtsp_text.specs.Grammar.{IsHeaderLine}
 use Rattle.rtsp_text.specs.Requests.{HasVersion, IsRequest, IsFirstBad, IsFault}
 use Rattle.rtsp_text.specs.declared.requests.RequestFault.{RequestFault}
-use Rattle.rtsp_text.specs.declared.requests.RequestFault.TheVariants.{BadLine, BadVersion, BadHeader}
-use Rattle.rtsp_text.specs.declared.requests.RequestFault.TheVariants.{NoSequenceNumber, BadLength}
+use Rattle.rtsp_text.specs.declared.requests.RequestFault.TheVariants.{BadLine, BadVersion, BadHeader, NoSequenceNumber}
+use Rattle.rtsp_text.specs.declared.requests.RequestFault.TheVariants.{BadLength}
 use Rattle.rtsp_text.proofs.LineWords.{line_parts, method_cut, url_cut}
 
 -- a request line has one version
@@ -35,31 +35,20 @@ no_bad lines n all bad = bad.bad (all bad.index [] bad.inside)
 pub fault_once : (message : List ℕ) (f g : RequestFault) → IsFault message f → IsFault message g → f ≡ g
 fault_once message BadLine BadLine a b = refl
 fault_once message BadLine BadVersion a b = absurd (a b.0 b.1.0)
-fault_once message BadLine (BadHeader m) a b = absurd (a (codes "RTSP/1.0") b.0)
-fault_once message BadLine NoSequenceNumber a b = absurd (a (codes "RTSP/1.0") b.0)
-fault_once message BadLine BadLength a b = absurd (a (codes "RTSP/1.0") b.0)
 fault_once message BadVersion BadLine a b = absurd (b a.0 a.1.0)
 fault_once message BadVersion BadVersion a b = refl
-fault_once message BadVersion (BadHeader m) a b = absurd (a.1.1 (version_once message a.0 (codes "RTSP/1.0") a.1.0 b.0))
-fault_once message BadVersion NoSequenceNumber a b =
-    absurd (a.1.1 (version_once message a.0 (codes "RTSP/1.0") a.1.0 b.0))
-fault_once message BadVersion BadLength a b = absurd (a.1.1 (version_once message a.0 (codes "RTSP/1.0") a.1.0 b.0))
-fault_once message (BadHeader n) BadLine a b = absurd (b (codes "RTSP/1.0") a.0)
-fault_once message (BadHeader n) BadVersion a b = absurd (b.1.1 (version_once message b.0 (codes "RTSP/1.0") b.1.0 a.0))
 fault_once message (BadHeader n) (BadHeader m) a b = ap BadHeader (bad_once (header_lines message) n m a.1 b.1)
 fault_once message (BadHeader n) NoSequenceNumber a b = absurd (no_bad (header_lines message) n b.1 a.1)
 fault_once message (BadHeader n) BadLength a b = absurd (no_bad (header_lines message) n b.1 a.1)
-fault_once message NoSequenceNumber BadLine a b = absurd (b (codes "RTSP/1.0") a.0)
-fault_once message NoSequenceNumber BadVersion a b =
-    absurd (b.1.1 (version_once message b.0 (codes "RTSP/1.0") b.1.0 a.0))
 fault_once message NoSequenceNumber (BadHeader m) a b = absurd (no_bad (header_lines message) m a.1 b.1)
-fault_once message NoSequenceNumber NoSequenceNumber a b = refl
 fault_once message NoSequenceNumber BadLength a b = absurd (none-some b.2.0 (sym a.2 ∙ b.2.1))
-fault_once message BadLength BadLine a b = absurd (b (codes "RTSP/1.0") a.0)
-fault_once message BadLength BadVersion a b = absurd (b.1.1 (version_once message b.0 (codes "RTSP/1.0") b.1.0 a.0))
 fault_once message BadLength (BadHeader m) a b = absurd (no_bad (header_lines message) m a.1 b.1)
 fault_once message BadLength NoSequenceNumber a b = absurd (none-some a.2.0 (sym b.2 ∙ a.2.1))
-fault_once message BadLength BadLength a b = refl
+fault_once message BadLine _ a b = absurd (a (codes "RTSP/1.0") b.0)
+fault_once message _ BadLine a b = absurd (b (codes "RTSP/1.0") a.0)
+fault_once message BadVersion _ a b = absurd (a.1.1 (version_once message a.0 (codes "RTSP/1.0") a.1.0 b.0))
+fault_once message _ BadVersion a b = absurd (b.1.1 (version_once message b.0 (codes "RTSP/1.0") b.1.0 a.0))
+fault_once message _ _ a b = refl
 
 -- a request has no fault
 pub no_fault : {message method url : List ℕ} {sequence : ℕ} {head body : List ℕ} (f : RequestFault) →
