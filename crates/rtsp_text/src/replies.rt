@@ -9,6 +9,7 @@ ghost use Rattle.rtsp_text.specs.Replies.{status_line, reply_front, reply_text, 
 
 use itoa::Buffer;
 use std::alloc::Global;
+use std::fmt;
 use std::marker::Model;
 use vod_base::NoMemory;
 
@@ -47,6 +48,14 @@ impl Model for Reply {
     ghost view = { λ r. r.text.items };
 
     ghost invariant = { λ r. MAX_REPLY_BYTES ≤ vec_capacity r.text };
+}
+
+impl fmt::Debug for Reply {
+    fn fmt<W: fmt::Write>(&self, f: &mut fmt::Formatter<W>) -> fmt::Result {
+        f.debug_struct("Reply")
+            .field("length", &self.text.len())
+            .finish_non_exhaustive()
+    }
 }
 
 impl Reply {

@@ -138,6 +138,8 @@ fn writes_refusals(rt: HostRuntime) -> Result<(), Fail> {
     }
     let bare = b"RTSP/1.0 400 Bad Request\r\n\r\n";
     assert_eq!(rt; refusal(&mut reply, 400, None), bare.as_slice());
+    let printed = format!(in rt.alloc(); "{reply:?}")?;
+    assert_eq!(rt; printed.as_str(), "Reply { length: 28, .. }");
     let greatest = b"RTSP/1.0 404 Not Found\r\nCSeq: 18446744073709551615\r\n\r\n";
     assert_eq!(rt;
         refusal(&mut reply, 404, Some(u64::MAX)),
