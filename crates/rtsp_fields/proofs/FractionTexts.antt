@@ -9,8 +9,7 @@ use Rattle.std.proofs.lemmas.Bool.{cases_lt}
 use Rattle.std.proofs.lemmas.Bool.Decides.{nat_tests}
 use Rattle.std.proofs.lemmas.List.{length-take, take_all}
 use Rattle.std.proofs.lemmas.Nat.{le-div, pow-add}
-use Rattle.vod_base.proofs.DigitLemmas.{digits_value_more}
-use Rattle.vod_base.proofs.DigitLemmas.{is_digit_at}
+use Rattle.vod_base.proofs.DigitLemmas.{digits_value_more, is_digit_at}
 use Rattle.rtsp_fields.specs.NptTimes.{IsFraction, IsTime}
 use Rattle.rtsp_fields.proofs.SecondsTexts.{seconds_digits, time_of}
 

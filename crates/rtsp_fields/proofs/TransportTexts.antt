@@ -1,19 +1,16 @@
 -- A Transport value of one alternative, put together, is read back.
-use Rattle.std.proofs.Common.{◌≡◌, ◌≢◌, ℕ, ◌+◌, ◌-◌, ◌<◌, ◌≤◌, true, false}
-use Rattle.std.proofs.Common.{List, [], ◌∷◌, ◌++◌, length, take, get_or, slice_range, reverse, codes, decimal, refl}
-use Rattle.std.proofs.Common.{sym, ap, subst, ◌∙◌, arith, inl, inr}
-use Rattle.std.proofs.lemmas.Bool.{cond-false}
+use Rattle.std.proofs.Common.{◌≡◌, ◌≢◌, ℕ, ◌+◌, ◌-◌, ◌<◌, ◌≤◌, true, false, List, [], ◌∷◌, ◌++◌, length, take, get_or}
+use Rattle.std.proofs.Common.{slice_range, reverse, codes, decimal, refl, sym, ap, subst, ◌∙◌, arith, inl, inr}
+use Rattle.std.proofs.lemmas.Bool.{cond-false, and_from}
 use Rattle.std.specs.List.{list_all}
 use Rattle.std.specs.Char.{is_ascii_digit}
-use Rattle.std.proofs.lemmas.Bool.{and_from}
 use Rattle.std.proofs.lemmas.Fmt.{digits_decimal, decimal_nonempty}
 use Rattle.std.proofs.lemmas.List.{take_all, length-append, length-reverse, get_or-append-add, get_or-reverse}
 use Rattle.std.proofs.lemmas.List.{append_assoc, reverse-reverse}
 use Rattle.std.proofs.lemmas.List.Folds.{list_all-append}
 use Rattle.vod_base.specs.Blanks.{is_blank, without_leading_blanks, without_blanks}
 use Rattle.vod_base.proofs.TextLemmas.{written_read}
-use Rattle.vod_base.proofs.DigitLemmas.{is_digit_at}
-use Rattle.vod_base.proofs.DigitLemmas.{decimal_numerals}
+use Rattle.vod_base.proofs.DigitLemmas.{is_digit_at, decimal_numerals}
 use Rattle.rtsp_fields.specs.SeparatedParts.{HasNone, Begins, in_lower_case}
 use Rattle.rtsp_fields.specs.Transports.{IsPair, AreChannels, AsksOtherDelivery, NamesChannels, AreNamed, IsDelivery}
 use Rattle.rtsp_fields.specs.Transports.{IsTransport, part_word, after_name}
