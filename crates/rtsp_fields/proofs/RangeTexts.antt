@@ -3,6 +3,7 @@ use Rattle.std.proofs.Common.{◌≡◌, ℕ, suc, ◌+◌, ◌-◌, ◌*◌, �
 use Rattle.std.proofs.Common.{decimal, length, take, drop, get_or, slice_range, Some, None, refl, sym, ap, subst, ◌∙◌}
 use Rattle.std.proofs.Common.{arith}
 use Rattle.std.specs.List.{list_all}
+use Rattle.std.specs.Char.{is_ascii_digit}
 use Rattle.std.proofs.lemmas.Fmt.{digits_decimal}
 use Rattle.std.proofs.lemmas.List.{append_assoc, take_at, drop_at, take_all, length-append, get_or_append_left}
 use Rattle.std.proofs.lemmas.List.{get_or-append-add}
@@ -14,7 +15,7 @@ use Rattle.rtsp_fields.specs.Ranges.{IsLimit, IsOrigin, IsSpan}
 use Rattle.rtsp_fields.specs.declared.ranges.Span.{Span}
 use Rattle.rtsp_fields.specs.declared.ranges.Origin.TheVariants.{Now, At}
 use Rattle.rtsp_fields.proofs.SecondsTexts.{seconds_read}
-use Rattle.rtsp_fields.proofs.SeparatedTexts.{digits_other, none_from, other_than}
+use Rattle.rtsp_fields.proofs.SeparatedTexts.{kind_other, none_from, other_than}
 
 -- `npt=`, where the span begins, `-`, and where it ends
 range_text : List ℕ → List ℕ → List ℕ
@@ -70,7 +71,7 @@ span_read from to span free begins ends =
 
 -- a text of seconds has no `-`
 number_free : (n : ℕ) → n < 2 ^ 64 → list_all (other_than 45) (decimal n) ≡ true
-number_free n fits = digits_other 45 (decimal n) refl (digits_decimal decimal_numerals n fits)
+number_free n fits = kind_other is_ascii_digit 45 (decimal n) refl (digits_decimal decimal_numerals n fits)
 
 seconds_free : (ms : ℕ) → ms < 2 ^ 64 → list_all (other_than 45) (seconds_text ms) ≡ true
 unfolding other_than

@@ -1,11 +1,11 @@
 -- A text that a separator cuts: its first part, and those of the rest.
 use Rattle.std.proofs.Common.{◌≡◌, ℕ, suc, ◌+◌, ◌-◌, ◌<◌, ◌≤◌, ◌⊎◌, ◌==◌, Bool, true, false, not, List, [], ◌∷◌, ◌++◌}
 use Rattle.std.proofs.Common.{length, take, drop, get_or, slice_range, refl, sym, ap, subst, ◌∙◌, arith, inl, inr}
-use Rattle.std.proofs.lemmas.Bool.{cases_lt, and_parts, and_from}
+use Rattle.std.proofs.lemmas.Bool.{cases_lt}
 use Rattle.std.specs.List.{list_all}
-use Rattle.std.specs.Char.{is_ascii_digit}
 use Rattle.std.proofs.lemmas.List.{take_at, take_all, length-append, get_or_append_left, get_or-append-add}
 use Rattle.std.proofs.lemmas.List.Folds.{list_all_at}
+use Rattle.rtsp_text.proofs.CutUniqueness.{all_other}
 use Rattle.rtsp_fields.specs.SeparatedParts.{HasNone, IsStart, IsPartEnd, IsPart, NoPart, NoneBefore}
 
 unfoldable pub text_of : ℕ → List ℕ → List ℕ → List ℕ
@@ -230,14 +230,8 @@ none_from c a all = λ k from below is.
     let wrong : true ≡ false = sym all ∙ list_all_at (other_than c) a k 0 below other in
     cc
 
-digit_other : (c b : ℕ) → is_ascii_digit c ≡ false → is_ascii_digit b ≡ true → other_than c b ≡ true
+-- nor is one of a text of bytes of another kind
+pub kind_other : (kind : ℕ → Bool) (c : ℕ) (text : List ℕ) → kind c ≡ false → list_all kind text ≡ true
+    → list_all (other_than c) text ≡ true
 unfolding other_than
-digit_other c b no_digit digit = grind arith
-
-pub digits_other : (c : ℕ) (ds : List ℕ) → is_ascii_digit c ≡ false → list_all is_ascii_digit ds ≡ true
-    → list_all (other_than c) ds ≡ true
-digits_other c [] no_digit all = refl
-digits_other c (d ∷ ds) no_digit all =
-    let parts = and_parts (is_ascii_digit d) (list_all is_ascii_digit ds) all in
-    and_from (other_than c d) (list_all (other_than c) ds) (digit_other c d no_digit parts.0)
-    (digits_other c ds no_digit parts.1)
+kind_other kind c text other all = all_other kind c other text all

@@ -1,26 +1,15 @@
 -- The id of a session is read back, alone and with parameters after it.
-use Rattle.std.proofs.Common.{◌≡◌, ℕ, ◌-◌, ◌<◌, true, false, List, [], ◌∷◌, ◌++◌, length, get_or, refl, ap, ◌∙◌, arith}
+use Rattle.std.proofs.Common.{◌≡◌, ℕ, ◌-◌, ◌<◌, true, false, List, ◌∷◌, ◌++◌, length, get_or, refl, ap, ◌∙◌, arith}
 use Rattle.std.specs.List.{list_all}
 use Rattle.std.specs.Char.{is_ascii_alphanumeric}
-use Rattle.std.proofs.lemmas.Bool.{and_parts, and_from}
 use Rattle.std.proofs.lemmas.List.{take_at, take_all}
 use Rattle.std.proofs.lemmas.List.Folds.{list_all_at}
 use Rattle.std.proofs.lemmas.Grind.{common_steps}
 use Rattle.vod_base.specs.Blanks.{is_blank, without_blanks}
 use Rattle.rtsp_fields.specs.SeparatedParts.{in_lower_case}
 use Rattle.rtsp_fields.specs.SessionIds.{IsSession}
-use Rattle.rtsp_fields.proofs.SeparatedTexts.{text_of, part_first, part_whole, other_than, none_from}
+use Rattle.rtsp_fields.proofs.SeparatedTexts.{text_of, part_first, part_whole, kind_other, none_from}
 use Rattle.rtsp_fields.proofs.TransportTexts.{bare}
-
-letter_other : (b : ℕ) → is_ascii_alphanumeric b ≡ true → other_than 59 b ≡ true
-unfolding other_than
-letter_other b letter = grind arith
-
-letters_other : (text : List ℕ) → list_all is_ascii_alphanumeric text ≡ true → list_all (other_than 59) text ≡ true
-letters_other [] all = refl
-letters_other (b ∷ text) all =
-    let parts = and_parts (is_ascii_alphanumeric b) (list_all is_ascii_alphanumeric text) all in
-    and_from (other_than 59 b) (list_all (other_than 59) text) (letter_other b parts.0) (letters_other text parts.1)
 
 letter_at : (text : List ℕ) (k : ℕ) → list_all is_ascii_alphanumeric text ≡ true → k < length text
     → is_ascii_alphanumeric (get_or text k 0) ≡ true
@@ -37,7 +26,7 @@ id_bare id all some =
 pub id_read : (id : List ℕ) → list_all is_ascii_alphanumeric id ≡ true → 0 < length id → IsSession id id
 id_read id all some = record {
   end = length id;
-  first = (part_whole 59 id (none_from 59 id (letters_other id all))).end;
+  first = (part_whole 59 id (none_from 59 id (kind_other is_ascii_alphanumeric 59 id refl all))).end;
   same = ap (λ (t : List ℕ). in_lower_case (without_blanks t)) (take_all (length id) id (omega arith))
       ∙ ap in_lower_case (id_bare id all some);
 }
@@ -47,7 +36,7 @@ pub id_read_before : (id rest : List ℕ) → list_all is_ascii_alphanumeric id 
 unfolding text_of
 id_read_before id rest all some = record {
   end = length id;
-  first = (part_first 59 id rest (none_from 59 id (letters_other id all))).end;
+  first = (part_first 59 id rest (none_from 59 id (kind_other is_ascii_alphanumeric 59 id refl all))).end;
   same = ap (λ (t : List ℕ). in_lower_case (without_blanks t)) (take_at id (59 ∷ rest) (length id) refl)
       ∙ ap in_lower_case (id_bare id all some);
 }

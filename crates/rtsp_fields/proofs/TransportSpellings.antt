@@ -1,6 +1,6 @@
 -- Words of a Transport value in any case, with blanks around them.
-use Rattle.std.proofs.Common.{◌≡◌, ℕ, ◌<◌, true, false, List, [], ◌∷◌, ◌++◌, length, codes, get_or, reverse}
-use Rattle.std.proofs.Common.{refl, sym, ap, subst, ◌∙◌, arith, inl, inr}
+use Rattle.std.proofs.Common.{◌≡◌, ℕ, ◌<◌, true, false, List, [], ◌∷◌, ◌++◌, length, codes, get_or, reverse, refl, sym}
+use Rattle.std.proofs.Common.{ap, subst, ◌∙◌, arith, inl, inr}
 use Rattle.std.specs.List.{list_all}
 use Rattle.std.specs.Char.{to_ascii_lowercase}
 use Rattle.std.proofs.lemmas.Bool.{and_from, and_parts, cond-true}
@@ -12,7 +12,7 @@ use Rattle.vod_base.proofs.TextLemmas.{all-reverse}
 use Rattle.rtsp_fields.specs.Laws.{IsPlayParameter, IsSpelling}
 use Rattle.rtsp_fields.specs.SeparatedParts.{in_lower_case}
 use Rattle.rtsp_fields.specs.Transports.{AsksOtherDelivery, NamesChannels, part_word}
-use Rattle.rtsp_fields.proofs.SeparatedTexts.{other_than}
+use Rattle.rtsp_fields.proofs.SeparatedTexts.{kind_other, other_than}
 use Rattle.rtsp_fields.proofs.TransportTexts.{bare_front, first_letter, names_none}
 
 -- blanks before a text are left out
@@ -73,18 +73,6 @@ spelled word text bare s =
     ∙ ap in_lower_case (reverse-reverse letters) ∙ s.same
 
 -- such a text has a separator nowhere
-blank_other : (c b : ℕ) → is_blank c ≡ false → is_blank b ≡ true → other_than c b ≡ true
-unfolding other_than
-blank_other c b no_blank blank = grind arith
-
-blanks_other : (c : ℕ) (bs : List ℕ) → is_blank c ≡ false → list_all is_blank bs ≡ true
-    → list_all (other_than c) bs ≡ true
-blanks_other c [] no_blank all = refl
-blanks_other c (b ∷ bs) no_blank all =
-    let parts = and_parts (is_blank b) (list_all is_blank bs) all in
-    and_from (other_than c b) (list_all (other_than c) bs) (blank_other c b no_blank parts.0)
-    (blanks_other c bs no_blank parts.1)
-
 lower_other : (c b : ℕ) → to_ascii_lowercase c ≡ c → other_than c (to_ascii_lowercase b) ≡ true → other_than c b ≡ true
 unfolding other_than
 lower_other c b fixed other = grind arith
@@ -104,10 +92,10 @@ spelled_free c word text is free s =
     let inner : list_all (other_than c) (s.letters ++ s.back) ≡ true =
     list_all-append (other_than c) s.letters s.back
     ∙ and_from (list_all (other_than c) s.letters) (list_all (other_than c) s.back)
-    (letters_other c s.letters is.1 (subst P (sym s.same) free)) (blanks_other c s.back is.0 s.back_is_blank) in
+    (letters_other c s.letters is.1 (subst P (sym s.same) free)) (kind_other is_blank c s.back is.0 s.back_is_blank) in
     subst P (sym s.text_is) (list_all-append (other_than c) s.front (s.letters ++ s.back)
     ∙ and_from (list_all (other_than c) s.front) (list_all (other_than c) (s.letters ++ s.back))
-    (blanks_other c s.front is.0 s.front_is_blank) inner)
+    (kind_other is_blank c s.front is.0 s.front_is_blank) inner)
 
 pub protocol_word : (text : List ℕ) → IsSpelling (codes "rtp/avp/tcp") text → part_word text ≡ codes "rtp/avp/tcp"
 protocol_word text s =

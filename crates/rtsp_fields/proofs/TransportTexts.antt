@@ -18,7 +18,7 @@ use Rattle.vod_base.specs.Limits.{WritesNumber}
 use Rattle.rtsp_fields.specs.declared.transports.Channels.{Channels}
 use Rattle.rtsp_fields.proofs.SeparatedTexts.{text_of, long_of, part_later, part_first, part_whole, slice_first}
 use Rattle.rtsp_fields.proofs.SeparatedTexts.{slice_later, none_more, none_whole, none_before, other_than, none_from}
-use Rattle.rtsp_fields.proofs.SeparatedTexts.{digits_other}
+use Rattle.rtsp_fields.proofs.SeparatedTexts.{kind_other}
 
 -- ---- a text that neither begins nor ends with a blank
 
@@ -207,7 +207,7 @@ digits : (n : ℕ) → n ≤ 255 → list_all is_ascii_digit (decimal n) ≡ tru
 digits n small = digits_decimal decimal_numerals n (omega (arith, small))
 
 number_free : (c n : ℕ) → is_ascii_digit c ≡ false → n ≤ 255 → list_all (other_than c) (decimal n) ≡ true
-number_free c n no_digit small = digits_other c (decimal n) no_digit (digits n small)
+number_free c n no_digit small = kind_other is_ascii_digit c (decimal n) no_digit (digits n small)
 
 dash_other : (c : ℕ) → c ≢ 45 → other_than c 45 ≡ true
 unfolding other_than
