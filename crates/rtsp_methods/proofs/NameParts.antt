@@ -1,6 +1,6 @@
 -- The parts of the list of names.
-use Rattle.std.proofs.Common.{ℕ, ◌≡◌, ◌<◌, ◌≤◌, ◌+◌, ◌*◌, zero, suc, true, List, [], ◌∷◌, codes, get_or, length}
-use Rattle.std.proofs.Common.{map, flat_map, sum_by, refl, sym, ap, subst, ◌∙◌, arith, inl, inr}
+use Rattle.std.proofs.Common.{ℕ, ◌≡◌, ◌<◌, ◌≤◌, ◌+◌, ◌*◌, suc, true, List, [], ◌∷◌, codes, get_or, length, map}
+use Rattle.std.proofs.Common.{flat_map, sum_by, refl, sym, ap, subst, ◌∙◌, arith, inl, inr}
 use Rattle.std.specs.Borrow.{Bor}
 use Rattle.std.specs.List.{list_all}
 use Rattle.std.proofs.Math.ListN.{set}
@@ -35,24 +35,12 @@ part_at j = get_or name_parts j []
 
 -- they are, for each method, what stands before its name, and the name
 even_part : (place : ℕ) → place < 7 → part_at (2 * place) ≡ separator_before place
-even_part zero inside = refl
-even_part (suc zero) inside = refl
-even_part (suc (suc zero)) inside = refl
-even_part (suc (suc (suc zero))) inside = refl
-even_part (suc (suc (suc (suc zero)))) inside = refl
-even_part (suc (suc (suc (suc (suc zero))))) inside = refl
-even_part (suc (suc (suc (suc (suc (suc zero)))))) inside = refl
 even_part (suc (suc (suc (suc (suc (suc (suc place))))))) inside = absurd (omega (arith, inside))
+even_part _ inside = refl
 
 odd_part : (place : ℕ) → place < 7 → part_at (2 * place + 1) ≡ name_of (method_at place)
-odd_part zero inside = refl
-odd_part (suc zero) inside = refl
-odd_part (suc (suc zero)) inside = refl
-odd_part (suc (suc (suc zero))) inside = refl
-odd_part (suc (suc (suc (suc zero)))) inside = refl
-odd_part (suc (suc (suc (suc (suc zero))))) inside = refl
-odd_part (suc (suc (suc (suc (suc (suc zero)))))) inside = refl
 odd_part (suc (suc (suc (suc (suc (suc (suc place))))))) inside = absurd (omega (arith, inside))
+odd_part _ inside = refl
 
 -- two parts more
 pub parts_more : (texts : List (List ℕ)) (separator name : List ℕ) (place : ℕ)

@@ -1,7 +1,6 @@
 -- The methods by their names, what each needs of its request, and what a GET_PARAMETER asks for
 -- (RFC 2326 section 10).
-use Rattle.std.specs.Prelude.{ℕ, ◌≡◌, ◌≢◌, ◌⊎◌, ◌++◌, ◌==◌, if◌then◌else◌, List, [], ◌∷◌}
-use Rattle.std.specs.Prelude.{codes}
+use Rattle.std.specs.Prelude.{ℕ, ◌≡◌, ◌≢◌, ◌⊎◌, ◌++◌, ◌==◌, if◌then◌else◌, List, [], ◌∷◌, codes}
 use Rattle.rtsp_methods.specs.declared.methods.Method.{Method}
 use Rattle.rtsp_methods.specs.declared.methods.Method.TheVariants.{Options, Describe, Setup, Play}
 use Rattle.rtsp_methods.specs.declared.methods.Method.TheVariants.{Pause, Teardown, GetParameter}
@@ -33,30 +32,21 @@ abbrev pub session_need_of : Method → SessionNeed
 session_need_of Options = Ignored
 session_need_of Describe = Ignored
 session_need_of Setup = MayBeNamed
-session_need_of Play = MustBeNamed
-session_need_of Pause = MustBeNamed
-session_need_of Teardown = MustBeNamed
 session_need_of GetParameter = MayBeNamed
+session_need_of _ = MustBeNamed
 
 -- any film can be described; what else is asked is asked of the session's
 abbrev pub film_need_of : Method → FilmNeed
 film_need_of Options = AnyFilm
 film_need_of Describe = AnyFilm
-film_need_of Setup = Own
-film_need_of Play = Own
-film_need_of Pause = Own
-film_need_of Teardown = Own
-film_need_of GetParameter = Own
+film_need_of _ = Own
 
 -- a SETUP needs Init, a PLAY with a Range another state than Playing, a PAUSE Playing
 abbrev pub state_need_of : Method → StateNeed
-state_need_of Options = AnyState
-state_need_of Describe = AnyState
 state_need_of Setup = NoSession
 state_need_of Play = NoRangeWhilePlaying
 state_need_of Pause = Playing
-state_need_of Teardown = AnyState
-state_need_of GetParameter = AnyState
+state_need_of _ = AnyState
 
 -- what a row says, and what holds for a method
 pub record MethodValues : Type 0 where

@@ -1,8 +1,6 @@
 -- Which refusal a fault has (RFC 2326 section 7.1.1).
 use Rattle.rtsp_text.specs.declared.requests.RequestFault.{RequestFault}
-use Rattle.rtsp_text.specs.declared.requests.RequestFault.TheVariants.{BadLine, BadVersion}
-use Rattle.rtsp_text.specs.declared.requests.RequestFault.TheVariants.{BadHeader, NoSequenceNumber}
-use Rattle.rtsp_text.specs.declared.requests.RequestFault.TheVariants.{BadLength}
+use Rattle.rtsp_text.specs.declared.requests.RequestFault.TheVariants.{BadVersion}
 use Rattle.wire_curve.specs.declared.film.CurveFault.TheVariants.{NoPictures, TooManySlots}
 use Rattle.wire_curve.specs.declared.film.CurveFault.TheVariants.{BufferTooSmall}
 use Rattle.wire_curve.specs.declared.film.CurveRefused.{CurveRefused}
@@ -13,11 +11,8 @@ use Rattle.rtsp_methods.specs.declared.refusals.Refusal.TheVariants.{Range, Memo
 
 -- the refusal of a message that is no request
 abbrev pub fault_refusal : RequestFault → Refusal
-fault_refusal BadLine = BadRequest
 fault_refusal BadVersion = Version
-fault_refusal (BadHeader line) = BadRequest
-fault_refusal NoSequenceNumber = BadRequest
-fault_refusal BadLength = BadRequest
+fault_refusal _ = BadRequest
 
 -- why a run has no plan
 abbrev pub curve_refusal : CurveRefused → Refusal

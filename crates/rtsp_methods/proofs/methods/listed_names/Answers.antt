@@ -3,8 +3,7 @@ use Rattle.std.specs.Borrow.{Bor}
 use Rattle.std.proofs.Math.ListN.{set}
 use Rattle.std.proofs.lemmas.List.{length-map, length-set, map-set}
 use Rattle.rtsp_methods.proofs.MethodTable.{name_in_row, rows_long}
-use Rattle.rtsp_methods.proofs.NameParts.{name_parts, parts_are, parts_line, parts_more, parts_short}
-use Rattle.rtsp_methods.proofs.NameParts.{parts_text}
+use Rattle.rtsp_methods.proofs.NameParts.{name_parts, parts_are, parts_line, parts_more, parts_short, parts_text}
 use Rattle.rtsp_methods.proofs.methods.listed_names.Goals as goal
 use Rattle.rtsp_methods.proofs.methods.listed_names.Goals.{After-loop-place}
 
