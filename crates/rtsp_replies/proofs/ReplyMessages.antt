@@ -1,11 +1,7 @@
 -- Each reply is a complete message, where what it repeats is short and what it counts is a number of
 -- 64 bits.
-use Rattle.std.proofs.Common.{◌≡◌, ℕ, ◌+◌, ◌*◌, ◌^◌, ◌<◌, ◌≤◌, ◌&&◌, ◌==◌, true, not}
-use Rattle.std.proofs.Common.{nat_lt, nat_le, List, [], ◌∷◌, ◌++◌, All, codes, decimal, flat_map}
-use Rattle.std.proofs.Common.{get_or}
-use Rattle.std.proofs.Common.{length}
-use Rattle.std.proofs.Common.{Option, Some, None, refl, sym}
-use Rattle.std.proofs.Common.{subst}
+use Rattle.std.proofs.Common.{◌≡◌, ℕ, ◌+◌, ◌*◌, ◌^◌, ◌<◌, ◌≤◌, ◌&&◌, ◌==◌, true, not, nat_lt, nat_le, List, [], ◌∷◌}
+use Rattle.std.proofs.Common.{◌++◌, All, codes, decimal, flat_map, get_or, length, Option, Some, None, refl, sym, subst}
 use Rattle.std.proofs.Common.{arith}
 use Rattle.std.specs.Prelude.{IfSome}
 use Rattle.std.specs.List.{list_all}
@@ -19,34 +15,24 @@ use Rattle.vod_base.specs.Names.{good_name, is_name_byte}
 use Rattle.vod_base.proofs.TextLemmas.{decimal_read}
 use Rattle.early_start.specs.declared.Tried.{Tried}
 use Rattle.rtsp_text.specs.Lines.{is_one_line}
-use Rattle.rtsp_text.specs.Replies.{Field, field_line, is_code, phrase, reply_front, reply_text}
-use Rattle.rtsp_text.specs.Replies.{value_named}
+use Rattle.rtsp_text.specs.Replies.{Field, field_line, is_code, phrase, reply_front, reply_text, value_named}
 use Rattle.rtsp_text.specs.RequestTexts.{HasGivenLength}
 use Rattle.rtsp_text.proofs.ReplyTexts.{front_field, whole_reply}
 use Rattle.rtsp_text.proofs.UrlBytes.{name_in_url}
 use Rattle.rtsp_fields.specs.Sdp.{description_text, seconds_text}
 use Rattle.rtsp_fields.specs.declared.transports.Channels.{Channels}
 use Rattle.rtsp_methods.specs.declared.refusals.Refusal.{Refusal}
-use Rattle.rtsp_methods.specs.declared.refusals.Refusal.TheVariants.{BadRequest, Version, Method}
-use Rattle.rtsp_methods.specs.declared.refusals.Refusal.TheVariants.{Option as Required, Session}
-use Rattle.rtsp_methods.specs.declared.refusals.Refusal.TheVariants.{Film as NoFilm}
-use Rattle.rtsp_methods.specs.declared.refusals.Refusal.TheVariants.{State as NotNow, Transport}
-use Rattle.rtsp_methods.specs.declared.refusals.Refusal.TheVariants.{Parameter, Buffer, Range}
-use Rattle.rtsp_methods.specs.declared.refusals.Refusal.TheVariants.{Memory}
+use Rattle.rtsp_methods.specs.declared.refusals.Refusal.TheVariants.{BadRequest, Version, Method, Option as Required}
+use Rattle.rtsp_methods.specs.declared.refusals.Refusal.TheVariants.{Session, Film as NoFilm, State as NotNow}
+use Rattle.rtsp_methods.specs.declared.refusals.Refusal.TheVariants.{Transport, Parameter, Buffer, Range, Memory}
 use Rattle.rtsp_methods.specs.Methods.{name_list}
-use Rattle.rtsp_replies.specs.Replies.{started_text}
-use Rattle.rtsp_replies.specs.Replies.{code_of, describe_text, field, full_text, joined_parts}
-use Rattle.rtsp_replies.specs.Replies.{look_body, offer_body}
-use Rattle.rtsp_replies.specs.Replies.{over_line}
-use Rattle.rtsp_replies.specs.Replies.{overflow_text, parameters_text, plain_text, play_fields}
-use Rattle.rtsp_replies.specs.Replies.{public_text, refusal_fields}
-use Rattle.rtsp_replies.specs.Replies.{refusal_text, session_text, setup_text, start_line}
+use Rattle.rtsp_replies.specs.Replies.{started_text, code_of, describe_text, field, full_text, joined_parts, look_body}
+use Rattle.rtsp_replies.specs.Replies.{offer_body, over_line, overflow_text, parameters_text, plain_text, play_fields}
+use Rattle.rtsp_replies.specs.Replies.{public_text, refusal_fields, refusal_text, session_text, setup_text, start_line}
 use Rattle.rtsp_replies.specs.Replies.{start_text, transport_value}
 use Rattle.rtsp_replies.specs.Messages.{AreOffersInWords, IsMessage, IsTriedInWords}
-use Rattle.rtsp_replies.proofs.ReplyTextLemmas.{AreWritten, IsPrinted, plain-more, printed-append}
-use Rattle.rtsp_replies.proofs.ReplyTextLemmas.{printed-decimal}
-use Rattle.rtsp_replies.proofs.ReplyTextLemmas.{printed-nil, printed-seconds, printed-w32, whole_of}
-use Rattle.rtsp_replies.proofs.ReplyTextLemmas.{written-more}
+use Rattle.rtsp_replies.proofs.ReplyTextLemmas.{AreWritten, IsPrinted, plain-more, printed-append, printed-decimal}
+use Rattle.rtsp_replies.proofs.ReplyTextLemmas.{printed-nil, printed-seconds, printed-w32, whole_of, written-more}
 use Rattle.rtsp_replies.proofs.ReplyTextLemmas.{written-nil, written-within}
 use Rattle.early_start.specs.StartSearch.{Offers}
 
@@ -200,17 +186,7 @@ HasFitLeast refusal = (least : ℕ) → refusal ≡ Buffer least → least < 2 ^
 
 refusal_status : (refusal : Refusal) → IsStatus (code_of refusal)
 refusal_status BadRequest = record { known = refl; phrase_short = omega arith }
-refusal_status Version = record { known = refl; phrase_short = omega arith }
-refusal_status Method = record { known = refl; phrase_short = omega arith }
-refusal_status Required = record { known = refl; phrase_short = omega arith }
-refusal_status Session = record { known = refl; phrase_short = omega arith }
-refusal_status NoFilm = record { known = refl; phrase_short = omega arith }
-refusal_status NotNow = record { known = refl; phrase_short = omega arith }
-refusal_status Transport = record { known = refl; phrase_short = omega arith }
-refusal_status Parameter = record { known = refl; phrase_short = omega arith }
-refusal_status (Buffer least) = record { known = refl; phrase_short = omega arith }
-refusal_status Range = record { known = refl; phrase_short = omega arith }
-refusal_status Memory = record { known = refl; phrase_short = omega arith }
+refusal_status _ = record { known = refl; phrase_short = omega arith }
 
 record IsRefusing (refusal : Refusal) (option : List ℕ) : Type 0 where
   written : AreWritten 16256 (refusal_fields refusal option)

@@ -2,12 +2,7 @@
 use Rattle.std.proofs.Common.{◌≡◌, ℕ, [], ◌∷◌, codes, refl}
 use Rattle.rtsp_text.specs.Replies.{phrase, value_named}
 use Rattle.rtsp_methods.specs.declared.refusals.Refusal.{Refusal}
-use Rattle.rtsp_methods.specs.declared.refusals.Refusal.TheVariants.{BadRequest, Version, Method}
-use Rattle.rtsp_methods.specs.declared.refusals.Refusal.TheVariants.{Option as Required, Session}
-use Rattle.rtsp_methods.specs.declared.refusals.Refusal.TheVariants.{Film as NoFilm, State}
-use Rattle.rtsp_methods.specs.declared.refusals.Refusal.TheVariants.{Transport}
-use Rattle.rtsp_methods.specs.declared.refusals.Refusal.TheVariants.{Parameter, Buffer, Range}
-use Rattle.rtsp_methods.specs.declared.refusals.Refusal.TheVariants.{Memory}
+use Rattle.rtsp_methods.specs.declared.refusals.Refusal.TheVariants.{BadRequest}
 use Rattle.rtsp_methods.specs.Methods.{name_list}
 use Rattle.rtsp_replies.specs.PublicLaws.{IsPublicTold}
 use Rattle.rtsp_replies.specs.Phrases.{phrase_of}
@@ -15,17 +10,7 @@ use Rattle.rtsp_replies.specs.Replies.{code_of, field, public_text}
 
 pub phrases : (refusal : Refusal) → phrase (code_of refusal) ≡ phrase_of refusal
 phrases BadRequest = refl
-phrases Version = refl
-phrases Method = refl
-phrases Required = refl
-phrases Session = refl
-phrases NoFilm = refl
-phrases State = refl
-phrases Transport = refl
-phrases Parameter = refl
-phrases (Buffer least) = refl
-phrases Range = refl
-phrases Memory = refl
+phrases _ = refl
 
 -- the reply to an OPTIONS
 pub public_told : (sequence : ℕ) → IsPublicTold sequence (public_text sequence)

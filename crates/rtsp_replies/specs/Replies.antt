@@ -10,10 +10,9 @@ use Rattle.rtsp_methods.specs.Methods.{name_list}
 use Rattle.rtsp_methods.specs.declared.refusals.Refusal.{Refusal}
 use Rattle.rtsp_methods.specs.declared.refusals.Refusal.TheVariants.{BadRequest, Version, Method}
 use Rattle.rtsp_methods.specs.declared.refusals.Refusal.TheVariants.{Option as Required, Session}
-use Rattle.rtsp_methods.specs.declared.refusals.Refusal.TheVariants.{Film}
-use Rattle.rtsp_methods.specs.declared.refusals.Refusal.TheVariants.{State, Transport, Parameter}
-use Rattle.rtsp_methods.specs.declared.refusals.Refusal.TheVariants.{Buffer}
-use Rattle.rtsp_methods.specs.declared.refusals.Refusal.TheVariants.{Range, Memory}
+use Rattle.rtsp_methods.specs.declared.refusals.Refusal.TheVariants.{Film, State, Transport}
+use Rattle.rtsp_methods.specs.declared.refusals.Refusal.TheVariants.{Parameter, Buffer, Range}
+use Rattle.rtsp_methods.specs.declared.refusals.Refusal.TheVariants.{Memory}
 
 abbrev pub field : List ℕ → List ℕ → Field
 field name value = record { name = name; value = value }
@@ -39,18 +38,9 @@ code_of Memory = 500
 
 -- what a refusal says in addition; the option is the one that its request requires
 abbrev pub refusal_fields : Refusal → List ℕ → List Field
-refusal_fields BadRequest option = []
-refusal_fields Version option = []
-refusal_fields Method option = []
 refusal_fields Required option = field (codes "Unsupported") option ∷ []
-refusal_fields Session option = []
-refusal_fields Film option = []
-refusal_fields State option = []
-refusal_fields Transport option = []
-refusal_fields Parameter option = []
 refusal_fields (Buffer least) option = field (codes "x-Least-Buffer") (decimal least) ∷ []
-refusal_fields Range option = []
-refusal_fields Memory option = []
+refusal_fields _ option = []
 
 abbrev pub refusal_text : Option ℕ → Refusal → List ℕ → List ℕ
 refusal_text sequence refusal option =
