@@ -151,6 +151,8 @@ fn writes_parameters(rt: HostRuntime) -> Result<(), Fail> {
         body.bytes(),
         b"x-Now: 7\r\nx-Slot: 8\r\nx-Booked: 35\r\n".as_slice()
     );
+    let printed = format!(in rt.alloc(); "{body:?}")?;
+    assert_eq!(rt; printed.as_str(), "Text { length: 35, .. }");
     put_parameters(&mut reply, 10, body.bytes());
     let look = b"RTSP/1.0 200 OK\r\nCSeq: 10\r\nContent-Type: text/parameters\r\n\
         Content-Length: 35\r\n\r\nx-Now: 7\r\nx-Slot: 8\r\nx-Booked: 35\r\n";

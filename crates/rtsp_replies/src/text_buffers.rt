@@ -4,6 +4,7 @@ ghost use Rattle.std.specs.Prelude.{◌≡◌, ◌+◌, ◌≤◌, ◌++◌, [],
 
 use itoa::Buffer;
 use std::alloc::Global;
+use std::fmt;
 use std::marker::Model;
 use vod_base::NoMemory;
 
@@ -27,6 +28,14 @@ impl Model for Text {
     ghost view = { λ text. text.bytes.items };
 
     ghost invariant = { λ text. MAX_TEXT_BYTES ≤ vec_capacity text.bytes };
+}
+
+impl fmt::Debug for Text {
+    fn fmt<W: fmt::Write>(&self, f: &mut fmt::Formatter<W>) -> fmt::Result {
+        f.debug_struct("Text")
+            .field("length", &self.bytes.len())
+            .finish_non_exhaustive()
+    }
 }
 
 impl Text {
