@@ -1,19 +1,21 @@
 -- The description of a film, line by line.
-use Rattle.std.proofs.Common.{◌≡◌, ◌≢◌, ℕ, zero, suc, ◌+◌, ◌-◌, ◌*◌, ◌^◌, ◌<◌, true, List, [], ◌∷◌, ◌++◌, length}
-use Rattle.std.proofs.Common.{get_or, slice_range, codes, flat_map, refl, sym, ap, subst, ◌∙◌, arith, inl, Some}
-use Rattle.std.proofs.lemmas.List.{append_assoc, take_all, length-append}
+use Rattle.std.proofs.Common.{◌≡◌, ℕ, zero, suc, ◌*◌, ◌^◌, ◌<◌, true, List, [], ◌∷◌, ◌++◌, codes, flat_map}
+use Rattle.std.proofs.Common.{refl, sym, ap, ◌∙◌, arith, inl, Some}
+use Rattle.std.proofs.lemmas.List.{append_assoc}
 use Rattle.vod_base.specs.Names.{good_name}
 use Rattle.rtsp_text.proofs.SingleLineTexts.{one_line-append, one_line-name}
 use Rattle.rtsp_fields.specs.Sdp.{description_text, seconds_text}
 use Rattle.rtsp_fields.specs.Laws.{IsDescription, whole_line}
-use Rattle.rtsp_fields.specs.SeparatedParts.{IsPartEnd, HasNone}
+use Rattle.rtsp_fields.specs.SeparatedParts.{HasNone}
 use Rattle.rtsp_fields.specs.Ranges.{IsSpan}
 use Rattle.rtsp_fields.specs.NptTimes.{IsTime}
 use Rattle.rtsp_fields.specs.declared.ranges.Origin.TheVariants.{At}
+use Rattle.rtsp_fields.proofs.RangeTexts.{span_read}
+use Rattle.rtsp_fields.proofs.SeparatedTexts.{other_than}
 use Rattle.rtsp_fields.proofs.SecondsTexts.{one_line-seconds, seconds_read}
 
 -- `0` is a time
-zero_time : IsTime (codes "0") 0
+pub zero_time : IsTime (codes "0") 0
 zero_time = record {
   point = 1;
   point_is = record { after = omega arith; within = omega arith; none = none; ends = λ h. absurd (omega (arith, h)) };
@@ -28,40 +30,11 @@ zero_time = record {
     none zero from below = λ e. absurd (omega (arith, e))
     none (suc k) from below = absurd (omega (arith, below))
 
--- the text of a range up to a time
-range_text : List ℕ → List ℕ
-range_text seconds = codes "npt=0-" ++ seconds
-
-first_dash : (seconds : List ℕ) → IsPartEnd 45 (range_text seconds) 4 5
-unfolding range_text
-first_dash seconds = record {
-  after = omega arith;
-  within = omega (arith, length-append (codes "npt=0-") seconds);
-  none = none;
-  ends = λ inside. refl;
-}
-  where
-    none : HasNone 45 (codes "npt=0-" ++ seconds) 4 5
-    none k from below =
-        let is : k ≡ 4 = omega (arith, from, below) in
-        let C : ℕ → Type 0 = λ n. get_or (codes "npt=0-" ++ seconds) n 0 ≢ 45 in
-        subst C (sym is) (λ e. absurd (omega (arith, e)))
-
+-- a range up to a time
 range_read : (seconds : List ℕ) (time : ℕ) → IsTime seconds time
-    → IsSpan (range_text seconds) (record { from = At 0; to = Some time })
-unfolding range_text
-range_read seconds time is =
-    let text = codes "npt=0-" ++ seconds in
-    let long : length text ≡ 6 + length seconds = length-append (codes "npt=0-") seconds in
-    let rest : slice_range text 6 (length text) ≡ seconds = take_all (length text - 6) seconds (omega (arith, long)) in
-    record {
-      unit = refl;
-      dash = 5;
-      is_dash = first_dash seconds;
-      inside = omega (arith, long);
-      from = zero_time;
-      to = subst (λ (t : List ℕ). IsTime t time) (sym rest) is;
-    }
+    → IsSpan (codes "npt=0-" ++ seconds) (record { from = At 0; to = Some time })
+unfolding other_than
+range_read seconds time is = span_read (codes "0") seconds (record { from = At 0; to = Some time }) refl zero_time is
 
 -- the lines of a description
 described : (name seconds : List ℕ) →
@@ -93,7 +66,6 @@ described name seconds =
 
 pub description_is : (name : List ℕ) (ms : ℕ) → good_name name ≡ true → ms < 10 ^ 12
     → IsDescription (description_text name ms) name (ms * 1000000)
-unfolding range_text
 description_is name ms good small = record {
   range = codes "npt=0-" ++ seconds_text ms;
   stream = codes "video";
