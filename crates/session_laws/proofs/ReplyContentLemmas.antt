@@ -1,16 +1,13 @@
 -- What replies tell is read in their fields.
 use Rattle.std.proofs.Common.{◌≡◌, ◌≢◌, ℕ, ◌+◌, ◌-◌, ◌*◌, ◌/◌, ◌%◌, ◌^◌, ◌<◌, ◌≤◌, ◌&&◌, ◌==◌, not, nat_lt, nat_le}
-use Rattle.std.proofs.Common.{true, false, List, [], ◌∷◌, ◌++◌, length, take, drop, get_or, slice_range, slice_index}
-use Rattle.std.proofs.Common.{codes, decimal, string_bytes, Option, Some, None, Ok, add_comm, refl, sym, ap, subst, ◌∙◌}
-use Rattle.std.proofs.Common.{inl, inr, arith, Bool}
+use Rattle.std.proofs.Common.{true, List, [], ◌∷◌, ◌++◌, length, take, drop, get_or, slice_range, slice_index, codes}
+use Rattle.std.proofs.Common.{decimal, string_bytes, Option, Some, None, Ok, add_comm, refl, sym, ap, subst, ◌∙◌, inl}
+use Rattle.std.proofs.Common.{inr, arith}
 use Rattle.std.proofs.Math.Nat.{div-mul-le_self, mul-le-mul}
 use Rattle.std.specs.List.{list_all}
-use Rattle.std.specs.Char.{is_ascii_digit}
-use Rattle.std.proofs.lemmas.Bool.{and_from, and_parts}
-use Rattle.std.proofs.lemmas.Fmt.{digits_decimal}
+use Rattle.std.proofs.lemmas.Bool.{and_parts}
 use Rattle.std.proofs.lemmas.List.{append-nil, append_assoc, drop_at, get_or-append_right, get_or-drop, get_or-take}
 use Rattle.std.proofs.lemmas.List.{get_or_append_left, length-append, length-drop, length-take, take_all, take_at}
-use Rattle.std.proofs.lemmas.List.Folds.{list_all-append, list_all_at}
 use Rattle.vod_base.specs.Names.{good_name, is_name_byte}
 use Rattle.mpeg_scan.specs.declared.films.Film.{Film}
 use Rattle.mpeg_scan.specs.PictureRates.{picture_time}
@@ -18,18 +15,15 @@ use Rattle.film_frames.specs.declared.stored_films.Stored.{Stored}
 use Rattle.film_frames.specs.FramedRuns.{frames_before}
 use Rattle.rtsp_fields.specs.Sdp.{description_text, seconds_text}
 use Rattle.rtsp_fields.specs.Ranges.{IsSpan}
-use Rattle.rtsp_fields.specs.NptTimes.{IsTime}
 use Rattle.rtsp_fields.specs.Urls.{IsRead, IsTail, NamesFilm}
 use Rattle.rtsp_fields.specs.declared.ranges.Origin.TheVariants.{At}
 use Rattle.rtsp_fields.proofs.RequestUrls.{absolute_cut, absolute_url}
 use Rattle.rtsp_fields.proofs.DescriptionLines.{description_is}
-use Rattle.vod_base.proofs.DigitLemmas.{decimal_numerals}
 use Rattle.rtsp_fields.proofs.FilmPaths.{film_path}
-use Rattle.rtsp_fields.proofs.SecondsTexts.{seconds_read}
+use Rattle.rtsp_fields.proofs.RangeTexts.{between_read}
 use Rattle.rtsp_text.specs.Grammar.{is_url_byte}
 use Rattle.rtsp_text.specs.Replies.{Field, field_line, reply_front, value_named, reply_text}
-use Rattle.rtsp_text.proofs.CutUniqueness.{all_other}
-use Rattle.rtsp_text.proofs.LineBounds.{all-drop, all-take}
+use Rattle.rtsp_text.proofs.LineBounds.{all-append, all-drop, all-take}
 use Rattle.rtsp_text.proofs.ReplyTexts.{front_field, whole_reply}
 use Rattle.rtsp_text.proofs.UrlBytes.{name_in_url}
 use Rattle.session.specs.declared.commands.Ask.{Ask}
@@ -58,73 +52,7 @@ ticks_360 units = record { passed = div-mul-le_self units 360; no_more = omega a
 ticks_4 : (units : ℕ) → AreTicks (units / 4) 4 units
 ticks_4 units = record { passed = div-mul-le_self units 4; no_more = omega arith }
 
--- texts without a byte
-all-append : (p : ℕ → Bool) (a b : List ℕ) → list_all p a ≡ true → list_all p b ≡ true → list_all p (a ++ b) ≡ true
-all-append p a b here there = list_all-append p a b ∙ and_from (list_all p a) (list_all p b) here there
-
-no_dash-append : (a b : List ℕ) → list_all (λ x. not (x == 45)) a ≡ true → list_all (λ x. not (x == 45)) b ≡ true
-    → list_all (λ x. not (x == 45)) (a ++ b) ≡ true
-no_dash-append a b here there = all-append (λ x. not (x == 45)) a b here there
-
-no_dash-decimal : (n : ℕ) → n < 2 ^ 64 → list_all (λ x. not (x == 45)) (decimal n) ≡ true
-no_dash-decimal n small = all_other is_ascii_digit 45 refl (decimal n) (digits_decimal decimal_numerals n small)
-
-no_dash-seconds : (ms : ℕ) → ms < 10 ^ 12 → list_all (λ x. not (x == 45)) (seconds_text ms) ≡ true
-no_dash-seconds ms small =
-    no_dash-append (decimal (ms / 1000) ++ codes "." ++ decimal (ms / 100 % 10) ++ decimal (ms / 10 % 10))
-    (decimal (ms % 10))
-    (no_dash-append (decimal (ms / 1000) ++ codes "." ++ decimal (ms / 100 % 10)) (decimal (ms / 10 % 10))
-    (no_dash-append (decimal (ms / 1000) ++ codes ".") (decimal (ms / 100 % 10))
-    (no_dash-append (decimal (ms / 1000)) (codes ".") (no_dash-decimal (ms / 1000) (omega (arith, small))) refl)
-    (no_dash-decimal (ms / 100 % 10) (omega arith)))
-    (no_dash-decimal (ms / 10 % 10) (omega arith)))
-    (no_dash-decimal (ms % 10) (omega arith))
-
-dash_not : (text : List ℕ) (k : ℕ) → list_all (λ x. not (x == 45)) text ≡ true → k < length text → get_or text k 0 ≢ 45
-dash_not text k all inside = λ dash.
-    let P : ℕ → Type 0 = λ n. not (n == 45) ≡ false in
-    let other : not (get_or text k 0 == 45) ≡ false = subst P (sym dash) refl in
-    let wrong : true ≡ false = sym all ∙ list_all_at (λ x. not (x == 45)) text k 0 inside other in
-    cc
-
 -- a range from one time to another
-range_read : {s e : List ℕ} {from to : ℕ} → list_all (λ x. not (x == 45)) s ≡ true → IsTime s from → IsTime e to
-    → IsSpan (codes "npt=" ++ (s ++ 45 ∷ e)) (record { from = At from; to = Some to })
-range_read {s} {e} {from} {to} free first last =
-    let text = codes "npt=" ++ (s ++ 45 ∷ e) in
-    let size : length text ≡ 4 + (length s + (1 + length e)) =
-    omega (arith, length-append (codes "npt=") (s ++ 45 ∷ e), length-append s (45 ∷ e)) in
-    let at : ℕ = 4 + length s in
-    let front : slice_range text 4 (4 + length s) ≡ s = take_at s (45 ∷ e) (4 + length s - 4) (omega arith) in
-    let whole : text ≡ (codes "npt=" ++ s ++ codes "-") ++ e = simp append_assoc in
-    let long : length (codes "npt=" ++ s ++ codes "-") ≡ 4 + length s + 1 =
-    omega (arith, length-append (codes "npt=" ++ s) (codes "-"), length-append (codes "npt=") s) in
-    let dropped : drop (4 + length s + 1) text ≡ e =
-    ap (drop (4 + length s + 1)) whole ∙ drop_at (codes "npt=" ++ s ++ codes "-") e (4 + length s + 1) long in
-    let rest : slice_range text (4 + length s + 1) (length text) ≡ e =
-    ap (λ l. take (length text - (4 + length s + 1)) l) dropped
-    ∙ take_all (length text - (4 + length s + 1)) e (omega (arith, size)) in
-    record {
-      unit = refl;
-      dash = 4 + length s;
-      is_dash = record {
-        after = omega arith;
-        within = omega (arith, size);
-        none = λ k after below dash.
-            let inside : k - 4 < length s = omega (arith, after, below) in
-            dash_not s (k - 4) free inside
-            (sym (get_or_append_left s (45 ∷ e) 0 (k - 4) inside)
-            ∙ sym (get_or-append_right (codes "npt=") (s ++ 45 ∷ e) 4 k 0 refl after) ∙ dash);
-        ends = λ inside.
-            get_or-append_right (codes "npt=") (s ++ 45 ∷ e) 4 (4 + length s) 0 refl (omega arith)
-            ∙ get_or-append_right s (45 ∷ e) (length s) (4 + length s - 4) 0 refl (omega arith)
-            ∙ ap (λ k. get_or (45 ∷ e) k 0) (let none : 4 + length s - 4 - length s ≡ 0 = omega arith in none);
-      };
-      inside = omega (arith, size);
-      from = subst (λ (t : List ℕ). IsTime t from) (sym front) first;
-      to = subst (λ (t : List ℕ). IsTime t to) (sym rest) last;
-    }
-
 pub span_told : (film : Film) (first end : ℕ) → milliseconds_at film first < 10 ^ 12
     → milliseconds_at film end < 10 ^ 12
     → HasRangeOf film first end
@@ -146,9 +74,7 @@ span_told film first end small short =
             from = At (milliseconds_at film first * 1000000);
             to = Some
                 (milliseconds_at film end * 1000000);
-          })) same
-          (range_read (no_dash-seconds (milliseconds_at film first) small)
-          (seconds_read (milliseconds_at film first) small) (seconds_read (milliseconds_at film end) short));
+          })) same (between_read (milliseconds_at film first) (milliseconds_at film end) small short);
     }
 
 -- a URL of a film under the authority of another

@@ -1,15 +1,17 @@
 -- A PLAY from a film's beginning, without an end, asks for the entire film.
-use Rattle.std.proofs.Common.{◌≡◌, ◌*◌, ◌≤◌, Some, None, length, get_or, codes, refl, sym, ap, subst, ◌∙◌, arith, inl}
+use Rattle.std.proofs.Common.{◌≡◌, ◌*◌, ◌≤◌, [], Some, None, length, codes, refl, subst, ◌∙◌, arith}
 use Rattle.std.proofs.Math.Nat.{mul-le-mul_left}
 use Rattle.mpeg_scan.specs.PictureRates.{picture_time}
 use Rattle.film_frames.specs.declared.stored_films.Stored.{Stored}
 use Rattle.film_run.proofs.RemainingRunLemmas.{run-same}
 use Rattle.film_run.specs.declared.runs.Run.{Run}
 use Rattle.film_run.specs.Seeks.{IsRequestedRange as IsRunAsked}
+use Rattle.rtsp_fields.proofs.DescriptionLines.{zero_time}
+use Rattle.rtsp_fields.proofs.RangeTexts.{span_read}
+use Rattle.rtsp_fields.proofs.SeparatedTexts.{other_than}
 use Rattle.rtsp_fields.specs.declared.ranges.Origin.TheVariants.{At}
 use Rattle.rtsp_fields.specs.declared.ranges.Span.{Span}
 use Rattle.rtsp_fields.specs.Ranges.{IsSpan}
-use Rattle.rtsp_fields.specs.NptTimes.{IsTime}
 use Rattle.rtsp_fields.proofs.FieldUniqueness.{span_once}
 use Rattle.session.specs.declared.play_requests.PlayRequest.{PlayRequest}
 use Rattle.session.specs.declared.play_requests.PlayRequest.TheVariants.{New, Resumed}
@@ -25,42 +27,9 @@ whole_of stored = record {
   played = 0;
 }
 
-zero-time : IsTime (codes "0") 0
-zero-time = record {
-  point = 1;
-  point_is = record {
-    after = omega arith;
-    within = omega arith;
-    none = λ k from below same.
-        let here : k ≡ 0 = omega (arith, below) in
-        let byte : 48 ≡ 46 = ap (λ n. get_or (codes "0") n 0) (sym here) ∙ same in
-        omega (arith, byte);
-    ends = λ inside. absurd (omega (arith, inside));
-  };
-  seconds = 0;
-  fraction = 0;
-  whole = inl (record { decimal = refl; short = omega arith; value = refl });
-  part = inl (refl, refl);
-  nanoseconds_are = refl;
-}
-
 from-zero : IsSpan (codes "npt=0-") (record { from = At 0; to = None })
-from-zero = record {
-  unit = refl;
-  dash = 5;
-  is_dash = record {
-    after = omega arith;
-    within = omega arith;
-    none = λ k from below same.
-        let here : k ≡ 4 = omega (arith, from, below) in
-        let byte : 48 ≡ 45 = ap (λ n. get_or (codes "npt=0-") n 0) (sym here) ∙ same in
-        omega (arith, byte);
-    ends = λ inside. refl;
-  };
-  inside = omega arith;
-  from = zero-time;
-  to = refl;
-}
+unfolding other_than
+from-zero = span_read (codes "0") [] (record { from = At 0; to = None }) refl zero_time refl
 
 whole-asked : (stored : Stored) (run : Run) → 1 ≤ picture_time stored.film.rate → IsRunAsked stored.film 0 None run
     → run ≡ whole_of stored
