@@ -15,11 +15,8 @@ use Rattle.vod_base.specs.Blanks.{without_blanks}
 use Rattle.vod_base.specs.Names.{good_name}
 use Rattle.vod_base.specs.Numbers.{is_decimal, number_of}
 use Rattle.vod_base.proofs.TextLemmas.{trimmed_is}
-use Rattle.mpeg_scan.specs.StartCodes.{read_after}
 use Rattle.mpeg_scan.specs.PictureRates.{picture_time, picture_times}
 use Rattle.mpeg_scan.specs.declared.films.Film.{Film}
-use Rattle.mpeg_scan.specs.declared.units.Unit.{Unit as PictureUnit}
-use Rattle.mpeg_scan.proofs.FilmBoundLemmas.{film-pictures, film-units}
 use Rattle.wire_curve.specs.FilmCurves.{bytes_used_in, due_slot}
 use Rattle.wire_curve.specs.declared.film.CurveRefused.{CurveRefused}
 use Rattle.wire_curve.specs.declared.film.CurveRefused.TheVariants.{Fault}
@@ -29,7 +26,7 @@ use Rattle.wire_curve.specs.CurveFaults.{IsRefused as HaveNoCurves}
 use Rattle.wire_curve.proofs.PictureSums.{sum_by-range-all, sum_by-range-le}
 use Rattle.wire_curve.proofs.SlotUsageLemmas.{cond_le}
 use Rattle.film_frames.specs.declared.stored_films.Stored.{Stored}
-use Rattle.film_frames.proofs.FilmPieceLemmas.{film-bound}
+use Rattle.film_frames.proofs.FilmPieceLemmas.{film-bound, film-few}
 use Rattle.film_run.specs.declared.runs.Run.{Run}
 use Rattle.film_run.specs.Plans.{rest_sizes, timing_of}
 use Rattle.film_run.specs.Units.{stored_sizes}
@@ -100,16 +97,6 @@ brief_at (time ∷ times) (suc k) all =
 
 rate_brief : (rate : ℕ) → picture_time rate ≤ 360000
 rate_brief rate = brief_at picture_times (rate - 1) refl
-
-film_few : (film : Film) → length film.units.items ≤ 4194304
-film_few film =
-    let accepted = film.grammar.accepted in
-    omega (
-      arith,
-      ap (λ (l : List PictureUnit). length l) film.grammar.units,
-      film-units film.bytes.items accepted,
-      film-pictures (read_after [] film.bytes.items) accepted,
-    )
 
 time_fits : (film : Film) (unit : ℕ) → unit ≤ 4194304 → milliseconds_at film unit < 2 ^ 64
 time_fits film unit within =
@@ -303,7 +290,7 @@ own_whole h well (ToDescribed asked taken stored at) =
     describe_whole taken.request.sequence (length_ms stored.film) r.number
     (authority_printed taken.request r taken.judged.film.named.read)
     (name_printed (string_bytes stored.name) (good_at h.old.films asked.film stored well.named.films at))
-    (time_fits stored.film (length stored.film.units.items) (film_few stored.film))
+    (time_fits stored.film (length stored.film.units.items) (film-few stored.film))
 own_whole h well (ToConfirmed asked taken) =
     session_whole taken.request.sequence h.old.id (sized well.room taken.request taken.is_request).number (own_id well)
 own_whole h well (ToEmpty taken) =
@@ -341,14 +328,9 @@ started_whole h well started =
     subst (λ (a : Ask). RepliesAreComplete a h.new) (sym asks.command) (subst AnswersPlay (sym asks.state) (record {
       admission = λ place start small. play_whole parts (start - h.old.heard) (omega (arith, small));
       overflow = λ place slot booked asked one two three.
-          overflow_whole sequence (record {
-            slot = slot;
-            booked = booked;
-            asked = asked;
-            slot_fits = one;
-            booked_fits = two;
-            asked_fits = three;
-          }) r.number;
+          overflow_whole sequence
+          (record { slot = slot; booked = booked; asked = asked; slot_fits = one; booked_fits = two; asked_fits = three })
+          r.number;
       full = λ entries live one two. full_whole sequence entries live r.number one two;
     }))
   where

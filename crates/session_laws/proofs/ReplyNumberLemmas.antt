@@ -1,25 +1,22 @@
 -- Each reply to a request has the request's CSeq.
-use Rattle.std.proofs.Common.{◌≡◌, ℕ, ◌-◌, List, [], Some, string_bytes, refl, sym, ap, subst}
+use Rattle.std.proofs.Common.{◌≡◌, ℕ, ◌-◌, List, [], Some, refl, sym, ap, subst}
 use Rattle.rtsp_text.specs.Replies.{reply_text, Field}
 use Rattle.rtsp_text.specs.declared.requests.Request.{Request}
 use Rattle.rtsp_text.proofs.MessageUniqueness.{no_fault}
 use Rattle.session.specs.declared.commands.Ask.{Ask}
 use Rattle.session.specs.declared.plans.Planned.{Planned}
 use Rattle.session.specs.declared.refusals.Task.{Task}
-use Rattle.film_streams.specs.Films.{milliseconds_at}
-use Rattle.film_streams.specs.StreamNumbers.{timestamp_at}
-use Rattle.session.specs.Methods.{AsksPlay, first_number}
+use Rattle.session.specs.Methods.{AsksPlay}
 use Rattle.session.specs.RefusalOrder.{IsReadAs}
 use Rattle.rtsp_replies.specs.Replies.{code_of, full_text, look_body, offer_body, overflow_text, parameters_text}
-use Rattle.rtsp_replies.specs.Replies.{play_fields}
 use Rattle.session_laws.specs.ReplyNumbers.{HasNumber, RepliesHaveNumber}
 use Rattle.session.specs.SessionStates.{SessionState, sequence_of}
 use Rattle.session.proofs.InitialStateLemmas.{HeardMessage}
 use Rattle.session.specs.RequestSteps.{after_full}
 use Rattle.session.proofs.RequestCaseAnalysis.{Answer, Replies, SetsUp, StartsPlay, HaltsPlay, StopsPlay, EndsSession}
-use Rattle.session.proofs.RequestCaseAnalysis.{TakesLook, SeeksOffer, OwnReply, ToFault, ToRefused, ToDeclined}
-use Rattle.session.proofs.RequestCaseAnalysis.{ToAsked, ToDescribed, ToConfirmed, ToEmpty, ReadyPlay, TakenTask}
-use Rattle.session.proofs.RequestCaseAnalysis.{answer_to, reply_of}
+use Rattle.session.proofs.RequestCaseAnalysis.{TakesLook, SeeksOffer, OwnReply, ToFault, ToRefused, ToDeclined, ToAsked}
+use Rattle.session.proofs.RequestCaseAnalysis.{ToDescribed, ToConfirmed, ToEmpty, ReadyPlay, TakenTask, answer_to}
+use Rattle.session.proofs.RequestCaseAnalysis.{reply_of}
 use Rattle.session_laws.proofs.RequestReadings.{same_request}
 use Rattle.session_laws.proofs.ReplyContentLemmas.{started_is}
 
@@ -68,14 +65,10 @@ play_number : (h : HeardMessage) (play : ReadyPlay h) (planned : Planned)
     → RepliesHaveNumber play.taken.request.sequence h.ask h.new
 play_number h play planned is =
     let n = play.taken.request.sequence in
-    let stored = is.stored in
     let number : sequence_of h.new.awaited ≡ n = ap (λ (t : SessionState). sequence_of t.awaited) is.state in
-    let fields = play_fields h.old.id (milliseconds_at stored.film planned.run.from_unit)
-    (milliseconds_at stored.film planned.run.end_unit) play.asked.authority.now (string_bytes stored.name)
-    (first_number h.old stored play.setup planned) (timestamp_at stored.film h.old.source planned.run.from_unit) in
     by_ask h n is.command (record {
       admission = λ place start.
-          same_number (started_is n fields (start - h.new.heard) (ap (λ (t : SessionState). t.text) is.state))
+          same_number (started_is n _ (start - h.new.heard) (ap (λ (t : SessionState). t.text) is.state))
           (numbered 200 n _ []);
       overflow = λ place slot booked asked.
           same_number (ap (λ k. overflow_text k slot booked asked) number) (numbered 453 n _ []);
