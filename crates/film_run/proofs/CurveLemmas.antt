@@ -104,30 +104,31 @@ low-slots sizes timing = length-map-range_with_len (low_at sizes timing) 0 (slot
 pub up-slots : (sizes : List ℕ) (timing : Timing) → length (up_curve sizes timing) ≡ slot_count sizes timing
 up-slots sizes timing = length-map-range_with_len (up_at sizes timing) 0 (slot_count sizes timing)
 
--- both curves end at all bytes
+-- by the end of the last slot all bytes are used
+used-in-all : (sizes : List ℕ) (timing : Timing) → IsWithinLimits sizes timing → IsAccepted sizes timing
+    → used_before sizes timing (slot_count sizes timing - 1 + 1) ≡ total_of sizes timing
+used-in-all sizes timing limits ok =
+    let n = slot_count sizes timing in
+    let last : n - 1 + 1 ≡ n = omega arith in
+    ap (used_before sizes timing) last ∙ used_before-all sizes timing limits.some_slot_units ok.some_picture
+
+-- so both curves end at all bytes
 up-end : (sizes : List ℕ) (timing : Timing) → IsWithinLimits sizes timing → IsAccepted sizes timing
     → get_or (up_curve sizes timing) (length (up_curve sizes timing) - 1) 0 ≡ total_of sizes timing
 up-end sizes timing limits ok =
     let n = slot_count sizes timing in
-    let last : n - 1 + 1 ≡ n = omega arith in
-    let all : used_before sizes timing (n - 1 + 1) ≡ total_of sizes timing =
-    ap (used_before sizes timing) last ∙ used_before-all sizes timing limits.some_slot_units ok.some_picture in
     let more = used_before-more sizes timing (n - 1) in
     let place = ap (λ m. get_or (up_curve sizes timing) (m - 1) 0) (up-slots sizes timing) in
     let value = up-at-slot sizes timing (n - 1) (omega arith) in
     let used = ok.buffer_holds (n - 1) (omega arith) in
-    omega (arith, all, more, place, value, used)
+    omega (arith, used-in-all sizes timing limits ok, more, place, value, used)
 
 low-end : (sizes : List ℕ) (timing : Timing) → IsWithinLimits sizes timing → IsAccepted sizes timing
     → get_or (low_curve sizes timing) (length (low_curve sizes timing) - 1) 0 ≡ total_of sizes timing
 low-end sizes timing limits ok =
-    let n = slot_count sizes timing in
-    let last : n - 1 + 1 ≡ n = omega arith in
-    let all : used_before sizes timing (n - 1 + 1) ≡ total_of sizes timing =
-    ap (used_before sizes timing) last ∙ used_before-all sizes timing limits.some_slot_units ok.some_picture in
     let place = ap (λ m. get_or (low_curve sizes timing) (m - 1) 0) (low-slots sizes timing) in
-    let value = low-at-slot sizes timing (n - 1) (omega arith) in
-    omega (arith, all, place, value, limits.sent_of_total)
+    let value = low-at-slot sizes timing (slot_count sizes timing - 1) (omega arith) in
+    omega (arith, used-in-all sizes timing limits ok, place, value, limits.sent_of_total)
 
 pub best-of : (sizes : List ℕ) (timing : Timing) (plan : List Segment) → IsWithinLimits sizes timing
     → IsTautFor sizes timing plan

@@ -1,5 +1,5 @@
 -- What a halt leaves: what was sent is ahead of what was played, and the rest fits in the buffer.
-use Rattle.std.proofs.Common.{◌≡◌, ℕ, ◌+◌, ◌-◌, ◌<◌, ◌≤◌, List, Option, Some, None, length, sum, sym, ap, subst}
+use Rattle.std.proofs.Common.{◌≡◌, ℕ, ◌+◌, ◌-◌, ◌<◌, ◌≤◌, List, Option, Some, None, length, sym, ap, subst}
 use Rattle.std.proofs.Common.{◌∙◌, inl, inr, arith}
 use Rattle.std.proofs.lemmas.Bool.{cases_lt}
 use Rattle.plan_cert.specs.declared.Segment.{Segment}
@@ -8,11 +8,11 @@ use Rattle.plan_cert.proofs.PlanSlotLemmas.{sum_through_rises}
 use Rattle.wire_curve.specs.declared.film.Timing.{Timing}
 use Rattle.wire_curve.specs.FilmCurves.{IsWithinLimits, due_slot, used_before}
 use Rattle.wire_curve.proofs.SlotUsageLemmas.{used_before-none}
-use Rattle.vod_base.specs.declared.limits.TheConstants.{MAX_BYTES, MAX_FILM_PICTURES}
+use Rattle.vod_base.specs.declared.limits.TheConstants.{MAX_BYTES}
 use Rattle.film_run.specs.declared.runs.Run.{Run}
 use Rattle.film_run.specs.declared.plans.Playback.{Playback}
 use Rattle.film_run.specs.Runs.{Fits, IsRun, bytes_between}
-use Rattle.film_run.specs.Plans.{IsPlanOf, IsPlayback, rest_sizes, timing_of}
+use Rattle.film_run.specs.Plans.{IsPlanOf, rest_sizes, timing_of}
 use Rattle.film_run.specs.Pauses.{IsHalt, IsRemainingRun, IsStop}
 use Rattle.film_run.proofs.CurveLemmas.{IsPlayable, KeepsTo, keeps-to, limits, total-of-rest}
 use Rattle.film_run.proofs.SumLemmas.{bytes-first, bytes-join, bytes-most, length-between}

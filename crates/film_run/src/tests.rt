@@ -1,9 +1,9 @@
 //! Film A is a sequence header, a group header, an I picture and one slice; film B is film A, a P
 //! picture and one slice. On the wire their units have 106 and 35 bytes.
 
-ghost use Rattle.std.specs.Prelude.{IfOk};
+ghost use Rattle.std.specs.Prelude.{IfOk, length};
 ghost use Rattle.film_run.specs.Plans.{IsPlanOf, IsPlayback};
-ghost use Rattle.film_run.specs.Runs.{Fits, IsRun};
+ghost use Rattle.film_run.specs.Runs.{Fits, IsNewRun, IsRun};
 
 use crate::{Playback, Run, Trace, Units, full_run, plan_of, run_after, run_between};
 use film_frames::Stored;
@@ -33,6 +33,16 @@ fn film_of(alloc: Global, pictures: u32) -> Result<Stored, Fail> {
     }
     let film = scan(alloc, bytes)?;
     Ok(Stored::new(alloc, String::from_str(alloc, "film.mpg")?, film)?)
+}
+
+/// The run of all units.
+fn run_of<U: Units>(units: &U) -> Result<Run, Fail>
+    ensures { IfOk result (IsNewRun (U.sizes units.now) 0 (length (U.sizes units.now))) }
+{
+    match full_run(units) {
+        Some(run) => Ok(run),
+        None => Err(Fail::from("no run")),
+    }
 }
 
 /// The plan of a run, which has these slots.
@@ -104,9 +114,7 @@ const PLAYBACK: Playback = Playback {
 fn pauses_and_resumes(rt: HostRuntime) -> Result<(), Fail> {
     let alloc = rt.alloc();
     let film = film_of(alloc, 2)?;
-    let Some(run) = full_run(&film) else {
-        return Err(Fail::from("no run"));
-    };
+    let run = run_of(&film)?;
     for (last, keep, from_unit, played, rest) in [
         (None, 0, 0, 0, &[35, 35, 36, 35][..]),
         (Some(0), 52, 0, 0, &[22, 22, 22, 23][..]),
@@ -140,9 +148,7 @@ fn plays_traces(rt: HostRuntime) -> Result<(), Fail> {
     assert!(rt; full_run(&Trace::new(&[])).is_none());
     let sizes = [1, 9, 1, 1];
     let trace = Trace::new(&sizes);
-    let Some(run) = full_run(&trace) else {
-        return Err(Fail::from("no run"));
-    };
+    let run = run_of(&trace)?;
     let left = halted(alloc, &trace, &playback, &run, &[5, 5, 1, 1], Some(1), 10)?;
     let want = Run {
         first_unit: 0,
@@ -168,9 +174,7 @@ fn plays_traces(rt: HostRuntime) -> Result<(), Fail> {
 fn refuses(rt: HostRuntime) -> Result<(), Fail> {
     let alloc = rt.alloc();
     let film = film_of(alloc, 2)?;
-    let Some(run) = full_run(&film) else {
-        return Err(Fail::from("no run"));
-    };
+    let run = run_of(&film)?;
     for (picture_units, slot_units, buffer, delay, want) in [
         (
             14400,
