@@ -1,5 +1,5 @@
 -- What is true of the run that `Frames` represents.
-use Rattle.std.proofs.Common.{◌≡◌, ℕ, ◌+◌, ◌^◌, ◌<◌, ◌≤◌, length, take, ap, arith}
+use Rattle.std.proofs.Common.{◌≡◌, ℕ, ◌+◌, ◌^◌, ◌<◌, ◌≤◌, length, take, arith}
 use Rattle.std.specs.List.{sum_by}
 use Rattle.film_frames.specs.declared.frames.Frames.TheInside.{Inside}
 use Rattle.film_frames.specs.declared.pieces.Piece.{Piece}

@@ -57,6 +57,14 @@ pub record IsSplit (pieces : List (List ℕ)) (at head payload : ℕ) : Type 0 w
 abbrev pub zero_frames : List ℕ → List (List ℕ)
 zero_frames sizes = map (λ size. replicate size 0) sizes
 
+-- the frame of zero bytes that has the byte at `at` ends at this place
+pub record IsFrameEnd (sizes : List ℕ) (at end : ℕ) : Type 0 where
+  pub number : ℕ
+  pub among : number < length (zero_frames sizes)
+  pub begins : begin_of (zero_frames sizes) number ≤ at
+  pub ends : end ≡ begin_of (zero_frames sizes) (number + 1)
+  pub later : at + 1 ≤ end
+
 -- the sizes whose running sums, from a first on, are these
 abbrev pub differences : ℕ → List ℕ → List ℕ
 differences from [] = []

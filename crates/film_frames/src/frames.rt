@@ -20,6 +20,7 @@ use crate::stored_films::Stored;
 use crate::tracks::{HEAD_BUFFER_BYTES, Part, Track};
 use mpeg_scan::Unit;
 use rtp_pack::{FRAME_HEAD_BYTES, Identity, Packet, REPORT_BYTES, packet_head, unit_report};
+use std::fmt::{self, Formatter, Write};
 use std::marker::Model;
 
 /// The bytes of a frame that its octets don't count: the interleaved head and the RTP header. The
@@ -196,6 +197,12 @@ impl<'a> Frames<'a> {
         ensures { result ≡ picture_time self.now.rate }
     {
         self.stored.film.picture_time()
+    }
+}
+
+impl fmt::Debug for Frames<'_> {
+    fn fmt<W: Write>(&self, f: &mut Formatter<W>) -> fmt::Result {
+        f.write_str("Frames { .. }")
     }
 }
 

@@ -8,6 +8,7 @@ use crate::tables::FrameTable;
 use mpeg_scan::Film;
 use rtp_pack::{FRAME_HEAD_BYTES, REPORT_BYTES};
 use std::alloc::Global;
+use std::fmt::{self, Formatter, Write};
 use vod_base::NoMemory;
 
 /// A film with its name and its table of frames.
@@ -113,5 +114,11 @@ impl Stored {
         let size = self.table.place(number + 1) - self.table.place(number);
         let from = self.payload_from(number);
         row.piece(&self.film.units[row.unit()], from, size)
+    }
+}
+
+impl fmt::Debug for Stored {
+    fn fmt<W: Write>(&self, f: &mut Formatter<W>) -> fmt::Result {
+        f.write_str("Stored { .. }")
     }
 }

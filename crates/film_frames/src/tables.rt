@@ -18,6 +18,7 @@ use crate::table_rows::Row;
 use mpeg_scan::{Film, Unit};
 use rtp_pack::{Packet, refill_packets};
 use std::alloc::Global;
+use std::fmt::{self, Formatter, Write};
 use vod_base::NoMemory;
 
 /// A table of a film: for each report and each frame its place among all framed bytes, and what it
@@ -211,6 +212,12 @@ impl FrameTable {
         ensures { result ≡ slice_index_or self.now.rows.items piece result }
     {
         self.rows[piece]
+    }
+}
+
+impl fmt::Debug for FrameTable {
+    fn fmt<W: Write>(&self, f: &mut Formatter<W>) -> fmt::Result {
+        f.write_str("FrameTable { .. }")
     }
 }
 

@@ -48,5 +48,7 @@ fn tracks_no_frames(rt: HostRuntime) -> Result<(), Fail> {
     let none = TraceTrack::new(Vec::new(rt.alloc()))?;
     assert_eq!(rt; none.total(), 0);
     assert_eq!(rt; none.boundary_after(0), 0);
+    let text = format!(in rt.alloc(); "{:?}", none)?;
+    assert_eq!(rt; text.as_str(), "TraceTrack { .. }");
     Ok(())
 }

@@ -3,10 +3,11 @@
 ghost use Rattle.std.specs.Prelude.{◌≡◌, ◌++◌, ◌+◌, ◌-◌, ◌^◌, ◌<◌, ◌≤◌, List, ℕ, length, min};
 ghost use Rattle.std.specs.Prelude.{replicate, slice_range, sum, Ok};
 ghost use Rattle.film_frames.specs.Tracks.{IsBoundaryAfter, IsNext, IsSplit, framed_bytes};
-ghost use Rattle.film_frames.specs.Tracks.{zero_frames};
+ghost use Rattle.film_frames.specs.Tracks.{IsFrameEnd, zero_frames};
 
 use crate::binary_search::ends_below;
 use crate::tracks::{HEAD_BUFFER_BYTES, Part, Track};
+use std::fmt::{self, Formatter, Write};
 use std::marker::Model;
 use vod_base::NoMemory;
 
@@ -55,6 +56,23 @@ impl TraceTrack {
         }
         Ok(TraceTrack { ends: sizes })
     }
+
+    /// Where the frame of the byte at `at` ends.
+    fn end_of_frame_at(&self, at: u64) -> u64
+        requires { at < length (framed_bytes (zero_frames self.now)) }
+        ensures boundary { IsBoundaryAfter (zero_frames self.now) (at + 1) result }
+        ensures frame { IsFrameEnd self.now at result }
+    {
+        let ends: &[u64] = &self.ends;
+        // The first end above `at`: frames of no bytes that end at `at` have nothing to send.
+        ends[ends_below(ends, at + 1)]
+    }
+}
+
+impl fmt::Debug for TraceTrack {
+    fn fmt<W: Write>(&self, f: &mut Formatter<W>) -> fmt::Result {
+        f.write_str("TraceTrack { .. }")
+    }
 }
 
 impl Track for TraceTrack {
@@ -72,8 +90,7 @@ impl Track for TraceTrack {
         if at == 0 {
             return 0;
         }
-        let ends: &[u64] = &self.ends;
-        ends[ends_below(ends, at)]
+        self.end_of_frame_at(at - 1)
     }
 
     /// The bytes from `at` on, none of them in the head: what is left of the frame, or 1,024 of it.
@@ -93,9 +110,7 @@ impl Track for TraceTrack {
         ensures full { (end : ℕ) → IsBoundaryAfter (zero_frames self.now) (at + 1) end
             → length result.payload.now ≡ min (end - at) 1024 }
     {
-        let ends: &[u64] = &self.ends;
-        // The first end above `at`: frames of no bytes that end at `at` have nothing to send.
-        let end = ends[ends_below(ends, at + 1)];
+        let end = self.end_of_frame_at(at);
         Part {
             head_from: 0,
             head_to: 0,

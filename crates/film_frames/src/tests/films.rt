@@ -275,6 +275,11 @@ fn sends_a_slice_in_fragments(rt: HostRuntime) -> Result<(), Fail> {
         end_of(1501, 2, 1417),
     ];
     assert_eq!(rt; first_wrong(alloc, &run, &want, &ends)?, None);
+    let text = format!(in alloc; "{:?} {:?} {:?}", film, film.table, run)?;
+    assert_eq!(rt;
+        text.as_str(),
+        "Stored { .. } FrameTable { .. } Frames { .. }"
+    );
     Ok(())
 }
 

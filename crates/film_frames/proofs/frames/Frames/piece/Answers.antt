@@ -1,4 +1,4 @@
-use Rattle.std.proofs.Common.{◌+◌, arith, sym, ap, ◌∙◌}
+use Rattle.std.proofs.Common.{arith, sym, ◌∙◌}
 use Rattle.film_frames.proofs.FramedRunFacts.{is-run-of, span_of}
 use Rattle.film_frames.proofs.RunPieceLemmas.{between, run-piece}
 use Rattle.film_frames.specs.FramedRuns.{pieces_in}

@@ -12,7 +12,7 @@ use Rattle.film_frames.proofs.RunBytesLemmas.{count_ended-is}
 use Rattle.film_frames.proofs.NextBytesLemmas.{InFrame, IsIn, count-among, ends-boundary, frame-part, is-in}
 use Rattle.film_frames.proofs.NextBytesLemmas.{report-rest, rest-next}
 use Rattle.film_frames.proofs.frames.FramesTrack.part.Goals as goal
-use Rattle.film_frames.proofs.frames.FramesTrack.part.Goals.{After-count_ended-number}
+use Rattle.film_frames.proofs.frames.FramesTrack.part.Goals.{After-begin_of, After-count_ended-number}
 use Rattle.film_frames.proofs.frames.FramesTrack.part.Goals.{After-payload, After-put_heads}
 use Rattle.film_frames.proofs.frames.FramesTrack.part.Goals.{After-report}
 
@@ -51,6 +51,20 @@ taken c =
     } in
     frame-part inside c.min.ensures c.max.ensures c.payload.ensures
 
+-- what is left of the piece there is next
+next-in : (c : After-begin_of) (bytes : List ℕ)
+    → bytes ≡ get_or (run_pieces c.args.self.now) c.count_ended-number.result []
+    → IsNext (run_pieces c.args.self.now) c.args.at (drop (c.args.at - c.begin_of.result) bytes)
+next-in c bytes are =
+    let pieces = run_pieces c.args.self.now in
+    let k = c.count_ended-number.result in
+    let o = c.args.at - c.begin_of.result in
+    let same : drop o bytes ≡ drop (c.args.at - begin_of pieces k) (get_or pieces k []) =
+    ap (λ (l : List ℕ). drop o l) are
+    ∙ ap (λ n. drop (c.args.at - n) (get_or pieces k [])) c.begin_of.ensures.begin in
+    subst (IsNext pieces c.args.at) (sym same)
+    (rest-next pieces c.args.at k c.count_ended-number.ensures.count_ended c.requires)
+
 -- ---- the answers
 
 pub begin_of-requires : goal.begin_of-requires
@@ -78,17 +92,12 @@ returns-in-Report-clause-order c =
 
 pub returns-in-Report-clause-bytes : goal.returns-in-Report-clause-bytes
 returns-in-Report-clause-bytes c =
-    let run = c.args.self.now in
-    let k = c.count_ended-number.result in
     let lies = in-report (goal.at.returns-in-Report-clause-bytes c).After-report in
-    let o = c.args.at - c.begin_of.result in
     let long : length c.report.result ≡ REPORT_BYTES = ap (λ (l : List ℕ). length l) c.report.ensures in
-    let rest = report-rest c.report.result o long (omega (arith, lies.inside, c.begin_of.ensures.begin)) in
-    let same : drop o c.report.result ≡ drop (c.args.at - begin_of (run_pieces run) k) (get_or (run_pieces run) k []) =
-    ap (λ (l : List ℕ). drop o l) (c.report.ensures ∙ sym lies.bytes)
-    ∙ ap (λ n. drop (c.args.at - n) (get_or (run_pieces run) k [])) c.begin_of.ensures.begin in
-    subst (IsNext (run_pieces run) c.args.at) (sym (rest ∙ same))
-    (rest-next (run_pieces run) c.args.at k c.count_ended-number.ensures.count_ended c.requires)
+    let rest = report-rest c.report.result (c.args.at - c.begin_of.result) long
+    (omega (arith, lies.inside, c.begin_of.ensures.begin)) in
+    subst (IsNext (run_pieces c.args.self.now) c.args.at) (sym rest)
+    (next-in (goal.at.returns-in-Report-clause-bytes c).After-begin_of _ (c.report.ensures ∙ sym lies.bytes))
 
 pub returns-in-Report-clause-heads : goal.returns-in-Report-clause-heads
 returns-in-Report-clause-heads c =
@@ -111,18 +120,11 @@ returns-in-Report-clause-whole c =
 pub returns-in-Frame-clause-bytes : goal.returns-in-Frame-clause-bytes
 returns-in-Frame-clause-bytes c =
     let run = c.args.self.now in
-    let k = c.count_ended-number.result in
     let lies = in-frame (goal.at.returns-in-Frame-clause-bytes c).After-put_heads in
     let part = taken (goal.at.returns-in-Frame-clause-bytes c).After-payload in
-    let o = c.args.at - c.begin_of.result in
-    let block = c.put_heads.new.head in
-    let whole = c.put_heads.ensures (octets_in (take k (pieces_in run))) in
-    let same : drop o (take FRAME_HEAD_BYTES block ++ payload run.film c.in-Frame.packet)
-    ≡ drop (c.args.at - begin_of (run_pieces run) k) (get_or (run_pieces run) k []) =
-    ap (λ (l : List ℕ). drop o l) (whole ∙ sym lies.bytes)
-    ∙ ap (λ n. drop (c.args.at - n) (get_or (run_pieces run) k [])) c.begin_of.ensures.begin in
-    subst (IsNext (run_pieces run) c.args.at) (sym (part.0 ∙ same))
-    (rest-next (run_pieces run) c.args.at k c.count_ended-number.ensures.count_ended c.requires)
+    let whole = c.put_heads.ensures (octets_in (take c.count_ended-number.result (pieces_in run))) in
+    subst (IsNext (run_pieces run) c.args.at) (sym part.0)
+    (next-in (goal.at.returns-in-Frame-clause-bytes c).After-begin_of _ (whole ∙ sym lies.bytes))
 
 pub returns-in-Frame-clause-heads : goal.returns-in-Frame-clause-heads
 returns-in-Frame-clause-heads c =
