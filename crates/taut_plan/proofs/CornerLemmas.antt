@@ -61,12 +61,7 @@ segment_stays {lo} {hi} {o} {b} keeps =
             (keeps.low_within (o.place + i) (omega (arith, pos)) (omega (arith, upto, end))) in
             omega (arith, h, along i)
             )
-        | inr none ↦ (
-            let h = mul-le-mul_right (b.place - o.place) keeps.above in
-            let e : lo (o.place + i) * (b.place - o.place) ≡ lo o.place * (b.place - o.place) =
-            ap (λ p. lo p * (b.place - o.place)) (omega (arith, none)) in
-            omega (arith, h, e)
-            )
+        | inr none ↦ omega (arith, mul-le-mul_right (b.place - o.place) keeps.above, at_start lo i (omega (arith, none)))
       ];
       below = λ i upto. elim (cases_lt 0 i) [
         | inl pos ↦ (
@@ -76,17 +71,19 @@ segment_stays {lo} {hi} {o} {b} keeps =
             )
         | inr none ↦ (
             let h = mul-le-mul_right (b.place - o.place) keeps.below in
-            let e : hi (o.place + i) * (b.place - o.place) ≡ hi o.place * (b.place - o.place) =
-            ap (λ p. hi p * (b.place - o.place)) (omega (arith, none)) in
             let z : i * (b.height - o.height) ≡ 0 * (b.height - o.height) =
             ap (λ n. n * (b.height - o.height)) (omega (arith, none)) in
-            omega (arith, h, e, z)
+            omega (arith, h, at_start hi i (omega (arith, none)), z)
             )
       ];
     }
   where
     along : (i : ℕ) → (o.place + i - o.place) * (b.height - o.height) ≡ i * (b.height - o.height)
     along i = ap (λ n. n * (b.height - o.height)) (omega arith)
+
+    at_start : (curve : ℕ → ℕ) (i : ℕ) → i ≡ 0
+        → curve (o.place + i) * (b.place - o.place) ≡ curve o.place * (b.place - o.place)
+    at_start curve i none = ap (λ p. curve p * (b.place - o.place)) (omega (arith, none))
 
 -- A path, and the funnel from its apex, while the other chain may give way to the new point: all that a bend is made of.
 pub record Bending (limits : Limits) : Type 0 where

@@ -129,7 +129,7 @@ pub(crate) fn is_passed(side: Side, link: Link, point: Point) -> bool
 }
 
 /// Whether the first number is at most the other one. The contract has both cases, as
-/// [`is_passed`] needs them.
+/// [`is_passed`] and [`is_inside`] need them.
 #[inline(always)]
 fn is_at_most(one: u64, other: u64) -> bool
     ensures { MatchBool result (one ≤ other) (other < one) }
@@ -146,40 +146,11 @@ pub(crate) fn is_inside(side: Side, first: Point, middle: Point, last: Point) ->
     requires fit { AllFit first middle last }
     ensures { MatchBool result (IsInside side first middle last) (IsWithin side first last middle) }
 {
+    let (line, point) = weights(first, middle, last);
     match side {
-        Side::Lower => is_below(first, middle, last),
-        Side::Upper => is_above(first, middle, last),
+        Side::Lower => !is_at_most(line, point),
+        Side::Upper => !is_at_most(point, line),
     }
-}
-
-/// Whether the middle point stands strictly above the straight line from the first point to the
-/// last.
-#[inline(always)]
-fn is_above(first: Point, middle: Point, last: Point) -> bool
-    requires begins { first.place ≤ middle.place }
-    requires ends { middle.place ≤ last.place }
-    requires fit { AllFit first middle last }
-    ensures { IsTrue result
-        ↔ ((last.place - middle.place) * first.height + (middle.place - first.place) * last.height
-        < (last.place - first.place) * middle.height) }
-{
-    let (line, point) = weights(first, middle, last);
-    line < point
-}
-
-/// Whether the middle point stands strictly below the straight line from the first point to the
-/// last.
-#[inline(always)]
-fn is_below(first: Point, middle: Point, last: Point) -> bool
-    requires begins { first.place ≤ middle.place }
-    requires ends { middle.place ≤ last.place }
-    requires fit { AllFit first middle last }
-    ensures { IsTrue result
-        ↔ ((last.place - first.place) * middle.height
-        < (last.place - middle.place) * first.height + (middle.place - first.place) * last.height) }
-{
-    let (line, point) = weights(first, middle, last);
-    point < line
 }
 
 /// The heights at the middle place of the straight line from the first point to the last, and of

@@ -8,6 +8,7 @@ use Rattle.taut_plan.proofs.QueueLemmas.{linked_to_last}
 use Rattle.taut_plan.proofs.PointRangeLemmas.{points_fit}
 use Rattle.taut_plan.proofs.RiseLemmas.{curve_rises, ready, ready_pops, ready_joins, ends_before, LastTest, dropped_by}
 use Rattle.taut_plan.proofs.chains.join.Goals as goal
+use Rattle.taut_plan.proofs.chains.join.Goals.{After-is_passed}
 
 pub loop-last-init : goal.loop-last-init
 loop-last-init c =
@@ -28,29 +29,25 @@ pub loop-side-preserved : goal.loop-side-preserved
 loop-side-preserved c =
     rw c.pop_last-in-loop-side.ensures (ready_pops c.loop-side.invariant c.loop-side-test.ensures)
 
+abbrev test-of : (c : After-is_passed) → LastTest c.args.side c.point_at-point.result
+test-of c = record {
+  apex = c.args.apex;
+  chain = c.loop-last.chain;
+  link = c.in-Some.last;
+  last = c.in-Some.ensures c.args.apex;
+  ascend = c.loop-last.invariant.ascend;
+  rise = c.loop-last.invariant.rise;
+}
+
 pub loop-last-preserved : goal.loop-last-preserved
 loop-last-preserved c =
-    let test : LastTest c.args.side c.point_at-point.result = record {
-      apex = c.args.apex;
-      chain = c.loop-last.chain;
-      link = c.in-Some.last;
-      last = c.in-Some.ensures c.args.apex;
-      ascend = c.loop-last.invariant.ascend;
-      rise = c.loop-last.invariant.rise;
-    } in
+    let test = test-of (goal.at.loop-last-preserved c).After-is_passed in
     let dropped = rw c.if-not-is_passed.false at (dropped_by c.is_passed.result test c.is_passed.ensures) in
     rw c.pop_last.ensures (ready_pops c.loop-last.invariant dropped)
 
 pub returns-then-not-is_passed-clause-chain : goal.returns-then-not-is_passed-clause-chain
 returns-then-not-is_passed-clause-chain c =
-    let test : LastTest c.args.side c.point_at-point.result = record {
-      apex = c.args.apex;
-      chain = c.loop-last.chain;
-      link = c.in-Some.last;
-      last = c.in-Some.ensures c.args.apex;
-      ascend = c.loop-last.invariant.ascend;
-      rise = c.loop-last.invariant.rise;
-    } in
+    let test = test-of (goal.at.returns-then-not-is_passed-clause-chain c).After-is_passed in
     let kept = rw c.if-not-is_passed.true at (dropped_by c.is_passed.result test c.is_passed.ensures) in
     rw (c.in_ok-push_link.ensures, c.new.ensures.point) (ready_joins c.loop-last.invariant kept)
 
@@ -60,32 +57,17 @@ loop-side-smaller c = grind (arith, common_steps)
 pub join-requires : goal.join-requires
 join-requires c = ends_before c.args.side c.loop-side.invariant.ascend c.loop-side.invariant.rise
 
-pub is_passed-requires-clause-later : goal.is_passed-requires-clause-later
-is_passed-requires-clause-later c =
-    let last = c.in-Some.ensures c.args.apex in
-    (c.loop-last.invariant.ascend last.first c.in-Some.last.point last.edge).1
-
-pub is_passed-requires-clause-higher : goal.is_passed-requires-clause-higher
-is_passed-requires-clause-higher c =
-    let last = c.in-Some.ensures c.args.apex in
-    (c.loop-last.invariant.rise last.first c.in-Some.last.point last.edge).1
-
-pub is_passed-requires-clause-slots : goal.is_passed-requires-clause-slots
-is_passed-requires-clause-slots c =
+pub is_passed-requires : goal.is_passed-requires
+is_passed-requires c =
     let last = c.in-Some.ensures c.args.apex in
     let fits = c.loop-last.invariant.fit last.first c.in-Some.last.point last.edge in
-    omega (arith, last.is.slots, fits.passes.place)
-
-pub is_passed-requires-clause-bytes : goal.is_passed-requires-clause-bytes
-is_passed-requires-clause-bytes c =
-    let last = c.in-Some.ensures c.args.apex in
-    let fits = c.loop-last.invariant.fit last.first c.in-Some.last.point last.edge in
-    omega (arith, last.is.bytes, fits.passes.height)
-
-pub is_passed-requires-clause-fits : goal.is_passed-requires-clause-fits
-is_passed-requires-clause-fits c =
-    let last = c.in-Some.ensures c.args.apex in
-    (c.loop-last.invariant.fit last.first c.in-Some.last.point last.edge).ends
+    record {
+      later = (c.loop-last.invariant.ascend last.first c.in-Some.last.point last.edge).1;
+      higher = (c.loop-last.invariant.rise last.first c.in-Some.last.point last.edge).1;
+      slots = omega (arith, last.is.slots, fits.passes.place);
+      bytes = omega (arith, last.is.bytes, fits.passes.height);
+      fits = fits.ends;
+    }
 
 pub pop_last-requires : goal.pop_last-requires
 pop_last-requires c =
@@ -104,15 +86,13 @@ loop-last-smaller c =
       length-take (length c.loop-last.chain - 1) c.loop-last.chain,
     )
 
-pub new-requires-clause-later : goal.new-requires-clause-later
-new-requires-clause-later c =
+pub new-requires : goal.new-requires
+new-requires c =
     let last = c.in-Some.ensures c.args.apex in
-    (c.loop-last.invariant.ascend last.first c.in-Some.last.point last.edge).1
-
-pub new-requires-clause-higher : goal.new-requires-clause-higher
-new-requires-clause-higher c =
-    let last = c.in-Some.ensures c.args.apex in
-    (c.loop-last.invariant.rise last.first c.in-Some.last.point last.edge).1
+    record {
+      later = (c.loop-last.invariant.ascend last.first c.in-Some.last.point last.edge).1;
+      higher = (c.loop-last.invariant.rise last.first c.in-Some.last.point last.edge).1;
+    }
 
 pub push_link-requires : goal.push_link-requires
 push_link-requires c =

@@ -1,6 +1,3 @@
-use Rattle.std.proofs.Common.{subst, sym}
-use Rattle.cert_check.specs.CertFaults.{IsTaut}
-use Rattle.cert_check.specs.Optimality.{IsBestPlan}
 use Rattle.taut_plan.proofs.PlanLemmas.{plan_of_whole, taut_of_whole, best_of_whole}
 use Rattle.taut_plan.proofs.plans.plan.Goals as goal
 
@@ -10,16 +7,11 @@ new-requires c =
     plan_of_whole curves.from curves.low.items curves.up.items c.in_ok-segments.segments.items c.requires
     c.in_ok-segments.ensures
 
-pub returns-clause-taut : goal.returns-clause-taut
-returns-clause-taut c =
+pub returns : goal.returns
+returns c =
     let curves = c.args.curves.now in
-    subst (IsTaut curves.from curves.low.items curves.up.items) (sym c.new.ensures)
-    (taut_of_whole curves.from curves.low.items curves.up.items c.in_ok-segments.segments.items c.requires
-    c.in_ok-segments.ensures)
-
-pub returns-clause-best : goal.returns-clause-best
-returns-clause-best c =
-    let curves = c.args.curves.now in
-    subst (IsBestPlan curves.from curves.low.items curves.up.items) (sym c.new.ensures)
-    (best_of_whole curves.from curves.low.items curves.up.items c.in_ok-segments.segments.items c.requires
-    c.in_ok-segments.ensures)
+    let segments = c.in_ok-segments.segments.items in
+    rw c.new.ensures (record {
+      taut = taut_of_whole curves.from curves.low.items curves.up.items segments c.requires c.in_ok-segments.ensures;
+      best = best_of_whole curves.from curves.low.items curves.up.items segments c.requires c.in_ok-segments.ensures;
+    })
