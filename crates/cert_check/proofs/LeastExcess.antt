@@ -78,21 +78,13 @@ pub record Bounds {m : ℕ} (p : ℕ) (b : Beside m) (segments : List Segment) :
   pub hot : IsHot p segments → m * line_over p segments + m * b.at.height ≤ over (m * p) b.ys + b.held
   pub cold : IsCold p segments → m * line_over p segments ≤ over (m * p) b.ys
 
--- a segment above p that is followed by one at most p doesn't rise
-no_rise : (p : ℕ) (s next : Segment) → s.slots * p < s.bytes → next.bytes ≤ next.slots * p
-    → IsLessSteep (slope_of s) (slope_of next) → ⊥
-no_rise p s next is_hot is_cold rises =
-    let one : s.slots * p * next.slots ≤ s.bytes * next.slots = mul-le-mul_right next.slots (omega arith) in
-    let two : next.bytes * s.slots ≤ next.slots * p * s.slots = mul-le-mul_right s.slots is_cold in
-    omega (arith, one, two, rises)
-
--- a segment at most p that is followed by one above p doesn't fall
-no_fall : (p : ℕ) (s next : Segment) → s.bytes ≤ s.slots * p → next.slots * p < next.bytes
-    → IsLessSteep (slope_of next) (slope_of s) → ⊥
-no_fall p s next is_cold is_hot falls =
-    let one : next.slots * p * s.slots ≤ next.bytes * s.slots = mul-le-mul_right s.slots (omega arith) in
-    let two : s.bytes * next.slots ≤ s.slots * p * next.slots = mul-le-mul_right next.slots is_cold in
-    omega (arith, one, two, falls)
+-- a segment at most p isn't steeper than one above p
+not_steeper : (p : ℕ) (cold hot : Segment) → cold.bytes ≤ cold.slots * p → hot.slots * p < hot.bytes
+    → IsLessSteep (slope_of hot) (slope_of cold) → ⊥
+not_steeper p cold hot is_cold is_hot steeper =
+    let one : hot.slots * p * cold.slots ≤ hot.bytes * cold.slots = mul-le-mul_right cold.slots (omega arith) in
+    let two : cold.bytes * hot.slots ≤ cold.slots * p * hot.slots = mul-le-mul_right hot.slots is_cold in
+    omega (arith, one, two, steeper)
 
 -- after a hot segment a cold one follows only on the lower curve
 hot_falls : (p : ℕ) (at : Start) (s : Segment) (rest : List Segment) → s.slots * p < s.bytes → Bends at s rest
@@ -101,7 +93,7 @@ hot_falls p at s [] is_hot bend = inl tt
 hot_falls p at s (next ∷ rest) is_hot bend = elim (cases_lt (next.slots * p) next.bytes) [
   | inl next_hot ↦ inl next_hot
   | inr next_cold ↦ elim bend [
-    | inl rise ↦ absurd (no_rise p s next is_hot next_cold rise.0)
+    | inl rise ↦ absurd (not_steeper p next s next_cold is_hot rise.0)
     | inr fall ↦ inr (next_cold, fall.1)
   ]
 ]
@@ -113,7 +105,7 @@ cold_rises p at s [] is_cold bend = inl tt
 cold_rises p at s (next ∷ rest) is_cold bend = elim (cases_lt (next.slots * p) next.bytes) [
   | inr next_cold ↦ inl next_cold
   | inl next_hot ↦ elim bend [
-    | inr fall ↦ absurd (no_fall p s next is_cold next_hot fall.0)
+    | inr fall ↦ absurd (not_steeper p s next is_cold next_hot fall.0)
     | inl rise ↦ inr (next_hot, rise.1)
   ]
 ]

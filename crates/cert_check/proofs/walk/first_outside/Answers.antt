@@ -76,20 +76,14 @@ loop-t-preserved c =
 pub loop-t-init : goal.loop-t-init
 loop-t-init c = grind (arith, common_steps)
 
-pub next_walk-walk-requires-clause-more : goal.next_walk-walk-requires-clause-more
-next_walk-walk-requires-clause-more c = grind (arith, common_steps)
-
-pub next_walk-walk-requires-clause-fits : goal.next_walk-walk-requires-clause-fits
-next_walk-walk-requires-clause-fits c = grind (arith, common_steps)
+pub next_walk-walk-requires : goal.next_walk-walk-requires
+next_walk-walk-requires c = grind (arith, common_steps)
 
 pub bounds-segments-walk : goal.bounds-segments-walk
 bounds-segments-walk c = grind (arith, common_steps)
 
-pub scaled_height-height-requires-clause-within : goal.scaled_height-height-requires-clause-within
-scaled_height-height-requires-clause-within c = grind (arith, common_steps)
-
-pub scaled_height-height-requires-clause-few : goal.scaled_height-height-requires-clause-few
-scaled_height-height-requires-clause-few c = grind (arith, common_steps)
+pub scaled_height-height-requires : goal.scaled_height-height-requires
+scaled_height-height-requires c = grind (arith, common_steps)
 
 pub overflow_mul-from : goal.overflow_mul-from
 overflow_mul-from c = grind (arith, common_steps)
