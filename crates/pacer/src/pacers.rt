@@ -11,6 +11,7 @@ ghost use Rattle.pacer.specs.PacerStates.{slots_through};
 use crate::link_writes::{SendError, send_between};
 use film_frames::Track;
 use plan_cert::{Plan, PlanCursor};
+use std::fmt::{self, Formatter, Write};
 use std::marker::Model;
 use vod_base::{Link, LinkFault};
 
@@ -74,6 +75,12 @@ impl<T: Track> Model for Pacer<T> {
       sent = p.sent;
     })
         × (p.total ≡ length (framed_bytes (T.pieces p.track))) };
+}
+
+impl<T: Track> fmt::Debug for Pacer<T> {
+    fn fmt<W: Write>(&self, f: &mut Formatter<W>) -> fmt::Result {
+        f.write_str("Pacer { .. }")
+    }
 }
 
 impl<T: Track> Pacer<T> {

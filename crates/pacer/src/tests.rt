@@ -109,6 +109,8 @@ fn sent_by(
         assert_eq!(rt; got, (*answer, *after), "at {call:?}");
     }
     assert_eq!(rt; link.sent().len() as u64, pacer.sent());
+    let text = format!(in alloc; "{:?}", pacer)?;
+    assert_eq!(rt; text.as_str(), "Pacer { .. }");
     Ok(Vec::from_slice(alloc, link.sent())?)
 }
 
