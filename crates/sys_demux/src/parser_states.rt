@@ -4,7 +4,8 @@ ghost use Rattle.std.specs.Prelude.{◌≡◌, ℕ, ◌+◌, ◌-◌, ◌≤◌,
 ghost use Rattle.std.specs.Prelude.{[], ◌∷◌, length};
 ghost use Rattle.sys_demux.specs.StreamItems.{choose, is_chosen};
 ghost use Rattle.sys_demux.specs.ValidStates.{least_rest, is_sound};
-ghost use Rattle.sys_demux.specs.ParserStates.{IsAtZeros, IsAtPrefix, IsAtHeader, IsPart, LeadsTo, Part};
+ghost use Rattle.sys_demux.specs.ParserStates.{IsAtZeros, IsAtPrefix, IsAtHeader, IsPart, LeadsTo};
+ghost use Rattle.sys_demux.specs.ParserStates.{Part};
 ghost use Rattle.sys_demux.specs.ParserStates.{choosing, of_item, with_byte, place_in, end_fault};
 
 use crate::faults::SystemFault;
