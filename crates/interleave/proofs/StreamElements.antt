@@ -6,7 +6,7 @@ use Rattle.std.proofs.lemmas.List.{take-append-le, drop-append-le, get_or_append
 use Rattle.std.proofs.lemmas.List.{append-nil}
 use Rattle.interleave.specs.Heads.{is_line_end}
 use Rattle.interleave.specs.Elements.{IsFirst}
-use Rattle.interleave.specs.Streams.{IsElementLength, LineEnd, WholeBlock, WholeMessage, AreInputElements, SharePrefix}
+use Rattle.interleave.specs.Streams.{IsElementLength, LineEnd, WholeBlock, WholeMessage, AreInputElements, GoesOn, SharePrefix}
 use Rattle.interleave.specs.Streams.{IsStream}
 use Rattle.interleave.specs.Streams.{returned_elements, returned_length, ReturnsNoElement}
 use Rattle.interleave.specs.declared.elements.Step.{Step}
@@ -137,28 +137,19 @@ pub record TwoStreams (w : List ℕ) (ps qs : List (List ℕ)) (r t : List ℕ) 
   pub one : IsStream w ps r
   pub other : IsStream w qs t
 
+-- where no element is left, none goes on
+ended : {ps qs : List (List ℕ)} {r t : List ℕ} → ((n : ℕ) → ¬ IsElementLength r n) → GoesOn ps r qs t
+    → (ps ≡ qs) × (r ≡ t)
+ended {ps} none ([], goes) = (sym (goes.0 ∙ append-nil ps), goes.1)
+ended none (_ ∷ _, goes) = absurd (none goes.1.0 goes.1.1.0)
+
 pub stream_once : {w : List ℕ} {ps qs : List (List ℕ)} {r t : List ℕ} → TwoStreams w ps qs r t → (ps ≡ qs) × (r ≡ t)
-stream_once {ps = []} {qs = []} streams = (refl, sym streams.one.0 ∙ streams.other.0)
-stream_once {ps = []} {qs = q ∷ qs} streams =
-    let cut = streams.other.0 in
-    let P : List ℕ
-    → Type 0 = λ xs. IsElementLength xs cut.0 in absurd (streams.one.1 cut.0 (subst P streams.one.0 cut.1.0))
-stream_once {ps = p ∷ ps} {qs = []} streams =
-    let cut = streams.one.0 in
-    let P : List ℕ
-    → Type 0 = λ xs. IsElementLength xs cut.0 in absurd (streams.other.1 cut.0 (subst P streams.other.0 cut.1.0))
-stream_once {w} {ps = p ∷ ps} {qs = q ∷ qs} {r} {t} streams =
-    let n = streams.one.0.0 in
-    let m = streams.other.0.0 in
-    let cut = streams.one.0.1 in
-    let cut' = streams.other.0.1 in
-    let same : n ≡ m = element_once w n m cut.0 cut'.0 in
-    let P : ℕ → Type 0 = λ k. AreInputElements (drop k w) ps r in
-    let later : TwoStreams (drop m w) ps qs r t =
-    record { one = (subst P same cut.2, streams.one.1); other = (cut'.2, streams.other.1) } in
-    let rest = stream_once later in
-    let first : p ≡ q = cut.1 ∙ ap (λ k. take k w) same ∙ sym cut'.1 in
-    (ap (λ (x : List ℕ). x ∷ ps) first ∙ ap (λ (xs : List (List ℕ)). q ∷ xs) rest.0, rest.1)
+stream_once {w} {ps} {qs} {r} {t} streams =
+    let cuts : TwoCuts w ps qs r t = record { one = streams.one.0; other = streams.other.0 } in
+    elim (cuts_agree cuts) [
+      | inl goes ↦ ended streams.one.1 goes
+      | inr goes ↦ (let same = ended streams.other.1 goes in (sym same.0, sym same.1))
+    ]
 
 -- each byte CR or LF at the start is an element
 record AreEnds (rest : List ℕ) (n : ℕ) : Type 0 where

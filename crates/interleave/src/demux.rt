@@ -12,6 +12,7 @@ use crate::content_lengths::MAX_BODY_BYTES;
 use crate::elements::{BLOCK_START, DemuxFault, Step, is_line_end};
 use crate::message_heads::{HeadSearch, MAX_HEAD_BYTES, request_step, search_head};
 use std::alloc::Global;
+use std::fmt::{self, Formatter, Write};
 use std::marker::Model;
 use thiserror::Error;
 use vod_base::{NoMemory, move_to_front};
@@ -49,6 +50,12 @@ impl Model for Demux {
     ghost view = { λ d. drop d.start d.bytes.items };
 
     ghost invariant = { IsBuffer };
+}
+
+impl fmt::Debug for Demux {
+    fn fmt<W: Write>(&self, f: &mut Formatter<W>) -> fmt::Result {
+        f.write_str("Demux { .. }")
+    }
 }
 
 impl Demux {

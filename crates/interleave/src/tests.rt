@@ -6,6 +6,7 @@ use crate::laws::{
     law_waiting_bytes_are_bounded,
 };
 use std::alloc::Global;
+use std::process::Abort;
 use std::test::Fail;
 
 /// The first element of these bytes, put in one call.
@@ -13,6 +14,16 @@ fn first(alloc: Global, bytes: &[u8]) -> Result<Result<Step, DemuxFault>, Fail> 
     let mut demux = Demux::new(alloc)?;
     demux.put(bytes)?;
     Ok(demux.look())
+}
+
+/// What a connection has received, and the answer to a look at it.
+type Row<'a> = (&'a str, Result<Step, DemuxFault>);
+
+fn finds(rt: &impl Abort, alloc: Global, rows: &[Row<'_>]) -> Result<(), Fail> {
+    for (text, want) in rows {
+        assert_eq!(rt; first(alloc, text.as_bytes())?, *want, "at {text:?}");
+    }
+    Ok(())
 }
 
 #[test]
@@ -34,12 +45,14 @@ fn skips_and_takes_a_block(rt: HostRuntime) -> Result<(), Fail> {
     demux.drop_front(6);
     assert_eq!(rt; demux.look(), Ok(Step::More));
     law_waiting_bytes_are_bounded(&demux);
+    let text = format!(in rt.alloc(); "{:?}", demux)?;
+    assert_eq!(rt; text.as_str(), "Demux { .. }");
     Ok(())
 }
 
 #[test]
 fn finds_first_elements(rt: HostRuntime) -> Result<(), Fail> {
-    for (text, want) in [
+    let rows: [Row<'_>; 13] = [
         ("", Ok(Step::More)),
         ("\n\r\r", Ok(Step::Skip(3))),
         ("$", Ok(Step::More)),
@@ -56,15 +69,13 @@ fn finds_first_elements(rt: HostRuntime) -> Result<(), Fail> {
         ("a\r\n\n", Ok(Step::Request(4))),
         ("a\r\r\n", Ok(Step::More)),
         ("a\n\r\r\n", Ok(Step::More)),
-    ] {
-        assert_eq!(rt; first(rt.alloc(), text.as_bytes())?, want, "at {text:?}");
-    }
-    Ok(())
+    ];
+    finds(&rt, rt.alloc(), &rows)
 }
 
 #[test]
 fn finds_bodies(rt: HostRuntime) -> Result<(), Fail> {
-    for (text, want) in [
+    let rows: [Row<'_>; 15] = [
         ("a\nContent-Length: 3\n\nxy", Ok(Step::More)),
         ("a\nContent-Length: 3\n\nxyz", Ok(Step::Request(24))),
         (
@@ -95,10 +106,8 @@ fn finds_bodies(rt: HostRuntime) -> Result<(), Fail> {
             "a\nContent-Length: 99999999999999999999999x\n\n",
             Ok(Step::Request(44)),
         ),
-    ] {
-        assert_eq!(rt; first(rt.alloc(), text.as_bytes())?, want, "at {text:?}");
-    }
-    Ok(())
+    ];
+    finds(&rt, rt.alloc(), &rows)
 }
 
 #[test]
