@@ -8,6 +8,8 @@ use Rattle.mpeg_scan.specs.declared.units.Unit.{Unit as PictureUnit}
 use Rattle.mpeg_scan.specs.declared.films.Film.{Film}
 use Rattle.rtp_pack.specs.Packets.{unit_packets}
 use Rattle.rtp_pack.specs.Sizes.{unit_size}
+use Rattle.film_frames.specs.declared.pieces.Counted.{Counted}
+use Rattle.film_frames.specs.declared.pieces.Counted.TheVariants.{Bytes, Frames}
 use Rattle.film_frames.specs.declared.pieces.Piece.{Piece}
 use Rattle.film_frames.specs.declared.pieces.Piece.TheVariants.{Report, Frame}
 
@@ -55,6 +57,11 @@ wire_of (Frame unit packet) = FRAME_HEAD_BYTES + (packet.to - packet.from)
 abbrev pub count_of : Piece → ℕ
 count_of (Report unit) = 0
 count_of (Frame unit packet) = 1
+
+-- what is counted of a piece
+abbrev pub counted_of : Counted → Piece → ℕ
+counted_of Bytes = wire_of
+counted_of Frames = count_of
 
 -- the octets that a sender report counts of a frame: its video header and its payload (RFC 3550
 -- section 6.4.1)

@@ -4,7 +4,8 @@ ghost use Rattle.mpeg_scan.specs.declared.units.Unit.{Unit as PictureUnit};
 ghost use Rattle.mpeg_scan.specs.PictureRates.{picture_time};
 ghost use Rattle.std.specs.Prelude.{◌≡◌, ◌+◌, ◌-◌, ◌^◌, ◌++◌, ◌<◌, ◌≤◌, ℕ, [], length, take, drop};
 ghost use Rattle.std.specs.Prelude.{slice_get, slice_range, Some};
-ghost use Rattle.film_frames.specs.Pieces.{frames_in, octets_in, wire_in};
+ghost use Rattle.std.specs.List.{sum_by};
+ghost use Rattle.film_frames.specs.Pieces.{counted_of, frames_in, octets_in, wire_in};
 ghost use Rattle.film_frames.specs.FramedRuns.{HaveEnded, count_ended, frames_before};
 ghost use Rattle.film_frames.specs.FramedRuns.{octets_before};
 ghost use Rattle.film_frames.specs.FramedRuns.{payload, piece_bytes};
@@ -15,7 +16,7 @@ ghost use Rattle.film_frames.specs.Tracks.{IsBoundary, IsNext, IsSplit, begin_of
 
 use crate::binary_search::ends_below;
 use crate::heads::{put_frame_heads, report_block};
-use crate::pieces::Piece;
+use crate::pieces::{Counted, Piece};
 use crate::stored_films::Stored;
 use crate::tracks::{HEAD_BUFFER_BYTES, Part, Track};
 use mpeg_scan::Unit;
@@ -97,14 +98,27 @@ impl<'a> Frames<'a> {
         self.stored.first_piece(self.end_unit) - self.stored.first_piece(self.first_unit)
     }
 
+    /// How many bytes or frames of the run come before a piece, or before its end. A piece begins
+    /// after the bytes before it.
+    fn total_before(&self, counted: Counted, piece: usize) -> u64
+        requires { piece ≤ length (pieces_in self.now) }
+        ensures sum { result ≡ sum_by (counted_of counted) (take piece (pieces_in self.now)) }
+        ensures begin { wire_in (take piece (pieces_in self.now))
+            ≡ begin_of (run_pieces self.now) piece }
+    {
+        // Counted in the film's table, less what comes before the run: a run has no list of its
+        // own, so making one takes no memory.
+        let first = self.stored.first_piece(self.first_unit);
+        self.stored.total_before(counted, first + piece) - self.stored.total_before(counted, first)
+    }
+
     /// Where a piece of the run begins, or the last ends.
     fn begin_of(&self, piece: usize) -> u64
         requires { piece ≤ length (pieces_in self.now) }
         ensures begin { result ≡ begin_of (run_pieces self.now) piece }
         ensures wire { result ≡ wire_in (take piece (pieces_in self.now)) }
     {
-        let first = self.stored.first_piece(self.first_unit);
-        self.stored.place(first + piece) - self.stored.place(first)
+        self.total_before(Counted::Bytes, piece)
     }
 
     /// How many frames of the run come before a piece.
@@ -112,10 +126,7 @@ impl<'a> Frames<'a> {
         requires { piece ≤ length (pieces_in self.now) }
         ensures { result ≡ frames_in (take piece (pieces_in self.now)) }
     {
-        // Counted in the film's table, less what comes before the run: a run has no list of its
-        // own, so making one takes no memory.
-        let first = self.stored.first_piece(self.first_unit);
-        self.stored.frames(first + piece) - self.stored.frames(first)
+        self.total_before(Counted::Frames, piece)
     }
 
     /// The octets of the frames of the run that come before a piece.
@@ -141,6 +152,7 @@ impl<'a> Frames<'a> {
     /// How many pieces of the run end at or before `at`.
     fn count_ended(&self, at: u64) -> usize
         ensures count_ended { HaveEnded (run_pieces self.now) at result }
+        ensures among { result ≤ length (pieces_in self.now) }
         ensures few { result ≤ 2 ^ 42 }
     {
         let first = self.stored.first_piece(self.first_unit);

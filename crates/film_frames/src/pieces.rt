@@ -16,6 +16,13 @@ pub(crate) enum Piece {
     Frame(Unit, Packet),
 }
 
+/// What is counted of pieces: their bytes on the wire, or the frames among them.
+#[derive(Clone, Copy)]
+pub(crate) enum Counted {
+    Bytes,
+    Frames,
+}
+
 /// The bytes of a piece of a film.
 pub(crate) fn wire_of(piece: &Piece) -> u64
     requires { (film : List ℕ) × IsSound film piece.now }

@@ -3,7 +3,7 @@
 ghost use Rattle.film_frames.specs.Tables.{IsTableOf};
 
 use crate::binary_search::ends_below;
-use crate::pieces::Piece;
+use crate::pieces::{Counted, Piece};
 use crate::tables::FrameTable;
 use mpeg_scan::Film;
 use rtp_pack::{FRAME_HEAD_BYTES, REPORT_BYTES};
@@ -26,8 +26,9 @@ pub struct Stored {
 impl Stored {
     ghost use Rattle.std.specs.Prelude.{◌≡◌, ◌+◌, ◌-◌, ◌*◌, ◌<◌, ◌≤◌, ℕ, length, take, slice_index};
     ghost use Rattle.std.specs.Prelude.{slice_get, string_bytes, Some, IfOk};
+    ghost use Rattle.std.specs.List.{sum_by};
     ghost use Rattle.rtp_pack.specs.Packets.{OfUnit};
-    ghost use Rattle.film_frames.specs.Pieces.{OfPiece, film_pieces, frames_in, from_of};
+    ghost use Rattle.film_frames.specs.Pieces.{OfPiece, counted_of, film_pieces, frames_in, from_of};
     ghost use Rattle.film_frames.specs.Pieces.{front_pieces, wire_in, wire_size};
 
     /// Makes the table of a film, and stores both under a name.
@@ -79,6 +80,17 @@ impl Stored {
         // A group has one report and many frames, so the search goes through the shorter list.
         let reports = ends_below(self.table.reports(), piece as u64);
         (piece - reports) as u64
+    }
+
+    /// How many bytes or frames of the film come before a piece.
+    pub(crate) fn total_before(&self, counted: Counted, piece: usize) -> u64
+        requires { piece ≤ length (film_pieces self.now.film) }
+        ensures { result ≡ sum_by (counted_of counted) (take piece (film_pieces self.now.film)) }
+    {
+        match counted {
+            Counted::Bytes => self.place(piece),
+            Counted::Frames => self.frames(piece),
+        }
     }
 
     /// The place in the film of the payload of a piece; of a report that of its unit.

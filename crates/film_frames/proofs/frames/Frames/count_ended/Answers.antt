@@ -1,7 +1,7 @@
 use Rattle.std.proofs.Common.{arith}
-use Rattle.film_frames.specs.FramedRuns.{run_pieces}
+use Rattle.film_frames.specs.FramedRuns.{pieces_in, run_pieces}
 use Rattle.film_frames.proofs.FramedRunFacts.{is-run-of, total-from}
-use Rattle.film_frames.proofs.RunBytesLemmas.{have-count_ended}
+use Rattle.film_frames.proofs.RunBytesLemmas.{blocks_from-count, have-count_ended}
 use Rattle.film_frames.proofs.RunPieceLemmas.{run-ends}
 use Rattle.film_frames.proofs.TrackLemmas.{AreEnds, PieceEnds, ends-rise}
 use Rattle.film_frames.proofs.frames.Frames.count_ended.Goals as goal
@@ -66,3 +66,8 @@ pub returns-clause-few : goal.returns-clause-few
 returns-clause-few c =
     let has = is-run-of c.self.inside c.args.self.now c.self.view_is c.self.invariant in
     omega (arith, c.ends_below.ensures.count, c.ends.ensures.count, c.first_piece-end.ensures, has.within, has.short)
+
+pub returns-clause-among : goal.returns-clause-among
+returns-clause-among c =
+    let run = c.args.self.now in
+    omega (arith, (returns-clause-count_ended c).among, blocks_from-count run 0 0 (pieces_in run))

@@ -1,13 +1,6 @@
-use Rattle.std.proofs.Common.{arith, sym, ◌∙◌}
-use Rattle.film_frames.specs.FramedRuns.{pieces_in}
+use Rattle.std.proofs.Common.{sym, ◌∙◌}
 use Rattle.film_frames.proofs.ReportLemmas.{counted-before}
-use Rattle.film_frames.proofs.RunBytesLemmas.{blocks_from-count}
 use Rattle.film_frames.proofs.frames.Frames.octets_before.Goals as goal
-
-pub octets_before_piece-requires : goal.octets_before_piece-requires
-octets_before_piece-requires c =
-    let run = c.args.self.now in
-    omega (arith, c.count_ended.ensures.count_ended.among, blocks_from-count run 0 0 (pieces_in run))
 
 pub returns : goal.returns
 returns c =
