@@ -130,16 +130,6 @@ pub skipped-calls : {old new : Progress} {rest : List ℕ} {count : ℕ} {r : Li
     → HasReadBytes old r → calls_of (codes_of (read_after r (take count rest))) ≡ calls_of (codes_of r)
 skipped-calls {rest} {count} skipped kept = quiet-calls (take count rest) skipped.quiet kept
 
-run-fed : (s : Progress) (xs : List ℕ) → (scan_with_run s xs).fed ≡ s.fed + length xs
-run-fed s [] = omega arith
-run-fed s (x ∷ xs) = omega (arith, run-fed (scan_with_byte s x) xs)
-
-pub skipped-fed : {old new : Progress} {rest : List ℕ} {count : ℕ} → HasSkipped old new rest count
-    → count ≤ length rest → new.fed ≡ old.fed + count
-skipped-fed {old} {rest} {count} skipped bound =
-    ap (λ (s : Progress). s.fed) skipped.is
-    ∙ (run-fed old (take count rest) ∙ ap (λ n. old.fed + n) (length-take-le count rest bound))
-
 -- one such part after another
 quiet-append : (s : Progress) (xs ys : List ℕ) → IsQuiet s xs → IsQuiet (scan_with_run s xs) ys → IsQuiet s (xs ++ ys)
 quiet-append s [] ys one other = other
@@ -161,9 +151,6 @@ skipped-more {old} {mid} {new} {rest} {left} {count} {more} one left_is other =
       is = other.is ∙ (ap (λ (s : Progress). scan_with_run s ys) one.is
           ∙ (sym (run-append old xs ys) ∙ ap (scan_with_run old) (sym all)));
     }
-
-pub skipped-none : (s : Progress) (rest : List ℕ) → HasSkipped s s rest 0
-skipped-none s rest = record { quiet = tt; is = refl }
 
 -- ---- the run before the first zero byte of a chunk
 

@@ -148,23 +148,20 @@ is_nothing value = false
 pub picture-no-group : (value : ℕ) → eqb value 0 ≡ true → value ≡ 0xb8 → ⊥
 picture-no-group value e other = omega (arith, other, eqb-true value 0 e)
 
-abbrev pub group-tests : Tests IsPicture
-group-tests = record {
+abbrev pictures-until : (ends : ℕ → Bool) → ((value : ℕ) → is_picture value ≡ true → ends value ≡ false) → Tests IsPicture
+pictures-until ends apart = record {
   counts = is_picture;
-  ends = is_group;
+  ends = ends;
   yes = λ value e. eqb-true value 0 e;
   is = λ value e. eq-eqb value 0 e;
-  apart = λ value e. ne_eqb value 0xb8 (λ other. picture-no-group value e other);
+  apart = apart;
 }
 
+abbrev pub group-tests : Tests IsPicture
+group-tests = pictures-until is_group (λ value e. ne_eqb value 0xb8 (λ other. picture-no-group value e other))
+
 abbrev pub picture-tests : Tests IsPicture
-picture-tests = record {
-  counts = is_picture;
-  ends = is_nothing;
-  yes = λ value e. eqb-true value 0 e;
-  is = λ value e. eq-eqb value 0 e;
-  apart = λ value e. refl;
-}
+picture-tests = pictures-until is_nothing (λ value e. refl)
 
 group-by : {z b : Bool} {p : ℕ} (q n : ℕ) → (z ≡ true → b ≡ false) → p ≡ q + n →
     cond z (p + 1) p ≡ cond b p q + cond z (n + 1) (cond b 0 n)

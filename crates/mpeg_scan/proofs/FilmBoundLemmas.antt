@@ -37,21 +37,25 @@ judged-rate c e =
     let parts = or_parts (eqb code 0) many (some-cond-none (eqb code 0 || many) (BadRate c.place code) None e).0 in
     (positive code parts.0, ltb-false 8 code (or_parts (ltb 8 code) false parts.1).0)
 
-pub sequence-judged : (b : Bool) (f g : Option FilmFault) → b ≡ true → cond b f g ≡ None → f ≡ None
-sequence-judged true f g is e = e
-sequence-judged false f g is e = absurd (true≢false (sym is))
+when-first : (b : Bool) (f g : Option FilmFault) → b ≡ true → cond b f g ≡ None → f ≡ None
+when-first true f g is e = e
+when-first false f g is e = absurd (true≢false (sym is))
+
+-- a sequence header that is judged has its bytes and a rate code of the standard
+pub sequence-judged : (rate : Option ℕ) (c : Code) (end : ℕ) → c.value ≡ 0xb3 → header_fault rate c end ≡ None
+    → (ltb (end - c.place) 12 ≡ false) × (rate_fault rate c ≡ None)
+sequence-judged rate c end is e =
+    some-cond-none (ltb (end - c.place) 12) (ShortHeader c.place) (rate_fault rate c)
+    (when-first (eqb c.value 0xb3)
+    (cond (ltb (end - c.place) 12) (Some (ShortHeader c.place)) (rate_fault rate c))
+    (cond (eqb c.value 0xb8) (cond (ltb (end - c.place) 8) (Some (ShortHeader c.place)) None)
+    (cond (eqb c.value 0) (picture_fault c end) None)) (eq-eqb c.value 0xb3 is) e)
 
 -- the rate of the first sequence header, once its header is judged
 judged-first : (c : Code) (end : ℕ) → c.value ≡ 0xb3 → header_fault None c end ≡ None → IsRate (rate_of (c ∷ []))
 judged-first c end is e =
-    let test : eqb c.value 0xb3 ≡ true = eq-eqb c.value 0xb3 is in
-    let judged =
-    some-cond-none (ltb (end - c.place) 12) (ShortHeader c.place) (rate_fault None c)
-    (sequence-judged (eqb c.value 0xb3)
-    (cond (ltb (end - c.place) 12) (Some (ShortHeader c.place)) (rate_fault None c))
-    (cond (eqb c.value 0xb8) (cond (ltb (end - c.place) 8) (Some (ShortHeader c.place)) None)
-    (cond (eqb c.value 0) (picture_fault c end) None)) test e) in
-    subst (λ b. IsRate (unwrap_or (cond b (Some (rate_code c)) None) 0)) (sym test) (judged-rate c judged.1)
+    subst (λ b. IsRate (unwrap_or (cond b (Some (rate_code c)) None) 0)) (sym (eq-eqb c.value 0xb3 is))
+    (judged-rate c (sequence-judged None c end is e).1)
 
 later-rate : (c : Code) (rate : Option ℕ) → IsRate (unwrap_or rate 0) → IsRate (unwrap_or (rate_after rate c) 0)
 later-rate c None is = absurd (omega (arith, is.0))

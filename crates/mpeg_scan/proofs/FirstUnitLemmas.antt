@@ -5,13 +5,11 @@ use Rattle.std.proofs.Common.{sym, ◌∙◌, ap, refl, subst, inl, inr, arith, 
 use Rattle.std.specs.Prelude.{unwrap_or}
 use Rattle.std.proofs.lemmas.Bool.{true≢false, eq-eqb, ltb-false}
 use Rattle.mpeg_scan.specs.declared.codes.Code.{Code}
-use Rattle.mpeg_scan.specs.declared.faults.FilmFault.TheVariants.{ShortHeader}
 use Rattle.mpeg_scan.specs.declared.units.Unit.{Unit as PictureUnit}
 use Rattle.mpeg_scan.specs.StartCodes.{read_after, codes_of}
 use Rattle.mpeg_scan.specs.CodeFacts.{is_head, is_slice, first_rate, rate_after, rate_code, rate_of}
 use Rattle.mpeg_scan.specs.CodeFacts.{slice_count, starts_group, tally_of}
 use Rattle.mpeg_scan.specs.FilmFaults.{end_fault, first_fault, header_fault, last_fault, latest_fault}
-use Rattle.mpeg_scan.specs.FilmFaults.{picture_fault, rate_fault}
 use Rattle.mpeg_scan.specs.Calls.{Call, head_call, slice_call, calls_at, calls_of, unit_at}
 use Rattle.mpeg_scan.specs.Calls.{unit_end}
 use Rattle.mpeg_scan.specs.Layout.{OfUnit}
@@ -22,7 +20,6 @@ use Rattle.mpeg_scan.specs.StandardUnits.{AnyValue, IsFirstCode, StandsThere}
 use Rattle.mpeg_scan.specs.Layout.{AreChained, BeginsSequence}
 use Rattle.mpeg_scan.proofs.ScanStepLemmas.{accepted-older, otherwise-first, otherwise-second}
 use Rattle.mpeg_scan.proofs.ScanStepLemmas.{calls-cons}
-use Rattle.mpeg_scan.proofs.ScanStepLemmas.{some-cond-none}
 use Rattle.mpeg_scan.proofs.ScanStepLemmas.{accepted-whole}
 use Rattle.mpeg_scan.proofs.PartTilingLemmas.{CodeEnds, ended-none, first-is, raw_calls}
 use Rattle.mpeg_scan.proofs.PartTilingLemmas.{slice-apart, calls-nil, ends_at}
@@ -214,14 +211,7 @@ first_in-rate c (d ∷ past) accepted =
 pub long-header : (rate : Option ℕ) (c : Code) (end : ℕ) → c.value ≡ 0xb3 → header_fault rate c end ≡ None
     → c.place + 12 ≤ end
 long-header rate c end is e =
-    let test : eqb c.value 0xb3 ≡ true = eq-eqb c.value 0xb3 is in
-    let judged =
-    some-cond-none (ltb (end - c.place) 12) (ShortHeader c.place) (rate_fault rate c)
-    (sequence-judged (eqb c.value 0xb3)
-    (cond (ltb (end - c.place) 12) (Some (ShortHeader c.place)) (rate_fault rate c))
-    (cond (eqb c.value 0xb8) (cond (ltb (end - c.place) 8) (Some (ShortHeader c.place)) None)
-    (cond (eqb c.value 0) (picture_fault c end) None)) test e) in
-    omega (arith, ltb-false (end - c.place) 12 judged.0)
+    omega (arith, ltb-false (end - c.place) 12 (sequence-judged rate c end is e).0)
 
 first-there : (bytes : List ℕ) (past : List Code) → codes_of (read_after [] bytes) ≡ past → Spaced past
     → end_fault past (length (read_after [] bytes)) ≡ None

@@ -1,7 +1,6 @@
 -- Bytes that are added to a header one after another.
-use Rattle.std.proofs.Common.{◌≡◌, ℕ, suc, true, not, nat_lt, ◌+◌, ◌<◌, ◌≤◌, List, [], ◌∷◌, drop, get_or, length, refl, sym, ap, ◌∙◌, arith}
+use Rattle.std.proofs.Common.{◌≡◌, ℕ, true, not, nat_lt, ◌+◌, ◌<◌, ◌≤◌, List, [], ◌∷◌, get_or, length, refl, sym, ap, ◌∙◌, arith}
 use Rattle.std.proofs.lemmas.Bool.{ltb-false, not-true}
-use Rattle.std.proofs.Math.Seq.{drop-cons}
 use Rattle.mpeg_scan.specs.HeaderBytes.{header_with, header_with_all}
 use Rattle.mpeg_scan.proofs.CodeLemmas.{noted-full}
 
@@ -11,13 +10,6 @@ all-full header [] full = refl
 all-full header (x ∷ xs) full =
     let same = noted-full header x full in
     ap (λ (h : List ℕ). header_with_all h xs) (sym same) ∙ all-full header xs full
-
-pub all-more : (header xs : List ℕ) (at : ℕ) → at < length xs
-    → header_with_all header (drop at xs) ≡ header_with_all (header_with header (get_or xs at 0)) (drop (at + 1) xs)
-all-more header xs at within =
-    let next : suc at ≡ at + 1 = omega arith in
-    ap (header_with_all header) (drop-cons xs at 0 within)
-    ∙ ap (λ n. header_with_all (header_with header (get_or xs at 0)) (drop n xs)) next
 
 -- where a header has no room for the rest of some bytes, it has what they add to it
 pub none-left : {header : List ℕ} {whole : List ℕ} (rest : List ℕ) → not (nat_lt (length header) 5) ≡ true

@@ -5,7 +5,7 @@ use Rattle.std.proofs.Common.{length, take, drop, slice_get, refl, sym, ap, subs
 use Rattle.std.proofs.Common.{length-append}
 use Rattle.std.proofs.lemmas.List.{append-nil}
 use Rattle.std.proofs.Math.Seq.{drop-append_seam, take-append_seam}
-use Rattle.std.proofs.lemmas.Bool.{and_parts, false≢true, eqb-true, ltb-true, leb-true}
+use Rattle.std.proofs.lemmas.Bool.{and_parts, eqb-true, ltb-true, leb-true}
 use Rattle.mpeg_scan.specs.declared.units.TheConstants.{MAX_UNIT_HEAD_BYTES}
 use Rattle.mpeg_scan.specs.declared.units.Unit.{Unit as PictureUnit}
 use Rattle.mpeg_scan.specs.Calls.{Call, head_call, slice_call, unit_call, all_calls}
@@ -68,13 +68,16 @@ abbrev pub Stands : PartStart → List ℕ → Type 0
 Stands (between at) past = Unit {0}
 Stands (within from head_end at n) past = Inside (begun from head_end at n) past
 
+nothing-fits : (calls : List Call) (to : ℕ) → parts_after None calls ≡ Some (between to) → ⊥
+nothing-fits [] to e = cc
+nothing-fits (call ∷ calls) to e = cc
+
 -- where the parts go on to an end, the next one fits
 pub part-fits : (b : Bool) (p : PartStart) (calls : List Call) (to : ℕ)
     → parts_after (cond b (Some p) None) calls ≡ Some (between to)
     → (b ≡ true) × (parts_after (Some p) calls ≡ Some (between to))
 part-fits true p calls to e = (refl, e)
-part-fits false p [] to e = cc
-part-fits false p (call ∷ calls) to e = cc
+part-fits false p calls to e = absurd (nothing-fits calls to e)
 
 -- a head of 1 to 1,380 bytes begins where the parts before it end, and the next part begins at its end
 pub record HeadFits (from to at : ℕ) (calls : List Call) (end : ℕ) : Type 0 where
@@ -110,12 +113,9 @@ part-below [] (within from head_end at n) to parts = cc
 part-below (head_call a b ∷ calls) (between at) to parts =
     let fits = head-fits a b at calls to parts in
     omega (arith, fits.here, fits.some, part-below calls (within a b b 0) to fits.rest)
-part-below (slice_call a b ∷ calls) (between at) to parts =
-    absurd (false≢true (part-fits false (between at) calls to parts).0)
-part-below (unit_call unit ∷ calls) (between at) to parts =
-    absurd (false≢true (part-fits false (between at) calls to parts).0)
-part-below (head_call a b ∷ calls) (within from head_end at n) to parts =
-    absurd (false≢true (part-fits false (between at) calls to parts).0)
+part-below (slice_call a b ∷ calls) (between at) to parts = absurd (nothing-fits calls to parts)
+part-below (unit_call unit ∷ calls) (between at) to parts = absurd (nothing-fits calls to parts)
+part-below (head_call a b ∷ calls) (within from head_end at n) to parts = absurd (nothing-fits calls to parts)
 part-below (slice_call a b ∷ calls) (within from head_end at n) to parts =
     let fits = part-fits (eqb a at && leb (a + 4) b) (within from head_end b (n + 1)) calls to parts in
     let first = and_parts (eqb a at) (leb (a + 4) b) fits.0 in
@@ -261,12 +261,9 @@ part-laid (head_call a b ∷ calls) {part = between at} {k} {to} {past} parts co
     let next : SoFar (within a b b 0) k past =
     record { slices = so_far.slices; stands = head-inside past fits.some fits.short } in
     part-laid calls fits.rest counts next
-part-laid (slice_call a b ∷ calls) {part = between at} {to} parts counts so_far =
-    absurd (false≢true (part-fits false (between at) calls to parts).0)
-part-laid (unit_call unit ∷ calls) {part = between at} {to} parts counts so_far =
-    absurd (false≢true (part-fits false (between at) calls to parts).0)
-part-laid (head_call a b ∷ calls) {part = within from head_end at n} {to} parts counts so_far =
-    absurd (false≢true (part-fits false (between at) calls to parts).0)
+part-laid (slice_call a b ∷ calls) {part = between at} {to} parts counts so_far = absurd (nothing-fits calls to parts)
+part-laid (unit_call unit ∷ calls) {part = between at} {to} parts counts so_far = absurd (nothing-fits calls to parts)
+part-laid (head_call a b ∷ calls) {part = within from head_end at n} {to} parts counts so_far = absurd (nothing-fits calls to parts)
 part-laid (slice_call a b ∷ calls) {part = within from head_end at n} {k} {to} {past} parts counts so_far =
     let fits = part-fits (eqb a at && leb (a + 4) b) (within from head_end b (n + 1)) calls to parts in
     let slice = and_parts (eqb a at) (leb (a + 4) b) fits.0 in
@@ -318,12 +315,9 @@ parts-chained [] (within from head_end at n) to parts = cc
 parts-chained (head_call a b ∷ calls) (between at) to parts =
     let fits = head-fits a b at calls to parts in
     subst (λ f. AreChained f (units_in calls) to) fits.here (parts-chained calls (within a b b 0) to fits.rest)
-parts-chained (slice_call a b ∷ calls) (between at) to parts =
-    absurd (false≢true (part-fits false (between at) calls to parts).0)
-parts-chained (unit_call unit ∷ calls) (between at) to parts =
-    absurd (false≢true (part-fits false (between at) calls to parts).0)
-parts-chained (head_call a b ∷ calls) (within from head_end at n) to parts =
-    absurd (false≢true (part-fits false (between at) calls to parts).0)
+parts-chained (slice_call a b ∷ calls) (between at) to parts = absurd (nothing-fits calls to parts)
+parts-chained (unit_call unit ∷ calls) (between at) to parts = absurd (nothing-fits calls to parts)
+parts-chained (head_call a b ∷ calls) (within from head_end at n) to parts = absurd (nothing-fits calls to parts)
 parts-chained (slice_call a b ∷ calls) (within from head_end at n) to parts =
     let fits = part-fits (eqb a at && leb (a + 4) b) (within from head_end b (n + 1)) calls to parts in
     parts-chained calls (within from head_end b (n + 1)) to fits.1

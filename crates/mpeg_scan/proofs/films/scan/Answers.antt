@@ -9,6 +9,7 @@ use Rattle.mpeg_scan.specs.ScannerState.{HasScannedBytes}
 use Rattle.mpeg_scan.specs.Films.{units_in, slices_in}
 use Rattle.mpeg_scan.proofs.FilmLemmas.{same-error, calls-none, refusal-at_code, refusal-too_long}
 use Rattle.mpeg_scan.proofs.films.scan.Goals as goal
+use Rattle.mpeg_scan.proofs.films.scan.Goals.{In_ok-feed}
 
 pub returns-then-len-gt-MAX_FILM_BYTES-clause-fault : goal.returns-then-len-gt-MAX_FILM_BYTES-clause-fault
 returns-then-len-gt-MAX_FILM_BYTES-clause-fault c = λ f is.
@@ -24,11 +25,16 @@ returns-in_err-feed-clause-fault c =
     ∙ c.feed.ensures.fault f
     (c.in_err-feed.was ∙ ap Err (sym p.2 ∙ same-error c.from_residual.result p.1 is)) [] c.new-scanner.ensures.fed)
 
+-- all bytes were read
+read-all : (c : In_ok-feed) → HasScannedBytes c.feed.new.self (read_after [] c.args.bytes.items)
+read-all c =
+    subst (λ (l : List ℕ). HasScannedBytes c.feed.new.self (read_after [] l)) c.deref.ensures.value
+    (c.in_ok-feed.ensures.kept [] c.new-scanner.ensures.fed)
+
 pub invariant_of-result : goal.invariant_of-result
 invariant_of-result c =
     let r = read_after [] c.args.bytes.items in
-    let kept = subst (λ (l : List ℕ). HasScannedBytes c.feed.new.self (read_after [] l)) c.deref.ensures.value
-    (c.in_ok-feed.ensures.kept [] c.new-scanner.ensures.fed) in
+    let kept = read-all (goal.at.invariant_of-result c).In_ok-feed in
     let first = c.in_ok-feed.ensures.heard [] [] c.new-scanner.ensures.fed (
       c.new-found.ensures.units ∙ sym (ap units_in calls-none),
       c.new-found.ensures.slices
@@ -48,23 +54,19 @@ returns-in_err-ending-clause-fault c =
     c.finish.ensures.fault f
     (c.in_err-ending.was ∙ ap Err (sym p.2 ∙ same-error c.from_residual-in_err-ending.result p.1 is))
     (read_after [] c.args.bytes.items)
-    (subst (λ (l : List ℕ). HasScannedBytes c.feed.new.self (read_after [] l)) c.deref.ensures.value
-    (c.in_ok-feed.ensures.kept [] c.new-scanner.ensures.fed))
+    (read-all (goal.at.returns-in_err-ending-clause-fault c).In_ok-feed)
 
 pub returns-clause-tiled : goal.returns-clause-tiled
 returns-clause-tiled c =
     c.in_ok-ending.ensures.tiled (read_after [] c.args.bytes.items)
-    (subst (λ (l : List ℕ). HasScannedBytes c.feed.new.self (read_after [] l)) c.deref.ensures.value
-    (c.in_ok-feed.ensures.kept [] c.new-scanner.ensures.fed))
+    (read-all (goal.at.returns-clause-tiled c).In_ok-feed)
 
 pub returns-clause-numbered : goal.returns-clause-numbered
 returns-clause-numbered c =
     c.in_ok-ending.ensures.numbered (read_after [] c.args.bytes.items)
-    (subst (λ (l : List ℕ). HasScannedBytes c.feed.new.self (read_after [] l)) c.deref.ensures.value
-    (c.in_ok-feed.ensures.kept [] c.new-scanner.ensures.fed))
+    (read-all (goal.at.returns-clause-numbered c).In_ok-feed)
 
 pub returns-clause-grammatical : goal.returns-clause-grammatical
 returns-clause-grammatical c =
     c.in_ok-ending.ensures.grammatical (read_after [] c.args.bytes.items)
-    (subst (λ (l : List ℕ). HasScannedBytes c.feed.new.self (read_after [] l)) c.deref.ensures.value
-    (c.in_ok-feed.ensures.kept [] c.new-scanner.ensures.fed))
+    (read-all (goal.at.returns-clause-grammatical c).In_ok-feed)
