@@ -1,16 +1,20 @@
 -- What the later steps of the checker rely on: no segment is empty, and the sums are right and
 -- small.
-use Rattle.std.specs.Prelude.{ℕ, ◌≡◌, ◌+◌, ◌-◌, ◌<◌, ◌≤◌, List, length, take, slice_index}
+use Rattle.std.specs.Prelude.{ℕ, ◌≡◌, ◌≢◌, ◌+◌, ◌-◌, ◌<◌, ◌≤◌, List, length, take, slice_index}
 use Rattle.std.specs.Prelude.{nat_eq, if◌then◌else◌}
 use Rattle.vod_base.specs.declared.limits.TheConstants.{MAX_BYTES, MAX_SLOTS}
 use Rattle.plan_cert.specs.declared.Segment.{Segment}
 use Rattle.plan_cert.specs.PlanSlots.{total_slots, total_bytes}
+use Rattle.slope_frac.specs.SlopeOrder.{IsLessSteep}
+use Rattle.wire_curve.specs.SoundCurves.{bound_at}
+use Rattle.cert_check.specs.declared.bends.Bend.{Bend}
+use Rattle.cert_check.specs.declared.bends.Bend.TheVariants.{Rise, Fall}
 use Rattle.cert_check.specs.declared.walk.Walk.{Walk}
 use Rattle.cert_check.specs.declared.walk.Outside.{Outside}
 use Rattle.cert_check.specs.declared.walk.Outside.TheVariants.{Below, Above, Nowhere}
 use Rattle.cert_check.specs.First.{IsFirst}
 use Rattle.cert_check.specs.CertFaults.{IsBelowLow, IsAboveUp}
-use Rattle.cert_check.specs.ExactLine.{segment_at}
+use Rattle.cert_check.specs.ExactLine.{end_height, end_place, segment_at, slope_of}
 
 pub record AddsUp (from : ℕ) (low up : List ℕ) (segments : List Segment) : Type 0 where
   pub some : (i : ℕ) → i < length segments → 1 ≤ (segment_at segments i).slots
@@ -20,6 +24,23 @@ pub record AddsUp (from : ℕ) (low up : List ℕ) (segments : List Segment) : T
   pub some_slot : 0 < length low
   pub few_slots : length low ≤ MAX_SLOTS
   pub few_bytes : from + total_bytes segments ≤ MAX_BYTES
+
+-- the curve on which the line may bend so: the upper one for a rise, the lower one for a fall
+abbrev pub curve_for : Bend → List ℕ → List ℕ → List ℕ
+curve_for Rise low up = up
+curve_for Fall low up = low
+
+-- the slope changes so from one segment to the next
+abbrev pub Bends : Bend → Segment → Segment → Type 0
+Bends Rise before after = IsLessSteep (slope_of before) (slope_of after)
+Bends Fall before after = IsLessSteep (slope_of after) (slope_of before)
+
+-- it changes so after segment i, and the line there isn't on the curve
+abbrev pub IsBendOff : Bend → ℕ → List ℕ → List Segment → ℕ → Type 0
+IsBendOff bend from curve segments i =
+    (i + 1 < length segments)
+    × Bends bend (segment_at segments i) (segment_at segments (i + 1))
+    × (end_height from segments i ≢ bound_at from curve (end_place segments i))
 
 -- a walk along the line stands at place t
 pub record IsWalkAt (from : ℕ) (segments : List Segment) (t : ℕ) (walk : Walk) : Type 0 where

@@ -5,8 +5,8 @@ ghost use Rattle.std.specs.Prelude.{ℕ, ◌≡◌, ◌+◌, ◌↔◌, IsTrue, 
 ghost use Rattle.slope_frac.specs.SlopeOrder.{IsLessSteep, IsEquallySteep};
 ghost use Rattle.cert_check.specs.ExactLine.{slope_of};
 ghost use Rattle.cert_check.specs.First.{IsFirst};
-ghost use Rattle.cert_check.specs.CertFaults.{IsEqualAt, IsRiseOffUpper, IsFallOffLower};
-ghost use Rattle.cert_check.specs.CheckerSteps.{AddsUp};
+ghost use Rattle.cert_check.specs.CertFaults.{IsEqualAt};
+ghost use Rattle.cert_check.specs.CheckerSteps.{AddsUp, Bends, IsBendOff, curve_for};
 
 use plan_cert::Segment;
 use slope_frac::{Slope, compare};
@@ -27,50 +27,56 @@ pub(crate) fn first_equal(segments: &[Segment]) -> Option<u64>
     None
 }
 
-/// The first segment after which the slope rises off the upper curve.
-pub(crate) fn first_rise_off(curves: &Curves, segments: &[Segment]) -> Option<u64>
+/// The two ways in which a line may bend.
+#[derive(Clone, Copy)]
+pub(crate) enum Bend {
+    Rise,
+    Fall,
+}
+
+/// The first segment after which the line bends so off its curve: rises off the upper one, or falls
+/// off the lower one.
+pub(crate) fn first_bend_off(bend: Bend, curves: &Curves, segments: &[Segment]) -> Option<u64>
     requires { AddsUp curves.now.from curves.now.low.items curves.now.up.items segments.now }
-    ensures { MatchOption result ((i : ℕ) →
-        ¬ IsRiseOffUpper curves.now.from curves.now.up.items segments.now i)
-        (IsFirst (IsRiseOffUpper curves.now.from curves.now.up.items segments.now)) }
+    ensures { let curve = curve_for bend curves.now.low.items curves.now.up.items in
+        MatchOption result ((i : ℕ) → ¬ IsBendOff bend curves.now.from curve segments.now i)
+        (IsFirst (IsBendOff bend curves.now.from curve segments.now)) }
 {
-    let up = curves.up.as_slice();
+    let curve = curve_of(bend, curves);
     let mut place = 0;
     let mut height = curves.from;
     for i in 0..segments.len().saturating_sub(1) {
         place += segments[i].slots as usize;
         height += segments[i].bytes;
-        // The rate may rise only where the client's buffer is full. Elsewhere sending more before
-        // would make the rise smaller.
-        let off = height != up[place - 1];
-        if off && rises(segments[i], segments[i + 1]) {
+        // The rate may rise only where the client's buffer is full: elsewhere sending more before
+        // would make the rise smaller. It may fall only where the client has just what it needs:
+        // elsewhere sending less before would make the fall smaller.
+        let off = height != curve[place - 1];
+        if off && bends(bend, segments[i], segments[i + 1]) {
             return Some(i as u64);
         }
     }
     None
 }
 
-/// The first segment after which the slope falls off the lower curve.
-pub(crate) fn first_fall_off(curves: &Curves, segments: &[Segment]) -> Option<u64>
-    requires { AddsUp curves.now.from curves.now.low.items curves.now.up.items segments.now }
-    ensures { MatchOption result ((i : ℕ) →
-        ¬ IsFallOffLower curves.now.from curves.now.low.items segments.now i)
-        (IsFirst (IsFallOffLower curves.now.from curves.now.low.items segments.now)) }
+/// The curve on which the line may bend so.
+fn curve_of(bend: Bend, curves: &Curves) -> &[u64]
+    ensures { result.now ≡ curve_for bend curves.now.low.items curves.now.up.items }
 {
-    let low = curves.low.as_slice();
-    let mut place = 0;
-    let mut height = curves.from;
-    for i in 0..segments.len().saturating_sub(1) {
-        place += segments[i].slots as usize;
-        height += segments[i].bytes;
-        // The rate may fall only where the client has just what it needs. Elsewhere sending less
-        // before would make the fall smaller.
-        let off = height != low[place - 1];
-        if off && rises(segments[i + 1], segments[i]) {
-            return Some(i as u64);
-        }
+    match bend {
+        Bend::Rise => curves.up.as_slice(),
+        Bend::Fall => curves.low.as_slice(),
     }
-    None
+}
+
+/// Whether the slope changes so from one segment to the next.
+fn bends(bend: Bend, before: Segment, after: Segment) -> bool
+    ensures { IsTrue result ↔ Bends bend before after }
+{
+    match bend {
+        Bend::Rise => rises(before, after),
+        Bend::Fall => rises(after, before),
+    }
 }
 
 /// The slope of a segment.

@@ -11,7 +11,7 @@ ghost use Rattle.cert_check.specs.CheckerSteps.{StaysWithin};
 ghost use Rattle.cert_check.specs.Optimality.{IsBestPlan};
 
 use crate::CertFault;
-use crate::bends::{first_equal, first_fall_off, first_rise_off};
+use crate::bends::{Bend, first_bend_off, first_equal};
 use crate::sums::{first_empty, leads_to};
 use crate::walk::{Outside, first_outside};
 use plan_cert::{Segment, has_slots};
@@ -95,10 +95,10 @@ fn check_bends(curves: &Curves, segments: &[Segment]) -> Result<(), CertFault>
     if let Some(i) = first_equal(segments) {
         return Err(CertFault::EqualSlopes(i));
     }
-    if let Some(i) = first_rise_off(curves, segments) {
+    if let Some(i) = first_bend_off(Bend::Rise, curves, segments) {
         return Err(CertFault::RiseOffUpper(i));
     }
-    if let Some(i) = first_fall_off(curves, segments) {
+    if let Some(i) = first_bend_off(Bend::Fall, curves, segments) {
         return Err(CertFault::FallOffLower(i));
     }
     Ok(())

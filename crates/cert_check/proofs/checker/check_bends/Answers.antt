@@ -6,9 +6,9 @@ use Rattle.cert_check.specs.declared.CertFault.TheVariants.{EqualSlopes, RiseOff
 use Rattle.cert_check.specs.CertFaults.{HasCertFault, kind_of, fault_number}
 use Rattle.cert_check.proofs.checker.check_bends.Goals as goal
 
-pub returns-in-Some-first_fall_off : goal.returns-in-Some-first_fall_off
-returns-in-Some-first_fall_off c =
-    let first = c.in-Some-first_fall_off.ensures in
+pub returns-in-Some-first_bend_off-2 : goal.returns-in-Some-first_bend_off-2
+returns-in-Some-first_bend_off-2 c =
+    let first = c.in-Some-first_bend_off-2.ensures in
     record { there = first.here; no_earlier_kind = earlier; no_lesser_number = lesser }
   where
     earlier : (other : CertFault) → kind_of other < 7
@@ -20,14 +20,14 @@ returns-in-Some-first_fall_off c =
     earlier (BelowLow t) less = c.requires.not_below t
     earlier (AboveUp t) less = c.requires.not_above t
     earlier (EqualSlopes i) less = c.in_default.ensures i
-    earlier (RiseOffUpper i) less = c.in_default-first_rise_off.ensures i
+    earlier (RiseOffUpper i) less = c.in_default-first_bend_off.ensures i
     earlier (FallOffLower i) less = absurd (omega (arith, less))
 
     lesser : (other : CertFault) → kind_of other ≡ 7
-        → unwrap_or (fault_number other) 0 < c.in-Some-first_fall_off.i
+        → unwrap_or (fault_number other) 0 < c.in-Some-first_bend_off-2.i
         → ¬ HasCertFault c.args.curves.now.from c.args.curves.now.low.items c.args.curves.now.up.items
         c.args.segments.now other
-    lesser (FallOffLower i) same less = c.in-Some-first_fall_off.ensures.not_before i less
+    lesser (FallOffLower i) same less = c.in-Some-first_bend_off-2.ensures.not_before i less
     lesser (EmptySegment i) same less = absurd (omega (arith, same))
     lesser WrongLength same less = absurd (omega (arith, same))
     lesser WrongTotal same less = absurd (omega (arith, same))
@@ -39,5 +39,5 @@ returns-in-Some-first_fall_off c =
 pub returns-in-Some : goal.returns-in-Some
 returns-in-Some c = grind (arith, common_steps)
 
-pub returns-in-Some-first_rise_off : goal.returns-in-Some-first_rise_off
-returns-in-Some-first_rise_off c = grind (arith, moves)
+pub returns-in-Some-first_bend_off : goal.returns-in-Some-first_bend_off
+returns-in-Some-first_bend_off c = grind (arith, moves)
