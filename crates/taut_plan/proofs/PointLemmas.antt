@@ -23,10 +23,10 @@ split first middle last order = ap (λ d. d * first.height) (omega (arith, order
 
 -- the middle point is inside where its height isn't on the other side of the line's, or on the line
 pub inside_test : (side : Side) (r : Bool) (first middle last : Point) → InOrder first middle last
-    → MatchBool r (IsOrdered side (chord first middle last) (weight first middle last))
+    × MatchBool r (IsOrdered side (chord first middle last) (weight first middle last))
     (IsPast side (weight first middle last) (chord first middle last))
     → MatchBool (not r) (IsInside side first middle last) (IsWithin side first last middle)
-inside_test Lower true first middle last order h = omega (arith, split first middle last order, h)
-inside_test Lower false first middle last order h = omega (arith, split first middle last order, h)
-inside_test Upper true first middle last order h = omega (arith, split first middle last order, h)
-inside_test Upper false first middle last order h = omega (arith, split first middle last order, h)
+inside_test Lower true first middle last known = omega (arith, split first middle last known.0, known.1)
+inside_test Lower false first middle last known = omega (arith, split first middle last known.0, known.1)
+inside_test Upper true first middle last known = omega (arith, split first middle last known.0, known.1)
+inside_test Upper false first middle last known = omega (arith, split first middle last known.0, known.1)
