@@ -28,8 +28,8 @@ impl Stored {
     ghost use Rattle.std.specs.Prelude.{slice_get, string_bytes, Some, IfOk};
     ghost use Rattle.std.specs.List.{sum_by};
     ghost use Rattle.rtp_pack.specs.Packets.{OfUnit};
-    ghost use Rattle.film_frames.specs.Pieces.{OfPiece, counted_of, film_pieces, frames_in, from_of};
-    ghost use Rattle.film_frames.specs.Pieces.{front_pieces, wire_in, wire_size};
+    ghost use Rattle.film_frames.specs.Pieces.{OfPiece, counted_of, film_pieces, frames_in};
+    ghost use Rattle.film_frames.specs.Pieces.{from_of, front_pieces, wire_in, wire_size};
 
     /// Makes the table of a film, and stores both under a name.
     ///

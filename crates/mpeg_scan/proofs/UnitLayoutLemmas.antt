@@ -263,7 +263,8 @@ part-laid (head_call a b ∷ calls) {part = between at} {k} {to} {past} parts co
     part-laid calls fits.rest counts next
 part-laid (slice_call a b ∷ calls) {part = between at} {to} parts counts so_far = absurd (nothing-fits calls to parts)
 part-laid (unit_call unit ∷ calls) {part = between at} {to} parts counts so_far = absurd (nothing-fits calls to parts)
-part-laid (head_call a b ∷ calls) {part = within from head_end at n} {to} parts counts so_far = absurd (nothing-fits calls to parts)
+part-laid (head_call a b ∷ calls) {part = within from head_end at n} {to} parts counts so_far =
+    absurd (nothing-fits calls to parts)
 part-laid (slice_call a b ∷ calls) {part = within from head_end at n} {k} {to} {past} parts counts so_far =
     let fits = part-fits (eqb a at && leb (a + 4) b) (within from head_end b (n + 1)) calls to parts in
     let slice = and_parts (eqb a at) (leb (a + 4) b) fits.0 in
