@@ -2,6 +2,7 @@
 
 ghost use Rattle.std.specs.Prelude.{◌≡◌, ◌++◌, ℕ, Bool, List, [], false, OnOk, IfOk, IsTrue};
 
+use std::fmt;
 use std::random::RandomSource;
 
 /// No random bytes could be drawn.
@@ -51,6 +52,12 @@ impl<'a, R: RandomSource> SystemBytes<'a, R> {
     /// Makes a source of the random bytes of this runtime's system.
     pub fn new(rt: &'a R) -> SystemBytes<'a, R> {
         SystemBytes { rt }
+    }
+}
+
+impl<R: RandomSource> fmt::Debug for SystemBytes<'_, R> {
+    fn fmt<W: fmt::Write>(&self, f: &mut fmt::Formatter<W>) -> fmt::Result {
+        f.debug_struct("SystemBytes").finish_non_exhaustive()
     }
 }
 

@@ -44,9 +44,12 @@ fn draws_all_bytes(rt: HostRuntime) -> Result<(), Fail> {
     for (byte, want) in seed.into_iter().zip(0..=u8::MAX) {
         assert_eq!(rt; byte, want);
     }
-    let first = draw_seed(&mut SystemBytes::new(&rt))?;
-    let second = draw_seed(&mut SystemBytes::new(&rt))?;
+    let mut system = SystemBytes::new(&rt);
+    let first = draw_seed(&mut system)?;
+    let second = draw_seed(&mut system)?;
     assert!(rt; first != second);
+    let printed = format!(in rt.alloc(); "{system:?}")?;
+    assert!(rt; printed.as_str() == "SystemBytes { .. }");
     Ok(())
 }
 
