@@ -9,7 +9,7 @@ use socket_link::SocketFault;
 use std::alloc::Global;
 use std::net::{Ipv4Addr, Net, SocketAddr, TcpListener, TcpStream};
 use std::time::Clock;
-use std::{io, mem};
+use std::{fmt, io, mem};
 use vod_base::{Gate, GateFault, Opening};
 
 /// A connection to a TCP port of this machine. Slots count from its opening, which connects, and
@@ -91,6 +91,13 @@ impl<'a, R: Net<Listener = TcpListener, Stream = TcpStream> + Clock> Gate for Di
 
     fn rejoin(&mut self, part: Self) {
         self.faults.join(part.faults);
+    }
+}
+
+impl<'a, R: Net<Listener = TcpListener, Stream = TcpStream> + Clock> fmt::Debug
+    for DialGate<'a, R> {
+    fn fmt<W: fmt::Write>(&self, f: &mut fmt::Formatter<W>) -> fmt::Result {
+        f.debug_struct("DialGate").finish_non_exhaustive()
     }
 }
 

@@ -8,7 +8,7 @@ use crate::outcomes::size_outcome;
 use std::alloc::Global;
 use std::io::{ErrorKind, Read, Seek, SeekFrom};
 use std::rt::Files;
-use std::{fs, io};
+use std::{fmt, fs, io};
 use vod_base::{Library, StoreFault};
 
 /// The files of the folder that the program runs in. The file that was read last stays open for the
@@ -40,16 +40,12 @@ impl<'a, R: Files> FileLibrary<'a, R> {
     {
         // Films are read in chunks, one after the other. So most reads go on where the last one
         // ended, and need neither an open nor a seek.
-        match self.open.take() {
-            Some(open) if open.name.as_str() == name && open.place == at => return Ok(open),
-            _ => {}
+        if let Some(open) = self.open.take() {
+            if open.name.as_str() == name && open.place == at {
+                return Ok(open);
+            }
         }
-        let name_kept = String::from_str(self.alloc, name)?;
-        Ok(OpenFile {
-            name: name_kept,
-            file: open_file(self.rt, name, at)?,
-            place: at,
-        })
+        open_file(self.rt, self.alloc, name, at)
     }
 
     /// Reads at a place of a file.
@@ -63,6 +59,12 @@ impl<'a, R: Files> FileLibrary<'a, R> {
         // Kept only after a read that went well: after an error its place in the file isn't known.
         self.open = Some(open);
         Ok(count)
+    }
+}
+
+impl<R: Files> fmt::Debug for FileLibrary<'_, R> {
+    fn fmt<W: fmt::Write>(&self, f: &mut fmt::Formatter<W>) -> fmt::Result {
+        f.debug_struct("FileLibrary").finish_non_exhaustive()
     }
 }
 
@@ -95,11 +97,19 @@ fn file_size<R: Files>(rt: &R, name: &str) -> io::Result<u64> {
     Ok(fs::metadata(rt, name)?.len())
 }
 
-/// Opens the file of that name at a place.
-fn open_file<R: Files>(rt: &R, name: &str, at: u64) -> io::Result<R::File> {
+/// Opens the file of that name at a place. Its name is kept first, since that takes memory.
+fn open_file<R: Files>(rt: &R, alloc: Global, name: &str, at: u64) -> io::Result<OpenFile<R::File>>
+    ensures named { IfOk result (λ file. string_bytes file.name ≡ name.now) }
+    ensures place { IfOk result (λ file. file.place ≡ at) }
+{
+    let name_kept = String::from_str(alloc, name)?;
     let mut file = fs::open(rt, name)?;
     file.seek(SeekFrom::Start(at))?;
-    Ok(file)
+    Ok(OpenFile {
+        name: name_kept,
+        file,
+        place: at,
+    })
 }
 
 /// Reads, again where a signal interrupted it.

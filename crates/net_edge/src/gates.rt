@@ -9,7 +9,7 @@ use listener_gate::{AcceptError, Listener, ListenerFault, ListenerGate, accept_e
 use std::alloc::Global;
 use std::net::{Ipv4Addr, Net, SocketAddr, TcpListener, TcpStream};
 use std::time::{Clock, Duration};
-use std::{io, thread};
+use std::{fmt, io, thread};
 
 /// A gate over a TCP port that connections come to, built by [`ListenerGate::new`] over a
 /// [`TcpPort`].
@@ -160,6 +160,12 @@ impl<'a, R: Net<Listener = TcpListener, Stream = TcpStream> + Clock> Listener fo
 
     fn end(&mut self, conn: TcpLink<'a, R>) {
         conn.end();
+    }
+}
+
+impl<'a, R: Net<Listener = TcpListener, Stream = TcpStream> + Clock> fmt::Debug for TcpPort<'a, R> {
+    fn fmt<W: fmt::Write>(&self, f: &mut fmt::Formatter<W>) -> fmt::Result {
+        f.debug_struct("TcpPort").finish_non_exhaustive()
     }
 }
 

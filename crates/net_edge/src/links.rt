@@ -15,7 +15,7 @@ use std::alloc::Global;
 use std::io::{Read, Write};
 use std::net::{Net, Shutdown};
 use std::time::{Clock, Duration, Instant};
-use std::{io, net};
+use std::{fmt, io, net};
 
 /// A link over a TCP connection of the system.
 pub type TcpLink<'a, R> = SocketLink<TcpSocket<'a, R>>;
@@ -116,6 +116,12 @@ fn watch_stream(stream: net::TcpStream, poll: &Poll) -> io::Result<TcpStream> {
     let both = Interest::READABLE | Interest::WRITABLE;
     poll.registry().register(&mut stream, Token(0), both)?;
     Ok(stream)
+}
+
+impl<R: Clock> fmt::Debug for TcpSocket<'_, R> {
+    fn fmt<W: fmt::Write>(&self, f: &mut fmt::Formatter<W>) -> fmt::Result {
+        f.debug_struct("TcpSocket").finish_non_exhaustive()
+    }
 }
 
 impl<R: Clock> Socket for TcpSocket<'_, R> {

@@ -3,8 +3,8 @@
 ghost use Rattle.std.specs.Prelude.{◌≡◌, None};
 
 use crate::faults::Faults;
-use std::io;
 use std::io::Write;
+use std::{fmt, io};
 use vod_base::{Sink, SinkFault};
 
 /// A stream that is written to and never read.
@@ -31,6 +31,12 @@ impl<W: Write + Drop> OutSink<W> {
         // wait.
         self.stream.write_all(bytes)?;
         self.stream.flush()
+    }
+}
+
+impl<S: Write + Drop> fmt::Debug for OutSink<S> {
+    fn fmt<W: fmt::Write>(&self, f: &mut fmt::Formatter<W>) -> fmt::Result {
+        f.debug_struct("OutSink").finish_non_exhaustive()
     }
 }
 

@@ -4,13 +4,17 @@ mod sockets;
 mod test_gates;
 
 use super::*;
-use crate::tests::sockets::connect;
+use crate::tests::sockets::{
+    connect, ends_with_last_bytes, has_both_slots, listens_as_asked, serves_late_reader,
+};
 use crate::tests::test_gates::TestGate;
 use std::alloc::Global;
 use std::io::{Read, Write};
 use std::net::{Net, Shutdown, TcpStream};
 use std::test::Fail;
-use std::{fs, io};
+use std::thread::Threads;
+use std::time::Clock;
+use std::{fmt, fs, io};
 use vod_base::{Heard, Library, Link, Opening, Sink, SinkFault};
 
 /// Slots of ten milliseconds on a free port, and one connection for each part.
@@ -21,9 +25,6 @@ const HOW: Opening = Opening {
     slot_units: 3_600,
 };
 
-/// Takes a value that may go to another thread.
-fn take_sent<T: Send>(_value: &T) {}
-
 /// Opens a gate, and returns its port.
 fn open_gate<G: TestGate>(gate: &mut G, how: &Opening) -> Result<u16, Fail> {
     if gate.open_as(how).is_err() {
@@ -33,6 +34,11 @@ fn open_gate<G: TestGate>(gate: &mut G, how: &Opening) -> Result<u16, Fail> {
         Some(port) => Ok(port),
         None => Err(Fail::from("no port")),
     }
+}
+
+/// Whether a value is printed so.
+fn is_printed<T: fmt::Debug>(alloc: Global, value: &T, want: &str) -> bool {
+    matches!(format!(in alloc; "{value:?}"), Ok(text) if text.as_str() == want)
 }
 
 /// A part of a gate.
@@ -108,33 +114,17 @@ fn hears_end<K: Link>(link: &mut K) -> Result<bool, Fail> {
     Ok(next_but_slots(link, &mut [0; 8])?.0 == Heard::End)
 }
 
-/// Sends each of these texts.
-fn send<K: Link>(link: &mut K, texts: &[&str]) -> Result<(), Fail> {
-    for text in texts {
-        if link.send(text.as_bytes()).is_err() {
-            return Err(Fail::from("nothing sent"));
-        }
-    }
-    Ok(())
-}
-
 /// Bytes go both ways, and the last ones are still on their way at the end.
 fn speak<K: Link, S: Read + Write>(link: &mut K, client: &mut S) -> Result<(), Fail> {
-    client.write_all(b"abc")?;
-    if hear(link, b"abc")? == 0 {
-        return Err(Fail::from("no slot"));
-    }
-    send(link, &["xy", "z"])?;
-    if next_slot(link).is_none() {
-        return Err(Fail::from("no slot at once"));
-    }
+    expect(client.write_all(b"abc").is_ok(), "nothing written")?;
+    expect(hear(link, b"abc")? > 0, "no slot")?;
+    let sent = link.send(b"xy").is_ok() && link.send(b"z").is_ok();
+    expect(sent && next_slot(link).is_some(), "no slot at once")?;
     let mut came = [0; 3];
-    client.read_exact(&mut came)?;
-    if &came != b"xyz" {
-        return Err(Fail::from("other bytes came"));
-    }
-    client.write_all(b"more")?;
-    send(link, &["last"])
+    let is_read = client.read_exact(&mut came).is_ok();
+    expect(is_read && &came == b"xyz", "other bytes came")?;
+    let written = client.write_all(b"more").is_ok();
+    expect(written && link.send(b"last").is_ok(), "nothing sent")
 }
 
 /// The last text that a client receives of a part's connection, which speaks with it before.
@@ -144,6 +134,8 @@ fn last_text<G: TestGate>(
     mut client: TcpStream,
 ) -> Result<String, Fail> {
     let mut link = link_of(part)?;
+    let printed = "SocketLink { socket: TcpSocket { .. }, .. }";
+    expect(is_printed(alloc, &link, printed), "another text")?;
     speak(&mut link, &mut client)?;
     client.shutdown(Shutdown::Write)?;
     part.end_conn(link);
@@ -166,41 +158,22 @@ fn speaks<R: Net<Stream = TcpStream>, G: TestGate + Drop>(
     Ok(())
 }
 
-#[test]
-fn speaks_over_loopback(rt: HostRuntime) -> Result<(), Fail> {
-    let mut gate = TcpGate::new(TcpPort::new(&rt, rt.alloc()));
-    take_sent(&gate);
-    speaks(&rt, rt.alloc(), &mut gate)
-}
-
 /// A gate doesn't open at the port of another one, and then gives no part.
 fn refuses_port_of<G: TestGate + Drop>(first: &mut G, second: &mut G) -> Result<(), Fail> {
     let port = open_gate(first, &HOW)?;
-    let opened = second.open_as(&Opening { port, ..HOW });
-    expect(opened.is_err(), "two gates at a port")?;
+    let is_open = second.open_as(&Opening { port, ..HOW }).is_ok();
+    expect(!is_open, "two gates at a port")?;
     expect(second.split_off().is_err(), "a part of a closed gate")
 }
 
-#[test]
-fn refuses_a_port_in_use(rt: HostRuntime) -> Result<(), Fail> {
-    let mut first = TcpGate::new(TcpPort::new(&rt, rt.alloc()));
-    let mut second = TcpGate::new(TcpPort::new(&rt, rt.alloc()));
-    refuses_port_of(&mut first, &mut second)
-}
-
-/// What is sent from one end leaves at that end's next wait, and comes to the other.
-fn meet<N: Link, F: Link>(near: &mut N, far: &mut F) -> Result<(), Fail> {
-    expect(next_slot(near).is_some(), "no first slot")?;
-    send(near, &["abc"])?;
-    expect(next_slot(near).is_some(), "no second slot")?;
-    hear(far, b"abc")?;
-    Ok(())
-}
-
-/// A link meets a gate's connection, which then ends.
-fn meet_and_end<G: TestGate, N: Link>(gate: &mut G, near: &mut N) -> Result<(), Fail> {
+/// A link meets a gate's connection: what is sent leaves at its next wait, and comes to the other
+/// end. Then the connection ends.
+fn meet<G: TestGate, N: Link>(gate: &mut G, near: &mut N) -> Result<(), Fail> {
     let mut far = link_of(gate)?;
-    meet(near, &mut far)?;
+    expect(next_slot(near).is_some(), "no first slot")?;
+    let sent = near.send(b"abc").is_ok();
+    expect(sent && next_slot(near).is_some(), "no second slot")?;
+    hear(&mut far, b"abc")?;
     drop(far);
     expect(hears_end(near)?, "no end")
 }
@@ -216,7 +189,7 @@ fn meet_by_parts<G: TestGate, D: TestGate>(
         gives_none(first) && gives_none(second),
         "another connection",
     )?;
-    meet_and_end(gate, &mut near)?;
+    meet(gate, &mut near)?;
     first.end_conn(near);
     Ok(())
 }
@@ -234,39 +207,17 @@ fn dials<G: TestGate, D: TestGate + Drop>(gate: &mut G, dial: &mut D) -> Result<
     Ok(())
 }
 
-#[test]
-fn dials_over_loopback(rt: HostRuntime) -> Result<(), Fail> {
-    let mut gate = TcpGate::new(TcpPort::new(&rt, rt.alloc()));
-    let mut dial = DialGate::new(&rt, rt.alloc());
-    dials(&mut gate, &mut dial)
-}
-
-/// A port that a gate was opened at and that nobody listens at any more.
-fn unused_port<G: TestGate + Drop>(mut gate: G) -> Result<u16, Fail> {
-    open_gate(&mut gate, &HOW)
-}
-
-/// A gate that isn't open gives no part, and it doesn't open at a port where nobody listens.
-fn finds_nobody<D: TestGate + Drop>(dial: &mut D, port: u16) -> Result<(), Fail> {
-    expect(dial.split_off().is_err(), "a part of a closed gate")?;
-    let opened = dial.open_as(&Opening { port, ..HOW });
-    expect(opened.is_err(), "connected to nobody")
-}
-
-/// A gate that dials finds nobody at the port of a gate that is closed again.
-fn dials_a_closed_port<G: TestGate + Drop, D: TestGate + Drop>(
-    gate: G,
+/// A gate that dials gives no part before it is open, and finds nobody at the port of a gate that is
+/// closed again.
+fn finds_nobody<G: TestGate + Drop, D: TestGate + Drop>(
+    mut gate: G,
     dial: &mut D,
 ) -> Result<(), Fail> {
-    let port = unused_port(gate)?;
-    finds_nobody(dial, port)
-}
-
-#[test]
-fn dials_nobody(rt: HostRuntime) -> Result<(), Fail> {
-    let gate = TcpGate::new(TcpPort::new(&rt, rt.alloc()));
-    let mut dial = DialGate::new(&rt, rt.alloc());
-    dials_a_closed_port(gate, &mut dial)
+    let port = open_gate(&mut gate, &HOW)?;
+    drop(gate);
+    let is_open = dial.split_off().is_ok();
+    let is_connected = dial.open_as(&Opening { port, ..HOW }).is_ok();
+    expect(!is_open && !is_connected, "connected to nobody")
 }
 
 /// Whether a library reads this text at a place of a file, or fails.
@@ -294,27 +245,55 @@ fn reads_digits<L: Library>(library: &mut L) -> Result<(), Fail> {
     Ok(())
 }
 
+/// Files are read, and a text is written to one. On a device that is full each write fails.
 #[test]
-fn reads_files(rt: HostRuntime) -> Result<(), Fail> {
+fn reads_and_writes_files(rt: HostRuntime) -> Result<(), Fail> {
     fs::write(&rt, "f.txt", "0123456789")?;
-    reads_digits(&mut FileLibrary::new(&rt, rt.alloc()))
-}
-
-#[test]
-fn writes_files(rt: HostRuntime) -> Result<(), Fail> {
-    let mut sink = OutSink::new(fs::create(&rt, "o.txt")?);
-    assert_eq!(rt; sink.write_all(b"out"), Ok(()));
-    assert_eq!(rt;
-        FileLibrary::new(&rt, rt.alloc()).find("o.txt"),
-        Ok(Some(3))
-    );
+    let mut library = FileLibrary::new(&rt, rt.alloc());
+    assert!(rt; is_printed(rt.alloc(), &library, "FileLibrary { .. }"));
+    reads_digits(&mut library)?;
+    for (name, want) in [("o.txt", Ok(())), ("/dev/full", Err(SinkFault))] {
+        let mut sink = OutSink::new(fs::create(&rt, name)?);
+        assert!(rt; is_printed(rt.alloc(), &sink, "OutSink { .. }"));
+        assert_eq!(rt; sink.write_all(b"out"), want, "{name}");
+    }
+    assert_eq!(rt; library.find("o.txt"), Ok(Some(3)));
     Ok(())
 }
 
-/// On a device that is full each write fails.
+/// What a gate that listens and one that dials do at ports of this machine.
+fn serves_and_dials<R, G, D>(
+    rt: &R,
+    alloc: Global,
+    gate: &mut G,
+    mut second: G,
+    dial: &mut D,
+) -> Result<(), Fail>
+where
+    R: Net<Stream = TcpStream> + Clock + Threads + Sync,
+    G: TestGate + fmt::Debug + Send + Drop,
+    G::Conn: Send,
+    D: TestGate + fmt::Debug + Drop,
+{
+    let printed = "ListenerGate { listener: TcpPort { .. }, .. }";
+    expect(is_printed(alloc, gate, printed), "another text")?;
+    expect(is_printed(alloc, dial, "DialGate { .. }"), "another text")?;
+    listens_as_asked(rt, gate)?;
+    refuses_port_of(gate, &mut second)?;
+    finds_nobody(second, dial)?;
+    dials(gate, dial)?;
+    speaks(rt, alloc, gate)?;
+    serves_late_reader(rt, gate)?;
+    has_both_slots(rt, gate)?;
+    ends_with_last_bytes(rt, gate)
+}
+
+/// One test for all of it: the types of the real gates are long, and the proof of a test repeats
+/// them at each call.
 #[test]
-fn answers_a_write_that_fails(rt: HostRuntime) -> Result<(), Fail> {
-    let mut sink = OutSink::new(fs::create(&rt, "/dev/full")?);
-    assert_eq!(rt; sink.write_all(b"out"), Err(SinkFault));
-    Ok(())
+fn gates_serve_and_dial(rt: HostRuntime) -> Result<(), Fail> {
+    let mut gate = TcpGate::new(TcpPort::new(&rt, rt.alloc()));
+    let second = TcpGate::new(TcpPort::new(&rt, rt.alloc()));
+    let mut dial = DialGate::new(&rt, rt.alloc());
+    serves_and_dials(&rt, rt.alloc(), &mut gate, second, &mut dial)
 }

@@ -20,29 +20,16 @@ pub(crate) fn connect<R: Net<Stream = TcpStream>>(
 }
 
 /// A gate listens at 127.0.0.1, and at 127.0.0.2 where it listens at all addresses.
-fn listens_at<R: Net<Stream = TcpStream>, G: TestGate>(
-    rt: &R,
-    gate: &mut G,
-    all: bool,
-) -> Result<(), Fail> {
-    let port = open_gate(gate, &Opening { all, ..HOW })?;
-    expect(connect(rt, 1, port).is_ok(), "not at 127.0.0.1")?;
-    expect(connect(rt, 2, port).is_ok() == all, "at 127.0.0.2")
-}
-
-/// A gate listens at one address, and then at all.
-fn listens_as_asked<R: Net<Stream = TcpStream>, G: TestGate>(
+pub(crate) fn listens_as_asked<R: Net<Stream = TcpStream>, G: TestGate>(
     rt: &R,
     gate: &mut G,
 ) -> Result<(), Fail> {
-    listens_at(rt, gate, false)?;
-    listens_at(rt, gate, true)
-}
-
-#[test]
-fn listens_at_one_address(rt: HostRuntime) -> Result<(), Fail> {
-    let mut gate = TcpGate::new(TcpPort::new(&rt, rt.alloc()));
-    listens_as_asked(&rt, &mut gate)
+    for all in [false, true] {
+        let port = open_gate(gate, &Opening { all, ..HOW })?;
+        expect(connect(rt, 1, port).is_ok(), "not at 127.0.0.1")?;
+        expect(connect(rt, 2, port).is_ok() == all, "at 127.0.0.2")?;
+    }
+    Ok(())
 }
 
 /// How many blocks are sent in the tests that send much: more than the buffers of the system hold.
@@ -87,7 +74,7 @@ fn send_and_end<G: TestGate>(gate: &mut G, mut link: G::Conn) -> bool {
 }
 
 /// A client that reads late gets all that was sent before its connection ended.
-fn serves_late_reader<R, G: TestGate + Send>(rt: &R, gate: &mut G) -> Result<(), Fail>
+pub(crate) fn serves_late_reader<R, G: TestGate + Send>(rt: &R, gate: &mut G) -> Result<(), Fail>
 where
     R: Net<Stream = TcpStream> + Clock + Threads + Sync,
     G::Conn: Send,
@@ -103,12 +90,6 @@ where
     expect(sent && read, "bytes were lost")
 }
 
-#[test]
-fn a_late_reader_gets_all_bytes(rt: HostRuntime) -> Result<(), Fail> {
-    let mut gate = TcpGate::new(TcpPort::new(&rt, rt.alloc()));
-    serves_late_reader(&rt, &mut gate)
-}
-
 /// The slots of a link are 10 or 50 ms long, as their length in 1/360,000 second says. Slot 0 began
 /// between these times.
 fn counts_slots<R: Clock, K: Link>(
@@ -121,43 +102,27 @@ fn counts_slots<R: Clock, K: Link>(
     let ms = if slot_units == 3_600 { 10 } else { 50 };
     for _ in 0..6 {
         let least = after.elapsed(rt)?.as_millis() / ms;
-        let Some(slot) = next_slot(link) else {
-            return Err(Fail::from("no slot"));
-        };
-        let slot = u128::from(slot);
+        let slot = next_slot(link).map(u128::from);
         let most = before.elapsed(rt)?.as_millis() / ms;
-        expect(slot >= least && slot <= most, "another slot")?;
+        expect(slot >= Some(least) && slot <= Some(most), "another slot")?;
     }
     Ok(())
 }
 
-/// The slots of a gate begin at its opening, and have this length.
-fn has_slots_of<R: Net<Stream = TcpStream> + Clock, G: TestGate>(
-    rt: &R,
-    gate: &mut G,
-    slot_units: u32,
-) -> Result<(), Fail> {
-    let before = Instant::now(rt)?;
-    let port = open_gate(gate, &Opening { slot_units, ..HOW })?;
-    let after = Instant::now(rt)?;
-    let _client = connect(rt, 1, port)?;
-    let mut link = link_of(gate)?;
-    counts_slots(rt, &mut link, slot_units, before, after)
-}
-
-/// A gate is opened with slots of 10 ms, and then with slots of 50 ms.
-fn has_both_slots<R: Net<Stream = TcpStream> + Clock, G: TestGate>(
+/// The slots of a gate begin at its opening. They last 10 ms, and then 50 ms.
+pub(crate) fn has_both_slots<R: Net<Stream = TcpStream> + Clock, G: TestGate>(
     rt: &R,
     gate: &mut G,
 ) -> Result<(), Fail> {
-    has_slots_of(rt, gate, 3_600)?;
-    has_slots_of(rt, gate, 18_000)
-}
-
-#[test]
-fn slots_have_their_length(rt: HostRuntime) -> Result<(), Fail> {
-    let mut gate = TcpGate::new(TcpPort::new(&rt, rt.alloc()));
-    has_both_slots(&rt, &mut gate)
+    for slot_units in [3_600, 18_000] {
+        let before = Instant::now(rt)?;
+        let port = open_gate(gate, &Opening { slot_units, ..HOW })?;
+        let after = Instant::now(rt)?;
+        let _client = connect(rt, 1, port)?;
+        let mut link = link_of(gate)?;
+        counts_slots(rt, &mut link, slot_units, before, after)?;
+    }
+    Ok(())
 }
 
 /// The network and the clock of a runtime, but the clock goes a hundred times as fast.
@@ -225,7 +190,7 @@ fn send_and_read<R: Clock>(rt: &R, client: &mut TcpStream, want: &[u8; 4]) -> bo
 }
 
 /// The last bytes of a connection arrive at a client that still sends while the connection ends.
-fn ends_with_last_bytes<R, G: TestGate + Send>(rt: &R, gate: &mut G) -> Result<(), Fail>
+pub(crate) fn ends_with_last_bytes<R, G: TestGate + Send>(rt: &R, gate: &mut G) -> Result<(), Fail>
 where
     R: Net<Stream = TcpStream> + Clock + Threads + Sync,
     G::Conn: Send,
@@ -241,10 +206,4 @@ where
         || send_and_read(rt, &mut client, b"last"),
     );
     expect(came, "other bytes came")
-}
-
-#[test]
-fn the_last_bytes_arrive_though_the_client_sends(rt: HostRuntime) -> Result<(), Fail> {
-    let mut gate = TcpGate::new(TcpPort::new(&rt, rt.alloc()));
-    ends_with_last_bytes(&rt, &mut gate)
 }

@@ -1,6 +1,7 @@
 //! Gates as the tests call them.
 
 use crate::{DialGate, TcpGate, TcpLink};
+use std::fmt;
 use std::net::{Net, TcpListener, TcpStream};
 use std::time::Clock;
 use vod_base::{Gate, GateFault, Link, Opening};
@@ -10,7 +11,7 @@ use vod_base::{Gate, GateFault, Link, Opening};
 /// The tests are written over this trait, which has no clauses: the types of the real gates are
 /// long, and a proof over them repeats them at each call.
 pub(crate) trait TestGate: Sized {
-    type Conn: Link + Drop;
+    type Conn: Link + fmt::Debug + Drop;
 
     /// Opens it.
     fn open_as(&mut self, how: &Opening) -> Result<(), GateFault>;
