@@ -16,6 +16,7 @@ ghost use Rattle.listener_gate.specs.Histories.{splits_after};
 use crate::histories::{GateHistory, GateNote, PartHistory, PartNote};
 use crate::listeners::{AcceptError, Listener, ListenerDoing, ListenerFault};
 use http_server::Log;
+use std::fmt;
 use vod_base::{Gate, GateFault, Opening};
 
 /// The first wait, in milliseconds, where descriptors or memory are short.
@@ -171,6 +172,14 @@ impl<L: Listener> ListenerGate<L> {
         }
         // Never reached: a call must be proved to end, so the loop counts.
         Err(ListenerFault)
+    }
+}
+
+impl<L: Listener + fmt::Debug> fmt::Debug for ListenerGate<L> {
+    fn fmt<W: fmt::Write>(&self, f: &mut fmt::Formatter<W>) -> fmt::Result {
+        f.debug_struct("ListenerGate")
+            .field("listener", &self.listener)
+            .finish_non_exhaustive()
     }
 }
 

@@ -4,6 +4,7 @@
 ghost use Rattle.std.specs.Prelude.{◌≡◌, [], ◌∷◌, ◌++◌};
 
 use http_server::Log;
+use std::fmt;
 use vod_base::Opening;
 
 /// What happened at a part: it gave a connection, it had no more, its listener failed, or a
@@ -36,6 +37,14 @@ pub struct PartHistory<C: Drop> {
 
 /// The history of a gate, each note with the part that it is of.
 pub type GateHistory<C> = Log<Option<PartHistory<C>>, GateNote>;
+
+impl<C: Drop> fmt::Debug for PartHistory<C> {
+    fn fmt<W: fmt::Write>(&self, f: &mut fmt::Formatter<W>) -> fmt::Result {
+        f.debug_struct("PartHistory")
+            .field("number", &self.number)
+            .finish_non_exhaustive()
+    }
+}
 
 impl<C: Drop> PartHistory<C> {
     /// Makes the history of a part that did nothing yet.

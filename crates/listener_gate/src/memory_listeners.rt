@@ -7,6 +7,7 @@ ghost use Rattle.listener_gate.specs.Listeners.{failed_accept, IsBroken};
 
 use crate::listeners::{AcceptError, Listener, ListenerDoing, ListenerFault};
 use std::alloc::Global;
+use std::fmt;
 use vod_base::{Event, Link, MemoryLink, NoMemory};
 
 /// The room of a link for bytes and events.
@@ -154,6 +155,12 @@ impl MemoryListener {
             }
             Err(error) => Err(error),
         }
+    }
+}
+
+impl fmt::Debug for MemoryListener {
+    fn fmt<W: fmt::Write>(&self, f: &mut fmt::Formatter<W>) -> fmt::Result {
+        f.debug_struct("MemoryListener").finish_non_exhaustive()
     }
 }
 

@@ -2,6 +2,7 @@
 
 use super::*;
 use std::alloc::{AllocError, Global};
+use std::fmt;
 use std::test::Fail;
 use vod_base::{Gate, GateFault, Opening};
 
@@ -194,13 +195,21 @@ fn error_numbers_have_their_meaning(rt: HostRuntime) {
     assert_eq!(rt; accept_error_of(None), AcceptError::Broken);
 }
 
+/// Whether a value is printed so.
+fn is_printed<T: fmt::Debug>(alloc: Global, value: &T, want: &str) -> bool {
+    matches!(format!(in alloc; "{value:?}"), Ok(text) if text.as_str() == want)
+}
+
 #[test]
-fn notes_are_printed(rt: HostRuntime) -> Result<(), AllocError> {
+fn values_are_printed(rt: HostRuntime) -> Result<(), AllocError> {
     let alloc = rt.alloc();
-    let of_part = format!(in alloc; "{:?}", PartNote::NoMore)?;
-    assert!(rt; of_part.as_str() == "NoMore");
-    let of_gate = format!(in alloc; "{:?}", GateNote::Opened(HOW))?;
-    let printed = "Opened(Opening { port: 554, all: false, connections: 3, slot_units: 14400 })";
-    assert!(rt; of_gate.as_str() == printed);
+    assert!(rt; is_printed(alloc, &PartNote::NoMore, "NoMore"));
+    let opened = "Opened(Opening { port: 554, all: false, connections: 3, slot_units: 14400 })";
+    assert!(rt; is_printed(alloc, &GateNote::Opened(HOW), opened));
+    let history = PartHistory::<u8>::new(2);
+    assert!(rt; is_printed(alloc, &history, "PartHistory { number: 2, .. }"));
+    let gate = gate_of_one_part(alloc)?;
+    let printed = "ListenerGate { listener: MemoryListener { .. }, .. }";
+    assert!(rt; is_printed(alloc, &gate, printed));
     Ok(())
 }
