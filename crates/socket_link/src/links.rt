@@ -22,6 +22,7 @@ use crate::histories::{History, Note};
 use crate::limits::{RETRY, Watch};
 use crate::sockets::{Purpose, ReadOutcome, Socket, SocketFault, WriteOutcome};
 use std::alloc::{AllocError, Global};
+use std::fmt;
 use vod_base::{Heard, Link, LinkFault};
 
 /// What a flush of the buffer left.
@@ -51,6 +52,12 @@ impl LinkBuffer {
         Ok(LinkBuffer {
             bytes: WriteBuffer::new(alloc)?,
         })
+    }
+}
+
+impl fmt::Debug for LinkBuffer {
+    fn fmt<W: fmt::Write>(&self, f: &mut fmt::Formatter<W>) -> fmt::Result {
+        f.debug_struct("LinkBuffer").finish_non_exhaustive()
     }
 }
 
@@ -119,6 +126,14 @@ impl<S: Socket + Drop> SocketLink<S> {
             // The connection's record was made before: a close that fails changes nothing in it.
             let _ = self.close();
         }
+    }
+}
+
+impl<S: Socket + fmt::Debug> fmt::Debug for SocketLink<S> {
+    fn fmt<W: fmt::Write>(&self, f: &mut fmt::Formatter<W>) -> fmt::Result {
+        f.debug_struct("SocketLink")
+            .field("socket", &self.socket)
+            .finish_non_exhaustive()
     }
 }
 

@@ -7,6 +7,7 @@ ghost use Rattle.socket_link.specs.Scripts.{call_noted};
 
 use crate::sockets::{Purpose, ReadOutcome, Socket, SocketFault, WriteOutcome};
 use std::alloc::Global;
+use std::fmt;
 
 /// What a read is to answer.
 #[derive(Debug, Drop)]
@@ -137,6 +138,12 @@ impl MemorySocket {
             Ok(copy) => self.note(NotedCall::Took(copy)),
             Err(_) => Err(self.fail()),
         }
+    }
+}
+
+impl fmt::Debug for MemorySocket {
+    fn fmt<W: fmt::Write>(&self, f: &mut fmt::Formatter<W>) -> fmt::Result {
+        f.debug_struct("MemorySocket").finish_non_exhaustive()
     }
 }
 

@@ -3,6 +3,7 @@
 use crate::links::{LinkBuffer, SocketLink};
 use crate::memory_sockets::{MemorySocket, NotedCall, ScriptedRead, ScriptedWrite};
 use std::alloc::{AllocError, Global};
+use std::fmt;
 use std::test::Fail;
 use vod_base::{Heard, Link, LinkFault};
 
@@ -244,6 +245,8 @@ fn a_megabyte_in_pieces_arrives_complete(rt: HostRuntime) -> Result<(), Fail> {
         writes[index * 3] = ScriptedWrite::Bytes(size);
         writes[index * 3 + 1] = ScriptedWrite::Interrupted;
     }
+    let buffer = LinkBuffer::new(rt.alloc())?;
+    assert!(rt; is_printed(rt.alloc(), &buffer, "LinkBuffer { .. }"));
     let link = scripted(rt.alloc(), 0, SECOND, &[], &writes)?;
     take_sent(&link);
     sends_in_pieces(link, megabyte(rt.alloc())?.as_slice())
@@ -259,11 +262,19 @@ fn answers_faults<K: TestLink + Drop>(mut link: K) -> Result<(), Fail> {
     hears(&mut link, &[Err(LinkFault)])
 }
 
+/// Whether a value is printed so.
+fn is_printed<T: fmt::Debug>(alloc: Global, value: &T, want: &str) -> bool {
+    matches!(format!(in alloc; "{value:?}"), Ok(text) if text.as_str() == want)
+}
+
 #[test]
 fn faults_are_answered(rt: HostRuntime) -> Result<(), Fail> {
     let reads = [Read::Fault, Read::Bytes(b"a")];
     let writes = [ScriptedWrite::Fault];
-    answers_faults(scripted(rt.alloc(), 0, SECOND, &reads, &writes)?)
+    let link = scripted(rt.alloc(), 0, SECOND, &reads, &writes)?;
+    let printed = "SocketLink { socket: MemorySocket { .. }, .. }";
+    assert!(rt; is_printed(rt.alloc(), &link, printed));
+    answers_faults(link)
 }
 
 /// The last bytes are sent, and the peer's are read to their end.
