@@ -19,6 +19,7 @@ use crate::gates::{Gate, Opening};
 use crate::memory_links::MemoryLink;
 use crate::part_links::{PartLinks, TakeResult};
 use std::alloc::Global;
+use std::fmt::{self, Formatter, Write};
 use std::marker::Model;
 
 /// The links that one part of a gate in memory gives. Each begins anew when it is given. Its calls
@@ -29,6 +30,12 @@ pub struct MemoryPart {
     pub links: Vec<MemoryLink>,
     /// The numbers of the calls that fail.
     pub failing: Vec<u64>,
+}
+
+impl fmt::Debug for MemoryPart {
+    fn fmt<W: Write>(&self, f: &mut Formatter<W>) -> fmt::Result {
+        f.write_str("MemoryPart { .. }")
+    }
 }
 
 /// The most parts: as many as a server has workers at most.
@@ -80,6 +87,12 @@ impl Model for MemoryGate {
         × (g.is_part ≡ true → g.opening ≡ None) × (g.own.waiting ≤ vec_len g.own.links)
         × (vec_len g.own.links ≤ g.own.waiting + g.own.given)
         × (g.own.waiting + g.own.given ≤ vec_capacity g.own.links) };
+}
+
+impl fmt::Debug for MemoryGate {
+    fn fmt<W: Write>(&self, f: &mut Formatter<W>) -> fmt::Result {
+        f.write_str("MemoryGate { .. }")
+    }
 }
 
 impl MemoryGate {

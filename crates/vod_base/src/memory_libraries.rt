@@ -9,6 +9,7 @@ use crate::errors::StoreFault;
 use crate::fault_injection::counted_call;
 use crate::files::Library;
 use crate::reads::copy_from;
+use std::fmt::{self, Formatter, Write};
 use std::marker::Model;
 
 /// A library in memory, whose calls of `find` and `read` fail at given numbers.
@@ -34,6 +35,12 @@ impl Model for MemoryLibrary {
           calls = l.calls;
           faults = l.faults;
         } };
+}
+
+impl fmt::Debug for MemoryLibrary {
+    fn fmt<W: Write>(&self, f: &mut Formatter<W>) -> fmt::Result {
+        f.write_str("MemoryLibrary { .. }")
+    }
 }
 
 impl MemoryLibrary {

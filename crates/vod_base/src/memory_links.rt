@@ -15,6 +15,7 @@ use crate::fault_injection::counted_call;
 use crate::links::{Heard, Link};
 use crate::reads::copy_from;
 use std::alloc::Global;
+use std::fmt::{self, Formatter, Write};
 use std::marker::Model;
 
 /// An event that a link in memory hands out.
@@ -84,6 +85,12 @@ impl Model for MemoryLink {
         × (vec_len l.sent ≤ l.room) × (l.room ≤ vec_capacity l.sent) × (l.handed_out ≤ l.room)
         × (vec_len l.notes ≡ vec_len l.sent + l.handed_out)
         × (l.room + l.room ≤ vec_capacity l.notes) };
+}
+
+impl fmt::Debug for MemoryLink {
+    fn fmt<W: Write>(&self, f: &mut Formatter<W>) -> fmt::Result {
+        f.write_str("MemoryLink { .. }")
+    }
 }
 
 impl MemoryLink {

@@ -10,6 +10,7 @@ use crate::errors::{NoMemory, SinkFault};
 use crate::fault_injection::counted_call;
 use crate::output::Sink;
 use std::alloc::Global;
+use std::fmt::{self, Formatter, Write};
 use std::marker::Model;
 
 /// A sink in memory, whose calls fail at given numbers and if its room would be passed.
@@ -38,6 +39,12 @@ impl Model for MemorySink {
         } };
 
     ghost invariant = { λ s. (vec_len s.kept ≤ s.room) × (s.room ≤ vec_capacity s.kept) };
+}
+
+impl fmt::Debug for MemorySink {
+    fn fmt<W: Write>(&self, f: &mut Formatter<W>) -> fmt::Result {
+        f.write_str("MemorySink { .. }")
+    }
 }
 
 impl MemorySink {

@@ -4,6 +4,7 @@
 use super::*;
 use crate::laws::law_blanks_are_space_and_tab;
 use std::alloc::Global;
+use std::fmt;
 use std::process::Abort;
 use std::test::Fail;
 
@@ -98,6 +99,18 @@ fn text(alloc: Global, bytes: &str) -> Result<Vec<u8>, Fail> {
     Ok(Vec::from_slice(alloc, bytes.as_bytes())?)
 }
 
+/// An object in memory prints its name alone.
+fn prints<T: fmt::Debug>(
+    rt: &impl Abort,
+    alloc: Global,
+    object: &T,
+    want: &str,
+) -> Result<(), Fail> {
+    let text = format!(in alloc; "{object:?}")?;
+    assert_eq!(rt; text.as_str(), want);
+    Ok(())
+}
+
 #[test]
 fn finds_and_reads(rt: HostRuntime) -> Result<(), Fail> {
     let alloc = rt.alloc();
@@ -119,7 +132,7 @@ fn finds_and_reads(rt: HostRuntime) -> Result<(), Fail> {
         assert_eq!(rt; library.read(name, at, &mut into), Ok(want.len()));
         assert!(rt; into.starts_with(want));
     }
-    Ok(())
+    prints(&rt, alloc, &library, "MemoryLibrary { .. }")
 }
 
 #[test]
@@ -138,7 +151,7 @@ fn keeps_what_is_written(rt: HostRuntime) -> Result<(), Fail> {
         assert_eq!(rt; sink.write_all(bytes), want);
     }
     assert_eq!(rt; sink.bytes(), b"abcdefgh".as_slice());
-    Ok(())
+    prints(&rt, alloc, &sink, "MemorySink { .. }")
 }
 
 #[test]
@@ -201,7 +214,7 @@ fn sends(rt: HostRuntime) -> Result<(), Fail> {
         assert_eq!(rt; link.send(bytes), want);
     }
     assert_eq!(rt; link.sent(), b"abcdef".as_slice());
-    Ok(())
+    prints(&rt, alloc, &link, "MemoryLink { .. }")
 }
 
 const OPENING: Opening = Opening {
@@ -222,6 +235,10 @@ fn gate(
         links,
         failing: Vec::from_slice(alloc, failing_in_part)?,
     };
+    let text = format!(in alloc; "{part:?}")?;
+    if text.as_str() != "MemoryPart { .. }" {
+        return Err(Fail::from("a part prints otherwise"));
+    }
     let failing = Vec::from_slice(alloc, failing)?;
     Ok(MemoryGate::new(alloc, vec![in alloc; part]?, failing)?)
 }
@@ -245,7 +262,7 @@ fn gives_and_gets_back(rt: HostRuntime) -> Result<(), Fail> {
         panic!(rt; "one link came back");
     };
     assert_eq!(rt; back.sent(), b"abc".as_slice());
-    Ok(())
+    prints(&rt, alloc, &gate, "MemoryGate { .. }")
 }
 
 // A link whose events were read before returns all of them again once a part gives the link. A part
