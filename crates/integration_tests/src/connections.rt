@@ -371,11 +371,11 @@ fn fail_at<R: Wait + Abort>(
 ) -> Result<(), NoMemory>
     requires { AreFilms films.now }
 {
-    let (station, mut seat) = station_of(rt, alloc, 50_000, 1_024)?;
     let mut visit = Visit::new(alloc);
     for line in FAILS.lines() {
         visit.push(rt, alloc, line)?;
     }
+    let (station, mut seat) = station_of(rt, alloc, 50_000, 1_024)?;
     visit.serve(rt, alloc, &station, &mut seat, films, failing)?;
     let end = match heard {
         Some(_) => ConnEnd::LinkFault,
@@ -430,27 +430,15 @@ fn fail_everywhere<R: Wait + Abort>(rt: &R, alloc: Global) -> Result<(), NoMemor
     Ok(())
 }
 
-/// Runs a script. If memory is refused, that is answered by its name, and the script runs again.
-fn passes<R: Wait + Abort>(rt: &R, alloc: Global, script: &'static str) -> Result<(), Fail> {
-    if serve_script(rt, alloc, script).is_err() {
-        serve_script(rt, alloc, script)?;
+/// Where memory is refused, that is answered by its name, and the script runs once more.
+#[test]
+fn serves_connections(rt: HostRuntime) -> Result<(), Fail> {
+    for script in [PLAYS, ENDS, NEWS] {
+        if serve_script(&rt, rt.alloc(), script).is_err() {
+            serve_script(&rt, rt.alloc(), script)?;
+        }
     }
     Ok(())
-}
-
-#[test]
-fn serves_plays(rt: HostRuntime) -> Result<(), Fail> {
-    passes(&rt, rt.alloc(), PLAYS)
-}
-
-#[test]
-fn ends_connections(rt: HostRuntime) -> Result<(), Fail> {
-    passes(&rt, rt.alloc(), ENDS)
-}
-
-#[test]
-fn serves_a_film(rt: HostRuntime) -> Result<(), Fail> {
-    passes(&rt, rt.alloc(), NEWS)
 }
 
 #[test]

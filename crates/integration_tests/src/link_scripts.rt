@@ -4,9 +4,7 @@ ghost use Rattle.std.specs.Prelude.{◌≡◌, IfOk};
 ghost use Rattle.film_streams.specs.SettingRanges.{AreFilms};
 ghost use Rattle.station.specs.Seats.{IsSameSeat, first_seat};
 
-use crate::script_text::{
-    bytes_of, compare_front, expect, film_in, message_of, numbers_of, word_and_rest,
-};
+use crate::script_text::{compare_front, expect, film_in, numbers_of, payload_of, word_and_rest};
 use crate::session_scripts::{SETTINGS, WORDS};
 use admission::{Book, MAX_ENTRIES};
 use conn::{ConnEnd, serve_connection};
@@ -39,8 +37,12 @@ pub(crate) struct Failing<'a> {
 
 /// Whether a reply means out of memory.
 fn has_refusal(sent: &[u8]) -> bool {
-    sent.windows(13)
-        .any(|part| part == b"RTSP/1.0 500 ".as_slice())
+    for start in 0..sent.len() {
+        if sent[start..].starts_with(b"RTSP/1.0 500 ") {
+            return true;
+        }
+    }
+    false
 }
 
 /// A link in memory that has these events and fails at these calls.
@@ -122,22 +124,20 @@ impl Visit {
         line: &str,
     ) -> Result<(), NoMemory> {
         let (word, rest) = word_and_rest(line);
-        if word == "hears" {
-            self.events.push(Event::Bytes(message_of(alloc, rest)?))?;
-        } else if word == "fill" {
-            let filled = vec![in alloc; b'x'; numbers_of(rest)[0] as usize]?;
-            self.events.push(Event::Bytes(filled))?;
-        } else if word == "gets" {
-            self.events.push(Event::Bytes(bytes_of(rt, alloc, rest)?))?;
-        } else if word == "slots" {
-            let [first, last, _, _] = numbers_of(rest);
-            for slot in first..=last {
+        let [first, last, _, _] = numbers_of(rest);
+        if word == "slot" || word == "slots" {
+            for slot in first..=last.max(first) {
                 self.events.push(Event::Slot(slot))?;
             }
-        } else {
-            expect(rt, word == "slot", line);
-            self.events.push(Event::Slot(numbers_of(rest)[0]))?;
+            return Ok(());
         }
+        let bytes = if word == "fill" {
+            vec![in alloc; b'x'; first as usize]?
+        } else {
+            expect(rt, word == "hears" || word == "gets", line);
+            payload_of(rt, alloc, word, rest)?
+        };
+        self.events.push(Event::Bytes(bytes))?;
         Ok(())
     }
 
@@ -150,11 +150,8 @@ impl Visit {
         line: &str,
     ) -> Result<bool, NoMemory> {
         let (word, rest) = word_and_rest(line);
-        if word == "says" {
-            let want = message_of(alloc, rest)?;
-            self.read(rt, alloc, &want)?;
-        } else if word == "sends" {
-            let want = bytes_of(rt, alloc, rest)?;
+        if word == "says" || word == "sends" {
+            let want = payload_of(rt, alloc, word, rest)?;
             self.read(rt, alloc, &want)?;
         } else if word == "film" {
             assert!(rt; films.len() == 2);

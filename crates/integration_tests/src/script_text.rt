@@ -20,7 +20,7 @@ pub(crate) fn word_and_rest(line: &str) -> (&str, &str) {
 }
 
 /// A message, in which `|` means CR LF.
-pub(crate) fn message_of(alloc: Global, text: &str) -> Result<Vec<u8>, NoMemory> {
+fn message_of(alloc: Global, text: &str) -> Result<Vec<u8>, NoMemory> {
     let mut bytes = Vec::new(alloc);
     for byte in text.as_bytes() {
         match *byte {
@@ -42,6 +42,21 @@ pub(crate) fn bytes_of<R: Abort>(rt: &R, alloc: Global, digits: &str) -> Result<
         }
     }
     Ok(bytes)
+}
+
+/// The bytes of a line that begins with this word: a message after `hears` and `says`, and
+/// hexadecimal digits after another word.
+pub(crate) fn payload_of<R: Abort>(
+    rt: &R,
+    alloc: Global,
+    word: &str,
+    rest: &str,
+) -> Result<Vec<u8>, NoMemory> {
+    if word == "hears" || word == "says" {
+        message_of(alloc, rest)
+    } else {
+        bytes_of(rt, alloc, rest)
+    }
 }
 
 /// The first numbers of a line, and 0 for those that are missing.

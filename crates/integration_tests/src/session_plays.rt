@@ -1,11 +1,8 @@
 //! Plays of sessions alone: pauses, resumes, seeks, and what takes memory.
 
-use crate::sessions::passes;
-use std::test::Fail;
-
 /// Each request that takes memory: a look, offers before a play and in a pause, a play, and a play
 /// that goes on. A look's reply waits for the end of a frame.
-const MEMORY: &str = "\
+pub(crate) const MEMORY: &str = "\
 in Ready
 told looked 1 0 0 0
 hears GET_PARAMETER rtsp://h/b.mpg RTSP/1.0|CSeq: 3|Content-Length: 8||x-Booked
@@ -49,7 +46,7 @@ sends 01020304 00011a01 000001000057fff880 000001011234
 says RTSP/1.0 200 OK|CSeq: 10|Session: 0123456789abcdef||";
 
 /// Plays, pauses, resumes, seeks and plays that are done: every byte that is sent.
-const PLAYS: &str = "\
+pub(crate) const PLAYS: &str = "\
 # a pause within the report, and the play that goes on after it
 in Playing
 slot 1
@@ -117,13 +114,3 @@ told admitted 0 1
 hears PLAY rtsp://h/news.mpg RTSP/1.0|CSeq: 2|Session: 0123456789abcdef|Range: npt=5-6||
 says RTSP/1.0 200 OK|CSeq: 2|Session: 0123456789abcdef|Range: npt=4.800-6.240|\
 RTP-Info: url=rtsp://h/news.mpg/video;seq=1;rtptime=432000|x-Start: 1||";
-
-#[test]
-fn takes_memory_and_goes_on(rt: HostRuntime) -> Result<(), Fail> {
-    passes(&rt, rt.alloc(), MEMORY)
-}
-
-#[test]
-fn plays_pauses_and_resumes(rt: HostRuntime) -> Result<(), Fail> {
-    passes(&rt, rt.alloc(), PLAYS)
-}

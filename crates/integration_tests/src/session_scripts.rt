@@ -8,7 +8,7 @@ ghost use Rattle.session.specs.SessionStates.{IsPlay};
 ghost use Rattle.session.specs.SessionStates.{awaited_answer, open_of};
 
 use crate::films::server_films;
-use crate::script_text::{bytes_of, compare_front, expect, message_of, numbers_of, word_and_rest};
+use crate::script_text::{compare_front, expect, numbers_of, payload_of, word_and_rest};
 use early_start::Offers;
 use film_frames::Stored;
 use interleave::{Demux, Step};
@@ -79,11 +79,11 @@ impl<'a> Talk<'a> {
         requires { AreFilms films.now }
         ensures { IfOk result (λ talk. AwaitsNoAnswer talk.session) }
     {
-        let session = Session::new(alloc, films, SETTINGS, WORDS)?;
         let events = Vec::new(alloc);
         let link = MemoryLink::new(alloc, events, 1 << 20, Vec::new(alloc), Vec::new(alloc))?;
         let calendar = Calendar::new(alloc, Profile::flat(alloc, OFFERED)?)?;
         let shared = Calendar::new(alloc, Profile::flat(alloc, SHARED)?)?;
+        let session = Session::new(alloc, films, SETTINGS, WORDS)?;
         Ok(Talk {
             session,
             link,
@@ -289,21 +289,19 @@ impl<'a> Talk<'a> {
         ensures { AwaitsNoAnswer self.new.session }
     {
         let (word, rest) = word_and_rest(line);
-        if word == "hears" {
-            let message = message_of(alloc, rest)?;
-            self.hear(rt, alloc, &message, told)
-        } else if word == "slot" {
+        if word == "in" {
+            return self.reach(rt, alloc, rest);
+        }
+        if word == "slot" {
             self.slot(rt, numbers_of(rest)[0], told);
-            Ok(())
-        } else if word == "says" {
-            let want = message_of(alloc, rest)?;
-            self.read(rt, alloc, &want)
-        } else if word == "sends" {
-            let want = bytes_of(rt, alloc, rest)?;
-            self.read(rt, alloc, &want)
+            return Ok(());
+        }
+        let bytes = payload_of(rt, alloc, word, rest)?;
+        if word == "hears" {
+            self.hear(rt, alloc, &bytes, told)
         } else {
-            expect(rt, word == "in", line);
-            self.reach(rt, alloc, rest)
+            expect(rt, word == "says" || word == "sends", line);
+            self.read(rt, alloc, &bytes)
         }
     }
 }

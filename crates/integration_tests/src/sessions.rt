@@ -1,15 +1,18 @@
 //! Sessions alone: each method in each state, refusals in their order, and what players send.
 
+use crate::session_plays::{MEMORY, PLAYS};
 use crate::session_scripts::talk_all;
 use std::alloc::Global;
 use std::process::Abort;
 use std::test::Fail;
 
-/// Runs a script. Where memory is refused, that is answered by its name, and the script runs once
+/// Runs scripts. Where memory is refused, that is answered by its name, and the script runs once
 /// more.
-pub(crate) fn passes<R: Abort>(rt: &R, alloc: Global, script: &str) -> Result<(), Fail> {
-    if talk_all(rt, alloc, script).is_err() {
-        talk_all(rt, alloc, script)?;
+fn passes<R: Abort>(rt: &R, alloc: Global, scripts: &[&str]) -> Result<(), Fail> {
+    for script in scripts {
+        if talk_all(rt, alloc, script).is_err() {
+            talk_all(rt, alloc, script)?;
+        }
     }
     Ok(())
 }
@@ -389,21 +392,15 @@ Session: 0123456789abcdef||
 says RTSP/1.0 200 OK|CSeq: 7|Session: 0123456789abcdef||";
 
 #[test]
-fn answers_each_method_in_each_state(rt: HostRuntime) -> Result<(), Fail> {
-    passes(&rt, rt.alloc(), METHODS)
+fn talks_to_sessions(rt: HostRuntime) -> Result<(), Fail> {
+    passes(
+        &rt,
+        rt.alloc(),
+        &[METHODS, ORDINARY, REFUSALS, PLAYERS, PLAYS],
+    )
 }
 
 #[test]
-fn answers_an_ordinary_session(rt: HostRuntime) -> Result<(), Fail> {
-    passes(&rt, rt.alloc(), ORDINARY)
-}
-
-#[test]
-fn refuses_in_order(rt: HostRuntime) -> Result<(), Fail> {
-    passes(&rt, rt.alloc(), REFUSALS)
-}
-
-#[test]
-fn answers_players(rt: HostRuntime) -> Result<(), Fail> {
-    passes(&rt, rt.alloc(), PLAYERS)
+fn takes_memory_and_goes_on(rt: HostRuntime) -> Result<(), Fail> {
+    passes(&rt, rt.alloc(), &[MEMORY])
 }

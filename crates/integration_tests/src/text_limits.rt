@@ -84,16 +84,6 @@ fn size_of(alloc: Global, kind: Kind, text: &[u8]) -> Result<Result<u64, u64>, N
     }
 }
 
-/// Reads each of the texts.
-fn read_all<R: Abort>(rt: &R, alloc: Global) -> Result<(), NoMemory> {
-    for (number, (text, want)) in TEXTS.iter().enumerate() {
-        let bytes = bytes_of(alloc, *text)?;
-        let size = size_of(alloc, text.0, &bytes)?;
-        assert!(rt; size == *want, "text {number}");
-    }
-    Ok(())
-}
-
 /// The largest size of a picture.
 const LARGEST: u64 = 100_000;
 
@@ -135,23 +125,21 @@ fn cert_of<R: Abort>(rt: &R, alloc: Global, sizes: &[u64]) -> Result<Vec<u8>, No
     write_cert(alloc, &plan(alloc, &curves)?)
 }
 
-/// Sizes that fall by one from picture to picture have a segment each.
-fn plan_falling_sizes<R: Abort>(rt: &R, alloc: Global) -> Result<(), NoMemory> {
-    let sizes = falling_sizes(alloc)?;
-    let text = cert_of(rt, alloc, &sizes)?;
-    let want = segments_of(alloc, &sizes)?;
-    assert!(rt; text == want);
-    Ok(())
-}
-
 #[test]
 fn reads_the_largest_texts(rt: HostRuntime) -> Result<(), Fail> {
-    read_all(&rt, rt.alloc())?;
+    for (number, (text, want)) in TEXTS.iter().enumerate() {
+        let bytes = bytes_of(rt.alloc(), *text)?;
+        let size = size_of(rt.alloc(), text.0, &bytes)?;
+        assert!(rt; size == *want, "text {number}");
+    }
     Ok(())
 }
 
+/// Sizes that fall by one from picture to picture have a segment each.
 #[test]
 fn falling_sizes_have_this_certificate(rt: HostRuntime) -> Result<(), Fail> {
-    plan_falling_sizes(&rt, rt.alloc())?;
+    let sizes = falling_sizes(rt.alloc())?;
+    let text = cert_of(&rt, rt.alloc(), &sizes)?;
+    assert!(rt; text == segments_of(rt.alloc(), &sizes)?);
     Ok(())
 }

@@ -213,21 +213,16 @@ fn watch_film<R: Wait + Abort>(
     Ok(())
 }
 
-/// Watches films, each of so many pictures over a buffer and with a start delay.
-fn watch_films<R: Wait + Abort>(rt: &R, alloc: Global) -> Result<(), NoMemory> {
+/// Films of so many pictures, over a buffer and with a start delay.
+#[test]
+fn watches_films(rt: HostRuntime) -> Result<(), Fail> {
     for (pictures, buffer, delay) in [
         (1, 16_384, 0),
         (10, 16_384, 0),
         (10, 9000, 4),
         (15, 65_536, 2),
     ] {
-        watch_film(rt, alloc, pictures, buffer, delay)?;
+        watch_film(&rt, rt.alloc(), pictures, buffer, delay)?;
     }
-    Ok(())
-}
-
-#[test]
-fn watches_a_film(rt: HostRuntime) -> Result<(), Fail> {
-    watch_films(&rt, rt.alloc())?;
     Ok(())
 }
