@@ -10,18 +10,11 @@ use Rattle.rtp_pack.specs.declared.open_packet.PacketContents.{PacketContents}
 use Rattle.rtp_pack.specs.declared.open_packet.PacketContents.TheVariants.{HeadersAlone, Slices, LastFragment}
 use Rattle.rtp_pack.specs.Packetization.{Cuts, Fills, AreCutPoints, filling_after, full_before, full_ends}
 use Rattle.rtp_pack.specs.Packetization.{goes_in, goes_in_cut, goes_in_whole, last_start, start_of}
-use Rattle.rtp_pack.specs.Sizes.{IsMeasure, Measure, measure_from_headers, cuts_size, frames_of, measure_of}
+use Rattle.rtp_pack.specs.Sizes.{HasBounds, IsMeasure, Measure, measure_from_headers, cuts_size, frames_of, measure_of}
 use Rattle.rtp_pack.specs.Sizes.{slice_portions, with_slice, with_slices}
 use Rattle.rtp_pack.proofs.CutPointLemmas.{full_before-less, full_before-within, start-less}
 
 -- ---- one slice keeps the bounds of a measure
-
-pub record Kept (m : Measure) : Type 0 where
-  pub some : m.filling.from < m.filling.at
-  pub portions : m.portions ≤ m.filling.from
-  pub whole : FRAME_HEAD_BYTES * m.portions ≤ m.filling.at + FRAME_HEAD_BYTES
-  pub ended : FRAME_HEAD_BYTES * m.portions ≤ m.filling.from + 2 * FRAME_HEAD_BYTES
-  pub last : m.filling.holds ≡ LastFragment → FRAME_HEAD_BYTES * m.portions ≤ m.filling.at
 
 pub whole-fits : (from at n : ℕ) (holds : PacketContents) → goes_in_whole from at holds n ≡ true
     → at + n ≤ from + MAX_PAYLOAD_BYTES
@@ -39,7 +32,7 @@ record SliceFills (f : OpenPacket) (n full : ℕ) (short goes : Bool) : Type 0 w
 -- with such a slice a measure keeps its bounds
 abbrev KeepsFilled : Measure → ℕ → Bool → Bool → Type 0
 KeepsFilled m n short goes = (full : ℕ) → SliceFills m.filling n full short goes
-    → Kept (record {
+    → HasBounds (record {
       portions = m.portions + (cond goes 0 1 + full);
       filling = record {
         from = cond goes m.filling.from m.filling.at + MAX_PAYLOAD_BYTES * full;
@@ -49,7 +42,7 @@ KeepsFilled m n short goes = (full : ℕ) → SliceFills m.filling n full short 
     })
 
 -- where a short slice begins the next portion there is room for one more head
-room : (m : Measure) (n : ℕ) → Kept m → goes_in_whole m.filling.from m.filling.at m.filling.holds n ≡ false
+room : (m : Measure) (n : ℕ) → HasBounds m → goes_in_whole m.filling.from m.filling.at m.filling.holds n ≡ false
     → FRAME_HEAD_BYTES * m.portions ≤ m.filling.at + n
 room m n kept e = by-contents f.holds e kept.last
   where
@@ -61,7 +54,7 @@ room m n kept e = by-contents f.holds e kept.last
     by-contents Slices e last = omega (arith, leb-false (f.at + n) (f.from + MAX_PAYLOAD_BYTES) e, kept.ended)
     by-contents LastFragment e last = omega (arith, last refl)
 
-keeps-short : (m : Measure) (n : ℕ) → Kept m → (goes : Bool) → KeepsFilled m n true goes
+keeps-short : (m : Measure) (n : ℕ) → HasBounds m → (goes : Bool) → KeepsFilled m n true goes
 keeps-short m n kept true full fills =
     let fits = whole-fits m.filling.from m.filling.at n m.filling.holds fills.goes_is in
     let none : full ≡ 0 = omega (arith, fits, fills.before) in
@@ -82,7 +75,7 @@ keeps-short m n kept false full fills =
       last = λ e. cc;
     }
 
-keeps-long : (m : Measure) (n : ℕ) → Kept m → (goes : Bool) → KeepsFilled m n false goes
+keeps-long : (m : Measure) (n : ℕ) → HasBounds m → (goes : Bool) → KeepsFilled m n false goes
 keeps-long m n kept true full fills =
     let long = leb-false n MAX_PAYLOAD_BYTES fills.short_is in
     let some : 0 < full = omega (arith, kept.some, long, fills.within) in
@@ -104,7 +97,7 @@ keeps-long m n kept false full fills =
       last = λ e. omega (arith, some, kept.whole, fills.before);
     }
 
-pub keeps-slice : (m : Measure) (n : ℕ) → Kept m → 4 ≤ n → Kept (with_slice m n)
+pub keeps-slice : (m : Measure) (n : ℕ) → HasBounds m → 4 ≤ n → HasBounds (with_slice m n)
 keeps-slice m n kept least =
     let f = m.filling in
     let less = start-less f n (goes_in f n) (omega (arith, kept.some)) (omega arith) in
@@ -121,28 +114,18 @@ keeps-slice m n kept least =
     by-size false = keeps-long m n kept (goes_in m.filling n)
 
 pub keeps-measure : (m : Measure) (n : ℕ) → IsMeasure m → 4 ≤ n → m.filling.at + n ≤ 2 ^ 40 → IsMeasure (with_slice m n)
-keeps-measure m n is least most =
-    let kept = keeps-slice m n
-    (record { some = is.some; portions = is.portions; whole = is.whole; ended = is.ended; last = is.last }) least in
-    record {
-      most = most;
-      some = kept.some;
-      portions = kept.portions;
-      whole = kept.whole;
-      ended = kept.ended;
-      last = kept.last;
-    }
+keeps-measure m n is least most = record { most = most; bounds = keeps-slice m n is.bounds least }
 
 -- slices of at least 4 bytes
 abbrev pub AreLong : List ℕ → Type 0
 AreLong [] = Unit {0}
 AreLong (n ∷ slices) = (4 ≤ n) × AreLong slices
 
-pub keeps-slices : (slices : List ℕ) (m : Measure) → Kept m → AreLong slices → Kept (with_slices m slices)
+pub keeps-slices : (slices : List ℕ) (m : Measure) → HasBounds m → AreLong slices → HasBounds (with_slices m slices)
 keeps-slices [] m kept long = kept
 keeps-slices (n ∷ slices) m kept long = keeps-slices slices (with_slice m n) (keeps-slice m n kept long.0) long.1
 
-pub begun-kept : (headers : ℕ) → 0 < headers → Kept (measure_from_headers headers)
+pub begun-kept : (headers : ℕ) → 0 < headers → HasBounds (measure_from_headers headers)
 begun-kept headers some =
     record { some = some; portions = omega arith; whole = omega arith; ended = omega arith; last = λ e. cc }
 
@@ -227,6 +210,21 @@ record StartsAt (m : Measure) (n base : ℕ) : Type 0 where
   at_place : place ≡ base + start
   at_goes : goes_in m.filling n ≡ goes
 
+start-moved : {f g : OpenPacket} (goes : Bool) (is : IsMoved f g) → start_of goes g ≡ is.base + start_of goes f
+start-moved true is = is.from
+start-moved false is = is.at
+
+abbrev starting : {m : Measure} {g : OpenPacket} (n : ℕ) (goes : Bool) (is : IsMoved m.filling g) → goes_in g n ≡ goes
+    → StartsAt m n is.base
+starting {m} {g} n goes is e = record {
+  start = start_of goes m.filling;
+  place = start_of goes g;
+  goes = goes;
+  at_start = refl;
+  at_place = start-moved goes is;
+  at_goes = sym (goes-moved n m.filling g is) ∙ e;
+}
+
 -- the portion that is being filled of a measure, at another place
 record StandsAt (m : Measure) (g : OpenPacket) : Type 0 where
   moved : IsMoved m.filling g
@@ -241,27 +239,11 @@ size-from {g} [] m cuts stands e =
     omega (arith, size, is.from, is.at, stands.order)
 size-from {g} (n ∷ slices) m cuts stands cutting = elim cutting [
   | inl x ↦ (
-      let starts : StartsAt m n is.base = record {
-        start = f.from;
-        place = g.from;
-        goes = true;
-        at_start = refl;
-        at_place = is.from;
-        at_goes = sym (goes-moved n f g is) ∙ x.0;
-      } in
-      let rest = next starts (λ m' g' rest stands' cut. size-from slices m' rest stands' cut) x.1 in
+      let rest = next (starting n true is x.0) (λ m' g' rest stands' cut. size-from slices m' rest stands' cut) x.1 in
       omega (arith, rest)
       )
   | inr x ↦ (
-      let starts : StartsAt m n is.base = record {
-        start = f.at;
-        place = g.at;
-        goes = false;
-        at_start = refl;
-        at_place = is.at;
-        at_goes = sym (goes-moved n f g is) ∙ x.0;
-      } in
-      let rest = next starts (λ m' g' rest stands' cut. size-from slices m' rest stands' cut) x.1.1.1 in
+      let rest = next (starting n false is x.0) (λ m' g' rest stands' cut. size-from slices m' rest stands' cut) x.1.1.1 in
       let first : cuts_size g.from cuts ≡ FRAME_HEAD_BYTES + (g.at - g.from) + cuts_size g.at x.1.0 =
       ap (λ (l : List ℕ). cuts_size g.from l) x.1.1.0 in
       omega (arith, rest, first, is.from, is.at, stands.order)

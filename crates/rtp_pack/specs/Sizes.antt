@@ -89,16 +89,19 @@ IsSize m size =
     (headers : ℕ) (slices : List ℕ) (from : ℕ) (cuts : List ℕ) → m ≡ measure_of headers slices
     → AreCutPoints from (from + headers) slices cuts → size ≡ cuts_size from cuts
 
--- the bounds of a measure: each portion that ended has a byte at least; and the heads of those that
--- ended take at most 40 bytes more than these portions, at most 20 more than the unit so far, and
--- no more than the unit where the portion that is being filled ends with a slice's last fragment
-pub record IsMeasure (m : Measure) : Type 0 where
-  pub most : m.filling.at ≤ 2 ^ 40
+-- the bounds of what ended: each portion has a byte at least; and the heads of those that ended
+-- take at most 40 bytes more than these portions, at most 20 more than the unit so far, and no more
+-- than the unit where the portion that is being filled ends with a slice's last fragment
+pub record HasBounds (m : Measure) : Type 0 where
   pub some : m.filling.from < m.filling.at
   pub portions : m.portions ≤ m.filling.from
   pub whole : FRAME_HEAD_BYTES * m.portions ≤ m.filling.at + FRAME_HEAD_BYTES
   pub ended : FRAME_HEAD_BYTES * m.portions ≤ m.filling.from + 2 * FRAME_HEAD_BYTES
   pub last : m.filling.holds ≡ LastFragment → FRAME_HEAD_BYTES * m.portions ≤ m.filling.at
+
+pub record IsMeasure (m : Measure) : Type 0 where
+  pub most : m.filling.at ≤ 2 ^ 40
+  pub bounds : HasBounds m
 
 -- a measure by its parts
 abbrev pub measure : ℕ → OpenPacket → Measure

@@ -9,6 +9,7 @@ use crate::open_packet::{
     MAX_PAYLOAD_BYTES, OpenPacket, PacketContents, full_before, goes_in, holds_after,
 };
 use crate::reports::REPORT_BYTES;
+use std::fmt::{self, Formatter, Write};
 use std::marker::Model;
 
 /// The size of a unit's frames, counted while the lengths of its headers and slices come in. It
@@ -39,6 +40,12 @@ pub const FRAME_HEAD_BYTES: u64 = 20;
 
 /// The most bytes of a frame: its heads, and a payload of [`MAX_PAYLOAD_BYTES`].
 pub const MAX_FRAME_BYTES: u64 = FRAME_HEAD_BYTES + MAX_PAYLOAD_BYTES;
+
+impl fmt::Debug for UnitSize {
+    fn fmt<W: Write>(&self, f: &mut Formatter<W>) -> fmt::Result {
+        f.write_str("UnitSize { .. }")
+    }
+}
 
 impl UnitSize {
     /// Begins a unit by the length of its headers.

@@ -110,11 +110,23 @@ fn check_cuts(
     Ok(())
 }
 
+/// The bytes of a unit's headers and of each slice, and its packets by places and letters.
+type CutRow<'a> = (usize, &'a [usize], &'a [(u64, u64, &'a str)]);
+
+fn check_rows(rt: &impl Abort, alloc: Global, rows: &[CutRow<'_>]) -> Result<(), Fail> {
+    // One list serves all films: each is cut into what an earlier one left.
+    let mut list = Vec::new(alloc);
+    for (head, slices, want) in rows {
+        let film = film_of(alloc, *head, slices)?;
+        check_cuts(rt, alloc, &film, want, &mut list)?;
+    }
+    Ok(())
+}
+
 #[test]
 fn cuts_units(rt: HostRuntime) -> Result<(), Fail> {
-    let mut list = Vec::new(rt.alloc());
-    for (head, slices, want) in [
-        (28, [6].as_slice(), [(0, 34, "MBES")].as_slice()),
+    let rows: [CutRow<'_>; 9] = [
+        (28, &[6], &[(0, 34, "MBES")]),
         (28, &[1352], &[(0, 1380, "MBES")]),
         (28, &[1353], &[(0, 28, "S"), (28, 1381, "MBE")]),
         (28, &[1370], &[(0, 28, "S"), (28, 1398, "MBE")]),
@@ -127,21 +139,17 @@ fn cuts_units(rt: HostRuntime) -> Result<(), Fail> {
             &[700, 652, 700, 680, 4],
             &[(0, 1380, "BES"), (1380, 2760, "BE"), (2760, 2764, "MBE")],
         ),
-    ] {
-        let film = film_of(rt.alloc(), head, slices)?;
-        check_cuts(&rt, rt.alloc(), &film, want, &mut list)?;
-    }
-    Ok(())
+    ];
+    check_rows(&rt, rt.alloc(), &rows)
 }
 
 #[test]
 fn cuts_long_slices(rt: HostRuntime) -> Result<(), Fail> {
-    let mut list = Vec::new(rt.alloc());
-    for (head, slices, want) in [
+    let rows: [CutRow<'_>; 5] = [
         (
             28,
-            [1381, 4].as_slice(),
-            [(0, 1380, "BS"), (1380, 1409, "E"), (1409, 1413, "MBE")].as_slice(),
+            &[1381, 4],
+            &[(0, 1380, "BS"), (1380, 1409, "E"), (1409, 1413, "MBE")],
         ),
         (
             28,
@@ -165,11 +173,8 @@ fn cuts_long_slices(rt: HostRuntime) -> Result<(), Fail> {
             &[1381],
             &[(0, 1380, "S"), (1380, 2760, "B"), (2760, 2761, "ME")],
         ),
-    ] {
-        let film = film_of(rt.alloc(), head, slices)?;
-        check_cuts(&rt, rt.alloc(), &film, want, &mut list)?;
-    }
-    Ok(())
+    ];
+    check_rows(&rt, rt.alloc(), &rows)
 }
 
 #[test]
@@ -222,7 +227,7 @@ fn size_of(head: u64, first: u64, second: Option<u64>) -> u64
 }
 
 #[test]
-fn measures_units(rt: HostRuntime) {
+fn measures_units(rt: HostRuntime) -> Result<(), Fail> {
     for (size, want) in [
         (size_of(28, 6, None), 54),
         (size_of(28, 1352, None), 1400),
@@ -239,6 +244,9 @@ fn measures_units(rt: HostRuntime) {
     ] {
         assert_eq!(rt; size, want);
     }
+    let text = format!(in rt.alloc(); "{:?}", UnitSize::begin(28))?;
+    assert_eq!(rt; text.as_str(), "UnitSize { .. }");
+    Ok(())
 }
 
 #[test]
