@@ -5,3 +5,4 @@ pub mod CompleteReplies
 pub mod RefusalLaws
 pub mod ReplyNumbers
 pub mod MethodLaws
+pub mod SessionTerms

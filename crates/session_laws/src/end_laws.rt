@@ -1,16 +1,13 @@
 //! Laws of a PAUSE and a TEARDOWN (RFC 2326 sections 10.6 and 10.7).
 
 ghost use Rattle.std.specs.Prelude.{◌≡◌, ◌⊎◌, ℕ, List, true};
-ghost use Rattle.film_frames.specs.declared.stored_films.Stored.{Stored};
-ghost use Rattle.session.specs.declared.commands.Ask.{Ask};
-ghost use Rattle.film_streams.specs.declared.settings.Settings.{Settings};
 ghost use Rattle.session_laws.specs.EndLaws.{CanBePaused, CanBeTornDown, HasTeardown, IsPause};
 ghost use Rattle.session_laws.specs.EndLaws.{IsPausedPlay, IsTornDown};
 ghost use Rattle.session.specs.Laws.{IsTeardown};
-ghost use Rattle.session.specs.RequestSteps.{Hears, new_session_state};
+ghost use Rattle.session.specs.RequestSteps.{new_session_state};
 ghost use Rattle.session.specs.LookLaws.{AreAfter, SessionEvent};
 ghost use Rattle.session_laws.specs.PlayLaws.{IsDeclined};
-ghost use Rattle.session.specs.SessionStates.{SessionState};
+ghost use Rattle.session_laws.specs.SessionTerms.{Ask, Hears, SessionState, Settings, Stored};
 
 /// A TEARDOWN that isn't refused halts the play that is sent, if there is one, and the session is
 /// over once its reply was sent. One that names the session and its film, and requires no option,

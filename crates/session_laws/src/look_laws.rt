@@ -1,13 +1,9 @@
 //! Looks are asked for without fail.
 
 ghost use Rattle.std.specs.Prelude.{ℕ, List};
-ghost use Rattle.film_frames.specs.declared.stored_films.Stored.{Stored};
-ghost use Rattle.session.specs.declared.commands.Ask.{Ask};
-ghost use Rattle.film_streams.specs.declared.settings.Settings.{Settings};
-ghost use Rattle.session.specs.RequestSteps.{Hears};
 ghost use Rattle.session.specs.Laws.{Is500};
 ghost use Rattle.session.specs.LookLaws.{AsksBooked, HasLooksLeft};
-ghost use Rattle.session.specs.SessionStates.{SessionState};
+ghost use Rattle.session_laws.specs.SessionTerms.{Ask, Hears, SessionState, Settings, Stored};
 
 /// The first 1,024 looks of a connection are never refused because memory ran out, whatever else
 /// happens to it.

@@ -2,16 +2,9 @@
 //! refuses one (RFC 2326 section 10).
 
 ghost use Rattle.std.specs.Prelude.{◌≡◌, ◌⊎◌, ℕ, List, [], None, Option, Some, codes};
-ghost use Rattle.film_run.specs.declared.runs.Run.{Run};
-ghost use Rattle.film_frames.specs.declared.stored_films.Stored.{Stored};
 ghost use Rattle.rtsp_fields.specs.declared.transports.Channels.{Channels};
 ghost use Rattle.rtsp_text.specs.Fields.{header_value};
 ghost use Rattle.rtsp_text.specs.Replies.{reply_text};
-ghost use Rattle.rtsp_text.specs.declared.requests.Request.{Request};
-ghost use Rattle.session.specs.declared.commands.Ask.{Ask};
-ghost use Rattle.session.specs.declared.plans.Planned.{Planned};
-ghost use Rattle.session.specs.declared.states.Play.{Play as Played};
-ghost use Rattle.film_streams.specs.declared.setups.Setup.{Setup};
 ghost use Rattle.session.specs.declared.states.State.TheVariants.{Init, Playing, Ready};
 ghost use Rattle.session_laws.specs.MethodLaws.{AnswersAlone, GivesChannels, HasBadNumber};
 ghost use Rattle.session_laws.specs.MethodLaws.{IsDescribeRequest, IsFilmDescribed, IsFilmMethod};
@@ -20,17 +13,14 @@ ghost use Rattle.session_laws.specs.MethodLaws.{IsParameterRequest, IsPlainMessa
 ghost use Rattle.session_laws.specs.MethodLaws.{IsPlayConfirmed, IsPlayRequest, IsRefusedFor};
 ghost use Rattle.session_laws.specs.MethodLaws.{IsSetupAnswered, IsSetupRequest, IsUnknownBody};
 ghost use Rattle.session_laws.specs.MethodLaws.{NamesNoOwnFilm, NamesNoSession, NamesOtherFilm};
-ghost use Rattle.session_laws.specs.MethodLaws.{NamesSession, PlanRefusal};
-ghost use Rattle.session_laws.specs.MethodLaws.{SettlesSetup, setup_in};
+ghost use Rattle.session_laws.specs.MethodLaws.{NamesSession, PlanRefusal, SettlesSetup, setup_in};
 ghost use Rattle.session.specs.OfferLaws.{IsWaitIn};
 ghost use Rattle.session_laws.specs.RefusalLaws.{IsKnownMethod, IsRefusedBy, RequiresSomeOption};
-ghost use Rattle.session.specs.RefusalOrder.{IsReadAs};
 ghost use Rattle.rtsp_methods.specs.Methods.{IsWord};
-ghost use Rattle.session.specs.RequestEffects.{HasCode};
-ghost use Rattle.session.specs.RequestedPlans.{IsPlannedRun};
-ghost use Rattle.session.specs.RequestSteps.{Hears};
 ghost use Rattle.film_streams.specs.SettingRanges.{AreFilms};
-ghost use Rattle.session.specs.SessionStates.{SessionState};
+ghost use Rattle.session_laws.specs.SessionTerms.{Ask, HasCode, Hears, IsPlannedRun, IsReadAs};
+ghost use Rattle.session_laws.specs.SessionTerms.{Planned, Played, Request, Run, SessionState};
+ghost use Rattle.session_laws.specs.SessionTerms.{Setup, Stored};
 
 /// An OPTIONS that requires no option is answered 200 with the list of methods, in any state,
 /// whatever its URL and its Session are (RFC 2326 section 10.1).

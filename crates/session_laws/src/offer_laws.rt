@@ -3,20 +3,18 @@
 ghost use Rattle.std.specs.Prelude.{◌≡◌, ℕ, List, Option};
 ghost use Rattle.plan_cert.specs.declared.Segment.{Segment};
 ghost use Rattle.early_start.specs.StartSearch.{Offers};
-ghost use Rattle.film_run.specs.declared.runs.Run.{Run};
 ghost use Rattle.film_run.specs.Plans.{rest_sizes, timing_of};
 ghost use Rattle.film_run.specs.Units.{stored_sizes};
-ghost use Rattle.session.specs.declared.commands.Ask.{Ask};
 ghost use Rattle.session_records.specs.declared.notes.OfferNote.{OfferNote};
 ghost use Rattle.rtsp_methods.specs.declared.refusals.Refusal.TheVariants.{Buffer};
-ghost use Rattle.film_streams.specs.declared.setups.Setup.{Setup};
-ghost use Rattle.session.specs.RequestSteps.{Hears, after_offer};
+ghost use Rattle.session.specs.RequestSteps.{after_offer};
 ghost use Rattle.session.specs.OfferLaws.{IsLeastBuffer, IsLeastBufferReply, IsOfferAsked};
 ghost use Rattle.session.specs.OfferLaws.{IsOfferReply};
 ghost use Rattle.session.specs.RequestedPlans.{HasNoPlan};
 ghost use Rattle.session.specs.RunRequests.{playback_of, run_of};
 ghost use Rattle.rtsp_replies.specs.Replies.{refusal_text};
-ghost use Rattle.session.specs.SessionStates.{SessionState, sequence_of};
+ghost use Rattle.session.specs.SessionStates.{sequence_of};
+ghost use Rattle.session_laws.specs.SessionTerms.{Ask, Hears, Run, SessionState, Setup};
 
 /// An offer is asked of the station exactly as its request has it: in Ready, with the plan of a
 /// PLAY without a Range and the wait that its `x-Wait` names, and nothing else changes. The reply

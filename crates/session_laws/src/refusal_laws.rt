@@ -2,26 +2,18 @@
 //! PLAY without a Range.
 
 ghost use Rattle.std.specs.Prelude.{◌≡◌, ℕ, List, None, Some};
-ghost use Rattle.film_frames.specs.declared.stored_films.Stored.{Stored};
-ghost use Rattle.film_run.specs.declared.runs.Run.{Run};
 ghost use Rattle.rtsp_fields.specs.Ranges.{IsSpan};
 ghost use Rattle.rtsp_fields.specs.declared.ranges.Origin.TheVariants.{Now};
 ghost use Rattle.rtsp_fields.specs.declared.ranges.Span.{Span};
-ghost use Rattle.rtsp_text.specs.declared.requests.Request.{Request};
-ghost use Rattle.session.specs.declared.commands.Ask.{Ask};
 ghost use Rattle.rtsp_methods.specs.declared.methods.Method.{Method};
-ghost use Rattle.session.specs.declared.plans.Planned.{Planned};
-ghost use Rattle.film_streams.specs.declared.setups.Setup.{Setup};
 ghost use Rattle.session.specs.Laws.{Resumes};
 ghost use Rattle.session_laws.specs.PlayLaws.{PassesEarlierChecks};
-ghost use Rattle.session_laws.specs.RefusalLaws.{BeginsFilm, IsInvalidMethod, IsKnownMethod, IsOfNoFilm};
-ghost use Rattle.session_laws.specs.RefusalLaws.{IsOfNoSession, IsRefusedBy, IsWholeFilm};
-ghost use Rattle.session_laws.specs.RefusalLaws.{RequiresSomeOption};
-ghost use Rattle.session.specs.RefusalOrder.{IsReadAs};
+ghost use Rattle.session_laws.specs.RefusalLaws.{BeginsFilm, IsInvalidMethod, IsKnownMethod};
+ghost use Rattle.session_laws.specs.RefusalLaws.{IsOfNoFilm, IsOfNoSession, IsRefusedBy};
+ghost use Rattle.session_laws.specs.RefusalLaws.{IsWholeFilm, RequiresSomeOption};
 ghost use Rattle.session_laws.specs.ReplyNumbers.{RepliesHaveNumber};
-ghost use Rattle.session.specs.RequestedPlans.{IsPlannedRun};
-ghost use Rattle.session.specs.RequestSteps.{Hears};
-ghost use Rattle.session.specs.SessionStates.{SessionState};
+ghost use Rattle.session_laws.specs.SessionTerms.{Ask, Hears, IsPlannedRun, IsReadAs, Planned};
+ghost use Rattle.session_laws.specs.SessionTerms.{Request, Run, SessionState, Setup, Stored};
 
 /// The refusals that all methods share come in this order, each by the CSeq of its request: 501
 /// for an unknown method, 551 for a request that has Require or Proxy-Require, 454 for one that
