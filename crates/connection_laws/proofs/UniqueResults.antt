@@ -6,6 +6,7 @@ use Rattle.session.specs.declared.commands.Ask.TheVariants.{Reply as AskReply}
 use Rattle.session.specs.RequestSteps.{Hears}
 use Rattle.session.specs.Laws.{IsOneAnswer}
 use Rattle.film_streams.specs.SettingRanges.{AreFilms}
+use Rattle.session.proofs.InitialStateLemmas.{heard_by}
 use Rattle.session_laws.proofs.AnswerUniqueness.{hears_once}
 use Rattle.session.specs.SlotSteps.{after_slot}
 use Rattle.session.specs.SessionStates.{SessionState, AwaitedAnswer, HaltAnswer, awaited_answer}
@@ -49,17 +50,7 @@ hears_same {one} {other} same =
     let also : Hears one.session one.message other.ask other.asking =
     subst (λ s. Hears s one.message other.ask other.asking) same.session
     (subst (λ m. Hears other.session m other.ask other.asking) same.message same.also) in
-    hears_by one other alike (hears_once (record {
-      old = one.session;
-      one = one.asking;
-      other = other.asking;
-      message = one.message;
-      ask = one.ask;
-      again = other.ask;
-      films = same.films;
-      is = same.hears;
-      its = also;
-    }))
+    hears_by one other alike (hears_once (heard_by same.hears) same.films also)
 
 -- ---- the station answers
 

@@ -12,6 +12,7 @@ use Rattle.pacer.specs.PacerStates.{next_boundary, slots_through}
 use Rattle.rtsp_text.specs.Fields.{first_sequence, header_value}
 use Rattle.rtsp_text.specs.declared.requests.Request.{Request}
 use Rattle.rtsp_text.proofs.MessageUniqueness.{fault_once, no_fault}
+use Rattle.session.specs.declared.commands.Ask.{Ask}
 use Rattle.session.specs.declared.commands.Ask.TheVariants.{Halt as AskHalt, Offer as AskOffer}
 use Rattle.rtsp_methods.specs.declared.methods.Method.{Method}
 use Rattle.rtsp_methods.specs.declared.methods.Method.TheVariants.{Options, Describe, Setup as SetupMethod}
@@ -44,7 +45,7 @@ use Rattle.session.specs.RequestedPlans.{IsPlanned}
 use Rattle.session.specs.RunRequests.{playback_of}
 use Rattle.rtsp_replies.specs.Replies.{describe_text, plain_text, public_text, refusal_text, session_text}
 use Rattle.film_streams.specs.Setups.{IsSetupRead}
-use Rattle.session.specs.SessionStates.{with_reply}
+use Rattle.session.specs.SessionStates.{AreFilms, SessionState, with_reply}
 use Rattle.session.proofs.InitialStateLemmas.{HeardMessage, TwoHearings}
 use Rattle.session_laws.proofs.RequestReadings.{Does, does_task, reading_of, refused_in, taken_up, AreAlike, passes_of}
 use Rattle.session.proofs.RequestUniqueness.{AreSameNames, first_sequence_is, names_once, read_once, topic_once}
@@ -327,6 +328,18 @@ both_once w (inr is) its =
     takes_once w is.request is.hears.judgement is.is_request is.hears.judged is.hears.takes
 
 -- a message has one answer, state, reply and command, or memory is wanting for it
-pub hears_once : (twice : TwoHearings)
-    → IsOneAnswer twice.old twice.message twice.ask twice.one twice.again twice.other
-hears_once twice = both_once twice twice.is twice.its
+pub hears_once : {again : Ask} {other : SessionState} (h : HeardMessage) → AreFilms h.old.films
+    → Hears h.old h.message again other → IsOneAnswer h.old h.message h.ask h.new again other
+hears_once {again} {other} h films its =
+    let twice : TwoHearings = record {
+      old = h.old;
+      one = h.new;
+      other = other;
+      message = h.message;
+      ask = h.ask;
+      again = again;
+      films = films;
+      is = h.hears;
+      its = its;
+    } in
+    both_once twice h.hears its
