@@ -14,6 +14,7 @@ use Rattle.rtsp_client.specs.declared.watch_request.Wish.{Wish}
 use Rattle.film_streams.specs.declared.setups.Setup.{Setup}
 use Rattle.film_streams.specs.declared.settings.Settings.{Settings}
 use Rattle.rtsp_replies.specs.Messages.{IsMessage}
+use Rattle.session_laws.specs.PlayLaws.{unsent_run}
 use Rattle.connection_laws.specs.Courses.{Course, course_plays}
 use Rattle.connection_laws.specs.Plays.{FilmPlay}
 use Rattle.connection_laws.specs.Replies.{PlacedText, course_texts, placed_text}
@@ -29,13 +30,7 @@ playback_of wish stored = record {
 
 -- the run of all units of a film, of which nothing was sent
 abbrev pub whole_run : Stored → Run
-whole_run stored = record {
-  first_unit = 0;
-  end_unit = length stored.film.units.items;
-  from_unit = 0;
-  sent = 0;
-  played = 0;
-}
+whole_run stored = unsent_run 0 (length stored.film.units.items)
 
 -- the frames and reports of a film
 abbrev pub film_blocks : Stored → Identity → List (List ℕ)

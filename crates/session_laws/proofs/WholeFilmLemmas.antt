@@ -16,16 +16,11 @@ use Rattle.rtsp_fields.proofs.FieldUniqueness.{span_once}
 use Rattle.session.specs.declared.play_requests.PlayRequest.{PlayRequest}
 use Rattle.session.specs.declared.play_requests.PlayRequest.TheVariants.{New, Resumed}
 use Rattle.session.specs.RunRequests.{IsAskedRun, IsRequestFor, run_of}
+use Rattle.session_laws.specs.PlayLaws.{unsent_run}
 
 -- the run of all units of a film, of which nothing was sent
-abbrev pub whole_of : Stored → Run
-whole_of stored = record {
-  first_unit = 0;
-  end_unit = length stored.film.units.items;
-  from_unit = 0;
-  sent = 0;
-  played = 0;
-}
+abbrev whole_of : Stored → Run
+whole_of stored = unsent_run 0 (length stored.film.units.items)
 
 from-zero : IsSpan (codes "npt=0-") (record { from = At 0; to = None })
 unfolding other_than

@@ -73,11 +73,14 @@ abbrev pub HasCountedAll : Identity → Identity → FramedRun → Type 0
 HasCountedAll before after sending =
     GoesOn before after (frames_in (pieces_in sending)) (octets_in (pieces_in sending))
 
+-- the run of these units of a film, of which nothing was sent
+abbrev pub unsent_run : ℕ → ℕ → Run
+unsent_run first end =
+    record { first_unit = first; end_unit = end; from_unit = first; sent = 0; played = 0 }
+
 -- the run, and the client, that a note names
 abbrev pub run_in : PlayNote → Run
-run_in note = record {
-  first_unit = note.first_unit;
-  end_unit = note.end_unit;
+run_in note = record (unsent_run note.first_unit note.end_unit) {
   from_unit = note.from_unit;
   sent = note.sent_before;
   played = note.played;
