@@ -22,13 +22,14 @@ use Rattle.session.specs.RefusalOrder.{FitsFilm, IsJudged, IsOwnFilm, IsReadAs}
 use Rattle.rtsp_methods.specs.RequiredOptions.{first_of, option_of}
 use Rattle.rtsp_replies.specs.Replies.{code_of, refusal_text}
 use Rattle.session.specs.RequestEffects.{HasCode}
+use Rattle.session.specs.RequestSteps.{Hears}
 use Rattle.session.specs.SessionStates.{SessionState, has_session_in}
 use Rattle.session_laws.proofs.MethodLemmas.{CurveCause, IsRange, IsBuffer, IsMemory, cause_as, curve_cause, exists_in}
 use Rattle.session_laws.proofs.MethodLemmas.{fits_session}
 use Rattle.session.proofs.ReplyCodeLemmas.{ok_text_code, one_code, own_code, refusal_code}
 use Rattle.session.proofs.RequestUniqueness.{NoChannels, NoMeaning, unread}
 use Rattle.session_laws.proofs.RequestReadings.{AreAlike, same_request}
-use Rattle.session.proofs.InitialStateLemmas.{HeardMessage}
+use Rattle.session.proofs.InitialStateLemmas.{HeardMessage, heard_by}
 use Rattle.session.proofs.RequestCaseAnalysis.{Answer, Replies, SetsUp, EndsSession, asks_as, OwnReply, ToFault}
 use Rattle.session.proofs.RequestCaseAnalysis.{ToRefused, ToDeclined, OwnCause, NoSetup, NoPlan, NoMemory, NoSession}
 use Rattle.session.proofs.RequestCaseAnalysis.{NotInPlaying, NoParameter, answer_to, reply_of}
@@ -173,3 +174,12 @@ answer_causes h reply alone answer = absurd (let no : ⊥ = cc (asks_as answer, 
 pub causes_of : {h : HeardMessage} (request : Request) (code : ℕ) → h.ask ≡ Reply → CodedRequest h request code
     → Causes h.old request code
 causes_of {h} request code alone reply = answer_causes h reply alone (answer_to h)
+
+-- a request whose own reply has a code gave a cause for it
+abbrev pub HasCause : ℕ → Type 0
+HasCause code = (old new : SessionState) (message : List ℕ) (request : Request) → Hears old message Reply new
+    → IsReadAs message request → HasCode code new.text → Causes old request code
+
+pub caused : (code : ℕ) → code < 1000 → HasCause code
+caused code small = λ old new message request hears is has.
+    causes_of {h = heard_by hears} request code refl (record { read = is; small = small; has = has })

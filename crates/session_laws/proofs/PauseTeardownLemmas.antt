@@ -16,13 +16,14 @@ use Rattle.session.specs.declared.states.State.TheVariants.{Playing}
 use Rattle.session_laws.specs.EndLaws.{CanBePaused, CanBeTornDown, EndsSession, HaltsPlay, HasTeardown, IsPausedPlay}
 use Rattle.session_laws.specs.EndLaws.{IsPause, HasSessionInReply, IsTeardownHeard, IsTornDown}
 use Rattle.session.specs.Laws.{IsTeardown, stage_of}
+use Rattle.session.specs.RefusalOrder.{IsReadAs, IsTimely}
 use Rattle.session.specs.RequestSteps.{Hears, after_halt, is_torn, new_session_state}
 use Rattle.rtsp_methods.specs.declared.methods.Method.{Method}
 use Rattle.rtsp_methods.specs.declared.methods.Method.TheVariants.{Pause, Teardown}
 use Rattle.rtsp_methods.specs.RequiredOptions.{option_of}
 use Rattle.session.specs.LookLaws.{SessionEvent, Message, Halt, Slot, Sending, AreAfter, IsAfter}
 use Rattle.session.specs.Methods.{AsksHalt, Ends, Pauses, TearsDown}
-use Rattle.session_laws.specs.PlayLaws.{IsDeclined}
+use Rattle.session_laws.specs.PlayLaws.{IsDeclined, PassesEarlierChecks}
 use Rattle.rtsp_replies.specs.Replies.{field, session_text}
 use Rattle.session.specs.SlotSteps.{after_play, is_between, is_done_in, is_sending, is_taken, next_of, sent_due}
 use Rattle.session.specs.SlotSteps.{sent_in, sent_reply, sent_slot, stepped_in}
@@ -99,9 +100,8 @@ declined_or {h} heard does = elim heard [
   | IsTakenUp up ↦ inr (does up)
 ]
 
-pub teardown_ends : (old new : SessionState) (message : List ℕ) (ask : Ask) → IsTeardown message → Hears old message ask
-    new
-    → IsDeclined old ask new ⊎ IsTornDown old ask new
+pub teardown_ends : (old new : SessionState) (message : List ℕ) (ask : Ask) → IsTeardown message
+    → Hears old message ask new → IsDeclined old ask new ⊎ IsTornDown old ask new
 teardown_ends old new message ask is hears =
     let h : HeardMessage = heard_by {old = old} {new = new} {message = message} {ask = ask} hears in
     declined_or (heard_method h is.request Teardown is.is_request is.method_is)
@@ -114,22 +114,23 @@ pause_leaves old new message ask is hears =
     declined_or (heard_method h is.request Pause is.is_request is.method_is)
     (λ (up : TakenUp h is.request Pause). pauses_in h up.other.sequence old.state refl up.does)
 
+-- a request of a method that nothing refuses
+good_up : {m : Method} {request : Request} (h : HeardMessage) → IsReadAs h.message request
+    → PassesEarlierChecks m h.old request → IsTimely h.old.state request m → TakenUp h request m
+good_up h is good state = taken_up h _ _ is (record { talk = good.talk; film = inr good.film; state = state })
+
 pub teardown_taken : (old new : SessionState) (message : List ℕ) (ask : Ask) → CanBeTornDown old message
-    → Hears old message ask new
-    → IsTornDown old ask new
+    → Hears old message ask new → IsTornDown old ask new
 teardown_taken old new message ask can hears =
     let h : HeardMessage = heard_by {old = old} {new = new} {message = message} {ask = ask} hears in
-    let up : TakenUp h can.request Teardown = taken_up h can.request Teardown can.is_request
-    (record { talk = can.good.talk; film = inr can.good.film; state = tt }) in
+    let up = good_up {m = Teardown} h can.is_request can.good tt in
     tears_in h up.other.sequence old.state refl up.does
 
 pub pause_taken : (old new : SessionState) (message : List ℕ) (ask : Ask) → CanBePaused old message
-    → Hears old message ask new
-    → IsPausedPlay old ask new
+    → Hears old message ask new → IsPausedPlay old ask new
 pause_taken old new message ask can hears =
     let h : HeardMessage = heard_by {old = old} {new = new} {message = message} {ask = ask} hears in
-    let up : TakenUp h can.request Pause = taken_up h can.request Pause can.is_request
-    (record { talk = can.good.talk; film = inr can.good.film; state = ap is_playing_in can.playing }) in
+    let up = good_up {m = Pause} h can.is_request can.good (ap is_playing_in can.playing) in
     pauses_in h up.other.sequence old.state refl up.does
 
 -- ---- only a TEARDOWN ends the session

@@ -14,7 +14,7 @@ use Rattle.rtsp_replies.specs.Replies.{public_text}
 use Rattle.session.specs.declared.refusals.Task.{Task}
 use Rattle.session.specs.declared.refusals.Task.TheVariants.{Options as ToOptions, Describe as ToDescribe}
 use Rattle.session.specs.declared.refusals.Task.TheVariants.{Setup as ToSetup, Play as ToPlay}
-use Rattle.session.specs.Methods.{Describes, GetsParameter, IsRefused, IsReplied, Pauses, Plays, SetsUp, Takes}
+use Rattle.session.specs.Methods.{Describes, GetsParameter, HearsRequest, IsRefused, IsReplied, Pauses, Plays, SetsUp, Takes}
 use Rattle.session.specs.Methods.{TearsDown}
 use Rattle.session.specs.RefusalOrder.{IsJudged, IsOnFilm, IsReadAs, IsTaskOf, IsTimely, method_of, FitsSession}
 use Rattle.session.specs.RefusalOrder.{FitsState, HasFilm, IsOwnTalk, IsSpoken, IsTaken}
@@ -57,36 +57,27 @@ rank (Err Film) = 3
 rank (Err State) = 4
 rank _ = 5
 
--- what a request is judged by: the session's films, id and state, and its own parts
+-- what a request is judged by: the session, and its own parts
 record Judging : Type 0 where
-  films : List Stored
-  id : List ℕ
-  stage : StateKind
+  old : SessionState
   name : List ℕ
   url : List ℕ
   head : List ℕ
 
 abbrev judging : SessionState → Request → Judging
-judging old request = record {
-  films = old.films;
-  id = old.id;
-  stage = old.state;
-  name = request.method.now;
-  url = request.url.now;
-  head = request.head.now;
-}
+judging old request = record { old = old; name = request.method.now; url = request.url.now; head = request.head.now }
 
 abbrev Owns : Judging → Method → Type 0
-Owns j m = FitsSession m (has_session_in j.stage) j.id (header_value j.head (codes "Session"))
+Owns j m = FitsSession m (has_session_in j.old.state) j.old.id (header_value j.head (codes "Session"))
 
 abbrev HasTime : Judging → Method → Type 0
-HasTime j m = FitsState m j.stage (is_some (header_value j.head (codes "Range")))
+HasTime j m = FitsState m j.old.state (is_some (header_value j.head (codes "Range")))
 
 abbrev PassesAt : Judging → ℕ → Type 0
 PassesAt j zero = (m : Method) × (j.name ≡ name_of m)
 PassesAt j (suc zero) = required_of j.head ≡ None
 PassesAt j (suc (suc zero)) = (m : Method) × ((j.name ≡ name_of m) × Owns j m)
-PassesAt j (suc (suc (suc zero))) = (m : Method) × ((j.name ≡ name_of m) × ((m ≡ Options) ⊎ HasFilm j.films j.stage j.url m))
+PassesAt j (suc (suc (suc zero))) = (m : Method) × ((j.name ≡ name_of m) × ((m ≡ Options) ⊎ HasFilm j.old.films j.old.state j.url m))
 PassesAt j (suc (suc (suc (suc zero)))) = (m : Method) × ((j.name ≡ name_of m) × HasTime j m)
 PassesAt j _ = ⊥
 
@@ -118,7 +109,7 @@ one_more j n before at = below_more (PassesAt j) n before at
 -- a request of a method that requires no option, of its session, of its film
 spoken_below : {m : Method} (old : SessionState) (request : Request) → IsSpoken request m
     → PassesBelow (judging old request) 2
-spoken_below {m} old request spoken = one_more (judging old request) 1 (one_more (judging old request) 0 (none_below _) (m, spoken.named)) spoken.free
+spoken_below {m} old request spoken = one_more (judging old request) 1 (one_more (judging old request) 0 (none_below (judging old request)) (m, spoken.named)) spoken.free
 
 talk_below : {m : Method} (old : SessionState) (request : Request) → IsOwnTalk old.id old.state request m
     → PassesBelow (judging old request) 3
@@ -164,9 +155,9 @@ passes_of {request} {task} old is = record {
 stops : (old : SessionState) (request : Request) (judgement : Result Task Refusal)
     → IsJudged old.films old.id old.state request judgement → StopsAt (judging old request) (rank judgement)
 stops old request (Ok task) is = stops_last old request (passes_of old is)
-stops old request (Err Unknown) is = record { before = none_below _; at = λ has. is.none has.0 has.1 }
+stops old request (Err Unknown) is = record { before = none_below (judging old request); at = λ has. is.none has.0 has.1 }
 stops old request (Err Required) is = record {
-  before = one_more (judging old request) 0 (none_below _) (is.method, is.named);
+  before = one_more (judging old request) 0 (none_below (judging old request)) (is.method, is.named);
   at = λ free. let some = is.required in let no : ⊥ = cc (free, some) in no;
 }
 stops old request (Err Session) is = record {
@@ -216,14 +207,8 @@ pub record AreAlike (request other : Request) : Type 0 where
 as_alike : {request other : Request} {n : ℕ} (old : SessionState) → AreAlike request other
     → StopsAt (judging old other) n → StopsAt (judging old request) n
 as_alike {request} {other} {n} old alike stop =
-    let S : List ℕ → List ℕ → List ℕ → Type 0 = λ name url head. StopsAt (record {
-      films = old.films;
-      id = old.id;
-      stage = old.state;
-      name = name;
-      url = url;
-      head = head;
-    }) n in
+    let S : List ℕ → List ℕ → List ℕ → Type 0 = λ name url head.
+    StopsAt (record { old = old; name = name; url = url; head = head }) n in
     subst (S request.method.now request.url.now) alike.head
     (subst (λ u. S request.method.now u other.head.now) alike.url
     (subst (λ m. S m other.url.now other.head.now) alike.method stop))
@@ -271,9 +256,7 @@ same_request message request other is its =
 pub record Reading (h : HeardMessage) (request : Request) : Type 0 where
   pub other : Request
   pub alike : AreAlike request other
-  pub judgement : Result Task Refusal
-  pub judged : IsJudged h.old.films h.old.id h.old.state other judgement
-  pub takes : Takes h.old other judgement h.ask h.new
+  pub hears : HearsRequest h.old other h.ask h.new
 
 pub reading_of : (h : HeardMessage) (request : Request) → IsReadAs h.message request → Reading h request
 reading_of h request is = elim h.hears [
@@ -281,9 +264,7 @@ reading_of h request is = elim h.hears [
   | inr whole ↦ record {
     other = whole.request;
     alike = same_request h.message request whole.request is whole.is_request;
-    judgement = whole.hears.judgement;
-    judged = whole.hears.judged;
-    takes = whole.hears.takes;
+    hears = whole.hears;
   }
 ]
 
@@ -292,7 +273,8 @@ pub refused_in : {h : HeardMessage} {request : Request} (refusal : Refusal) (r :
     → IsJudged h.old.films h.old.id h.old.state request (Err refusal)
     → IsRefused h.old (Some r.other.sequence) refusal (option_of r.other.head.now) h.ask h.new
 refused_in {h} refusal r is =
-    subst (λ j. Takes h.old r.other j h.ask h.new) (judged_refused h.old refusal r.alike is r.judgement r.judged) r.takes
+    subst (λ j. Takes h.old r.other j h.ask h.new)
+    (judged_refused h.old refusal r.alike is r.hears.judgement r.hears.judged) r.hears.takes
 
 -- what is done for a request of a method
 abbrev pub Does : TakenRequest → Method → Type 0
@@ -339,7 +321,7 @@ pub heard_method : (h : HeardMessage) (request : Request) (m : Method) → IsRea
     → request.method.now ≡ name_of m → HeardMethod h request m
 heard_method h request m is method =
     let r = reading_of h request is in
-    (elim r.judgement as (λ j. IsJudged h.old.films h.old.id h.old.state r.other j → Takes h.old r.other j h.ask h.new
+    (elim r.hears.judgement as (λ j. IsJudged h.old.films h.old.id h.old.state r.other j → Takes h.old r.other j h.ask h.new
     → HeardMethod h request m) [
       | Ok task ↦ λ judged takes.
           let same : method_of task ≡ m = method_once r.other.method.now (method_of task) m judged.talk.spoken.named
@@ -351,7 +333,7 @@ heard_method h request m is method =
             does = subst (Does (taken_as h r.other)) same (does_task (taken_as h r.other) task judged.film takes);
           })
       | Err refusal ↦ λ judged takes. IsStopped r.other refusal r.alike judged takes
-    ]) r.judged r.takes
+    ]) r.hears.judged r.hears.takes
 
 pub taken_up : (h : HeardMessage) (request : Request) (m : Method) → IsReadAs h.message request
     → Passes h.old request m → TakenUp h request m
