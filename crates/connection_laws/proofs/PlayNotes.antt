@@ -143,7 +143,7 @@ halt_turn {placed = placed} s entry kept other =
 pub begun_note : {placed : PlacedEntry} {answer : Answer} (play : PlayRequest) (later : List StationCall)
     → IsPlayEntry (at_play play) play.prepared.plan placed answer
     → notes_of_calls (at_play play) (Entered placed) later
-    ≡ noted_for play.setup play.prepared.run placed.place
+    ≡ noted_for play.setup play.prepared placed.place
     (play_admitted (play_of play.base.heard play.prepared.plan) answer) later
 begun_note {placed} play later entry = rw (entry.command, entry.answer_is)
   where
