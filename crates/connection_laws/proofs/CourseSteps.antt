@@ -35,7 +35,8 @@ use Rattle.connection_laws.proofs.CourseInduction.{parts_piece, asked_piece, beg
 use Rattle.session.specs.RequestSteps.{is_answered, after_halt}
 use Rattle.connection_laws.specs.ReplyPlaces.{AreSentAt, slots_from}
 use Rattle.connection_laws.specs.Replies.{course_texts}
-use Rattle.connection_laws.proofs.Slots.{sound_waits, turn_sound, state_after, waits_after}
+use Rattle.connection_laws.proofs.Slots.{sound_waits, turn_sound, waits_after}
+use Rattle.conn.proofs.PlayProgress.{state_after_slot}
 use Rattle.connection_laws.proofs.ReplyBoundaries.{Replying, replying, turn_goes, turn_piece, slot_moves, still_goes}
 use Rattle.connection_laws.proofs.WaitingReplies.{GoesTo, IsHeld, Point, Stand, goes_same, goes_then, point, over_at}
 use Rattle.connection_laws.proofs.WaitingReplies.{due_here}
@@ -304,7 +305,7 @@ slot_move {old} {slot = slot} stands (SlotSent sending later) =
     let s : SessionState = after_play (sent_slot old slot) in
     let goes : Bool = old.waits && is_between (stepped_in true slot old.state) in
     let due : SessionState = sent_due old slot in
-    let state : s.state ≡ state_after old.waits old.state slot = reply_state goes due in
+    let state : s.state ≡ state_after_slot old.waits old.state slot = reply_state goes due in
     let heard : s.heard ≡ slot = reply_heard goes due in
     let waits : s.waits ≡ waits_after old.waits old.state slot = reply_waits goes due in
     let moves = slot_moves {waits = old.waits} old.state (record {

@@ -2,8 +2,6 @@
 use Rattle.std.proofs.Common.{◌≡◌, ℕ, ◌&&◌, if◌then◌else◌, Bool, true, false, List, [], ◌∷◌, refl, ap, ◌∙◌}
 use Rattle.std.proofs.Common.{Some}
 use Rattle.film_frames.specs.declared.stored_films.Stored.{Stored}
-use Rattle.film_streams.specs.declared.settings.Settings.{Settings}
-use Rattle.film_streams.specs.declared.stream_numbers.StreamSource.{StreamSource}
 use Rattle.session.specs.declared.commands.Ask.{Ask}
 use Rattle.session.specs.declared.states.Awaited.{Awaited}
 use Rattle.session.specs.SlotSteps.{due_state, after_play, after_slot, can_reply, is_between, is_sending, is_taken, sent_due}
@@ -28,23 +26,12 @@ use Rattle.conn.specs.EventSteps.{Round}
 -- what no request and no reply to one changes
 pub record LastingPart : Type 0 where
   pub films : List Stored
-  pub settings : Settings
   pub id : List ℕ
-  pub source : StreamSource
   pub heard : ℕ
   pub late : ℕ
-  pub lost : Bool
 
 abbrev pub lasting_part : SessionState → LastingPart
-lasting_part s = record {
-  films = s.films;
-  settings = s.settings;
-  id = s.id;
-  source = s.source;
-  heard = s.heard;
-  late = s.late;
-  lost = s.lost;
-}
+lasting_part s = record { films = s.films; id = s.id; heard = s.heard; late = s.late }
 
 pub answer_keeps : {asking new : SessionState} {ask : Ask} {outcome : Outcome} → AnswersAs asking ask outcome new
     → lasting_part new ≡ lasting_part asking

@@ -27,7 +27,8 @@ use Rattle.connection_laws.specs.Replies.{placed_text}
 use Rattle.connection_laws.proofs.JoinedFilms.{IsOnTime, IsSound, play_with, through_time, IsAtLast}
 use Rattle.connection_laws.proofs.TextPlaces.{AreLater, StandAt, from_lower, later_lower, none_due, text_at, AreSent}
 use Rattle.connection_laws.proofs.TextPlaces.{ToCome, part_then}
-use Rattle.connection_laws.proofs.Slots.{ended_at, ending_cases, going_cases, parts_of, state_after, waits_after}
+use Rattle.connection_laws.proofs.Slots.{ended_at, ending_cases, going_cases, waits_after}
+use Rattle.conn.proofs.PlayProgress.{parts_of, state_after_slot}
 use Rattle.connection_laws.proofs.RequestEffects.{Ends, Ending, Going, Idle, IsStill, Sends, Starts, Stays}
 use Rattle.connection_laws.proofs.RequestEffects.{TurnsAs, begun_is, pacing_for, sends_in}
 use Rattle.connection_laws.proofs.CourseInduction.{asked_piece, Piece, parts_piece, no_piece}
@@ -231,11 +232,11 @@ pub record SlotStart (state : State) (waits : Bool) : Type 0 where
 
 pub record SlotMoves {state : State} {waits : Bool} (start : SlotStart state waits) : Type 0 where
   pub after : Option ℕ
-  pub sound : IsSound (sends_in (state_after waits state start.slot)) (waits_after waits state start.slot) start.slot
-  pub held : IsHeld after (sends_in (state_after waits state start.slot))
+  pub sound : IsSound (sends_in (state_after_slot waits state start.slot)) (waits_after waits state start.slot) start.slot
+  pub held : IsHeld after (sends_in (state_after_slot waits state start.slot))
       (waits_after waits state start.slot) start.slot
   pub goes_on : GoesTo (point (sends_in state) start.heard start.pending)
-      (point (sends_in (state_after waits state start.slot)) start.slot after)
+      (point (sends_in (state_after_slot waits state start.slot)) start.slot after)
       (parts_piece (parts_of waits state start.text start.slot))
 
 -- a play goes on
@@ -366,7 +367,7 @@ slot_moves {waits} (Playing setup play) start sending =
     let p : PacerState = play.pacer in
     let one : PacerState = after_step true slot p in
     let between : Bool = stands_at_boundary one in
-    let sends : sends_in (state_after waits (Playing setup play) slot) ≡ Going (sent_through slot p) =
+    let sends : sends_in (state_after_slot waits (Playing setup play) slot) ≡ Going (sent_through slot p) =
     going_cases waits between (record {
       setup = setup;
       play = play;
@@ -388,7 +389,7 @@ slot_moves {waits = true} (Stopping setup stop) start sending =
     let p : PacerState = stop.pacer in
     let one : PacerState = after_step true slot p in
     let between : Bool = stands_at_boundary one in
-    let sends : sends_in (state_after true (Stopping setup stop) slot) ≡ ends_in between (sent_through slot p) =
+    let sends : sends_in (state_after_slot true (Stopping setup stop) slot) ≡ ends_in between (sent_through slot p) =
     ending_cases between setup stop (after_step false slot one) one ∙ ends_same between slot p sound.0.pacing refl in
     let s : PlaySlot true between pending = play_slot start p sound.0 (as_going p heard pending held) in
     record {

@@ -3,7 +3,6 @@
 use Rattle.std.specs.Prelude.{⊤}
 use Rattle.std.proofs.Common.{ℕ, ◌≡◌, ◌≢◌, List, [], ◌++◌, codes, refl, ap, ◌∙◌, if◌then◌else◌, Bool, true, false}
 use Rattle.std.proofs.Common.{None, sym, subst}
-use Rattle.session.specs.declared.states.Awaited.{Awaited}
 use Rattle.session.specs.RefusalOrder.{IsReadAs}
 use Rattle.session.specs.SessionStates.{SessionState, awaited_answer_of}
 use Rattle.rtsp_text.specs.declared.requests.Request.{Request}
@@ -24,10 +23,8 @@ use Rattle.rtsp_client.specs.Requests.{film_url, setup_text}
 use Rattle.rtsp_client.specs.declared.watch_request.Wish.{Wish}
 use Rattle.session.specs.declared.commands.Ask.{Ask}
 use Rattle.session.specs.declared.commands.Ask.TheVariants.{Reply}
-use Rattle.film_streams.specs.declared.settings.Settings.{Settings}
 use Rattle.session.specs.declared.states.Awaited.TheVariants.{Nothing}
 use Rattle.session.specs.declared.states.State.{State}
-use Rattle.film_streams.specs.declared.stream_numbers.StreamSource.{StreamSource}
 use Rattle.session.specs.declared.states.State.TheVariants.{Init, Ready, Playing, Stopping}
 use Rattle.film_streams.specs.Films.{Names}
 use Rattle.session.specs.SlotSteps.{after_play, can_reply, is_sending, is_taken, sent_reply, sent_slot}
@@ -94,21 +91,8 @@ unsending wish films (Stopping setup stop) is = absurd is
 unsending wish films _ is = refl
 
 -- what a slot leaves where nothing is sent: all but the slot that was received last
-record UnsentPart : Type 0 where
-  films : List Stored
-  settings : Settings
-  source : StreamSource
-  state : State
-  awaited : Awaited
-
-abbrev unsent_part : SessionState → UnsentPart
-unsent_part s = record {
-  films = s.films;
-  settings = s.settings;
-  source = s.source;
-  state = s.state;
-  awaited = s.awaited;
-}
+abbrev unsent_part : SessionState → SessionState
+unsent_part s = record s { heard = 0 }
 
 heard_on : (old : SessionState) (slot : ℕ) (taken sending : Bool) → sending ≡ false → unsent_part
     (if taken then (if sending then after_play (sent_slot old slot) else record old { heard = slot }) else old)
@@ -121,7 +105,7 @@ comes_same : {old opened : Stage} {round : Round} → ComesAs old round opened �
 comes_same BytesCame rest idle = refl
 comes_same {old} (SlotCame {slot = slot} finish) rest idle =
     let on = heard_on old.session slot (is_taken old.session slot) (is_sending old.session.state) idle in
-    let awaited = ap (λ (part : UnsentPart). part.awaited) on ∙ rest in
+    let awaited = ap (λ (part : SessionState). part.awaited) on ∙ rest in
     ap unsent_part (nothing_left finish (ap awaited_answer_of awaited)) ∙ on
 
 pub event_waits : {b : Beginning} {old opened : Stage} {round : Round} → ComesAs old round opened
@@ -131,10 +115,10 @@ event_waits {b} {old} comes waits =
     (unsending b.wish b.films old.session.state waits.unbegun) in
     record {
       stands = stands_by (event_step waits.stands comes);
-      films_are = ap (λ (part : UnsentPart). part.films) on ∙ waits.films_are;
-      settings_are = ap (λ (part : UnsentPart). part.settings) on ∙ waits.settings_are;
-      source_is = ap (λ (part : UnsentPart). part.source) on ∙ waits.source_is;
-      unbegun = subst (IsUnbegun b.wish b.films) (sym (ap (λ (part : UnsentPart). part.state) on)) waits.unbegun;
+      films_are = ap (λ (part : SessionState). part.films) on ∙ waits.films_are;
+      settings_are = ap (λ (part : SessionState). part.settings) on ∙ waits.settings_are;
+      source_is = ap (λ (part : SessionState). part.source) on ∙ waits.source_is;
+      unbegun = subst (IsUnbegun b.wish b.films) (sym (ap (λ (part : SessionState). part.state) on)) waits.unbegun;
     }
 
 -- a reply that goes out leaves a film that isn't sent as it is

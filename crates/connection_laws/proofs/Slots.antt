@@ -1,6 +1,6 @@
 -- What a request, a reply and a slot make of what is being sent.
-use Rattle.std.proofs.Common.{◌≡◌, ℕ, ◌+◌, ◌≤◌, ◌&&◌, if◌then◌else◌, Bool, true, false, List, ◌∷◌, length, refl, sym}
-use Rattle.std.proofs.Common.{subst, arith, []}
+use Rattle.std.proofs.Common.{◌≡◌, ℕ, ◌+◌, ◌≤◌, ◌&&◌, if◌then◌else◌, Bool, true, false, length, refl, sym}
+use Rattle.std.proofs.Common.{subst, arith}
 use Rattle.film_frames.specs.Tracks.{IsBoundary, framed_bytes}
 use Rattle.pacer.specs.PacerStates.{PacerState, next_boundary, first_slots}
 use Rattle.pacer.proofs.PacerStateLemmas.{boundary-from}
@@ -9,9 +9,9 @@ use Rattle.session.specs.declared.states.Stop.{Stop}
 use Rattle.film_streams.specs.declared.setups.Setup.{Setup}
 use Rattle.session.specs.declared.states.State.{State}
 use Rattle.session.specs.declared.states.State.TheVariants.{Playing, Stopping}
-use Rattle.session.specs.SlotSteps.{is_between, step_bytes, stepped_in}
+use Rattle.session.specs.SlotSteps.{is_between, stepped_in}
 use Rattle.session.specs.SlotTransitions.{after_stop}
-use Rattle.conn.specs.InputSteps.{SentPart, Film, Text, Outcome}
+use Rattle.conn.specs.InputSteps.{Outcome}
 use Rattle.connection_laws.proofs.JoinedFilms.{IsAtLast, IsOnTime, IsSound}
 use Rattle.connection_laws.proofs.RequestEffects.{Ending, Going, Idle, Sends, sends_in, Starts, Stays, TurnsAs, Ends}
 use Rattle.conn.proofs.EventPremises.{SlotPacings}
@@ -80,23 +80,8 @@ turn_sound {old} sound (Ends halts) =
 
 -- ---- a slot
 
-abbrev pub state_after : Bool → State → ℕ → State
-state_after waits state slot =
-    let due : State =
-    if waits then (if is_between (stepped_in true slot state) then stepped_in false slot
-    (stepped_in true slot state) else stepped_in true slot state)
-    else stepped_in false slot state in
-    if waits && is_between (stepped_in true slot state) then after_stop due else due
-
 abbrev pub waits_after : Bool → State → ℕ → Bool
 waits_after waits state slot = if waits && is_between (stepped_in true slot state) then false else waits
-
-abbrev pub parts_of : Bool → State → List ℕ → ℕ → List SentPart
-parts_of waits state text slot =
-    if waits then Film (step_bytes true slot state)
-    ∷ (if is_between (stepped_in true slot state)
-    then Text text ∷ Film (step_bytes false slot (stepped_in true slot state)) ∷ [] else [])
-    else Film (step_bytes false slot state) ∷ []
 
 abbrev pub going_with : Setup → Played → PacerState → State
 going_with setup play p = Playing setup (record play { pacer = p })
