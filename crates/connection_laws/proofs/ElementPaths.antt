@@ -14,7 +14,6 @@ use Rattle.interleave.proofs.ElementStability.{StartsBlock-append, block_length-
 use Rattle.interleave.proofs.StreamElements.{element_once, tells_none}
 use Rattle.interleave.proofs.ElementUniqueness.{clash_block_request, total_once}
 use Rattle.film_frames.specs.declared.stored_films.Stored.{Stored}
-use Rattle.session.specs.declared.commands.Ask.{Ask}
 use Rattle.session.specs.RequestSteps.{Hears}
 use Rattle.film_streams.specs.SettingRanges.{AreFilms}
 use Rattle.session.specs.SessionStates.{SessionState}
@@ -33,15 +32,9 @@ use Rattle.vod_base.specs.Links.{IoEvent}
 
 -- a request that was processed, what was asked, and what came of it
 pub record StationCall : Type 0 where
-  pub session : SessionState
-  pub message : List ℕ
-  pub ask : Ask
-  pub asking : SessionState
+  pub heard : HeardRequest
   pub outcome : Outcome
   pub answered : SessionState
-
-abbrev pub hearing : SessionState → List ℕ → Ask → SessionState → HeardRequest
-hearing session message ask asking = record { session = session; message = message; ask = ask; asking = asking }
 
 pub data Element : Type 0 where
   Over : ℕ → Element
@@ -72,11 +65,11 @@ over_no_request input n (AnEnd one some end) starts = both_ways (is_line_end (ge
 over_no_request input n (ABlock block four size inside) starts = clash_block_request input block starts
 
 pub record IsTaken (old : Stage) (turn : StationCall) (new : Stage) : Type 0 where
-  pub session_is : turn.session ≡ old.session
-  pub next : IsNext old turn.message
-  pub hears : Hears old.session turn.message turn.ask turn.asking
-  pub answered : IsAskAnswered turn.asking turn.ask turn.outcome turn.answered
-  pub new_is : new ≡ stage (after_reply turn.answered) (drop (length turn.message) old.input)
+  pub session_is : turn.heard.session ≡ old.session
+  pub next : IsNext old turn.heard.message
+  pub hears : Hears old.session turn.heard.message turn.heard.ask turn.heard.asking
+  pub answered : IsAskAnswered turn.heard.asking turn.heard.ask turn.outcome turn.answered
+  pub new_is : new ≡ stage (after_reply turn.answered) (drop (length turn.heard.message) old.input)
 
 pub record IsPassing (old : Stage) (n : ℕ) (new : Stage) : Type 0 where
   pub over : IsOver old.input n
@@ -120,7 +113,7 @@ turn_exchange turn = record {
   heard = [];
   bytes = parts_bytes (reply_parts turn.answered);
   answers = answer_in turn.outcome;
-  hearings = hearing turn.session turn.message turn.ask turn.asking ∷ [];
+  hearings = turn.heard ∷ [];
 }
 
 abbrev pub exchange_of : List Element → Exchange
@@ -139,17 +132,21 @@ elements_hearings elements = (exchange_of elements).hearings
 
 -- ---- joined, and with more input
 
--- elements that are processed from a stage on
-pub record LaterElements : Type 0 where
-  pub old : Stage
-  pub new : Stage
+-- elements that lead from one stage to another
+pub record Way (old new : Stage) : Type 0 where
   pub elements : List Element
-  pub leads : GoesAll old elements new
+  pub goes : GoesAll old elements new
 
-pub join_goes : (a : Stage) (later : LaterElements) (xs : List Element) → GoesAll a xs later.old →
-    GoesAll a (xs ++ later.elements) later.new
-join_goes a later [] goes = subst (λ s. GoesAll s later.elements later.new) goes later.leads
+pub join_goes : {b c : Stage} (a : Stage) (later : Way b c) (xs : List Element) → GoesAll a xs b
+    → GoesAll a (xs ++ later.elements) c
+join_goes {c = c} a later [] goes = subst (λ s. GoesAll s later.elements c) goes later.goes
 join_goes a later (x ∷ xs) goes = (goes.0, (goes.1.0, join_goes goes.0 later xs goes.1.1))
+
+abbrev pub way_then : {a b c : Stage} → Way a b → Way b c → Way a c
+way_then {a} one two = record {
+  elements = one.elements ++ two.elements;
+  goes = join_goes a two one.elements one.goes;
+}
 
 pub join_exchange : (xs ys : List Element) → exchange_of (xs ++ ys) ≡ joined (exchange_of xs) (exchange_of ys)
 join_exchange [] ys = refl
@@ -181,10 +178,10 @@ element_grows old new (Over n) more goes = record {
 }
 element_grows old new (RequestElement turn) more goes = record {
   session_is = goes.session_is;
-  next = next_grows old turn.message more goes.next;
+  next = next_grows old turn.heard.message more goes.next;
   hears = goes.hears;
   answered = goes.answered;
-  new_is = rw (goes.new_is, shorter old (after_reply turn.answered) more (length turn.message) goes.next.first.2);
+  new_is = rw (goes.new_is, shorter old (after_reply turn.answered) more (length turn.heard.message) goes.next.first.2);
 }
 
 pub goes_grow : (old new : Stage) (elements : List Element) (more : List ℕ) → GoesAll old elements new
@@ -196,18 +193,16 @@ goes_grow old new (element ∷ elements) more goes =
 -- ---- what is processed
 
 pub record Path (old new : Stage) (exchange : Exchange) : Type 0 where
-  pub elements : List Element
-  pub goes : GoesAll old elements new
-  pub is : exchange_of elements ≡ exchange
+  pub way : Way old new
+  pub is : exchange_of way.elements ≡ exchange
 
 path_none : (s : Stage) → Path s s no_exchange
-path_none s = record { elements = []; goes = refl; is = refl }
+path_none s = record { way = record { elements = []; goes = refl }; is = refl }
 
 path_then : {a b c : Stage} {one two : Exchange} → Path a b one → Path b c two → Path a c (joined one two)
-path_then {a} {b} {c} path after = record {
-  elements = path.elements ++ after.elements;
-  goes = join_goes a (record { old = b; new = c; elements = after.elements; leads = after.goes }) path.elements path.goes;
-  is = join_exchange path.elements after.elements ∙ ap₂ joined path.is after.is;
+path_then path after = record {
+  way = way_then path.way after.way;
+  is = join_exchange path.way.elements after.way.elements ∙ ap₂ joined path.is after.is;
 }
 
 ends_over : (session : SessionState) (input : List ℕ) (n : ℕ) → session.torn ≡ false → n ≤ length input
@@ -219,7 +214,11 @@ ends_over session (c ∷ cs) (suc n) torn inside ends =
     let path = ends_over session cs n torn (omega (arith, inside)) (λ k below. ends (suc k) (omega (arith, below))) in
     let over : IsPassing (stage session (c ∷ cs)) 1 (stage session cs) =
     record { over = AnEnd refl (omega arith) (ends 0 (omega arith)); torn = torn; new_is = refl } in
-    record { elements = Over 1 ∷ path.elements; goes = (stage session cs, (over, path.goes)); is = path.is }
+    let way = path.way in
+    record {
+      way = record { elements = Over 1 ∷ way.elements; goes = (stage session cs, (over, way.goes)) };
+      is = path.is;
+    }
 
 passed_over : (session : SessionState) (input : List ℕ) (n : ℕ) → IsPassed input n → session.torn ≡ false
     → Path (stage session input) (stage session (drop n input)) no_exchange
@@ -227,39 +226,37 @@ passed_over session input n (inl skip) torn = ends_over session input n torn ski
 passed_over session input n (inr block) torn =
     let over : IsPassing (stage session input) n (stage session (drop n input)) =
     record { over = ABlock block.1.0 block.1.1 block.1.3 block.1.4; torn = torn; new_is = refl } in
-    record { elements = Over n ∷ []; goes = (stage session (drop n input), (over, refl)); is = refl }
+    record {
+      way = record { elements = Over n ∷ []; goes = (stage session (drop n input), (over, refl)) };
+      is = refl;
+    }
+
+-- a request that was processed, as it was received
+abbrev hearing : {old new : Stage} {message : List ℕ} {outcome : Outcome} {parts : List SentPart}
+    → IsReplied old message outcome parts new → HeardRequest
+hearing {old} {message = message} replied =
+    record { session = old.session; message = message; ask = replied.heard.ask; asking = replied.heard.asking }
 
 path_taken : (old new : Stage) (message : List ℕ) (outcome : Outcome) (parts : List SentPart)
     (replied : IsReplied old message outcome parts new) → Path old new (record {
       heard = [];
       bytes = parts_bytes parts;
       answers = answer_in outcome;
-      hearings = hearing old.session message replied.heard.ask replied.heard.asking ∷ [];
+      hearings = hearing replied ∷ [];
     })
-path_taken old new message outcome parts replied = record {
-  elements = RequestElement (record {
-    session = old.session;
-    message = message;
-    ask = replied.heard.ask;
-    asking = replied.heard.asking;
-    outcome = outcome;
-    answered = replied.answered;
-  }) ∷ [];
-  goes = (
-    new,
-    (
-      record {
-        session_is = refl;
-        next = replied.next;
-        hears = replied.heard.hears;
-        answered = replied.heard.answered;
-        new_is = replied.new_is;
-      },
-      refl,
-    ),
-  );
-  is = rw (append-nil (parts_bytes (reply_parts replied.answered)), append-nil (answer_in outcome), replied.parts_are);
-}
+path_taken old new message outcome parts replied =
+    let turn : StationCall = record { heard = hearing replied; outcome = outcome; answered = replied.answered } in
+    let taken : IsTaken old turn new = record {
+      session_is = refl;
+      next = replied.next;
+      hears = replied.heard.hears;
+      answered = replied.heard.answered;
+      new_is = replied.new_is;
+    } in
+    record {
+      way = record { elements = RequestElement turn ∷ []; goes = (new, (taken, refl)) };
+      is = rw (append-nil (parts_bytes (reply_parts replied.answered)), append-nil (answer_in outcome), replied.parts_are);
+    }
 
 abbrev pub takings_exchange : (old : Stage) (takings : List ElementStep) (new : Stage) → TakesAll old takings new
     → Exchange
@@ -284,7 +281,7 @@ path_of old new (Answered message outcome parts ∷ takings) takes =
 first_element : (old new : Stage) (element : Element) → Goes old element new → (n : ℕ) × IsElementLength old.input n
 first_element old new (Over n) goes = (n, over_element old.input n goes.over)
 first_element old new (RequestElement turn) goes =
-    (length turn.message, WholeMessage goes.next.first.0 goes.next.first.1 goes.next.first.2)
+    (length turn.heard.message, WholeMessage goes.next.first.0 goes.next.first.1 goes.next.first.2)
 
 goes_on : (old new : Stage) (element : Element) → Goes old element new → old.session.torn ≡ false
 goes_on old new (Over n) goes = goes.torn
@@ -315,8 +312,10 @@ done_goes old new element (inr stopped) goes = stopped_done old new element stop
 taken_films : (old new : Stage) (turn : StationCall) → IsTaken old turn new → new.session.films ≡ old.session.films
 taken_films old new turn taken =
     ap (λ (s : Stage). s.session.films) taken.new_is ∙ ap (λ (n : List Stored × List ℕ). n.0)
-    (replied_names turn.answered ∙ answered_names turn.asking turn.ask turn.outcome turn.answered taken.answered)
-    ∙ (hears_ground old.session turn.asking turn.message turn.ask taken.hears).films
+    (replied_names turn.answered ∙ answered_names heard.asking heard.ask turn.outcome turn.answered taken.answered)
+    ∙ (hears_ground old.session heard.asking heard.message heard.ask taken.hears).films
+  where
+    open turn use {heard}
 
 pub goes_films : (old new : Stage) (elements : List Element) → GoesAll old elements new
     → new.session.films ≡ old.session.films
@@ -338,27 +337,27 @@ record TakenTwice (old : Stage) (turn again : StationCall) : Type 0 where
   films : AreFilms old.session.films
   taken : IsTaken old turn one
   also : IsTaken old again other
-  alike : LackMemoryAlike (hearing turn.session turn.message turn.ask turn.asking)
-      (hearing again.session again.message again.ask again.asking)
+  alike : LackMemoryAlike turn.heard again.heard
 
 turns_same : {old : Stage} {turn again : StationCall} (given : AnswersAlike turn.outcome again.outcome)
     (twice : TakenTwice old turn again) →
     (twice.other ≡ twice.one) × (parts_bytes (reply_parts again.answered) ≡ parts_bytes (reply_parts turn.answered))
     × AreSameAnswers given.ones given.others
 turns_same {old} {turn} {again} given twice =
-    let message : again.message ≡ turn.message = message_same old turn.message again.message taken.next also.next in
-    let heard = hears_same {one = hearing turn.session turn.message turn.ask turn.asking}
-    {other = hearing again.session again.message again.ask again.asking} (record {
+    let h = turn.heard in
+    let g = again.heard in
+    let message : g.message ≡ h.message = message_same old h.message g.message taken.next also.next in
+    let same = hears_same {one = h} {other = g} (record {
       films = subst (λ (s : SessionState). AreFilms s.films) (sym taken.session_is) films;
       session = also.session_is ∙ sym taken.session_is;
       message = message;
-      hears = subst (λ s. Hears s turn.message turn.ask turn.asking) (sym taken.session_is) taken.hears;
-      also = subst (λ s. Hears s again.message again.ask again.asking) (sym also.session_is) also.hears;
+      hears = subst (λ s. Hears s h.message h.ask h.asking) (sym taken.session_is) taken.hears;
+      also = subst (λ s. Hears s g.message g.ask g.asking) (sym also.session_is) also.hears;
       alike = alike;
     }) in
-    let answered : IsAskAnswered turn.asking turn.ask again.outcome again.answered =
-    rw (← heard.0) (subst (λ s. IsAskAnswered s again.ask again.outcome again.answered) heard.1 also.answered) in
-    let both = answers_same turn.asking turn.ask given (taken.answered, answered) in (
+    let answered : IsAskAnswered h.asking h.ask again.outcome again.answered =
+    rw (← same.0) (subst (λ s. IsAskAnswered s g.ask again.outcome again.answered) same.1 also.answered) in
+    let both = answers_same h.asking h.ask given (taken.answered, answered) in (
       also.new_is ∙ stage_is (ap after_reply both.0) (ap (λ (m : List ℕ). drop (length m) old.input) message)
           ∙ sym taken.new_is,
       ap (λ s. parts_bytes (reply_parts s)) both.0,
@@ -373,18 +372,25 @@ pub record PathDone (old : Stage) (xs : List Element) : Type 0 where
   pub goes : GoesAll old xs last
   pub done : IsDrained last
 
--- two paths that go on with the same answers, and that run out of memory alike, with what comes after them
-pub record PathsAlike (xs ys : List Element) (one other : Exchange) : Type 0 where
-  pub answers : AreSameAnswers (elements_answers xs ++ one.answers) (elements_answers ys ++ other.answers)
-  pub memory : AllLackMemoryAlike (elements_hearings xs ++ one.hearings) (elements_hearings ys ++ other.hearings)
+-- the path after its first element
+abbrev path_rest : {old : Stage} {x : Element} {xs : List Element} (way : PathDone old (x ∷ xs)) → PathDone way.goes.0 xs
+path_rest way = record { last = way.last; goes = way.goes.1.1; done = way.done }
 
--- they end alike
-pub record SameEnds {old : Stage} {xs ys : List Element} (way : PathDone old xs) (also : PathDone old ys)
-    (one other : Exchange) : Type 0 where
-  pub last : also.last ≡ way.last
-  pub bytes : elements_bytes ys ≡ elements_bytes xs
+-- from the same stage
+abbrev pub path_moved : {a b : Stage} {xs : List Element} → b ≡ a → PathDone b xs → PathDone a xs
+path_moved {xs = xs} same way =
+    record { last = way.last; goes = subst (λ s. GoesAll s xs way.last) same way.goes; done = way.done }
+
+-- the station's answers are the same, and memory runs out alike
+pub record AreAlike (one other : Exchange) : Type 0 where
   pub answers : AreSameAnswers one.answers other.answers
   pub memory : AllLackMemoryAlike one.hearings other.hearings
+
+-- two paths end at one stage and send the same, and what comes after them is alike
+pub record SameEnds (last again : Stage) (sent resent : List ℕ) (one other : Exchange) : Type 0 where
+  pub last_is : again ≡ last
+  pub bytes : resent ≡ sent
+  pub later : AreAlike one other
 
 passing_films : {old new : Stage} {n : ℕ} → IsPassing old n new → AreFilms old.session.films
     → AreFilms new.session.films
@@ -397,50 +403,37 @@ overs_same {old} {n = n} {m = m} is also =
     also.new_is ∙ ap (λ k. stage old.session (drop k old.input)) size ∙ sym is.new_is
 
 pub ends_same : {old : Stage} {xs ys : List Element} (one other : Exchange) → AreFilms old.session.films
-    → (way : PathDone old xs) (also : PathDone old ys) → PathsAlike xs ys one other → SameEnds way also one other
+    → (way : PathDone old xs) (also : PathDone old ys) → AreAlike (joined (exchange_of xs) one) (joined (exchange_of ys) other)
+    → SameEnds way.last also.last (elements_bytes xs) (elements_bytes ys) one other
 ends_same {xs = []} {ys = []} one other films way also alike =
-    record { last = also.goes ∙ sym way.goes; bytes = refl; answers = alike.answers; memory = alike.memory }
+    record { last_is = also.goes ∙ sym way.goes; bytes = refl; later = record { answers = alike.answers; memory = alike.memory } }
 ends_same {old} {xs = []} {ys = y ∷ ys} one other films way also alike =
     absurd (done_goes old also.goes.0 y (subst IsDrained way.goes way.done) also.goes.1.0)
 ends_same {old} {xs = x ∷ xs} {ys = []} one other films way also alike =
     absurd (done_goes old way.goes.0 x (subst IsDrained also.goes also.done) way.goes.1.0)
-ends_same {old} {xs = Over n ∷ xs} {ys = Over m ∷ ys} one other films way also alike =
-    let rest = ends_same {xs = xs} {ys = ys} one other (passing_films goes.1.0 films)
-    (record { last = way.last; goes = goes.1.1; done = done })
-    (record {
-      last = also.last;
-      goes = subst (λ s. GoesAll s ys also.last) (overs_same goes.1.0 too.1.0) too.1.1;
-      done = stops;
-    }) (record { answers = alike.answers; memory = alike.memory }) in
-    record { last = rest.last; bytes = rest.bytes; answers = rest.answers; memory = rest.memory }
-  where
-    open way use {goes, done}
-    open also use {goes as too, done as stops}
+ends_same {xs = Over n ∷ xs} {ys = Over m ∷ ys} one other films way also alike =
+    ends_same {xs = xs} {ys = ys} one other (passing_films way.goes.1.0 films) (path_rest way)
+    (path_moved (overs_same way.goes.1.0 also.goes.1.0) (path_rest also)) alike
 ends_same {old} {xs = Over n ∷ xs} {ys = RequestElement turn ∷ ys} one other films way also alike =
     absurd (over_no_request old.input n way.goes.1.0.over also.goes.1.0.next.first.0)
 ends_same {old} {xs = RequestElement turn ∷ xs} {ys = Over m ∷ ys} one other films way also alike =
     absurd (over_no_request old.input m also.goes.1.0.over way.goes.1.0.next.first.0)
 ends_same {old} {xs = RequestElement turn ∷ xs} {ys = RequestElement again ∷ ys} one other films way also alike =
+    let taken = way.goes.1.0 in
     let both = turns_same {old = old} {turn = turn} {again = again} (record {
       ones = elements_answers xs ++ one.answers;
       others = elements_answers ys ++ other.answers;
       same = rw (← (append_assoc (answer_in turn.outcome) (elements_answers xs) one.answers))
           (rw (← (append_assoc (answer_in again.outcome) (elements_answers ys) other.answers)) alike.answers);
-    })
-    (record { one = goes.0; other = too.0; films = films; taken = goes.1.0; also = too.1.0; alike = alike.memory.0 }) in
-    let kept : AreFilms goes.0.session.films = subst AreFilms (sym (taken_films old goes.0 turn goes.1.0)) films in
-    let rest = ends_same {xs = xs} {ys = ys} one other kept (record { last = way.last; goes = goes.1.1; done = done })
-    (record {
-      last = also.last;
-      goes = subst (λ s. GoesAll s ys also.last) both.0 too.1.1;
-      done = stops;
-    }) (record { answers = both.2; memory = alike.memory.1 }) in
-    record {
-      last = rest.last;
-      bytes = rw (both.1, rest.bytes);
-      answers = rest.answers;
-      memory = rest.memory;
-    }
-  where
-    open way use {goes, done}
-    open also use {goes as too, done as stops}
+    }) (record {
+      one = way.goes.0;
+      other = also.goes.0;
+      films = films;
+      taken = taken;
+      also = also.goes.1.0;
+      alike = alike.memory.0;
+    }) in
+    let kept : AreFilms way.goes.0.session.films = subst AreFilms (sym (taken_films old way.goes.0 turn taken)) films in
+    let rest = ends_same {xs = xs} {ys = ys} one other kept (path_rest way) (path_moved both.0 (path_rest also))
+    (record { answers = both.2; memory = alike.memory.1 }) in
+    record { last_is = rest.last_is; bytes = rw (both.1, rest.bytes); later = rest.later }

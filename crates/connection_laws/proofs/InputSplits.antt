@@ -16,11 +16,17 @@ use Rattle.connection_laws.specs.InputSplits.{Beginning, InputSplit, HeardReques
 use Rattle.connection_laws.specs.InputSplits.{answer_in, answers_in, heard_in, heard_requests_in}
 use Rattle.connection_laws.proofs.KeptParts.{stepped_names}
 use Rattle.connection_laws.proofs.UniqueResults.{steps_same}
-use Rattle.connection_laws.proofs.ElementPaths.{elements_bytes, GoesAll, Path, Element, ends_same, goes_films, goes_grow, join_goes}
+use Rattle.connection_laws.proofs.ElementPaths.{elements_bytes, GoesAll, Path, Element, ends_same, goes_films, goes_grow}
 use Rattle.connection_laws.proofs.ElementPaths.{longer, path_of, elements_answers, Exchange}
 use Rattle.connection_laws.proofs.ElementPaths.{no_exchange, joined, joined_assoc, exchange_of, join_exchange}
-use Rattle.connection_laws.proofs.ElementPaths.{takings_exchange}
+use Rattle.connection_laws.proofs.ElementPaths.{takings_exchange, way_then, Way, PathDone, path_moved, AreAlike}
 use Rattle.connection_laws.proofs.Lists.{joins_parts}
+
+-- bytes that came, the elements that were processed after them, and the end, where no more could be processed
+record Stretch (base : Stage) : Type 0 where
+  bytes : List ℕ
+  elements : List Element
+  way : PathDone (longer base bytes) elements
 
 -- a slot, and the bytes that came after it
 record Leg : Type 0 where
@@ -28,19 +34,15 @@ record Leg : Type 0 where
   due : List SentPart
   halt : Outcome
   opened : Stage
-  bytes : List ℕ
-  elements : List Element
-  until : Stage
+  rest : Stretch opened
 
 record IsLeg (old : Stage) (leg : Leg) : Type 0 where
   stepped : HasStepped old.session leg.slot leg.due leg.halt leg.opened.session
   input : leg.opened.input ≡ old.input
-  goes : GoesAll (longer leg.opened leg.bytes) leg.elements leg.until
-  done : IsDrained leg.until
 
 abbrev LegsAll : Stage → List Leg → Stage → Type 0
 LegsAll old [] new = new ≡ old
-LegsAll old (leg ∷ legs) new = IsLeg old leg × LegsAll leg.until legs new
+LegsAll old (leg ∷ legs) new = IsLeg old leg × LegsAll leg.rest.way.last legs new
 
 abbrev bytes_heard : List ℕ → List IoEvent
 bytes_heard bytes = map (λ byte. HeardBytes (byte ∷ [])) bytes
@@ -48,6 +50,9 @@ bytes_heard bytes = map (λ byte. HeardBytes (byte ∷ [])) bytes
 -- bytes, and the elements that were processed after them
 abbrev elements_exchange : List ℕ → List Element → Exchange
 elements_exchange bytes elements = record (exchange_of elements) { heard = bytes_heard bytes }
+
+abbrev stretch_exchange : {base : Stage} → Stretch base → Exchange
+stretch_exchange rest = elements_exchange rest.bytes rest.elements
 
 -- an event, before elements are processed
 abbrev event_exchange : IoEvent → List SentPart → Outcome → Exchange
@@ -61,7 +66,7 @@ event_exchange event due halt = record {
 abbrev legs_exchange : List Leg → Exchange
 legs_exchange [] = no_exchange
 legs_exchange (leg ∷ legs) = joined (event_exchange (HeardSlot leg.slot) leg.due leg.halt)
-    (joined (elements_exchange leg.bytes leg.elements) (legs_exchange legs))
+    (joined (stretch_exchange leg.rest) (legs_exchange legs))
 
 abbrev legs_heard : List Leg → List IoEvent
 legs_heard legs = (legs_exchange legs).heard
@@ -86,28 +91,30 @@ elements_join xs ys one two =
 
 -- a course from a place on: the bytes that came before the next slot, and then slot after slot
 record Split (base new : Stage) (all : Exchange) : Type 0 where
-  first : List ℕ
-  elements : List Element
-  until : Stage
+  first : Stretch base
   legs : List Leg
-  goes : GoesAll (longer base first) elements until
-  done : IsDrained until
-  legs_are : LegsAll until legs new
-  all_is : all ≡ joined (elements_exchange first elements) (legs_exchange legs)
-
--- what comes after an event: the course from there, for each place that it begins at
-record Later (mid new : Stage) (all : Exchange) : Type 0 where
-  each : (base : Stage) (first : List ℕ) (elements : List Element) → GoesAll (longer base first) elements mid
-      → Split base new (joined (elements_exchange first elements) all)
+  legs_are : LegsAll first.way.last legs new
+  all_is : all ≡ joined (stretch_exchange first) (legs_exchange legs)
 
 -- bytes that come first, and the elements that lead with them from one stage to another
 record FrontTaken (base cur : Stage) : Type 0 where
   bytes : List ℕ
-  elements : List Element
-  goes : GoesAll (longer base bytes) elements cur
+  way : Way (longer base bytes) cur
 
 abbrev front_exchange : {base cur : Stage} → FrontTaken base cur → Exchange
-front_exchange front = elements_exchange front.bytes front.elements
+front_exchange front = elements_exchange front.bytes front.way.elements
+
+-- where no more can be processed
+abbrev front_done : {base cur : Stage} → FrontTaken base cur → IsDrained cur → Stretch base
+front_done {cur = cur} front done = record {
+  bytes = front.bytes;
+  elements = front.way.elements;
+  way = record { last = cur; goes = front.way.goes; done = done };
+}
+
+-- what comes after an event: the course from there, for each place that it begins at
+record Later (mid new : Stage) (all : Exchange) : Type 0 where
+  each : (base : Stage) (front : FrontTaken base mid) → Split base new (joined (front_exchange front) all)
 
 -- an event, and the elements that are processed after it
 record EventTaken (cur mid : Stage) (event : IoEvent) : Type 0 where
@@ -115,89 +122,58 @@ record EventTaken (cur mid : Stage) (event : IoEvent) : Type 0 where
   due : List SentPart
   halt : Outcome
   comes : Comes cur event due halt opened
-  elements : List Element
-  goes : GoesAll opened elements mid
+  way : Way opened mid
 
 -- an event, with what came before it and what comes after
-record Splitting (event : IoEvent) : Type 0 where
-  base : Stage
-  cur : Stage
-  mid : Stage
-  new : Stage
-  all : Exchange
-  front : FrontTaken base cur
-  taken : EventTaken cur mid event
-  later : Later mid new all
+module _ {base cur mid new : Stage} {all : Exchange} (front : FrontTaken base cur) (later : Later mid new all) where
+  -- bytes came
+  bytes_split : {bytes : List ℕ} (taken : EventTaken cur mid (HeardBytes bytes)) → Split base new
+      (joined (front_exchange front) (joined (elements_exchange bytes taken.way.elements) all))
+  bytes_split {bytes} taken =
+      let ps : List Element = taken.way.elements in
+      let before : GoesAll (longer base (first ++ bytes)) elements taken.opened =
+      rw (← (ap (λ input. stage base.session input) (append_assoc base.input first bytes)))
+      (subst (GoesAll (longer (longer base first) bytes) elements) (sym taken.comes.3)
+      (goes_grow (longer base first) cur elements bytes goes)) in
+      subst (Split base new)
+      (ap (λ x. joined x all) (elements_join first bytes elements ps)
+      ∙ joined_assoc (elements_exchange first elements) (elements_exchange bytes ps) all)
+      (later.each base (record {
+        bytes = first ++ bytes;
+        way = way_then (record { elements = elements; goes = before }) taken.way;
+      }))
+    where
+      open front use {bytes as first, way}
+      open way use {elements, goes}
 
--- bytes came
-bytes_split : {bytes : List ℕ} (s : Splitting (HeardBytes bytes))
-    → Split s.base s.new (joined (front_exchange s.front) (joined (elements_exchange bytes s.taken.elements) s.all))
-bytes_split {bytes} s =
-    let ps : List Element = taken.elements in
-    let before : GoesAll (longer base (first ++ bytes)) elements taken.opened =
-    rw (← (ap (λ input. stage base.session input) (append_assoc base.input first bytes)))
-    (subst (GoesAll (longer (longer base first) bytes) elements) (sym taken.comes.3)
-    (goes_grow (longer base first) cur elements bytes goes)) in
-    let whole : GoesAll (longer base (first ++ bytes)) (elements ++ ps) mid =
-    join_goes (longer base (first ++ bytes)) (record {
-      old = taken.opened;
-      new = mid;
-      elements = ps;
-      leads = taken.goes;
-    }) elements before in
-    subst (Split base new)
-    (ap (λ x. joined x all) (elements_join first bytes elements ps)
-    ∙ joined_assoc (elements_exchange first elements) (elements_exchange bytes ps) all)
-    (later.each base (first ++ bytes) (elements ++ ps) whole)
-  where
-    open s use {base, cur, mid, new, all, front, taken, later}
-    open front use {bytes as first, elements, goes}
+  -- a slot came
+  slot_split : {slot : ℕ} (taken : EventTaken cur mid (HeardSlot slot)) → IsDrained cur → Split base new
+      (joined (front_exchange front) (joined (event_exchange (HeardSlot slot) taken.due taken.halt)
+      (joined (elements_exchange [] taken.way.elements) all)))
+  slot_split {slot} taken done =
+      let there : GoesAll (longer opened []) way.elements mid =
+      rw (← (ap (λ i. stage opened.session i) (sym (append-nil opened.input)))) way.goes in
+      let rest = later.each opened (record { bytes = []; way = record { elements = way.elements; goes = there } }) in
+      let leg : Leg = record { slot = slot; due = due; halt = halt; opened = opened; rest = rest.first } in
+      record {
+        first = front_done front done;
+        legs = leg ∷ rest.legs;
+        legs_are = (record { stepped = comes.1; input = comes.0 }, rest.legs_are);
+        all_is =
+            ap (λ x. joined (front_exchange front) (joined (event_exchange (HeardSlot slot) due halt) x)) rest.all_is;
+      }
+    where
+      open taken use {opened, due, halt, comes, way}
 
--- a slot came
-slot_split : {slot : ℕ} (s : Splitting (HeardSlot slot)) → IsDrained s.cur → Split s.base s.new
-    (joined (front_exchange s.front)
-    (joined (event_exchange (HeardSlot slot) s.taken.due s.taken.halt)
-    (joined (elements_exchange [] s.taken.elements) s.all)))
-slot_split {slot = slot} s done =
-    let there : GoesAll (longer opened []) taken.elements mid =
-    rw (← (ap (λ i. stage opened.session i) (sym (append-nil opened.input)))) taken.goes in
-    let rest = later.each opened [] taken.elements there in
-    let leg : Leg = record {
-      slot = slot;
-      due = due;
-      halt = halt;
-      opened = opened;
-      bytes = rest.first;
-      elements = rest.elements;
-      until = rest.until;
-    } in
-    record {
-      first = front.bytes;
-      elements = front.elements;
-      until = cur;
-      legs = leg ∷ rest.legs;
-      goes = front.goes;
-      done = done;
-      legs_are = (
-        record { stepped = taken.comes.1; input = taken.comes.0; goes = rest.goes; done = rest.done },
-        rest.legs_are,
-      );
-      all_is =
-          ap (λ x. joined (front_exchange front) (joined (event_exchange (HeardSlot slot) due halt) x)) rest.all_is;
-    }
-  where
-    open s use {cur, mid, front, taken, later}
-    open taken use {opened, due, halt}
-
-event_split : {event : IoEvent} (s : Splitting event) → IsDrained s.cur → Split s.base s.new
-    (joined (front_exchange s.front)
-    (joined (event_exchange event s.taken.due s.taken.halt) (joined (elements_exchange [] s.taken.elements) s.all)))
-event_split {event = HeardBytes bytes} s done =
-    let S : List SentPart → Outcome → Type 0 = λ ps o. Split s.base s.new (joined (front_exchange s.front)
-    (joined (event_exchange (HeardBytes bytes) ps o) (joined (elements_exchange [] s.taken.elements) s.all))) in
-    rw s.taken.comes.0 (subst (S []) (sym s.taken.comes.1) (bytes_split s))
-event_split {event = HeardSlot slot} s done = slot_split s done
-event_split s done = absurd s.taken.comes
+  event_split : {event : IoEvent} (taken : EventTaken cur mid event) → IsDrained cur → Split base new
+      (joined (front_exchange front) (joined (event_exchange event taken.due taken.halt)
+      (joined (elements_exchange [] taken.way.elements) all)))
+  event_split {event = HeardBytes bytes} taken done =
+      let S : List SentPart → Outcome → Type 0 = λ ps o. Split base new (joined (front_exchange front)
+      (joined (event_exchange (HeardBytes bytes) ps o) (joined (elements_exchange [] taken.way.elements) all))) in
+      rw taken.comes.0 (subst (S []) (sym taken.comes.1) (bytes_split taken))
+  event_split {event = HeardSlot slot} taken done = slot_split taken done
+  event_split taken done = absurd taken.comes
 
 -- event after event
 abbrev rounds_exchange : (cur : Stage) (rounds : List Round) (new : Stage) → TakesUp cur rounds new → Exchange
@@ -212,7 +188,7 @@ round_exchange : {cur : Stage} (new : Stage) (round : Round) (rounds : List Roun
     (takes : TakesUp cur (round ∷ rounds) new)
     (path : Path takes.1.0.opened takes.0 (takings_exchange takes.1.0.opened round.takings takes.0 takes.1.0.takes))
     → joined (event_exchange round.event round.due round.halt)
-    (joined (elements_exchange [] path.elements) (rounds_exchange takes.0 rounds new takes.1.2))
+    (joined (elements_exchange [] path.way.elements) (rounds_exchange takes.0 rounds new takes.1.2))
     ≡ rounds_exchange cur (round ∷ rounds) new takes
 round_exchange {cur} new round rounds takes path =
     let rest = rounds_exchange takes.0 rounds new takes.1.2 in
@@ -225,45 +201,19 @@ round_exchange {cur} new round rounds takes path =
 
 rounds_split : (cur new : Stage) (rounds : List Round) (takes : TakesUp cur rounds new) → IsDrained cur
     → Later cur new (rounds_exchange cur rounds new takes)
-rounds_split cur new [] takes done = record {
-  each = λ base first elements goes. record {
-    first = first;
-    elements = elements;
-    until = cur;
-    legs = [];
-    goes = goes;
-    done = done;
-    legs_are = takes;
-    all_is = refl;
-  };
-}
+rounds_split cur new [] takes done =
+    record { each = λ base front. record { first = front_done front done; legs = []; legs_are = takes; all_is = refl } }
 rounds_split cur new (round ∷ rounds) takes done =
     let mid : Stage = takes.0 in
     let runs = takes.1.0 in
     let later = rounds_split mid new rounds takes.1.2 takes.1.1 in
     let path = path_of runs.opened mid round.takings runs.takes in
-    let taken : EventTaken cur mid round.event = record {
-      opened = runs.opened;
-      due = round.due;
-      halt = round.halt;
-      comes = runs.comes;
-      elements = path.elements;
-      goes = path.goes;
-    } in
+    let taken : EventTaken cur mid round.event =
+    record { opened = runs.opened; due = round.due; halt = round.halt; comes = runs.comes; way = path.way } in
     record {
-      each = λ base first elements goes.
-          subst (Split base new)
-          (ap (joined (elements_exchange first elements)) (round_exchange new round rounds takes path))
-          (event_split (record {
-            base = base;
-            cur = cur;
-            mid = mid;
-            new = new;
-            all = rounds_exchange mid rounds new takes.1.2;
-            front = record { bytes = first; elements = elements; goes = goes };
-            taken = taken;
-            later = later;
-          }) done);
+      each = λ base front. subst (Split base new)
+          (ap (joined (front_exchange front)) (round_exchange new round rounds takes path))
+          (event_split front later taken done);
     }
 
 -- ---- what was received has one split
@@ -317,8 +267,7 @@ opened_same a b session input = ap (λ s. stage s b.input) session ∙ ap (λ i.
 -- what two connections received is the same, so are the answers, and memory ran out alike
 record ExchangesAlike (a b : Exchange) : Type 0 where
   heard : a.heard ≡ b.heard
-  answers : AreSameAnswers a.answers b.answers
-  memory : AllLackMemoryAlike a.hearings b.hearings
+  alike : AreAlike a b
 
 -- from one stage on, these legs come to the same where what they exchange is alike
 abbrev ComeToSame : List Leg → List Leg → Stage → Stage → Type 0
@@ -328,66 +277,58 @@ ComeToSame xs ys one other = (at : Stage) → AreFilms at.session.films → Legs
 splits_same : {base one other : Stage} {a b : Exchange} → AreFilms base.session.films → (x : Split base one a)
     (y : Split base other b) → ExchangesAlike a b → ComeToSame x.legs y.legs one other
     → SameLegs one other a.bytes b.bytes
-splits_same {base} {other = other} {a} {b} films x y alike legs =
-    let cut = heard_split x.first y.first x.legs y.legs
-    (sym (ap (λ (e : Exchange). e.heard) x.all_is) ∙ alike.heard ∙ ap (λ (e : Exchange). e.heard) y.all_is) in
-    let both : ExchangesAlike (joined (elements_exchange x.first x.elements) (legs_exchange x.legs))
-    (joined (elements_exchange y.first y.elements) (legs_exchange y.legs)) =
-    subst (ExchangesAlike (joined (elements_exchange x.first x.elements) (legs_exchange x.legs))) y.all_is
-    (subst (λ e. ExchangesAlike e b) x.all_is alike) in
-    let ends = ends_same (legs_exchange x.legs) (legs_exchange y.legs) films
-    (record { last = x.until; goes = x.goes; done = x.done })
-    (record {
-      last = y.until;
-      goes = subst (λ bs. GoesAll (longer base bs) y.elements y.until) (sym cut.0) y.goes;
-      done = y.done;
-    }) (record { answers = both.answers; memory = both.memory }) in
-    let there : AreFilms x.until.session.films =
-    subst AreFilms (sym (goes_films (longer base x.first) x.until x.elements x.goes)) films in
-    let rest = legs x.until there x.legs_are (subst (λ s. LegsAll s y.legs other) ends.last y.legs_are)
-    (record { heard = cut.1; answers = ends.answers; memory = ends.memory }) in
+splits_same {base} {other = other} {a} {b} films x y given legs =
+    let cut = heard_split x.first.bytes y.first.bytes x.legs y.legs
+    (sym (ap (λ (e : Exchange). e.heard) x.all_is) ∙ given.heard ∙ ap (λ (e : Exchange). e.heard) y.all_is) in
+    let xs = joined (stretch_exchange x.first) (legs_exchange x.legs) in
+    let both : AreAlike xs (joined (stretch_exchange y.first) (legs_exchange y.legs)) =
+    subst (AreAlike xs) y.all_is (subst (λ e. AreAlike e b) x.all_is given.alike) in
+    let way = x.first.way in
+    let ends = ends_same (legs_exchange x.legs) (legs_exchange y.legs) films way
+    (path_moved (ap (longer base) (sym cut.0)) y.first.way) (record { answers = both.answers; memory = both.memory }) in
+    let there : AreFilms way.last.session.films =
+    subst AreFilms (sym (goes_films (longer base x.first.bytes) way.last x.first.elements way.goes)) films in
+    let rest = legs way.last there x.legs_are (subst (λ s. LegsAll s y.legs other) ends.last_is y.legs_are)
+    (record { heard = cut.1; alike = ends.later }) in
     record { last = rest.last; bytes = rw (y.all_is, ends.bytes, rest.bytes, x.all_is) }
 
 -- the split after a leg's slot
-abbrev split_after : {base new : Stage} (leg : Leg) (legs : List Leg) → GoesAll (longer base leg.bytes) leg.elements
-    leg.until → IsDrained leg.until → LegsAll leg.until legs new
-    → Split base new (joined (elements_exchange leg.bytes leg.elements) (legs_exchange legs))
-split_after leg legs goes done are = record {
-  first = leg.bytes;
-  elements = leg.elements;
-  until = leg.until;
-  legs = legs;
-  goes = goes;
-  done = done;
-  legs_are = are;
-  all_is = refl;
+abbrev split_after : {base new : Stage} (rest : Stretch base) (legs : List Leg) → LegsAll rest.way.last legs new
+    → Split base new (joined (stretch_exchange rest) (legs_exchange legs))
+split_after rest legs are = record { first = rest; legs = legs; legs_are = are; all_is = refl }
+
+abbrev moved : {a b : Stage} → b ≡ a → Stretch b → Stretch a
+moved same rest = record {
+  bytes = rest.bytes;
+  elements = rest.elements;
+  way = path_moved (ap (λ s. longer s rest.bytes) same) rest.way;
 }
 
 legs_same : {one other : Stage} (xs ys : List Leg) → ComeToSame xs ys one other
-legs_same [] [] old films legs too alike = record { last = too ∙ sym legs; bytes = refl }
-legs_same [] (y ∷ ys) old films legs too alike = absurd (true≢false (sym (ap is_some alike.heard)))
-legs_same (x ∷ xs) [] old films legs too alike = absurd (true≢false (ap is_some alike.heard))
-legs_same {one} {other} (x ∷ xs) (y ∷ ys) old films legs too alike =
+legs_same [] [] old films legs too given = record { last = too ∙ sym legs; bytes = refl }
+legs_same [] (y ∷ ys) old films legs too given = absurd (true≢false (sym (ap is_some given.heard)))
+legs_same (x ∷ xs) [] old films legs too given = absurd (true≢false (ap is_some given.heard))
+legs_same {one} {other} (x ∷ xs) (y ∷ ys) old films legs too given =
     let leg : IsLeg old x = legs.0 in
     let again : IsLeg old y = too.0 in
-    let slots : y.slot ≡ x.slot = sym (ap slot_of alike.heard) in
+    let slots : y.slot ≡ x.slot = sym (ap slot_of given.heard) in
     let step = steps_same {old = old.session} {slot = x.slot} {one = x.halt} {other = y.halt}
     (record {
-      ones = elements_answers x.elements ++ legs_answers xs;
-      others = elements_answers y.elements ++ legs_answers ys;
-      same = alike.answers;
+      ones = elements_answers x.rest.elements ++ legs_answers xs;
+      others = elements_answers y.rest.elements ++ legs_answers ys;
+      same = given.alike.answers;
     }) (record { due = x.due; new = x.opened.session; stepped = leg.stepped })
     (record { due = y.due; new = y.opened.session; stepped = rw (← slots) again.stepped }) in
     let opened : y.opened ≡ x.opened = opened_same x.opened y.opened step.1 (again.input ∙ sym leg.input) in
     let kept : AreFilms x.opened.session.films =
     subst AreFilms (sym (ap (λ (n : List Stored × List ℕ). n.0)
     (stepped_names old.session x.slot x.due x.halt x.opened.session leg.stepped))) films in
-    let rest = splits_same kept (split_after x xs leg.goes leg.done legs.1)
-    (split_after y ys (subst (λ s. GoesAll (longer s y.bytes) y.elements y.until) opened again.goes) again.done too.1)
-    (record { heard = ap tail_of alike.heard; answers = step.2; memory = alike.memory }) (legs_same xs ys) in
+    let rest = splits_same kept (split_after x.rest xs legs.1) (split_after (moved opened y.rest) ys too.1)
+    (record { heard = ap tail_of given.heard; alike = record { answers = step.2; memory = given.alike.memory } })
+    (legs_same xs ys) in
     record {
       last = rest.last;
-      bytes = ap (λ ps. parts_bytes ps ++ (elements_bytes y.elements ++ legs_bytes ys)) step.0
+      bytes = ap (λ ps. parts_bytes ps ++ (elements_bytes y.rest.elements ++ legs_bytes ys)) step.0
           ∙ ap (λ bs. parts_bytes x.due ++ bs) rest.bytes;
     }
 
@@ -400,14 +341,15 @@ whole_split : (beginning : Beginning) (cutting : InputSplit beginning) → Split
     (rounds_exchange (first_of beginning) cutting.rounds cutting.last cutting.takes)
 whole_split beginning cutting =
     (rounds_split (first_of beginning) cutting.last cutting.rounds cutting.takes
-    (inl (record { torn = refl; waits = inl (inl refl) }))).each (first_of beginning) [] [] refl
+    (inl (record { torn = refl; waits = inl (inl refl) }))).each (first_of beginning) (record { bytes = []; way = record { elements = []; goes = refl } })
 
 pub two_cuttings : (beginning : Beginning) (one other : InputSplit beginning) → AreFilms beginning.films
     → HaveSameInput beginning one other → HaveSameOutput beginning one other
 two_cuttings beginning one other films cuts =
     let x = whole_split beginning one in
     let y = whole_split beginning other in
-    let same = splits_same films x y (record { heard = cuts.heard; answers = cuts.answers; memory = cuts.memory })
+    let same = splits_same films x y
+    (record { heard = cuts.heard; alike = record { answers = cuts.answers; memory = cuts.memory } })
     (legs_same x.legs y.legs) in
     record { bytes = sym same.bytes; last = sym same.last }
 

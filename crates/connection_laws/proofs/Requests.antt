@@ -77,7 +77,7 @@ goes_cut old new (Over n ∷ elements) goes =
     (subst (λ (s : Stage). CutsAll s.input new ms) passing.new_is (goes_cut goes.0 new elements goes.1.1)))
 goes_cut old new (RequestElement turn ∷ elements) goes =
     let next = goes.1.0.next in
-    let n : ℕ = length turn.message in
+    let n : ℕ = length turn.heard.message in
     let ms = map message_of (elements_hearings elements) in
     let some : 0 < n = omega (arith, next.first.1.total_is, next.first.1.is_head.some) in
     subst (λ m. CutsAll old.input new (m ∷ ms)) (sym next.message_is)
@@ -153,7 +153,7 @@ follows_cut {new} {messages} old (round ∷ rounds) follows heard_cut =
     (cut_grows heard bytes elements old.input cut) in
     let path = path_of opened mid round.takings runs.takes in
     let more : List (List ℕ) = takings_requests round.takings in
-    let next = goes_cut opened mid path.elements path.goes in
+    let next = goes_cut opened mid path.way.elements path.way.goes in
     rw (← (append_assoc heard bytes (rounds_input rounds)), ← (append_assoc messages more (rounds_requests rounds)))
     (follows_cut {new = new} {messages = messages ++ more} mid rounds follows.1.1 (record {
       heard = heard ++ bytes;
